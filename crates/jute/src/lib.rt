@@ -1,0 +1,20 @@
+//! The fields and records of Jute.
+#![tactic(auto)]
+
+mod fault;
+mod law;
+mod owned;
+mod reader;
+mod record;
+mod value;
+mod writer;
+
+pub use fault::{Fault, NoMemory, ReadError};
+pub use law::{formats, pieces, relates, streams};
+pub use owned::{Acl, Id};
+pub use reader::{BUFFER_LIMIT, COUNT_LIMIT, Reader};
+pub use record::{AclRef, IdRef, ReadRecord, read_name, read_vector};
+pub use value::{Blob, Bytes, Listed, Str, Text};
+pub use writer::{
+    WriteRecord, put_bool, put_buffer, put_bytes, put_int, put_long, put_string, put_vector,
+};

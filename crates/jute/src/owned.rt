@@ -1,0 +1,60 @@
+//! Records that own what was read.
+
+ghost use Rattle.jute.specs.Owned.{id, acl, IsWritableId};
+
+use crate::fault::{NoMemory, ReadError};
+use crate::reader::Reader;
+use crate::record::{ReadRecord, read_name};
+use crate::value::{Listed, Text};
+use crate::writer::{WriteRecord, put_int, put_string};
+use std::alloc::Global;
+
+/// Who is granted something.
+#[derive(Clone, Debug, Drop)]
+pub struct Id {
+    pub scheme: Text,
+    pub id: Text,
+}
+
+/// What an id is granted.
+#[derive(Clone, Debug, Drop)]
+pub struct Acl {
+    pub perms: i32,
+    pub id: Id,
+}
+
+impl<'a> ReadRecord<'a> for Id {
+    ghost read_of = { id.read };
+
+    fn read(alloc: Global, reader: &mut Reader<'a>) -> Result<Id, ReadError> {
+        let mut ahead = Reader::new(reader.rest());
+        let scheme = Text::new(alloc, read_name(&mut ahead)?.as_str())?;
+        let id = Text::new(alloc, read_name(&mut ahead)?.as_str())?;
+        *reader = ahead;
+        Ok(Id { scheme, id })
+    }
+}
+
+impl<'a> ReadRecord<'a> for Acl {
+    ghost read_of = { acl.read };
+
+    fn read(alloc: Global, reader: &mut Reader<'a>) -> Result<Acl, ReadError> {
+        let mut ahead = Reader::new(reader.rest());
+        let perms = ahead.read_int()?;
+        let id = Id::read(alloc, &mut ahead)?;
+        *reader = ahead;
+        Ok(Acl { perms, id })
+    }
+}
+
+impl WriteRecord for Acl {
+    ghost IsWritable = { λ a. IsWritableId a.id };
+
+    ghost bytes_of = { acl.written };
+
+    fn write(&self, out: &mut Vec<u8>) -> Result<(), NoMemory> {
+        put_int(out, self.perms)?;
+        put_string(out, self.id.scheme.as_str())?;
+        put_string(out, self.id.id.as_str())
+    }
+}

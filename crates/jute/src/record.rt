@@ -1,0 +1,98 @@
+//! Records: what is read is borrowed from the input.
+
+ghost use Rattle.std.specs.Prelude.{◌≡◌, List, ℕ, Result};
+ghost use Rattle.jute.specs.declared.fault.Fault.{Fault as TheFault};
+ghost use Rattle.jute.specs.Reads.{Gives};
+ghost use Rattle.jute.specs.Format.{name, times, vector_at, Took};
+ghost use Rattle.jute.specs.Records.{id_ref, acl_ref};
+
+use crate::fault::{Fault, ReadError};
+use crate::reader::Reader;
+use crate::value::{Listed, Str};
+use std::alloc::Global;
+
+/// What is read from the front of a text, with one reading function.
+pub trait ReadRecord<'a>: Sized + Drop {
+    ghost read_of: { List ℕ → Result (Self × List ℕ) TheFault };
+
+    fn read(alloc: Global, reader: &mut Reader<'a>) -> Result<Self, ReadError>
+        ensures { Gives read_of (λ v. v) result reader.old reader.new };
+}
+
+#[derive(Drop)]
+pub struct IdRef<'a> {
+    pub scheme: Str<'a>,
+    pub id: Str<'a>,
+}
+
+/// Reads that many records, one behind the other.
+fn read_items<'a, T: ReadRecord<'a>>(
+    alloc: Global,
+    count: u32,
+    reader: &mut Reader<'a>,
+) -> Result<Vec<T>, ReadError>
+    ensures { Gives (times T.read_of count) (λ v. v.items) result reader.old reader.new }
+{
+    let mut ahead = Reader::new(reader.rest());
+    let mut items = Vec::new(alloc);
+    for _ in 0..count {
+        items.push(T::read(alloc, &mut ahead)?)?;
+    }
+    *reader = ahead;
+    Ok(items)
+}
+
+/// Reads a vector of records; `None` is null.
+#[tactic(auto, unfolding(crate::specs::Format::vector_at))]
+pub fn read_vector<'a, T: ReadRecord<'a>>(
+    alloc: Global,
+    reader: &mut Reader<'a>,
+) -> Result<Option<Listed<T>>, ReadError>
+    ensures { Gives (vector_at T.read_of) (λ v. v) result reader.old reader.new }
+{
+    let mut ahead = Reader::new(reader.rest());
+    let Some(count) = ahead.read_count()? else {
+        *reader = ahead;
+        return Ok(None);
+    };
+    let items = read_items(alloc, count, &mut ahead)?;
+    *reader = ahead;
+    Ok(Some(Listed::from_vec(items)))
+}
+
+/// A text, where null is read as empty.
+pub fn read_name<'a>(reader: &mut Reader<'a>) -> Result<Str<'a>, Fault>
+    ensures { Took name (λ t. t) result reader.old reader.new }
+{
+    Ok(Str::new(reader.read_string()?.unwrap_or("")))
+}
+
+impl<'a> ReadRecord<'a> for IdRef<'a> {
+    ghost read_of = { id_ref.read };
+
+    fn read(alloc: Global, reader: &mut Reader<'a>) -> Result<IdRef<'a>, ReadError> {
+        let mut ahead = Reader::new(reader.rest());
+        let scheme = read_name(&mut ahead)?;
+        let id = read_name(&mut ahead)?;
+        *reader = ahead;
+        Ok(IdRef { scheme, id })
+    }
+}
+
+#[derive(Drop)]
+pub struct AclRef<'a> {
+    pub perms: i32,
+    pub id: IdRef<'a>,
+}
+
+impl<'a> ReadRecord<'a> for AclRef<'a> {
+    ghost read_of = { acl_ref.read };
+
+    fn read(alloc: Global, reader: &mut Reader<'a>) -> Result<AclRef<'a>, ReadError> {
+        let mut ahead = Reader::new(reader.rest());
+        let perms = ahead.read_int()?;
+        let id = IdRef::read(alloc, &mut ahead)?;
+        *reader = ahead;
+        Ok(AclRef { perms, id })
+    }
+}

@@ -1,0 +1,141 @@
+//! Values that own what was read, each seen as the list that it holds.
+
+ghost use Rattle.std.specs.Prelude.{◌≡◌, List, ℕ, length, IfOk, IfSome, Some, string_bytes};
+
+use crate::fault::NoMemory;
+use std::alloc::Global;
+use std::marker::Model;
+
+/// A list of values.
+#[derive(Clone, Debug, Drop)]
+pub struct Listed<T> {
+    items: Vec<T>,
+}
+
+impl<T> Model for Listed<T> {
+    ghost Value = { List T };
+
+    ghost view = { λ l. l.items.items };
+}
+
+impl<T> Listed<T> {
+    pub fn from_vec(items: Vec<T>) -> Listed<T>
+        ensures { result ≡ items.items }
+    {
+        Listed { items }
+    }
+
+    pub fn as_slice(&self) -> &[T]
+        ensures { result.now ≡ self.now }
+    {
+        self.items.as_slice()
+    }
+}
+
+/// A text of its own.
+#[derive(Clone, Debug, Drop)]
+pub struct Text {
+    text: String,
+}
+
+impl Model for Text {
+    ghost Value = { List ℕ };
+
+    ghost view = { λ t. string_bytes t.text };
+}
+
+impl Text {
+    pub fn new(alloc: Global, text: &str) -> Result<Text, NoMemory>
+        ensures { IfOk result (λ t. t ≡ text.now) }
+    {
+        Ok(Text {
+            text: String::from_str(alloc, text)?,
+        })
+    }
+
+    pub fn as_str(&self) -> &str
+        ensures { result.now ≡ self.now }
+    {
+        self.text.as_str()
+    }
+}
+
+/// A text that is borrowed.
+#[derive(Drop)]
+pub struct Str<'a> {
+    text: &'a str,
+}
+
+impl<'a> Model for Str<'a> {
+    ghost Value = { List ℕ };
+
+    ghost view = { λ t. t.text.now };
+}
+
+impl<'a> Str<'a> {
+    pub fn new(text: &'a str) -> Str<'a>
+        ensures { result ≡ text.now }
+    {
+        Str { text }
+    }
+
+    pub fn as_str(&self) -> &'a str
+        ensures { result.now ≡ self.now }
+    {
+        self.text
+    }
+}
+
+/// Bytes of its own.
+#[derive(Clone, Debug, Drop)]
+pub struct Blob {
+    bytes: Vec<u8>,
+}
+
+impl Model for Blob {
+    ghost Value = { List ℕ };
+
+    ghost view = { λ b. b.bytes.items };
+}
+
+impl Blob {
+    pub fn new(alloc: Global, bytes: &[u8]) -> Result<Blob, NoMemory>
+        ensures { IfOk result (λ b. b ≡ bytes.now) }
+    {
+        Ok(Blob {
+            bytes: Vec::from_slice(alloc, bytes)?,
+        })
+    }
+
+    pub fn as_slice(&self) -> &[u8]
+        ensures { result.now ≡ self.now }
+    {
+        self.bytes.as_slice()
+    }
+}
+
+/// Bytes that are borrowed.
+#[derive(Drop)]
+pub struct Bytes<'a> {
+    bytes: &'a [u8],
+}
+
+impl<'a> Model for Bytes<'a> {
+    ghost Value = { List ℕ };
+
+    ghost view = { λ b. b.bytes.now };
+}
+
+impl<'a> Bytes<'a> {
+    pub fn new(bytes: &'a [u8]) -> Bytes<'a>
+        ensures { result ≡ bytes.now }
+    {
+        Bytes { bytes }
+    }
+
+    pub fn as_slice(&self) -> &'a [u8]
+        ensures { result.now ≡ self.now }
+    {
+        self.bytes
+    }
+}
