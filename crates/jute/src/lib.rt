@@ -1,6 +1,7 @@
 //! The fields and records of Jute.
 #![tactic(auto)]
 
+mod byte_queue;
 mod fault;
 mod law;
 mod owned;
@@ -10,6 +11,7 @@ mod stream_law;
 mod value;
 mod writer;
 
+pub use byte_queue::ByteQueue;
 pub use fault::{Fault, NoMemory, ReadError};
 pub use law::{formats, pieces};
 pub use owned::{Acl, Id};
