@@ -4,10 +4,6 @@ ghost use Rattle.jute.specs.Format.{int, long, both, boolean, buffer, text, vect
 ghost use Rattle.std.specs.Int.{w32, w64};
 ghost use Rattle.jute.specs.Laws.{Lawful, Named, both_against, number_against};
 ghost use Rattle.jute.specs.Pieces.{Pieced};
-ghost use Rattle.jute.specs.Stream.{Streamed, ComesInPieces, Unread, items};
-ghost use Rattle.std.specs.Prelude.{◌≡◌, ℕ, List, Ok};
-ghost use Rattle.jute.specs.declared.record.AclRef.{AclRef};
-ghost use Rattle.jute.specs.Relation.{AreItems};
 ghost use Rattle.jute.specs.Records.{id_ref, acl_ref};
 
 /// What is read is spelled so, what is spelled is read, and what is written is a spelling.
@@ -31,15 +27,4 @@ pub fn pieces()
     ensures buffer { Pieced buffer }
     ensures text { Pieced text }
     ensures acls { Pieced (vector acl_ref) }
-{}
-
-/// The values of a stream don't depend on how it was cut.
-pub fn streams()
-    ensures streamed { Streamed acl_ref }
-    ensures pieces { ComesInPieces acl_ref }
-{}
-
-/// What stands in the bytes, as a relation, is what the function finds.
-pub fn relates()
-    ensures { (bytes : List ℕ) (vs : List AclRef) (left : Unread) → AreItems acl_ref bytes vs left → items acl_ref (Ok bytes) ≡ record { found = vs; left = left } }
 {}
