@@ -1,6 +1,6 @@
 //! Values that own what was read, each seen as the list that it holds.
 
-ghost use Rattle.std.specs.Prelude.{◌≡◌, List, ℕ, length, IfOk, IfSome, Some, string_bytes};
+ghost use Rattle.std.specs.Prelude.{◌≡◌, ◌↔◌, List, [], ℕ, length, IfOk, IsTrue, string_bytes};
 
 use crate::fault::NoMemory;
 use std::alloc::Global;
@@ -29,6 +29,25 @@ impl<T> Listed<T> {
         ensures { result.now ≡ self.now }
     {
         self.items.as_slice()
+    }
+
+    /// The values in the vector that holds them.
+    pub fn into_vec(self) -> Vec<T>
+        ensures { result.items ≡ self }
+    {
+        self.items
+    }
+
+    pub fn len(&self) -> usize
+        ensures { result ≡ length self.now }
+    {
+        self.items.len()
+    }
+
+    pub fn is_empty(&self) -> bool
+        ensures { IsTrue result ↔ (self.now ≡ []) }
+    {
+        self.items.is_empty()
     }
 }
 
@@ -99,6 +118,12 @@ impl Model for Blob {
 }
 
 impl Blob {
+    pub fn from_vec(bytes: Vec<u8>) -> Blob
+        ensures { result ≡ bytes.items }
+    {
+        Blob { bytes }
+    }
+
     pub fn new(alloc: Global, bytes: &[u8]) -> Result<Blob, NoMemory>
         ensures { IfOk result (λ b. b ≡ bytes.now) }
     {
