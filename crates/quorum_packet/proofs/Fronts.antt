@@ -15,7 +15,7 @@ use Rattle.quorum_packet.specs.Held.{held}
 use Rattle.quorum_packet.specs.Kinds.{kind_of}
 use Rattle.quorum_packet.specs.Packet.{packet}
 use Rattle.quorum_packet.specs.Packets.{packets, phase_behind}
-use Rattle.quorum_packet.proofs.PacketFormat.{packet_lawful, packets_streamed}
+use Rattle.quorum_packet.proofs.PacketFormat.{packet_sound, packets_streamed}
 
 pub fits : (bytes rest : List ℕ) (p : QuorumPacket) → packet.read bytes ≡ Ok (p, rest) → length rest ≤ length bytes
 fits bytes rest p e = omega (arith, shorter_rest packets packets_streamed Packets bytes rest p e)
@@ -27,7 +27,7 @@ behind_text bytes text rest e =
 
 pub front : (bytes rest : List ℕ) (p : QuorumPacket) → IsBytes bytes → packet.read bytes ≡ Ok (p, rest) → packet.read bytes ≡ Ok (p, drop (length bytes - length rest) bytes)
 front bytes rest p h e =
-    let t = packet_lawful.takes bytes p rest h e in
+    let t = packet_sound.lawful.takes bytes p rest h e in
     e ∙ ap (λ (b : List ℕ). Ok (p, b)) (sym (behind_text bytes t.text rest t.parts))
 
 -- what the feed's fields stand for
