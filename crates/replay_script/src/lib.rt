@@ -1,0 +1,19 @@
+//! The script of a replay: a text whose lines are settings of an observer and events that come to it.
+#![tactic(auto)]
+
+mod cut;
+mod draft;
+mod event;
+mod hex;
+mod line;
+mod number;
+mod parse;
+mod script;
+
+pub use event::ScriptEvent;
+pub use hex::put_hex;
+pub use parse::{ScriptError, parse};
+pub use script::Script;
+
+#[cfg(test)]
+mod tests;
