@@ -17,8 +17,8 @@ use Rattle.replay_script.specs.declared.event.Line.{Line}
 use Rattle.replay_script.specs.declared.event.Line.TheVariants.{Blank, Header, Happening}
 use Rattle.replay_script.specs.declared.script.Script.{Script}
 use Rattle.replay_script.specs.declared.cut.Cut.{Cut}
-use Rattle.replay_script.specs.declared.parse.ScriptError.{ScriptError}
-use Rattle.replay_script.specs.declared.parse.ScriptError.TheVariants.{BadLine}
+use Rattle.replay_script.specs.declared.parser.ScriptError.{ScriptError}
+use Rattle.replay_script.specs.declared.parser.ScriptError.TheVariants.{BadLine}
 
 abbrev pub or_bad_kept : ℕ → Option Kept → (Kept → Result Script ℕ) → Result Script ℕ
 or_bad_kept number None next = Err number

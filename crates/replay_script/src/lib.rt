@@ -4,15 +4,17 @@
 mod cut;
 mod draft;
 mod event;
+mod examples;
 mod hex;
 mod line;
 mod number;
-mod parse;
+mod parser;
 mod script;
 
 pub use event::ScriptEvent;
+pub use examples::{bad_lines, lines, scripts};
 pub use hex::put_hex;
-pub use parse::{ScriptError, parse};
+pub use parser::{ScriptError, parse};
 pub use script::Script;
 
 #[cfg(test)]

@@ -3,7 +3,7 @@ use Rattle.replay_script.specs.Script.{lines_of, script_of}
 use Rattle.replay_script.specs.Draft.{Kept, kept_of}
 use Rattle.replay_script.specs.Cut.{cut_at}
 use Rattle.replay_script.proofs.Reading.{script_after, script_after_is, or_bad_kept, lines_behind, length_behind, length_behind_cut, named, reads}
-use Rattle.replay_script.proofs.parse.parse.Goals as goal
+use Rattle.replay_script.proofs.parser.parse.Goals as goal
 
 pub loop-rest-init : goal.loop-rest-init
 loop-rest-init c =

@@ -2,7 +2,7 @@
 
 ghost use Rattle.std.specs.Prelude.{◌≡◌, ℕ, Ok, Err, IfOk};
 ghost use Rattle.replay_script.specs.Script.{script_of};
-ghost use Rattle.replay_script.specs.declared.parse.ScriptError.TheVariants as errors;
+ghost use Rattle.replay_script.specs.declared.parser.ScriptError.TheVariants as errors;
 
 use crate::cut::cut_at;
 use crate::draft::Draft;

@@ -1,7 +1,7 @@
 use Rattle.std.proofs.Common.{◌≡◌, ◌+◌, ◌≤◌, length}
 use Rattle.replay_script.specs.Script.{script_of}
 use Rattle.replay_script.proofs.Reading.{script_after, lines_behind, length_behind}
-use Rattle.replay_script.proofs.parse.parse.Given as goal
+use Rattle.replay_script.proofs.parser.parse.Given as goal
 
 abbrev pub invariant-loop-rest : goal.invariant-loop-rest
 invariant-loop-rest l =
