@@ -1,0 +1,6 @@
+pub mod Cut
+pub mod Draft
+pub mod Hex
+pub mod Line
+pub mod Number
+pub mod Script
