@@ -2,17 +2,18 @@
 use Rattle.std.specs.Prelude.{◌≡◌, ℕ, ℤ, pos, negsuc, List, [], ◌∷◌, ◌++◌, length, Option, Some, None, Result, Ok, Err, Bool, true, false, not, ◌&&◌, ◌||◌, ◌==◌, ◌^◌, ◌-◌, nat_le, if◌then◌else◌, bit_and, codes, nat_eq}
 use Rattle.std.specs.Int.{w32, cast_unsigned}
 use Rattle.std.specs.Ordering.{int_eq}
-use Rattle.std.specs.List.{list_any}
+use Rattle.std.specs.List.{list_any, starts_with}
 use Rattle.std.specs.FinMap as finmap
+use Rattle.std.specs.Borrow.{Bor}
 use lib.Pointwise.{pointwise}
 use Rattle.jute.specs.declared.fault.Fault.{Fault}
 use Rattle.jute.specs.declared.owned.Acl.{Acl}
-use Rattle.jute.specs.declared.request.RequestHeader.{RequestHeader}
-use Rattle.jute.specs.declared.request.GetDataRequest.{GetDataRequest}
+use Rattle.jute.specs.declared.message.RequestHeader.{RequestHeader}
+use Rattle.jute.specs.declared.message.GetDataRequest.{GetDataRequest}
 use Rattle.jute.specs.Format.{int}
 use Rattle.jute.specs.Records.{request_header, reply_header, get_data_request, get_data_response}
 use Rattle.data_tree.specs.State.{State}
-use Rattle.data_tree.specs.Shown.{shown}
+use Rattle.data_tree.specs.Stats.{shown}
 use Rattle.data_tree.specs.declared.node.Node.{Node}
 use Rattle.observer_core.specs.declared.answer.Answer.{Answer}
 use Rattle.observer_core.specs.declared.answer.Answer.TheVariants.{Reply, Silence, Close}
@@ -30,18 +31,13 @@ grants_read acl = not (bit_and (cast_unsigned w32 acl.perms) 1 == 0) && (is_same
 
 -- an empty list lets everybody read
 abbrev pub may_read : List Acl → Bool
-may_read [] = true
-may_read (acl ∷ acls) = list_any grants_read (acl ∷ acls)
+may_read acls = length acls == 0 || list_any grants_read acls
 
 -- ---- getData
 
-abbrev pub begins_with_slash : List ℕ → Bool
-begins_with_slash [] = false
-begins_with_slash (b ∷ bytes) = b == 47
-
 -- a path that may be asked for begins with a slash and has no NUL
 abbrev pub is_asked : List ℕ → Bool
-is_asked path = begins_with_slash path && not (list_any (λ b. b == 0) path)
+is_asked path = starts_with nat_eq path (47 ∷ []) && not (list_any (λ b. b == 0) path)
 
 abbrev pub shown_if : Bool → Node → Result Node Refusal
 shown_if allowed node = if allowed then Ok node else Err NoAuth
@@ -94,5 +90,12 @@ abbrev pub requested : State → ℤ → Result (RequestHeader × List ℕ) Faul
 requested s zxid (Ok x) = if int_eq x.0.kind get_data_kind then get_data s zxid x.0.xid (get_data_request.read x.1) else Silence
 requested s zxid (Err e) = Close
 
-abbrev pub answer : State → ℤ → List ℕ → Answer
-answer s zxid frame = requested s zxid (request_header.read frame)
+abbrev pub answer_to : State → ℤ → List ℕ → Answer
+answer_to s zxid frame = requested s zxid (request_header.read frame)
+
+-- ---- what the code does
+
+-- the node that is lent, or the refusal
+abbrev pub seen : Result (Bor Node) Refusal → Result Node Refusal
+seen (Ok node) = Ok node.now
+seen (Err e) = Err e

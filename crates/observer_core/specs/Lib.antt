@@ -1,1 +1,4 @@
 pub mod Config
+pub mod Answer
+pub mod Play
+pub mod Meets

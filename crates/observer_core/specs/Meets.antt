@@ -1,11 +1,12 @@
 -- What the code answers and leaves.
-use Rattle.std.specs.Prelude.{◌≡◌, ℕ, List, ◌++◌, Result, Ok, Err, Option, Some, None, Bool, true, false}
+use Rattle.std.specs.Prelude.{◌≡◌, ℕ, List, ◌++◌, Result, Ok, Err, Option, Some, None, Bool, true, false, length, drop, ◌<◌, ◌≤◌}
+use Rattle.std.specs.Borrow.{Bor}
 use Rattle.jute.specs.declared.fault.Fault.{Fault}
 use Rattle.jute.specs.declared.fault.NoMemory.{NoMemory}
 use Rattle.jute.specs.declared.fault.ReadError.{ReadError}
 use Rattle.jute.specs.declared.fault.ReadError.TheVariants as errors
-use Rattle.jute.specs.Stream.{Place}
-use Rattle.quorum_packet.specs.Packets.{Phase}
+use Rattle.jute.specs.Stream.{Place, place_at, items, before, nothing}
+use Rattle.quorum_packet.specs.declared.phase.Phase.{Phase}
 use Rattle.observer_core.specs.declared.machine.Replica.{Replica}
 use Rattle.observer_core.specs.declared.answer.Answer.{Answer}
 use Rattle.observer_core.specs.declared.machine.Machine.{Machine}
@@ -13,7 +14,7 @@ use Rattle.observer_core.specs.declared.event.Event.{Event}
 use Rattle.observer_core.specs.declared.event.Output.{Output}
 use Rattle.observer_core.specs.declared.engine.Stop.{Stop}
 use Rattle.observer_core.specs.declared.engine.Stop.TheVariants as stops
-use Rattle.observer_core.specs.Play.{Happened, Delivered, Served, sent, stays, play}
+use Rattle.observer_core.specs.Play.{Happened, Delivered, Served, sent, stays, frames, play}
 
 -- a front of the list
 abbrev pub IsFront : List Output → List Output → Type 0
@@ -40,6 +41,12 @@ Delivers (Err e) whole leader replica = Unit {0}
 abbrev pub Answers : Result Bool NoMemory → Answer → List Output → List Output → Type 0
 Answers (Ok open_) a old new = (open_ ≡ stays a) × (new ≡ old ++ sent a)
 Answers (Err e) a old new = IsFront new (old ++ sent a)
+
+-- The first frame, with how many bytes it takes; or that none is whole; or that its length is out of its bounds.
+abbrev pub FirstFrame : Result (Option (Bor (List ℕ) × ℕ)) Fault → List ℕ → Type 0
+FirstFrame (Ok (Some f)) bytes = (items frames (place_at tt bytes) ≡ before f.0.now (items frames (place_at tt (drop f.1 bytes)))) × (0 < f.1) × (f.1 ≤ length bytes)
+FirstFrame (Ok None) bytes = items frames (place_at tt bytes) ≡ nothing (place_at tt bytes)
+FirstFrame (Err e) bytes = items frames (place_at tt bytes) ≡ nothing (record { phase = tt; unread = Err e })
 
 abbrev pub rest_of : Bool → List ℕ → Option (List ℕ)
 rest_of true rest = Some rest

@@ -3,10 +3,15 @@ use Rattle.std.specs.Prelude.{◌≡◌, ℕ, ℤ, pos, List, [], ◌∷◌, ◌
 use Rattle.std.specs.Ordering.{int_eq}
 use Rattle.jute.specs.declared.fault.Fault.{Fault}
 use Rattle.jute.specs.declared.fault.Fault.TheVariants.{OutOfOrder}
-use Rattle.jute.specs.Format.{frame}
+use Rattle.jute.specs.Frame.{frame}
 use Rattle.jute.specs.Stream.{Phased, Place, Items, Unread, only, place_at, add, items}
 use Rattle.quorum_packet.specs.declared.packet.QuorumPacket.{QuorumPacket}
-use Rattle.quorum_packet.specs.Packets.{Phase, Packets, packets}
+use Rattle.quorum_packet.specs.declared.phase.Phase.{Phase}
+use Rattle.quorum_packet.specs.declared.phase.Phase.TheVariants.{Packets}
+use Rattle.quorum_packet.specs.declared.kind.PacketKind.{PacketKind}
+use Rattle.quorum_packet.specs.declared.kind.PacketKind.TheVariants.{Inform}
+use Rattle.quorum_packet.specs.Kinds.{kind_of}
+use Rattle.quorum_packet.specs.Packets.{packets}
 use Rattle.txn_codec.specs.Spelling.{txn, whole}
 use Rattle.txn_codec.specs.declared.txn.Txn.{Txn}
 use Rattle.data_tree.specs.State.{State}
@@ -21,7 +26,7 @@ use Rattle.observer_core.specs.declared.event.Output.{Output}
 use Rattle.observer_core.specs.declared.event.Output.TheVariants.{ToClient, CloseLeader, CloseClient}
 use Rattle.observer_core.specs.declared.answer.Answer.{Answer}
 use Rattle.observer_core.specs.declared.answer.Answer.TheVariants.{Reply, Silence, Close}
-use Rattle.observer_core.specs.Answer.{answer}
+use Rattle.observer_core.specs.Answer.{answer_to}
 
 pub record Happened : Type 0 where
   pub outputs : List Output
@@ -55,12 +60,13 @@ abbrev pub informed : Replica → Result Txn Fault → Result Replica Fault
 informed r (Ok t) = applied r t
 informed r (Err e) = Err e
 
-abbrev pub inform_kind : ℤ
-inform_kind = pos 8
-
 -- an INFORM is a transaction to apply; another packet isn't read yet
+abbrev pub received_as : Option PacketKind → Replica → Option (List ℕ) → Result Replica Fault
+received_as (Some Inform) r bytes = informed r (whole txn (carried bytes))
+received_as kind r bytes = Ok r
+
 abbrev pub received : Replica → QuorumPacket → Result Replica Fault
-received r p = if int_eq p.kind inform_kind then informed r (whole txn (carried p.bytes)) else Ok r
+received r p = received_as (kind_of p.kind) r p.bytes
 
 -- where the leader's stream stands, or the fault that ended it
 pub record Delivered : Type 0 where
@@ -140,7 +146,7 @@ answered a others = if stays a then told (sent a) others else record { outputs =
 -- each frame is answered at the state as it is, one behind the other
 abbrev pub serve : State → ℤ → List (List ℕ) → Unread → Served
 serve s zxid [] left = waits left
-serve s zxid (f ∷ fs) left = answered (answer s zxid f) (serve s zxid fs left)
+serve s zxid (f ∷ fs) left = answered (answer_to s zxid f) (serve s zxid fs left)
 
 -- the most bytes of a client's frame
 abbrev pub client_frame_limit : ℕ

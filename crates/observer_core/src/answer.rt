@@ -1,12 +1,17 @@
 //! Answers to the frames of a client.
 
-ghost use Rattle.std.specs.Prelude.{◌≡◌, ◌<◌, ◌^◌, length, IfOk, pos};
-ghost use Rattle.data_tree.specs.Shown.{shown};
-ghost use Rattle.observer_core.specs.Answer.{grants_read, may_read, is_asked, code_of, reply_text, replied, answer, looked_up};
-ghost use Rattle.observer_core.specs.Answers.{LooksUp, Answers, IsAnswered};
+ghost use Rattle.std.specs.Prelude.{◌≡◌, ◌<◌, ◌^◌, length, ℤ, IfOk, pos};
+ghost use Rattle.std.specs.Prelude.{◌++◌, OnOk, Err};
+ghost use Rattle.std.specs.List.{list_any};
+ghost use Rattle.data_tree.specs.Stats.{length_of};
+ghost use Rattle.jute.specs.Records.{get_data_request};
+ghost use Rattle.observer_core.specs.Answer.{grants_read, may_read, is_asked, looked_up, seen, reply_text, replied, get_data, answer_to};
 
 use data_tree::{Node, Tree};
-use jute::{Acl, Blob, Bytes, GetDataRequest, GetDataResponse, NoMemory, ReadError, ReadRecord, Reader, ReplyHeader, RequestHeader, Str, WriteRecord, put_int};
+use jute::{
+    Acl, Blob, Bytes, GetDataRequest, GetDataResponse, NoMemory, ReadError, ReadRecord, Reader,
+    ReplyHeader, RequestHeader, Str, WriteRecord, put_int,
+};
 use std::alloc::Global;
 
 /// The permission to read a node.
@@ -27,6 +32,8 @@ pub enum Refusal {
 }
 
 impl Refusal {
+    ghost use Rattle.observer_core.specs.Answer.{code_of};
+
     /// The error's number in a reply.
     pub fn code(self) -> i32
         ensures { result ≡ code_of self }
@@ -53,29 +60,35 @@ pub enum Answer {
 fn grants_read(acl: &Acl) -> bool
     ensures { result ≡ grants_read acl.now }
 {
-    acl.perms.cast_unsigned() & READ != 0 && acl.id.scheme.as_str() == "world" && acl.id.id.as_str() == "anyone"
+    acl.perms.cast_unsigned() & READ != 0
+        && acl.id.scheme.as_str() == "world"
+        && acl.id.id.as_str() == "anyone"
+}
+
+// Whether everybody may read by one of these entries.
+fn any_grants_read(acls: &[Acl]) -> bool
+    ensures { result ≡ list_any grants_read acls.now }
+{
+    acls.iter().any(|acl| grants_read(acl))
 }
 
 // Whether everybody may read by this list.
 fn may_read(acls: &[Acl]) -> bool
     ensures { result ≡ may_read acls.now }
 {
-    acls.is_empty() || acls.iter().any(|acl| grants_read(acl))
+    acls.is_empty() || any_grants_read(acls)
 }
 
 // Whether a path may be asked for.
 fn is_asked(path: &[u8]) -> bool
     ensures { result ≡ is_asked path.now }
 {
-    match path {
-        [b'/', ..] => !path.iter().any(|byte| *byte == 0),
-        _ => false,
-    }
+    path.starts_with(b"/") && !path.contains(&0)
 }
 
 // The node that a read of the path shows.
 fn look_up<'a>(tree: &'a Tree, path: &Option<Str<'_>>) -> Result<&'a Node, Refusal>
-    ensures { LooksUp result (looked_up tree.now path.now) }
+    ensures { seen result ≡ looked_up tree.now path.now }
 {
     let Some(path) = path else {
         return Err(Refusal::BadArguments);
@@ -92,9 +105,21 @@ fn look_up<'a>(tree: &'a Tree, path: &Option<Str<'_>>) -> Result<&'a Node, Refus
     Ok(node)
 }
 
+// How many bytes a node has; null has none.
+fn data_len(bytes: &Option<Blob>) -> usize
+    ensures length { result ≡ length_of bytes.now }
+    ensures small { result < 2 ^ 63 }
+{
+    match bytes {
+        None => 0,
+        Some(bytes) => bytes.as_slice().len(),
+    }
+}
+
 // How many bytes the reply has behind its length.
+#[tactic(auto, using(crate::proofs::Replies::shown_length, crate::proofs::Replies::refused_length))]
 fn reply_len(shown: &Result<&Node, Refusal>) -> usize
-    ensures { HasLength result shown.now }
+    ensures { (xid zxid : ℤ) → result ≡ length (reply_text xid zxid (seen shown.now)) }
 {
     match shown {
         Ok(node) => 88 + data_len(&node.bytes),
@@ -102,25 +127,56 @@ fn reply_len(shown: &Result<&Node, Refusal>) -> usize
     }
 }
 
+// A node's bytes, borrowed.
+fn lent(bytes: &Option<Blob>) -> Option<Bytes<'_>>
+    ensures { result ≡ bytes.now }
+{
+    match bytes {
+        None => None,
+        Some(bytes) => Some(Bytes::new(bytes.as_slice())),
+    }
+}
+
 // The header, and a body where there is no error.
-fn put_reply(out: &mut Vec<u8>, xid: i32, zxid: i64, shown: Result<&Node, Refusal>) -> Result<(), NoMemory>
+#[tactic(auto, using(crate::proofs::Replies::writable))]
+fn put_reply(
+    out: &mut Vec<u8>,
+    xid: i32,
+    zxid: i64,
+    shown: Result<&Node, Refusal>,
+) -> Result<(), NoMemory>
+    requires { length (reply_text xid zxid (seen shown)) < 2 ^ 31 }
+    ensures { OnOk result (out.new.items ≡ out.old.items ++ reply_text xid zxid (seen shown.entry)) }
 {
     match shown {
         Err(refusal) => {
-            let header = ReplyHeader { xid, zxid, err: refusal.code() };
+            let header = ReplyHeader {
+                xid,
+                zxid,
+                err: refusal.code(),
+            };
             header.write(out)
         }
         Ok(node) => {
             let header = ReplyHeader { xid, zxid, err: 0 };
             header.write(out)?;
-            let response = GetDataResponse { bytes: node.bytes.as_ref().map(|bytes| Bytes::new(bytes.as_slice())), stat: node.shown() };
+            let response = GetDataResponse {
+                bytes: lent(&node.bytes),
+                stat: node.shown(),
+            };
             response.write(out)
         }
     }
 }
 
 // The reply as a frame, if its length fits one.
-fn reply(alloc: Global, xid: i32, zxid: i64, shown: Result<&Node, Refusal>) -> Result<Answer, NoMemory>
+fn reply(
+    alloc: Global,
+    xid: i32,
+    zxid: i64,
+    shown: Result<&Node, Refusal>,
+) -> Result<Answer, NoMemory>
+    ensures { IfOk result (λ a. a ≡ replied (reply_text xid zxid (seen shown.entry))) }
 {
     let length = reply_len(&shown);
     if length > FRAME_LIMIT {
@@ -133,7 +189,14 @@ fn reply(alloc: Global, xid: i32, zxid: i64, shown: Result<&Node, Refusal>) -> R
 }
 
 // A getData, whose body stands behind the header.
-fn get_data(alloc: Global, tree: &Tree, zxid: i64, xid: i32, reader: &mut Reader<'_>) -> Result<Answer, NoMemory>
+fn get_data(
+    alloc: Global,
+    tree: &Tree,
+    zxid: i64,
+    xid: i32,
+    reader: &mut Reader<'_>,
+) -> Result<Answer, NoMemory>
+    ensures { IfOk result (λ a. a ≡ get_data tree.now zxid xid (get_data_request.read reader.old)) }
 {
     match GetDataRequest::read(alloc, reader) {
         Ok(request) => {
@@ -148,8 +211,8 @@ fn get_data(alloc: Global, tree: &Tree, zxid: i64, xid: i32, reader: &mut Reader
 }
 
 /// What a frame is answered by a tree whose last transaction has the zxid.
-pub fn answer(alloc: Global, tree: &Tree, zxid: i64, frame: &[u8]) -> Result<Answer, NoMemory>
-    ensures { IfOk result (λ a. a ≡ answer tree.now zxid frame.now) }
+pub fn answer_frame(alloc: Global, tree: &Tree, zxid: i64, frame: &[u8]) -> Result<Answer, NoMemory>
+    ensures { IfOk result (λ a. a ≡ answer_to tree.now zxid frame.now) }
 {
     let mut reader = Reader::new(frame);
     match RequestHeader::read(alloc, &mut reader) {

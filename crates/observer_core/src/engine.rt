@@ -36,8 +36,12 @@ pub struct Engine {
 impl Model for Engine {
     ghost use Rattle.std.specs.Prelude.{Option, Some, None, if◌then◌else◌};
     ghost use Rattle.observer_core.specs.declared.machine.Machine.{Machine as TheMachine};
+    ghost use Rattle.observer_core.specs.contracts.machine.Machine as contracts;
+    ghost use Rattle.std.specs.Coded.{codes};
 
     ghost Value = { Option TheMachine };
+
+    ghost coded = { Prim.hlevel (codes, contracts.the_row.coded) };
 
     ghost view = { λ e. if e.closed then None else Some e.machine };
 }
@@ -110,7 +114,12 @@ impl Engine {
     }
 
     /// Lets the events happen, one after the other, and appends what goes out.
-    pub fn feed_inline(&mut self, alloc: Global, events: &[Event<'_>], outputs: &mut Vec<Output>) -> Result<(), Stop>
+    pub fn feed_inline(
+        &mut self,
+        alloc: Global,
+        events: &[Event<'_>],
+        outputs: &mut Vec<Output>,
+    ) -> Result<(), Stop>
         ensures { Plays result self.old events.now outputs.old.items outputs.new.items self.new }
     {
         if self.closed {

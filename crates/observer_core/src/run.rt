@@ -3,14 +3,15 @@
 ghost use Rattle.std.specs.Prelude.{◌≡◌, ◌++◌, Ok, Some, None, OnOk, OnErr};
 ghost use Rattle.jute.specs.Stream.{items, place_at};
 ghost use Rattle.quorum_packet.specs.Packets.{packets};
-ghost use Rattle.observer_core.specs.Play.{applied, received, delivered, told, served, frames, after_leader, leader_bytes, after_client, client_bytes, happens, play, behind, first};
-ghost use Rattle.observer_core.specs.Meets.{Meets, Receives, Delivers, Answers, Serves};
+ghost use Rattle.observer_core.specs.Play.{carried, applied, received, delivered, told, served, frames, after_leader, leader_bytes, after_client, client_bytes, happens, play, behind, first};
+ghost use Rattle.observer_core.specs.Answer.{answer_to};
+ghost use Rattle.observer_core.specs.Meets.{Meets, Receives, Delivers, Answers, FirstFrame, Serves};
 
-use crate::answer::{Answer, answer};
+use crate::answer::{Answer, answer_frame};
 use crate::event::{Event, Output};
 use crate::machine::{Machine, Replica};
 use jute::{ByteQueue, Fault, NoMemory, ReadError, Reader, read_frame};
-use quorum_packet::{PacketFeed, QuorumPacket};
+use quorum_packet::{PacketFeed, PacketKind, QuorumPacket};
 use std::alloc::Global;
 use txn_codec::{Txn, decode_txn};
 
@@ -19,9 +20,6 @@ pub const FIRST: u64 = 1;
 
 /// The most bytes of a client's frame.
 pub const CLIENT_FRAME_LIMIT: u32 = 1_048_575;
-
-/// The type of a packet that informs of a transaction.
-pub const INFORM: i32 = 8;
 
 // Applies a transaction and keeps it in the log.
 fn apply(alloc: Global, replica: &mut Replica, txn: Txn) -> Result<(), ReadError>
@@ -37,19 +35,33 @@ fn apply(alloc: Global, replica: &mut Replica, txn: Txn) -> Result<(), ReadError
     Ok(())
 }
 
+// The bytes that a packet carries; null reads as empty.
+fn carried(packet: &QuorumPacket) -> &[u8]
+    ensures { result.now ≡ carried packet.now.bytes }
+{
+    match &packet.bytes {
+        None => &[],
+        Some(bytes) => bytes.as_slice(),
+    }
+}
+
 // Takes one packet.
 fn receive(alloc: Global, replica: &mut Replica, packet: &QuorumPacket) -> Result<(), ReadError>
     ensures { Receives result (received replica.old packet.now) replica.old replica.new }
 {
-    if packet.kind != INFORM {
+    let Some(PacketKind::Inform) = PacketKind::from_code(packet.kind) else {
         return Ok(());
-    }
+    };
     let txn = decode_txn(alloc, carried(packet))?;
     apply(alloc, replica, txn)
 }
 
 // Takes the packets that are whole. Answers the fault that ends the stream, if one does.
-fn drain(alloc: Global, feed: &mut PacketFeed, replica: &mut Replica) -> Result<Option<Fault>, NoMemory>
+fn drain(
+    alloc: Global,
+    feed: &mut PacketFeed,
+    replica: &mut Replica,
+) -> Result<Option<Fault>, NoMemory>
     ensures { Delivers result (delivered (items packets feed.old) replica.old) feed.new replica.new }
 {
     loop {
@@ -67,7 +79,11 @@ fn drain(alloc: Global, feed: &mut PacketFeed, replica: &mut Replica) -> Result<
 }
 
 // Ends the leader, and closes the connection.
-fn close_leader(machine: &mut Machine, fault: Fault, outputs: &mut Vec<Output>) -> Result<(), NoMemory>
+fn close_leader(
+    machine: &mut Machine,
+    fault: Fault,
+    outputs: &mut Vec<Output>,
+) -> Result<(), NoMemory>
     ensures { Meets result (behind outputs.old.items (after_leader machine.old machine.old.replica (Err fault))) outputs.new.items machine.new }
 {
     outputs.push(Output::CloseLeader(fault))?;
@@ -79,7 +95,12 @@ fn close_leader(machine: &mut Machine, fault: Fault, outputs: &mut Vec<Output>) 
     Ok(())
 }
 
-fn take_leader_bytes(alloc: Global, machine: &mut Machine, bytes: &[u8], outputs: &mut Vec<Output>) -> Result<(), NoMemory>
+fn take_leader_bytes(
+    alloc: Global,
+    machine: &mut Machine,
+    bytes: &[u8],
+    outputs: &mut Vec<Output>,
+) -> Result<(), NoMemory>
     ensures { Meets result (behind outputs.old.items (leader_bytes machine.old machine.old.leader bytes.now)) outputs.new.items machine.new }
 {
     let Some(mut feed) = machine.leader.take() else {
@@ -96,10 +117,15 @@ fn take_leader_bytes(alloc: Global, machine: &mut Machine, bytes: &[u8], outputs
 }
 
 // Answers one frame. Answers whether the connection stays open.
-fn serve_frame(alloc: Global, replica: &Replica, frame: &[u8], outputs: &mut Vec<Output>) -> Result<bool, NoMemory>
-    ensures { Answers result (answer replica.now.tree replica.now.learner.last_zxid frame.now) outputs.old.items outputs.new.items }
+fn serve_frame(
+    alloc: Global,
+    replica: &Replica,
+    frame: &[u8],
+    outputs: &mut Vec<Output>,
+) -> Result<bool, NoMemory>
+    ensures { Answers result (answer_to replica.now.tree replica.now.learner.last_zxid frame.now) outputs.old.items outputs.new.items }
 {
-    match answer(alloc, &replica.tree, replica.learner.last_zxid, frame)? {
+    match answer_frame(alloc, &replica.tree, replica.learner.last_zxid, frame)? {
         Answer::Reply(bytes) => {
             outputs.push(Output::ToClient(FIRST, bytes))?;
             Ok(true)
@@ -112,21 +138,41 @@ fn serve_frame(alloc: Global, replica: &Replica, frame: &[u8], outputs: &mut Vec
     }
 }
 
+// The first frame, if it is whole, and how many bytes it takes with its length.
+fn first_frame(bytes: &[u8]) -> Result<Option<(&[u8], usize)>, Fault>
+    ensures { FirstFrame result bytes.now }
+{
+    let mut ahead = Reader::new(bytes);
+    match read_frame(&mut ahead, CLIENT_FRAME_LIMIT) {
+        Ok(frame) => {
+            let left = ahead.rest().len();
+            Ok(Some((frame, bytes.len() - left)))
+        }
+        Err(fault) => match fault {
+            Fault::Short => Ok(None),
+            _ => Err(fault),
+        },
+    }
+}
+
 // Answers the frames that are whole. Answers whether the connection stays open.
-fn serve(alloc: Global, replica: &Replica, waiting: &mut ByteQueue, outputs: &mut Vec<Output>) -> Result<bool, NoMemory>
+fn serve(
+    alloc: Global,
+    replica: &Replica,
+    waiting: &mut ByteQueue,
+    outputs: &mut Vec<Output>,
+) -> Result<bool, NoMemory>
     ensures { Serves result (told outputs.old.items (served replica.now.tree replica.now.learner.last_zxid (items frames (place_at tt waiting.old)))) outputs.new.items waiting.new }
 {
     loop {
-        let mut ahead = Reader::new(waiting.as_slice());
-        match read_frame(&mut ahead, CLIENT_FRAME_LIMIT) {
-            Ok(frame) => {
-                let left = ahead.rest().len();
+        match first_frame(waiting.as_slice()) {
+            Ok(Some((frame, used))) => {
                 if !serve_frame(alloc, replica, frame, outputs)? {
                     return Ok(false);
                 }
-                waiting.drop_front(waiting.len() - left);
+                waiting.drop_front(used);
             }
-            Err(Fault::Short) => return Ok(true),
+            Ok(None) => return Ok(true),
             Err(_) => {
                 outputs.push(Output::CloseClient(FIRST))?;
                 return Ok(false);
@@ -135,7 +181,12 @@ fn serve(alloc: Global, replica: &Replica, waiting: &mut ByteQueue, outputs: &mu
     }
 }
 
-fn take_client_bytes(alloc: Global, machine: &mut Machine, bytes: &[u8], outputs: &mut Vec<Output>) -> Result<(), NoMemory>
+fn take_client_bytes(
+    alloc: Global,
+    machine: &mut Machine,
+    bytes: &[u8],
+    outputs: &mut Vec<Output>,
+) -> Result<(), NoMemory>
     ensures { Meets result (behind outputs.old.items (after_client machine.old (client_bytes machine.old.replica machine.old.client bytes.now))) outputs.new.items machine.new }
 {
     let Some(mut waiting) = machine.client.take() else {
@@ -148,18 +199,33 @@ fn take_client_bytes(alloc: Global, machine: &mut Machine, bytes: &[u8], outputs
     Ok(())
 }
 
-fn happen(alloc: Global, machine: &mut Machine, event: &Event<'_>, outputs: &mut Vec<Output>) -> Result<(), NoMemory>
+fn happen(
+    alloc: Global,
+    machine: &mut Machine,
+    event: &Event<'_>,
+    outputs: &mut Vec<Output>,
+) -> Result<(), NoMemory>
     ensures { Meets result (behind outputs.old.items (happens machine.old event.now)) outputs.new.items machine.new }
 {
     match event {
         Event::LeaderBytes(bytes) => take_leader_bytes(alloc, machine, bytes.as_slice(), outputs),
-        Event::ClientBytes(FIRST, bytes) => take_client_bytes(alloc, machine, bytes.as_slice(), outputs),
+        Event::ClientBytes(FIRST, bytes) => take_client_bytes(
+            alloc,
+            machine,
+            bytes.as_slice(),
+            outputs,
+        ),
         _ => Ok(()),
     }
 }
 
 /// Lets the events happen, and appends what they cause.
-pub fn run(alloc: Global, machine: &mut Machine, events: &[Event<'_>], outputs: &mut Vec<Output>) -> Result<(), NoMemory>
+pub fn run(
+    alloc: Global,
+    machine: &mut Machine,
+    events: &[Event<'_>],
+    outputs: &mut Vec<Output>,
+) -> Result<(), NoMemory>
     ensures { Meets result (behind outputs.old.items (play machine.old events.now)) outputs.new.items machine.new }
 {
     for event in events {

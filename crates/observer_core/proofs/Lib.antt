@@ -1,0 +1,4 @@
+pub mod Replies
+pub mod Streams
+pub mod Playing
+pub mod Meeting
