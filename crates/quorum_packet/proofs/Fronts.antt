@@ -10,25 +10,21 @@ use Rattle.jute.proofs.Streaming.{items_whole, items_short, items_refused, short
 use Rattle.quorum_packet.specs.declared.packet.QuorumPacket.{QuorumPacket}
 use Rattle.quorum_packet.specs.declared.phase.Phase.{Phase}
 use Rattle.quorum_packet.specs.declared.phase.Phase.TheVariants.{Packets, ImageOwed}
-use Rattle.quorum_packet.specs.Feed.{unread_len}
+use Rattle.quorum_packet.specs.Feed.{unread_len, RefusesUnread}
 use Rattle.quorum_packet.specs.Held.{held}
 use Rattle.quorum_packet.specs.Kinds.{kind_of}
 use Rattle.quorum_packet.specs.Packet.{packet}
 use Rattle.quorum_packet.specs.Packets.{packets, phase_behind}
+use Rattle.quorum_packet.proofs.Looking.{drop_front_of}
 use Rattle.quorum_packet.proofs.PacketFormat.{packet_sound, packets_streamed}
 
 pub fits : (bytes rest : List ℕ) (p : QuorumPacket) → packet.read bytes ≡ Ok (p, rest) → length rest ≤ length bytes
 fits bytes rest p e = omega (arith, shorter_rest packets packets_streamed Packets bytes rest p e)
 
-behind_text : (bytes text rest : List ℕ) → bytes ≡ text ++ rest → drop (length bytes - length rest) bytes ≡ rest
-behind_text bytes text rest e =
-    let n : length (text ++ rest) - length rest ≡ length text = omega (arith, length-append text rest) in
-    rw (e, n) (drop_at text rest (length text) refl)
-
 pub front : (bytes rest : List ℕ) (p : QuorumPacket) → IsBytes bytes → packet.read bytes ≡ Ok (p, rest) → packet.read bytes ≡ Ok (p, drop (length bytes - length rest) bytes)
 front bytes rest p h e =
     let t = packet_sound.lawful.takes bytes p rest h e in
-    e ∙ ap (λ (b : List ℕ). Ok (p, b)) (sym (behind_text bytes t.text rest t.parts))
+    e ∙ ap (λ (b : List ℕ). Ok (p, b)) (sym (drop_front_of bytes t.text rest t.parts))
 
 -- what the feed's fields stand for
 abbrev place_of : List ℕ → Phase → Option Fault → Place Phase
@@ -56,18 +52,20 @@ next_whole waiting rest used Packets behind None old p ready is h left to =
 next_whole waiting rest used ImageOwed behind None old p ready is h left to = absurd (let wrong = ready.0 in cc)
 next_whole waiting rest used phase behind (Some e) old p ready is h left to = absurd (let wrong = ready.1 in cc)
 
-pub next_short : (waiting : List ℕ) (phase : Phase) (fault : Option Fault) (old : Place Phase) → IsReady phase fault → place_of waiting phase fault ≡ old
-    → packet.read waiting ≡ Err Short → (items packets old ≡ nothing old) × (is_err old.unread ≡ false)
-next_short waiting Packets None old ready is h = rw (← is) (items_short packets packets_streamed Packets waiting h, refl)
-next_short waiting ImageOwed None old ready is h = absurd (let wrong = ready.0 in cc)
-next_short waiting phase (Some e) old ready is h = absurd (let wrong = ready.1 in cc)
+-- too few bytes wait for more
+pub short_at : (phase : Phase) (u : Unread) → phase ≡ Packets → RefusesUnread Short u
+    → (items packets (record { phase = phase; unread = u }) ≡ nothing (record { phase = phase; unread = u })) × (is_err u ≡ false)
+short_at Packets (Ok bytes) at h = (items_short packets packets_streamed Packets bytes h, refl)
+short_at ImageOwed (Ok bytes) at h = absurd cc
+short_at phase (Err e) at h = absurd h
 
-pub next_refused : (waiting : List ℕ) (phase : Phase) (fault : Option Fault) (old : Place Phase) (e : Fault) → IsReady phase fault → place_of waiting phase fault ≡ old → (e ≡ Short → ⊥)
-    → packet.read waiting ≡ Err e → items packets old ≡ nothing (place_of waiting phase (Some e))
-next_refused waiting Packets None old e ready is other h =
-    rw (← is) (items_refused packets packets_streamed Packets waiting e h ∙ ap (λ (u : Unread). nothing (record { phase = Packets; unread = u })) (refused_other e waiting other))
-next_refused waiting ImageOwed None old e ready is other h = absurd (let wrong = ready.0 in cc)
-next_refused waiting phase (Some d) old e ready is other h = absurd (let wrong = ready.1 in cc)
+-- another refusal ends the stream
+pub refused_at : (phase : Phase) (u : Unread) (e : Fault) → phase ≡ Packets → RefusesUnread e u → (e ≡ Short → ⊥)
+    → items packets (record { phase = phase; unread = u }) ≡ nothing (record { phase = phase; unread = Err e })
+refused_at Packets (Ok bytes) e at h other =
+    items_refused packets packets_streamed Packets bytes e h ∙ ap (λ (u : Unread). nothing (record { phase = Packets; unread = u })) (refused_other e bytes other)
+refused_at ImageOwed (Ok bytes) e at h other = absurd cc
+refused_at phase (Err d) e at h other = absurd h
 
 -- where an image is owed all bytes are passed over
 pub next_image : (waiting rest : List ℕ) (phase : Phase) (fault : Option Fault) (old : Place Phase) → phase ≡ ImageOwed → place_of waiting phase fault ≡ old

@@ -24,6 +24,14 @@ First (Ok None) old new = (items packets old ≡ nothing new) × (is_err new.unr
 First (Err errors.NoMemory) old new = new ≡ old
 First (Err (errors.Fault e)) old new = (items packets old ≡ nothing new) × (new.unread ≡ Err e)
 
+-- bytes wait, and no packet at their front is read for this fault
+abbrev pub RefusesUnread : Fault → Unread → Type 0
+RefusesUnread fault (Ok bytes) = packet.read bytes ≡ Err fault
+RefusesUnread fault (Err e) = ⊥
+
+abbrev pub Refuses : Place Phase → Fault → Type 0
+Refuses place fault = RefusesUnread fault place.unread
+
 -- Whether the stream may end here: a fault, or a part of a packet or an image that is still to come.
 abbrev pub ended : Phase → Unread → Result (Unit {0}) Fault
 ended phase (Err e) = Err e

@@ -3,3 +3,4 @@ pub mod Held
 pub mod Kinds
 pub mod Packet
 pub mod Packets
+pub mod Unseen

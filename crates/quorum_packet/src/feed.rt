@@ -2,7 +2,7 @@
 
 ghost use Rattle.std.specs.Prelude.{◌≡◌, [], Ok, Err, false, is_err, OnOk, OnErr};
 ghost use Rattle.jute.specs.Stream.{add, place_at};
-ghost use Rattle.quorum_packet.specs.Feed.{First, ReadsFront, end_of};
+ghost use Rattle.quorum_packet.specs.Feed.{First, ReadsFront, Refuses, end_of};
 ghost use Rattle.quorum_packet.specs.Packets.{phase_behind};
 ghost use Rattle.quorum_packet.specs.Kinds.{kind_of};
 ghost use Rattle.quorum_packet.specs.declared.phase.Phase.TheVariants.{Packets};
@@ -10,15 +10,20 @@ ghost use Rattle.quorum_packet.specs.declared.phase.Phase.TheVariants.{Packets};
 use crate::kind::PacketKind;
 use crate::packet::QuorumPacket;
 use crate::phase::Phase;
+use crate::unseen::{Unseen, look};
 use jute::{ByteQueue, Fault, NoMemory, ReadError, ReadRecord, Reader};
 use std::alloc::Global;
 use std::marker::Model;
 
 /// The packets of a stream, seen as the place up to which it was read: what stands there next, and the bytes that aren't read
 /// yet, or the fault that ended it.
+///
+/// A packet is read when all of it is in. Until then only what a piece brings is looked at, so the work is linear in the bytes
+/// of the stream, however it is cut.
 #[derive(Drop)]
 pub struct PacketFeed {
     waiting: ByteQueue,
+    unseen: Option<Unseen>,
     phase: Phase,
     fault: Option<Fault>,
 }
@@ -31,6 +36,10 @@ impl Model for PacketFeed {
     ghost Value = { Place Phase };
 
     ghost view = { λ f. record { phase = f.phase; unread = held f.waiting f.fault } };
+
+    ghost use Rattle.quorum_packet.specs.Unseen.{MayBeUnseen};
+
+    ghost invariant = { λ f. MayBeUnseen f.waiting f.unseen };
 }
 
 /// A packet at the front, and how many bytes it takes.
@@ -58,6 +67,7 @@ impl PacketFeed {
     {
         PacketFeed {
             waiting: ByteQueue::new(alloc),
+            unseen: None,
             phase: Phase::Packets,
             fault: None,
         }
@@ -68,7 +78,7 @@ impl PacketFeed {
         ensures ok { OnOk result (self.new ≡ add self.old piece.now) }
         ensures err { OnErr result (self.new ≡ self.old) }
     {
-        if self.fault.is_some() {
+        if self.is_faulty() {
             return Ok(());
         }
         self.waiting.add(piece)
@@ -86,6 +96,7 @@ impl PacketFeed {
             Phase::Packets => self.next_packet(alloc),
             Phase::ImageOwed => {
                 self.waiting.drop_front(self.waiting.len());
+                self.unseen = None;
                 Ok(None)
             }
         }
@@ -97,20 +108,33 @@ impl PacketFeed {
         requires fine { is_err self.old.unread ≡ false }
         ensures { First result self.old self.new }
     {
+        if let Err(fault) = look(self.waiting.as_slice(), &mut self.unseen) {
+            return self.refuse(fault);
+        }
         match read_front(alloc, self.waiting.as_slice()) {
             Ok((packet, used)) => {
                 self.waiting.drop_front(used);
+                self.unseen = None;
                 self.phase = phase_behind(&packet);
                 Ok(Some(packet))
             }
             Err(ReadError::NoMemory) => Err(ReadError::NoMemory),
-            Err(ReadError::Fault(fault)) => match fault {
-                Fault::Short => Ok(None),
-                _ => {
-                    self.fault = Some(fault);
-                    Err(ReadError::Fault(fault))
-                }
-            },
+            Err(ReadError::Fault(fault)) => self.refuse(fault),
+        }
+    }
+
+    // Too few bytes wait for more; another refusal ends the stream.
+    fn refuse(&mut self, fault: Fault) -> Result<Option<QuorumPacket>, ReadError>
+        requires packets { self.old.phase ≡ Packets }
+        requires refused { Refuses self.old fault }
+        ensures { First result self.old self.new }
+    {
+        match fault {
+            Fault::Short => Ok(None),
+            refusal => {
+                self.fault = Some(refusal);
+                Err(ReadError::Fault(refusal))
+            }
         }
     }
 
