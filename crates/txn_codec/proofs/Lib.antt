@@ -1,3 +1,4 @@
 pub mod Slashes
 pub mod Spelled
 pub mod Bodies
+pub mod Naming

@@ -3,3 +3,4 @@ pub mod Kinds
 pub mod Spelling
 pub mod Ends
 pub mod Writable
+pub mod Refusals
