@@ -109,7 +109,7 @@ def last_lines(path, number):
 
 
 def build(of_sources):
-    """Proves and builds the program by `rt run`, whose one run of the program is dropped. Returns whether it went well."""
+    """Proves and builds the program by `rt run`, whose own run of it is dropped. Returns whether all went well."""
     announce()
     stdin = os.path.join(CRATE, "stdin")
     began = time.monotonic()

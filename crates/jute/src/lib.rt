@@ -17,7 +17,7 @@ mod writer;
 pub use byte_queue::ByteQueue;
 pub use fault::{Fault, NoMemory, ReadError};
 pub use frame::read_frame;
-pub use law::{formats, pieces};
+pub use law::{formats, pieces, refused, waits};
 pub use message::{GetDataRequest, GetDataResponse, ReplyHeader, RequestHeader};
 pub use owned::{Acl, Id};
 pub use reader::{BUFFER_LIMIT, COUNT_LIMIT, Reader};

@@ -83,7 +83,7 @@ impl WriteRecord for ReplyHeader {
 }
 
 /// The GetDataRequest of zookeeper.jute.
-#[derive(Drop)]
+#[derive(Debug, Drop, PartialEq, Eq)]
 pub struct GetDataRequest<'a> {
     /// The path of the node; `None` is null.
     pub path: Option<Str<'a>>,
@@ -120,7 +120,7 @@ impl<'a> WriteRecord for GetDataRequest<'a> {
 }
 
 /// The GetDataResponse of zookeeper.jute.
-#[derive(Drop)]
+#[derive(Debug, Drop, PartialEq, Eq)]
 pub struct GetDataResponse<'a> {
     /// The node's bytes; `None` is null.
     pub bytes: Option<Bytes<'a>>,

@@ -10,14 +10,14 @@ use crate::writer::{WriteRecord, put_int, put_string};
 use std::alloc::Global;
 
 /// Who is granted something.
-#[derive(Clone, Debug, Drop)]
+#[derive(Clone, Debug, Drop, PartialEq, Eq)]
 pub struct Id {
     pub scheme: Text,
     pub id: Text,
 }
 
 /// What an id is granted.
-#[derive(Clone, Debug, Drop)]
+#[derive(Clone, Debug, Drop, PartialEq, Eq)]
 pub struct Acl {
     pub perms: i32,
     pub id: Id,

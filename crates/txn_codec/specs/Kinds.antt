@@ -5,6 +5,10 @@ use Rattle.jute.specs.declared.fault.Fault.{Fault}
 use Rattle.jute.specs.declared.fault.Fault.TheVariants.{BadTxnType}
 use Rattle.txn_codec.specs.declared.kind.Kind.{Kind}
 use Rattle.txn_codec.specs.declared.kind.Kind.TheVariants as kinds
+use Rattle.txn_codec.specs.declared.txn.Operation.{Operation}
+use Rattle.txn_codec.specs.declared.txn.Operation.TheVariants as operations
+use Rattle.txn_codec.specs.declared.txn.Body.{Body}
+use Rattle.txn_codec.specs.declared.txn.Body.TheVariants as bodies
 
 abbrev pub code_of : Kind → ℤ
 code_of kinds.Create = pos 1
@@ -29,3 +33,17 @@ kind_of z = if int_eq z (pos 1) then Ok kinds.Create
     else (if int_eq z (negsuc 10) then Ok kinds.CloseSession
     else (if int_eq z (negsuc 0) then Ok kinds.Error
     else Err BadTxnType))))))))
+
+abbrev pub operation_kind : Operation → Kind
+operation_kind (operations.Create c) = kinds.Create
+operation_kind (operations.Delete p) = kinds.Delete
+operation_kind (operations.SetData s) = kinds.SetData
+operation_kind (operations.Check c) = kinds.Check
+operation_kind (operations.Error e) = kinds.Error
+
+abbrev pub body_kind : Body → Kind
+body_kind (bodies.Single o) = operation_kind o
+body_kind (bodies.SetAcl s) = kinds.SetAcl
+body_kind (bodies.Multi ps) = kinds.Multi
+body_kind (bodies.CreateSession timeout) = kinds.CreateSession
+body_kind bodies.CloseSession = kinds.CloseSession

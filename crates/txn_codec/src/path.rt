@@ -2,7 +2,7 @@
 
 ghost use Rattle.std.specs.Prelude.{◌≡◌, List, ℕ, string_bytes, IsTrue};
 ghost use Rattle.jute.specs.Reads.{GivesWhole};
-ghost use Rattle.txn_codec.specs.Paths.{is_path, is_child_path, path_of, parent_of, name_of};
+ghost use Rattle.txn_codec.specs.Paths.{is_path, is_child_path, path_of, child_path_of, parent_of, name_of};
 
 use jute::{Fault, ReadError};
 use std::alloc::Global;
@@ -23,7 +23,7 @@ impl Model for Path {
 }
 
 // Whether a text is a path other than "/".
-pub(crate) fn is_child_path(text: &[u8]) -> bool
+fn is_child_path(text: &[u8]) -> bool
     ensures { result ≡ is_child_path text.now }
 {
     let [b'/', rest @ ..] = text else {
@@ -52,6 +52,18 @@ impl Path {
         ensures { GivesWhole (path_of text.now) result }
     {
         if !is_path(text.as_bytes()) {
+            return Err(ReadError::Fault(Fault::BadPath));
+        }
+        Ok(Path {
+            text: String::from_str(alloc, text)?,
+        })
+    }
+
+    // The text as the path of a node that has a parent.
+    pub(crate) fn new_child(alloc: Global, text: &str) -> Result<Path, ReadError>
+        ensures { GivesWhole (child_path_of text.now) result }
+    {
+        if !is_child_path(text.as_bytes()) {
             return Err(ReadError::Fault(Fault::BadPath));
         }
         Ok(Path {

@@ -1,7 +1,9 @@
 //! Transactions (the records of zookeeper.jute).
 
 ghost use Rattle.std.specs.Prelude.{◌≡◌};
+ghost use Rattle.txn_codec.specs.Kinds.{operation_kind, body_kind};
 
+use crate::kind::Kind;
 use crate::path::Path;
 use jute::{Acl, Blob, Listed};
 use std::alloc::AllocError;
@@ -86,6 +88,36 @@ pub enum Body {
 pub struct Txn {
     pub header: TxnHeader,
     pub body: Body,
+}
+
+impl Operation {
+    /// Its type.
+    pub fn kind(&self) -> Kind
+        ensures { result ≡ operation_kind self.now }
+    {
+        match self {
+            Operation::Create(_) => Kind::Create,
+            Operation::Delete(_) => Kind::Delete,
+            Operation::SetData(_) => Kind::SetData,
+            Operation::Check(_) => Kind::Check,
+            Operation::Error(_) => Kind::Error,
+        }
+    }
+}
+
+impl Body {
+    /// Its type, as it stands in the header (TxnHeader).
+    pub fn kind(&self) -> Kind
+        ensures { result ≡ body_kind self.now }
+    {
+        match self {
+            Body::Single(operation) => operation.kind(),
+            Body::SetAcl(_) => Kind::SetAcl,
+            Body::Multi(_) => Kind::Multi,
+            Body::CreateSession(_) => Kind::CreateSession,
+            Body::CloseSession => Kind::CloseSession,
+        }
+    }
 }
 
 impl Clone for Operation {

@@ -1,0 +1,5 @@
+pub mod Feed
+pub mod Held
+pub mod Kinds
+pub mod Packet
+pub mod Packets
