@@ -1,8 +1,8 @@
 -- Hexadecimal digits, read one by one.
 use Rattle.std.proofs.Common.{◌≡◌, ℕ, ◌+◌, ◌*◌, List, [], ◌∷◌, ◌++◌, Option, None, Some, refl, ap, sym, ◌∙◌, append_assoc, arith}
 use Rattle.std.specs.Option.{option_map}
-use Rattle.std.proofs.Common.{◌<◌, Bool, true, false, cond, eqb, length, get_or, drop}
-use Rattle.std.specs.Prelude.{filter, not, ◌==◌, ◌≢◌}
+use Rattle.std.proofs.Common.{◌<◌, true, false, cond, eqb, length, get_or, drop}
+use Rattle.std.specs.Prelude.{not, ◌≢◌}
 use Rattle.std.proofs.lemmas.Bool.Decides.{nat_tests}
 use Rattle.std.proofs.lemmas.List.{at_drop_more}
 use Rattle.replay_script.specs.Number.{◌>>=◌}
@@ -31,9 +31,9 @@ pub bytes_behind_second : (front : List ℕ) (h low l : ℕ) (text : List ℕ) �
 bytes_behind_second front h low l text e =
     ap (λ d. onto front (d >>= (λ l. bytes_of text >>= (λ bytes. Some ((h * 16 + l) ∷ bytes))))) e
     ∙ elim (bytes_of text) as (λ bs. onto front (bs >>= (λ bytes. Some ((h * 16 + l) ∷ bytes))) ≡ onto (front ++ (h * 16 + l) ∷ []) bs) [
-        None ↦ refl
+      | None ↦ refl
       | Some bs ↦ ap Some (sym (append_assoc front ((h * 16 + l) ∷ []) bs))
-      ]
+    ]
 
 -- nothing is spelled where one is no digit
 pub bytes_behind_none : (waiting : Option ℕ) (b : ℕ) (text : List ℕ) → digit_of b ≡ None → bytes_behind waiting (b ∷ text) ≡ None

@@ -2,3 +2,4 @@ pub mod Digits
 pub mod Numbers
 pub mod Reading
 pub mod Utf8
+pub mod WithinBounds

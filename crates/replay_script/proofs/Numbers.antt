@@ -1,5 +1,5 @@
 -- Decimal numbers, read digit by digit.
-use Rattle.std.proofs.Common.{◌≡◌, ℕ, ◌+◌, ◌-◌, ◌*◌, ◌<◌, ◌≤◌, Bool, true, false, List, [], ◌∷◌, Option, None, Some, cond, refl, ap, ◌∙◌, length, get_or, drop, arith}
+use Rattle.std.proofs.Common.{◌≡◌, ℕ, ◌+◌, ◌-◌, ◌*◌, ◌<◌, true, false, List, [], ◌∷◌, None, cond, refl, ap, ◌∙◌, length, get_or, drop, arith}
 use Rattle.std.proofs.lemmas.List.{at_drop_more}
 use Rattle.std.specs.Char.{is_ascii_digit}
 use Rattle.std.proofs.lemmas.Bool.Decides.{nat_tests}
@@ -10,8 +10,8 @@ pub within_too_large : (low high n : ℕ) (bs : List ℕ) → high < n → withi
 within_too_large low high n [] h = grind (arith, nat_tests)
 within_too_large low high n (b ∷ bs) h =
     elim (is_ascii_digit b) as (λ d. within low high (cond d (number_behind (n * 10 + (b - 48)) bs) None) ≡ None) [
-      true ↦ within_too_large low high (n * 10 + (b - 48)) bs (omega arith)
-    | false ↦ refl
+      | true ↦ within_too_large low high (n * 10 + (b - 48)) bs (omega arith)
+      | false ↦ refl
     ]
 
 -- so it is at the digit that makes it too large

@@ -1,17 +1,15 @@
 -- A script, read line by line.
-use Rattle.std.proofs.Common.{◌≡◌, ℕ, ◌+◌, ◌<◌, Bool, true, false, List, [], ◌∷◌, Option, None, Some, Result, Ok, Err, cond, length, take, drop, ◌≤◌, ltb-true, ltb-false, length-drop, refl, ap, sym, ◌∙◌, arith, rules}
-use Rattle.std.specs.Prelude.{◌==◌, ◌&&◌, not, position, nat_lt}
+use Rattle.std.proofs.Common.{◌≡◌, ℕ, ◌+◌, Bool, true, false, List, [], ◌∷◌, Option, None, Some, Result, Ok, Err, cond, length, take, drop, ◌≤◌, ltb-true, ltb-false, length-drop, refl, ap, sym, ◌∙◌, arith}
+use Rattle.std.specs.Prelude.{◌==◌, nat_lt}
 use Rattle.std.specs.Option.{option_map}
-use Rattle.std.specs.List.{slice_split, before_first, position_or_len}
+use Rattle.std.specs.List.{before_first, position_or_len}
 use Rattle.std.proofs.lemmas.List.Splits.{slice_split_first, slice_split_none}
 use Rattle.std.proofs.lemmas.List.Sums.{fails_before_first}
 use Rattle.std.proofs.lemmas.Grind.{common_steps}
 use Rattle.replay_script.specs.Cut.{cut_at}
 use Rattle.replay_script.specs.Line.{line_of}
-use Rattle.replay_script.specs.Script.{lines_of, may_follow, script_with, with_read, with_line, or_bad, script_behind, is_empty, is_set, events_in, settings_in}
-use Rattle.replay_script.specs.Draft.{Kept, kept_of, may_take, kept_with, kept_after, kept_behind, script_from, is_kept}
-use Rattle.replay_script.specs.declared.event.ScriptEvent.{ScriptEvent}
-use Rattle.replay_script.specs.declared.event.Setting.{Setting}
+use Rattle.replay_script.specs.Script.{lines_of, may_follow, with_read, or_bad, script_behind}
+use Rattle.replay_script.specs.Draft.{Kept, kept_of, may_take, kept_with, kept_after, kept_behind, script_from}
 use Rattle.replay_script.specs.declared.event.Setting.TheVariants.{Server, Epochs, Timeouts, Secret, Primed}
 use Rattle.replay_script.specs.declared.event.Line.{Line}
 use Rattle.replay_script.specs.declared.event.Line.TheVariants.{Blank, Header, Happening}
@@ -58,9 +56,9 @@ kept_after_read lines None = refl
 kept_after_read lines (Some line) =
     ap (λ b. cond b (Some (kept_with (kept_of lines) line)) None) (may_take_kept lines line)
     ∙ elim (may_follow lines line) as (λ b. cond b (Some (kept_with (kept_of lines) line)) None ≡ option_map kept_of (cond b (Some (line ∷ lines)) None)) [
-        true ↦ ap Some (kept_with_kept lines line)
+      | true ↦ ap Some (kept_with_kept lines line)
       | false ↦ refl
-      ]
+    ]
 
 step : (lines : List Line) (texts : List (List ℕ)) (read : Option Line) → ((line : Line) → script_after (length (line ∷ lines)) (kept_of (line ∷ lines)) texts ≡ script_behind (line ∷ lines) texts) → or_bad_kept (length lines + 1) (kept_after (kept_of lines) read) (λ more. script_after (length lines + 1) more texts) ≡ or_bad (length lines + 1) (with_read lines read) (λ all. script_behind all texts)
 step lines texts None later = refl
@@ -69,9 +67,9 @@ step lines texts (Some line) later =
     let more = length lines + 1 in
     ap (λ b. or_bad_kept more (cond b (Some (kept_with (kept_of lines) line)) None) next) (may_take_kept lines line)
     ∙ elim (may_follow lines line) as (λ b. or_bad_kept more (cond b (Some (kept_with (kept_of lines) line)) None) next ≡ or_bad more (cond b (Some (line ∷ lines)) None) (λ all. script_behind all texts)) [
-        true ↦ ap next (kept_with_kept lines line) ∙ ap (λ n. script_after n (kept_of (line ∷ lines)) texts) (length_more line lines) ∙ later line
+      | true ↦ ap next (kept_with_kept lines line) ∙ ap (λ n. script_after n (kept_of (line ∷ lines)) texts) (length_more line lines) ∙ later line
       | false ↦ refl
-      ]
+    ]
 
 -- the draft leads to the script that its lines lead to
 pub script_after_is : (lines : List Line) (texts : List (List ℕ)) → script_after (length lines) (kept_of lines) texts ≡ script_behind lines texts

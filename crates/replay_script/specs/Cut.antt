@@ -1,5 +1,5 @@
 -- A text, cut at the first place of a byte.
-use Rattle.std.specs.Prelude.{ℕ, ◌+◌, ◌==◌, List, drop, Option, position}
+use Rattle.std.specs.Prelude.{ℕ, ◌+◌, ◌==◌, List, drop, position}
 use Rattle.std.specs.List.{before_first}
 use Rattle.std.specs.Option.{option_map}
 use Rattle.replay_script.specs.declared.cut.Cut.{Cut}

@@ -20,13 +20,13 @@ kept_of lines =
     let settings = settings_in lines in
     record {
       settings =
-        record {
-          server = server_in settings;
-          epochs = epochs_in settings;
-          timeouts = timeouts_in settings;
-          secret = secret_in settings;
-          primed = primed_in settings;
-        };
+          record {
+            server = server_in settings;
+            epochs = epochs_in settings;
+            timeouts = timeouts_in settings;
+            secret = secret_in settings;
+            primed = primed_in settings;
+          };
       events = events_in lines;
     }
 

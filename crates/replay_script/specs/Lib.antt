@@ -1,3 +1,4 @@
+pub mod Bounds
 pub mod Cut
 pub mod Draft
 pub mod Hex

@@ -1,12 +1,12 @@
 -- Which script a text is.
-use Rattle.std.specs.Prelude.{ℕ, ℤ, pos, ◌+◌, ◌==◌, ◌&&◌, ◌||◌, not, Bool, true, false, List, [], ◌∷◌, ◌++◌, length, Option, Some, None, is_some, Result, Ok, Err, unwrap_or, if◌then◌else◌, int_le, nat_le, IsTrue}
+use Rattle.std.specs.Prelude.{ℕ, ℤ, pos, ◌+◌, ◌==◌, ◌&&◌, not, Bool, true, false, List, [], ◌∷◌, ◌++◌, length, Option, Some, None, is_some, Result, Ok, Err, unwrap_or, if◌then◌else◌}
 use Rattle.std.specs.List.{slice_split}
-use Rattle.replay_script.specs.Line.{line_of, int_max}
+use Rattle.replay_script.specs.Line.{line_of}
 use Rattle.replay_script.specs.declared.event.ScriptEvent.{ScriptEvent}
 use Rattle.replay_script.specs.declared.event.Setting.{Setting}
 use Rattle.replay_script.specs.declared.event.Setting.TheVariants.{Server, Epochs, Timeouts, Secret, Primed}
 use Rattle.replay_script.specs.declared.event.Line.{Line}
-use Rattle.replay_script.specs.declared.event.Line.TheVariants.{Blank, Header, Happening}
+use Rattle.replay_script.specs.declared.event.Line.TheVariants.{Header, Happening}
 use Rattle.replay_script.specs.declared.script.Script.{Script}
 
 -- lines end with LF, which the last one may lack

@@ -20,8 +20,7 @@ pub fn lines()
     ensures client_bytes { line_of (codes "client 1 0a0B") ≡ Some (Happening (ClientBytes 1 (10 ∷ 11 ∷ []))) }
     ensures client_end { line_of (codes "client 1 end") ≡ Some (Happening (ClientEnd 1)) }
     ensures expire { line_of (codes "expire ff 00000000000001") ≡ Some (Happening (Expire (negsuc 72057594037927934))) }
-{
-}
+{}
 
 /// Lines that are not of the language.
 pub fn bad_lines()
@@ -35,8 +34,7 @@ pub fn bad_lines()
     ensures odd { line_of (codes "leader abc") ≡ None }
     ensures short { line_of (codes "expire ff000000000000") ≡ None }
     ensures tab { line_of (9 ∷ []) ≡ None }
-{
-}
+{}
 
 /// Whole texts.
 pub fn scripts()
@@ -44,5 +42,4 @@ pub fn scripts()
     ensures one_event { script_of (codes "server 3" ++ 10 ∷ codes "leader up" ++ 10 ∷ []) ≡ Ok (record { server_id = pos 3; accepted_epoch = pos 0; current_epoch = pos 0; min_timeout = pos 4000; max_timeout = pos 40000; secret = []; primed = false; events = LeaderUp ∷ [] }) }
     ensures twice { script_of (codes "primed" ++ 10 ∷ 10 ∷ codes "primed") ≡ Err 3 }
     ensures late { script_of (codes "checkpoint" ++ 10 ∷ codes "server 3" ++ 10 ∷ codes "what") ≡ Err 2 }
-{
-}
+{}

@@ -1,7 +1,8 @@
 use super::*;
 use std::test::*;
 
-const EVERY_LINE: &str = "# \u{e9}\nserver 255\n\nepochs 2147483647 0\ntimeouts 1 2147483647\nsecret aB \nprimed\nleader up\nleader  00 Ff\nleader end\nclient 4294967295 up\nclient 007 0a0B\nclient 1 end\nexpire ff 00000000000001\ncheckpoint";
+const EVERY_LINE: &str =
+    "# \u{e9}\nserver 255\n\nepochs 2147483647 0\ntimeouts 1 2147483647\nsecret aB \nprimed\nleader up\nleader  00 Ff\nleader end\nclient 4294967295 up\nclient 007 0a0B\nclient 1 end\nexpire ff 00000000000001\ncheckpoint";
 
 #[test]
 fn every_line(rt: HostRuntime) -> Result<(), Fail> {
@@ -16,10 +17,14 @@ fn every_line(rt: HostRuntime) -> Result<(), Fail> {
     let events = script.events.as_slice();
     assert_eq!(rt; events.len(), 8);
     assert!(rt; matches!(&events[0], ScriptEvent::LeaderUp));
-    assert!(rt; matches!(&events[1], ScriptEvent::LeaderBytes(bytes) if bytes.as_slice() == [0, 255].as_slice()));
+    assert!(rt;
+        matches!(&events[1], ScriptEvent::LeaderBytes(bytes) if bytes.as_slice() == [0, 255].as_slice())
+    );
     assert!(rt; matches!(&events[2], ScriptEvent::LeaderEnd));
     assert!(rt; matches!(&events[3], ScriptEvent::ClientUp(4294967295)));
-    assert!(rt; matches!(&events[4], ScriptEvent::ClientBytes(7, bytes) if bytes.as_slice() == [10, 11].as_slice()));
+    assert!(rt;
+        matches!(&events[4], ScriptEvent::ClientBytes(7, bytes) if bytes.as_slice() == [10, 11].as_slice())
+    );
     assert!(rt; matches!(&events[5], ScriptEvent::ClientEnd(1)));
     assert!(rt; matches!(&events[6], ScriptEvent::Expire(-72057594037927935)));
     assert!(rt; matches!(&events[7], ScriptEvent::Checkpoint));
@@ -66,7 +71,11 @@ fn first_bad_line(rt: HostRuntime) {
         (b" \n".as_slice(), 1),
         (b"#\n#\xff\n".as_slice(), 2),
     ] {
-        assert_eq!(rt; parse(rt.alloc(), text).err(), Some(ScriptError::BadLine(number)), "at {text:?}");
+        assert_eq!(rt;
+            parse(rt.alloc(), text).err(),
+            Some(ScriptError::BadLine(number)),
+            "at {text:?}"
+        );
     }
 }
 

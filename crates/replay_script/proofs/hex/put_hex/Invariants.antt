@@ -1,4 +1,4 @@
-use Rattle.std.proofs.Common.{◌≡◌, ◌++◌, take, drop}
+use Rattle.std.proofs.Common.{◌≡◌, ◌++◌, drop}
 use Rattle.replay_script.specs.Hex.{digits}
 use Rattle.replay_script.proofs.hex.put_hex.Given as goal
 

@@ -1,4 +1,4 @@
-use Rattle.std.proofs.Common.{◌≡◌, ℕ, ◌+◌, ◌∷◌, ◌++◌, Option, None, drop, get_or, sym, ap, subst, ◌<◌, IfSome, ◌∙◌, arith, rules}
+use Rattle.std.proofs.Common.{◌≡◌, ◌+◌, None, drop, get_or, sym, ap, subst, ◌<◌, IfSome, ◌∙◌, arith}
 use Rattle.replay_script.specs.Number.{◌>>=◌}
 use Rattle.replay_script.specs.Hex.{bytes_of, without_blanks, at_least_one}
 use Rattle.replay_script.proofs.Digits.{bytes_behind, bytes_behind_none, first_read, onto, second_read, without_blanks_kept}
@@ -24,14 +24,14 @@ loop-byte-preserved c =
     let digit = c.in-Some.digit in
     let spelled = sym c.digit_of.ensures.value ∙ c.in-Some.is in
     elim c.match-high.branch [
-      in-None w ↦
-        record {
-          small = subst (λ h. IfSome h (λ d. d < 16)) (sym w.high-is) c.in-Some.ensures.small;
-          same = first_read text before now.bytes.items i digit c.loop-byte.high now.high _ (omega arith) c.if-byte-eq32.false spelled w.in-None.is w.high-is (ap (λ v. v.items) w.bytes-is) c.loop-byte.invariant.same;
-        }
-    | in-Some-high+in_ok-push-in-Some-high w ↦
-        record {
-          small = subst (λ h. IfSome h (λ d. d < 16)) (sym w.high-is) tt;
-          same = second_read text before now.bytes.items i w.in-Some-high.first digit c.loop-byte.high now.high _ (omega arith) c.if-byte-eq32.false spelled w.in-Some-high.is w.high-is (ap (λ v. v.items) w.bytes-is ∙ w.in_ok-push-in-Some-high.ensures.items) c.loop-byte.invariant.same;
-        }
+      | in-None w ↦
+          record {
+            small = subst (λ h. IfSome h (λ d. d < 16)) (sym w.high-is) c.in-Some.ensures.small;
+            same = first_read text before now.bytes.items i digit c.loop-byte.high now.high _ (omega arith) c.if-byte-eq32.false spelled w.in-None.is w.high-is (ap (λ v. v.items) w.bytes-is) c.loop-byte.invariant.same;
+          }
+      | in-Some-high+in_ok-push-in-Some-high w ↦
+          record {
+            small = subst (λ h. IfSome h (λ d. d < 16)) (sym w.high-is) tt;
+            same = second_read text before now.bytes.items i w.in-Some-high.first digit c.loop-byte.high now.high _ (omega arith) c.if-byte-eq32.false spelled w.in-Some-high.is w.high-is (ap (λ v. v.items) w.bytes-is ∙ w.in_ok-push-in-Some-high.ensures.items) c.loop-byte.invariant.same;
+          }
     ]

@@ -1,4 +1,4 @@
-use Rattle.std.proofs.Common.{◌≡◌, ◌<◌, ◌^◌, drop, IfSome}
+use Rattle.std.proofs.Common.{◌≡◌, ◌<◌, drop, IfSome}
 use Rattle.replay_script.specs.Hex.{without_blanks, bytes_of}
 use Rattle.replay_script.proofs.Digits.{bytes_behind, onto}
 use Rattle.replay_script.proofs.hex.read_hex.Given as goal

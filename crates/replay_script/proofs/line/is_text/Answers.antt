@@ -1,4 +1,4 @@
-use Rattle.std.proofs.Common.{◌≡◌, sym}
+use Rattle.std.proofs.Common.{sym}
 use Rattle.std.proofs.lemmas.Str.{is_utf8-from_IsUtf8}
 use Rattle.replay_script.proofs.Utf8.{not_text}
 use Rattle.replay_script.proofs.line.is_text.Goals as goal
