@@ -181,26 +181,22 @@ play m (e ∷ events) = behind (happens m e).outputs (play (happens m e).machine
 
 -- ---- the machines at the start
 
--- without a leader and without a client
-abbrev pub new_machine : Config → Machine
-new_machine config = record {
+-- the fresh tree at zxid 0, which is the base too
+abbrev pub started_machine : Config → ℤ → ℤ → Option (Place Phase) → Option (List ℕ) → Machine
+started_machine config accepted current leader client = record {
   config = config;
-  leader = None;
+  leader = leader;
   replica = record {
-    learner = record { accepted_epoch = config.accepted_epoch; current_epoch = config.current_epoch; last_zxid = pos 0; base = record { zxid = pos 0; tree = fresh }; log = [] };
+    learner = record { accepted_epoch = accepted; current_epoch = current; last_zxid = pos 0; base = record { zxid = pos 0; tree = fresh }; log = [] };
     tree = fresh;
   };
-  client = None;
+  client = client;
 }
+
+-- the configured epochs, without a leader and without a client
+abbrev pub new_machine : Config → Machine
+new_machine config = started_machine config config.accepted_epoch config.current_epoch None None
 
 -- following a leader in epoch 1, with the first connection open
 abbrev pub primed_machine : Config → Machine
-primed_machine config = record {
-  config = config;
-  leader = Some (place_at Packets []);
-  replica = record {
-    learner = record { accepted_epoch = pos 1; current_epoch = pos 1; last_zxid = pos 0; base = record { zxid = pos 0; tree = fresh }; log = [] };
-    tree = fresh;
-  };
-  client = Some [];
-}
+primed_machine config = started_machine config (pos 1) (pos 1) (Some (place_at Packets [])) (Some [])

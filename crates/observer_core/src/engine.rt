@@ -1,7 +1,7 @@
 //! The engine: a machine that is closed by want of memory.
 
 ghost use Rattle.std.specs.Prelude.{◌≡◌, Some, IfOk};
-ghost use Rattle.observer_core.specs.Play.{new_machine, primed_machine};
+ghost use Rattle.observer_core.specs.Play.{started_machine, new_machine, primed_machine};
 ghost use Rattle.observer_core.specs.Meets.{Plays};
 ghost use Rattle.observer_core.specs.declared.machine.Machine.{Machine as TheMachine};
 
@@ -46,57 +46,56 @@ impl Model for Engine {
     ghost view = { λ e. if e.closed then None else Some e.machine };
 }
 
+// A machine that isn't closed, at zxid 0, with the epochs of the learner.
+fn started(
+    alloc: Global,
+    config: Config,
+    epochs: (i32, i32),
+    leader: Option<PacketFeed>,
+    client: Option<ByteQueue>,
+) -> Result<Engine, NoMemory>
+    ensures { IfOk result (λ e. e ≡ Some (started_machine config epochs.0 epochs.1 leader client)) }
+{
+    let (accepted_epoch, current_epoch) = epochs;
+    let base = Base {
+        zxid: 0,
+        tree: Tree::fresh(alloc)?,
+    };
+    let learner = Learner {
+        accepted_epoch,
+        current_epoch,
+        last_zxid: 0,
+        base,
+        log: Log::new(alloc),
+    };
+    let tree = Tree::fresh(alloc)?;
+    Ok(Engine {
+        machine: Machine {
+            config,
+            leader,
+            replica: Replica { learner, tree },
+            client,
+        },
+        closed: false,
+    })
+}
+
 impl Engine {
     /// An observer without a leader: it passes over what comes.
     pub fn new(alloc: Global, config: Config) -> Result<Engine, NoMemory>
         ensures { IfOk result (λ e. e ≡ Some (new_machine config)) }
     {
-        let learner = Learner {
-            accepted_epoch: config.accepted_epoch,
-            current_epoch: config.current_epoch,
-            last_zxid: 0,
-            base: Base {
-                zxid: 0,
-                tree: Tree::fresh(alloc)?,
-            },
-            log: Log::new(alloc),
-        };
-        let tree = Tree::fresh(alloc)?;
-        Ok(Engine {
-            machine: Machine {
-                config,
-                leader: None,
-                replica: Replica { learner, tree },
-                client: None,
-            },
-            closed: false,
-        })
+        let epochs = (config.accepted_epoch, config.current_epoch);
+        started(alloc, config, epochs, None, None)
     }
 
     /// An observer that follows a leader in epoch 1, with connection 1 open.
     pub fn primed(alloc: Global, config: Config) -> Result<Engine, NoMemory>
         ensures { IfOk result (λ e. e ≡ Some (primed_machine config)) }
     {
-        let learner = Learner {
-            accepted_epoch: 1,
-            current_epoch: 1,
-            last_zxid: 0,
-            base: Base {
-                zxid: 0,
-                tree: Tree::fresh(alloc)?,
-            },
-            log: Log::new(alloc),
-        };
-        let tree = Tree::fresh(alloc)?;
-        Ok(Engine {
-            machine: Machine {
-                config,
-                leader: Some(PacketFeed::new(alloc)),
-                replica: Replica { learner, tree },
-                client: Some(ByteQueue::new(alloc)),
-            },
-            closed: false,
-        })
+        let leader = PacketFeed::new(alloc);
+        let client = ByteQueue::new(alloc);
+        started(alloc, config, (1, 1), Some(leader), Some(client))
     }
 
     /// The data tree. Of a closed engine it is only to be dropped.

@@ -20,7 +20,7 @@ pub enum Event<'a> {
 }
 
 /// What goes.
-#[derive(Debug, Drop)]
+#[derive(Debug, Drop, PartialEq, Eq)]
 pub enum Output {
     /// One packet.
     ToLeader(Blob),

@@ -16,3 +16,6 @@ pub use event::{Event, Output};
 pub use law::{cut_anywhere, plays_on};
 pub use machine::{Base, Learner, Log, Machine, Replica};
 pub use run::{CLIENT_FRAME_LIMIT, FIRST};
+
+#[cfg(test)]
+mod tests;
