@@ -1,0 +1,49 @@
+-- The codes of the types of transactions (the operation codes of ZooDefs.OpCode).
+use Rattle.std.specs.Prelude.{ℤ, pos, negsuc, Result, Ok, Err, if◌then◌else◌}
+use Rattle.std.specs.Ordering.{int_eq}
+use Rattle.jute.specs.declared.fault.Fault.{Fault}
+use Rattle.jute.specs.declared.fault.Fault.TheVariants.{BadTxnType}
+use Rattle.txn_codec.specs.declared.kind.Kind.{Kind}
+use Rattle.txn_codec.specs.declared.kind.Kind.TheVariants as kinds
+use Rattle.txn_codec.specs.declared.txn.Operation.{Operation}
+use Rattle.txn_codec.specs.declared.txn.Operation.TheVariants as operations
+use Rattle.txn_codec.specs.declared.txn.Body.{Body}
+use Rattle.txn_codec.specs.declared.txn.Body.TheVariants as bodies
+
+abbrev pub code_of : Kind → ℤ
+code_of kinds.Create = pos 1
+code_of kinds.Delete = pos 2
+code_of kinds.SetData = pos 5
+code_of kinds.SetAcl = pos 7
+code_of kinds.Check = pos 13
+code_of kinds.Multi = pos 14
+code_of kinds.CreateSession = negsuc 9
+code_of kinds.CloseSession = negsuc 10
+code_of kinds.Error = negsuc 0
+
+-- the type with that code, the first in this list; every other code is refused
+abbrev pub kind_of : ℤ → Result Kind Fault
+kind_of z = if int_eq z (pos 1) then Ok kinds.Create
+    else (if int_eq z (pos 2) then Ok kinds.Delete
+    else (if int_eq z (pos 5) then Ok kinds.SetData
+    else (if int_eq z (pos 7) then Ok kinds.SetAcl
+    else (if int_eq z (pos 13) then Ok kinds.Check
+    else (if int_eq z (pos 14) then Ok kinds.Multi
+    else (if int_eq z (negsuc 9) then Ok kinds.CreateSession
+    else (if int_eq z (negsuc 10) then Ok kinds.CloseSession
+    else (if int_eq z (negsuc 0) then Ok kinds.Error
+    else Err BadTxnType))))))))
+
+abbrev pub operation_kind : Operation → Kind
+operation_kind (operations.Create c) = kinds.Create
+operation_kind (operations.Delete p) = kinds.Delete
+operation_kind (operations.SetData s) = kinds.SetData
+operation_kind (operations.Check c) = kinds.Check
+operation_kind (operations.Error e) = kinds.Error
+
+abbrev pub body_kind : Body → Kind
+body_kind (bodies.Single o) = operation_kind o
+body_kind (bodies.SetAcl s) = kinds.SetAcl
+body_kind (bodies.Multi ps) = kinds.Multi
+body_kind (bodies.CreateSession timeout) = kinds.CreateSession
+body_kind bodies.CloseSession = kinds.CloseSession

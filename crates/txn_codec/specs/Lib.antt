@@ -1,0 +1,5 @@
+pub mod Paths
+pub mod Kinds
+pub mod Spelling
+pub mod Ends
+pub mod Writable

@@ -1,0 +1,16 @@
+//! Transactions of ZooKeeper's log (zookeeper.jute), decoded and encoded.
+#![tactic(auto)]
+
+mod decode;
+mod encode;
+mod kind;
+mod law;
+mod path;
+mod txn;
+
+pub use decode::decode_txn;
+pub use encode::encode_txn;
+pub use kind::Kind;
+pub use law::transactions;
+pub use path::Path;
+pub use txn::{Body, Check, Create, Operation, SetAcl, SetData, Txn, TxnHeader};

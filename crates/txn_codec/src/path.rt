@@ -1,0 +1,107 @@
+//! Paths that are checked.
+
+ghost use Rattle.std.specs.Prelude.{◌≡◌, List, ℕ, string_bytes, IsTrue};
+ghost use Rattle.jute.specs.Reads.{GivesWhole};
+ghost use Rattle.txn_codec.specs.Paths.{is_path, is_child_path, path_of, child_path_of, parent_of, name_of};
+
+use jute::{Fault, ReadError};
+use std::alloc::Global;
+use std::marker::Model;
+
+/// A path of a node: "/", or names that are not empty, each behind a slash, without NUL (ZooKeeper Programmer's Guide).
+#[derive(Clone, Debug, Drop)]
+pub struct Path {
+    text: String,
+}
+
+impl Model for Path {
+    ghost Value = { List ℕ };
+
+    ghost view = { λ p. string_bytes p.text };
+
+    ghost invariant = { λ p. IsTrue (is_path (string_bytes p.text)) };
+}
+
+// Whether a text is a path other than "/".
+fn is_child_path(text: &[u8]) -> bool
+    ensures { result ≡ is_child_path text.now }
+{
+    let [b'/', rest @ ..] = text else {
+        return false;
+    };
+    let mut after_slash = true;
+    for byte in rest {
+        if *byte == 0 || (after_slash && *byte == b'/') {
+            return false;
+        }
+        after_slash = *byte == b'/';
+    }
+    !after_slash
+}
+
+// Whether a text is a path.
+fn is_path(text: &[u8]) -> bool
+    ensures { result ≡ is_path text.now }
+{
+    matches!(text, [b'/']) || is_child_path(text)
+}
+
+impl Path {
+    /// The text as a path; a text that is not one is `BadPath`.
+    pub fn new(alloc: Global, text: &str) -> Result<Path, ReadError>
+        ensures { GivesWhole (path_of text.now) result }
+    {
+        if !is_path(text.as_bytes()) {
+            return Err(ReadError::Fault(Fault::BadPath));
+        }
+        Ok(Path {
+            text: String::from_str(alloc, text)?,
+        })
+    }
+
+    // The text as the path of a node that has a parent.
+    pub(crate) fn new_child(alloc: Global, text: &str) -> Result<Path, ReadError>
+        ensures { GivesWhole (child_path_of text.now) result }
+    {
+        if !is_child_path(text.as_bytes()) {
+            return Err(ReadError::Fault(Fault::BadPath));
+        }
+        Ok(Path {
+            text: String::from_str(alloc, text)?,
+        })
+    }
+
+    /// The whole path.
+    pub fn as_str(&self) -> &str
+        ensures text { result.now ≡ self.now }
+        ensures path { IsTrue (is_path self.now) }
+    {
+        self.text.as_str()
+    }
+
+    /// What stands before the last slash; the parent of "/a" and of "/" is "/".
+    pub fn parent(&self) -> &str
+        ensures { result.now ≡ parent_of self.now }
+    {
+        match self.text.as_str().rsplit_once('/') {
+            None => "/",
+            Some((front, _)) => {
+                if front.is_empty() {
+                    return "/";
+                }
+                front
+            }
+        }
+    }
+
+    /// What stands behind the last slash; the name of "/" is empty.
+    pub fn name(&self) -> &str
+        ensures { result.now ≡ name_of self.now }
+    {
+        let text = self.text.as_str();
+        match text.rsplit_once('/') {
+            None => text,
+            Some((_, name)) => name,
+        }
+    }
+}

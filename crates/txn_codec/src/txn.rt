@@ -1,0 +1,149 @@
+//! Transactions (the records of zookeeper.jute).
+
+ghost use Rattle.std.specs.Prelude.{◌≡◌};
+ghost use Rattle.txn_codec.specs.Kinds.{operation_kind, body_kind};
+
+use crate::kind::Kind;
+use crate::path::Path;
+use jute::{Acl, Blob, Listed};
+use std::alloc::AllocError;
+
+/// Who asked for a transaction, and its place in the order of all (TxnHeader); the type is the body's.
+#[derive(Clone, Copy, Debug, PartialEq, Eq)]
+pub struct TxnHeader {
+    /// The session that asked.
+    pub client_id: i64,
+    /// The session's own number of its request.
+    pub cxid: i32,
+    /// The transaction's number: the epoch in the upper 32 bits, a counter in the lower.
+    pub zxid: i64,
+    /// When the leader took it, in milliseconds since 1970.
+    pub time: i64,
+}
+
+/// A node is made (CreateTxn; a CreateTxnV0 has no `parent_cversion`, which stands for -1).
+#[derive(Clone, Debug, Drop)]
+pub struct Create {
+    pub path: Path,
+    pub bytes: Option<Blob>,
+    pub acl: Option<Listed<Acl>>,
+    /// The node goes with the session that made it.
+    pub ephemeral: bool,
+    /// The parent's cversion behind the create; -1 counts it up by one.
+    pub parent_cversion: i32,
+}
+
+/// A node's data is replaced (SetDataTxn).
+#[derive(Clone, Debug, Drop)]
+pub struct SetData {
+    pub path: Path,
+    pub bytes: Option<Blob>,
+    /// The node's version behind the write.
+    pub version: i32,
+}
+
+/// A node's access control list is replaced (SetACLTxn).
+#[derive(Clone, Debug, Drop)]
+pub struct SetAcl {
+    pub path: Path,
+    pub acl: Option<Listed<Acl>>,
+    /// The node's aversion behind the write.
+    pub version: i32,
+}
+
+/// A node's version is compared (CheckVersionTxn).
+#[derive(Clone, Debug, Drop)]
+pub struct Check {
+    pub path: Path,
+    pub version: i32,
+}
+
+/// What stands alone, or as a part of a multi.
+#[derive(Debug, Drop)]
+pub enum Operation {
+    Create(Create),
+    /// A node is removed (DeleteTxn).
+    Delete(Path),
+    SetData(SetData),
+    Check(Check),
+    /// The request failed, with this error code (ErrorTxn).
+    Error(i32),
+}
+
+/// What a transaction does.
+#[derive(Debug, Drop)]
+pub enum Body {
+    Single(Operation),
+    SetAcl(SetAcl),
+    /// Its parts in order (MultiTxn).
+    Multi(Listed<Operation>),
+    /// A session begins, with this timeout in milliseconds (CreateSessionTxn).
+    CreateSession(i32),
+    /// The session that asked ends.
+    CloseSession,
+}
+
+/// A transaction: its header and its body.
+#[derive(Clone, Debug, Drop)]
+pub struct Txn {
+    pub header: TxnHeader,
+    pub body: Body,
+}
+
+impl Operation {
+    /// Its type.
+    pub fn kind(&self) -> Kind
+        ensures { result ≡ operation_kind self.now }
+    {
+        match self {
+            Operation::Create(_) => Kind::Create,
+            Operation::Delete(_) => Kind::Delete,
+            Operation::SetData(_) => Kind::SetData,
+            Operation::Check(_) => Kind::Check,
+            Operation::Error(_) => Kind::Error,
+        }
+    }
+}
+
+impl Body {
+    /// Its type, as it stands in the header (TxnHeader).
+    pub fn kind(&self) -> Kind
+        ensures { result ≡ body_kind self.now }
+    {
+        match self {
+            Body::Single(operation) => operation.kind(),
+            Body::SetAcl(_) => Kind::SetAcl,
+            Body::Multi(_) => Kind::Multi,
+            Body::CreateSession(_) => Kind::CreateSession,
+            Body::CloseSession => Kind::CloseSession,
+        }
+    }
+}
+
+impl Clone for Operation {
+    ghost is_clone = { λ x y. y ≡ x };
+
+    fn clone(&self) -> Result<Operation, AllocError> {
+        Ok(match self {
+            Operation::Create(create) => Operation::Create(create.clone()?),
+            Operation::Delete(path) => Operation::Delete(path.clone()?),
+            Operation::SetData(set_data) => Operation::SetData(set_data.clone()?),
+            Operation::Check(check) => Operation::Check(check.clone()?),
+            Operation::Error(error) => Operation::Error(*error),
+        })
+    }
+}
+
+impl Clone for Body {
+    ghost is_clone = { λ x y. y ≡ x };
+
+    fn clone(&self) -> Result<Body, AllocError> {
+        Ok(match self {
+            Body::Single(operation) => Body::Single(operation.clone()?),
+            Body::SetAcl(set_acl) => Body::SetAcl(set_acl.clone()?),
+            Body::Multi(parts) => Body::Multi(parts.clone()?),
+            Body::CreateSession(timeout) => Body::CreateSession(*timeout),
+            Body::CloseSession => Body::CloseSession,
+        })
+    }
+}
