@@ -2,6 +2,7 @@
 
 ghost use Rattle.std.specs.Prelude.{◌≡◌};
 ghost use Rattle.jute.specs.declared.fault.ReadError.TheVariants as errors;
+ghost use Rattle.jute.specs.Faults.{fault_number};
 
 use std::alloc::{AllocError, AllocFailed};
 use thiserror::Error;
@@ -11,7 +12,7 @@ use thiserror::Error;
 pub enum Fault {
     /// The bytes end inside a field.
     #[error("Short")]
-    Short,
+    Short = 1,
     /// A length or count is below -1 or above its limit.
     #[error("BadLength")]
     BadLength,
@@ -45,6 +46,15 @@ pub enum Fault {
     /// Another packet than the one that is waited for.
     #[error("UnexpectedPacket")]
     UnexpectedPacket,
+}
+
+impl Fault {
+    /// The number by which the fault is named, from 1 to 12.
+    pub fn number(self) -> u8
+        ensures { result ≡ fault_number self }
+    {
+        self as u8
+    }
 }
 
 /// A growth was refused: the only error of a call that can only want memory.

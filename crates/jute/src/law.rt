@@ -4,11 +4,7 @@ ghost use Rattle.jute.specs.Format.{int, long, both, boolean, buffer, text, vect
 ghost use Rattle.std.specs.Int.{w32, w64};
 ghost use Rattle.jute.specs.Laws.{Lawful, Named, both_against, number_against};
 ghost use Rattle.jute.specs.Pieces.{Pieced};
-ghost use Rattle.jute.specs.Stream.{Streamed, ComesInPieces, Unread, items};
-ghost use Rattle.std.specs.Prelude.{◌≡◌, ℕ, List, Ok};
-ghost use Rattle.jute.specs.declared.record.AclRef.{AclRef};
-ghost use Rattle.jute.specs.Relation.{AreItems};
-ghost use Rattle.jute.specs.Records.{id_ref, acl_ref};
+ghost use Rattle.jute.specs.Owned.{id, acl};
 
 /// What is read is spelled so, what is spelled is read, and what is written is a spelling.
 pub fn formats()
@@ -17,10 +13,10 @@ pub fn formats()
     ensures boolean { Lawful boolean }
     ensures buffer { Lawful buffer }
     ensures text { Lawful text }
-    ensures id { Lawful id_ref }
-    ensures acl { Lawful acl_ref }
+    ensures id { Lawful id }
+    ensures acl { Lawful acl }
     ensures named { Named (both int long) (both_against int (number_against w32) (number_against w64)) }
-    ensures acls { Lawful (vector acl_ref) }
+    ensures acls { Lawful (vector acl) }
 {}
 
 /// What was read stays read, and what was refused for another reason than too few bytes stays refused, whatever comes behind.
@@ -30,16 +26,5 @@ pub fn pieces()
     ensures boolean { Pieced boolean }
     ensures buffer { Pieced buffer }
     ensures text { Pieced text }
-    ensures acls { Pieced (vector acl_ref) }
-{}
-
-/// The values of a stream don't depend on how it was cut.
-pub fn streams()
-    ensures streamed { Streamed acl_ref }
-    ensures pieces { ComesInPieces acl_ref }
-{}
-
-/// What stands in the bytes, as a relation, is what the function finds.
-pub fn relates()
-    ensures { (bytes : List ℕ) (vs : List AclRef) (left : Unread) → AreItems acl_ref bytes vs left → items acl_ref (Ok bytes) ≡ record { found = vs; left = left } }
+    ensures acls { Pieced (vector acl) }
 {}

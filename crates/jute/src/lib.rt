@@ -2,18 +2,26 @@
 #![tactic(auto)]
 
 mod fault;
+mod frame;
 mod law;
+mod message;
 mod owned;
 mod reader;
 mod record;
+mod stat;
+mod stream_law;
 mod value;
 mod writer;
 
 pub use fault::{Fault, NoMemory, ReadError};
-pub use law::{formats, pieces, relates, streams};
+pub use frame::read_frame;
+pub use law::{formats, pieces};
+pub use message::{GetDataRequest, GetDataResponse, ReplyHeader, RequestHeader};
 pub use owned::{Acl, Id};
 pub use reader::{BUFFER_LIMIT, COUNT_LIMIT, Reader};
-pub use record::{AclRef, IdRef, ReadRecord, read_name, read_vector};
+pub use record::{ReadRecord, read_name, read_vector};
+pub use stat::Stat;
+pub use stream_law::{relates, streams};
 pub use value::{Blob, Bytes, Listed, Str, Text};
 pub use writer::{
     WriteRecord, put_bool, put_buffer, put_bytes, put_int, put_long, put_string, put_vector,

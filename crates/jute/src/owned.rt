@@ -10,14 +10,14 @@ use crate::writer::{WriteRecord, put_int, put_string};
 use std::alloc::Global;
 
 /// Who is granted something.
-#[derive(Clone, Debug, Drop)]
+#[derive(Clone, Debug, Drop, PartialEq, Eq)]
 pub struct Id {
     pub scheme: Text,
     pub id: Text,
 }
 
 /// What an id is granted.
-#[derive(Clone, Debug, Drop)]
+#[derive(Clone, Debug, Drop, PartialEq, Eq)]
 pub struct Acl {
     pub perms: i32,
     pub id: Id,
@@ -26,6 +26,7 @@ pub struct Acl {
 impl<'a> ReadRecord<'a> for Id {
     ghost read_of = { id.read };
 
+    #[tactic(auto, unfolding(crate::specs::Owned::id))]
     fn read(alloc: Global, reader: &mut Reader<'a>) -> Result<Id, ReadError> {
         let mut ahead = Reader::new(reader.rest());
         let scheme = Text::new(alloc, read_name(&mut ahead)?.as_str())?;
@@ -38,6 +39,7 @@ impl<'a> ReadRecord<'a> for Id {
 impl<'a> ReadRecord<'a> for Acl {
     ghost read_of = { acl.read };
 
+    #[tactic(auto, unfolding(crate::specs::Owned::acl))]
     fn read(alloc: Global, reader: &mut Reader<'a>) -> Result<Acl, ReadError> {
         let mut ahead = Reader::new(reader.rest());
         let perms = ahead.read_int()?;
@@ -47,14 +49,26 @@ impl<'a> ReadRecord<'a> for Acl {
     }
 }
 
+impl WriteRecord for Id {
+    ghost IsWritable = { IsWritableId };
+
+    ghost bytes_of = { id.written };
+
+    #[tactic(auto, unfolding(crate::specs::Owned::id))]
+    fn write(&self, out: &mut Vec<u8>) -> Result<(), NoMemory> {
+        put_string(out, self.scheme.as_str())?;
+        put_string(out, self.id.as_str())
+    }
+}
+
 impl WriteRecord for Acl {
     ghost IsWritable = { λ a. IsWritableId a.id };
 
     ghost bytes_of = { acl.written };
 
+    #[tactic(auto, unfolding(crate::specs::Owned::acl))]
     fn write(&self, out: &mut Vec<u8>) -> Result<(), NoMemory> {
         put_int(out, self.perms)?;
-        put_string(out, self.id.scheme.as_str())?;
-        put_string(out, self.id.id.as_str())
+        self.id.write(out)
     }
 }

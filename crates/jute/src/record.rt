@@ -1,10 +1,9 @@
-//! Records: what is read is borrowed from the input.
+//! Records: what is read from the front of a byte text by one function.
 
 ghost use Rattle.std.specs.Prelude.{◌≡◌, List, ℕ, Result};
 ghost use Rattle.jute.specs.declared.fault.Fault.{Fault as TheFault};
 ghost use Rattle.jute.specs.Reads.{Gives};
 ghost use Rattle.jute.specs.Format.{name, times, vector_at, Took};
-ghost use Rattle.jute.specs.Records.{id_ref, acl_ref};
 
 use crate::fault::{Fault, ReadError};
 use crate::reader::Reader;
@@ -17,12 +16,6 @@ pub trait ReadRecord<'a>: Sized + Drop {
 
     fn read(alloc: Global, reader: &mut Reader<'a>) -> Result<Self, ReadError>
         ensures { Gives read_of (λ v. v) result reader.old reader.new };
-}
-
-#[derive(Drop)]
-pub struct IdRef<'a> {
-    pub scheme: Str<'a>,
-    pub id: Str<'a>,
 }
 
 /// Reads that many records, one behind the other.
@@ -65,34 +58,4 @@ pub fn read_name<'a>(reader: &mut Reader<'a>) -> Result<Str<'a>, Fault>
     ensures { Took name (λ t. t) result reader.old reader.new }
 {
     Ok(Str::new(reader.read_string()?.unwrap_or("")))
-}
-
-impl<'a> ReadRecord<'a> for IdRef<'a> {
-    ghost read_of = { id_ref.read };
-
-    fn read(alloc: Global, reader: &mut Reader<'a>) -> Result<IdRef<'a>, ReadError> {
-        let mut ahead = Reader::new(reader.rest());
-        let scheme = read_name(&mut ahead)?;
-        let id = read_name(&mut ahead)?;
-        *reader = ahead;
-        Ok(IdRef { scheme, id })
-    }
-}
-
-#[derive(Drop)]
-pub struct AclRef<'a> {
-    pub perms: i32,
-    pub id: IdRef<'a>,
-}
-
-impl<'a> ReadRecord<'a> for AclRef<'a> {
-    ghost read_of = { acl_ref.read };
-
-    fn read(alloc: Global, reader: &mut Reader<'a>) -> Result<AclRef<'a>, ReadError> {
-        let mut ahead = Reader::new(reader.rest());
-        let perms = ahead.read_int()?;
-        let id = IdRef::read(alloc, &mut ahead)?;
-        *reader = ahead;
-        Ok(AclRef { perms, id })
-    }
 }

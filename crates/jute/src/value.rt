@@ -1,6 +1,8 @@
-//! Values that own what was read, each seen as the list that it holds.
+//! Texts, bytes and lists, each seen as the list of what it holds.
 
-ghost use Rattle.std.specs.Prelude.{◌≡◌, List, ℕ, length, IfOk, IfSome, Some, string_bytes};
+ghost use Rattle.std.specs.Prelude.{◌≡◌, ◌↔◌, List, [], ℕ, nat_eq, length, IfOk, IsTrue, string_bytes};
+ghost use Rattle.std.specs.Cmp.{partial_equiv_from_equiv};
+ghost use Rattle.std.specs.Cmp.Lexicographic.{pointwise, lists_per, lists_equiv, nat_list_eq_equiv};
 
 use crate::fault::NoMemory;
 use std::alloc::Global;
@@ -30,9 +32,42 @@ impl<T> Listed<T> {
     {
         self.items.as_slice()
     }
+
+    /// The values in the vector that holds them.
+    pub fn into_vec(self) -> Vec<T>
+        ensures { result.items ≡ self }
+    {
+        self.items
+    }
+
+    pub fn len(&self) -> usize
+        ensures { result ≡ length self.now }
+    {
+        self.items.len()
+    }
+
+    pub fn is_empty(&self) -> bool
+        ensures { IsTrue result ↔ (self.now ≡ []) }
+    {
+        self.items.is_empty()
+    }
 }
 
-/// A text of its own.
+impl<T: PartialEq> PartialEq for Listed<T> {
+    ghost eq = { λ a b. pointwise T.eq a b };
+
+    ghost laws = { lists_per T.PartialEq.laws };
+
+    fn eq(&self, other: &Listed<T>) -> bool {
+        self.as_slice() == other.as_slice()
+    }
+}
+
+impl<T: Eq> Eq for Listed<T> {
+    ghost laws = { lists_equiv T.Eq.laws };
+}
+
+/// A text that owns its bytes, which are UTF-8.
 #[derive(Clone, Debug, Drop)]
 pub struct Text {
     text: String,
@@ -60,8 +95,22 @@ impl Text {
     }
 }
 
-/// A text that is borrowed.
-#[derive(Drop)]
+impl PartialEq for Text {
+    ghost eq = { λ a b. pointwise nat_eq a b };
+
+    ghost laws = { partial_equiv_from_equiv nat_list_eq_equiv };
+
+    fn eq(&self, other: &Text) -> bool {
+        self.as_str() == other.as_str()
+    }
+}
+
+impl Eq for Text {
+    ghost laws = { nat_list_eq_equiv };
+}
+
+/// A borrowed text.
+#[derive(Debug, Drop)]
 pub struct Str<'a> {
     text: &'a str,
 }
@@ -86,7 +135,21 @@ impl<'a> Str<'a> {
     }
 }
 
-/// Bytes of its own.
+impl<'a> PartialEq for Str<'a> {
+    ghost eq = { λ a b. pointwise nat_eq a b };
+
+    ghost laws = { partial_equiv_from_equiv nat_list_eq_equiv };
+
+    fn eq(&self, other: &Str<'a>) -> bool {
+        self.as_str() == other.as_str()
+    }
+}
+
+impl<'a> Eq for Str<'a> {
+    ghost laws = { nat_list_eq_equiv };
+}
+
+/// Bytes that it owns.
 #[derive(Clone, Debug, Drop)]
 pub struct Blob {
     bytes: Vec<u8>,
@@ -99,6 +162,12 @@ impl Model for Blob {
 }
 
 impl Blob {
+    pub fn from_vec(bytes: Vec<u8>) -> Blob
+        ensures { result ≡ bytes.items }
+    {
+        Blob { bytes }
+    }
+
     pub fn new(alloc: Global, bytes: &[u8]) -> Result<Blob, NoMemory>
         ensures { IfOk result (λ b. b ≡ bytes.now) }
     {
@@ -114,8 +183,22 @@ impl Blob {
     }
 }
 
-/// Bytes that are borrowed.
-#[derive(Drop)]
+impl PartialEq for Blob {
+    ghost eq = { λ a b. pointwise nat_eq a b };
+
+    ghost laws = { partial_equiv_from_equiv nat_list_eq_equiv };
+
+    fn eq(&self, other: &Blob) -> bool {
+        self.as_slice() == other.as_slice()
+    }
+}
+
+impl Eq for Blob {
+    ghost laws = { nat_list_eq_equiv };
+}
+
+/// Borrowed bytes.
+#[derive(Debug, Drop)]
 pub struct Bytes<'a> {
     bytes: &'a [u8],
 }
@@ -138,4 +221,18 @@ impl<'a> Bytes<'a> {
     {
         self.bytes
     }
+}
+
+impl<'a> PartialEq for Bytes<'a> {
+    ghost eq = { λ a b. pointwise nat_eq a b };
+
+    ghost laws = { partial_equiv_from_equiv nat_list_eq_equiv };
+
+    fn eq(&self, other: &Bytes<'a>) -> bool {
+        self.as_slice() == other.as_slice()
+    }
+}
+
+impl<'a> Eq for Bytes<'a> {
+    ghost laws = { nat_list_eq_equiv };
 }

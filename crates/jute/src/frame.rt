@@ -1,0 +1,39 @@
+//! The frames of a client's connection.
+
+ghost use Rattle.jute.specs.Frame.{frame, frame_length};
+ghost use Rattle.jute.specs.Format.{Took};
+ghost use Rattle.std.specs.Prelude.{◌≡◌};
+
+use crate::fault::Fault;
+use crate::reader::Reader;
+
+// The length that a number stands for.
+fn frame_length(length: i32, limit: u32) -> Result<u32, Fault>
+    ensures { result ≡ frame_length limit length }
+{
+    if length < 0 {
+        return Err(Fault::BadLength);
+    }
+    let length = length.cast_unsigned();
+    if length > limit {
+        return Err(Fault::BadLength);
+    }
+    Ok(length)
+}
+
+/// Reads a frame: an int length from 0 to the limit, and that many bytes. Below 0 or above the limit it
+/// is `BadLength`, and with fewer bytes behind it `Short`. A refused read leaves the place unchanged.
+#[tactic(auto, unfolding(crate::specs::Frame::frame_at))]
+pub fn read_frame<'a>(reader: &mut Reader<'a>, limit: u32) -> Result<&'a [u8], Fault>
+    ensures { Took (frame limit) (λ b. b.now) result reader.old reader.new }
+{
+    let mut ahead = Reader::new(reader.rest());
+    let length = frame_length(ahead.read_int()?, limit)? as usize;
+    let bytes = ahead.rest();
+    if bytes.len() < length {
+        return Err(Fault::Short);
+    }
+    let (front, rest) = bytes.split_at(length);
+    *reader = Reader::new(rest);
+    Ok(front)
+}

@@ -1,0 +1,156 @@
+//! What stands in the frames of a client: headers, requests and replies. Texts and bytes are borrowed.
+
+ghost use Rattle.jute.specs.Records.{request_header, reply_header, get_data_request, get_data_response, IsWritableBuffer};
+
+use crate::fault::{NoMemory, ReadError};
+use crate::reader::Reader;
+use crate::record::ReadRecord;
+use crate::stat::Stat;
+use crate::value::{Bytes, Str};
+use crate::writer::{WriteRecord, put_bool, put_bytes, put_int, put_long, put_string};
+use std::alloc::Global;
+
+/// The RequestHeader of zookeeper.jute.
+#[derive(Clone, Copy, Debug, PartialEq, Eq)]
+pub struct RequestHeader {
+    /// The client's number for the request.
+    pub xid: i32,
+    /// The number of the operation.
+    pub kind: i32,
+}
+
+impl<'a> ReadRecord<'a> for RequestHeader {
+    ghost read_of = { request_header.read };
+
+    #[tactic(auto, unfolding(crate::specs::Records::request_header))]
+    fn read(_alloc: Global, reader: &mut Reader<'a>) -> Result<RequestHeader, ReadError> {
+        let mut ahead = Reader::new(reader.rest());
+        let xid = ahead.read_int()?;
+        let kind = ahead.read_int()?;
+        *reader = ahead;
+        Ok(RequestHeader { xid, kind })
+    }
+}
+
+impl WriteRecord for RequestHeader {
+    ghost IsWritable = { λ h. Unit {0} };
+
+    ghost bytes_of = { request_header.written };
+
+    #[tactic(auto, unfolding(crate::specs::Records::request_header))]
+    fn write(&self, out: &mut Vec<u8>) -> Result<(), NoMemory> {
+        put_int(out, self.xid)?;
+        put_int(out, self.kind)
+    }
+}
+
+/// The ReplyHeader of zookeeper.jute.
+#[derive(Clone, Copy, Debug, PartialEq, Eq)]
+pub struct ReplyHeader {
+    /// The number of the request that is answered.
+    pub xid: i32,
+    /// The last zxid that the server has applied.
+    pub zxid: i64,
+    /// 0, or the number of an error.
+    pub err: i32,
+}
+
+impl<'a> ReadRecord<'a> for ReplyHeader {
+    ghost read_of = { reply_header.read };
+
+    #[tactic(auto, unfolding(crate::specs::Records::reply_header))]
+    fn read(_alloc: Global, reader: &mut Reader<'a>) -> Result<ReplyHeader, ReadError> {
+        let mut ahead = Reader::new(reader.rest());
+        let xid = ahead.read_int()?;
+        let zxid = ahead.read_long()?;
+        let err = ahead.read_int()?;
+        *reader = ahead;
+        Ok(ReplyHeader { xid, zxid, err })
+    }
+}
+
+impl WriteRecord for ReplyHeader {
+    ghost IsWritable = { λ h. Unit {0} };
+
+    ghost bytes_of = { reply_header.written };
+
+    #[tactic(auto, unfolding(crate::specs::Records::reply_header))]
+    fn write(&self, out: &mut Vec<u8>) -> Result<(), NoMemory> {
+        put_int(out, self.xid)?;
+        put_long(out, self.zxid)?;
+        put_int(out, self.err)
+    }
+}
+
+/// The GetDataRequest of zookeeper.jute.
+#[derive(Debug, Drop, PartialEq, Eq)]
+pub struct GetDataRequest<'a> {
+    /// The path of the node; `None` is null.
+    pub path: Option<Str<'a>>,
+    /// Whether a watch is to be left at the path.
+    pub watch: bool,
+}
+
+impl<'a> ReadRecord<'a> for GetDataRequest<'a> {
+    ghost read_of = { get_data_request.read };
+
+    #[tactic(auto, unfolding(crate::specs::Records::get_data_request))]
+    fn read(_alloc: Global, reader: &mut Reader<'a>) -> Result<GetDataRequest<'a>, ReadError> {
+        let mut ahead = Reader::new(reader.rest());
+        let path = ahead.read_string()?.map(Str::new);
+        let watch = ahead.read_bool()?;
+        *reader = ahead;
+        Ok(GetDataRequest { path, watch })
+    }
+}
+
+impl<'a> WriteRecord for GetDataRequest<'a> {
+    ghost IsWritable = { λ r. IsWritableBuffer r.path };
+
+    ghost bytes_of = { get_data_request.written };
+
+    #[tactic(auto, unfolding(crate::specs::Records::get_data_request))]
+    fn write(&self, out: &mut Vec<u8>) -> Result<(), NoMemory> {
+        match &self.path {
+            None => put_int(out, -1)?,
+            Some(path) => put_string(out, path.as_str())?,
+        }
+        put_bool(out, self.watch)
+    }
+}
+
+/// The GetDataResponse of zookeeper.jute.
+#[derive(Debug, Drop, PartialEq, Eq)]
+pub struct GetDataResponse<'a> {
+    /// The node's bytes; `None` is null.
+    pub bytes: Option<Bytes<'a>>,
+    pub stat: Stat,
+}
+
+impl<'a> ReadRecord<'a> for GetDataResponse<'a> {
+    ghost read_of = { get_data_response.read };
+
+    #[tactic(auto, unfolding(crate::specs::Records::get_data_response))]
+    fn read(alloc: Global, reader: &mut Reader<'a>) -> Result<GetDataResponse<'a>, ReadError> {
+        let mut ahead = Reader::new(reader.rest());
+        let bytes = ahead.read_buffer()?.map(Bytes::new);
+        let stat = Stat::read(alloc, &mut ahead)?;
+        *reader = ahead;
+        Ok(GetDataResponse { bytes, stat })
+    }
+}
+
+impl<'a> WriteRecord for GetDataResponse<'a> {
+    ghost IsWritable = { λ r. IsWritableBuffer r.bytes };
+
+    ghost bytes_of = { get_data_response.written };
+
+    #[tactic(auto, unfolding(crate::specs::Records::get_data_response))]
+    fn write(&self, out: &mut Vec<u8>) -> Result<(), NoMemory> {
+        match &self.bytes {
+            None => put_int(out, -1)?,
+            Some(bytes) => put_bytes(out, bytes.as_slice())?,
+        }
+        self.stat.write(out)
+    }
+}
