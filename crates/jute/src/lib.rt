@@ -10,6 +10,8 @@ mod reader;
 mod record;
 mod stat;
 mod stream_law;
+#[cfg(test)]
+mod tests;
 mod value;
 mod writer;
 
