@@ -38,23 +38,23 @@ boolean_lawful = record {
 
 -- ---- lengths
 
-abbrev SpellsLength : ℕ → Option ℕ → List ℕ → Type 0
+abbrev pub SpellsLength : ℕ → Option ℕ → List ℕ → Type 0
 SpellsLength limit None text = text ≡ null
 SpellsLength limit (Some n) text = (n ≤ limit) × (text ≡ number_bytes w32 (pos n))
 
-abbrev length_bytes : Option ℕ → List ℕ
+abbrev pub length_bytes : Option ℕ → List ℕ
 length_bytes None = null
 length_bytes (Some n) = number_bytes w32 (pos n)
 
-abbrev FitsLength : ℕ → Option ℕ → Type 0
+abbrev pub FitsLength : ℕ → Option ℕ → Type 0
 FitsLength limit None = Unit {0}
 FitsLength limit (Some n) = n ≤ limit
 
 -- a length as a format of its own
-abbrev length_format : ℕ → Format (Option ℕ)
+abbrev pub length_format : ℕ → Format (Option ℕ)
 length_format limit = record { Spells = SpellsLength limit; written = length_bytes; Fits = FitsLength limit; read = length_at limit }
 
-guard_ended : {A F : Type 0} (b : Bool) (d : F) (x y : A) → cond b (Ok x) (Err d) ≡ Ok y → (b ≡ true) × (x ≡ y)
+pub guard_ended : {A F : Type 0} (b : Bool) (d : F) (x y : A) → cond b (Ok x) (Err d) ≡ Ok y → (b ≡ true) × (x ≡ y)
 guard_ended true d x y e = (refl, cc)
 guard_ended false d x y e = absurd cc
 
@@ -77,7 +77,7 @@ length_again limit small (Some n) text rest s =
     let read = int_lawful.again (pos n) (number_bytes w32 (pos n)) rest (record { sfits = omega arith }, refl) in
     ap (λ (t : List ℕ). length_at limit (t ++ rest)) s.1 ∙ rw (read, le-leb n limit le) refl
 
-length_takes : (limit : ℕ) (bytes : List ℕ) (k : Option ℕ) (rest : List ℕ) → IsBytes bytes → length_at limit bytes ≡ Ok (k, rest) → Takes (length_format limit) bytes k rest
+pub length_takes : (limit : ℕ) (bytes : List ℕ) (k : Option ℕ) (rest : List ℕ) → IsBytes bytes → length_at limit bytes ≡ Ok (k, rest) → Takes (length_format limit) bytes k rest
 unfolding length_at
 length_takes limit bytes k rest fits e =
     let a = bind_ok (int.read bytes) (λ (n : ℤ × List ℕ). length_of limit n.0 >>= λ (k : Option ℕ). Ok (k, n.1)) (k, rest) e in

@@ -38,7 +38,7 @@ within (Ok x) m n le h = omega (arith, h, le)
 within (Err e) m n le h = tt
 
 -- so many bytes, or too few of them
-cut_stands : {B : Type 0} (n : ℕ) (value : List ℕ → B) (bytes more : List ℕ) → (n ≤ length bytes → value (bytes ++ more) ≡ value bytes)
+pub cut_stands : {B : Type 0} (n : ℕ) (value : List ℕ → B) (bytes more : List ℕ) → (n ≤ length bytes → value (bytes ++ more) ≡ value bytes)
     → Stands (cond (ltb (length bytes) n) (Err Short) (Ok (value bytes, drop n bytes))) more (cond (ltb (length (bytes ++ more)) n) (Err Short) (Ok (value (bytes ++ more), drop n (bytes ++ more))))
 cut_stands n value bytes more same =
     elim (cases_lt (length bytes) n) [
@@ -48,7 +48,7 @@ cut_stands n value bytes more same =
           rw (le-ltb _ _ le, longer, same le, drop-append-le n bytes more le) refl
     ]
 
-cut_leaves : {B : Type 0} (n : ℕ) (value : B) (bytes : List ℕ) → Leaves (cond (ltb (length bytes) n) (Err Short) (Ok (value, drop n bytes))) (length bytes)
+pub cut_leaves : {B : Type 0} (n : ℕ) (value : B) (bytes : List ℕ) → Leaves (cond (ltb (length bytes) n) (Err Short) (Ok (value, drop n bytes))) (length bytes)
 cut_leaves n value bytes =
     elim (cases_lt (length bytes) n) [
       | inl lt ↦ rw (lt-ltb _ _ lt) tt
@@ -77,7 +77,7 @@ boolean_leaves (b ∷ bytes) = omega arith
 pub boolean_pieced : Pieced boolean
 boolean_pieced = record { stands = boolean_stands; leaves = boolean_leaves }
 
-length_stands : (limit : ℕ) (bytes more : List ℕ) → Stands (length_at limit bytes) more (length_at limit (bytes ++ more))
+pub length_stands : (limit : ℕ) (bytes more : List ℕ) → Stands (length_at limit bytes) more (length_at limit (bytes ++ more))
 unfolding length_at
 length_stands limit bytes more =
     then_stands (int.read bytes) (int.read (bytes ++ more)) more (λ (n : ℤ × List ℕ). length_of limit n.0 >>= λ (k : Option ℕ). Ok (k, n.1))
@@ -142,7 +142,7 @@ both_pieced {A} {B} f g p q = record {
 }
 
 module _ {A : Type 0} (f : Format A) (p : Pieced f) where
-  times_stands : (n : ℕ) (bytes more : List ℕ) → Stands (times f.read n bytes) more (times f.read n (bytes ++ more))
+  pub times_stands : (n : ℕ) (bytes more : List ℕ) → Stands (times f.read n bytes) more (times f.read n (bytes ++ more))
   unfolding times
   times_stands zero bytes more = refl
   times_stands (suc n) bytes more =
@@ -187,6 +187,16 @@ cut_eats n value bytes some =
 pub int_eats : TakesSome int
 int_eats = record { eats = λ bytes. cut_eats 4 (cast_signed w32 (big_number 4 bytes)) bytes (omega arith) }
 
+pub long_eats : TakesSome long
+long_eats = record { eats = λ bytes. cut_eats 8 (cast_signed w64 (big_number 8 bytes)) bytes (omega arith) }
+
+boolean_some : (bytes : List ℕ) → Eats (boolean_at bytes) (length bytes)
+boolean_some [] = tt
+boolean_some (b ∷ bytes) = omega arith
+
+pub boolean_eats : TakesSome boolean
+boolean_eats = record { eats = boolean_some }
+
 shorter : {A : Type 0} (r : Result (A × List ℕ) Fault) (m n : ℕ) → m < n → Leaves r m → Eats r n
 shorter (Ok x) m n lt h = omega (arith, h, lt)
 shorter (Err e) m n lt h = tt
@@ -195,6 +205,39 @@ pub then_eats : {A B : Type 0} (r : Result (A × List ℕ) Fault) (n : ℕ) (f :
     → Eats r n → ((a : A) (rest : List ℕ) → Leaves (f (a, rest)) (length rest)) → Eats (r >>= f) n
 then_eats (Ok x) n f h k = shorter (f x) (length x.1) n h (k x.0 x.1)
 then_eats (Err e) n f h k = tt
+
+pub length_some : (limit : ℕ) (bytes : List ℕ) → Eats (length_at limit bytes) (length bytes)
+unfolding length_at
+length_some limit bytes =
+    then_eats (int.read bytes) (length bytes) (λ (n : ℤ × List ℕ). length_of limit n.0 >>= λ (k : Option ℕ). Ok (k, n.1))
+    (int_eats.eats bytes) (λ z rest. plain_leaves (length_of limit z) (λ k. k) rest (length rest) (omega arith))
+
+buffer_some : (bytes : List ℕ) → Eats (buffer_at bytes) (length bytes)
+unfolding buffer_at
+buffer_some bytes = then_eats (length_at buffer_limit bytes) (length bytes) (λ (n : Option ℕ × List ℕ). taken n.0 n.1) (length_some buffer_limit bytes) taken_leaves
+
+pub buffer_eats : TakesSome buffer
+buffer_eats = record { eats = buffer_some }
+
+text_some : (bytes : List ℕ) → Eats (text_at bytes) (length bytes)
+unfolding text_at
+text_some bytes =
+    then_eats (buffer_at bytes) (length bytes) (λ (b : Option (List ℕ) × List ℕ). text_of b.0 >>= λ (t : Option (List ℕ)). Ok (t, b.1)) (buffer_some bytes)
+    (λ b rest. plain_leaves (text_of b) (λ t. t) rest (length rest) (omega arith))
+
+pub text_eats : TakesSome text
+text_eats = record { eats = text_some }
+
+pub name_eats : TakesSome name
+name_eats = record { eats = λ bytes. then_eats (text_at bytes) (length bytes) (λ (t : Option (List ℕ) × List ℕ). Ok (or_empty t.0, t.1)) (text_some bytes) (λ t rest. omega arith) }
+
+module _ {A : Type 0} (f : Format A) (p : Pieced f) where
+  vector_some : (bytes : List ℕ) → Eats (vector_at f.read bytes) (length bytes)
+  unfolding vector_at
+  vector_some bytes = then_eats (length_at count_limit bytes) (length bytes) (λ (n : Option ℕ × List ℕ). items_at f.read n.0 n.1) (length_some count_limit bytes) (items_leaves f p)
+
+  pub vector_eats : TakesSome (vector f)
+  vector_eats = record { eats = vector_some }
 
 pub mapped_eats : {A B : Type 0} (to : A → B) (from : B → A) (f : Format A) → TakesSome f → TakesSome (mapped to from f)
 mapped_eats {A} to from f e = record { eats = λ bytes. then_eats (f.read bytes) (length bytes) (λ (a : A × List ℕ). Ok (to a.0, a.1)) (e.eats bytes) (λ a rest. omega arith) }

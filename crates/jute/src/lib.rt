@@ -10,12 +10,14 @@ mod reader;
 mod record;
 mod stat;
 mod stream_law;
+#[cfg(test)]
+mod tests;
 mod value;
 mod writer;
 
 pub use fault::{Fault, NoMemory, ReadError};
 pub use frame::read_frame;
-pub use law::{formats, pieces};
+pub use law::{formats, pieces, refused, waits};
 pub use message::{GetDataRequest, GetDataResponse, ReplyHeader, RequestHeader};
 pub use owned::{Acl, Id};
 pub use reader::{BUFFER_LIMIT, COUNT_LIMIT, Reader};

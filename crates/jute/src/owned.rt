@@ -1,4 +1,4 @@
-//! Records that own what was read.
+//! Who may do what with a node. These records own what was read.
 
 ghost use Rattle.jute.specs.Owned.{id, acl, IsWritableId};
 
@@ -9,16 +9,19 @@ use crate::value::{Listed, Text};
 use crate::writer::{WriteRecord, put_int, put_string};
 use std::alloc::Global;
 
-/// Who is granted something.
+/// The Id of zookeeper.jute: whom an ACL speaks of. Null texts are read as empty.
 #[derive(Clone, Debug, Drop, PartialEq, Eq)]
 pub struct Id {
+    /// How the id is meant, as `world` or `digest`.
     pub scheme: Text,
+    /// Who it is, as `anyone` in `world`.
     pub id: Text,
 }
 
-/// What an id is granted.
+/// The ACL of zookeeper.jute: what an id is granted.
 #[derive(Clone, Debug, Drop, PartialEq, Eq)]
 pub struct Acl {
+    /// The bits READ 1, WRITE 2, CREATE 4, DELETE 8 and ADMIN 16.
     pub perms: i32,
     pub id: Id,
 }

@@ -10,7 +10,8 @@ use crate::reader::Reader;
 use crate::value::{Listed, Str};
 use std::alloc::Global;
 
-/// What is read from the front of a text, with one reading function.
+/// What is read from the front of a byte text. Its faults are those of its fields, the first one first; a refused
+/// read leaves the place unchanged.
 pub trait ReadRecord<'a>: Sized + Drop {
     ghost read_of: { List ℕ → Result (Self × List ℕ) TheFault };
 
@@ -18,7 +19,7 @@ pub trait ReadRecord<'a>: Sized + Drop {
         ensures { Gives read_of (λ v. v) result reader.old reader.new };
 }
 
-/// Reads that many records, one behind the other.
+// That many records, one behind the other.
 fn read_items<'a, T: ReadRecord<'a>>(
     alloc: Global,
     count: u32,
@@ -35,7 +36,7 @@ fn read_items<'a, T: ReadRecord<'a>>(
     Ok(items)
 }
 
-/// Reads a vector of records; `None` is null.
+/// Reads a vector of records: an int count, and the records one behind the other; `None` is null, the count -1.
 #[tactic(auto, unfolding(crate::specs::Format::vector_at))]
 pub fn read_vector<'a, T: ReadRecord<'a>>(
     alloc: Global,
@@ -53,7 +54,7 @@ pub fn read_vector<'a, T: ReadRecord<'a>>(
     Ok(Some(Listed::from_vec(items)))
 }
 
-/// A text, where null is read as empty.
+/// Reads a ustring, where null is read as empty.
 pub fn read_name<'a>(reader: &mut Reader<'a>) -> Result<Str<'a>, Fault>
     ensures { Took name (λ t. t) result reader.old reader.new }
 {

@@ -21,6 +21,7 @@ impl<T> Model for Listed<T> {
 }
 
 impl<T> Listed<T> {
+    /// The list of the vector's values.
     pub fn from_vec(items: Vec<T>) -> Listed<T>
         ensures { result ≡ items.items }
     {
@@ -80,6 +81,7 @@ impl Model for Text {
 }
 
 impl Text {
+    /// A copy of the text.
     pub fn new(alloc: Global, text: &str) -> Result<Text, NoMemory>
         ensures { IfOk result (λ t. t ≡ text.now) }
     {
@@ -162,12 +164,14 @@ impl Model for Blob {
 }
 
 impl Blob {
+    /// The bytes of the vector.
     pub fn from_vec(bytes: Vec<u8>) -> Blob
         ensures { result ≡ bytes.items }
     {
         Blob { bytes }
     }
 
+    /// A copy of the bytes.
     pub fn new(alloc: Global, bytes: &[u8]) -> Result<Blob, NoMemory>
         ensures { IfOk result (λ b. b ≡ bytes.now) }
     {

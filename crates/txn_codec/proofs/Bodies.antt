@@ -5,12 +5,13 @@ use Rattle.std.specs.Int.{w32}
 use Rattle.jute.specs.declared.fault.Fault.{Fault}
 use Rattle.jute.specs.declared.fault.Fault.TheVariants.{BadTxnType}
 use Rattle.jute.specs.declared.fault.ReadError.{ReadError}
-use Rattle.jute.specs.Format.{Format, ◌>>=◌, int, long, boolean, buffer, buffer_at, name, vector, both, mapped, counted, number_bytes}
-use Rattle.jute.specs.Owned.{id, acl}
+use Rattle.jute.specs.Format.{Format, ◌>>=◌, int, long, boolean, buffer, buffer_at, vector, both, mapped, counted, number_bytes}
+use Rattle.jute.specs.Owned.{acl}
 use Rattle.jute.specs.Reads.{GivesWhole}
 use Rattle.jute.specs.Laws.{IsBytes, Takes, Lawful}
 use Rattle.jute.proofs.Lawfulness.{bind_ok, ok_is, int_lawful, long_lawful, both_lawful, mapped_lawful}
-use Rattle.jute.proofs.Fields.{buffer_lawful, boolean_lawful, name_lawful, vector_lawful}
+use Rattle.jute.proofs.Fields.{buffer_lawful, boolean_lawful, vector_lawful}
+use Rattle.jute.proofs.Records.{acl_lawful}
 use Rattle.txn_codec.specs.declared.kind.Kind.{Kind}
 use Rattle.txn_codec.specs.declared.kind.Kind.TheVariants as kinds
 use Rattle.txn_codec.specs.declared.txn.Create.{Create}
@@ -27,13 +28,7 @@ use Rattle.txn_codec.proofs.Spelled.{IsBytes-back, IsBytes-front, ends, both_end
 
 -- ---- records
 
-id_lawful : Lawful id
-id_lawful = mapped_lawful _ _ _ (λ v. refl) (λ r. refl) (both_lawful name name name_lawful name_lawful)
-
-acl_lawful : Lawful acl
-acl_lawful = mapped_lawful _ _ _ (λ v. refl) (λ r. refl) (both_lawful int id int_lawful id_lawful)
-
-child_lawful : Lawful child_path
+pub child_lawful : Lawful child_path
 child_lawful = path_lawful is_child_path
 
 create_ends : (last : Format ℤ) → LawfulAtEnd last → LawfulAtEnd (create_with last)
@@ -105,7 +100,7 @@ operation_ends last ll same k = record {
   writes = λ o h. (h.0, operation_writes last same o h.1);
 }
 
-part_ends : (k : Kind) → LawfulAtEnd (operation int k)
+pub part_ends : (k : Kind) → LawfulAtEnd (operation int k)
 part_ends = operation_ends int (ends int int_lawful) create_lawful.writes
 
 single_ends : (k : Kind) → LawfulAtEnd (operation int_or_end k)
@@ -118,7 +113,7 @@ guard_kept true d r y e = (refl, e)
 guard_kept false d r y e = absurd cc
 
 -- the bytes of a buffer, at the end of what spells it
-IsBytes-buffer : (x text rest : List ℕ) → IsBytes (text ++ rest) → buffer.Spells (Some x) text → IsBytes x
+pub IsBytes-buffer : (x text rest : List ℕ) → IsBytes (text ++ rest) → buffer.Spells (Some x) text → IsBytes x
 IsBytes-buffer x text rest fits s =
     let regrouped : text ++ rest ≡ number_bytes w32 (pos (length x)) ++ (x ++ rest) = ap (λ (t : List ℕ). t ++ rest) s.1 ∙ append_assoc (number_bytes w32 (pos (length x))) x rest in
     IsBytes-front x rest (IsBytes-back (number_bytes w32 (pos (length x))) (x ++ rest) (subst IsBytes regrouped fits))
@@ -178,14 +173,14 @@ or_none_spelled f (Some vs) text s = inl s
 or_null_lawful : {A : Type 0} (f : Format (Option (List A))) → Lawful f → Lawful (or_null f)
 or_null_lawful {A} f lf = record {
   takes = λ bytes v rest fits e.
-    let a = bind_ok (f.read bytes) (λ (vs : Option (List A) × List ℕ). Ok (or_none vs.0, vs.1)) (v, rest) e in
-    let t = lf.takes bytes a.0.0 a.0.1 fits a.1 in
-    let made : Takes (or_null f) bytes (or_none a.0.0) a.0.1 = record { text = t.text; parts = t.parts; spells = or_none_spelled f a.0.0 t.text t.spells; rest_fits = t.rest_fits } in
-    subst (λ (y : List A × List ℕ). Takes (or_null f) bytes y.0 y.1) (ok_is (or_none a.0.0, a.0.1) (v, rest) a.2) made;
+      let a = bind_ok (f.read bytes) (λ (vs : Option (List A) × List ℕ). Ok (or_none vs.0, vs.1)) (v, rest) e in
+      let t = lf.takes bytes a.0.0 a.0.1 fits a.1 in
+      let made : Takes (or_null f) bytes (or_none a.0.0) a.0.1 = record { text = t.text; parts = t.parts; spells = or_none_spelled f a.0.0 t.text t.spells; rest_fits = t.rest_fits } in
+      subst (λ (y : List A × List ℕ). Takes (or_null f) bytes y.0 y.1) (ok_is (or_none a.0.0, a.0.1) (v, rest) a.2) made;
   again = λ v text rest s. elim s [
-      | inl t ↦ rw (lf.again (Some v) text rest t) refl
-      | inr n ↦ rw (lf.again None text rest n.1, n.0) refl
-    ];
+    | inl t ↦ rw (lf.again (Some v) text rest t) refl
+    | inr n ↦ rw (lf.again None text rest n.1, n.0) refl
+  ];
   writes = λ v h. inl (lf.writes (Some v) h);
 }
 

@@ -1,3 +1,5 @@
 pub mod Slashes
 pub mod Spelled
 pub mod Bodies
+pub mod Naming
+pub mod Limits

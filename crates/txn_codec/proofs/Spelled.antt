@@ -45,18 +45,18 @@ ends f lf = record { takes = lf.takes; again = λ v text s. ap f.read (sym (appe
 pub both_ends : {A B : Type 0} (f : Format A) (g : Format B) → Lawful f → LawfulAtEnd g → LawfulAtEnd (both f g)
 both_ends {A} {B} f g lf lg = record {
   takes = λ bytes v rest fits e.
-    let a = bind_ok (f.read bytes) (λ (a : A × List ℕ). g.read a.1 >>= λ (b : B × List ℕ). Ok ((a.0, b.0), b.1)) (v, rest) e in
-    let b = bind_ok (g.read a.0.1) (λ (b : B × List ℕ). Ok ((a.0.0, b.0), b.1)) (v, rest) a.2 in
-    let t0 = lf.takes bytes a.0.0 a.0.1 fits a.1 in
-    let t1 = lg.takes a.0.1 b.0.0 b.0.1 t0.rest_fits b.1 in
-    let made : (A × B) × List ℕ = ((a.0.0, b.0.0), b.0.1) in
-    let whole : Takes (both f g) bytes made.0 made.1 = record {
-      text = t0.text ++ t1.text;
-      parts = t0.parts ∙ ap (λ (t : List ℕ). t0.text ++ t) t1.parts ∙ sym (append_assoc t0.text t1.text b.0.1);
-      spells = (t0.text, t1.text, refl, t0.spells, t1.spells);
-      rest_fits = t1.rest_fits;
-    } in
-    subst (λ (y : (A × B) × List ℕ). Takes (both f g) bytes y.0 y.1) (ok_is made (v, rest) b.2) whole;
+      let a = bind_ok (f.read bytes) (λ (a : A × List ℕ). g.read a.1 >>= λ (b : B × List ℕ). Ok ((a.0, b.0), b.1)) (v, rest) e in
+      let b = bind_ok (g.read a.0.1) (λ (b : B × List ℕ). Ok ((a.0.0, b.0), b.1)) (v, rest) a.2 in
+      let t0 = lf.takes bytes a.0.0 a.0.1 fits a.1 in
+      let t1 = lg.takes a.0.1 b.0.0 b.0.1 t0.rest_fits b.1 in
+      let made : (A × B) × List ℕ = ((a.0.0, b.0.0), b.0.1) in
+      let whole : Takes (both f g) bytes made.0 made.1 = record {
+        text = t0.text ++ t1.text;
+        parts = t0.parts ∙ ap (λ (t : List ℕ). t0.text ++ t) t1.parts ∙ sym (append_assoc t0.text t1.text b.0.1);
+        spells = (t0.text, t1.text, refl, t0.spells, t1.spells);
+        rest_fits = t1.rest_fits;
+      } in
+      subst (λ (y : (A × B) × List ℕ). Takes (both f g) bytes y.0 y.1) (ok_is made (v, rest) b.2) whole;
   again = λ v text s. ap (both f g).read s.2 ∙ rw (lf.again v.0 s.0 s.1 s.3, lg.again v.1 s.1 s.4) refl;
   writes = λ v h. (f.written v.0, g.written v.1, refl, lf.writes v.0 h.0, lg.writes v.1 h.1);
 }
@@ -64,10 +64,10 @@ both_ends {A} {B} f g lf lg = record {
 pub mapped_ends : {A B : Type 0} (to : A → B) (from : B → A) (f : Format A) → ((a : A) → from (to a) ≡ a) → ((b : B) → to (from b) ≡ b) → LawfulAtEnd f → LawfulAtEnd (mapped to from f)
 mapped_ends {A} {B} to from f there back lf = record {
   takes = λ bytes v rest fits e.
-    let a = bind_ok (f.read bytes) (λ (a : A × List ℕ). Ok (to a.0, a.1)) (v, rest) e in
-    let t = lf.takes bytes a.0.0 a.0.1 fits a.1 in
-    let whole : Takes (mapped to from f) bytes (to a.0.0) a.0.1 = record { text = t.text; parts = t.parts; spells = subst (λ (x : A). f.Spells x t.text) (sym (there a.0.0)) t.spells; rest_fits = t.rest_fits } in
-    subst (λ (y : B × List ℕ). Takes (mapped to from f) bytes y.0 y.1) (ok_is (to a.0.0, a.0.1) (v, rest) a.2) whole;
+      let a = bind_ok (f.read bytes) (λ (a : A × List ℕ). Ok (to a.0, a.1)) (v, rest) e in
+      let t = lf.takes bytes a.0.0 a.0.1 fits a.1 in
+      let whole : Takes (mapped to from f) bytes (to a.0.0) a.0.1 = record { text = t.text; parts = t.parts; spells = subst (λ (x : A). f.Spells x t.text) (sym (there a.0.0)) t.spells; rest_fits = t.rest_fits } in
+      subst (λ (y : B × List ℕ). Takes (mapped to from f) bytes y.0 y.1) (ok_is (to a.0.0, a.0.1) (v, rest) a.2) whole;
   again = λ v text s. rw (lf.again (from v) text s, back v) refl;
   writes = λ v h. lf.writes (from v) h;
 }
@@ -95,12 +95,12 @@ tested_is test (Some q) p e =
 pub path_lawful : (test : List ℕ → Bool) → Lawful (path_by test)
 path_lawful test = record {
   takes = λ bytes v rest fits e.
-    let a = bind_ok (text_at bytes) (λ (t : Option (List ℕ) × List ℕ). tested test t.0 >>= λ (p : List ℕ). Ok (p, t.1)) (v, rest) e in
-    let b = bind_ok (tested test a.0.0) (λ (p : List ℕ). Ok (p, a.0.1)) (v, rest) a.2 in
-    let t = text_lawful.takes bytes a.0.0 a.0.1 fits a.1 in
-    let f = tested_is test a.0.0 b.0 b.1 in
-    let made : Takes (path_by test) bytes b.0 a.0.1 = record { text = t.text; parts = t.parts; spells = (f.1, subst (λ (x : Option (List ℕ)). text.Spells x t.text) f.0 t.spells); rest_fits = t.rest_fits } in
-    subst (λ (y : List ℕ × List ℕ). Takes (path_by test) bytes y.0 y.1) (ok_is (b.0, a.0.1) (v, rest) b.2) made;
+      let a = bind_ok (text_at bytes) (λ (t : Option (List ℕ) × List ℕ). tested test t.0 >>= λ (p : List ℕ). Ok (p, t.1)) (v, rest) e in
+      let b = bind_ok (tested test a.0.0) (λ (p : List ℕ). Ok (p, a.0.1)) (v, rest) a.2 in
+      let t = text_lawful.takes bytes a.0.0 a.0.1 fits a.1 in
+      let f = tested_is test a.0.0 b.0 b.1 in
+      let made : Takes (path_by test) bytes b.0 a.0.1 = record { text = t.text; parts = t.parts; spells = (f.1, subst (λ (x : Option (List ℕ)). text.Spells x t.text) f.0 t.spells); rest_fits = t.rest_fits } in
+      subst (λ (y : List ℕ × List ℕ). Takes (path_by test) bytes y.0 y.1) (ok_is (b.0, a.0.1) (v, rest) b.2) made;
   again = λ v bytes rest s. let passes : test v ≡ true = s.0 in rw (text_lawful.again (Some v) bytes rest s.1, passes) refl;
   writes = λ v h. (h.0, text_lawful.writes (Some v) h.1);
 }
@@ -123,7 +123,7 @@ last_again z bytes (inr s) = ap last_at s.1 ∙ rw s.0 refl
 pub last_lawful : LawfulAtEnd int_or_end
 last_lawful = record { takes = last_takes; again = last_again; writes = λ z h. inl (int_lawful.writes z h) }
 
-kind_found : (k : Kind) → kind_of (code_of k) ≡ Ok k
+pub kind_found : (k : Kind) → kind_of (code_of k) ≡ Ok k
 kind_found kinds.Create = refl
 kind_found kinds.Delete = refl
 kind_found kinds.SetData = refl
@@ -152,7 +152,7 @@ code_found z k =
     (code_step (int_eq z (negsuc 10)) z (negsuc 10) kinds.CloseSession _ k (Decides-int_eq z (negsuc 10)).0 refl
     (code_step (int_eq z (negsuc 0)) z (negsuc 0) kinds.Error _ k (Decides-int_eq z (negsuc 0)).0 refl (λ e. absurd cc)))))))))
 
-code_fits : (k : Kind) → int.Fits (code_of k)
+pub code_fits : (k : Kind) → int.Fits (code_of k)
 code_fits kinds.Create = record { sfits = omega arith }
 code_fits kinds.Delete = record { sfits = omega arith }
 code_fits kinds.SetData = record { sfits = omega arith }
@@ -166,11 +166,11 @@ code_fits kinds.Error = record { sfits = omega arith }
 pub kind_lawful : Lawful kind
 kind_lawful = record {
   takes = λ bytes v rest fits e.
-    let a = bind_ok (int.read bytes) (λ (z : ℤ × List ℕ). kind_of z.0 >>= λ (k : Kind). Ok (k, z.1)) (v, rest) e in
-    let b = bind_ok (kind_of a.0.0) (λ (k : Kind). Ok (k, a.0.1)) (v, rest) a.2 in
-    let t = int_lawful.takes bytes a.0.0 a.0.1 fits a.1 in
-    let made : Takes kind bytes b.0 a.0.1 = record { text = t.text; parts = t.parts; spells = t.spells.1 ∙ ap int.written (code_found a.0.0 b.0 b.1); rest_fits = t.rest_fits } in
-    subst (λ (y : Kind × List ℕ). Takes kind bytes y.0 y.1) (ok_is (b.0, a.0.1) (v, rest) b.2) made;
+      let a = bind_ok (int.read bytes) (λ (z : ℤ × List ℕ). kind_of z.0 >>= λ (k : Kind). Ok (k, z.1)) (v, rest) e in
+      let b = bind_ok (kind_of a.0.0) (λ (k : Kind). Ok (k, a.0.1)) (v, rest) a.2 in
+      let t = int_lawful.takes bytes a.0.0 a.0.1 fits a.1 in
+      let made : Takes kind bytes b.0 a.0.1 = record { text = t.text; parts = t.parts; spells = t.spells.1 ∙ ap int.written (code_found a.0.0 b.0 b.1); rest_fits = t.rest_fits } in
+      subst (λ (y : Kind × List ℕ). Takes kind bytes y.0 y.1) (ok_is (b.0, a.0.1) (v, rest) b.2) made;
   again = λ k text rest s. rw (int_lawful.again (code_of k) text rest (code_fits k, s), kind_found k) refl;
   writes = λ k h. refl;
 }

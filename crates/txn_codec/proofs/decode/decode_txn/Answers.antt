@@ -1,5 +1,9 @@
 use Rattle.std.proofs.Common.{arith}
+use Rattle.std.specs.Prelude.{IfOk}
+use Rattle.txn_codec.specs.Spelling.{txn}
 use Rattle.txn_codec.proofs.Bodies.{decoded, decoded_only}
+use Rattle.txn_codec.proofs.Limits.{decoded_fits, decoded_writable, decoded_parents}
+use Rattle.txn_codec.proofs.Naming.{refused_is_named, refused_spells_none}
 use Rattle.txn_codec.proofs.decode.decode_txn.Goals as goal
 
 pub returns-clause-found : goal.returns-clause-found
@@ -7,3 +11,22 @@ returns-clause-found c = decoded c.args.bytes.now c.read_whole.result (λ i. ome
 
 pub returns-clause-only : goal.returns-clause-only
 returns-clause-only c = λ t s. decoded_only c.args.bytes.now c.read_whole.result t c.read_whole.ensures s
+
+pub returns-clause-none : goal.returns-clause-none
+returns-clause-none c = refused_spells_none c.args.bytes.now c.read_whole.result c.read_whole.ensures
+
+pub returns-clause-named : goal.returns-clause-named
+returns-clause-named c = refused_is_named c.args.bytes.now c.read_whole.result (λ i. omega (arith, c.type_inv.bytes i)) c.read_whole.ensures
+
+pub returns-clause-fits : goal.returns-clause-fits
+returns-clause-fits c = decoded_fits c.args.bytes.now c.read_whole.result (decoded c.args.bytes.now c.read_whole.result (λ i. omega (arith, c.type_inv.bytes i)) c.read_whole.ensures)
+
+pub returns-clause-writable : goal.returns-clause-writable
+returns-clause-writable c =
+    let found = decoded c.args.bytes.now c.read_whole.result (λ i. omega (arith, c.type_inv.bytes i)) c.read_whole.ensures in
+    decoded_writable c.read_whole.result (decoded_fits c.args.bytes.now c.read_whole.result found)
+
+pub returns-clause-parents : goal.returns-clause-parents
+returns-clause-parents c =
+    let found = decoded c.args.bytes.now c.read_whole.result (λ i. omega (arith, c.type_inv.bytes i)) c.read_whole.ensures in
+    decoded_parents c.read_whole.result (decoded_fits c.args.bytes.now c.read_whole.result found)
