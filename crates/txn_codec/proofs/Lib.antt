@@ -2,3 +2,4 @@ pub mod Slashes
 pub mod Spelled
 pub mod Bodies
 pub mod Naming
+pub mod Limits

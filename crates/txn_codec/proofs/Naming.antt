@@ -87,8 +87,8 @@ no_kind_fault e h = cc
 unknown_kind : (z : ℤ) (e : Fault) → kind_of z ≡ Err e → (e ≡ BadTxnType) × ((k : Kind) → z ≢ code_of k)
 unknown_kind z e h = (
   unknown_step _ kinds.Create _ e (unknown_step _ kinds.Delete _ e (unknown_step _ kinds.SetData _ e
-  (unknown_step _ kinds.SetAcl _ e (unknown_step _ kinds.Check _ e (unknown_step _ kinds.Multi _ e
-  (unknown_step _ kinds.CreateSession _ e (unknown_step _ kinds.CloseSession _ e (unknown_step _ kinds.Error no_kind e (no_kind_fault e))))))))) h,
+      (unknown_step _ kinds.SetAcl _ e (unknown_step _ kinds.Check _ e (unknown_step _ kinds.Multi _ e
+      (unknown_step _ kinds.CreateSession _ e (unknown_step _ kinds.CloseSession _ e (unknown_step _ kinds.Error no_kind e (no_kind_fault e))))))))) h,
   λ k is. let known : kind_of z ≡ Ok k = ap kind_of is ∙ kind_found k in absurd cc,
 )
 

@@ -4,6 +4,8 @@ ghost use Rattle.std.specs.Prelude.{◌≡◌, IfOk, IfErr, Ok, option_map};
 ghost use Rattle.jute.specs.Format.{buffer};
 ghost use Rattle.jute.specs.Reads.{Gives, GivesWhole};
 ghost use Rattle.txn_codec.specs.Spelling.{path, child_path, last_of, kind, create_with, set_data, set_acl, check, header, operation_at, is_part, part_of, part_at, content_at, body, txn, whole};
+ghost use Rattle.txn_codec.specs.Writable.{IsWritableBody};
+ghost use Rattle.txn_codec.specs.Parents.{HaveParents};
 ghost use Rattle.txn_codec.specs.Refusals.{IfFault, whole_against, txn_against};
 ghost use Rattle.txn_codec.specs.declared.txn.Txn.{Txn as TheTxn};
 
@@ -266,6 +268,11 @@ pub fn decode_txn(alloc: Global, bytes: &[u8]) -> Result<Txn, ReadError>
     ensures none { IfErr result (λ e. IfFault e (λ fault. (t : TheTxn) → txn.Spells t bytes.now → ⊥)) }
     // .. and names the first field that is against the spelling.
     ensures named { IfErr result (λ e. IfFault e (λ fault. whole_against txn txn_against fault bytes.now)) }
+    // What is read is within the limits, so it may be written and is then read again.
+    ensures fits { IfOk result (λ t. txn.Fits t) }
+    ensures writable { IfOk result (λ t. IsWritableBody t.body) }
+    // A node that is made or removed is not "/".
+    ensures parents { IfOk result (λ t. HaveParents t.body) }
 {
     read_whole(alloc, bytes)
 }

@@ -14,3 +14,6 @@ pub use kind::Kind;
 pub use law::transactions;
 pub use path::Path;
 pub use txn::{Body, Check, Create, Operation, SetAcl, SetData, Txn, TxnHeader};
+
+#[cfg(test)]
+mod tests;

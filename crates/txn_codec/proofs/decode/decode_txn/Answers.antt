@@ -1,5 +1,8 @@
 use Rattle.std.proofs.Common.{arith}
+use Rattle.std.specs.Prelude.{IfOk}
+use Rattle.txn_codec.specs.Spelling.{txn}
 use Rattle.txn_codec.proofs.Bodies.{decoded, decoded_only}
+use Rattle.txn_codec.proofs.Limits.{decoded_fits, decoded_writable, decoded_parents}
 use Rattle.txn_codec.proofs.Naming.{refused_is_named, refused_spells_none}
 use Rattle.txn_codec.proofs.decode.decode_txn.Goals as goal
 
@@ -14,3 +17,16 @@ returns-clause-none c = refused_spells_none c.args.bytes.now c.read_whole.result
 
 pub returns-clause-named : goal.returns-clause-named
 returns-clause-named c = refused_is_named c.args.bytes.now c.read_whole.result (λ i. omega (arith, c.type_inv.bytes i)) c.read_whole.ensures
+
+pub returns-clause-fits : goal.returns-clause-fits
+returns-clause-fits c = decoded_fits c.args.bytes.now c.read_whole.result (decoded c.args.bytes.now c.read_whole.result (λ i. omega (arith, c.type_inv.bytes i)) c.read_whole.ensures)
+
+pub returns-clause-writable : goal.returns-clause-writable
+returns-clause-writable c =
+    let found = decoded c.args.bytes.now c.read_whole.result (λ i. omega (arith, c.type_inv.bytes i)) c.read_whole.ensures in
+    decoded_writable c.read_whole.result (decoded_fits c.args.bytes.now c.read_whole.result found)
+
+pub returns-clause-parents : goal.returns-clause-parents
+returns-clause-parents c =
+    let found = decoded c.args.bytes.now c.read_whole.result (λ i. omega (arith, c.type_inv.bytes i)) c.read_whole.ensures in
+    decoded_parents c.read_whole.result (decoded_fits c.args.bytes.now c.read_whole.result found)

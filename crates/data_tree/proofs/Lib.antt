@@ -1,0 +1,11 @@
+pub mod Slashes
+pub mod Totals
+pub mod SetSteps
+pub mod TextMaps
+pub mod NodeUpdates
+pub mod Multis
+pub mod IntMaps
+pub mod Owners
+pub mod Creates
+pub mod Deletes
+pub mod Lists

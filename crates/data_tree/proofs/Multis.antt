@@ -1,0 +1,102 @@
+-- One more part of a multi, and one more delete of a closeSession.
+use Rattle.std.proofs.Common.{◌≡◌, ℤ, ℕ, ◌+◌, ◌<◌, ◌≤◌, pos, List, [], ◌∷◌, ◌++◌, true, false, Option, is_some, ◌||◌, length, take, drop, get_or, refl, sym, ap, ◌∙◌, if◌then◌else◌, append_assoc, add-one, drop-cons}
+use Rattle.std.proofs.Math.Seq.{take-suc}
+use Rattle.std.specs.Option.{unwrap_or}
+use Rattle.std.specs.Ordering.{int_eq}
+use Rattle.ephemerals.specs.Orders.{Bytes, Names, in_order}
+use Rattle.txn_codec.specs.declared.txn.TxnHeader.{TxnHeader}
+use Rattle.txn_codec.specs.declared.txn.Operation.{Operation}
+use Rattle.txn_codec.specs.declared.txn.Operation.TheVariants as op
+use Rattle.data_tree.specs.State.{State}
+use Rattle.data_tree.specs.Meaning.{of_parts, of_operation, deletes, first_error, error_of, has_error, errors_of_failed, answer_of, RUNTIME_INCONSISTENCY}
+use Rattle.data_tree.specs.Multi.{IsAfterFront, IsMidway, IsClosing}
+use Rattle.data_tree.specs.declared.outcome.Trigger.{Trigger}
+use Rattle.data_tree.specs.declared.outcome.Outcome.{Outcome}
+use Rattle.std.proofs.Math.ListN.{drop_of_length-le}
+use Rattle.data_tree.proofs.Lists.{nothing_more}
+
+of_parts-push : (h : TxnHeader) (xs : List Operation) (x : Operation) (s : State) → (of_parts h (xs ++ x ∷ []) s).state ≡ (of_operation h x (of_parts h xs s).state).state
+of_parts-push h [] x s = refl
+of_parts-push h (o ∷ xs) x s = of_parts-push h xs x (of_operation h o s).state
+
+-- what is left, and its first element
+pub left_is : {A : Type 0} (xs : List A) (i : ℕ) (x : A) → i < length xs → x ≡ get_or xs i x → drop i xs ≡ x ∷ drop (i + 1) xs
+left_is xs i x lt is = drop-cons xs i x lt ∙ (λ j. sym is j ∷ drop (sym (add-one i) j) xs)
+
+front_is : {A : Type 0} (xs : List A) (i : ℕ) (x : A) → i < length xs → x ≡ get_or xs i x → take (i + 1) xs ≡ take i xs ++ x ∷ []
+front_is xs i x lt is = ap (λ k. take k xs) (add-one i) ∙ take-suc xs i x lt ∙ (λ j. take i xs ++ sym is j ∷ [])
+
+pub midway_step : (h : TxnHeader) (ps : List Operation) (i : ℕ) (old now new : State) (errors errors' : List ℤ) (error : ℤ) (triggers triggers' : List Trigger) (x : Operation)
+    → i < length ps → x ≡ get_or ps i x → IsMidway h ps i old now errors triggers
+    → new ≡ (of_operation h x now).state → error ≡ (of_operation h x now).error → errors' ≡ errors ++ error ∷ [] → triggers' ≡ triggers ++ (of_operation h x now).triggers
+    → IsMidway h ps (i + 1) old new errors' triggers'
+midway_step h ps i old now new errors errors' error triggers triggers' x lt is m n e es ts =
+    let split : drop i ps ≡ x ∷ drop (i + 1) ps = left_is ps i x lt is in
+    record {
+      front = n ∙ ap (λ s. (of_operation h x s).state) m.front ∙ sym (of_parts-push h (take i ps) x old) ∙ ap (λ xs. (of_parts h xs old).state) (sym (front_is ps i x lt is));
+      state = ap (λ s. (of_parts h (drop (i + 1) ps) s).state) n ∙ ap (λ xs. (of_parts h xs now).state) (sym split) ∙ m.state;
+      errors_are =
+          (λ j. (es ∙ ap (λ z. errors ++ z ∷ []) e) j ++ (of_parts h (drop (i + 1) ps) (n j)).parts)
+          ∙ append_assoc errors ((of_operation h x now).error ∷ []) (of_parts h (drop (i + 1) ps) (of_operation h x now).state).parts
+          ∙ ap (λ xs. errors ++ (of_parts h xs now).parts) (sym split)
+          ∙ m.errors_are;
+      triggers_are =
+          (λ j. ts j ++ (of_parts h (drop (i + 1) ps) (n j)).triggers)
+          ∙ append_assoc triggers (of_operation h x now).triggers (of_parts h (drop (i + 1) ps) (of_operation h x now).state).triggers
+          ∙ ap (λ xs. triggers ++ (of_parts h xs now).triggers) (sym split)
+          ∙ m.triggers_are;
+    }
+
+pub front_step : (h : TxnHeader) (ps : List Operation) (i : ℕ) (old now new : State) (x : Operation)
+    → i < length ps → x ≡ get_or ps i x → now ≡ (of_parts h (take i ps) old).state → new ≡ (of_operation h x now).state → IsAfterFront h ps old new
+front_step h ps i old now new x lt is m n =
+    (i + 1, n ∙ ap (λ s. (of_operation h x s).state) m ∙ sym (of_parts-push h (take i ps) x old) ∙ ap (λ xs. (of_parts h xs old).state) (sym (front_is ps i x lt is)))
+
+pub error-of_parts : (h : TxnHeader) (ps : List Operation) (s : State) → (of_parts h ps s).error ≡ first_error (of_parts h ps s).parts
+error-of_parts h [] s = refl
+error-of_parts h (p ∷ ps) s = refl
+
+-- when all parts are done
+pub midway_done : (h : TxnHeader) (ps : List Operation) (i : ℕ) (old now : State) (errors : List ℤ) (triggers : List Trigger) → length ps ≤ i → IsMidway h ps i old now errors triggers
+    → (let o : Outcome = record { error = first_error errors; parts = errors; triggers = triggers } in o) ≡ answer_of (of_parts h ps old)
+midway_done h ps i old now errors triggers past m =
+    let errors_are : errors ≡ (of_parts h ps old).parts = nothing_more errors (of_parts h (drop i ps) now).parts (ap (λ xs. (of_parts h xs now).parts) (drop_of_length-le ps past)) ∙ m.errors_are in
+    let triggers_are : triggers ≡ (of_parts h ps old).triggers = nothing_more triggers (of_parts h (drop i ps) now).triggers (ap (λ xs. (of_parts h xs now).triggers) (drop_of_length-le ps past)) ∙ m.triggers_are in
+    λ i. record { error = (ap first_error errors_are ∙ sym (error-of_parts h ps old)) i; parts = errors_are i; triggers = triggers_are i }
+
+pub closing_step : (h : TxnHeader) (paths left left' : Names) (path : Bytes) (old now new : State) (before triggers triggers' : List Trigger)
+    → in_order left ≡ path ∷ in_order left' → IsClosing h paths left old now before triggers
+    → new ≡ (of_operation h (op.Delete path) now).state → triggers' ≡ triggers ++ (of_operation h (op.Delete path) now).triggers
+    → IsClosing h paths left' old new before triggers'
+closing_step h paths left left' path old now new before triggers triggers' first m n ts = record {
+  state = ap (λ s. (of_parts h (deletes (in_order left')) s).state) n ∙ ap (λ ps. (of_parts h (deletes ps) now).state) (sym first) ∙ m.state;
+  triggers_are =
+      (λ j. ts j ++ (of_parts h (deletes (in_order left')) (n j)).triggers)
+      ∙ append_assoc triggers (of_operation h (op.Delete path) now).triggers (of_parts h (deletes (in_order left')) (of_operation h (op.Delete path) now).state).triggers
+      ∙ ap (λ ps. triggers ++ (of_parts h (deletes ps) now).triggers) (sym first)
+      ∙ m.triggers_are;
+}
+
+-- ---- the errors of parts
+
+pub has_error-found : (ps : List Operation) (x : Operation) (rest : List Operation) → ps ≡ x ∷ rest → is_some (error_of x) ≡ true → has_error ps ≡ true
+has_error-found ps x rest is found = ap has_error is ∙ ap (λ b. b || has_error rest) found
+
+pub has_error-passed : (ps : List Operation) (x : Operation) (rest : List Operation) → ps ≡ x ∷ rest → is_some (error_of x) ≡ false → has_error ps ≡ has_error rest
+has_error-passed ps x rest is passed = ap has_error is ∙ ap (λ b. b || has_error rest) passed
+
+pub failed_step : (ps rest : List Operation) (x : Operation) (otherwise : ℤ) (found : Option ℤ) (errors errors' all : List ℤ) → ps ≡ x ∷ rest → found ≡ error_of x
+    → errors ++ errors_of_failed otherwise ps ≡ all → errors' ≡ errors ++ unwrap_or found otherwise ∷ []
+    → errors' ++ errors_of_failed (if is_some found then RUNTIME_INCONSISTENCY else otherwise) rest ≡ all
+failed_step ps rest x otherwise found errors errors' all is e m es =
+    (λ j. es j ++ errors_of_failed (if is_some (e j) then RUNTIME_INCONSISTENCY else otherwise) rest)
+    ∙ ap (λ (o : Option ℤ). (errors ++ unwrap_or o otherwise ∷ []) ++ errors_of_failed (if is_some (error_of x) then RUNTIME_INCONSISTENCY else otherwise) rest) e
+    ∙ append_assoc errors (unwrap_or (error_of x) otherwise ∷ []) (errors_of_failed (if is_some (error_of x) then RUNTIME_INCONSISTENCY else otherwise) rest)
+    ∙ ap (λ xs. errors ++ errors_of_failed otherwise xs) (sym is)
+    ∙ m
+
+pub first_error-found : (es rest : List ℤ) (e : ℤ) → es ≡ e ∷ rest → int_eq e (pos 0) ≡ false → first_error es ≡ e
+first_error-found es rest e is found = ap first_error is ∙ ap (λ b. if b then first_error rest else e) found
+
+pub first_error-passed : (es rest : List ℤ) (e : ℤ) → es ≡ e ∷ rest → int_eq e (pos 0) ≡ true → first_error es ≡ first_error rest
+first_error-passed es rest e is passed = ap first_error is ∙ ap (λ b. if b then first_error rest else e) passed

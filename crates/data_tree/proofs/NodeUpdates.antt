@@ -1,0 +1,64 @@
+-- A node that was lent for writing.
+use Rattle.std.proofs.Common.{◌≡◌, Bool, true, false, cond, Option, Some, OnSome, refl, sym, ap, subst, ◌∙◌, if◌then◌else◌}
+use Rattle.std.specs.Borrow.{MutBor}
+use Rattle.std.specs.Ordering.{eq_by_cmp, is_eq}
+use Rattle.std.proofs.lemmas.Map.Lookups.{exact_bytes}
+use Rattle.std.proofs.lemmas.Map.Views.{tells_apart}
+use Rattle.std.specs.FinMap as finmap
+use Rattle.ephemerals.specs.Orders.{Bytes, path_cmp}
+use Rattle.data_tree.specs.Nodes.{Nodes}
+use Rattle.data_tree.specs.Updates.{update_node, update_found, adopting, raising, raised, orphaning}
+use Rattle.std.specs.FinSet as set
+use Rattle.txn_codec.specs.declared.txn.TxnHeader.{TxnHeader}
+use Rattle.txn_codec.specs.declared.txn.Create.{Create}
+use Rattle.data_tree.proofs.SetSteps.{remove-insert}
+use Rattle.std.specs.Cmp.{tied_itself}
+use Rattle.data_tree.specs.declared.node.Node.{Node}
+use Rattle.data_tree.proofs.Totals.{path_total}
+
+-- what a path has, put there again
+pub insert_same : (m : Nodes) (path : Bytes) (node : Node) → finmap.get m path ≡ Some node → finmap.insert m path node ≡ m
+insert_same m path node e = finmap.same_map path_total exact_bytes _ _ (λ q. finmap.get-insert path_total m path node q ∙ by q (eq_by_cmp path_cmp q path) refl)
+  where
+    by : (q : Bytes) (b : Bool) → eq_by_cmp path_cmp q path ≡ b → cond b (Some node) (finmap.get m q) ≡ finmap.get m q
+    by q true t = sym e ∙ ap (finmap.get m) (sym (tells_apart exact_bytes q path t))
+    by q false t = refl
+
+pub insert_insert : (m : Nodes) (path : Bytes) (a b : Node) → finmap.insert (finmap.insert m path a) path b ≡ finmap.insert m path b
+insert_insert m path a b = finmap.same_map path_total exact_bytes _ _ (λ q. finmap.get-insert path_total (finmap.insert m path a) path b q ∙ by q (eq_by_cmp path_cmp q path) refl ∙ sym (finmap.get-insert path_total m path b q))
+  where
+    by : (q : Bytes) (t : Bool) → eq_by_cmp path_cmp q path ≡ t → cond t (Some b) (finmap.get (finmap.insert m path a) q) ≡ cond t (Some b) (finmap.get m q)
+    by q true t = refl
+    by q false t = finmap.get-insert path_total m path a q ∙ ap (λ x. cond x (Some a) (finmap.get m q)) t
+
+pub lent_is : (r : Option (MutBor Node)) (m n : Nodes) (path : Bytes) (b : MutBor Node) (w : Node) (f : Node → Node)
+    → r ≡ Some b → OnSome r (n ≡ finmap.insert m path w) → Some b.now ≡ finmap.get m path → w ≡ f b.now → n ≡ update_node m path f
+lent_is r m n path b w f is wrote was e = subst (λ x. OnSome x (n ≡ finmap.insert m path w)) is wrote ∙ ap (finmap.insert m path) e ∙ ap (update_found m path f) was
+
+pub lent_same : (r : Option (MutBor Node)) (m n : Nodes) (path : Bytes) (b : MutBor Node) (w : Node)
+    → r ≡ Some b → OnSome r (n ≡ finmap.insert m path w) → Some b.now ≡ finmap.get m path → w ≡ b.now → n ≡ m
+lent_same r m n path b w is wrote was e = subst (λ x. OnSome x (n ≡ finmap.insert m path w)) is wrote ∙ insert_same m path w (sym was ∙ ap Some (sym e))
+
+pub get_inserted : (m : Nodes) (path : Bytes) (node : Node) → finmap.get (finmap.insert m path node) path ≡ Some node
+get_inserted m path node = finmap.get-insert path_total m path node path ∙ ap (λ r. cond (is_eq r) (Some node) (finmap.get m path)) (tied_itself path_total path)
+
+-- a new name
+pub adopting_new : (h : TxnHeader) (c : Create) (name : Bytes) (parent : Node) → set.contains parent.children name ≡ false
+    → adopting h c name parent ≡ record parent { children = set.insert parent.children name; stat = raised h c parent.stat }
+adopting_new h c name parent free = ap (λ b. if b then raising h c parent else record parent { children = set.insert parent.children name; stat = raised h c parent.stat }) free
+
+-- a name that is taken
+pub adopting_taken : (h : TxnHeader) (c : Create) (name : Bytes) (parent : Node) → set.contains parent.children name ≡ true → adopting h c name parent ≡ raising h c parent
+adopting_taken h c name parent taken = ap (λ b. if b then raising h c parent else record parent { children = set.insert parent.children name; stat = raised h c parent.stat }) taken
+
+-- a name that was added, and taken out again with the old numbers
+pub undone : (m : Nodes) (path name : Bytes) (h : TxnHeader) (c : Create) (parent : Node) → finmap.get m path ≡ Some parent → set.contains parent.children name ≡ false
+    → update_node (update_node m path (adopting h c name)) path (orphaning name parent.stat) ≡ m
+undone m path name h c parent is free =
+    ap (λ o. update_node (update_found m path (adopting h c name) o) path (orphaning name parent.stat)) is
+    ∙ ap (update_found (finmap.insert m path (adopting h c name parent)) path (orphaning name parent.stat)) (get_inserted m path (adopting h c name parent))
+    ∙ insert_insert m path (adopting h c name parent) (orphaning name parent.stat (adopting h c name parent))
+    ∙ ap (finmap.insert m path)
+    (ap (orphaning name parent.stat) (adopting_new h c name parent free)
+    ∙ (λ i. record parent { children = remove-insert path_total exact_bytes parent.children name free i }))
+    ∙ insert_same m path parent is

@@ -1,0 +1,10 @@
+use Rattle.std.proofs.Common.{◌∙◌, to_z, of_z, w64}
+use Rattle.std.specs.FinMap as finmap
+use Rattle.std.proofs.lemmas.Int.{to_z-of_z}
+use Rattle.data_tree.proofs.IntMaps.{seen-remove}
+use Rattle.data_tree.proofs.sessions.Timeouts.remove.Goals as goal
+
+pub returns : goal.returns
+returns c =
+    seen-remove (to_z w64 (of_z w64 c.args.session)) c.self.inside.map c.remove.new.self c.remove.ensures.updates
+    ∙ (λ i. finmap.remove (c.self.view_is i) (to_z-of_z w64 c.args.session c.ranges.session i))

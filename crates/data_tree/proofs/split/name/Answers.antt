@@ -1,0 +1,11 @@
+use Rattle.std.proofs.Common.{sym, ◌∙◌}
+use Rattle.data_tree.proofs.Slashes.{uncut, all_after, name_of_cut}
+use Rattle.data_tree.proofs.split.name.Goals as goal
+
+pub returns-in-None : goal.returns-in-None
+returns-in-None c = sym (all_after c.args.path.now (uncut c.args.path.now c.in-None.ensures.cases))
+
+pub returns-in-Some : goal.returns-in-Some
+returns-in-Some c =
+    let found = c.in-Some.ensures.cases in
+    found.4 ∙ sym (name_of_cut c.args.path.now found.0 found.1 found.2)

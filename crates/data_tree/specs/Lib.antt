@@ -1,0 +1,10 @@
+pub mod SessionsView
+pub mod Nodes
+pub mod NodesView
+pub mod Stats
+pub mod State
+pub mod Meaning
+pub mod Updates
+pub mod NodeMapLends
+pub mod Multi
+pub mod Refused

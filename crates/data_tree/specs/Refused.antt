@@ -1,0 +1,22 @@
+-- What a transaction that was refused for want of memory leaves.
+use Rattle.std.specs.Prelude.{◌≡◌, List, Bool, true, false}
+use Rattle.txn_codec.specs.declared.txn.TxnHeader.{TxnHeader}
+use Rattle.txn_codec.specs.declared.txn.Operation.{Operation}
+use Rattle.txn_codec.specs.declared.txn.Body.{Body}
+use Rattle.txn_codec.specs.declared.txn.Body.TheVariants as body
+use Rattle.data_tree.specs.State.{State}
+use Rattle.data_tree.specs.Meaning.{has_error}
+use Rattle.data_tree.specs.Multi.{IsAfterFront}
+
+-- a multi with an error part has done nothing, and any other a front of its parts
+abbrev pub IsPartly : Bool → TxnHeader → List Operation → State → State → Type 0
+IsPartly true header parts old new = new ≡ old
+IsPartly false header parts old new = IsAfterFront header parts old new
+
+-- of a closeSession nothing is said, and any transaction but a multi has done nothing
+abbrev pub IsLeftBy : TxnHeader → Body → State → State → Type 0
+IsLeftBy header (body.Single operation) old new = new ≡ old
+IsLeftBy header (body.SetAcl body) old new = new ≡ old
+IsLeftBy header (body.Multi parts) old new = IsPartly (has_error parts) header parts old new
+IsLeftBy header (body.CreateSession timeout) old new = new ≡ old
+IsLeftBy header body.CloseSession old new = Unit {0}

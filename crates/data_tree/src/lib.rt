@@ -1,0 +1,15 @@
+//! The data tree: nodes, the sessions' ephemerals, and sessions.
+#![tactic(auto)]
+
+mod adoption;
+mod multi;
+mod node;
+mod node_map;
+mod outcome;
+mod sessions;
+mod split;
+mod tree;
+
+pub use node::{Node, StatPersisted};
+pub use outcome::{Outcome, Trigger};
+pub use tree::Tree;

@@ -1,0 +1,69 @@
+//! The errors of a multi's parts.
+
+ghost use Rattle.std.specs.Prelude.{◌≡◌, IfOk};
+ghost use Rattle.data_tree.specs.Meaning.{first_error, error_of, has_error, errors_of_failed, failed_answer};
+
+use crate::outcome::Outcome;
+use jute::{Listed, NoMemory};
+use std::alloc::Global;
+use txn_codec::Operation;
+
+// The error of a part that stands after the first error part.
+const RUNTIME_INCONSISTENCY: i32 = -2;
+
+/// The first error that isn't 0, if any, and else 0.
+pub fn first_error(errors: &[i32]) -> i32
+    ensures { result ≡ first_error errors.now }
+{
+    for error in errors {
+        if *error != 0 {
+            return *error;
+        }
+    }
+    0
+}
+
+// The error of an error part.
+fn error_of(part: &Operation) -> Option<i32>
+    ensures { result ≡ error_of part.now }
+{
+    match part {
+        Operation::Error(error) => Some(*error),
+        Operation::Create(_) | Operation::Delete(_) | Operation::SetData(_) | Operation::Check(_) =>
+            None,
+    }
+}
+
+/// Whether a part of a multi is an error part.
+pub fn has_error(parts: &[Operation]) -> bool
+    ensures { result ≡ has_error parts.now }
+{
+    for part in parts {
+        if error_of(part).is_some() {
+            return true;
+        }
+    }
+    false
+}
+
+/// What a multi with an error part answers.
+pub fn fail(alloc: Global, parts: &[Operation]) -> Result<Outcome, NoMemory>
+    ensures { IfOk result (λ o. o ≡ failed_answer parts.now) }
+{
+    let mut otherwise = 0;
+    let mut errors = Vec::new(alloc);
+    for part in parts {
+        match error_of(part) {
+            None => errors.push(otherwise)?,
+            Some(error) => {
+                errors.push(error)?;
+                otherwise = RUNTIME_INCONSISTENCY;
+            }
+        }
+    }
+    Ok(Outcome {
+        error: first_error(errors.as_slice()),
+        parts: Listed::from_vec(errors),
+        triggers: Listed::from_vec(Vec::new(alloc)),
+    })
+}

@@ -1,0 +1,311 @@
+//! A node of the tree.
+
+ghost use Rattle.std.specs.Prelude.{◌≡◌, OnOk, OnErr, IfOk, not, int_lt, if◌then◌else◌, string_bytes};
+ghost use Rattle.std.specs.FinSet as set;
+ghost use Rattle.data_tree.specs.Updates.{adopting, raised};
+ghost use Rattle.data_tree.specs.Meaning.{new_node, owner_of, next_cversion, acl_or_open, open_acl, rewritten, regranted, first_node};
+ghost use Rattle.data_tree.specs.Stats.{shown, shown_stat, java_int, length_of, shown_cversion};
+
+use ephemerals::TextSet;
+use jute::{Acl, Blob, Id, Listed, NoMemory, Stat, Text};
+use std::alloc::Global;
+use txn_codec::{Create, SetAcl, SetData, TxnHeader};
+
+/// The numbers of a node that are kept (StatPersisted of zookeeper.jute).
+#[derive(Clone, Copy, Debug)]
+pub struct StatPersisted {
+    /// The zxid of the node's creation.
+    pub czxid: i64,
+    /// The zxid of the last change of the node's bytes.
+    pub mzxid: i64,
+    /// When the node was created, in milliseconds since 1970.
+    pub ctime: i64,
+    /// When the node's bytes were last changed, in milliseconds since 1970.
+    pub mtime: i64,
+    /// How often the node's bytes were changed.
+    pub version: i32,
+    /// How often a child was created.
+    pub cversion: i32,
+    /// How often the node's ACL was changed.
+    pub aversion: i32,
+    /// The session that owns an ephemeral node, and 0 for any other.
+    pub ephemeral_owner: i64,
+    /// The zxid of the last change of the node's children.
+    pub pzxid: i64,
+}
+
+/// A node: its bytes, or null; who may do what; its numbers; the names of its children.
+#[derive(Drop)]
+pub struct Node {
+    pub bytes: Option<Blob>,
+    pub acl: Listed<Acl>,
+    pub stat: StatPersisted,
+    pub children: TextSet,
+}
+
+// The stored cversion of a parent after a create.
+fn next_version(stored: i32, wanted: i32) -> i32
+    ensures { result ≡ next_cversion stored wanted }
+{
+    if wanted == -1 {
+        stored.wrapping_add(1)
+    } else {
+        wanted
+    }
+}
+
+// A parent's numbers after a create.
+fn raise(before: StatPersisted, header: &TxnHeader, create: &Create) -> StatPersisted
+    ensures { result ≡ raised header.now create.now before }
+{
+    let mut after = before;
+    after.cversion = next_version(before.cversion, create.parent_cversion);
+    after.pzxid = header.zxid;
+    after
+}
+
+// The numbers with the greater cversion; the first ones where it is the same.
+fn higher(before: StatPersisted, after: StatPersisted) -> StatPersisted
+    ensures { result ≡ (if int_lt before.cversion after.cversion then after else before) }
+{
+    if before.cversion < after.cversion {
+        return after;
+    }
+    before
+}
+
+/// A parent's numbers after a child was deleted.
+pub(crate) fn bereft(before: StatPersisted, header: &TxnHeader) -> StatPersisted
+    ensures { result ≡ record before { pzxid = header.now.zxid } }
+{
+    let mut after = before;
+    after.pzxid = header.zxid;
+    after
+}
+
+/// The session that a created node belongs to, and 0 where it isn't ephemeral.
+pub(crate) fn owner(header: &TxnHeader, ephemeral: bool) -> i64
+    ensures { result ≡ owner_of header.now ephemeral }
+{
+    if ephemeral { header.client_id } else { 0 }
+}
+
+// The list that grants everyone everything.
+fn open(alloc: Global) -> Result<Listed<Acl>, NoMemory>
+    ensures { IfOk result (λ acl. acl ≡ open_acl) }
+{
+    let mut list = Vec::new(alloc);
+    list.push(Acl {
+        perms: 31,
+        id: Id {
+            scheme: Text::new(alloc, "world")?,
+            id: Text::new(alloc, "anyone")?,
+        },
+    })?;
+    Ok(Listed::from_vec(list))
+}
+
+// A copy of the list, or the open one for null.
+fn copy_acl(alloc: Global, acl: &Option<Listed<Acl>>) -> Result<Listed<Acl>, NoMemory>
+    ensures { IfOk result (λ list. list ≡ acl_or_open acl.now) }
+{
+    match acl {
+        None => open(alloc),
+        Some(list) => Ok(list.clone()?),
+    }
+}
+
+// The numbers of a new node.
+fn first_stat(header: &TxnHeader, create: &Create) -> StatPersisted
+    ensures { result ≡ (new_node header.now create.now).stat }
+{
+    StatPersisted {
+        czxid: header.zxid,
+        mzxid: header.zxid,
+        ctime: header.time,
+        mtime: header.time,
+        version: 0,
+        cversion: 0,
+        aversion: 0,
+        ephemeral_owner: owner(header, create.ephemeral),
+        pzxid: header.zxid,
+    }
+}
+
+// A node's numbers after its bytes were written.
+fn written(before: StatPersisted, header: &TxnHeader, body: &SetData) -> StatPersisted
+    ensures { result ≡ record before { version = body.now.version; mzxid = header.now.zxid; mtime = header.now.time } }
+{
+    let mut after = before;
+    after.version = body.version;
+    after.mzxid = header.zxid;
+    after.mtime = header.time;
+    after
+}
+
+// A set of one text.
+fn only(alloc: Global, text: &str) -> Result<TextSet, NoMemory>
+    ensures { IfOk result (λ texts. texts ≡ set.insert set.empty text.now) }
+{
+    let mut texts = TextSet::new(alloc);
+    texts.insert(String::from_str(alloc, text)?)?;
+    Ok(texts)
+}
+
+// The numbers of a node that nobody made.
+fn no_stat() -> StatPersisted
+    ensures { result ≡ (first_node set.empty).stat }
+{
+    StatPersisted {
+        czxid: 0,
+        mzxid: 0,
+        ctime: 0,
+        mtime: 0,
+        version: 0,
+        cversion: 0,
+        aversion: 0,
+        ephemeral_owner: 0,
+        pzxid: 0,
+    }
+}
+
+// A node that nobody made.
+fn first(alloc: Global, children: TextSet) -> Result<Node, NoMemory>
+    ensures { IfOk result (λ node. node ≡ first_node children) }
+{
+    Ok(Node {
+        bytes: Some(Blob::new(alloc, &[])?),
+        acl: open(alloc)?,
+        stat: no_stat(),
+        children,
+    })
+}
+
+impl Node {
+    /// A node that nobody made, without a child.
+    pub(crate) fn bare(alloc: Global) -> Result<Node, NoMemory>
+        ensures { IfOk result (λ node. node ≡ first_node set.empty) }
+    {
+        first(alloc, TextSet::new(alloc))
+    }
+
+    /// A node that nobody made, with one child.
+    pub(crate) fn over(alloc: Global, child: &str) -> Result<Node, NoMemory>
+        ensures { IfOk result (λ node. node ≡ first_node (set.insert set.empty child.now)) }
+    {
+        first(alloc, only(alloc, child)?)
+    }
+
+    /// The node that a create makes.
+    pub(crate) fn created(
+        alloc: Global,
+        header: &TxnHeader,
+        create: &Create,
+    ) -> Result<Node, NoMemory>
+        ensures { IfOk result (λ node. node ≡ new_node header.now create.now) }
+    {
+        Ok(Node {
+            bytes: create.bytes.clone()?,
+            acl: copy_acl(alloc, &create.acl)?,
+            stat: first_stat(header, create),
+            children: TextSet::new(alloc),
+        })
+    }
+
+    /// Adds a child's name, or raises the numbers where it is taken, and says whether the name is new.
+    pub(crate) fn adopt(
+        &mut self,
+        name: String,
+        header: &TxnHeader,
+        create: &Create,
+    ) -> Result<bool, NoMemory>
+        ensures state { OnOk result (self.new ≡ adopting header.now create.now (string_bytes name) self.old) }
+        ensures added { IfOk result (λ added. added ≡ not (set.contains self.old.children (string_bytes name))) }
+        ensures err { OnErr result (self.new ≡ self.old) }
+    {
+        let after = raise(self.stat, header, create);
+        let added = self.children.insert(name)?;
+        if added {
+            self.stat = after;
+            return Ok(true);
+        }
+        self.stat = higher(self.stat, after);
+        Ok(false)
+    }
+
+    /// Replaces the bytes.
+    pub(crate) fn write(&mut self, header: &TxnHeader, body: &SetData) -> Result<(), NoMemory>
+        ensures ok { OnOk result (self.new ≡ rewritten header.now body.now self.old) }
+        ensures err { OnErr result (self.new ≡ self.old) }
+    {
+        let bytes = body.bytes.clone()?;
+        self.bytes = bytes;
+        self.stat = written(self.stat, header, body);
+        Ok(())
+    }
+
+    /// Replaces the access control list.
+    pub(crate) fn grant(&mut self, alloc: Global, body: &SetAcl) -> Result<(), NoMemory>
+        ensures ok { OnOk result (self.new ≡ regranted body.now self.old) }
+        ensures err { OnErr result (self.new ≡ self.old) }
+    {
+        let acl = copy_acl(alloc, &body.acl)?;
+        self.acl = acl;
+        self.stat.aversion = body.version;
+        Ok(())
+    }
+
+    /// What the node shows of itself.
+    pub fn shown(&self) -> Stat
+        ensures { result ≡ shown self.now }
+    {
+        show(
+            self.stat,
+            java_int(self.children.len()),
+            java_int(length(&self.bytes)),
+        )
+    }
+}
+
+// What the kept numbers show, with how many children there are and how many bytes.
+fn show(stat: StatPersisted, children: i32, bytes: i32) -> Stat
+    ensures { result ≡ shown_stat stat children bytes }
+{
+    Stat {
+        czxid: stat.czxid,
+        mzxid: stat.mzxid,
+        ctime: stat.ctime,
+        mtime: stat.mtime,
+        version: stat.version,
+        cversion: shown_cversion(stat.cversion, children),
+        aversion: stat.aversion,
+        ephemeral_owner: stat.ephemeral_owner,
+        data_length: bytes,
+        num_children: children,
+        pzxid: stat.pzxid,
+    }
+}
+
+// A count as a Java int, which wraps.
+fn java_int(count: usize) -> i32
+    ensures { result ≡ java_int count }
+{
+    ((count % (1 << 32)) as u32).cast_signed()
+}
+
+// How many bytes there are; null has none.
+fn length(bytes: &Option<Blob>) -> usize
+    ensures { result ≡ length_of bytes.now }
+{
+    match bytes {
+        None => 0,
+        Some(bytes) => bytes.as_slice().len(),
+    }
+}
+
+// The number of creates and deletes of children, from that of creates.
+fn shown_cversion(stored: i32, children: i32) -> i32
+    ensures { result ≡ shown_cversion stored children }
+{
+    stored.wrapping_mul(2).wrapping_sub(children)
+}

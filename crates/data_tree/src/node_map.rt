@@ -1,0 +1,174 @@
+//! The nodes by path, seen as a finite map.
+
+ghost use Rattle.std.specs.Prelude.{◌≡◌, OnOk, OnErr, IfOk, Option, None, Some, is_some, string_bytes};
+ghost use Rattle.std.specs.Option.{option_copied, option_copied_mut};
+ghost use Rattle.std.specs.Borrow.{sem};
+ghost use Rattle.std.specs.FinMap as finmap;
+ghost use Rattle.data_tree.specs.NodeMapLends.{LendsNode};
+ghost use Rattle.data_tree.specs.Updates.{update_node, adopting, adoption, orphaning, bereaved};
+ghost use Rattle.data_tree.specs.Meaning.{rewritten, regranted};
+
+use crate::adoption::Adoption;
+use crate::node::{Node, StatPersisted, bereft};
+use jute::NoMemory;
+use std::alloc::Global;
+use std::collections::BTreeMap;
+use std::marker::Model;
+use txn_codec::{Create, SetAcl, SetData, TxnHeader};
+
+/// Nodes by path.
+#[derive(Drop)]
+pub struct NodeMap {
+    map: BTreeMap<String, Node>,
+}
+
+impl Model for NodeMap {
+    ghost use Rattle.data_tree.specs.Nodes.{Nodes};
+    ghost use Rattle.data_tree.specs.NodesView.{nodes_of};
+
+    ghost Value = { Nodes };
+
+    ghost use Rattle.std.specs.Coded.{coded_ℕ, coded_list};
+    ghost use Rattle.std.specs.FinMap as finmap;
+    ghost use Rattle.data_tree.specs.contracts.node.Node as node;
+
+    ghost coded = { finmap.code (coded_list coded_ℕ) node.the_row.coded };
+
+    ghost view = { λ m. nodes_of m.map.entries };
+}
+
+impl NodeMap {
+    /// No node, which takes no memory.
+    pub fn new(alloc: Global) -> NodeMap
+        ensures { result ≡ finmap.empty }
+    {
+        NodeMap {
+            map: BTreeMap::new(alloc),
+        }
+    }
+
+    /// The node at the path.
+    pub fn get(&self, path: &str) -> Option<&Node>
+        ensures { option_copied result ≡ finmap.get self.now path.now }
+    {
+        self.map.get(path)
+    }
+
+    /// How many nodes there are.
+    pub fn len(&self) -> usize
+        ensures { result ≡ finmap.len self.now }
+    {
+        self.map.len()
+    }
+
+    /// Puts a node at the path, in place of another one.
+    pub fn insert(&mut self, path: String, node: Node) -> Result<(), NoMemory>
+        ensures ok { OnOk result (self.new ≡ finmap.insert self.old (string_bytes path) node) }
+        ensures err { OnErr result (self.new ≡ self.old) }
+    {
+        self.map.insert(path, node)?;
+        Ok(())
+    }
+
+    /// Takes out the node at the path.
+    pub fn remove(&mut self, path: &str) -> Option<Node>
+        ensures value { result ≡ finmap.get self.old path.now }
+        ensures removed { self.new ≡ finmap.remove self.old path.now }
+    {
+        self.map.remove(path)
+    }
+
+    fn get_mut(&mut self, path: &str) -> Option<&mut Node>
+        ensures* writes_back { sem 𝓛 (LendsNode self.entry path.now result) }
+        ensures value { option_copied_mut result ≡ finmap.get self.old path.now }
+    {
+        self.map.get_mut(path)
+    }
+
+    /// Adds a child's name to the node at the path, or raises that node's numbers where it has the name.
+    pub fn adopt(
+        &mut self,
+        path: &str,
+        name: String,
+        header: &TxnHeader,
+        create: &Create,
+    ) -> Result<Adoption, NoMemory>
+        ensures state { OnOk result (self.new ≡ update_node self.old path.now (adopting header.now create.now (string_bytes name))) }
+        ensures outcome { IfOk result (λ is. is ≡ adoption (finmap.get self.old path.now) (string_bytes name)) }
+        ensures err { OnErr result (self.new ≡ self.old) }
+    {
+        match self.get_mut(path) {
+            None => return Ok(Adoption::NoParent),
+            Some(node) => {
+                let before = node.stat;
+                if node.adopt(name, header, create)? {
+                    return Ok(Adoption::Adopted(before));
+                }
+                Ok(Adoption::Taken)
+            }
+        }
+    }
+
+    /// Takes a child's name from the node at the path, if any, and gives it back its numbers.
+    pub fn disown(&mut self, path: &str, name: &str, before: StatPersisted)
+        ensures { self.new ≡ update_node self.old path.now (orphaning name.now before) }
+    {
+        match self.get_mut(path) {
+            None => return,
+            Some(node) => {
+                node.children.remove(name);
+                node.stat = before;
+            }
+        }
+    }
+
+    /// Takes the name of a deleted child from the node at the path, and says whether there is such a node.
+    pub fn bereave(&mut self, path: &str, name: &str, header: &TxnHeader) -> bool
+        ensures state { self.new ≡ update_node self.old path.now (bereaved name.now header.now.zxid) }
+        ensures found { result ≡ is_some (finmap.get self.old path.now) }
+    {
+        match self.get_mut(path) {
+            None => return false,
+            Some(node) => {
+                node.children.remove(name);
+                node.stat = bereft(node.stat, header);
+                true
+            }
+        }
+    }
+
+    /// Replaces the bytes of the node at the path, and says whether there is such a node.
+    pub fn write(
+        &mut self,
+        path: &str,
+        header: &TxnHeader,
+        body: &SetData,
+    ) -> Result<bool, NoMemory>
+        ensures state { OnOk result (self.new ≡ update_node self.old path.now (rewritten header.now body.now)) }
+        ensures found { IfOk result (λ found. found ≡ is_some (finmap.get self.old path.now)) }
+        ensures err { OnErr result (self.new ≡ self.old) }
+    {
+        match self.get_mut(path) {
+            None => return Ok(false),
+            Some(node) => {
+                node.write(header, body)?;
+                Ok(true)
+            }
+        }
+    }
+
+    /// Replaces the access control list of the node at the path, and says whether there is such a node.
+    pub fn grant(&mut self, alloc: Global, path: &str, body: &SetAcl) -> Result<bool, NoMemory>
+        ensures state { OnOk result (self.new ≡ update_node self.old path.now (regranted body.now)) }
+        ensures found { IfOk result (λ found. found ≡ is_some (finmap.get self.old path.now)) }
+        ensures err { OnErr result (self.new ≡ self.old) }
+    {
+        match self.get_mut(path) {
+            None => return Ok(false),
+            Some(node) => {
+                node.grant(alloc, body)?;
+                Ok(true)
+            }
+        }
+    }
+}

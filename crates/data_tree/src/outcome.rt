@@ -1,0 +1,70 @@
+//! What a transaction answers.
+
+ghost use Rattle.std.specs.Prelude.{◌≡◌, ◌∷◌, ◌++◌, [], OnOk};
+
+use jute::{Listed, NoMemory, Text};
+use std::alloc::Global;
+
+/// What a change of the tree tells watchers, with the path that it concerns (ZooKeeper Programmer's Guide, "Watches").
+#[derive(Debug, Drop)]
+pub enum Trigger {
+    /// A node was made.
+    Created(Text),
+    /// A node was removed.
+    Deleted(Text),
+    /// A node's bytes were replaced.
+    DataChanged(Text),
+    /// A node gained or lost a child.
+    ChildrenChanged(Text),
+}
+
+/// What a transaction answers.
+#[derive(Debug, Drop)]
+pub struct Outcome {
+    /// 0, or the number of the first error.
+    pub error: i32,
+    /// The error of each part of a multi, in order; no other transaction has parts.
+    pub parts: Listed<i32>,
+    /// What watchers are told, in order.
+    pub triggers: Listed<Trigger>,
+}
+
+/// Adds what a create fires.
+pub fn fire_created(
+    triggers: &mut Vec<Trigger>,
+    alloc: Global,
+    path: &str,
+    parent: &str,
+) -> Result<(), NoMemory>
+    ensures { OnOk result (triggers.new.items ≡ triggers.old.items ++ (Trigger.Created path.now ∷ Trigger.ChildrenChanged parent.now ∷ [])) }
+{
+    triggers.push(Trigger::Created(Text::new(alloc, path)?))?;
+    triggers.push(Trigger::ChildrenChanged(Text::new(alloc, parent)?))?;
+    Ok(())
+}
+
+/// Adds what a delete fires.
+pub fn fire_deleted(
+    triggers: &mut Vec<Trigger>,
+    alloc: Global,
+    path: &str,
+    parent: &str,
+) -> Result<(), NoMemory>
+    ensures { OnOk result (triggers.new.items ≡ triggers.old.items ++ (Trigger.Deleted path.now ∷ Trigger.ChildrenChanged parent.now ∷ [])) }
+{
+    triggers.push(Trigger::Deleted(Text::new(alloc, path)?))?;
+    triggers.push(Trigger::ChildrenChanged(Text::new(alloc, parent)?))?;
+    Ok(())
+}
+
+/// Adds what a setData fires.
+pub fn fire_data_changed(
+    triggers: &mut Vec<Trigger>,
+    alloc: Global,
+    path: &str,
+) -> Result<(), NoMemory>
+    ensures { OnOk result (triggers.new.items ≡ triggers.old.items ++ Trigger.DataChanged path.now ∷ []) }
+{
+    triggers.push(Trigger::DataChanged(Text::new(alloc, path)?))?;
+    Ok(())
+}

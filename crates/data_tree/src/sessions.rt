@@ -1,0 +1,61 @@
+//! The sessions' timeouts.
+
+ghost use Rattle.std.specs.Prelude.{◌≡◌, OnOk, OnErr};
+ghost use Rattle.std.specs.FinMap as finmap;
+
+use jute::NoMemory;
+use std::alloc::Global;
+use std::collections::BTreeMap;
+use std::marker::Model;
+
+/// Each session's timeout in milliseconds.
+#[derive(Drop)]
+pub struct Timeouts {
+    map: BTreeMap<i64, i32>,
+}
+
+impl Model for Timeouts {
+    ghost use Rattle.std.specs.Coded.{coded_ℤ};
+    ghost use Rattle.std.specs.FinMap as finmap;
+    ghost use Rattle.data_tree.specs.SessionsView.{Sessions};
+
+    ghost Value = { Sessions };
+
+    ghost coded = { finmap.code coded_ℤ coded_ℤ };
+
+    ghost view = { λ s. finmap.from_entries s.map.entries };
+}
+
+impl Timeouts {
+    /// No session, which takes no memory.
+    pub fn new(alloc: Global) -> Timeouts
+        ensures { result ≡ finmap.empty }
+    {
+        Timeouts {
+            map: BTreeMap::new(alloc),
+        }
+    }
+
+    /// The timeout of a session that there is.
+    pub fn get(&self, session: i64) -> Option<i32>
+        ensures { result ≡ finmap.get self.now session }
+    {
+        self.map.get(&session).copied()
+    }
+
+    /// Sets a session's timeout.
+    pub fn set(&mut self, session: i64, timeout: i32) -> Result<(), NoMemory>
+        ensures ok { OnOk result (self.new ≡ finmap.insert self.old session timeout) }
+        ensures err { OnErr result (self.new ≡ self.old) }
+    {
+        self.map.insert(session, timeout)?;
+        Ok(())
+    }
+
+    /// Drops a session.
+    pub fn remove(&mut self, session: i64)
+        ensures { self.new ≡ finmap.remove self.old session }
+    {
+        self.map.remove(&session);
+    }
+}

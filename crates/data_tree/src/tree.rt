@@ -1,0 +1,363 @@
+//! The data tree.
+
+ghost use Rattle.std.specs.Prelude.{◌≡◌, ◌++◌, OnOk, OnErr, IfOk, string_bytes};
+ghost use Rattle.std.specs.Option.{option_copied, option_map};
+ghost use Rattle.std.specs.FinMap as finmap;
+ghost use Rattle.data_tree.specs.Updates.{settled};
+ghost use Rattle.data_tree.specs.Meaning.{new_node, of_operation, of_set_acl, of_create_session, of_close_session, of_parts, of_multi, deletes, has_error, mean, answer_of, fresh};
+ghost use Rattle.data_tree.specs.Multi.{IsAfterFront};
+ghost use Rattle.data_tree.specs.Refused.{IsPartly, IsLeftBy};
+ghost use Rattle.data_tree.specs.Stats.{shown};
+ghost use Rattle.ephemerals.specs.Orders.{in_order};
+
+use crate::adoption::Adoption;
+use crate::multi::{fail, first_error, has_error};
+use crate::node::{Node, owner};
+use crate::node_map::NodeMap;
+use crate::outcome::{Outcome, Trigger, fire_created, fire_data_changed, fire_deleted};
+use crate::sessions::Timeouts;
+use crate::split::{name, parent};
+use ephemerals::{Ephemerals, TextSet};
+use jute::{Listed, NoMemory, Stat};
+use std::alloc::Global;
+use std::marker::Model;
+use txn_codec::{Body, Create, Operation, SetAcl, SetData, Txn, TxnHeader};
+
+const NO_NODE: i32 = -101;
+
+const NODE_EXISTS: i32 = -110;
+
+/// The nodes, the sessions' ephemerals, and the sessions' timeouts.
+#[derive(Drop)]
+pub struct Tree {
+    nodes: NodeMap,
+    ephemerals: Ephemerals,
+    timeouts: Timeouts,
+}
+
+impl Model for Tree {
+    ghost use Rattle.data_tree.specs.State.{State, state_code};
+    ghost use Rattle.data_tree.specs.contracts.node.Node as node;
+
+    ghost Value = { State };
+
+    ghost coded = { state_code node.the_row.coded };
+
+    ghost view = { λ t. record { nodes = t.nodes; pairs = t.ephemerals; sessions = t.timeouts } };
+}
+
+impl Tree {
+    /// The tree from which every log starts: /, /zookeeper and /zookeeper/quota, and no session.
+    pub fn fresh(alloc: Global) -> Result<Tree, NoMemory>
+        ensures { IfOk result (λ tree. tree ≡ fresh) }
+    {
+        let mut nodes = NodeMap::new(alloc);
+        nodes.insert(
+            String::from_str(alloc, "/")?,
+            Node::over(alloc, "zookeeper")?,
+        )?;
+        nodes.insert(
+            String::from_str(alloc, "/zookeeper")?,
+            Node::over(alloc, "quota")?,
+        )?;
+        nodes.insert(
+            String::from_str(alloc, "/zookeeper/quota")?,
+            Node::bare(alloc)?,
+        )?;
+        Ok(Tree {
+            nodes,
+            ephemerals: Ephemerals::new(alloc),
+            timeouts: Timeouts::new(alloc),
+        })
+    }
+
+    // Puts a new node and its owner's pair, or leaves all as it was.
+    fn settle(
+        &mut self,
+        alloc: Global,
+        header: &TxnHeader,
+        create: &Create,
+        path: String,
+        node: Node,
+    ) -> Result<(), NoMemory>
+        requires path_is { string_bytes path ≡ create.now.path }
+        requires node_is { node ≡ new_node header.now create.now }
+        ensures ok { OnOk result (self.new ≡ settled self.old header.now create.now) }
+        ensures err { OnErr result (self.new ≡ self.old) }
+    {
+        let owner = owner(header, create.ephemeral);
+        let added = self.ephemerals.add(alloc, owner, create.path.as_str())?;
+        match self.nodes.insert(path, node) {
+            Ok(()) => Ok(()),
+            Err(error) => {
+                if added {
+                    self.ephemerals.remove(owner, create.path.as_str());
+                    return Err(error);
+                }
+                Err(error)
+            }
+        }
+    }
+
+    fn create(
+        &mut self,
+        alloc: Global,
+        header: &TxnHeader,
+        create: &Create,
+        triggers: &mut Vec<Trigger>,
+    ) -> Result<i32, NoMemory>
+        ensures state { OnOk result (self.new ≡ (of_operation header.now (Operation.Create create.now) self.old).state) }
+        ensures error { IfOk result (λ error. error ≡ (of_operation header.now (Operation.Create create.now) self.old).error) }
+        ensures fired { OnOk result (triggers.new.items ≡ triggers.old.items ++ (of_operation header.now (Operation.Create create.now) self.old).triggers) }
+        ensures err { OnErr result (self.new ≡ self.old) }
+    {
+        let parent = create.path.parent();
+        let before = triggers.len();
+        fire_created(triggers, alloc, create.path.as_str(), parent)?;
+        let node = Node::created(alloc, header, create)?;
+        let path = String::from_str(alloc, create.path.as_str())?;
+        let name = String::from_str(alloc, create.path.name())?;
+        match self.nodes.adopt(parent, name, header, create)? {
+            Adoption::NoParent => {
+                triggers.truncate(before);
+                Ok(NO_NODE)
+            }
+            Adoption::Taken => {
+                triggers.truncate(before);
+                Ok(NODE_EXISTS)
+            }
+            Adoption::Adopted(stat) => match self.settle(alloc, header, create, path, node) {
+                Ok(()) => Ok(0),
+                Err(error) => {
+                    self.nodes.disown(parent, create.path.name(), stat);
+                    Err(error)
+                }
+            },
+        }
+    }
+
+    fn delete(
+        &mut self,
+        alloc: Global,
+        header: &TxnHeader,
+        path: &str,
+        triggers: &mut Vec<Trigger>,
+    ) -> Result<i32, NoMemory>
+        ensures state { OnOk result (self.new ≡ (of_operation header.now (Operation.Delete path.now) self.old).state) }
+        ensures error { IfOk result (λ error. error ≡ (of_operation header.now (Operation.Delete path.now) self.old).error) }
+        ensures fired { OnOk result (triggers.new.items ≡ triggers.old.items ++ (of_operation header.now (Operation.Delete path.now) self.old).triggers) }
+        ensures err { OnErr result (self.new ≡ self.old) }
+    {
+        let before = triggers.len();
+        fire_deleted(triggers, alloc, path, parent(path))?;
+        let Some(node) = self.nodes.remove(path) else {
+            triggers.truncate(before);
+            return Ok(NO_NODE);
+        };
+        if !self.nodes.bereave(parent(path), name(path), header) {
+            triggers.truncate(before);
+            return Ok(NO_NODE);
+        }
+        self.ephemerals.remove(node.stat.ephemeral_owner, path);
+        Ok(0)
+    }
+
+    fn set_data(
+        &mut self,
+        alloc: Global,
+        header: &TxnHeader,
+        body: &SetData,
+        triggers: &mut Vec<Trigger>,
+    ) -> Result<i32, NoMemory>
+        ensures state { OnOk result (self.new ≡ (of_operation header.now (Operation.SetData body.now) self.old).state) }
+        ensures error { IfOk result (λ error. error ≡ (of_operation header.now (Operation.SetData body.now) self.old).error) }
+        ensures fired { OnOk result (triggers.new.items ≡ triggers.old.items ++ (of_operation header.now (Operation.SetData body.now) self.old).triggers) }
+        ensures err { OnErr result (self.new ≡ self.old) }
+    {
+        let before = triggers.len();
+        fire_data_changed(triggers, alloc, body.path.as_str())?;
+        if !self.nodes.write(body.path.as_str(), header, body)? {
+            triggers.truncate(before);
+            return Ok(NO_NODE);
+        }
+        Ok(0)
+    }
+
+    fn set_acl(&mut self, alloc: Global, body: &SetAcl) -> Result<i32, NoMemory>
+        ensures state { OnOk result (self.new ≡ (of_set_acl body.now self.old).state) }
+        ensures error { IfOk result (λ error. error ≡ (of_set_acl body.now self.old).error) }
+        ensures err { OnErr result (self.new ≡ self.old) }
+    {
+        if !self.nodes.grant(alloc, body.path.as_str(), body)? {
+            return Ok(NO_NODE);
+        }
+        Ok(0)
+    }
+
+    fn create_session(&mut self, header: &TxnHeader, timeout: i32) -> Result<(), NoMemory>
+        ensures ok { OnOk result (self.new ≡ (of_create_session header.now timeout self.old).state) }
+        ensures err { OnErr result (self.new ≡ self.old) }
+    {
+        self.timeouts.set(header.client_id, timeout)
+    }
+
+    // Does one operation, and adds what it fires.
+    fn operate(
+        &mut self,
+        alloc: Global,
+        header: &TxnHeader,
+        operation: &Operation,
+        triggers: &mut Vec<Trigger>,
+    ) -> Result<i32, NoMemory>
+        ensures state { OnOk result (self.new ≡ (of_operation header.now operation.now self.old).state) }
+        ensures error { IfOk result (λ error. error ≡ (of_operation header.now operation.now self.old).error) }
+        ensures fired { OnOk result (triggers.new.items ≡ triggers.old.items ++ (of_operation header.now operation.now self.old).triggers) }
+        ensures err { OnErr result (self.new ≡ self.old) }
+    {
+        match operation {
+            Operation::Create(create) => self.create(alloc, header, create, triggers),
+            Operation::Delete(path) => self.delete(alloc, header, path.as_str(), triggers),
+            Operation::SetData(body) => self.set_data(alloc, header, body, triggers),
+            Operation::Check(_) => Ok(0),
+            Operation::Error(error) => Ok(*error),
+        }
+    }
+
+    // Does the parts of a multi in order.
+    fn operate_all(
+        &mut self,
+        alloc: Global,
+        header: &TxnHeader,
+        parts: &[Operation],
+    ) -> Result<Outcome, NoMemory>
+        ensures state { OnOk result (self.new ≡ (of_parts header.now parts.now self.old).state) }
+        ensures answer { IfOk result (λ o. o ≡ answer_of (of_parts header.now parts.now self.old)) }
+        ensures err { OnErr result (IsAfterFront header.now parts.now self.old self.new) }
+    {
+        let mut errors = Vec::new(alloc);
+        let mut triggers = Vec::new(alloc);
+        for part in parts {
+            let error = self.operate(alloc, header, part, &mut triggers)?;
+            errors.push(error)?;
+        }
+        Ok(Outcome {
+            error: first_error(errors.as_slice()),
+            parts: Listed::from_vec(errors),
+            triggers: Listed::from_vec(triggers),
+        })
+    }
+
+    // Deletes the paths in ascending bytes, and adds what that fires.
+    fn delete_all(
+        &mut self,
+        alloc: Global,
+        header: &TxnHeader,
+        paths: TextSet,
+        triggers: &mut Vec<Trigger>,
+    ) -> Result<(), NoMemory>
+        ensures state { OnOk result (self.new ≡ (of_parts header.now (deletes (in_order paths)) self.old).state) }
+        ensures fired { OnOk result (triggers.new.items ≡ triggers.old.items ++ (of_parts header.now (deletes (in_order paths)) self.old).triggers) }
+    {
+        let mut left = paths;
+        while let Some(path) = left.pop_first() {
+            self.delete(alloc, header, path.as_str(), triggers)?;
+        }
+        Ok(())
+    }
+
+    fn close_session(
+        &mut self,
+        alloc: Global,
+        header: &TxnHeader,
+        triggers: &mut Vec<Trigger>,
+    ) -> Result<(), NoMemory>
+        ensures state { OnOk result (self.new ≡ (of_close_session header.now self.old).state) }
+        ensures fired { OnOk result (triggers.new.items ≡ triggers.old.items ++ (of_close_session header.now self.old).triggers) }
+    {
+        let paths = self.ephemerals.take_session(alloc, header.client_id);
+        self.timeouts.remove(header.client_id);
+        self.delete_all(alloc, header, paths, triggers)
+    }
+
+    /// Does a transaction. Refused for want of memory, a multi has done a front of its parts, a closeSession leaves a tree that is
+    /// only to be dropped, and any other leaves the tree as it was.
+    pub fn apply(&mut self, alloc: Global, txn: &Txn) -> Result<Outcome, NoMemory>
+        ensures state { OnOk result (self.new ≡ (mean self.old txn.now).state) }
+        ensures answer { IfOk result (λ o. o ≡ answer_of (mean self.old txn.now)) }
+        ensures err { OnErr result (IsLeftBy txn.now.header txn.now.body self.old self.new) }
+    {
+        let mut triggers = Vec::new(alloc);
+        let error = match &txn.body {
+            Body::Single(operation) => self.operate(alloc, &txn.header, operation, &mut triggers)?,
+            Body::SetAcl(body) => self.set_acl(alloc, body)?,
+            Body::Multi(parts) => return self.apply_multi(alloc, &txn.header, parts.as_slice()),
+            Body::CreateSession(timeout) => {
+                self.create_session(&txn.header, *timeout)?;
+                0
+            }
+            Body::CloseSession => {
+                self.close_session(alloc, &txn.header, &mut triggers)?;
+                0
+            }
+        };
+        Ok(Outcome {
+            error,
+            parts: Listed::from_vec(Vec::new(alloc)),
+            triggers: Listed::from_vec(triggers),
+        })
+    }
+
+    fn apply_multi(
+        &mut self,
+        alloc: Global,
+        header: &TxnHeader,
+        parts: &[Operation],
+    ) -> Result<Outcome, NoMemory>
+        ensures state { OnOk result (self.new ≡ (of_multi header.now parts.now self.old).state) }
+        ensures answer { IfOk result (λ o. o ≡ answer_of (of_multi header.now parts.now self.old)) }
+        ensures err { OnErr result (IsPartly (has_error parts.now) header.now parts.now self.old self.new) }
+    {
+        if has_error(parts) {
+            return fail(alloc, parts);
+        }
+        self.operate_all(alloc, header, parts)
+    }
+
+    /// The node at the path.
+    pub fn node(&self, path: &str) -> Option<&Node>
+        ensures { option_copied result ≡ finmap.get self.now.nodes path.now }
+    {
+        self.nodes.get(path)
+    }
+
+    /// What the node at the path shows of itself.
+    pub fn stat(&self, path: &str) -> Option<Stat>
+        ensures { result ≡ option_map shown (finmap.get self.now.nodes path.now) }
+    {
+        match self.nodes.get(path) {
+            None => None,
+            Some(node) => Some(node.shown()),
+        }
+    }
+
+    /// How many nodes there are.
+    pub fn paths(&self) -> usize
+        ensures { result ≡ finmap.len self.now.nodes }
+    {
+        self.nodes.len()
+    }
+
+    /// The timeout of a session in milliseconds.
+    pub fn timeout(&self, session: i64) -> Option<i32>
+        ensures { result ≡ finmap.get self.now.sessions session }
+    {
+        self.timeouts.get(session)
+    }
+
+    /// Which session owns which ephemeral node.
+    pub fn ephemerals(&self) -> &Ephemerals
+        ensures { result.now ≡ self.now.pairs }
+    {
+        &self.ephemerals
+    }
+}

@@ -1,0 +1,5 @@
+pub mod Totals
+pub mod TextMaps
+pub mod TextSets
+pub mod SetSteps
+pub mod PairSets

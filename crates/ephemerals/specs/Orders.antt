@@ -1,0 +1,32 @@
+-- Paths and names as lists of bytes, and sets of them.
+use Rattle.std.specs.Prelude.{ℕ, ℤ, List, map}
+use Rattle.std.specs.declared.cmp.Ordering.{Ordering}
+use Rattle.std.specs.Ordering.{nat_cmp, int_cmp, then_cmp, on}
+use Rattle.std.specs.Cmp.Lexicographic.{slice_cmp}
+use Rattle.std.specs.FinMap as finmap
+use Rattle.std.specs.FinSet as set
+
+abbrev pub Bytes : Type 0
+Bytes = List ℕ
+
+-- ascending bytes
+abbrev pub path_cmp : Bytes → Bytes → Ordering
+path_cmp = slice_cmp nat_cmp
+
+abbrev pub Names : Type 0
+Names = set.FinSet path_cmp
+
+-- ascending session, then ascending bytes
+abbrev pub pair_cmp : ℤ × Bytes → ℤ × Bytes → Ordering
+pair_cmp = then_cmp (on (λ (p : ℤ × Bytes). p.0) int_cmp) (on (λ (p : ℤ × Bytes). p.1) path_cmp)
+
+-- sessions with the paths of their ephemeral nodes
+abbrev pub Pairs : Type 0
+Pairs = set.FinSet pair_cmp
+
+-- each text once, in ascending bytes
+abbrev pub ascending : List Bytes → List Bytes
+ascending texts = finmap.keys (finmap.from_entries {R = path_cmp} (map (λ (t : Bytes). (t, tt {0})) texts))
+
+abbrev pub in_order : Names → List Bytes
+in_order names = ascending (set.items names)

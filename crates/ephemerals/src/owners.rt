@@ -1,0 +1,154 @@
+//! For each session the paths of its ephemeral nodes.
+
+ghost use Rattle.std.specs.Prelude.{◌≡◌, ◌&&◌, OnOk, OnErr, IfOk, IfSome, IfNone, IsTrue, not, false, pos, string_bytes, List, ℕ};
+ghost use Rattle.std.specs.Ordering.{int_eq};
+ghost use Rattle.std.specs.FinSet as set;
+ghost use Rattle.ephemerals.specs.Pairs.{owned_too, disowned, replaced, owned_by, without_session};
+
+use crate::text_set::TextSet;
+use jute::NoMemory;
+use std::alloc::Global;
+use std::collections::BTreeMap;
+use std::marker::Model;
+
+/// Which session owns which ephemeral node: a set of pairs of a session and a path. Session 0 owns none.
+#[derive(Drop)]
+pub struct Ephemerals {
+    sets: BTreeMap<i64, TextSet>,
+}
+
+impl Model for Ephemerals {
+    ghost use Rattle.std.specs.Ordering.{int_cmp};
+    ghost use Rattle.std.specs.BTreeMap.{IsOrdered};
+    ghost use Rattle.ephemerals.specs.Orders.{Pairs};
+    ghost use Rattle.ephemerals.specs.PairsView.{pairs_of};
+    ghost use Rattle.std.specs.FinSet as set;
+    ghost use Rattle.std.specs.Coded.{coded_ℕ, coded_list, coded_ℤ, coded×};
+
+    ghost Value = { Pairs };
+
+    ghost coded = { set.code (coded× coded_ℤ (coded_list coded_ℕ)) };
+
+    ghost view = { λ e. pairs_of e.sets.entries };
+
+    ghost invariant = { λ e. IsOrdered int_cmp e.sets };
+}
+
+impl Ephemerals {
+    /// No pair, which takes no memory.
+    pub fn new(alloc: Global) -> Ephemerals
+        ensures { result ≡ set.empty }
+    {
+        Ephemerals {
+            sets: BTreeMap::new(alloc),
+        }
+    }
+
+    /// Whether the session owns the path.
+    pub fn contains(&self, session: i64, path: &str) -> bool
+        ensures { result ≡ set.contains self.now (session, path.now) }
+    {
+        match self.sets.get(&session) {
+            None => false,
+            Some(paths) => paths.contains(path),
+        }
+    }
+
+    // Adds the pair, and says whether it is new.
+    fn insert(&mut self, alloc: Global, session: i64, path: String) -> Result<bool, NoMemory>
+        ensures ok { OnOk result (self.new ≡ set.insert self.old (session, string_bytes path)) }
+        ensures added { IfOk result (λ added. added ≡ not (set.contains self.old (session, string_bytes path))) }
+        ensures err { OnErr result (self.new ≡ self.old) }
+    {
+        match self.sets.get_mut(&session) {
+            Some(paths) => paths.insert(path),
+            None => {
+                let mut paths = TextSet::new(alloc);
+                paths.insert(path)?;
+                self.sets.insert(session, paths)?;
+                Ok(true)
+            }
+        }
+    }
+
+    // Takes the pair out, and says whether the session owns a path yet.
+    fn take(&mut self, session: i64, path: &str) -> bool
+        ensures removed { self.new ≡ set.remove self.old (session, path.now) }
+        ensures emptied { result ≡ false → (p : List ℕ) → set.contains self.new (session, p) ≡ false }
+    {
+        match self.sets.get_mut(&session) {
+            None => return true,
+            Some(paths) => {
+                paths.remove(path);
+                !paths.is_empty()
+            }
+        }
+    }
+
+    // Frees the set of a session that owns no path.
+    fn forget(&mut self, session: i64)
+        requires { (p : List ℕ) → set.contains self.old (session, p) ≡ false }
+        ensures { self.new ≡ self.old }
+    {
+        self.sets.remove(&session);
+    }
+
+    /// Makes the session own the path, and says whether it is new. Session 0 gains nothing.
+    pub fn add(&mut self, alloc: Global, session: i64, path: &str) -> Result<bool, NoMemory>
+        ensures ok { OnOk result (self.new ≡ owned_too self.old session path.now) }
+        ensures added { IfOk result (λ added. added ≡ (not (int_eq session (pos 0)) && not (set.contains self.old (session, path.now)))) }
+        ensures err { OnErr result (self.new ≡ self.old) }
+    {
+        if session == 0 {
+            return Ok(false);
+        }
+        self.insert(alloc, session, String::from_str(alloc, path)?)
+    }
+
+    /// Makes the session own the path no more. Session 0 loses nothing.
+    pub fn remove(&mut self, session: i64, path: &str)
+        ensures { self.new ≡ disowned self.old session path.now }
+    {
+        if session == 0 {
+            return;
+        }
+        if !self.take(session, path) {
+            self.forget(session);
+        }
+    }
+
+    /// The path goes from the old session to the new one. Session 0 loses and gains nothing.
+    pub fn replace(&mut self, alloc: Global, path: &str, old: i64, new: i64) -> Result<(), NoMemory>
+        ensures ok { OnOk result (self.new ≡ replaced self.old path.now old new) }
+        ensures err { OnErr result (self.new ≡ self.old) }
+    {
+        self.add(alloc, new, path)?;
+        if old == new {
+            return Ok(());
+        }
+        self.remove(old, path);
+        Ok(())
+    }
+
+    /// The paths of a session, in ascending bytes, if it owns one.
+    pub fn of(&self, session: i64) -> Option<&TextSet>
+        ensures paths { IfSome result (λ paths. paths.now ≡ owned_by session self.now) }
+        ensures none { IfNone result (owned_by session self.now ≡ set.empty) }
+    {
+        match self.sets.get(&session) {
+            None => return None,
+            Some(paths) => Some(paths),
+        }
+    }
+
+    /// Takes out all paths of a session, which takes no memory.
+    pub fn take_session(&mut self, alloc: Global, session: i64) -> TextSet
+        ensures paths { result ≡ owned_by session self.old }
+        ensures rest { self.new ≡ without_session session self.old }
+    {
+        match self.sets.remove(&session) {
+            None => return TextSet::new(alloc),
+            Some(paths) => paths,
+        }
+    }
+}

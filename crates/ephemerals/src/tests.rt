@@ -1,0 +1,40 @@
+use super::{Ephemerals, TextSet};
+use std::test::Fail;
+
+#[test]
+fn texts_come_in_ascending_bytes(rt: HostRuntime) -> Result<(), Fail> {
+    let alloc = rt.alloc();
+    let mut texts = TextSet::new(alloc);
+    assert!(rt; texts.is_empty());
+    for text in ["b", "a/c", "a", "b"] {
+        texts.insert(String::from_str(alloc, text)?)?;
+    }
+    assert_eq!(rt; texts.len(), 3);
+    assert!(rt; texts.remove("b") && !texts.contains("b") && texts.contains("a"));
+    for want in ["a", "a/c"] {
+        let text = texts.pop_first().ok_or("no text")?;
+        assert_eq!(rt; text.as_str(), want);
+    }
+    assert!(rt; texts.pop_first().is_none());
+    Ok(())
+}
+
+#[test]
+fn a_path_goes_from_session_to_session(rt: HostRuntime) -> Result<(), Fail> {
+    let alloc = rt.alloc();
+    let mut owners = Ephemerals::new(alloc);
+    owners.replace(alloc, "/a", 0, 9)?;
+    owners.replace(alloc, "/b", 0, 9)?;
+    owners.replace(alloc, "/a", 9, 7)?;
+    owners.replace(alloc, "/c", 0, 0)?;
+    assert!(rt; owners.contains(7, "/a") && !owners.contains(9, "/a") && !owners.contains(0, "/c"));
+    let paths = owners.of(9).ok_or("no path")?;
+    assert_eq!(rt; paths.len(), 1);
+    assert!(rt; owners.add(alloc, 9, "/d")? && !owners.add(alloc, 9, "/d")?);
+    owners.remove(7, "/a");
+    assert!(rt; owners.of(7).is_none());
+    let taken = owners.take_session(alloc, 9);
+    assert_eq!(rt; taken.len(), 2);
+    assert!(rt; owners.of(9).is_none());
+    Ok(())
+}

@@ -1,0 +1,87 @@
+//! Ordered sets of texts.
+
+ghost use Rattle.std.specs.Prelude.{◌≡◌, ◌∷◌, [], ◌↔◌, OnOk, OnErr, IfOk, IfSome, IfNone, IsTrue, not, string_bytes, false};
+ghost use Rattle.std.specs.FinSet as set;
+ghost use Rattle.ephemerals.specs.Orders.{in_order};
+
+use jute::NoMemory;
+use std::alloc::Global;
+use std::collections::BTreeSet;
+use std::marker::Model;
+
+/// A set of texts, in ascending bytes.
+#[derive(Drop)]
+pub struct TextSet {
+    texts: BTreeSet<String>,
+}
+
+impl Model for TextSet {
+    ghost use Rattle.ephemerals.specs.Orders.{Names};
+    ghost use Rattle.ephemerals.specs.NamesView.{names_of};
+    ghost use Rattle.std.specs.FinSet as set;
+    ghost use Rattle.std.specs.Coded.{coded_ℕ, coded_list};
+
+    ghost Value = { Names };
+
+    ghost coded = { set.code (coded_list coded_ℕ) };
+
+    ghost view = { λ s. names_of s.texts.keys };
+}
+
+impl TextSet {
+    /// An empty set, which takes no memory.
+    pub fn new(alloc: Global) -> TextSet
+        ensures { result ≡ set.empty }
+    {
+        TextSet {
+            texts: BTreeSet::new(alloc),
+        }
+    }
+
+    /// How many texts there are.
+    pub fn len(&self) -> usize
+        ensures { result ≡ set.len self.now }
+    {
+        self.texts.len()
+    }
+
+    /// Whether there is no text.
+    pub fn is_empty(&self) -> bool
+        ensures { IsTrue result ↔ (self.now ≡ set.empty) }
+    {
+        self.len() == 0
+    }
+
+    /// Whether the text is there.
+    pub fn contains(&self, text: &str) -> bool
+        ensures { result ≡ set.contains self.now text.now }
+    {
+        self.texts.contains(text)
+    }
+
+    /// Adds a text, and says whether it is new. Only a new text can be refused.
+    pub fn insert(&mut self, text: String) -> Result<bool, NoMemory>
+        ensures ok { OnOk result (self.new ≡ set.insert self.old (string_bytes text)) }
+        ensures added { IfOk result (λ added. added ≡ not (set.contains self.old (string_bytes text))) }
+        ensures err { OnErr result (self.new ≡ self.old) }
+        ensures absent { OnErr result (set.contains self.old (string_bytes text) ≡ false) }
+    {
+        Ok(self.texts.insert(text)?)
+    }
+
+    /// Takes a text out, and says whether it was there.
+    pub fn remove(&mut self, text: &str) -> bool
+        ensures removed { self.new ≡ set.remove self.old text.now }
+        ensures was { result ≡ set.contains self.old text.now }
+    {
+        self.texts.remove(text)
+    }
+
+    /// Takes out the first text in ascending bytes.
+    pub fn pop_first(&mut self) -> Option<String>
+        ensures first { IfSome result (λ text. in_order self.old ≡ string_bytes text ∷ in_order self.new) }
+        ensures none { IfNone result (in_order self.old ≡ []) }
+    {
+        self.texts.pop_first()
+    }
+}
