@@ -77,3 +77,6 @@ impl ByteQueue {
         }
     }
 }
+
+#[cfg(test)]
+mod tests;

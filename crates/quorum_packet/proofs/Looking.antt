@@ -58,10 +58,10 @@ module _ {A B : Type 0} (f : Format A) (to : A × A → B) (from : B → A × A)
       elim (bind_err (f.read rest) (λ (w : A × List ℕ). halves (2 * n) w.1 >>= λ (ws : List A × List ℕ). Ok (w.0 ∷ ws.0, ws.1)) e k) [
         | inl refused ↦ rw (h, refused) refl
         | inr read ↦
-          elim (bind_err (halves (2 * n) read.0.1) (λ (ws : List A × List ℕ). Ok (read.0.0 ∷ ws.0, ws.1)) e read.2) [
-            | inl refused ↦ rw (h, read.1, others read.0.1 refused) refl
-            | inr wrong ↦ absurd (done_not (read.0.0 ∷ wrong.0.0, wrong.0.1) e wrong.2)
-          ]
+            elim (bind_err (halves (2 * n) read.0.1) (λ (ws : List A × List ℕ). Ok (read.0.0 ∷ ws.0, ws.1)) e read.2) [
+              | inl refused ↦ rw (h, read.1, others read.0.1 refused) refl
+              | inr wrong ↦ absurd (done_not (read.0.0 ∷ wrong.0.0, wrong.0.1) e wrong.2)
+            ]
       ]
 
   first_refused : (n : ℕ) (bytes : List ℕ) (e : Fault) → ((b : List ℕ) → halves (2 * n) b ≡ Err e → pairs n b ≡ Err e)
@@ -71,10 +71,10 @@ module _ {A B : Type 0} (f : Format A) (to : A × A → B) (from : B → A × A)
       elim (bind_err (f.read bytes) (λ (v : A × List ℕ). halves (suc (2 * n)) v.1 >>= λ (vs : List A × List ℕ). Ok (v.0 ∷ vs.0, vs.1)) e h) [
         | inl refused ↦ rw refused refl
         | inr read ↦
-          elim (bind_err (halves (suc (2 * n)) read.0.1) (λ (vs : List A × List ℕ). Ok (read.0.0 ∷ vs.0, vs.1)) e read.2) [
-            | inl refused ↦ second_refused n bytes read.0.1 read.0.0 e read.1 others refused
-            | inr wrong ↦ absurd (done_not (read.0.0 ∷ wrong.0.0, wrong.0.1) e wrong.2)
-          ]
+            elim (bind_err (halves (suc (2 * n)) read.0.1) (λ (vs : List A × List ℕ). Ok (read.0.0 ∷ vs.0, vs.1)) e read.2) [
+              | inl refused ↦ second_refused n bytes read.0.1 read.0.0 e read.1 others refused
+              | inr wrong ↦ absurd (done_not (read.0.0 ∷ wrong.0.0, wrong.0.1) e wrong.2)
+            ]
       ]
 
   pub pairs_refused : (n : ℕ) (bytes : List ℕ) (e : Fault) → halves (2 * n) bytes ≡ Err e → pairs n bytes ≡ Err e
@@ -137,11 +137,13 @@ fields_unseen bytes b1 b2 b3 b4 kind zxid carried ids fits h1 h2 h3 h4 =
     let p2 = joined_fronts bytes t1.text b1 t2.text b2 t1.parts t2.parts in
     let p3 = joined_fronts bytes (t1.text ++ t2.text) b2 t3.text b3 p2 t3.parts in
     let p4 = joined_fronts bytes ((t1.text ++ t2.text) ++ t3.text) b3 t4.text b4 p3 t4.parts in
-    let text = ((t1.text ++ t2.text) ++ t3.text) ++ t4.text in
-    (shorter bytes text b4 p4, record {
-      within = omega arith;
-      refuses = λ more e k. fields_refused bytes b1 b2 b3 b4 more kind zxid carried ids e h1 h2 h3 h4 (rw (drop_more bytes text b4 more p4) at k);
-    })
+    let text = ((t1.text ++ t2.text) ++ t3.text) ++ t4.text in (
+      shorter bytes text b4 p4,
+      record {
+        within = omega arith;
+        refuses = λ more e k. fields_refused bytes b1 b2 b3 b4 more kind zxid carried ids e h1 h2 h3 h4 (rw (drop_more bytes text b4 more p4) at k);
+      },
+    )
 
 -- the texts of which the first stands at the front of the rest
 module _ (bytes ahead : List ℕ) (unseen : Unseen) (u : IsUnseen bytes unseen) (some : 0 < unseen.texts) (is : ahead ≡ drop unseen.start bytes) where
@@ -162,11 +164,14 @@ module _ (bytes ahead : List ℕ) (unseen : Unseen) (u : IsUnseen bytes unseen) 
       let t = name_lawful.takes ahead v rest (subst IsBytes (sym is) (IsBytes-drop unseen.start bytes fits)) h in
       let front : bytes ≡ take unseen.start bytes ++ ahead = sym (take-append-drop unseen.start bytes) ∙ ap (λ (b : List ℕ). take unseen.start bytes ++ b) (sym is) in
       let whole = joined_fronts bytes (take unseen.start bytes) ahead t.text rest front t.parts in
-      let text = take unseen.start bytes ++ t.text in
-      (shorter bytes text rest whole, record {
-        within = omega arith;
-        refuses = λ more e k. at_texts more e (times_next name name_pieced (unseen.texts - 1) ahead rest more v e h (rw (drop_more bytes text rest more whole) at k));
-      }, sym (drop_front_of bytes text rest whole))
+      let text = take unseen.start bytes ++ t.text in (
+        shorter bytes text rest whole,
+        record {
+          within = omega arith;
+          refuses = λ more e k. at_texts more e (times_next name name_pieced (unseen.texts - 1) ahead rest more v e h (rw (drop_more bytes text rest more whole) at k));
+        },
+        sym (drop_front_of bytes text rest whole),
+      )
 
 -- a piece behind them
 unseen_more : (bytes piece : List ℕ) (unseen : Option Unseen) → MayBeUnseen bytes unseen → MayBeUnseen (bytes ++ piece) unseen

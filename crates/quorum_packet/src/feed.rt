@@ -1,8 +1,9 @@
 //! The stream of packets, in whatever pieces it comes.
 
-ghost use Rattle.std.specs.Prelude.{◌≡◌, [], Ok, Err, false, is_err, OnOk, OnErr};
+ghost use Rattle.std.specs.Prelude.{◌≡◌, [], Ok, Err, false, is_err, IsNone, IfOk, IfSome, OnOk, OnErr};
 ghost use Rattle.jute.specs.Stream.{add, place_at};
 ghost use Rattle.quorum_packet.specs.Feed.{First, ReadsFront, Refuses, end_of};
+ghost use Rattle.quorum_packet.specs.Packet.{IsWritable};
 ghost use Rattle.quorum_packet.specs.Packets.{phase_behind};
 ghost use Rattle.quorum_packet.specs.Kinds.{kind_of};
 ghost use Rattle.quorum_packet.specs.declared.phase.Phase.TheVariants.{Packets};
@@ -87,7 +88,8 @@ impl PacketFeed {
     /// The first packet, or `None` where none is whole. After a fault it answers that fault from then on, and behind a SNAP packet
     /// `None` whatever comes. Refused memory leaves the feed as it was.
     pub fn next(&mut self, alloc: Global) -> Result<Option<QuorumPacket>, ReadError>
-        ensures { First result self.old self.new }
+        ensures first { First result self.old self.new }
+        ensures writable { IfOk result (λ found. IfSome found IsWritable) }
     {
         if let Some(fault) = self.fault {
             return Err(ReadError::Fault(fault));
@@ -106,7 +108,8 @@ impl PacketFeed {
     fn next_packet(&mut self, alloc: Global) -> Result<Option<QuorumPacket>, ReadError>
         requires packets { self.old.phase ≡ Packets }
         requires fine { is_err self.old.unread ≡ false }
-        ensures { First result self.old self.new }
+        ensures first { First result self.old self.new }
+        ensures writable { IfOk result (λ found. IfSome found IsWritable) }
     {
         if let Err(fault) = look(self.waiting.as_slice(), &mut self.unseen) {
             return self.refuse(fault);
@@ -127,7 +130,8 @@ impl PacketFeed {
     fn refuse(&mut self, fault: Fault) -> Result<Option<QuorumPacket>, ReadError>
         requires packets { self.old.phase ≡ Packets }
         requires refused { Refuses self.old fault }
-        ensures { First result self.old self.new }
+        ensures first { First result self.old self.new }
+        ensures none { IfOk result IsNone }
     {
         match fault {
             Fault::Short => Ok(None),

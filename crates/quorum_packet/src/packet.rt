@@ -1,9 +1,10 @@
 //! One packet.
 
-ghost use Rattle.std.specs.Prelude.{◌≡◌, ◌++◌, OnOk};
+ghost use Rattle.std.specs.Prelude.{◌≡◌, ◌++◌, OnOk, OnErr};
 ghost use Rattle.jute.specs.Format.{buffer, vector};
 ghost use Rattle.jute.specs.Owned.{id};
 ghost use Rattle.jute.specs.Reads.{Gives};
+ghost use Rattle.jute.specs.Writes.{IsFront};
 ghost use Rattle.quorum_packet.specs.Packet.{packet as packet_format, IsWritable as IsWritablePacket, IsWritableBytes, IsWritableIds};
 
 use jute::{
@@ -59,7 +60,8 @@ impl<'a> ReadRecord<'a> for QuorumPacket {
 
 fn put_blob(blob: &Option<Blob>, out: &mut Vec<u8>) -> Result<(), NoMemory>
     requires { IsWritableBytes blob.now }
-    ensures { OnOk result (out.new.items ≡ out.old.items ++ buffer.written blob.now) }
+    ensures ok { OnOk result (out.new.items ≡ out.old.items ++ buffer.written blob.now) }
+    ensures err { OnErr result (IsFront out.old.items out.new.items) }
 {
     match blob {
         None => put_int(out, -1),
@@ -69,7 +71,8 @@ fn put_blob(blob: &Option<Blob>, out: &mut Vec<u8>) -> Result<(), NoMemory>
 
 fn put_ids(ids: &Option<Listed<Id>>, out: &mut Vec<u8>) -> Result<(), NoMemory>
     requires { IsWritableIds ids.now }
-    ensures { OnOk result (out.new.items ≡ out.old.items ++ (vector id).written ids.now) }
+    ensures ok { OnOk result (out.new.items ≡ out.old.items ++ (vector id).written ids.now) }
+    ensures err { OnErr result (IsFront out.old.items out.new.items) }
 {
     match ids {
         None => put_int(out, -1),
@@ -77,11 +80,12 @@ fn put_ids(ids: &Option<Listed<Id>>, out: &mut Vec<u8>) -> Result<(), NoMemory>
     }
 }
 
-/// Writes the packet behind what stands there.
+/// Writes the packet behind what stands there. Where memory is refused, some of its bytes may stand behind the old ones.
 #[tactic(auto, unfolding(crate::specs::Packet::packet))]
 pub fn write_packet(packet: &QuorumPacket, out: &mut Vec<u8>) -> Result<(), NoMemory>
     requires { IsWritablePacket packet.now }
-    ensures { OnOk result (out.new.items ≡ out.old.items ++ packet_format.written packet.now) }
+    ensures ok { OnOk result (out.new.items ≡ out.old.items ++ packet_format.written packet.now) }
+    ensures err { OnErr result (IsFront out.old.items out.new.items) }
 {
     put_int(out, packet.kind)?;
     put_long(out, packet.zxid)?;

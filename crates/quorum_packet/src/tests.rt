@@ -1,6 +1,5 @@
 use super::*;
-use jute::{Blob, Fault, Id, Listed, ReadError, Text};
-use std::alloc::Global;
+use jute::{Blob, Fault, ReadError};
 use std::test::Fail;
 
 /// An INFORM that creates /a with the data "hi".
@@ -34,19 +33,20 @@ fn outline(packet: &QuorumPacket) -> (i32, i64, Option<usize>) {
 #[test]
 fn packets_come_at_their_last_byte(rt: HostRuntime) -> Result<(), Fail> {
     let mut feed = PacketFeed::new(rt.alloc());
-    let mut found = Vec::new(rt.alloc());
-    for (i, byte) in INFORM.iter().chain(UP_TO_DATE.iter()).enumerate() {
-        feed.feed(&[*byte])?;
-        let between = i + 1 == INFORM.len() || i + 1 == INFORM.len() + UP_TO_DATE.len();
-        while let Some(packet) = feed.next(rt.alloc())? {
-            assert!(rt; between);
-            found.push(outline(&packet))?;
+    let mut outlines = Vec::new(rt.alloc());
+    for bytes in [INFORM.as_slice(), PING.as_slice()] {
+        for (i, byte) in bytes.iter().enumerate() {
+            feed.feed(&[*byte])?;
+            let found = feed.next(rt.alloc())?;
+            assert_eq!(rt; found.is_some(), i + 1 == bytes.len());
+            assert_eq!(rt; feed.end().is_ok(), i + 1 == bytes.len());
+            if let Some(packet) = found {
+                outlines.push(outline(&packet))?;
+            }
         }
-        let end = if between { Ok(()) } else { Err(Fault::Short) };
-        assert!(rt; feed.end() == end);
     }
-    let expected = [(8, 0x1_0000_0001, Some(76)), (12, 0x1_0000_0000, None)];
-    assert!(rt; found.as_slice() == expected.as_slice());
+    let expected = [(8, 0x1_0000_0001, Some(76)), (5, 0x1_0000_0002, None)];
+    assert!(rt; outlines.as_slice() == expected.as_slice());
     assert!(rt; !feed.is_faulty());
     Ok(())
 }
@@ -94,10 +94,6 @@ fn stream_is_ended(rt: HostRuntime) -> Result<(), Fail> {
     Ok(())
 }
 
-fn text(alloc: Global, text: &str) -> Result<Text, Fail> {
-    Ok(Text::new(alloc, text)?)
-}
-
 #[test]
 fn packet_is_read_and_written(rt: HostRuntime) -> Result<(), Fail> {
     let mut feed = PacketFeed::new(rt.alloc());
@@ -109,19 +105,6 @@ fn packet_is_read_and_written(rt: HostRuntime) -> Result<(), Fail> {
         write_packet(&packet, &mut out)?;
     }
     assert!(rt; out.as_slice() == PING_WRITTEN.as_slice());
-    let id = Id {
-        scheme: text(rt.alloc(), "")?,
-        id: text(rt.alloc(), "bob:pwd")?,
-    };
-    let ping = QuorumPacket {
-        kind: PacketKind::Ping.code(),
-        zxid: 0x1_0000_0002,
-        bytes: None,
-        authinfo: Some(Listed::from_vec(vec![in rt.alloc(); id]?)),
-    };
-    out.clear();
-    write_packet(&ping, &mut out)?;
-    assert!(rt; out.as_slice() == PING_WRITTEN.as_slice());
     out.clear();
     let ack = QuorumPacket {
         kind: 18,
@@ -130,7 +113,8 @@ fn packet_is_read_and_written(rt: HostRuntime) -> Result<(), Fail> {
         authinfo: None,
     };
     write_packet(&ack, &mut out)?;
-    let expected = b"\x00\x00\x00\x12\x00\x00\x00\x00\x00\x00\x00\x00\x00\x00\x00\x04\xff\xff\xff\xff\xff\xff\xff\xff";
+    let expected =
+        b"\x00\x00\x00\x12\x00\x00\x00\x00\x00\x00\x00\x00\x00\x00\x00\x04\xff\xff\xff\xff\xff\xff\xff\xff";
     assert!(rt; out.as_slice() == expected.as_slice());
     Ok(())
 }
