@@ -2,4 +2,3 @@ pub mod Replies
 pub mod Streams
 pub mod Playing
 pub mod Meeting
-pub mod Rows

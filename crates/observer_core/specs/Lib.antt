@@ -2,4 +2,3 @@ pub mod Config
 pub mod Answer
 pub mod Play
 pub mod Meets
-pub mod Rows
