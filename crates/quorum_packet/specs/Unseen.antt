@@ -15,3 +15,8 @@ pub record IsUnseen (bytes : List ℕ) (unseen : Unseen) : Type 0 where
 abbrev pub MayBeUnseen : List ℕ → Option Unseen → Type 0
 MayBeUnseen bytes None = Unit {0}
 MayBeUnseen bytes (Some unseen) = IsUnseen bytes unseen
+
+-- all the packet was looked at
+abbrev pub AllSeen : Option Unseen → Type 0
+AllSeen None = ⊥
+AllSeen (Some unseen) = unseen.texts ≡ 0
