@@ -8,6 +8,8 @@ mod node_map;
 mod outcome;
 mod sessions;
 mod split;
+#[cfg(test)]
+mod tests;
 mod tree;
 
 pub use node::{Node, StatPersisted};
