@@ -1,16 +1,15 @@
 -- The formats of the fields are lawful.
-use Rattle.std.proofs.Common.{◌≡◌, ℕ, zero, suc, ◌+◌, ◌-◌, ◌*◌, ◌^◌, ◌<◌, ◌≤◌, Bool, true, false, not, cond, ltb, leb, eqb, List, [], ◌∷◌, ◌++◌, length, get_or, take, drop, Option, Some, None, Result, Ok, Err, refl, sym, ap, subst, ◌∙◌, append_assoc, arith, inl, inr}
-use Rattle.std.specs.Prelude.{ℤ, pos, negsuc, FitsSigned, nat_le, IsUtf8}
-use Rattle.std.specs.Int.{Width, w32, w64, byte_len}
+use Rattle.std.proofs.Common.{◌≡◌, ℕ, zero, suc, ◌^◌, ◌<◌, ◌≤◌, Bool, true, false, not, cond, ltb, leb, eqb, List, [], ◌∷◌, ◌++◌, length, take, drop, Option, Some, None, Ok, Err, refl, sym, ap, subst, ◌∙◌, append_assoc, arith, inl, inr}
+use Rattle.std.specs.Prelude.{ℤ, pos, negsuc}
+use Rattle.std.specs.Int.{w32}
 use Rattle.std.specs.List.{flat_map, AllByRecursion}
 use Rattle.std.specs.Str.{is_utf8}
 use Rattle.std.proofs.lemmas.Bool.{ltb-false, le-ltb, leb-true, le-leb}
 use Rattle.std.proofs.lemmas.List.{take_at, drop_at, take-append-drop, length-append, length-take}
 use Rattle.std.proofs.lemmas.List.Concat.{flat_map-cons}
 use Rattle.std.proofs.lemmas.Str.{IsUtf8-from_is_utf8, is_utf8-from_IsUtf8}
-use Rattle.jute.specs.declared.fault.Fault.{Fault}
 use Rattle.jute.specs.declared.fault.Fault.TheVariants.{Short, BadLength, BadText}
-use Rattle.jute.specs.Format.{◌>>=◌, Format, number_bytes, int, null, counted, boolean, boolean_at, length_of, length_at, taken, buffer, buffer_at, buffer_limit, count_limit, SpellsBuffer, FitsBuffer, buffer_bytes, text, text_at, text_of, IsText, name, or_empty, SpellsName, times, items_at, vector, vector_at, SpellsEach, SpellsVector, FitsVector, vector_bytes}
+use Rattle.jute.specs.Format.{◌>>=◌, Format, number_bytes, int, null, boolean, boolean_at, length_of, length_at, taken, buffer, buffer_at, buffer_limit, count_limit, SpellsBuffer, FitsBuffer, buffer_bytes, text, text_at, text_of, IsText, name, or_empty, SpellsName, times, items_at, vector, vector_at, SpellsEach, SpellsVector, FitsVector, vector_bytes}
 use Rattle.jute.specs.Laws.{IsBytes, Takes, Lawful}
 use Rattle.jute.proofs.Lawfulness.{IsBytes-drop, bind_ok, guard_ok, ok_is, int_lawful}
 

@@ -1,7 +1,7 @@
 -- A refusal names the first field against the spelling: for each format, where its parts do so.
-use Rattle.std.proofs.Common.{◌≡◌, ℕ, zero, suc, ◌+◌, ◌<◌, ◌≤◌, Bool, true, false, not, cond, ltb, leb, eqb, List, [], ◌∷◌, ◌++◌, length, take, drop, Option, Some, None, Result, Ok, Err, refl, sym, ap, subst, ◌∙◌, append_assoc, arith, ◌⊎◌, inl, inr}
+use Rattle.std.proofs.Common.{◌≡◌, ℕ, zero, suc, ◌<◌, ◌≤◌, Bool, true, false, not, cond, ltb, leb, eqb, List, [], ◌∷◌, ◌++◌, length, take, drop, Option, Some, None, Result, Ok, Err, refl, sym, ap, ◌∙◌, append_assoc, arith, ◌⊎◌, inl, inr}
 use Rattle.std.specs.Prelude.{ℤ, pos, negsuc, ◌<ℤ◌, IsUtf8}
-use Rattle.std.specs.Int.{Width, w32, w64, byte_len, cast_signed}
+use Rattle.std.specs.Int.{Width, w32, byte_len, cast_signed}
 use Rattle.std.specs.Str.{is_utf8}
 use Rattle.std.proofs.lemmas.Int.{ints}
 use Rattle.std.proofs.lemmas.Bool.{ltb-true, leb-false}
@@ -9,12 +9,11 @@ use Rattle.std.proofs.lemmas.Str.{is_utf8-from_IsUtf8}
 use Rattle.byteorder.specs.Endian.{big_number}
 use Rattle.jute.specs.declared.fault.Fault.{Fault}
 use Rattle.jute.specs.declared.fault.Fault.TheVariants.{Short, BadLength, BadText}
-use Rattle.jute.specs.Format.{◌>>=◌, Format, number, int, boolean, boolean_at, length_of, length_at, taken, buffer, buffer_at, buffer_limit, count_limit, text, text_at, text_of, name, or_empty, times, items_at, vector, vector_at, SpellsEach, both, mapped, number_bytes}
-use Rattle.jute.specs.Frame.{frame, frame_at, frame_length, front_of}
+use Rattle.jute.specs.Format.{◌>>=◌, Format, number, int, boolean, boolean_at, length_of, length_at, taken, buffer, buffer_at, buffer_limit, count_limit, text, text_at, text_of, name, or_empty, times, items_at, vector, vector_at, both, mapped}
 use Rattle.jute.specs.Laws.{IsBytes, Lawful}
-use Rattle.jute.specs.Refusals.{Against, Named, Behind, number_against, boolean_against, length_against, buffer_against, text_against, both_against, ItemRefused, vector_against, frame_against}
+use Rattle.jute.specs.Refusals.{Against, Named, number_against, boolean_against, length_against, buffer_against, text_against, both_against, ItemRefused, vector_against}
 use Rattle.jute.proofs.Lawfulness.{int_lawful}
-use Rattle.jute.proofs.Fields.{SpellsLength, length_takes, buffer_lawful, text_lawful}
+use Rattle.jute.proofs.Fields.{SpellsLength, length_takes, buffer_lawful}
 
 pub guard_err : {A F : Type 0} (b : Bool) (d e : F) (x : A) → cond b (Err d) (Ok x) ≡ Err e → (b ≡ true) × (d ≡ e)
 guard_err true d e x h = (refl, cc)

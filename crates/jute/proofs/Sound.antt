@@ -1,5 +1,5 @@
 -- All the laws of a format at once, each format from its parts.
-use Rattle.std.proofs.Common.{◌≡◌, ℕ, List, Option, Some}
+use Rattle.std.proofs.Common.{◌≡◌}
 use Rattle.std.specs.Int.{w32, w64}
 use Rattle.jute.specs.Format.{Format, int, long, boolean, buffer, text, name, vector, both, mapped}
 use Rattle.jute.specs.Laws.{Lawful}

@@ -1,5 +1,5 @@
 -- Fields that are written one behind another.
-use Rattle.std.proofs.Common.{◌≡◌, ℕ, List, [], ◌++◌, Result, Ok, Err, ◌∙◌, refl, sym, ap, subst, append_assoc}
+use Rattle.std.proofs.Common.{◌≡◌, ℕ, List, [], ◌++◌, Result, Ok, Err, ◌∙◌, sym, ap, subst, append_assoc}
 use Rattle.std.specs.Prelude.{ℤ, OnOk, OnErr, FitsSigned}
 use Rattle.std.specs.Int.{Width}
 use Rattle.std.proofs.lemmas.Int.{to_z-of_z}

@@ -1,13 +1,11 @@
 -- Which field a refusal names: those before it are spelled, and no bytes at its place spell it. For each format
 -- this says which fault it is, and what is then against the spelling.
-use Rattle.std.specs.Prelude.{◌≡◌, ◌<◌, ◌≤◌, ◌<ℤ◌, ◌⊎◌, ℕ, ℤ, pos, negsuc, List, [], ◌++◌, length, Some, Err, IsUtf8}
+use Rattle.std.specs.Prelude.{◌≡◌, ◌<◌, ◌≤◌, ◌<ℤ◌, ◌⊎◌, ℕ, pos, negsuc, List, [], ◌++◌, length, Some, Err, IsUtf8}
 use Rattle.std.specs.Int.{Width, w32, w64, byte_len}
 use Rattle.jute.specs.declared.fault.Fault.{Fault}
 use Rattle.jute.specs.declared.fault.Fault.TheVariants.{Short, BadLength, BadText}
-use Rattle.jute.specs.Format.{Format, int, long, boolean, buffer, text, name, buffer_limit, count_limit, SpellsEach, both}
+use Rattle.jute.specs.Format.{Format, int, long, buffer, text, name, buffer_limit, count_limit, SpellsEach}
 use Rattle.jute.specs.Laws.{IsBytes}
-use Rattle.jute.specs.Owned.{id}
-use Rattle.jute.specs.Records.{stat}
 
 -- the fault, and the bytes that are refused for it
 abbrev pub Against : Type 1

@@ -1,6 +1,7 @@
 //! The fields and records of Jute.
 #![tactic(auto)]
 
+mod byte_queue;
 mod fault;
 mod frame;
 mod law;
@@ -15,6 +16,7 @@ mod tests;
 mod value;
 mod writer;
 
+pub use byte_queue::ByteQueue;
 pub use fault::{Fault, NoMemory, ReadError};
 pub use frame::read_frame;
 pub use law::{formats, pieces, refused, waits};

@@ -1,8 +1,9 @@
 //! Writing transactions.
 
-ghost use Rattle.std.specs.Prelude.{◌≡◌, ◌<◌, ◌^◌, ◌++◌, length, OnOk};
+ghost use Rattle.std.specs.Prelude.{◌≡◌, ◌<◌, ◌^◌, ◌++◌, length, OnOk, OnErr};
 ghost use Rattle.jute.specs.Format.{int, vector, buffer};
 ghost use Rattle.jute.specs.Owned.{acl};
+ghost use Rattle.jute.specs.Writes.{IsFront};
 ghost use Rattle.txn_codec.specs.Spelling.{header as header_format, create_with, set_data as set_data_format, set_acl as set_acl_format, check as check_format, operation_bytes, part_bytes, content_bytes, txn as txn_format};
 ghost use Rattle.txn_codec.specs.Writable.{IsWritableBuffer, IsWritableAcls, IsWritableCreate, IsWritableSetData, IsWritableSetAcl, IsWritableOperation, IsWritablePart, IsWritableBody};
 
@@ -13,18 +14,19 @@ use jute::{
 };
 
 fn put_header(out: &mut Vec<u8>, header: &TxnHeader) -> Result<(), NoMemory>
-    ensures { OnOk result (out.new.items ≡ out.old.items ++ header_format.written header.now) }
+    ensures ok { OnOk result (out.new.items ≡ out.old.items ++ header_format.written header.now) }
+    ensures err { OnErr result (IsFront out.old.items out.new.items) }
 {
     put_long(out, header.client_id)?;
     put_int(out, header.cxid)?;
     put_long(out, header.zxid)?;
-    put_long(out, header.time)?;
-    Ok(())
+    put_long(out, header.time)
 }
 
 fn put_blob(out: &mut Vec<u8>, bytes: &Option<Blob>) -> Result<(), NoMemory>
     requires { IsWritableBuffer bytes.now }
-    ensures { OnOk result (out.new.items ≡ out.old.items ++ buffer.written bytes.now) }
+    ensures ok { OnOk result (out.new.items ≡ out.old.items ++ buffer.written bytes.now) }
+    ensures err { OnErr result (IsFront out.old.items out.new.items) }
 {
     match bytes {
         None => put_int(out, -1),
@@ -34,7 +36,8 @@ fn put_blob(out: &mut Vec<u8>, bytes: &Option<Blob>) -> Result<(), NoMemory>
 
 fn put_acls(out: &mut Vec<u8>, acls: &Option<Listed<Acl>>) -> Result<(), NoMemory>
     requires { IsWritableAcls acls.now }
-    ensures { OnOk result (out.new.items ≡ out.old.items ++ (vector acl).written acls.now) }
+    ensures ok { OnOk result (out.new.items ≡ out.old.items ++ (vector acl).written acls.now) }
+    ensures err { OnErr result (IsFront out.old.items out.new.items) }
 {
     match acls {
         None => put_int(out, -1),
@@ -44,7 +47,8 @@ fn put_acls(out: &mut Vec<u8>, acls: &Option<Listed<Acl>>) -> Result<(), NoMemor
 
 fn put_create(out: &mut Vec<u8>, create: &Create) -> Result<(), NoMemory>
     requires { IsWritableCreate create.now }
-    ensures { OnOk result (out.new.items ≡ out.old.items ++ (create_with int).written create.now) }
+    ensures ok { OnOk result (out.new.items ≡ out.old.items ++ (create_with int).written create.now) }
+    ensures err { OnErr result (IsFront out.old.items out.new.items) }
 {
     put_string(out, create.path.as_str())?;
     put_blob(out, &create.bytes)?;
@@ -55,7 +59,8 @@ fn put_create(out: &mut Vec<u8>, create: &Create) -> Result<(), NoMemory>
 
 fn put_set_data(out: &mut Vec<u8>, set_data: &SetData) -> Result<(), NoMemory>
     requires { IsWritableSetData set_data.now }
-    ensures { OnOk result (out.new.items ≡ out.old.items ++ set_data_format.written set_data.now) }
+    ensures ok { OnOk result (out.new.items ≡ out.old.items ++ set_data_format.written set_data.now) }
+    ensures err { OnErr result (IsFront out.old.items out.new.items) }
 {
     put_string(out, set_data.path.as_str())?;
     put_blob(out, &set_data.bytes)?;
@@ -64,7 +69,8 @@ fn put_set_data(out: &mut Vec<u8>, set_data: &SetData) -> Result<(), NoMemory>
 
 fn put_set_acl(out: &mut Vec<u8>, set_acl: &SetAcl) -> Result<(), NoMemory>
     requires { IsWritableSetAcl set_acl.now }
-    ensures { OnOk result (out.new.items ≡ out.old.items ++ set_acl_format.written set_acl.now) }
+    ensures ok { OnOk result (out.new.items ≡ out.old.items ++ set_acl_format.written set_acl.now) }
+    ensures err { OnErr result (IsFront out.old.items out.new.items) }
 {
     put_string(out, set_acl.path.as_str())?;
     put_acls(out, &set_acl.acl)?;
@@ -73,7 +79,8 @@ fn put_set_acl(out: &mut Vec<u8>, set_acl: &SetAcl) -> Result<(), NoMemory>
 
 fn put_check(out: &mut Vec<u8>, check: &Check) -> Result<(), NoMemory>
     requires { length check.now.path < 2 ^ 31 }
-    ensures { OnOk result (out.new.items ≡ out.old.items ++ check_format.written check.now) }
+    ensures ok { OnOk result (out.new.items ≡ out.old.items ++ check_format.written check.now) }
+    ensures err { OnErr result (IsFront out.old.items out.new.items) }
 {
     put_string(out, check.path.as_str())?;
     put_int(out, check.version)
@@ -82,7 +89,8 @@ fn put_check(out: &mut Vec<u8>, check: &Check) -> Result<(), NoMemory>
 // What stands behind an operation's type, or in a part's buffer.
 fn put_operation(out: &mut Vec<u8>, operation: &Operation) -> Result<(), NoMemory>
     requires { IsWritableOperation operation.now }
-    ensures { OnOk result (out.new.items ≡ out.old.items ++ operation_bytes operation.now) }
+    ensures ok { OnOk result (out.new.items ≡ out.old.items ++ operation_bytes operation.now) }
+    ensures err { OnErr result (IsFront out.old.items out.new.items) }
 {
     match operation {
         Operation::Create(create) => put_create(out, create),
@@ -110,7 +118,8 @@ impl WriteRecord for Operation {
 // What stands behind a transaction's type.
 fn put_content(out: &mut Vec<u8>, body: &Body) -> Result<(), NoMemory>
     requires { IsWritableBody body.now }
-    ensures { OnOk result (out.new.items ≡ out.old.items ++ content_bytes body.now) }
+    ensures ok { OnOk result (out.new.items ≡ out.old.items ++ content_bytes body.now) }
+    ensures err { OnErr result (IsFront out.old.items out.new.items) }
 {
     match body {
         Body::Single(operation) => put_operation(out, operation),
@@ -122,10 +131,11 @@ fn put_content(out: &mut Vec<u8>, body: &Body) -> Result<(), NoMemory>
 }
 
 /// Writes the transaction behind what `out` holds, in its one written spelling: a create always as
-/// a CreateTxn, and a multi without parts with a count of 0. `NoMemory` may leave a front of it.
+/// a CreateTxn, and a multi without parts with a count of 0. `NoMemory` may leave some of it there.
 pub fn encode_txn(txn: &Txn, out: &mut Vec<u8>) -> Result<(), NoMemory>
     requires { IsWritableBody txn.now.body }
-    ensures { OnOk result (out.new.items ≡ out.old.items ++ txn_format.written txn.now) }
+    ensures ok { OnOk result (out.new.items ≡ out.old.items ++ txn_format.written txn.now) }
+    ensures err { OnErr result (IsFront out.old.items out.new.items) }
 {
     put_header(out, &txn.header)?;
     put_int(out, txn.body.kind().code())?;

@@ -83,7 +83,7 @@ impl Path {
     pub fn parent(&self) -> &str
         ensures { result.now ≡ parent_of self.now }
     {
-        match self.text.as_str().rsplit_once('/') {
+        match self.as_str().rsplit_once('/') {
             None => "/",
             Some((front, _)) => {
                 if front.is_empty() {
@@ -98,7 +98,7 @@ impl Path {
     pub fn name(&self) -> &str
         ensures { result.now ≡ name_of self.now }
     {
-        let text = self.text.as_str();
+        let text = self.as_str();
         match text.rsplit_once('/') {
             None => text,
             Some((_, name)) => name,

@@ -1,0 +1,172 @@
+#!/usr/bin/env python3
+"""Times the program on large scripts, and prints the figures of one run side by side.
+
+    bench/run.py PROGRAM [ARG ..]           as bench/run.py crates/replay_runner/out/replay_runner
+
+It makes scripts by bench/generate.py, and `PROGRAM ARG .. replay SCRIPT` runs on them. The number n of messages
+doubles until a run takes long enough. Three ratios are judged: 2n messages take at most 2.2 times as long as n; the same
+bytes in pieces of 100 bytes take at most 1.5 times as long as in one piece; and where long messages come in such
+pieces, messages twice as long take at most 2.2 times as long. Each time is the least of several runs, of which those
+that are compared take turns. A program that writes something else than it should, or takes two minutes, is refused.
+Times are of the whole program, so they hold reading the script's hexadecimal digits and printing the replies. The exit
+status is 0 where all pass.
+"""
+import argparse
+import hashlib
+import os
+import pathlib
+import subprocess
+import sys
+import tempfile
+import threading
+import time
+
+sys.dont_write_bytecode = True
+import generate  # noqa: E402
+
+MOST_MESSAGES, MOST_SECONDS = 1 << 23, 120
+TWICE, PIECES, PIECE = 2.2, 1.5, 100
+LONG_ENTRIES = 50_000
+
+
+class Run:
+    """A script, and what the program's runs on it took."""
+
+    def __init__(self, name, work, cut, options, room):
+        self.name, self.number, self.options = name, work.number, options
+        self.script, self.output = room / f"{name}.script", room / f"{name}.output"
+        with open(self.script, "w", encoding="ascii") as out:
+            generate.write(work, cut, out)
+        self.reads, self.last_line = work.reads, work.last_line()
+        self.seconds = self.processor = float("inf")
+        self.memory = 0
+        self.digest = None
+
+    def once(self):
+        words = [self.options.program] + self.options.arguments + ["replay", str(self.script)]
+        with open(self.output, "wb") as out:
+            began = time.perf_counter()
+            child = subprocess.Popen(words, stdin=subprocess.DEVNULL, stdout=out)
+            ending = threading.Timer(MOST_SECONDS, child.kill)
+            ending.start()
+            _, status, used = os.wait4(child.pid, 0)
+            ending.cancel()
+            self.seconds = min(self.seconds, time.perf_counter() - began)
+            child.returncode = os.WEXITSTATUS(status) if os.WIFEXITED(status) else -os.WTERMSIG(status)
+        self.processor = min(self.processor, used.ru_utime + used.ru_stime)
+        self.memory = max(self.memory, used.ru_maxrss)
+        self.judge(child.returncode)
+
+    def judge(self, status):
+        """Stops where the program didn't do all of the work."""
+        written = self.output.read_bytes()
+        self.digest = hashlib.sha256(written).hexdigest()
+        replies = written.split(b"\n")
+        wanted = self.reads + 1
+        if status or len(replies) != wanted + 1 or replies[-2].decode("ascii", "replace") != self.last_line:
+            last = replies[-2] if len(replies) > 1 else b""
+            sys.exit(
+                f"{self.name}: the program ended with status {status}, {len(replies) - 1} lines (wanted {wanted}) "
+                f"and the last line {last[:200]!r} (wanted {self.last_line!r})"
+            )
+
+    def row(self):
+        rate = self.number / self.seconds
+        return (
+            f"{self.name:<34}{self.number:>10,}{self.seconds:>10.2f}{self.processor:>11.2f}"
+            f"{self.memory / 1024:>8.0f}{rate:>14,.0f}"
+        )
+
+
+    def clear(self):
+        self.script.unlink()
+        self.output.unlink()
+
+
+def compare(runs, rounds):
+    """Runs two scripts in turn, prints both rows and returns how many times as long the second one takes."""
+    for _ in range(rounds):
+        for it in runs:
+            it.once()
+    for it in runs:
+        print(it.row(), flush=True)
+        it.clear()
+    return runs[1].seconds / runs[0].seconds
+
+
+def enough(work_of, number, cut, options, room):
+    """Returns the number of messages, doubled from the one given, with which a run takes long enough to be measured."""
+    while True:
+        trial = Run("trial", work_of(number), cut, options, room)
+        trial.once()
+        trial.clear()
+        if trial.seconds > options.seconds or number >= MOST_MESSAGES:
+            return number
+        number *= 2
+
+
+def in_length(options, room):
+    """Runs n and 2n messages. Returns how many times as long the second takes, and the messages a second of the first."""
+    work_of = lambda number: generate.Work(number, options.parents, options.reads_every, options.content)
+    number = enough(work_of, 1000, "message", options, room)
+    one = Run("n, a line each", work_of(number), "message", options, room)
+    two = Run("2n, a line each", work_of(2 * number), "message", options, room)
+    ratio = compare([one, two], options.rounds)
+    return ratio, one.number / one.seconds
+
+
+def in_pieces(options, room):
+    """Runs the same bytes uncut and cut. Returns how many times as long the second takes, and whether both write the same."""
+    work_of = lambda number: generate.Work(number, options.parents, options.reads_every, options.content)
+    number = enough(work_of, 1000, "whole", options, room)
+    whole = Run("n, all in one piece", work_of(number), "whole", options, room)
+    cut = Run(f"n, in pieces of {PIECE} bytes", work_of(number), str(PIECE), options, room)
+    ratio = compare([whole, cut], options.rounds)
+    return ratio, whole.digest == cut.digest
+
+
+def in_long_messages(options, room):
+    """Runs long messages in pieces, and the same number of twice as long ones, and returns the ratio."""
+    number = enough(lambda it: generate.LongWork(it, LONG_ENTRIES), 1, str(PIECE), options, room)
+    once, twice = (generate.LongWork(number, many) for many in (LONG_ENTRIES, 2 * LONG_ENTRIES))
+    one = Run(f"long ones, {PIECE} bytes a piece", once, str(PIECE), options, room)
+    two = Run(f"twice as long ones, {PIECE} bytes", twice, str(PIECE), options, room)
+    return compare([one, two], options.rounds)
+
+
+def verdict(what, ratio, most):
+    word = "PASS" if ratio <= most else "FAIL"
+    print(f"{word}  {what}: {ratio:.2f} times as long (at most {most})", flush=True)
+    return ratio <= most
+
+
+def machine(when):
+    load = ", ".join(f"{it:.2f}" for it in os.getloadavg())
+    print(f"{when}: {os.cpu_count()} cores, load of the last 1, 5 and 15 minutes {load}", flush=True)
+
+
+def main():
+    parser = argparse.ArgumentParser(description=__doc__, formatter_class=argparse.RawDescriptionHelpFormatter)
+    parser.add_argument("--seconds", type=float, default=1.2, help="how long a run of n messages takes at least (1.2)")
+    parser.add_argument("--rounds", type=int, default=3, help="how often each script is run (3)")
+    generate.options(parser)
+    parser.add_argument("program")
+    parser.add_argument("arguments", nargs=argparse.REMAINDER)
+    options = parser.parse_args()
+    machine("before")
+    with tempfile.TemporaryDirectory(prefix="bench-") as name:
+        room = pathlib.Path(name)
+        print(f"{'':<34}{'messages':>10}{'seconds':>10}{'processor':>11}{'MiB':>8}{'messages/s':>14}")
+        ratio, rate = in_length(options, room)
+        passes = [verdict("2n messages against n", ratio, TWICE)]
+        ratio, is_same = in_pieces(options, room)
+        passes += [verdict(f"pieces of {PIECE} bytes against one piece", ratio, PIECES), is_same]
+        print(f"{'PASS' if is_same else 'FAIL'}  both cuts are answered in the same bytes")
+        passes += [verdict("messages twice as long, in pieces", in_long_messages(options, room), TWICE)]
+    print(f"transactions a second, through a script: {rate:,.0f}")
+    machine("after")
+    return 0 if all(passes) else 1
+
+
+if __name__ == "__main__":
+    sys.exit(main())

@@ -1,0 +1,82 @@
+//! Bytes on their way from a connection to a reader.
+
+ghost use Rattle.std.specs.Prelude.{◌≡◌, ◌≤◌, ◌++◌, ◌↔◌, [], IsTrue, OnOk, OnErr, length, drop};
+
+use crate::fault::NoMemory;
+use std::alloc::Global;
+use std::marker::Model;
+
+/// Bytes that wait to be read, seen as their list: pieces are added at the end, and what was read is dropped at the front.
+///
+/// What was dropped stays in the buffer until it is more than what waits, and then the rest moves to the buffer's start. So each
+/// byte is moved once at most for each byte that is dropped, however small the pieces are, and the buffer holds at most twice
+/// what waits.
+#[derive(Debug, Drop)]
+pub struct ByteQueue {
+    buffer: Vec<u8>,
+    start: usize,
+}
+
+impl Model for ByteQueue {
+    ghost use Rattle.std.specs.Prelude.{◌+◌, ◌≤◌, List, ℕ, length, drop};
+
+    ghost Value = { List ℕ };
+
+    ghost view = { λ q. drop q.start q.buffer.items };
+
+    ghost invariant = { λ q. q.start + q.start ≤ length q.buffer.items };
+}
+
+impl ByteQueue {
+    pub fn new(alloc: Global) -> ByteQueue
+        ensures { result ≡ [] }
+    {
+        ByteQueue {
+            buffer: Vec::new(alloc),
+            start: 0,
+        }
+    }
+
+    /// Adds a piece at the end. Refused memory leaves the queue as it was.
+    pub fn add(&mut self, piece: &[u8]) -> Result<(), NoMemory>
+        ensures ok { OnOk result (self.new ≡ self.old ++ piece.now) }
+        ensures err { OnErr result (self.new ≡ self.old) }
+    {
+        Ok(self.buffer.extend_from_slice(piece)?)
+    }
+
+    pub fn as_slice(&self) -> &[u8]
+        ensures { result.now ≡ self.now }
+    {
+        &self.buffer[self.start..]
+    }
+
+    pub fn len(&self) -> usize
+        ensures { result ≡ length self.now }
+    {
+        self.buffer.len() - self.start
+    }
+
+    pub fn is_empty(&self) -> bool
+        ensures { IsTrue result ↔ (self.now ≡ []) }
+    {
+        self.len() == 0
+    }
+
+    /// Drops that many bytes at the front.
+    pub fn drop_front(&mut self, count: usize)
+        requires { count ≤ length self.old }
+        ensures { self.new ≡ drop count self.old }
+    {
+        self.start += count;
+        let waiting = self.buffer.len() - self.start;
+        if waiting < self.start {
+            self.buffer.copy_within(self.start.., 0);
+            self.buffer.truncate(waiting);
+            self.start = 0;
+        }
+    }
+}
+
+#[cfg(test)]
+mod tests;

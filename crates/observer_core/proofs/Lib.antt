@@ -1,0 +1,5 @@
+pub mod Replies
+pub mod Streams
+pub mod Playing
+pub mod Meeting
+pub mod Rows

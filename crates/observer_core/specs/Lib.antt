@@ -1,0 +1,5 @@
+pub mod Config
+pub mod Answer
+pub mod Play
+pub mod Meets
+pub mod Rows

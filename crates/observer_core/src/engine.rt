@@ -1,0 +1,135 @@
+//! The engine: a machine that is closed by want of memory.
+
+ghost use Rattle.std.specs.Prelude.{◌≡◌, Some, IfOk};
+ghost use Rattle.observer_core.specs.Play.{started_machine, new_machine, primed_machine};
+ghost use Rattle.observer_core.specs.Meets.{Plays};
+ghost use Rattle.observer_core.specs.declared.machine.Machine.{Machine as TheMachine};
+
+use crate::config::Config;
+use crate::event::{Event, Output};
+use crate::machine::{Base, Learner, Log, Machine, Replica};
+use crate::run::run;
+use data_tree::Tree;
+use jute::{ByteQueue, NoMemory};
+use quorum_packet::PacketFeed;
+use std::alloc::Global;
+use std::marker::Model;
+use thiserror::Error;
+
+/// Why an engine stopped.
+#[derive(Clone, Copy, Debug, PartialEq, Eq, Error)]
+pub enum Stop {
+    /// A growth was refused. The engine is closed from then on.
+    #[error("no memory")]
+    NoMemory,
+    #[error("closed")]
+    Closed,
+}
+
+/// An observer.
+#[derive(Drop)]
+pub struct Engine {
+    machine: Machine,
+    closed: bool,
+}
+
+impl Model for Engine {
+    ghost use Rattle.std.specs.Prelude.{Option, Some, None, if◌then◌else◌};
+    ghost use Rattle.observer_core.specs.declared.machine.Machine.{Machine as TheMachine};
+    ghost use Rattle.observer_core.specs.contracts.machine.Machine as contracts;
+    ghost use Rattle.std.specs.Coded.{codes};
+
+    ghost Value = { Option TheMachine };
+
+    ghost coded = { Prim.hlevel (codes, contracts.the_row.coded) };
+
+    ghost view = { λ e. if e.closed then None else Some e.machine };
+}
+
+// A machine that isn't closed, at zxid 0, with the epochs of the learner.
+fn started(
+    alloc: Global,
+    config: Config,
+    epochs: (i32, i32),
+    leader: Option<PacketFeed>,
+    client: Option<ByteQueue>,
+) -> Result<Engine, NoMemory>
+    ensures { IfOk result (λ e. e ≡ Some (started_machine config epochs.0 epochs.1 leader client)) }
+{
+    let (accepted_epoch, current_epoch) = epochs;
+    let base = Base {
+        zxid: 0,
+        tree: Tree::fresh(alloc)?,
+    };
+    let learner = Learner {
+        accepted_epoch,
+        current_epoch,
+        last_zxid: 0,
+        base,
+        log: Log::new(alloc),
+    };
+    let tree = Tree::fresh(alloc)?;
+    Ok(Engine {
+        machine: Machine {
+            config,
+            leader,
+            replica: Replica { learner, tree },
+            client,
+        },
+        closed: false,
+    })
+}
+
+impl Engine {
+    /// An observer without a leader: it passes over what comes.
+    pub fn new(alloc: Global, config: Config) -> Result<Engine, NoMemory>
+        ensures { IfOk result (λ e. e ≡ Some (new_machine config)) }
+    {
+        let epochs = (config.accepted_epoch, config.current_epoch);
+        started(alloc, config, epochs, None, None)
+    }
+
+    /// An observer that follows a leader in epoch 1, with connection 1 open.
+    pub fn primed(alloc: Global, config: Config) -> Result<Engine, NoMemory>
+        ensures { IfOk result (λ e. e ≡ Some (primed_machine config)) }
+    {
+        let leader = PacketFeed::new(alloc);
+        let client = ByteQueue::new(alloc);
+        started(alloc, config, (1, 1), Some(leader), Some(client))
+    }
+
+    /// The data tree. Of a closed engine it is only to be dropped.
+    pub fn tree(&self) -> &Tree
+        ensures { (m : TheMachine) → self.now ≡ Some m → result.now ≡ m.replica.tree }
+    {
+        &self.machine.replica.tree
+    }
+
+    /// How far the leader was followed. Of a closed engine it is only to be dropped.
+    pub fn learner(&self) -> &Learner
+        ensures { (m : TheMachine) → self.now ≡ Some m → result.now ≡ m.replica.learner }
+    {
+        &self.machine.replica.learner
+    }
+
+    /// Lets the events happen, one after the other, and appends what goes out.
+    pub fn feed_inline(
+        &mut self,
+        alloc: Global,
+        events: &[Event<'_>],
+        outputs: &mut Vec<Output>,
+    ) -> Result<(), Stop>
+        ensures { Plays result self.old events.now outputs.old.items outputs.new.items self.new }
+    {
+        if self.closed {
+            return Err(Stop::Closed);
+        }
+        match run(alloc, &mut self.machine, events, outputs) {
+            Ok(()) => Ok(()),
+            Err(NoMemory) => {
+                self.closed = true;
+                Err(Stop::NoMemory)
+            }
+        }
+    }
+}

@@ -1,0 +1,31 @@
+//! What comes to an observer, and what goes out.
+
+use jute::{Blob, Bytes, Fault};
+
+/// What comes. A connection is named by its number.
+#[derive(Drop)]
+pub enum Event<'a> {
+    /// The connection to the leader is open.
+    LeaderUp,
+    LeaderBytes(Bytes<'a>),
+    /// The connection to the leader has ended.
+    LeaderEnd,
+    ClientUp(u64),
+    ClientBytes(u64, Bytes<'a>),
+    ClientEnd(u64),
+    /// The session has expired.
+    Expire(i64),
+    /// The state becomes the base, and the log is emptied.
+    Checkpoint,
+}
+
+/// What goes.
+#[derive(Debug, Drop, PartialEq, Eq)]
+pub enum Output {
+    /// One packet.
+    ToLeader(Blob),
+    /// One frame, or a word's answer.
+    ToClient(u64, Blob),
+    CloseLeader(Fault),
+    CloseClient(u64),
+}

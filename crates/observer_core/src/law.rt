@@ -1,0 +1,24 @@
+//! Laws of Play.
+
+ghost use Rattle.std.specs.Prelude.{◌≡◌, List, ℕ, ◌∷◌, ◌++◌};
+ghost use Rattle.observer_core.specs.declared.machine.Machine.{Machine};
+ghost use Rattle.observer_core.specs.declared.event.Event.{Event};
+ghost use Rattle.observer_core.specs.declared.event.Event.TheVariants.{LeaderBytes, ClientBytes};
+ghost use Rattle.observer_core.specs.Play.{play, behind};
+ghost use Rattle.observer_core.specs.Rows.{WorkedRows};
+
+/// Two lists of events, one behind the other.
+pub fn plays_on()
+    ensures { (m : Machine) (a b : List Event) → play m (a ++ b) ≡ behind (play m a).outputs (play (play m a).machine b) }
+{}
+
+/// A piece of the leader's bytes, or of a client's, may be cut in two.
+pub fn cut_anywhere()
+    ensures leader { (m : Machine) (a b : List ℕ) (events : List Event) → play m (LeaderBytes (a ++ b) ∷ events) ≡ play m (LeaderBytes a ∷ LeaderBytes b ∷ events) }
+    ensures client { (m : Machine) (n : ℕ) (a b : List ℕ) (events : List Event) → play m (ClientBytes n (a ++ b) ∷ events) ≡ play m (ClientBytes n a ∷ ClientBytes n b ∷ events) }
+{}
+
+/// Rows of bytes that were worked out by hand, computed from the definitions.
+pub fn worked_rows()
+    ensures { WorkedRows }
+{}

@@ -1,0 +1,6 @@
+pub mod Feed
+pub mod Held
+pub mod Kinds
+pub mod Packet
+pub mod Packets
+pub mod Unseen

@@ -1,0 +1,177 @@
+//! The stream of packets, in whatever pieces it comes.
+
+ghost use Rattle.std.specs.Prelude.{◌≡◌, [], Ok, Err, false, is_err, IsNone, IfOk, IfSome, OnOk, OnErr};
+ghost use Rattle.jute.specs.Stream.{add, place_at};
+ghost use Rattle.quorum_packet.specs.Feed.{First, ReadsFront, Refuses, end_of};
+ghost use Rattle.quorum_packet.specs.Packet.{IsWritable};
+ghost use Rattle.quorum_packet.specs.Packets.{phase_behind};
+ghost use Rattle.quorum_packet.specs.Kinds.{kind_of};
+ghost use Rattle.quorum_packet.specs.declared.phase.Phase.TheVariants.{Packets};
+
+use crate::kind::PacketKind;
+use crate::packet::QuorumPacket;
+use crate::phase::Phase;
+use crate::unseen::{Unseen, look};
+use jute::{ByteQueue, Fault, NoMemory, ReadError, ReadRecord, Reader};
+use std::alloc::Global;
+use std::marker::Model;
+
+/// The packets of a stream, seen as the place up to which it was read: what stands there next, and the bytes that aren't read
+/// yet, or the fault that ended it.
+///
+/// A packet is read when all of it is in. Until then only what a piece brings is looked at, so the work is linear in the bytes
+/// of the stream, however it is cut.
+#[derive(Drop)]
+pub struct PacketFeed {
+    waiting: ByteQueue,
+    unseen: Option<Unseen>,
+    phase: Phase,
+    fault: Option<Fault>,
+}
+
+impl Model for PacketFeed {
+    ghost use Rattle.jute.specs.Stream.{Place};
+    ghost use Rattle.quorum_packet.specs.declared.phase.Phase.{Phase};
+    ghost use Rattle.quorum_packet.specs.Held.{held};
+
+    ghost Value = { Place Phase };
+
+    ghost view = { λ f. record { phase = f.phase; unread = held f.waiting f.fault } };
+
+    ghost use Rattle.quorum_packet.specs.Unseen.{MayBeUnseen};
+
+    ghost invariant = { λ f. MayBeUnseen f.waiting f.unseen };
+}
+
+/// A packet at the front, and how many bytes it takes.
+fn read_front(alloc: Global, bytes: &[u8]) -> Result<(QuorumPacket, usize), ReadError>
+    ensures { ReadsFront result bytes.now }
+{
+    let mut ahead = Reader::new(bytes);
+    let packet = QuorumPacket::read(alloc, &mut ahead)?;
+    let left = ahead.rest().len();
+    Ok((packet, bytes.len() - left))
+}
+
+fn phase_behind(packet: &QuorumPacket) -> Phase
+    ensures { result ≡ phase_behind (kind_of packet.now.kind) }
+{
+    match PacketKind::from_code(packet.kind) {
+        Some(PacketKind::Snap) => Phase::ImageOwed,
+        _ => Phase::Packets,
+    }
+}
+
+impl PacketFeed {
+    pub fn new(alloc: Global) -> PacketFeed
+        ensures { result ≡ place_at Packets [] }
+    {
+        PacketFeed {
+            waiting: ByteQueue::new(alloc),
+            unseen: None,
+            phase: Phase::Packets,
+            fault: None,
+        }
+    }
+
+    /// Takes the next piece. Behind a fault it is dropped. Refused memory leaves the feed as it was.
+    pub fn feed(&mut self, piece: &[u8]) -> Result<(), NoMemory>
+        ensures ok { OnOk result (self.new ≡ add self.old piece.now) }
+        ensures err { OnErr result (self.new ≡ self.old) }
+    {
+        if self.is_faulty() {
+            return Ok(());
+        }
+        self.waiting.add(piece)
+    }
+
+    /// The first packet, or `None` where none is whole. After a fault it answers that fault from then on, and behind a SNAP packet
+    /// `None` whatever comes. Refused memory leaves the feed as it was.
+    pub fn next(&mut self, alloc: Global) -> Result<Option<QuorumPacket>, ReadError>
+        ensures first { First result self.old self.new }
+        ensures writable { IfOk result (λ found. IfSome found IsWritable) }
+    {
+        if let Some(fault) = self.fault {
+            return Err(ReadError::Fault(fault));
+        }
+        match self.phase {
+            Phase::Packets => self.next_packet(alloc),
+            Phase::ImageOwed => {
+                self.waiting.drop_front(self.waiting.len());
+                self.unseen = None;
+                Ok(None)
+            }
+        }
+    }
+
+    // The first packet, where packets stand next and no fault came.
+    fn next_packet(&mut self, alloc: Global) -> Result<Option<QuorumPacket>, ReadError>
+        requires packets { self.old.phase ≡ Packets }
+        requires fine { is_err self.old.unread ≡ false }
+        ensures first { First result self.old self.new }
+        ensures writable { IfOk result (λ found. IfSome found IsWritable) }
+    {
+        if let Err(fault) = look(self.waiting.as_slice(), &mut self.unseen) {
+            return self.refuse(fault);
+        }
+        match read_front(alloc, self.waiting.as_slice()) {
+            Ok((packet, used)) => {
+                self.waiting.drop_front(used);
+                self.unseen = None;
+                self.phase = phase_behind(&packet);
+                Ok(Some(packet))
+            }
+            Err(ReadError::NoMemory) => Err(ReadError::NoMemory),
+            Err(ReadError::Fault(fault)) => self.refuse(fault),
+        }
+    }
+
+    // Too few bytes wait for more; another refusal ends the stream.
+    fn refuse(&mut self, fault: Fault) -> Result<Option<QuorumPacket>, ReadError>
+        requires packets { self.old.phase ≡ Packets }
+        requires refused { Refuses self.old fault }
+        ensures first { First result self.old self.new }
+        ensures none { IfOk result IsNone }
+    {
+        match fault {
+            Fault::Short => Ok(None),
+            refusal => {
+                self.fault = Some(refusal);
+                Err(ReadError::Fault(refusal))
+            }
+        }
+    }
+
+    /// Whether the stream may end here: after a fault that fault, and `Short` where a part of a packet waits or an image is owed.
+    pub fn end(&self) -> Result<(), Fault>
+        ensures { result ≡ end_of self.now }
+    {
+        if let Some(fault) = self.fault {
+            return Err(fault);
+        }
+        match self.phase {
+            Phase::ImageOwed => Err(Fault::Short),
+            Phase::Packets => {
+                if self.waiting.is_empty() {
+                    Ok(())
+                } else {
+                    Err(Fault::Short)
+                }
+            }
+        }
+    }
+
+    /// Whether a fault has ended the stream.
+    pub fn is_faulty(&self) -> bool
+        ensures { result ≡ is_err self.now.unread }
+    {
+        self.fault.is_some()
+    }
+
+    /// Ends the stream with a fault.
+    pub fn end_with(&mut self, fault: Fault)
+        ensures { self.new ≡ record self.old { unread = Err fault } }
+    {
+        self.fault = Some(fault);
+    }
+}

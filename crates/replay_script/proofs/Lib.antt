@@ -1,0 +1,5 @@
+pub mod Digits
+pub mod Numbers
+pub mod Reading
+pub mod Utf8
+pub mod WithinBounds

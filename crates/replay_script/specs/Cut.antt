@@ -1,0 +1,13 @@
+-- A text, cut at the first place of a byte.
+use Rattle.std.specs.Prelude.{ℕ, ◌+◌, ◌==◌, List, drop, position}
+use Rattle.std.specs.List.{before_first}
+use Rattle.std.specs.Option.{option_map}
+use Rattle.replay_script.specs.declared.cut.Cut.{Cut}
+
+-- what stands before the first place of a byte (the whole text where it has none), and what stands behind it
+abbrev pub cut_at : ℕ → List ℕ → Cut
+cut_at byte text =
+    record {
+      front = before_first (λ b. b == byte) text;
+      behind = option_map (λ i. drop (i + 1) text) (position (λ b. b == byte) text);
+    }

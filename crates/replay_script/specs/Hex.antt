@@ -1,0 +1,42 @@
+-- Bytes as hexadecimal digits.
+use Rattle.std.specs.Prelude.{ℕ, ◌+◌, ◌-◌, ◌*◌, ◌/◌, ◌%◌, ◌==◌, not, List, [], ◌∷◌, Option, Some, None, filter, nat_lt, if◌then◌else◌}
+use Rattle.std.specs.Int.{is_in_range}
+use Rattle.std.specs.List.{flat_map}
+use Rattle.replay_script.specs.Number.{◌>>=◌}
+
+-- the value of a hexadecimal digit of either case
+abbrev pub digit_of : ℕ → Option ℕ
+digit_of b =
+    if is_in_range 48 57 b then Some (b - 48)
+    else (if is_in_range 97 102 b then Some (b - 87)
+    else (if is_in_range 65 70 b then Some (b - 55) else None))
+
+-- the bytes that digits spell, two for each
+abbrev pub bytes_of : List ℕ → Option (List ℕ)
+bytes_of [] = Some []
+bytes_of (high ∷ []) = None
+bytes_of (high ∷ low ∷ text) = do
+  h ← digit_of high
+  l ← digit_of low
+  bytes ← bytes_of text
+  Some ((h * 16 + l) ∷ bytes)
+
+abbrev pub without_blanks : List ℕ → List ℕ
+without_blanks text = filter (λ b. not (b == 32)) text
+
+-- nothing in place of no bytes
+abbrev pub at_least_one : List ℕ → Option (List ℕ)
+at_least_one [] = None
+at_least_one (b ∷ bytes) = Some (b ∷ bytes)
+
+-- HEX: the bytes that a text spells, with blanks passed over
+abbrev pub hex : List ℕ → Option (List ℕ)
+hex text = bytes_of (without_blanks text) >>= at_least_one
+
+-- the lower-case digit of a value
+abbrev pub digit : ℕ → ℕ
+digit value = if nat_lt value 10 then 48 + value else 87 + value
+
+-- bytes in lower-case digits
+abbrev pub digits : List ℕ → List ℕ
+digits bytes = flat_map (λ b. digit (b / 16) ∷ digit (b % 16) ∷ []) bytes

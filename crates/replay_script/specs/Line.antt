@@ -1,0 +1,117 @@
+-- What a line of a script says.
+use Rattle.std.specs.Prelude.{ℕ, pos, ◌^◌, ◌-◌, ◌==◌, List, [], ◌∷◌, length, Option, Some, None, nat_le, if◌then◌else◌, codes}
+use Rattle.std.specs.Int.{w64, cast_signed}
+use Rattle.std.specs.Option.{option_map}
+use Rattle.std.specs.Str.{bytes_eq, is_utf8}
+use Rattle.byteorder.specs.Endian.{big_number}
+use Rattle.replay_script.specs.Cut.{cut_at}
+use Rattle.replay_script.specs.Number.{◌>>=◌, number_between, pair_between}
+use Rattle.replay_script.specs.Hex.{hex}
+use Rattle.replay_script.specs.declared.event.ScriptEvent.{ScriptEvent}
+use Rattle.replay_script.specs.declared.event.ScriptEvent.TheVariants.{LeaderUp, LeaderBytes, LeaderEnd, ClientUp, ClientBytes, ClientEnd, Expire, Checkpoint}
+use Rattle.replay_script.specs.declared.event.Setting.{Setting}
+use Rattle.replay_script.specs.declared.event.Setting.TheVariants.{Server, Epochs, Timeouts, Secret, Primed}
+use Rattle.replay_script.specs.declared.event.Line.{Line}
+use Rattle.replay_script.specs.declared.event.Line.TheVariants.{Blank, Header, Happening}
+use Rattle.replay_script.specs.declared.event.Keyword.{Keyword}
+use Rattle.replay_script.specs.declared.event.Keyword.TheVariants as words
+use Rattle.replay_script.specs.declared.event.Coming.{Coming}
+use Rattle.replay_script.specs.declared.event.Coming.TheVariants.{Up, Bytes, End}
+
+-- the greatest number of an int of the settings
+abbrev pub int_max : ℕ
+int_max = 2 ^ 31 - 1
+
+-- the words that a line begins with
+abbrev pub keyword_of : List ℕ → Option Keyword
+keyword_of word =
+    if bytes_eq word (codes "server") then Some words.Server
+    else (if bytes_eq word (codes "epochs") then Some words.Epochs
+    else (if bytes_eq word (codes "timeouts") then Some words.Timeouts
+    else (if bytes_eq word (codes "secret") then Some words.Secret
+    else (if bytes_eq word (codes "primed") then Some words.Primed
+    else (if bytes_eq word (codes "leader") then Some words.Leader
+    else (if bytes_eq word (codes "client") then Some words.Client
+    else (if bytes_eq word (codes "expire") then Some words.Expire
+    else (if bytes_eq word (codes "checkpoint") then Some words.Checkpoint
+    else None))))))))
+
+-- `up`, `end`, or the bytes that come
+abbrev pub coming_of : List ℕ → Option Coming
+coming_of text =
+    if bytes_eq text (codes "up") then Some Up
+    else (if bytes_eq text (codes "end") then Some End
+    else option_map Bytes (hex text))
+
+abbrev pub leader_event : Coming → ScriptEvent
+leader_event Up = LeaderUp
+leader_event (Bytes bytes) = LeaderBytes bytes
+leader_event End = LeaderEnd
+
+abbrev pub client_event : ℕ → Coming → ScriptEvent
+client_event client Up = ClientUp client
+client_event client (Bytes bytes) = ClientBytes client bytes
+client_event client End = ClientEnd client
+
+-- `N up`, `N HEX` or `N end`
+abbrev pub client_of : List ℕ → Option ScriptEvent
+client_of text = do
+  let words = cut_at 32 text
+  client ← number_between 0 (2 ^ 32 - 1) words.front
+  behind ← words.behind
+  coming ← coming_of behind
+  Some (client_event client coming)
+
+-- a session's id of 8 bytes, in two's complement
+abbrev pub expire_of : List ℕ → Option ScriptEvent
+expire_of text = do
+  bytes ← hex text
+  if length bytes == 8 then Some (Expire (cast_signed w64 (big_number 8 bytes))) else None
+
+abbrev pub server_of : List ℕ → Option Setting
+server_of text = option_map (λ n. Server (pos n)) (number_between 1 255 text)
+
+abbrev pub epochs_of : List ℕ → Option Setting
+epochs_of text = option_map (λ n. Epochs (pos n.0) (pos n.1)) (pair_between 0 int_max text)
+
+-- the least is not above the greatest
+abbrev pub timeouts_of : List ℕ → Option Setting
+timeouts_of text = do
+  bounds ← pair_between 1 int_max text
+  if nat_le bounds.0 bounds.1 then Some (Timeouts (pos bounds.0) (pos bounds.1)) else None
+
+abbrev pub secret_of : List ℕ → Option Setting
+secret_of text = do
+  bytes ← hex text
+  if nat_le (length bytes) 64 then Some (Secret bytes) else None
+
+-- what a word says with nothing behind it
+abbrev pub alone : Keyword → Option Line
+alone words.Primed = Some (Header Primed)
+alone words.Checkpoint = Some (Happening Checkpoint)
+alone _ = None
+
+-- what a word says with a blank and a text behind it
+abbrev pub followed : Keyword → List ℕ → Option Line
+followed words.Server text = option_map Header (server_of text)
+followed words.Epochs text = option_map Header (epochs_of text)
+followed words.Timeouts text = option_map Header (timeouts_of text)
+followed words.Secret text = option_map Header (secret_of text)
+followed words.Leader text = option_map (λ coming. Happening (leader_event coming)) (coming_of text)
+followed words.Client text = option_map Happening (client_of text)
+followed words.Expire text = option_map Happening (expire_of text)
+followed words.Primed text = None
+followed words.Checkpoint text = None
+
+-- what a word says with this behind it
+abbrev pub said : Keyword → Option (List ℕ) → Option Line
+said word None = alone word
+said word (Some text) = followed word text
+
+-- What a line says, and nothing where it is not a line of the language. Every line is UTF-8: one that is not empty
+-- and no comment has ASCII alone.
+abbrev pub line_of : List ℕ → Option Line
+line_of [] = Some Blank
+line_of (b ∷ bs) =
+    if b == 35 then (if is_utf8 (b ∷ bs) then Some Blank else None)
+    else (keyword_of (cut_at 32 (b ∷ bs)).front >>= (λ word. said word (cut_at 32 (b ∷ bs)).behind))

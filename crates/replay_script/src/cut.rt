@@ -1,0 +1,37 @@
+//! A text, cut at the first place of a byte.
+
+ghost use Rattle.std.specs.Prelude.{◌≡◌, ◌==◌, position};
+ghost use Rattle.replay_script.specs.Cut.{cut_at};
+
+use jute::Bytes;
+
+/// A text in two.
+#[derive(Drop)]
+pub struct Cut<'a> {
+    /// What stands before the first place of the byte, or the whole text.
+    pub front: Bytes<'a>,
+    /// What stands behind that place, if there is one.
+    pub behind: Option<Bytes<'a>>,
+}
+
+fn place_of(byte: u8, text: &[u8]) -> Option<usize>
+    ensures { result ≡ position (λ b. b == byte) text.now }
+{
+    text.iter().position(|b| *b == byte)
+}
+
+/// Cuts a text at the first place of a byte.
+pub fn cut_at(byte: u8, text: &[u8]) -> Cut<'_>
+    ensures { result ≡ cut_at byte text.now }
+{
+    match place_of(byte, text) {
+        None => Cut {
+            front: Bytes::new(text),
+            behind: None,
+        },
+        Some(place) => Cut {
+            front: Bytes::new(&text[..place]),
+            behind: Some(Bytes::new(&text[place + 1..])),
+        },
+    }
+}

@@ -1,0 +1,69 @@
+//! Bytes as hexadecimal digits.
+
+ghost use Rattle.std.specs.Prelude.{◌≡◌, ◌<◌, ◌+◌, ◌++◌, IfSome, IfOk, OnOk};
+ghost use Rattle.replay_script.specs.Hex.{digit_of, hex, digit, digits};
+
+use jute::{Blob, NoMemory};
+use std::alloc::Global;
+
+fn digit_of(byte: u8) -> Option<u8>
+    ensures value { result ≡ digit_of byte }
+    ensures small { IfSome result (λ d. d < 16) }
+{
+    match byte {
+        b'0'..=b'9' => Some(byte - b'0'),
+        b'a'..=b'f' => Some(byte - b'a' + 10),
+        b'A'..=b'F' => Some(byte - b'A' + 10),
+        _ => None,
+    }
+}
+
+/// The bytes that a text spells, two hexadecimal digits for each, if it spells at least one. Digits are of either
+/// case, and blanks are passed over.
+pub fn read_hex(alloc: Global, text: &[u8]) -> Result<Option<Blob>, NoMemory>
+    ensures { IfOk result (λ found. found ≡ hex text.now) }
+{
+    let mut bytes = Vec::with_capacity(alloc, text.len() / 2)?;
+    let mut high = None;
+    for byte in text {
+        if *byte == b' ' {
+            continue;
+        }
+        let Some(digit) = digit_of(*byte) else {
+            return Ok(None);
+        };
+        match high {
+            None => high = Some(digit),
+            Some(first) => {
+                bytes.push(first * 16 + digit)?;
+                high = None;
+            }
+        }
+    }
+    if high.is_some() || bytes.is_empty() {
+        return Ok(None);
+    }
+    Ok(Some(Blob::from_vec(bytes)))
+}
+
+fn digit(value: u8) -> u8
+    requires { value < 16 }
+    ensures { result ≡ digit value }
+{
+    if value < 10 {
+        b'0' + value
+    } else {
+        b'a' - 10 + value
+    }
+}
+
+/// Appends bytes in lower-case hexadecimal digits. Where memory is refused, some of the digits may stand there.
+pub fn put_hex(out: &mut Vec<u8>, bytes: &[u8]) -> Result<(), NoMemory>
+    ensures { OnOk result (out.new.items ≡ out.old.items ++ digits bytes.now) }
+{
+    for byte in bytes {
+        out.push(digit(byte / 16))?;
+        out.push(digit(byte % 16))?;
+    }
+    Ok(())
+}

@@ -1,0 +1,199 @@
+//! Lines of a script.
+
+ghost use Rattle.std.specs.Prelude.{◌≡◌, IfOk};
+ghost use Rattle.std.specs.Str.{is_utf8};
+ghost use Rattle.replay_script.specs.Line.{keyword_of, coming_of, leader_event, client_event, client_of, expire_of, server_of, epochs_of, timeouts_of, secret_of, alone, followed, said, line_of};
+
+use crate::cut::cut_at;
+use crate::event::{Coming, Keyword, Line, ScriptEvent, Setting};
+use crate::hex::read_hex;
+use crate::number::{number_between, pair_between};
+use byteorder::{BigEndian, ByteOrder};
+use jute::NoMemory;
+use std::alloc::Global;
+
+const INT_MAX: u32 = i32::MAX as u32;
+
+fn keyword_of(word: &[u8]) -> Option<Keyword>
+    ensures { result ≡ keyword_of word.now }
+{
+    if word == b"server".as_slice() {
+        Some(Keyword::Server)
+    } else if word == b"epochs".as_slice() {
+        Some(Keyword::Epochs)
+    } else if word == b"timeouts".as_slice() {
+        Some(Keyword::Timeouts)
+    } else if word == b"secret".as_slice() {
+        Some(Keyword::Secret)
+    } else if word == b"primed".as_slice() {
+        Some(Keyword::Primed)
+    } else if word == b"leader".as_slice() {
+        Some(Keyword::Leader)
+    } else if word == b"client".as_slice() {
+        Some(Keyword::Client)
+    } else if word == b"expire".as_slice() {
+        Some(Keyword::Expire)
+    } else if word == b"checkpoint".as_slice() {
+        Some(Keyword::Checkpoint)
+    } else {
+        None
+    }
+}
+
+fn coming_of(alloc: Global, text: &[u8]) -> Result<Option<Coming>, NoMemory>
+    ensures { IfOk result (λ coming. coming ≡ coming_of text.now) }
+{
+    if text == b"up".as_slice() {
+        return Ok(Some(Coming::Up));
+    }
+    if text == b"end".as_slice() {
+        return Ok(Some(Coming::End));
+    }
+    Ok(read_hex(alloc, text)?.map(Coming::Bytes))
+}
+
+fn leader_event(coming: Coming) -> ScriptEvent
+    ensures { result ≡ leader_event coming }
+{
+    match coming {
+        Coming::Up => ScriptEvent::LeaderUp,
+        Coming::Bytes(bytes) => ScriptEvent::LeaderBytes(bytes),
+        Coming::End => ScriptEvent::LeaderEnd,
+    }
+}
+
+fn client_event(client: u64, coming: Coming) -> ScriptEvent
+    ensures { result ≡ client_event client coming }
+{
+    match coming {
+        Coming::Up => ScriptEvent::ClientUp(client),
+        Coming::Bytes(bytes) => ScriptEvent::ClientBytes(client, bytes),
+        Coming::End => ScriptEvent::ClientEnd(client),
+    }
+}
+
+fn client_of(alloc: Global, text: &[u8]) -> Result<Option<ScriptEvent>, NoMemory>
+    ensures { IfOk result (λ event. event ≡ client_of text.now) }
+{
+    let words = cut_at(b' ', text);
+    let Some(client) = number_between(0, u32::MAX, words.front.as_slice()) else {
+        return Ok(None);
+    };
+    let Some(behind) = words.behind else {
+        return Ok(None);
+    };
+    match coming_of(alloc, behind.as_slice())? {
+        None => Ok(None),
+        Some(coming) => Ok(Some(client_event(u64::from(client), coming))),
+    }
+}
+
+fn expire_of(alloc: Global, text: &[u8]) -> Result<Option<ScriptEvent>, NoMemory>
+    ensures { IfOk result (λ event. event ≡ expire_of text.now) }
+{
+    match read_hex(alloc, text)? {
+        None => Ok(None),
+        Some(bytes) => {
+            let bytes = bytes.as_slice();
+            if bytes.len() != 8 {
+                return Ok(None);
+            }
+            Ok(Some(ScriptEvent::Expire(BigEndian::read_i64(bytes))))
+        }
+    }
+}
+
+fn server_of(text: &[u8]) -> Option<Setting>
+    ensures { result ≡ server_of text.now }
+{
+    let id = number_between(1, 255, text)?;
+    Some(Setting::Server(id as i32))
+}
+
+fn epochs_of(text: &[u8]) -> Option<Setting>
+    ensures { result ≡ epochs_of text.now }
+{
+    let (accepted, current) = pair_between(0, INT_MAX, text)?;
+    Some(Setting::Epochs(accepted as i32, current as i32))
+}
+
+fn timeouts_of(text: &[u8]) -> Option<Setting>
+    ensures { result ≡ timeouts_of text.now }
+{
+    let (least, greatest) = pair_between(1, INT_MAX, text)?;
+    if least > greatest {
+        return None;
+    }
+    Some(Setting::Timeouts(least as i32, greatest as i32))
+}
+
+fn secret_of(alloc: Global, text: &[u8]) -> Result<Option<Setting>, NoMemory>
+    ensures { IfOk result (λ setting. setting ≡ secret_of text.now) }
+{
+    match read_hex(alloc, text)? {
+        None => Ok(None),
+        Some(bytes) => {
+            if bytes.as_slice().len() > 64 {
+                return Ok(None);
+            }
+            Ok(Some(Setting::Secret(bytes)))
+        }
+    }
+}
+
+fn alone(word: Keyword) -> Option<Line>
+    ensures { result ≡ alone word }
+{
+    match word {
+        Keyword::Primed => Some(Line::Header(Setting::Primed)),
+        Keyword::Checkpoint => Some(Line::Happening(ScriptEvent::Checkpoint)),
+        _ => None,
+    }
+}
+
+fn followed(alloc: Global, word: Keyword, text: &[u8]) -> Result<Option<Line>, NoMemory>
+    ensures { IfOk result (λ line. line ≡ followed word text.now) }
+{
+    match word {
+        Keyword::Server => Ok(server_of(text).map(Line::Header)),
+        Keyword::Epochs => Ok(epochs_of(text).map(Line::Header)),
+        Keyword::Timeouts => Ok(timeouts_of(text).map(Line::Header)),
+        Keyword::Secret => Ok(secret_of(alloc, text)?.map(Line::Header)),
+        Keyword::Leader => match coming_of(alloc, text)? {
+            None => Ok(None),
+            Some(coming) => Ok(Some(Line::Happening(leader_event(coming)))),
+        },
+        Keyword::Client => Ok(client_of(alloc, text)?.map(Line::Happening)),
+        Keyword::Expire => Ok(expire_of(alloc, text)?.map(Line::Happening)),
+        Keyword::Primed | Keyword::Checkpoint => Ok(None),
+    }
+}
+
+fn is_text(bytes: &[u8]) -> bool
+    ensures { result ≡ is_utf8 bytes.now }
+{
+    match str::from_utf8(bytes) {
+        Ok(_) => return true,
+        Err(_) => return false,
+    }
+}
+
+/// What a line says, if it is a line of the language.
+pub fn line_of(alloc: Global, text: &[u8]) -> Result<Option<Line>, NoMemory>
+    ensures { IfOk result (λ line. line ≡ line_of text.now) }
+{
+    if text.is_empty() {
+        return Ok(Some(Line::Blank));
+    }
+    if text[0] == b'#' {
+        return Ok(is_text(text).then_some(Line::Blank));
+    }
+    let words = cut_at(b' ', text);
+    let Some(word) = keyword_of(words.front.as_slice()) else {
+        return Ok(None);
+    };
+    match words.behind {
+        None => Ok(alone(word)),
+        Some(behind) => followed(alloc, word, behind.as_slice()),
+    }
+}
