@@ -2,6 +2,7 @@
 #![tactic(auto)]
 
 mod adoption;
+mod law;
 mod multi;
 mod node;
 mod node_map;
@@ -12,6 +13,7 @@ mod split;
 mod tests;
 mod tree;
 
+pub use law::{footprints, groups};
 pub use node::{Node, StatPersisted};
 pub use outcome::{Outcome, Trigger};
 pub use tree::Tree;

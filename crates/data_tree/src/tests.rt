@@ -12,7 +12,7 @@ const SET_DATA: &[u8; 46] =
     b"\0\0\0\0\0\0\0\x07\0\0\0\x02\0\0\0\x01\0\0\0\x02\0\0\0\0\0\0\x07\xd0\0\0\0\x05\0\0\0\x02/a\xff\xff\xff\xff\0\0\0\x01";
 // A multi that failed: a create of /m, an error of -101, a delete of /a.
 const MULTI: &[u8; 89] =
-    b"\0\0\0\0\0\0\0\x07\0\0\0\x03\0\0\0\x01\0\0\0\x02\0\0\0\0\0\0\x0b\xb8\0\0\0\x0e\0\0\0\x03\0\0\0\x01\0\0\0\x13\0\0\0\x02/m\0\0\0\0\xff\xff\xff\xff\0\xff\xff\xff\xff\xff\xff\xff\0\0\0\x04\xff\xff\xff\x9b\0\0\0\x02\0\0\0\x06\0\0\0\x02/a";
+    b"\0\0\0\0\0\0\0\x07\0\0\0\x03\0\0\0\x01\0\0\0\x02\0\0\0\0\0\0\x0b\xb8\0\0\0\x0e\0\0\0\x03\0\0\0\x01\0\0\0\x13\0\0\0\x02/m\0\0\0\0\xff\xff\xff\xff\0\xff\xff\xff\xff\xff\xff\xff\xff\0\0\0\x04\xff\xff\xff\x9b\0\0\0\x02\0\0\0\x06\0\0\0\x02/a";
 
 fn by(session: i64, zxid: i64, body: Body) -> Txn {
     Txn {
@@ -30,7 +30,12 @@ fn path(alloc: Global, text: &str) -> Result<Path, Fail> {
     Ok(Path::new(alloc, text).ok().ok_or("a path")?)
 }
 
-fn create(alloc: Global, text: &str, ephemeral: bool, parent_cversion: i32) -> Result<Operation, Fail> {
+fn create(
+    alloc: Global,
+    text: &str,
+    ephemeral: bool,
+    parent_cversion: i32,
+) -> Result<Operation, Fail> {
     Ok(Operation::Create(Create {
         path: path(alloc, text)?,
         bytes: None,
@@ -71,22 +76,34 @@ fn create_then_set(rt: HostRuntime) -> Result<(), Fail> {
     let mut tree = Tree::fresh(alloc)?;
     assert_eq!(rt; tree.paths(), 3);
     let root = tree.stat("/").ok_or("no root")?;
-    assert_eq!(rt; (root.cversion, root.num_children, root.data_length), (-1, 1, 0));
+    assert_eq!(rt;
+        (root.cversion, root.num_children, root.data_length),
+        (-1, 1, 0)
+    );
     let create = decode_txn(alloc, CREATE).ok().ok_or("a create")?;
     let outcome = tree.apply(alloc, &create)?;
     assert_eq!(rt; outcome.error, 0);
     assert_eq!(rt; told(alloc, &outcome)?.as_str(), "+/a ~/ ");
     let stat = tree.stat("/a").ok_or("no /a")?;
-    assert_eq!(rt; (stat.czxid, stat.mzxid, stat.pzxid), (0x1_0000_0001, 0x1_0000_0001, 0x1_0000_0001));
+    assert_eq!(rt;
+        (stat.czxid, stat.mzxid, stat.pzxid),
+        (0x1_0000_0001, 0x1_0000_0001, 0x1_0000_0001)
+    );
     assert_eq!(rt; (stat.ctime, stat.mtime, stat.data_length), (1000, 1000, 2));
     let set = decode_txn(alloc, SET_DATA).ok().ok_or("a setData")?;
     let outcome = tree.apply(alloc, &set)?;
     assert_eq!(rt; told(alloc, &outcome)?.as_str(), "=/a ");
     let stat = tree.stat("/a").ok_or("no /a")?;
-    assert_eq!(rt; (stat.czxid, stat.mzxid, stat.mtime), (0x1_0000_0001, 0x1_0000_0002, 2000));
+    assert_eq!(rt;
+        (stat.czxid, stat.mzxid, stat.mtime),
+        (0x1_0000_0001, 0x1_0000_0002, 2000)
+    );
     assert_eq!(rt; (stat.version, stat.data_length), (1, 0));
     let root = tree.stat("/").ok_or("no root")?;
-    assert_eq!(rt; (root.cversion, root.num_children, root.pzxid), (0, 2, 0x1_0000_0001));
+    assert_eq!(rt;
+        (root.cversion, root.num_children, root.pzxid),
+        (0, 2, 0x1_0000_0001)
+    );
     Ok(())
 }
 
@@ -114,12 +131,18 @@ fn a_multi_goes_on_after_an_error(rt: HostRuntime) -> Result<(), Fail> {
         bytes: None,
         version: 1,
     }))?;
-    let outcome = tree.apply(alloc, &by(7, 0x1_0000_0002, Body::Multi(Listed::from_vec(parts))))?;
+    let outcome = tree.apply(
+        alloc,
+        &by(7, 0x1_0000_0002, Body::Multi(Listed::from_vec(parts))),
+    )?;
     assert_eq!(rt; outcome.error, -110);
     assert_eq!(rt; outcome.parts.as_slice(), [-110, 0].as_slice());
     assert_eq!(rt; told(alloc, &outcome)?.as_str(), "=/a ");
     let root = tree.stat("/").ok_or("no root")?;
-    assert_eq!(rt; (root.cversion, root.num_children, root.pzxid), (0, 2, 0x1_0000_0001));
+    assert_eq!(rt;
+        (root.cversion, root.num_children, root.pzxid),
+        (0, 2, 0x1_0000_0001)
+    );
     Ok(())
 }
 
@@ -129,11 +152,23 @@ fn an_orphan_and_its_pair(rt: HostRuntime) -> Result<(), Fail> {
     let mut tree = Tree::fresh(alloc)?;
     let _ = tree.apply(alloc, &by(9, 1, Body::CreateSession(5000)))?;
     assert_eq!(rt; tree.timeout(9), Some(5000));
-    let _ = tree.apply(alloc, &by(9, 2, Body::Single(create(alloc, "/p", false, -1)?)))?;
-    let _ = tree.apply(alloc, &by(9, 3, Body::Single(create(alloc, "/p/c", true, -1)?)))?;
-    let delete = tree.apply(alloc, &by(9, 4, Body::Single(Operation::Delete(path(alloc, "/p")?))))?;
+    let _ = tree.apply(
+        alloc,
+        &by(9, 2, Body::Single(create(alloc, "/p", false, -1)?)),
+    )?;
+    let _ = tree.apply(
+        alloc,
+        &by(9, 3, Body::Single(create(alloc, "/p/c", true, -1)?)),
+    )?;
+    let delete = tree.apply(
+        alloc,
+        &by(9, 4, Body::Single(Operation::Delete(path(alloc, "/p")?))),
+    )?;
     assert_eq!(rt; delete.error, 0);
-    let orphan = tree.apply(alloc, &by(9, 5, Body::Single(Operation::Delete(path(alloc, "/p/c")?))))?;
+    let orphan = tree.apply(
+        alloc,
+        &by(9, 5, Body::Single(Operation::Delete(path(alloc, "/p/c")?))),
+    )?;
     assert_eq!(rt; orphan.error, -101);
     assert!(rt; tree.ephemerals().contains(9, "/p/c") && tree.node("/p/c").is_none());
     let close = tree.apply(alloc, &by(9, 6, Body::CloseSession))?;
@@ -148,8 +183,17 @@ fn a_session_ends(rt: HostRuntime) -> Result<(), Fail> {
     let alloc = rt.alloc();
     let mut tree = Tree::fresh(alloc)?;
     let mut zxid = 1;
-    for (text, ephemeral) in [("/b", false), ("/a", false), ("/b/g", true), ("/a/f", true), ("/a/e", true)] {
-        let outcome = tree.apply(alloc, &by(9, zxid, Body::Single(create(alloc, text, ephemeral, -1)?)))?;
+    for (text, ephemeral) in [
+        ("/b", false),
+        ("/a", false),
+        ("/b/g", true),
+        ("/a/f", true),
+        ("/a/e", true),
+    ] {
+        let outcome = tree.apply(
+            alloc,
+            &by(9, zxid, Body::Single(create(alloc, text, ephemeral, -1)?)),
+        )?;
         assert_eq!(rt; outcome.error, 0);
         zxid = 2;
     }
@@ -160,9 +204,15 @@ fn a_session_ends(rt: HostRuntime) -> Result<(), Fail> {
     };
     let _ = tree.apply(alloc, &by(9, 3, Body::SetAcl(grant)))?;
     let stat = tree.stat("/a").ok_or("no /a")?;
-    assert_eq!(rt; (stat.cversion, stat.num_children, stat.aversion), (2, 2, 4));
+    assert_eq!(rt;
+        (stat.cversion, stat.num_children, stat.aversion),
+        (2, 2, 4)
+    );
     let close = tree.apply(alloc, &by(9, 8, Body::CloseSession))?;
-    assert_eq!(rt; told(alloc, &close)?.as_str(), "-/a/e ~/a -/a/f ~/a -/b/g ~/b ");
+    assert_eq!(rt;
+        told(alloc, &close)?.as_str(),
+        "-/a/e ~/a -/a/f ~/a -/b/g ~/b "
+    );
     let stat = tree.stat("/a").ok_or("no /a")?;
     assert_eq!(rt; (stat.cversion, stat.num_children, stat.pzxid), (4, 0, 8));
     Ok(())
