@@ -1,6 +1,7 @@
 use super::{Outcome, Tree, Trigger};
 use jute::Listed;
 use std::alloc::Global;
+use std::process::Abort;
 use std::test::Fail;
 use txn_codec::{Body, Create, Operation, Path, SetAcl, SetData, Txn, TxnHeader, decode_txn};
 
@@ -14,22 +15,12 @@ const SET_DATA: &[u8; 46] =
 const MULTI: &[u8; 89] =
     b"\0\0\0\0\0\0\0\x07\0\0\0\x03\0\0\0\x01\0\0\0\x02\0\0\0\0\0\0\x0b\xb8\0\0\0\x0e\0\0\0\x03\0\0\0\x01\0\0\0\x13\0\0\0\x02/m\0\0\0\0\xff\xff\xff\xff\0\xff\xff\xff\xff\xff\xff\xff\xff\0\0\0\x04\xff\xff\xff\x9b\0\0\0\x02\0\0\0\x06\0\0\0\x02/a";
 
-fn by(session: i64, zxid: i64, body: Body) -> Txn {
-    Txn {
-        header: TxnHeader {
-            client_id: session,
-            cxid: 1,
-            zxid,
-            time: 10 * (zxid & 0xff),
-        },
-        body,
-    }
-}
-
+// The text as a path.
 fn path(alloc: Global, text: &str) -> Result<Path, Fail> {
     Ok(Path::new(alloc, text).ok().ok_or("a path")?)
 }
 
+// A create with null data and a null list.
 fn create(
     alloc: Global,
     text: &str,
@@ -45,29 +36,76 @@ fn create(
     }))
 }
 
-// What is told, as a letter and a path each.
+// What a word and a path stand for.
+fn body(alloc: Global, word: &str, text: &str) -> Result<Body, Fail> {
+    Ok(match word {
+        "create" => Body::Single(create(alloc, text, false, -1)?),
+        "ephemeral" => Body::Single(create(alloc, text, true, -1)?),
+        "last" => Body::Single(create(alloc, text, false, i32::MAX)?),
+        "delete" => Body::Single(Operation::Delete(path(alloc, text)?)),
+        "open" => Body::CreateSession(5000),
+        "close" => Body::CloseSession,
+        _ => Body::SetAcl(SetAcl {
+            path: path(alloc, text)?,
+            acl: None,
+            version: 4,
+        }),
+    })
+}
+
+// What is told, as a sign and a path each.
 fn told(alloc: Global, outcome: &Outcome) -> Result<String, Fail> {
     let mut text = String::new(alloc);
     for trigger in outcome.triggers.as_slice() {
-        let (letter, path) = match trigger {
+        let (sign, path) = match trigger {
             Trigger::Created(path) => ("+", path),
             Trigger::Deleted(path) => ("-", path),
             Trigger::DataChanged(path) => ("=", path),
             Trigger::ChildrenChanged(path) => ("~", path),
         };
-        text.push_str(letter)?;
+        text.push_str(sign)?;
         text.push_str(path.as_str())?;
-        text.push_str(" ")?;
     }
     Ok(text)
 }
 
-// The tree after the create of /a.
-fn with_a(alloc: Global) -> Result<Tree, Fail> {
-    let mut tree = Tree::fresh(alloc)?;
-    let txn = decode_txn(alloc, CREATE).ok().ok_or("a create")?;
-    let _ = tree.apply(alloc, &txn)?;
-    Ok(tree)
+// Session 9 does the word at the zxid.
+fn act(alloc: Global, tree: &mut Tree, zxid: i64, body: Body) -> Result<Outcome, Fail> {
+    let txn = Txn {
+        header: TxnHeader {
+            client_id: 9,
+            cxid: 1,
+            zxid,
+            time: 1000,
+        },
+        body,
+    };
+    Ok(tree.apply(alloc, &txn)?)
+}
+
+// One word, its path, its error and what it tells.
+type Step = (i64, &'static str, &'static str, i32, &'static str);
+
+// Does the words in order, each at its zxid.
+fn play(rt: &impl Abort, alloc: Global, tree: &mut Tree, steps: &[Step]) -> Result<(), Fail> {
+    for (zxid, word, text, error, tells) in steps {
+        let outcome = act(alloc, tree, *zxid, body(alloc, word, text)?)?;
+        assert_eq!(rt; outcome.error, *error, "{word} {text}");
+        assert_eq!(rt; told(alloc, &outcome)?.as_str(), *tells, "{word} {text}");
+    }
+    Ok(())
+}
+
+// The shown cversion, how many children, the pzxid and the aversion of a node.
+fn numbers(tree: &Tree, path: &str) -> Option<(i32, i32, i64, i32)> {
+    let stat = tree.stat(path)?;
+    Some((stat.cversion, stat.num_children, stat.pzxid, stat.aversion))
+}
+
+// The tree after the transaction that the bytes spell, and what it answered.
+fn decoded(alloc: Global, tree: &mut Tree, bytes: &[u8]) -> Result<Outcome, Fail> {
+    let txn = decode_txn(alloc, bytes).ok().ok_or("a transaction")?;
+    Ok(tree.apply(alloc, &txn)?)
 }
 
 #[test]
@@ -75,44 +113,41 @@ fn create_then_set(rt: HostRuntime) -> Result<(), Fail> {
     let alloc = rt.alloc();
     let mut tree = Tree::fresh(alloc)?;
     assert_eq!(rt; tree.paths(), 3);
-    let root = tree.stat("/").ok_or("no root")?;
-    assert_eq!(rt;
-        (root.cversion, root.num_children, root.data_length),
-        (-1, 1, 0)
-    );
-    let create = decode_txn(alloc, CREATE).ok().ok_or("a create")?;
-    let outcome = tree.apply(alloc, &create)?;
-    assert_eq!(rt; outcome.error, 0);
-    assert_eq!(rt; told(alloc, &outcome)?.as_str(), "+/a ~/ ");
+    assert_eq!(rt; numbers(&tree, "/"), Some((-1, 1, 0, 0)));
+    let created = decoded(alloc, &mut tree, CREATE)?;
+    assert_eq!(rt; told(alloc, &created)?.as_str(), "+/a~/");
+    let set = decoded(alloc, &mut tree, SET_DATA)?;
+    assert_eq!(rt; told(alloc, &set)?.as_str(), "=/a");
+    assert_eq!(rt; numbers(&tree, "/"), Some((0, 2, 0x1_0000_0001, 0)));
+    Ok(())
+}
+
+#[test]
+fn a_node_shows_its_numbers(rt: HostRuntime) -> Result<(), Fail> {
+    let alloc = rt.alloc();
+    let mut tree = Tree::fresh(alloc)?;
+    let _ = decoded(alloc, &mut tree, CREATE)?;
     let stat = tree.stat("/a").ok_or("no /a")?;
     assert_eq!(rt;
-        (stat.czxid, stat.mzxid, stat.pzxid),
-        (0x1_0000_0001, 0x1_0000_0001, 0x1_0000_0001)
+        (stat.czxid, stat.mzxid, stat.data_length),
+        (0x1_0000_0001, 0x1_0000_0001, 2)
     );
-    assert_eq!(rt; (stat.ctime, stat.mtime, stat.data_length), (1000, 1000, 2));
-    let set = decode_txn(alloc, SET_DATA).ok().ok_or("a setData")?;
-    let outcome = tree.apply(alloc, &set)?;
-    assert_eq!(rt; told(alloc, &outcome)?.as_str(), "=/a ");
+    let _ = decoded(alloc, &mut tree, SET_DATA)?;
     let stat = tree.stat("/a").ok_or("no /a")?;
     assert_eq!(rt;
-        (stat.czxid, stat.mzxid, stat.mtime),
-        (0x1_0000_0001, 0x1_0000_0002, 2000)
+        (stat.mzxid, stat.version, stat.data_length),
+        (0x1_0000_0002, 1, 0)
     );
-    assert_eq!(rt; (stat.version, stat.data_length), (1, 0));
-    let root = tree.stat("/").ok_or("no root")?;
-    assert_eq!(rt;
-        (root.cversion, root.num_children, root.pzxid),
-        (0, 2, 0x1_0000_0001)
-    );
+    assert_eq!(rt; (stat.ctime, stat.mtime), (1000, 2000));
     Ok(())
 }
 
 #[test]
 fn a_failed_multi_does_nothing(rt: HostRuntime) -> Result<(), Fail> {
     let alloc = rt.alloc();
-    let mut tree = with_a(alloc)?;
-    let multi = decode_txn(alloc, MULTI).ok().ok_or("a multi")?;
-    let outcome = tree.apply(alloc, &multi)?;
+    let mut tree = Tree::fresh(alloc)?;
+    let _ = decoded(alloc, &mut tree, CREATE)?;
+    let outcome = decoded(alloc, &mut tree, MULTI)?;
     assert_eq!(rt; outcome.error, -101);
     assert_eq!(rt; outcome.parts.as_slice(), [0, -101, -2].as_slice());
     assert_eq!(rt; outcome.triggers.as_slice().len(), 0);
@@ -123,26 +158,24 @@ fn a_failed_multi_does_nothing(rt: HostRuntime) -> Result<(), Fail> {
 #[test]
 fn a_multi_goes_on_after_an_error(rt: HostRuntime) -> Result<(), Fail> {
     let alloc = rt.alloc();
-    let mut tree = with_a(alloc)?;
-    let mut parts = Vec::new(alloc);
-    parts.push(create(alloc, "/a", false, 1)?)?;
-    parts.push(Operation::SetData(SetData {
+    let mut tree = Tree::fresh(alloc)?;
+    let _ = decoded(alloc, &mut tree, CREATE)?;
+    let write = SetData {
         path: path(alloc, "/a")?,
         bytes: None,
         version: 1,
-    }))?;
-    let outcome = tree.apply(
+    };
+    let parts = vec![in alloc; create(alloc, "/a", false, 1)?, Operation::SetData(write)]?;
+    let outcome = act(
         alloc,
-        &by(7, 0x1_0000_0002, Body::Multi(Listed::from_vec(parts))),
+        &mut tree,
+        0x1_0000_0002,
+        Body::Multi(Listed::from_vec(parts)),
     )?;
     assert_eq!(rt; outcome.error, -110);
     assert_eq!(rt; outcome.parts.as_slice(), [-110, 0].as_slice());
-    assert_eq!(rt; told(alloc, &outcome)?.as_str(), "=/a ");
-    let root = tree.stat("/").ok_or("no root")?;
-    assert_eq!(rt;
-        (root.cversion, root.num_children, root.pzxid),
-        (0, 2, 0x1_0000_0001)
-    );
+    assert_eq!(rt; told(alloc, &outcome)?.as_str(), "=/a");
+    assert_eq!(rt; numbers(&tree, "/"), Some((0, 2, 0x1_0000_0001, 0)));
     Ok(())
 }
 
@@ -150,31 +183,18 @@ fn a_multi_goes_on_after_an_error(rt: HostRuntime) -> Result<(), Fail> {
 fn an_orphan_and_its_pair(rt: HostRuntime) -> Result<(), Fail> {
     let alloc = rt.alloc();
     let mut tree = Tree::fresh(alloc)?;
-    let _ = tree.apply(alloc, &by(9, 1, Body::CreateSession(5000)))?;
+    let steps: [Step; 5] = [
+        (1, "open", "", 0, ""),
+        (2, "create", "/p", 0, "+/p~/"),
+        (3, "ephemeral", "/p/c", 0, "+/p/c~/p"),
+        (4, "delete", "/p", 0, "-/p~/"),
+        (5, "delete", "/p/c", -101, ""),
+    ];
+    play(&rt, alloc, &mut tree, &steps)?;
     assert_eq!(rt; tree.timeout(9), Some(5000));
-    let _ = tree.apply(
-        alloc,
-        &by(9, 2, Body::Single(create(alloc, "/p", false, -1)?)),
-    )?;
-    let _ = tree.apply(
-        alloc,
-        &by(9, 3, Body::Single(create(alloc, "/p/c", true, -1)?)),
-    )?;
-    let delete = tree.apply(
-        alloc,
-        &by(9, 4, Body::Single(Operation::Delete(path(alloc, "/p")?))),
-    )?;
-    assert_eq!(rt; delete.error, 0);
-    let orphan = tree.apply(
-        alloc,
-        &by(9, 5, Body::Single(Operation::Delete(path(alloc, "/p/c")?))),
-    )?;
-    assert_eq!(rt; orphan.error, -101);
     assert!(rt; tree.ephemerals().contains(9, "/p/c") && tree.node("/p/c").is_none());
-    let close = tree.apply(alloc, &by(9, 6, Body::CloseSession))?;
-    assert_eq!(rt; close.error, 0);
+    play(&rt, alloc, &mut tree, &[(6, "close", "", 0, "")])?;
     assert!(rt; !tree.ephemerals().contains(9, "/p/c") && tree.timeout(9).is_none());
-    assert_eq!(rt; close.triggers.as_slice().len(), 0);
     Ok(())
 }
 
@@ -182,38 +202,33 @@ fn an_orphan_and_its_pair(rt: HostRuntime) -> Result<(), Fail> {
 fn a_session_ends(rt: HostRuntime) -> Result<(), Fail> {
     let alloc = rt.alloc();
     let mut tree = Tree::fresh(alloc)?;
-    let mut zxid = 1;
-    for (text, ephemeral) in [
-        ("/b", false),
-        ("/a", false),
-        ("/b/g", true),
-        ("/a/f", true),
-        ("/a/e", true),
-    ] {
-        let outcome = tree.apply(
-            alloc,
-            &by(9, zxid, Body::Single(create(alloc, text, ephemeral, -1)?)),
-        )?;
-        assert_eq!(rt; outcome.error, 0);
-        zxid = 2;
-    }
-    let grant = SetAcl {
-        path: path(alloc, "/a")?,
-        acl: None,
-        version: 4,
-    };
-    let _ = tree.apply(alloc, &by(9, 3, Body::SetAcl(grant)))?;
-    let stat = tree.stat("/a").ok_or("no /a")?;
-    assert_eq!(rt;
-        (stat.cversion, stat.num_children, stat.aversion),
-        (2, 2, 4)
-    );
-    let close = tree.apply(alloc, &by(9, 8, Body::CloseSession))?;
-    assert_eq!(rt;
-        told(alloc, &close)?.as_str(),
-        "-/a/e ~/a -/a/f ~/a -/b/g ~/b "
-    );
-    let stat = tree.stat("/a").ok_or("no /a")?;
-    assert_eq!(rt; (stat.cversion, stat.num_children, stat.pzxid), (4, 0, 8));
+    let steps: [Step; 8] = [
+        (1, "create", "/a", 0, "+/a~/"),
+        (2, "create", "/b", 0, "+/b~/"),
+        (3, "ephemeral", "/b/g", 0, "+/b/g~/b"),
+        (4, "ephemeral", "/a/f", 0, "+/a/f~/a"),
+        (5, "ephemeral", "/a/e", 0, "+/a/e~/a"),
+        (6, "create", "/a/e", -110, ""),
+        (7, "grant", "/a", 0, ""),
+        (8, "close", "", 0, "-/a/e~/a-/a/f~/a-/b/g~/b"),
+    ];
+    play(&rt, alloc, &mut tree, &steps)?;
+    assert_eq!(rt; numbers(&tree, "/a"), Some((6, 0, 8, 4)));
+    Ok(())
+}
+
+#[test]
+fn a_cversion_wraps(rt: HostRuntime) -> Result<(), Fail> {
+    let alloc = rt.alloc();
+    let mut tree = Tree::fresh(alloc)?;
+    let steps: [Step; 3] = [
+        (1, "create", "/a", 0, "+/a~/"),
+        (2, "last", "/a/x", 0, "+/a/x~/a"),
+        (3, "create", "/a/y", 0, "+/a/y~/a"),
+    ];
+    play(&rt, alloc, &mut tree, &steps)?;
+    let node = tree.node("/a").ok_or("no /a")?;
+    assert_eq!(rt; node.stat.cversion, i32::MIN);
+    assert_eq!(rt; numbers(&tree, "/a"), Some((-2, 2, 3, 0)));
     Ok(())
 }
