@@ -9,3 +9,6 @@ pub mod Owners
 pub mod Creates
 pub mod Deletes
 pub mod Lists
+pub mod Cells
+pub mod Commute
+pub mod Batches

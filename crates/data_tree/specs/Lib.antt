@@ -8,3 +8,5 @@ pub mod Updates
 pub mod NodeMapLends
 pub mod Multi
 pub mod Refused
+pub mod Footprint
+pub mod Commuting

@@ -2,14 +2,18 @@
 #![tactic(auto)]
 
 mod adoption;
+mod law;
 mod multi;
 mod node;
 mod node_map;
 mod outcome;
 mod sessions;
 mod split;
+#[cfg(test)]
+mod tests;
 mod tree;
 
+pub use law::{footprints, groups};
 pub use node::{Node, StatPersisted};
 pub use outcome::{Outcome, Trigger};
 pub use tree::Tree;

@@ -78,9 +78,9 @@ fn higher(before: StatPersisted, after: StatPersisted) -> StatPersisted
 pub(crate) fn bereft(before: StatPersisted, header: &TxnHeader) -> StatPersisted
     ensures { result ≡ record before { pzxid = header.now.zxid } }
 {
-    let mut after = before;
-    after.pzxid = header.zxid;
-    after
+    let mut numbers = before;
+    numbers.pzxid = header.zxid;
+    numbers
 }
 
 /// The session that a created node belongs to, and 0 where it isn't ephemeral.

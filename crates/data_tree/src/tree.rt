@@ -334,10 +334,7 @@ impl Tree {
     pub fn stat(&self, path: &str) -> Option<Stat>
         ensures { result ≡ option_map shown (finmap.get self.now.nodes path.now) }
     {
-        match self.nodes.get(path) {
-            None => None,
-            Some(node) => Some(node.shown()),
-        }
+        Some(self.node(path)?.shown())
     }
 
     /// How many nodes there are.

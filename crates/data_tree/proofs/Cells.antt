@@ -1,0 +1,99 @@
+-- Laws of equal states and of one change.
+use Rattle.std.proofs.Common.{◌≡◌, ℤ, List, [], ◌∷◌, Bool, true, false, not, cond, ◌||◌, ◌&&◌, Some, None, refl, sym, ap, ◌∙◌}
+use Rattle.std.specs.List.{AllByRecursion}
+use Rattle.std.specs.Ordering.{eq_by_cmp, is_eq, int_cmp, ordering_then}
+use Rattle.std.specs.Cmp.{tied_itself}
+use Rattle.std.specs.declared.cmp.Ordering.{Ordering}
+use Rattle.std.specs.declared.cmp.Ordering.TheVariants.{Less, Equal, Greater}
+use Rattle.std.proofs.lemmas.Map.Lookups.{exact_bytes}
+use Rattle.std.proofs.lemmas.Map.Views.{tells_apart}
+use Rattle.std.specs.FinMap as finmap
+use Rattle.std.specs.FinSet as set
+use Rattle.ephemerals.specs.Orders.{Bytes, path_cmp, pair_cmp}
+use Rattle.data_tree.specs.State.{State}
+use Rattle.data_tree.specs.Meaning.{Change, changed, all_changed}
+use Rattle.data_tree.specs.Meaning.Change.{Put, Remove, Own, Disown}
+use Rattle.data_tree.specs.Footprint.{touches, IsSameCell}
+use Rattle.data_tree.proofs.Totals.{path_total, pair_total, pair_exact}
+
+-- states with the same cells and sessions are equal
+pub same_state : (s t : State) → s.sessions ≡ t.sessions → ((path : Bytes) → IsSameCell s t path) → s ≡ t
+same_state s t sessions cells =
+    let nodes : s.nodes ≡ t.nodes = finmap.same_map path_total exact_bytes s.nodes t.nodes (λ path. (cells path).node) in
+    let pairs : s.pairs ≡ t.pairs = set.same_set pair_total pair_exact s.pairs t.pairs (λ p. (cells p.1).owners p.0) in
+    λ i. record { nodes = nodes i; pairs = pairs i; sessions = sessions i }
+
+pub same_cell_sym : {s t : State} {path : Bytes} → IsSameCell s t path → IsSameCell t s path
+same_cell_sym e = record { node = sym e.node; owners = λ w. sym (e.owners w) }
+
+pub same_cell_trans : {s t u : State} {path : Bytes} → IsSameCell s t path → IsSameCell t u path → IsSameCell s u path
+same_cell_trans e f = record { node = e.node ∙ f.node; owners = λ w. e.owners w ∙ f.owners w }
+
+pub same_cell_refl : (s : State) (path : Bytes) → IsSameCell s s path
+same_cell_refl s path = record { node = refl; owners = λ w. refl }
+
+abbrev pub path_of : Change → Bytes
+path_of (Put path node) = path
+path_of (Remove path) = path
+path_of (Own session path) = path
+path_of (Disown session path) = path
+
+then_apart : (r q : Ordering) → is_eq q ≡ false → is_eq (ordering_then r q) ≡ false
+then_apart Less q h = refl
+then_apart Equal q h = h
+then_apart Greater q h = refl
+
+pair_apart : (v w : ℤ) (q p : Bytes) → eq_by_cmp path_cmp q p ≡ false → eq_by_cmp pair_cmp (v, q) (w, p) ≡ false
+pair_apart v w q p h = then_apart (int_cmp v w) (path_cmp q p) h
+
+-- a change leaves the cells at other paths
+pub changed-frame : (s : State) (c : Change) (q : Bytes) → eq_by_cmp path_cmp q (path_of c) ≡ false → IsSameCell (changed s c) s q
+changed-frame s (Put p n) q h = record { node = finmap.get-insert path_total s.nodes p n q ∙ ap (λ b. cond b (Some n) (finmap.get s.nodes q)) h; owners = λ w. refl }
+changed-frame s (Remove p) q h = record { node = finmap.get-remove path_total s.nodes p q ∙ ap (λ b. cond b None (finmap.get s.nodes q)) h; owners = λ w. refl }
+changed-frame s (Own v p) q h = record { node = refl; owners = λ w. set.contains-insert pair_total s.pairs (v, p) (w, q) ∙ ap (λ b. b || set.contains s.pairs (w, q)) (pair_apart w v q p h) }
+changed-frame s (Disown v p) q h = record { node = refl; owners = λ w. set.contains-remove pair_total s.pairs (v, p) (w, q) ∙ ap (λ b. not b && set.contains s.pairs (w, q)) (pair_apart w v q p h) }
+
+-- what a change leaves in a cell depends on that cell alone
+pub changed-local : (s t : State) (c : Change) (q : Bytes) → IsSameCell s t q → IsSameCell (changed s c) (changed t c) q
+changed-local s t (Put p n) q e = record { node = finmap.get-insert path_total s.nodes p n q ∙ ap (λ x. cond (eq_by_cmp path_cmp q p) (Some n) x) e.node ∙ sym (finmap.get-insert path_total t.nodes p n q); owners = e.owners }
+changed-local s t (Remove p) q e = record { node = finmap.get-remove path_total s.nodes p q ∙ ap (λ x. cond (eq_by_cmp path_cmp q p) None x) e.node ∙ sym (finmap.get-remove path_total t.nodes p q); owners = e.owners }
+changed-local s t (Own v p) q e = record { node = e.node; owners = λ w. set.contains-insert pair_total s.pairs (v, p) (w, q) ∙ ap (λ b. eq_by_cmp pair_cmp (w, q) (v, p) || b) (e.owners w) ∙ sym (set.contains-insert pair_total t.pairs (v, p) (w, q)) }
+changed-local s t (Disown v p) q e = record { node = e.node; owners = λ w. set.contains-remove pair_total s.pairs (v, p) (w, q) ∙ ap (λ b. not (eq_by_cmp pair_cmp (w, q) (v, p)) && b) (e.owners w) ∙ sym (set.contains-remove pair_total t.pairs (v, p) (w, q)) }
+
+pub changed-sessions : (s : State) (c : Change) → (changed s c).sessions ≡ s.sessions
+changed-sessions s (Put p n) = refl
+changed-sessions s (Remove p) = refl
+changed-sessions s (Own v p) = refl
+changed-sessions s (Disown v p) = refl
+
+-- the changes are at these paths
+abbrev pub AreWithin : List Bytes → List Change → Type 0
+AreWithin paths cs = AllByRecursion (λ c. touches paths (path_of c) ≡ true) cs
+
+apart_from_within : (paths : List Bytes) (q p : Bytes) → touches paths q ≡ false → touches paths p ≡ true → (b : Bool) → eq_by_cmp path_cmp q p ≡ b → b ≡ false
+apart_from_within paths q p out within false e = refl
+apart_from_within paths q p out within true e = sym (ap (touches paths) (tells_apart exact_bytes q p e) ∙ within) ∙ out
+
+pub all_changed-frame : (paths : List Bytes) (s : State) (cs : List Change) → AreWithin paths cs → (q : Bytes) → touches paths q ≡ false → IsSameCell (all_changed s cs) s q
+all_changed-frame paths s [] within q out = same_cell_refl s q
+all_changed-frame paths s (c ∷ cs) within q out =
+    let apart : eq_by_cmp path_cmp q (path_of c) ≡ false = apart_from_within paths q (path_of c) out within.0 _ refl in
+    same_cell_trans (all_changed-frame paths (changed s c) cs within.1 q out) (changed-frame s c q apart)
+
+pub all_changed-local : (s t : State) (cs : List Change) (q : Bytes) → IsSameCell s t q → IsSameCell (all_changed s cs) (all_changed t cs) q
+all_changed-local s t [] q e = e
+all_changed-local s t (c ∷ cs) q e = all_changed-local (changed s c) (changed t c) cs q (changed-local s t c q e)
+
+pub all_changed-sessions : (s : State) (cs : List Change) → (all_changed s cs).sessions ≡ s.sessions
+all_changed-sessions s [] = refl
+all_changed-sessions s (c ∷ cs) = all_changed-sessions (changed s c) cs ∙ changed-sessions s c
+
+pub touches_first : (p : Bytes) (ps : List Bytes) → touches (p ∷ ps) p ≡ true
+touches_first p ps = ap (λ r. is_eq r || touches ps p) (tied_itself path_total p)
+
+or_true : (b : Bool) → (b || true) ≡ true
+or_true true = refl
+or_true false = refl
+
+pub touches_second : (p q : Bytes) (ps : List Bytes) → touches (q ∷ p ∷ ps) p ≡ true
+touches_second p q ps = ap (λ b. eq_by_cmp path_cmp p q || b) (touches_first p ps) ∙ or_true (eq_by_cmp path_cmp p q)

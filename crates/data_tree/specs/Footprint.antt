@@ -1,0 +1,62 @@
+-- Which cells a transaction reads and writes. A cell at a path is the node there, if any, and the sessions that list the path.
+use Rattle.std.specs.Prelude.{◌≡◌, ℤ, List, [], ◌∷◌, ◌++◌, Bool, true, false, if◌then◌else◌}
+use Rattle.std.specs.List.{list_any}
+use Rattle.std.specs.Ordering.{eq_by_cmp}
+use Rattle.std.specs.FinMap as finmap
+use Rattle.std.specs.FinSet as set
+use Rattle.ephemerals.specs.Orders.{Bytes, path_cmp}
+use Rattle.txn_codec.specs.Paths.{parent_of}
+use Rattle.txn_codec.specs.declared.txn.Txn.{Txn}
+use Rattle.txn_codec.specs.declared.txn.Operation.{Operation}
+use Rattle.txn_codec.specs.declared.txn.Operation.TheVariants as op
+use Rattle.txn_codec.specs.declared.txn.Body.{Body}
+use Rattle.txn_codec.specs.declared.txn.Body.TheVariants as body
+use Rattle.data_tree.specs.State.{State}
+use Rattle.data_tree.specs.Meaning.{has_error}
+
+abbrev pub footprint_of : Operation → List Bytes
+footprint_of (op.Create body) = body.path ∷ parent_of body.path ∷ []
+footprint_of (op.Delete path) = path ∷ parent_of path ∷ []
+footprint_of (op.SetData body) = body.path ∷ []
+footprint_of (op.Check body) = []
+footprint_of (op.Error error) = []
+
+abbrev pub footprint_of_parts : List Operation → List Bytes
+footprint_of_parts [] = []
+footprint_of_parts (o ∷ os) = footprint_of o ++ footprint_of_parts os
+
+-- of a transaction that keeps to cells
+abbrev pub footprint : Txn → List Bytes
+footprint t = of_body t.body
+  where
+    of_body : Body → List Bytes
+    of_body (body.Single operation) = footprint_of operation
+    of_body (body.SetAcl body) = body.path ∷ []
+    of_body (body.Multi parts) = if has_error parts then [] else footprint_of_parts parts
+    of_body (body.CreateSession timeout) = []
+    of_body body.CloseSession = []
+
+-- createSession changes the sessions, and closeSession cells of every path that the session lists
+abbrev pub KeepsToCells : Txn → Type 0
+KeepsToCells t = keeps t.body
+  where
+    keeps : Body → Type 0
+    keeps (body.Single operation) = Unit {0}
+    keeps (body.SetAcl body) = Unit {0}
+    keeps (body.Multi parts) = Unit {0}
+    keeps (body.CreateSession timeout) = ⊥
+    keeps body.CloseSession = ⊥
+
+abbrev pub touches : List Bytes → Bytes → Bool
+touches paths path = list_any (eq_by_cmp path_cmp path) paths
+
+-- the cells at the path: the node, and the sessions that list the path
+pub record IsSameCell (s t : State) (path : Bytes) : Type 0 where
+  pub node : finmap.get s.nodes path ≡ finmap.get t.nodes path
+  pub owners : (session : ℤ) → set.contains s.pairs (session, path) ≡ set.contains t.pairs (session, path)
+
+abbrev pub AreSameAt : List Bytes → State → State → Type 0
+AreSameAt paths s t = (path : Bytes) → touches paths path ≡ true → IsSameCell s t path
+
+abbrev pub AreApart : List Bytes → List Bytes → Type 0
+AreApart ps qs = (path : Bytes) → touches ps path ≡ true → touches qs path ≡ false
