@@ -1,5 +1,5 @@
 -- From what an engine was fed to what is printed.
-use Rattle.std.proofs.Common.{◌≡◌, ℕ, List, [], ◌++◌, Option, Some, None, Result, Ok, Err, map, refl, sym, ap, ◌∙◌, subst, append_assoc, append-nil, inl, inr}
+use Rattle.std.proofs.Common.{◌≡◌, ℕ, List, [], ◌++◌, Option, Some, None, Result, Ok, Err, map, sym, ap, ◌∙◌, subst, append_assoc, append-nil, inl, inr}
 use Rattle.std.specs.List.{flat_map}
 use Rattle.std.specs.Io.KnownBytes.{Appends, Keeps}
 use Rattle.std.specs.Prelude.{IfSome}
@@ -32,17 +32,17 @@ front_at (Err stops.Closed) m events outputs after p = absurd p
 pub fed_front : (script : Script) (config : Config) (fed : Result (Unit {0}) Stop) (engine : Option Machine) (events : List Event) (old outputs : List Output) (after : Option Machine) → engine ≡ Some (machine_of script.primed config) → events ≡ map event_of script.events → old ≡ [] → Plays fed engine events old outputs after → IsFront outputs (happened script config).outputs
 fed_front script config fed engine events old outputs after is_engine are_events none p =
     front_at fed (machine_of script.primed config) (map event_of script.events) outputs after
-        (subst (λ e. Plays fed e (map event_of script.events) [] outputs after) is_engine
-            (subst (λ es. Plays fed engine es [] outputs after) are_events
-                (subst (λ o. Plays fed engine events o outputs after) none p)))
+    (subst (λ e. Plays fed e (map event_of script.events) [] outputs after) is_engine
+    (subst (λ es. Plays fed engine es [] outputs after) are_events
+    (subst (λ o. Plays fed engine events o outputs after) none p)))
 
 -- where no memory was refused they are all, and the machine is the one that is left
 pub fed_all : (script : Script) (config : Config) (u : Unit {0}) (engine : Option Machine) (events : List Event) (old outputs : List Output) (after : Option Machine) → engine ≡ Some (machine_of script.primed config) → events ≡ map event_of script.events → old ≡ [] → Plays (Ok u) engine events old outputs after → (outputs ≡ (happened script config).outputs) × (after ≡ Some (happened script config).machine)
 fed_all script config u engine events old outputs after is_engine are_events none p =
     let all : Plays (Ok u) (Some (machine_of script.primed config)) (map event_of script.events) [] outputs after =
-        subst (λ e. Plays (Ok u) e (map event_of script.events) [] outputs after) is_engine
-            (subst (λ es. Plays (Ok u) engine es [] outputs after) are_events
-                (subst (λ o. Plays (Ok u) engine events o outputs after) none p)) in
+    subst (λ e. Plays (Ok u) e (map event_of script.events) [] outputs after) is_engine
+    (subst (λ es. Plays (Ok u) engine es [] outputs after) are_events
+    (subst (λ o. Plays (Ok u) engine events o outputs after) none p)) in
     (all.0, all.1)
 
 -- a front of a front
@@ -54,7 +54,7 @@ front_of_front a b outputs all w f =
 pub all_printed : (script : Script) (config : Config) (a b c : Option (List ℕ)) (outputs : List Output) → outputs ≡ (happened script config).outputs → Appends a b (flat_map output_line outputs) → Appends b c (end_line_of (happened script config).machine) → Appends a c (printed (happened script config))
 all_printed script config a b c outputs are_all lines end =
     appends_both a b c (flat_map output_line (happened script config).outputs) (end_line_of (happened script config).machine)
-        (subst (λ o. Appends a b (flat_map output_line o)) are_all lines) end
+    (subst (λ o. Appends a b (flat_map output_line o)) are_all lines) end
 
 keeps_both : (a b c : Option (List ℕ)) → Keeps a b → Keeps b c → Keeps a c
 keeps_both None b c p q = tt
@@ -74,8 +74,8 @@ all_kept script a b c p q = (p.0, p.1, appends_kept a b c (printed (happened scr
 front_kept : (script : Script) (a b c : Option (List ℕ)) → PrintsFront script a b → Keeps b c → PrintsFront script a c
 front_kept script a b c p q =
     elim p as (λ _. PrintsFront script a c) [
-      inl same ↦ inl (keeps_both a b c same q)
-    | inr found ↦ inr (found.0, found.1, (found.2.0, found.2.1, appends_kept a b c (flat_map output_line found.2.0) found.2.2 q))
+      | inl same ↦ inl (keeps_both a b c same q)
+      | inr found ↦ inr (found.0, found.1, (found.2.0, found.2.1, appends_kept a b c (flat_map output_line found.2.0) found.2.2 q))
     ]
 
 -- what was printed stays
@@ -85,8 +85,8 @@ ends_kept (BadLine number) text a b c p q = (p.0, keeps_both a b c p.1 q)
 ends_kept Failed text a b c p q = tt
 ends_kept NoMemory text a b c p q =
     elim p as (λ _. Ends NoMemory text a c) [
-      inl same ↦ inl (keeps_both a b c same q)
-    | inr found ↦ inr (found.0, found.1, front_kept found.0 a b c found.2 q)
+      | inl same ↦ inl (keeps_both a b c same q)
+      | inr found ↦ inr (found.0, found.1, front_kept found.0 a b c found.2 q)
     ]
 
 pub if_some : {A : Type 0} (o : Option A) (P Q : A → Type 0) → ((x : A) → P x → Q x) → IfSome o P → IfSome o Q

@@ -79,3 +79,6 @@ fn run(rt: &HostRuntime) -> u8 {
 fn main(rt: HostRuntime) -> ExitCode {
     ExitCode::from(run(&rt))
 }
+
+#[cfg(test)]
+mod tests;

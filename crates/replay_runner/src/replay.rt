@@ -45,7 +45,10 @@ fn event_of(event: &ScriptEvent) -> Event<'_>
         ScriptEvent::LeaderBytes(bytes) => Event::LeaderBytes(Bytes::new(bytes.as_slice())),
         ScriptEvent::LeaderEnd => Event::LeaderEnd,
         ScriptEvent::ClientUp(client) => Event::ClientUp(*client),
-        ScriptEvent::ClientBytes(client, bytes) => Event::ClientBytes(*client, Bytes::new(bytes.as_slice())),
+        ScriptEvent::ClientBytes(client, bytes) => Event::ClientBytes(
+            *client,
+            Bytes::new(bytes.as_slice()),
+        ),
         ScriptEvent::ClientEnd(client) => Event::ClientEnd(*client),
         ScriptEvent::Expire(session) => Event::Expire(*session),
         ScriptEvent::Checkpoint => Event::Checkpoint,
@@ -74,7 +77,11 @@ fn engine_of(alloc: Global, primed: bool, config: Config) -> Result<Engine, NoMe
 }
 
 // Prints the line of an output. `line` is room for it.
-fn print_output<W: Write>(line: &mut Vec<u8>, output: &Output, writer: &mut W) -> Result<(), Refusal>
+fn print_output<W: Write>(
+    line: &mut Vec<u8>,
+    output: &Output,
+    writer: &mut W,
+) -> Result<(), Refusal>
     ensures ok { OnOk result (Appends (W.contents writer.old) (W.contents writer.new) (output_line output.now)) }
     ensures no_memory { result ≡ Err refusals.NoMemory → writer.new ≡ writer.old }
 {
@@ -87,7 +94,11 @@ fn print_output<W: Write>(line: &mut Vec<u8>, output: &Output, writer: &mut W) -
 }
 
 // Prints the lines of the outputs, in order.
-fn print_outputs<W: Write>(line: &mut Vec<u8>, outputs: &[Output], writer: &mut W) -> Result<(), Refusal>
+fn print_outputs<W: Write>(
+    line: &mut Vec<u8>,
+    outputs: &[Output],
+    writer: &mut W,
+) -> Result<(), Refusal>
     ensures ok { OnOk result (Appends (W.contents writer.old) (W.contents writer.new) (flat_map output_line outputs.now)) }
     ensures no_memory { result ≡ Err refusals.NoMemory → WritesFront (W.contents writer.old) (W.contents writer.new) outputs.now }
 {
@@ -134,7 +145,14 @@ fn setup_of(script: Script) -> Setup
         primed,
         events,
     } = script;
-    let config = match Config::new(server_id, accepted_epoch, current_epoch, min_timeout, max_timeout, secret) {
+    let config = match Config::new(
+        server_id,
+        accepted_epoch,
+        current_epoch,
+        min_timeout,
+        max_timeout,
+        secret,
+    ) {
         Ok(config) => config,
         Err(_) => unreachable!(),
     };
@@ -205,7 +223,12 @@ pub fn replay<R: Read, W: Write>(alloc: Global, reader: &mut R, writer: &mut W) 
 
 /// Replays a script that is read: prints what goes out, and tells standard error what went wrong. Answers the exit
 /// status.
-pub fn replay_on<R: Read, W: Write, E: Write>(alloc: Global, reader: &mut R, writer: &mut W, errors: &mut E) -> u8
+pub fn replay_on<R: Read, W: Write, E: Write>(
+    alloc: Global,
+    reader: &mut R,
+    writer: &mut W,
+    errors: &mut E,
+) -> u8
     ensures ends { IfSome (R.remaining reader.old) (λ text. EndsWith result text (W.contents writer.old) (W.contents writer.new)) }
     ensures quiet { result ≡ 0 → errors.new ≡ errors.old }
 {

@@ -1,4 +1,4 @@
-use Rattle.std.proofs.Common.{◌≡◌, Some, Ok, map, sym, subst, ap, ◌∙◌, inr, [], append-nil}
+use Rattle.std.proofs.Common.{Some, map, sym, subst, ap, ◌∙◌, inr}
 use Rattle.std.specs.List.{flat_map}
 use Rattle.std.specs.Io.KnownBytes.{Appends}
 use Rattle.std.proofs.lemmas.Result.{err_from_is_err_and, on_ok_weaker}
@@ -18,7 +18,7 @@ returns-in_err-print_outputs-clause-no_memory g c =
     rw (p.1, p.2) (λ e. inr (config, c.setup_of-config.ensures.settings, front_of_front _ _ _ _ (subst (WritesFront (g.W.Write.contents c.args.writer.now) (g.W.Write.contents c.print_outputs.new.writer)) c.as_slice-3.ensures.value (c.in_err-print_outputs.ensures.no_memory e)) front))
 
 pub returns-in-Ok-clause-ok : goal.returns-in-Ok-clause-ok
-returns-in-Ok-clause-ok g c = 
+returns-in-Ok-clause-ok g c =
     let config = c.setup_of-config.result.config in
     let are_events = c.as_slice-2.ensures.value ∙ c.in_ok-events.ensures ∙ ap (map event_of) (c.as_slice.ensures ∙ c.setup_of-config.ensures.events) in
     let is_engine = c.in_ok-engine.ensures ∙ ap (λ primed. Some (machine_of primed config)) c.setup_of-config.ensures.primed in

@@ -13,6 +13,8 @@ returns-in_err-print_output-clause-no_memory g c =
     let i = c.loop-output.output-index in
     let p = err_from_is_err_and c.from_residual.result c.from_residual.ensures.1 in
     rw (p.1, p.2)
-        (λ e.
-            (take i outputs, (drop i outputs, sym (take-append-drop i outputs)),
-            subst (λ w. Appends (g.W.Write.contents c.args.writer.now) (g.W.Write.contents w) (flat_map output_line (take i outputs))) (sym (c.in_err-print_output.ensures.no_memory e)) c.loop-output.invariant))
+    (λ e. (
+      take i outputs,
+      (drop i outputs, sym (take-append-drop i outputs)),
+      subst (λ w. Appends (g.W.Write.contents c.args.writer.now) (g.W.Write.contents w) (flat_map output_line (take i outputs))) (sym (c.in_err-print_output.ensures.no_memory e)) c.loop-output.invariant,
+    ))
