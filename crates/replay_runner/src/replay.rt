@@ -1,15 +1,12 @@
 //! A script, fed to an observer.
 
-ghost use Rattle.std.specs.Prelude.{◌≡◌, ℕ, List, Some, Ok, Err, IfOk, IfSome, OnOk, map, take};
+ghost use Rattle.std.specs.Prelude.{◌≡◌, IfOk, IfSome, OnOk, map};
 ghost use Rattle.std.specs.List.{flat_map};
-ghost use Rattle.std.specs.Io.KnownBytes.{Appends, Keeps};
+ghost use Rattle.std.specs.Io.KnownBytes.{Appends};
 ghost use Rattle.replay_script.specs.Bounds.{IsWithinBounds};
-ghost use Rattle.replay_script.specs.declared.script.Script.{Script as TheScript};
-ghost use Rattle.observer_core.specs.declared.config.Config.{Config as TheConfig};
 ghost use Rattle.observer_core.specs.declared.machine.Machine.{Machine as TheMachine};
 ghost use Rattle.replay_runner.specs.Lines.{output_line};
 ghost use Rattle.replay_runner.specs.Replay.{event_of, machine_of, end_line_of, WritesFront, PrintsAll, PrintsFront, Ends, EndsWith, HasSettings};
-ghost use Rattle.replay_runner.specs.Outcome.{status_of};
 ghost use Rattle.replay_runner.specs.declared.replay.Refusal.TheVariants as refusals;
 
 use crate::outcome::Outcome;
