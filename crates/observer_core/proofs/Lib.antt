@@ -2,3 +2,4 @@ pub mod Replies
 pub mod Streams
 pub mod Playing
 pub mod Meeting
+pub mod Rows

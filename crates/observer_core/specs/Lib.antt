@@ -2,3 +2,4 @@ pub mod Config
 pub mod Answer
 pub mod Play
 pub mod Meets
+pub mod Rows

@@ -131,6 +131,7 @@ fn nothing(rt: HostRuntime) -> Result<(), Fail> {
     assert_eq!(rt; idle.tree().paths(), 3);
     plays_on();
     cut_anywhere();
+    worked_rows();
     Ok(())
 }
 
