@@ -1,5 +1,5 @@
--- Which field a refusal names: those before it are spelled, and no bytes at its place spell it. For each format
--- this says which fault it is, and what is then against the spelling.
+-- Which field a refusal names: those before it are spelled, and no bytes at its place spell it. For
+-- each format this says which fault it is, and what is then against the spelling.
 use Rattle.std.specs.Prelude.{◌≡◌, ◌<◌, ◌≤◌, ◌<ℤ◌, ◌⊎◌, ℕ, pos, negsuc, List, [], ◌++◌, length, Some, Err, IsUtf8}
 use Rattle.std.specs.Int.{Width, w32, w64, byte_len}
 use Rattle.jute.specs.declared.fault.Fault.{Fault}

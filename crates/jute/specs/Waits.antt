@@ -1,5 +1,5 @@
--- Short is honest: a text that is too short for now has bytes to come that end the waiting. One cannot promise
--- that they end it with a value, since a text is judged at its last byte.
+-- Short is honest: bytes that are too few have others to come behind which the read is not Short.
+-- That it then finds a value cannot be promised, since a text is judged at its last byte.
 use Rattle.std.specs.Prelude.{◌≢◌, ℕ, List, ◌++◌, Result, Err}
 use Rattle.jute.specs.declared.fault.Fault.{Fault}
 use Rattle.jute.specs.declared.fault.Fault.TheVariants.{Short}

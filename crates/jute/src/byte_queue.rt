@@ -6,11 +6,12 @@ use crate::fault::NoMemory;
 use std::alloc::Global;
 use std::marker::Model;
 
-/// Bytes that wait to be read, seen as their list: pieces are added at the end, and what was read is dropped at the front.
+/// Bytes that wait to be read, seen as their list: pieces are added at the end, and what was read is dropped at
+/// the front.
 ///
-/// What was dropped stays in the buffer until it is more than what waits, and then the rest moves to the buffer's start. So each
-/// byte is moved once at most for each byte that is dropped, however small the pieces are, and the buffer holds at most twice
-/// what waits.
+/// What was dropped stays in the buffer until it is more than what waits, and then the rest moves to the buffer's
+/// start. So at most as many bytes are moved as are dropped, however small the pieces are, and the buffer holds at
+/// most twice what waits.
 #[derive(Debug, Drop)]
 pub struct ByteQueue {
     buffer: Vec<u8>,

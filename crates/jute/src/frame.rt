@@ -21,8 +21,8 @@ fn frame_length(length: i32, limit: u32) -> Result<u32, Fault>
     Ok(length)
 }
 
-/// Reads a frame: an int length from 0 to the limit, and that many bytes. Below 0 or above the limit it
-/// is `BadLength`, and with fewer bytes behind it `Short`. A refused read leaves the place unchanged.
+/// Reads a frame: an int length from 0 to the limit, and that many bytes. Below 0 or above the limit
+/// it is `BadLength`, and with fewer bytes behind it `Short`. A refused read leaves the place.
 #[tactic(auto, unfolding(crate::specs::Frame::frame_at))]
 pub fn read_frame<'a>(reader: &mut Reader<'a>, limit: u32) -> Result<&'a [u8], Fault>
     ensures { Took (frame limit) (λ b. b.now) result reader.old reader.new }

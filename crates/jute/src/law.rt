@@ -10,7 +10,8 @@ ghost use Rattle.jute.specs.Refusals.{Named, int_against, long_against, boolean_
 ghost use Rattle.jute.specs.Waits.{Waits};
 ghost use Rattle.std.specs.Prelude.{ℕ, ◌<◌, ◌^◌};
 
-/// What is read is spelled so, what is spelled so is read whatever follows, and what is written is a spelling.
+/// What is read is spelled so, what is spelled so is read whatever follows, and what is written is a
+/// spelling.
 pub fn formats()
     ensures int { Lawful int }
     ensures long { Lawful long }
@@ -30,8 +31,8 @@ pub fn formats()
     ensures frame { (limit : ℕ) → limit < 2 ^ 31 → Lawful (frame limit) }
 {}
 
-/// What was read stays read, and what was refused for another reason than too few bytes stays refused, whatever
-/// comes behind.
+/// What was read stays read, and what was refused for another reason than too few bytes stays
+/// refused, whatever comes behind.
 pub fn pieces()
     ensures int { Pieced int }
     ensures long { Pieced long }

@@ -1,4 +1,5 @@
-//! What stands in the frames of a client: headers, requests and replies. Texts and bytes are borrowed.
+//! What stands in the frames of a client: headers, requests and replies. Texts and bytes are
+//! borrowed.
 
 ghost use Rattle.jute.specs.Records.{request_header, reply_header, get_data_request, get_data_response, IsWritableBuffer};
 

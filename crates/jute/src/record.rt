@@ -10,8 +10,8 @@ use crate::reader::Reader;
 use crate::value::{Listed, Str};
 use std::alloc::Global;
 
-/// What is read from the front of a byte text. Its faults are those of its fields, the first one first; a refused
-/// read leaves the place unchanged.
+/// What is read from the front of a byte text. Its faults are those of its fields, the first one
+/// first; a refused read leaves the place unchanged.
 pub trait ReadRecord<'a>: Sized + Drop {
     ghost read_of: { List ℕ → Result (Self × List ℕ) TheFault };
 
@@ -36,7 +36,8 @@ fn read_items<'a, T: ReadRecord<'a>>(
     Ok(items)
 }
 
-/// Reads a vector of records: an int count, and the records one behind the other; `None` is null, the count -1.
+/// Reads a vector of records: an int count, and the records one behind the other; `None` is null,
+/// the count -1. Faults are those of the count, as in [`Reader::read_count`], and of the records.
 #[tactic(auto, unfolding(crate::specs::Format::vector_at))]
 pub fn read_vector<'a, T: ReadRecord<'a>>(
     alloc: Global,

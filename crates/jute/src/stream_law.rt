@@ -16,5 +16,6 @@ pub fn streams()
 /// What stands in the bytes, as a relation, is what the function finds, and nothing else is.
 pub fn relates()
     ensures found { (bytes : List ℕ) → IsBytes bytes → AreItems (only acl) tt bytes (items (only acl) (place_at tt bytes)) }
-    ensures alone { (bytes : List ℕ) (i : Items (Unit {0}) Acl) → AreItems (only acl) tt bytes i → items (only acl) (place_at tt bytes) ≡ i }
+    ensures alone { (bytes : List ℕ) (i : Items (Unit {0}) Acl) → AreItems (only acl) tt bytes i
+        → items (only acl) (place_at tt bytes) ≡ i }
 {}

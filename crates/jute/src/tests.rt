@@ -2,7 +2,7 @@ use super::*;
 use std::alloc::Global;
 use std::test::Fail;
 
-/// The frame that answers getData: header, bytes and Stat of a node that was created with two bytes.
+/// The frame that answers getData: header, bytes and Stat of a node that was created with two.
 const REPLY: [u8; 94] = *b"\x00\x00\x00\x5a\
     \x00\x00\x00\x01\x00\x00\x00\x01\x00\x00\x00\x01\x00\x00\x00\x00\
     \x00\x00\x00\x02hi\

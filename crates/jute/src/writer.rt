@@ -1,5 +1,5 @@
-//! Fields that are written behind a byte text. Where memory is refused, some of the new bytes may stand behind
-//! the old ones.
+//! Fields that are written behind a byte text. Where memory is refused, some of the new bytes may
+//! stand behind the old ones.
 
 ghost use Rattle.std.specs.Prelude.{◌≡◌, ◌<◌, ◌^◌, ◌++◌, length, OnOk, OnErr, IfSome, Some, option_map, List, ℕ, All};
 ghost use Rattle.std.specs.List.{flat_map};

@@ -1,5 +1,6 @@
 -- How long a reply is.
-use Rattle.std.proofs.Common.{◌≡◌, ℕ, ◌+◌, ◌<◌, ◌^◌, List, [], ◌∷◌, ◌++◌, length, Option, Some, None, Result, Ok, Err, refl, sym, ap, ◌∙◌, arith}
+use Rattle.std.proofs.Common.{◌≡◌, ℕ, ◌+◌, ◌<◌, ◌^◌, List, [], ◌∷◌, ◌++◌, length, Option, Some, None, Result, Ok, Err, refl, sym, ap, ◌∙◌, append_assoc, arith}
+use Rattle.std.specs.Borrow.{Bor}
 use Rattle.std.specs.Prelude.{ℤ, pos}
 use Rattle.std.proofs.lemmas.List.{length-append}
 use Rattle.jute.specs.Format.{number_bytes}
@@ -8,7 +9,7 @@ use Rattle.jute.specs.declared.stat.Stat.{Stat}
 use Rattle.data_tree.specs.Stats.{shown, length_of}
 use Rattle.data_tree.specs.declared.node.Node.{Node}
 use Rattle.observer_core.specs.declared.answer.Refusal.{Refusal}
-use Rattle.observer_core.specs.Answer.{header_text, reply_text, code_of}
+use Rattle.observer_core.specs.Answer.{header_text, reply_text, code_of, seen}
 
 header_length : (xid zxid err : ℤ) → length (header_text xid zxid err) ≡ 16
 unfolding reply_header number_bytes
@@ -33,3 +34,14 @@ writable xid zxid node h = by node.bytes (omega (arith, h, shown_length xid zxid
     by : (bytes : Option (List ℕ)) → length_of bytes < 2 ^ 31 → IsWritableBuffer bytes
     by None lt = tt
     by (Some bytes) lt = lt
+
+-- a header was put, and then the body behind it
+pub put : (old mid new : List ℕ) (xid zxid : ℤ) (r : Result (Bor Node) Refusal) (node : Bor Node) (bytes : Option (List ℕ)) (s : Stat)
+    → r ≡ Ok node → bytes ≡ node.now.bytes → s ≡ shown node.now
+    → mid ≡ old ++ header_text xid zxid (pos 0) → new ≡ mid ++ get_data_response.written (record { bytes = bytes; stat = s })
+    → new ≡ old ++ reply_text xid zxid (seen r)
+put old mid new xid zxid r node bytes s is bytes-is s-is mid-is new-is =
+    new-is
+    ∙ (λ i. mid-is i ++ get_data_response.written (record { bytes = bytes-is i; stat = s-is i }))
+    ∙ append_assoc old (header_text xid zxid (pos 0)) (get_data_response.written (record { bytes = node.now.bytes; stat = shown node.now }))
+    ∙ ap (λ (q : Result (Bor Node) Refusal). old ++ reply_text xid zxid (seen q)) (sym is)

@@ -1,13 +1,12 @@
 -- What a refusal of a part of a packet says of the packet.
-use Rattle.std.proofs.Common.{◌≡◌, ℕ, zero, suc, ◌+◌, ◌-◌, ◌*◌, ◌<◌, ◌≤◌, List, [], ◌∷◌, ◌++◌, length, drop, take, Option, Some, None, Result, Ok, Err, refl, sym, ap, subst, ◌∙◌, append_assoc, arith, ◌⊎◌, inl, inr}
+use Rattle.std.proofs.Common.{◌≡◌, ℕ, zero, suc, ◌-◌, ◌*◌, ◌<◌, ◌≤◌, List, [], ◌∷◌, ◌++◌, length, drop, take, Option, Some, None, Result, Ok, Err, refl, sym, ap, subst, ◌∙◌, append_assoc, arith, inl, inr}
 use Rattle.std.specs.Prelude.{ℤ, unwrap_or, OnOk, OnErr}
-use Rattle.std.proofs.lemmas.List.{length-append, length-drop, drop_at, drop-append-le, take-append-drop, append-nil}
+use Rattle.std.proofs.lemmas.List.{length-append, drop_at, drop-append-le, take-append-drop, append-nil}
 use Rattle.std.specs.Int.{w32, w64}
 use Rattle.jute.specs.declared.fault.Fault.{Fault}
-use Rattle.jute.specs.Format.{◌>>=◌, Format, int, long, buffer, name, count_limit, length_at, times, items_at, vector, vector_at, both, mapped}
+use Rattle.jute.specs.Format.{◌>>=◌, Format, int, long, buffer, name, count_limit, length_at, times, items_at, vector_at, both, mapped}
 use Rattle.jute.specs.Laws.{IsBytes}
 use Rattle.jute.specs.Owned.{id}
-use Rattle.jute.specs.declared.owned.Id.{Id}
 use Rattle.jute.specs.Pieces.{Stands, Pieced}
 use Rattle.jute.proofs.Refusals.{bind_err}
 use Rattle.jute.proofs.Lawfulness.{int_lawful, long_lawful, IsBytes-drop}

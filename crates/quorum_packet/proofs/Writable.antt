@@ -1,13 +1,14 @@
 -- What was read can be written: its lengths and counts are within the limits, and so fit an int.
-use Rattle.std.proofs.Common.{◌≡◌, ℕ, ◌<◌, ◌^◌, List, [], ◌∷◌, ◌++◌, length, Option, Some, None, Ok, arith, ◌⊎◌, inl, inr}
+use Rattle.std.proofs.Common.{◌≡◌, ℕ, ◌<◌, ◌^◌, List, [], ◌∷◌, length, Option, Some, None, Ok, arith, inl, inr}
 use Rattle.std.specs.Prelude.{All}
 use Rattle.std.proofs.lemmas.List.Elements.{All-nil, All-cons}
 use Rattle.jute.specs.declared.owned.Id.{Id}
 use Rattle.jute.specs.Format.{name, SpellsBuffer, SpellsEach, SpellsVector}
 use Rattle.jute.specs.Laws.{IsBytes}
+use Rattle.jute.specs.Records.{IsWritableBuffer}
 use Rattle.jute.specs.Owned.{id, IsWritableId}
 use Rattle.quorum_packet.specs.declared.packet.QuorumPacket.{QuorumPacket}
-use Rattle.quorum_packet.specs.Packet.{packet, IsWritableBytes, IsWritableIds, IsWritable}
+use Rattle.quorum_packet.specs.Packet.{packet, IsWritableIds, IsWritable}
 use Rattle.quorum_packet.proofs.PacketFormat.{packet_sound}
 
 name_writable : (v text : List ℕ) → name.Spells v text → length v < 2 ^ 31
@@ -22,7 +23,7 @@ ids_writable : (vs : List Id) (text : List ℕ) → SpellsEach id.Spells vs text
 ids_writable [] text s = All-nil IsWritableId
 ids_writable (v ∷ vs) text s = All-cons IsWritableId v vs (id_writable v s.0 s.3) (ids_writable vs s.1 s.4)
 
-bytes_writable : (bytes : Option (List ℕ)) (text : List ℕ) → SpellsBuffer bytes text → IsWritableBytes bytes
+bytes_writable : (bytes : Option (List ℕ)) (text : List ℕ) → SpellsBuffer bytes text → IsWritableBuffer bytes
 bytes_writable None text s = tt
 bytes_writable (Some bytes) text s = omega (arith, s.0)
 

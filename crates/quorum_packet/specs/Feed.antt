@@ -19,7 +19,8 @@ unread_len (Err e) = 0
 
 -- What next answers and leaves: the first packet and the stream behind it, that no packet is whole, or the fault.
 abbrev pub First : Result (Option QuorumPacket) ReadError → Place Phase → Place Phase → Type 0
-First (Ok (Some p)) old new = (items packets old ≡ before p (items packets new)) × (unread_len new.unread < unread_len old.unread)
+First (Ok (Some p)) old new =
+    (items packets old ≡ before p (items packets new)) × (unread_len new.unread < unread_len old.unread)
 First (Ok None) old new = (items packets old ≡ nothing new) × (is_err new.unread ≡ false)
 First (Err errors.NoMemory) old new = new ≡ old
 First (Err (errors.Fault e)) old new = (items packets old ≡ nothing new) × (new.unread ≡ Err e)

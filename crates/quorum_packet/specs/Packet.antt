@@ -1,8 +1,8 @@
 -- The QuorumPacket of zookeeper.jute.
-use Rattle.std.specs.Prelude.{ℕ, List, Option, Some, None, length, ◌<◌, ◌^◌}
-use Rattle.std.specs.Prelude.{All}
+use Rattle.std.specs.Prelude.{List, Option, Some, None, length, ◌<◌, ◌^◌, All}
 use Rattle.jute.specs.Format.{Format, int, long, buffer, vector, both, mapped}
 use Rattle.jute.specs.Owned.{id, IsWritableId}
+use Rattle.jute.specs.Records.{IsWritableBuffer}
 use Rattle.jute.specs.Refusals.{Against, int_against, long_against, buffer_against, both_against, vector_against, id_against}
 use Rattle.jute.specs.declared.owned.Id.{Id}
 use Rattle.quorum_packet.specs.declared.packet.QuorumPacket.{QuorumPacket}
@@ -17,15 +17,11 @@ abbrev pub packet_against : Against
 packet_against =
     both_against int int_against (both_against long long_against (both_against buffer buffer_against (vector_against id id_against)))
 
-abbrev pub IsWritableBytes : Option (List ℕ) → Type 0
-IsWritableBytes None = Unit {0}
-IsWritableBytes (Some bytes) = length bytes < 2 ^ 31
-
 abbrev pub IsWritableIds : Option (List Id) → Type 0
 IsWritableIds None = Unit {0}
 IsWritableIds (Some ids) = (length ids < 2 ^ 31) × All IsWritableId ids
 
 -- its lengths and counts fit an int
 pub record IsWritable (p : QuorumPacket) : Type 0 where
-  pub bytes : IsWritableBytes p.bytes
+  pub bytes : IsWritableBuffer p.bytes
   pub authinfo : IsWritableIds p.authinfo

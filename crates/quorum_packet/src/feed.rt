@@ -16,11 +16,11 @@ use jute::{ByteQueue, Fault, NoMemory, ReadError, ReadRecord, Reader};
 use std::alloc::Global;
 use std::marker::Model;
 
-/// The packets of a stream, seen as the place up to which it was read: what stands there next, and the bytes that aren't read
-/// yet, or the fault that ended it.
+/// The packets of a stream, seen as the place up to which it was read: what stands there next, and the bytes
+/// that aren't read yet, or the fault that ended it.
 ///
-/// A packet is read when all of it is in. Until then only what a piece brings is looked at, so the work is linear in the bytes
-/// of the stream, however it is cut.
+/// A packet is read when all of it is in. Until then only what a piece brings is looked at, so the work is linear
+/// in the bytes of the stream, however it is cut.
 #[derive(Drop)]
 pub struct PacketFeed {
     waiting: ByteQueue,
@@ -43,7 +43,7 @@ impl Model for PacketFeed {
     ghost invariant = { λ f. MayBeUnseen f.waiting f.unseen };
 }
 
-/// A packet at the front, and how many bytes it takes.
+// A packet at the front, and how many bytes it takes.
 fn read_front(alloc: Global, bytes: &[u8]) -> Result<(QuorumPacket, usize), ReadError>
     ensures { ReadsFront result bytes.now }
 {
@@ -85,8 +85,8 @@ impl PacketFeed {
         self.waiting.add(piece)
     }
 
-    /// The first packet, or `None` where none is whole. After a fault it answers that fault from then on, and behind a SNAP packet
-    /// `None` whatever comes. Refused memory leaves the feed as it was.
+    /// The first packet, or `None` where none is whole. After a fault it answers that fault from then on, and behind
+    /// a SNAP packet `None`, whatever comes. Refused memory leaves the feed as it was.
     pub fn next(&mut self, alloc: Global) -> Result<Option<QuorumPacket>, ReadError>
         ensures first { First result self.old self.new }
         ensures writable { IfOk result (λ found. IfSome found IsWritable) }
@@ -142,7 +142,8 @@ impl PacketFeed {
         }
     }
 
-    /// Whether the stream may end here: after a fault that fault, and `Short` where a part of a packet waits or an image is owed.
+    /// Whether the stream may end here: after a fault that fault, and `Short` where a part of a packet waits or an
+    /// image is owed.
     pub fn end(&self) -> Result<(), Fault>
         ensures { result ≡ end_of self.now }
     {

@@ -12,8 +12,9 @@ ghost use Rattle.quorum_packet.specs.Packets.{packets};
 ghost use Rattle.quorum_packet.specs.declared.packet.QuorumPacket.{QuorumPacket};
 ghost use Rattle.quorum_packet.specs.declared.phase.Phase.{Phase};
 
-/// A packet is read exactly where its spelling stands, and a refusal names the first field that no bytes at its place spell.
-/// The packets of a stream are the longest list whose spellings, joined, are a front of its bytes, however it is cut.
+/// A packet is read exactly where its spelling stands, and a refusal names the first field that no bytes at its
+/// place spell. The packets of a stream are the longest list whose spellings, joined, are a front of its bytes,
+/// however it is cut.
 pub fn packet_stream()
     ensures lawful { Lawful packet }
     ensures pieced { Pieced packet }
@@ -21,5 +22,6 @@ pub fn packet_stream()
     ensures waits { Waits packet }
     ensures pieces { ComesInPieces packets }
     ensures found { (phase : Phase) (bytes : List ℕ) → IsBytes bytes → AreItems packets phase bytes (items packets (place_at phase bytes)) }
-    ensures alone { (phase : Phase) (bytes : List ℕ) (i : Items Phase QuorumPacket) → AreItems packets phase bytes i → items packets (place_at phase bytes) ≡ i }
+    ensures alone { (phase : Phase) (bytes : List ℕ) (i : Items Phase QuorumPacket) → AreItems packets phase bytes i
+        → items packets (place_at phase bytes) ≡ i }
 {}

@@ -4,8 +4,9 @@ ghost use Rattle.std.specs.Prelude.{◌≡◌, ◌++◌, OnOk, OnErr};
 ghost use Rattle.jute.specs.Format.{buffer, vector};
 ghost use Rattle.jute.specs.Owned.{id};
 ghost use Rattle.jute.specs.Reads.{Gives};
+ghost use Rattle.jute.specs.Records.{IsWritableBuffer};
 ghost use Rattle.jute.specs.Writes.{IsFront};
-ghost use Rattle.quorum_packet.specs.Packet.{packet as packet_format, IsWritable as IsWritablePacket, IsWritableBytes, IsWritableIds};
+ghost use Rattle.quorum_packet.specs.Packet.{packet as packet_format, IsWritable as IsWritablePacket, IsWritableIds};
 
 use jute::{
     Blob, Id, Listed, NoMemory, ReadError, ReadRecord, Reader, put_bytes, put_int, put_long,
@@ -59,7 +60,7 @@ impl<'a> ReadRecord<'a> for QuorumPacket {
 }
 
 fn put_blob(blob: &Option<Blob>, out: &mut Vec<u8>) -> Result<(), NoMemory>
-    requires { IsWritableBytes blob.now }
+    requires { IsWritableBuffer blob.now }
     ensures ok { OnOk result (out.new.items ≡ out.old.items ++ buffer.written blob.now) }
     ensures err { OnErr result (IsFront out.old.items out.new.items) }
 {
@@ -80,7 +81,8 @@ fn put_ids(ids: &Option<Listed<Id>>, out: &mut Vec<u8>) -> Result<(), NoMemory>
     }
 }
 
-/// Writes the packet behind what stands there. Where memory is refused, some of its bytes may stand behind the old ones.
+/// Writes the packet behind what stands there. Where memory is refused, some of its bytes may stand behind the
+/// old ones.
 #[tactic(auto, unfolding(crate::specs::Packet::packet))]
 pub fn write_packet(packet: &QuorumPacket, out: &mut Vec<u8>) -> Result<(), NoMemory>
     requires { IsWritablePacket packet.now }

@@ -1,8 +1,8 @@
 //! What of the packet at the front wasn't looked at yet, so that no byte is looked at anew at each piece.
 
-ghost use Rattle.std.specs.Prelude.{◌≡◌, Err, IfOk, IfErr};
+ghost use Rattle.std.specs.Prelude.{◌≡◌, Err, IfOk, IfErr, OnOk};
 ghost use Rattle.quorum_packet.specs.Packet.{packet};
-ghost use Rattle.quorum_packet.specs.Unseen.{IsUnseen, MayBeUnseen};
+ghost use Rattle.quorum_packet.specs.Unseen.{IsUnseen, MayBeUnseen, AllSeen};
 
 use jute::{Fault, Reader, read_name};
 
@@ -34,6 +34,7 @@ fn look_at_fields(bytes: &[u8]) -> Result<Unseen, Fault>
 fn look_at_texts(bytes: &[u8], unseen: &mut Unseen) -> Result<(), Fault>
     requires { IsUnseen bytes.now unseen.old }
     ensures kept { IsUnseen bytes.now unseen.new }
+    ensures seen { OnOk result (unseen.new.texts ≡ 0) }
     ensures err { IfErr result (λ e. packet.read bytes.now ≡ Err e) }
 {
     let mut ahead = Reader::new(&bytes[unseen.start..]);
@@ -45,10 +46,11 @@ fn look_at_texts(bytes: &[u8], unseen: &mut Unseen) -> Result<(), Fault>
     Ok(())
 }
 
-/// Looks at what is whole of the packet at the front. It answers the packet's refusal, if there is one.
+/// Looks at what is in of the packet at the front. It answers the packet's refusal, if there is one.
 pub fn look(bytes: &[u8], unseen: &mut Option<Unseen>) -> Result<(), Fault>
     requires { MayBeUnseen bytes.now unseen.old }
     ensures kept { MayBeUnseen bytes.now unseen.new }
+    ensures seen { OnOk result (AllSeen unseen.new) }
     ensures err { IfErr result (λ e. packet.read bytes.now ≡ Err e) }
 {
     let mut texts = match *unseen {

@@ -1,11 +1,11 @@
 -- Operations, parts and bodies: what is read is spelled so, what is spelled is read, and what is written is a spelling.
-use Rattle.std.proofs.Common.{◌≡◌, ℕ, Bool, true, false, cond, List, [], ◌∷◌, ◌++◌, length, Option, Some, None, Result, Ok, Err, refl, sym, ap, subst, ◌∙◌, append_assoc, inl, inr}
+use Rattle.std.proofs.Common.{◌≡◌, ℕ, Bool, true, false, cond, List, [], ◌++◌, length, Option, Some, None, Result, Ok, Err, refl, sym, ap, subst, ◌∙◌, append_assoc, inl, inr}
 use Rattle.std.specs.Prelude.{ℤ, pos, IfOk}
 use Rattle.std.specs.Int.{w32}
 use Rattle.jute.specs.declared.fault.Fault.{Fault}
 use Rattle.jute.specs.declared.fault.Fault.TheVariants.{BadTxnType}
 use Rattle.jute.specs.declared.fault.ReadError.{ReadError}
-use Rattle.jute.specs.Format.{Format, ◌>>=◌, int, long, boolean, buffer, buffer_at, vector, both, mapped, counted, number_bytes}
+use Rattle.jute.specs.Format.{Format, ◌>>=◌, int, long, boolean, buffer, buffer_at, vector, number_bytes}
 use Rattle.jute.specs.Owned.{acl}
 use Rattle.jute.specs.Reads.{GivesWhole}
 use Rattle.jute.specs.Laws.{IsBytes, Takes, Lawful}
@@ -23,7 +23,7 @@ use Rattle.txn_codec.specs.declared.txn.Txn.{Txn}
 use Rattle.txn_codec.specs.Ends.{LawfulAtEnd}
 use Rattle.txn_codec.specs.Paths.{is_path, is_child_path}
 use Rattle.txn_codec.specs.Kinds.{operation_kind, body_kind}
-use Rattle.txn_codec.specs.Spelling.{child_path, path, int_or_end, kind, create_with, set_data, set_acl, check, header, SpellsOperation, operation_bytes, FitsOperation, operation_at, operation, whole, is_part, part_of, part_at, part_bytes, part, or_none, or_null, parts_of, SpellsContent, content_bytes, FitsContent, single_at, content_at, content, body_at, body, txn}
+use Rattle.txn_codec.specs.Spelling.{child_path, path, int_or_end, kind, create_with, set_data, set_acl, check, header, SpellsOperation, operation_bytes, FitsOperation, operation_at, operation, whole, is_part, part_of, part_at, part, or_none, or_null, parts_of, SpellsContent, content_bytes, FitsContent, single_at, content_at, content, body_at, body, txn}
 use Rattle.txn_codec.proofs.Spelled.{IsBytes-back, IsBytes-front, ends, both_ends, mapped_ends, whole_found, whole_again, path_lawful, last_lawful, kind_lawful}
 
 -- ---- records

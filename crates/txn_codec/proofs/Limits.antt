@@ -1,6 +1,6 @@
 -- What is spelled is within the limits, and so it may be written; the written spelling of a part is not longer than another.
-use Rattle.std.proofs.Common.{◌≡◌, ℕ, ◌+◌, ◌<◌, ◌≤◌, ◌^◌, List, [], ◌∷◌, ◌++◌, length, Option, Some, None, Result, Ok, Err, refl, sym, ap, subst, ◌∙◌, ◌⊎◌, inl, inr, arith, length-append}
-use Rattle.std.specs.Prelude.{ℤ, pos, negsuc, IfOk, All}
+use Rattle.std.proofs.Common.{◌≡◌, ℕ, ◌<◌, ◌≤◌, ◌^◌, List, [], ◌∷◌, length, Option, Some, None, Result, Ok, Err, refl, sym, ap, subst, inl, inr, arith, length-append}
+use Rattle.std.specs.Prelude.{ℤ, pos, negsuc, IfOk}
 use Rattle.std.specs.Int.{w32}
 use Rattle.std.specs.List.{flat_map, AllByRecursion}
 use Rattle.std.proofs.lemmas.List.Elements.{All-from_recursion}
@@ -17,8 +17,8 @@ use Rattle.txn_codec.specs.declared.txn.Body.TheVariants as bodies
 use Rattle.txn_codec.specs.declared.txn.Txn.{Txn}
 use Rattle.txn_codec.specs.Paths.{is_path, is_child_path}
 use Rattle.txn_codec.specs.Parents.{HasParent, HaveParents}
-use Rattle.txn_codec.specs.Spelling.{path_by, path, child_path, int_or_end, kind, create_with, set_data, set_acl, check, header, SpellsOperation, operation_bytes, FitsOperation, part, parts_of, SpellsContent, FitsContent, body, txn}
-use Rattle.txn_codec.specs.Writable.{IsWritableBuffer, IsWritableAcls, IsWritableCreate, IsWritableOperation, IsWritablePart, IsWritableBody}
+use Rattle.txn_codec.specs.Spelling.{path_by, path, child_path, int_or_end, create_with, set_data, set_acl, check, header, SpellsOperation, operation_bytes, FitsOperation, part, parts_of, SpellsContent, FitsContent, body, txn}
+use Rattle.txn_codec.specs.Writable.{IsWritableBuffer, IsWritableAcls, IsWritableOperation, IsWritablePart, IsWritableBody}
 
 -- what is spelled is within the limits
 record Limited {A : Type 0} (f : Format A) : Type 0 where

@@ -1,32 +1,31 @@
 -- A refusal names the first field against the spelling.
-use Rattle.std.proofs.Common.{◌≡◌, ◌≢◌, ℕ, zero, suc, Bool, true, false, cond, eqb, List, [], ◌∷◌, ◌++◌, length, Option, Some, None, Result, Ok, Err, refl, sym, ap, subst, ◌∙◌, ◌⊎◌, inl, inr, arith}
+use Rattle.std.proofs.Common.{◌≡◌, ◌≢◌, ℕ, Bool, true, false, cond, eqb, List, [], ◌∷◌, ◌++◌, length, Option, Some, None, Result, Ok, Err, refl, sym, ap, subst, ◌∙◌, ◌⊎◌, inl, inr}
 use Rattle.std.specs.Prelude.{ℤ, negsuc, IsTrue, IfErr}
 use Rattle.std.specs.Int.{w32, w64}
 use Rattle.jute.specs.declared.fault.Fault.{Fault}
-use Rattle.jute.specs.declared.fault.Fault.TheVariants.{Short, BadPath, BadTxnType, TrailingBytes}
+use Rattle.jute.specs.declared.fault.Fault.TheVariants.{BadPath, BadTxnType, TrailingBytes}
 use Rattle.jute.specs.declared.fault.ReadError.{ReadError}
 use Rattle.jute.specs.declared.fault.ReadError.TheVariants as errors
-use Rattle.jute.specs.Format.{Format, ◌>>=◌, int, long, boolean, buffer, buffer_at, text, text_at, vector, both, mapped}
+use Rattle.jute.specs.Format.{Format, ◌>>=◌, int, long, boolean, buffer, buffer_at, text_at, vector}
 use Rattle.jute.specs.Owned.{acl}
 use Rattle.jute.specs.Reads.{GivesWhole}
-use Rattle.jute.specs.Laws.{IsBytes, Takes, Lawful}
-use Rattle.jute.specs.Refusals.{Against, Named, Behind, int_against, long_against, boolean_against, buffer_against, text_against, both_against, vector_against, acl_against}
-use Rattle.jute.proofs.Lawfulness.{int_lawful, long_lawful, both_lawful}
+use Rattle.jute.specs.Laws.{IsBytes, Lawful}
+use Rattle.jute.specs.Refusals.{Against, Named, Behind, int_against, buffer_against, vector_against, acl_against}
+use Rattle.jute.proofs.Lawfulness.{int_lawful, long_lawful}
 use Rattle.jute.proofs.Fields.{text_lawful, buffer_lawful, boolean_lawful, vector_lawful}
-use Rattle.jute.proofs.Refusals.{bind_err, guard_err, guard_refused, number_named, boolean_named, buffer_named, text_named, both_named, mapped_named, vector_named}
+use Rattle.jute.proofs.Refusals.{bind_err, guard_refused, number_named, boolean_named, buffer_named, text_named, both_named, mapped_named, vector_named}
 use Rattle.jute.proofs.Records.{acl_lawful, acl_sound}
 use Rattle.txn_codec.specs.declared.kind.Kind.{Kind}
 use Rattle.txn_codec.specs.declared.kind.Kind.TheVariants as kinds
 use Rattle.txn_codec.specs.declared.txn.Operation.{Operation}
 use Rattle.txn_codec.specs.declared.txn.Operation.TheVariants as operations
-use Rattle.txn_codec.specs.declared.txn.Body.{Body}
 use Rattle.txn_codec.specs.declared.txn.Body.TheVariants as bodies
 use Rattle.txn_codec.specs.declared.txn.Txn.{Txn}
 use Rattle.txn_codec.specs.Ends.{LawfulAtEnd}
 use Rattle.txn_codec.specs.Kinds.{kind_of, code_of}
 use Rattle.txn_codec.specs.Paths.{is_path, is_child_path}
 use Rattle.txn_codec.specs.Refusals.{path_against, type_against, last_against, whole_against, create_against, set_data_against, set_acl_against, check_against, header_against, operation_against, held_against, part_against, content_against, body_against, txn_against, IfFault}
-use Rattle.txn_codec.specs.Spelling.{tested, path_by, path, child_path, last_at, int_or_end, kind, create_with, set_data, set_acl, check, header, operation_at, operation, whole, is_part, part_of, part_at, part, or_none, or_null, parts_of, single_at, content_at, body_at, body, txn}
+use Rattle.txn_codec.specs.Spelling.{tested, path_by, path, child_path, last_at, int_or_end, kind, create_with, set_data, set_acl, check, header, operation_at, operation, whole, is_part, part_of, part_at, part, or_none, parts_of, single_at, content_at, body_at, body, txn}
 use Rattle.txn_codec.proofs.Spelled.{path_lawful, kind_lawful, kind_found, code_fits, whole_again}
 use Rattle.txn_codec.proofs.Bodies.{child_lawful, header_lawful, IsBytes-buffer, part_ends, part_lawful, txn_ends}
 

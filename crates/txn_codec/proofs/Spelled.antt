@@ -1,19 +1,16 @@
 -- What is read is spelled so, and what is spelled so is read.
-use Rattle.std.proofs.Common.{◌≡◌, ℕ, zero, suc, ◌+◌, ◌-◌, ◌<◌, ◌≤◌, Bool, true, false, cond, eqb, List, [], ◌∷◌, ◌++◌, length, get_or, Option, Some, None, Result, Ok, Err, refl, sym, ap, subst, ◌∙◌, append_assoc, arith, inl, inr, ◌⊎◌}
+use Rattle.std.proofs.Common.{◌≡◌, ℕ, zero, suc, Bool, true, false, cond, eqb, List, [], ◌∷◌, ◌++◌, length, Option, Some, None, Result, Ok, Err, refl, sym, ap, subst, ◌∙◌, append_assoc, arith, inl, inr}
 use Rattle.std.specs.Prelude.{ℤ, pos, negsuc, IsTrue}
 use Rattle.std.specs.Ordering.{int_eq}
 use Rattle.std.proofs.lemmas.Bool.{eqb-true}
 use Rattle.std.proofs.lemmas.Bool.Decides.{Decides-int_eq}
-use Rattle.std.proofs.lemmas.List.{append-nil, nil_from_length, length-append}
-use Rattle.std.proofs.lemmas.List.{get_or-append_right, get_or_append_left}
+use Rattle.std.proofs.lemmas.List.{append-nil, nil_from_length}
 use Rattle.jute.specs.declared.fault.Fault.{Fault}
-use Rattle.jute.specs.declared.fault.Fault.TheVariants.{Short, BadPath, BadTxnType, TrailingBytes}
-use Rattle.jute.specs.declared.owned.Acl.{Acl}
-use Rattle.jute.specs.Format.{Format, ◌>>=◌, int, long, boolean, buffer, buffer_at, text, text_at, vector, vector_at, both, mapped, null, number_bytes}
-use Rattle.jute.specs.Owned.{acl}
+use Rattle.jute.specs.declared.fault.Fault.TheVariants.{BadPath, TrailingBytes}
+use Rattle.jute.specs.Format.{Format, ◌>>=◌, int, text, text_at, both, mapped, number_bytes}
 use Rattle.jute.specs.Laws.{IsBytes, Takes, Lawful}
-use Rattle.jute.proofs.Lawfulness.{bind_ok, guard_ok, ok_is, int_lawful, long_lawful, both_lawful, mapped_lawful}
-use Rattle.jute.proofs.Fields.{text_lawful, buffer_lawful, boolean_lawful, vector_lawful}
+use Rattle.jute.proofs.Lawfulness.{bind_ok, ok_is, int_lawful}
+use Rattle.jute.proofs.Fields.{text_lawful}
 use Rattle.txn_codec.specs.declared.kind.Kind.{Kind}
 use Rattle.txn_codec.specs.declared.kind.Kind.TheVariants as kinds
 use Rattle.txn_codec.specs.Ends.{LawfulAtEnd}

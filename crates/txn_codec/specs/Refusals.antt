@@ -1,5 +1,5 @@
 -- Which field a refusal names: those before it are spelled, and no bytes at its place spell it.
-use Rattle.std.specs.Prelude.{◌≡◌, ◌≢◌, ◌⊎◌, ℕ, ℤ, Bool, List, [], ◌++◌, Option, Some, None, IsTrue}
+use Rattle.std.specs.Prelude.{◌≡◌, ◌≢◌, ◌⊎◌, ℕ, Bool, List, [], Option, Some, None, IsTrue}
 use Rattle.jute.specs.declared.fault.Fault.{Fault}
 use Rattle.jute.specs.declared.fault.Fault.TheVariants.{Short, BadPath, BadTxnType, TrailingBytes}
 use Rattle.jute.specs.declared.fault.ReadError.{ReadError}
@@ -9,10 +9,9 @@ use Rattle.jute.specs.Owned.{acl}
 use Rattle.jute.specs.Refusals.{Against, Behind, int_against, long_against, boolean_against, buffer_against, text_against, both_against, vector_against, acl_against}
 use Rattle.txn_codec.specs.declared.kind.Kind.{Kind}
 use Rattle.txn_codec.specs.declared.kind.Kind.TheVariants as kinds
-use Rattle.txn_codec.specs.declared.txn.Txn.{Txn}
 use Rattle.txn_codec.specs.Paths.{is_path, is_child_path}
 use Rattle.txn_codec.specs.Kinds.{code_of}
-use Rattle.txn_codec.specs.Spelling.{path, child_path, kind, header, operation, is_part, part, txn}
+use Rattle.txn_codec.specs.Spelling.{path, child_path, kind, header, operation, is_part, part}
 
 -- ---- fields
 

@@ -1,5 +1,5 @@
-use Rattle.observer_core.proofs.Rows.{worked_rows}
+use Rattle.observer_core.proofs.Rows.{rows_hold}
 use Rattle.observer_core.proofs.law.worked_rows.Goals as goal
 
 pub returns : goal.returns
-returns c = worked_rows
+returns c = rows_hold c.transactions.ensures.again

@@ -1,4 +1,4 @@
-use Rattle.std.proofs.Common.{arith, sym, ◌∙◌}
+use Rattle.std.proofs.Common.{arith}
 use Rattle.std.proofs.lemmas.Result.{err_from_is_err_and}
 use Rattle.quorum_packet.proofs.Looking.{text_refused, text_unseen}
 use Rattle.quorum_packet.proofs.unseen.look_at_texts.Goals as goal

@@ -1,6 +1,4 @@
 use Rattle.std.proofs.Common.{arith}
-use Rattle.std.specs.Prelude.{IfOk}
-use Rattle.txn_codec.specs.Spelling.{txn}
 use Rattle.txn_codec.proofs.Bodies.{decoded, decoded_only}
 use Rattle.txn_codec.proofs.Limits.{decoded_fits, decoded_writable, decoded_parents}
 use Rattle.txn_codec.proofs.Naming.{refused_is_named, refused_spells_none}

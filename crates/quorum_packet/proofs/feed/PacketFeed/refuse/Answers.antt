@@ -1,7 +1,6 @@
 use Rattle.std.proofs.Common.{ap, refl}
 use Rattle.jute.specs.Stream.{Place}
 use Rattle.quorum_packet.specs.declared.phase.Phase.{Phase}
-use Rattle.quorum_packet.specs.Feed.{Refuses}
 use Rattle.quorum_packet.proofs.Fronts.{short_at, refused_at}
 use Rattle.quorum_packet.proofs.feed.PacketFeed.refuse.Goals as goal
 

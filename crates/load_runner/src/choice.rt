@@ -1,0 +1,28 @@
+//! Numbers in an order that only looks like chance.
+
+ghost use Rattle.std.specs.Prelude.{◌<◌, ◌≤◌};
+
+/// A fixed sequence of numbers (a linear congruence of 64 bits).
+#[derive(Debug, Drop)]
+pub struct Choice {
+    state: u64,
+}
+
+impl Choice {
+    pub fn new() -> Choice {
+        Choice { state: 1 }
+    }
+
+    /// The next number, which is below the one given.
+    pub fn below(&mut self, end: u32) -> u32
+        requires { 1 ≤ end }
+        ensures { result < end }
+    {
+        self.state = self
+            .state
+            .wrapping_mul(6_364_136_223_846_793_005)
+            .wrapping_add(1_442_695_040_888_963_407);
+        let upper = self.state >> 33;
+        (upper % u64::from(end)) as u32
+    }
+}

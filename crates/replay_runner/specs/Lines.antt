@@ -1,0 +1,45 @@
+-- The lines that a replay prints.
+use Rattle.std.specs.Prelude.{ℕ, ℤ, List, [], ◌∷◌, ◌++◌, false, codes, decimal}
+use Rattle.std.specs.Int.{w64, cast_unsigned}
+use Rattle.std.specs.Fmt.{radix_digits}
+use Rattle.jute.specs.Faults.{fault_number}
+use Rattle.jute.specs.declared.fault.Fault.{Fault}
+use Rattle.jute.specs.declared.fault.Fault.TheVariants.{Short, BadLength, BadText, BadPath, BadTxnType, TrailingBytes, OutOfOrder, CommitMismatch, CannotTruncate, BadImage, EpochTooSmall, UnexpectedPacket}
+use Rattle.observer_core.specs.declared.event.Output.{Output}
+use Rattle.observer_core.specs.declared.event.Output.TheVariants.{ToLeader, ToClient, CloseLeader, CloseClient}
+use Rattle.replay_script.specs.Hex.{digits}
+
+abbrev pub fault_word : Fault → List ℕ
+fault_word Short = codes "Short"
+fault_word BadLength = codes "BadLength"
+fault_word BadText = codes "BadText"
+fault_word BadPath = codes "BadPath"
+fault_word BadTxnType = codes "BadTxnType"
+fault_word TrailingBytes = codes "TrailingBytes"
+fault_word OutOfOrder = codes "OutOfOrder"
+fault_word CommitMismatch = codes "CommitMismatch"
+fault_word CannotTruncate = codes "CannotTruncate"
+fault_word BadImage = codes "BadImage"
+fault_word EpochTooSmall = codes "EpochTooSmall"
+fault_word UnexpectedPacket = codes "UnexpectedPacket"
+
+abbrev pub line_end : List ℕ
+line_end = 10 ∷ []
+
+-- what an output prints, without the end of the line
+abbrev pub output_text : Output → List ℕ
+output_text (ToLeader bytes) = codes "L " ++ digits bytes
+output_text (ToClient client bytes) = codes "C " ++ decimal client ++ codes " " ++ digits bytes
+output_text (CloseLeader fault) = codes "L close F" ++ decimal (fault_number fault) ++ codes " " ++ fault_word fault
+output_text (CloseClient client) = codes "C " ++ decimal client ++ codes " close"
+
+abbrev pub output_line : Output → List ℕ
+output_line output = output_text output ++ line_end
+
+-- the 64 bits of two's complement as a number in lower-case hexadecimal digits, without zeros in front
+abbrev pub hex_number : ℤ → List ℕ
+hex_number number = radix_digits 16 false (cast_unsigned w64 number)
+
+-- the last line: the last zxid and the number of paths
+abbrev pub end_line : ℤ → ℕ → List ℕ
+end_line zxid paths = codes "end zxid=0x" ++ hex_number zxid ++ codes " paths=" ++ decimal paths ++ line_end

@@ -1,0 +1,84 @@
+//! Replays scripts: feeds an observer the events of a script, and prints what goes out.
+#![tactic(auto)]
+
+mod command;
+mod outcome;
+mod print;
+mod replay;
+
+use command::{Source, source_of};
+use outcome::Outcome;
+use replay::replay_on;
+use std::alloc::AllocError;
+use std::io::{BufWriter, Error, ErrorKind, Read};
+use std::process::ExitCode;
+use std::{env, fs};
+
+// Where no script was replayed.
+fn fail(rt: &HostRuntime, outcome: Outcome) -> u8 {
+    let _ = outcome.tell(&mut rt.stderr());
+    outcome.status()
+}
+
+fn usage(rt: &HostRuntime) -> u8 {
+    let _ = eprintln!(rt; "usage");
+    2
+}
+
+// What a failed call of the system ends with.
+fn outcome_of(error: &Error) -> Outcome {
+    if error.kind() == ErrorKind::OutOfMemory {
+        Outcome::NoMemory
+    } else {
+        Outcome::Failed
+    }
+}
+
+fn replay_from<R: Read>(rt: &HostRuntime, reader: &mut R) -> u8 {
+    match BufWriter::new(rt.alloc(), rt.stdout()) {
+        Ok(mut writer) => replay_on(rt.alloc(), reader, &mut writer, &mut rt.stderr()),
+        Err(_) => fail(rt, Outcome::NoMemory),
+    }
+}
+
+fn replay_source(rt: &HostRuntime, source: Source<'_>) -> u8 {
+    match source {
+        Source::Input => replay_from(rt, &mut rt.stdin()),
+        Source::File(name) => match fs::File::open(rt, name.as_str()) {
+            Ok(mut file) => replay_from(rt, &mut file),
+            Err(error) => fail(rt, outcome_of(&error)),
+        },
+    }
+}
+
+// The words behind the program's name.
+fn words(rt: &HostRuntime) -> Result<Vec<String>, Error> {
+    let mut words = Vec::new(rt.alloc());
+    for word in env::args(rt)?.skip(1) {
+        words.push(word).map_err(AllocError::from)?;
+    }
+    Ok(words)
+}
+
+fn run(rt: &HostRuntime) -> u8 {
+    let words = match words(rt) {
+        Ok(words) => words,
+        Err(error) => {
+            return match outcome_of(&error) {
+                Outcome::NoMemory => fail(rt, Outcome::NoMemory),
+                _ => usage(rt),
+            };
+        }
+    };
+    match source_of(words.as_slice()) {
+        Some(source) => replay_source(rt, source),
+        None => usage(rt),
+    }
+}
+
+fn main(rt: HostRuntime) -> ExitCode {
+    ExitCode::from(run(&rt))
+}
+
+#[cfg(test)]
+mod tests;

@@ -1,0 +1,47 @@
+//! How a replay ends.
+
+ghost use Rattle.std.specs.Prelude.{◌≡◌, OnOk};
+ghost use Rattle.std.specs.Io.KnownBytes.{Appends};
+ghost use Rattle.replay_runner.specs.Outcome.{status_of, message_of};
+
+use std::io;
+use std::io::Write;
+
+/// How a replay ended.
+#[derive(Clone, Copy, Debug, PartialEq, Eq)]
+pub enum Outcome {
+    /// All was fed and printed.
+    Done,
+    /// The text is no script: the number of its first bad line.
+    BadLine(u64),
+    /// A file could not be opened or read, or the output could not be written.
+    Failed,
+    /// A growth was refused.
+    NoMemory,
+}
+
+impl Outcome {
+    /// The exit status.
+    pub fn status(self) -> u8
+        ensures { result ≡ status_of self }
+    {
+        match self {
+            Outcome::Done => 0,
+            Outcome::BadLine(_) => 1,
+            Outcome::Failed => 3,
+            Outcome::NoMemory => 4,
+        }
+    }
+
+    /// Writes what standard error is told: nothing where all went well, else one line.
+    pub fn tell<E: Write>(self, writer: &mut E) -> io::Result<()>
+        ensures { OnOk result (Appends (E.contents writer.old) (E.contents writer.new) (message_of self)) }
+    {
+        match self {
+            Outcome::Done => Ok(()),
+            Outcome::BadLine(number) => writeln!(writer, "line {number}: bad line"),
+            Outcome::Failed => writeln!(writer, "cannot open"),
+            Outcome::NoMemory => writeln!(writer, "no memory"),
+        }
+    }
+}
