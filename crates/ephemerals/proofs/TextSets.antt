@@ -8,7 +8,7 @@ use Rattle.std.proofs.lemmas.Map.Keys.{sorted_head, sorted_tail}
 use mathlib.Core.Bool.{true≢false}
 use Rattle.std.specs.BTreeSet as sorted
 use Rattle.std.specs.BTreeSet.{BTreeSet}
-use Rattle.std.specs.List.{list_any, All, AllByRecursion}
+use Rattle.std.specs.List.{list_any, All, AllByRecursion, AllZip}
 use Rattle.std.specs.Ordering.{eq_by_cmp, is_eq, nat_cmp}
 use Rattle.std.specs.Cmp.Lexicographic.{slice_cmp}
 use Rattle.std.specs.String.{string_cmp}
@@ -158,3 +158,10 @@ popped_none {Z = Z} None old variant = ap (λ ks. in_order (names_of ks)) (none 
     none [] v = refl
     none (x ∷ xs) v = absurd (true≢false (sym (v (omega arith))))
 popped_none (Some k) old variant = tt
+
+-- texts that were cloned have the same bytes
+pub same_bytes : {Y Z : Type 0} (xs : List (String Y)) (ys : List (String Z)) → AllZip (λ (x : String Y) (y : String Z). string_bytes y ≡ string_bytes x) xs ys → map string_bytes ys ≡ map string_bytes xs
+same_bytes [] [] h = refl
+same_bytes [] (y ∷ ys) h = absurd h
+same_bytes (x ∷ xs) [] h = absurd h
+same_bytes (x ∷ xs) (y ∷ ys) h = λ i. h.0 i ∷ same_bytes xs ys h.1 i

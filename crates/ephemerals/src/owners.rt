@@ -7,7 +7,7 @@ ghost use Rattle.ephemerals.specs.Pairs.{owned_too, disowned, replaced, owned_by
 
 use crate::text_set::TextSet;
 use jute::NoMemory;
-use std::alloc::Global;
+use std::alloc::{AllocError, Global};
 use std::collections::BTreeMap;
 use std::marker::Model;
 
@@ -150,5 +150,15 @@ impl Ephemerals {
             None => return TextSet::new(alloc),
             Some(paths) => paths,
         }
+    }
+}
+
+impl Clone for Ephemerals {
+    ghost is_clone = { λ x y. y ≡ x };
+
+    fn clone(&self) -> Result<Ephemerals, AllocError> {
+        Ok(Ephemerals {
+            sets: self.sets.clone()?,
+        })
     }
 }

@@ -20,6 +20,47 @@ fn texts_come_in_ascending_bytes(rt: HostRuntime) -> Result<(), Fail> {
 }
 
 #[test]
+fn a_loop_sees_the_texts_in_ascending_bytes(rt: HostRuntime) -> Result<(), Fail> {
+    let alloc = rt.alloc();
+    let mut texts = TextSet::new(alloc);
+    for text in ["b", "a/c", "a", "b"] {
+        texts.insert(String::from_str(alloc, text)?)?;
+    }
+    let mut seen = String::new(alloc);
+    for text in texts.iter() {
+        seen.push_str(text)?;
+        seen.push(' ')?;
+    }
+    assert_eq!(rt; seen.as_str(), "a a/c b ");
+    Ok(())
+}
+
+#[test]
+fn a_clone_keeps_its_texts(rt: HostRuntime) -> Result<(), Fail> {
+    let alloc = rt.alloc();
+    let mut texts = TextSet::new(alloc);
+    texts.insert(String::from_str(alloc, "a")?)?;
+    let copy = texts.clone()?;
+    texts.remove("a");
+    assert!(rt; texts.is_empty() && copy.contains("a"));
+    assert_eq!(rt; copy.len(), 1);
+    Ok(())
+}
+
+#[test]
+fn a_clone_keeps_its_pairs(rt: HostRuntime) -> Result<(), Fail> {
+    let alloc = rt.alloc();
+    let mut owners = Ephemerals::new(alloc);
+    owners.add(alloc, 9, "/a")?;
+    owners.add(alloc, 7, "/b")?;
+    let copy = owners.clone()?;
+    owners.remove(9, "/a");
+    assert!(rt; copy.contains(9, "/a") && copy.contains(7, "/b"));
+    assert!(rt; !owners.contains(9, "/a") && owners.contains(7, "/b"));
+    Ok(())
+}
+
+#[test]
 fn a_path_goes_from_session_to_session(rt: HostRuntime) -> Result<(), Fail> {
     let alloc = rt.alloc();
     let mut owners = Ephemerals::new(alloc);

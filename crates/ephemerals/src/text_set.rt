@@ -1,12 +1,16 @@
 //! Ordered sets of texts.
 
-ghost use Rattle.std.specs.Prelude.{◌≡◌, ◌∷◌, [], ◌↔◌, OnOk, OnErr, IfOk, IfSome, IfNone, IsTrue, not, string_bytes, false};
+ghost use Rattle.std.specs.Prelude.{◌≡◌, ◌∷◌, [], ◌↔◌, OnOk, OnErr, IfOk, IfSome, IfNone, IsTrue, not, map, String, string_bytes, false};
+ghost use Rattle.std.specs.List.{list_any};
+ghost use Rattle.std.specs.Ordering.{eq_by_cmp};
+ghost use Rattle.std.specs.Map.Iter.{ShowsInOrder, deref};
 ghost use Rattle.std.specs.FinSet as set;
-ghost use Rattle.ephemerals.specs.Orders.{in_order};
+ghost use Rattle.ephemerals.specs.Orders.{Bytes, path_cmp, in_order};
 
 use jute::NoMemory;
-use std::alloc::Global;
+use std::alloc::{AllocError, Global};
 use std::collections::BTreeSet;
+use std::collections::btree_set::Iter;
 use std::marker::Model;
 
 /// A set of texts, in ascending bytes.
@@ -77,11 +81,30 @@ impl TextSet {
         self.texts.remove(text)
     }
 
+    /// The texts in ascending bytes.
+    pub fn iter(&self) -> Iter<'_, String>
+        ensures texts { map string_bytes result ≡ in_order self.now }
+        ensures members { (q : Bytes) → set.contains self.now q ≡ list_any (eq_by_cmp path_cmp q) (map string_bytes result) }
+        ensures runs { ShowsInOrder (deref {X = String Global}) }
+    {
+        self.texts.iter()
+    }
+
     /// Takes out the first text in ascending bytes.
     pub fn pop_first(&mut self) -> Option<String>
         ensures first { IfSome result (λ text. in_order self.old ≡ string_bytes text ∷ in_order self.new) }
         ensures none { IfNone result (in_order self.old ≡ []) }
     {
         self.texts.pop_first()
+    }
+}
+
+impl Clone for TextSet {
+    ghost is_clone = { λ x y. y ≡ x };
+
+    fn clone(&self) -> Result<TextSet, AllocError> {
+        Ok(TextSet {
+            texts: self.texts.clone()?,
+        })
     }
 }
