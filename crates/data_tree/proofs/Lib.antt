@@ -12,3 +12,7 @@ pub mod Lists
 pub mod Cells
 pub mod Commute
 pub mod Batches
+pub mod Deciding
+pub mod Links
+pub mod Counting
+pub mod Owned

@@ -1,5 +1,5 @@
 -- A node that was lent for writing.
-use Rattle.std.proofs.Common.{◌≡◌, Bool, true, false, cond, Option, Some, OnSome, refl, sym, ap, subst, ◌∙◌, if◌then◌else◌}
+use Rattle.std.proofs.Common.{◌≡◌, Bool, true, false, cond, Option, Some, None, OnSome, refl, sym, ap, subst, ◌∙◌, if◌then◌else◌}
 use Rattle.std.specs.Borrow.{MutBor}
 use Rattle.std.specs.Ordering.{eq_by_cmp, is_eq}
 use Rattle.std.proofs.lemmas.Map.Lookups.{exact_bytes}
@@ -11,7 +11,9 @@ use Rattle.data_tree.specs.Updates.{update_node, update_found, adopting, raising
 use Rattle.std.specs.FinSet as set
 use Rattle.txn_codec.specs.declared.txn.TxnHeader.{TxnHeader}
 use Rattle.txn_codec.specs.declared.txn.Create.{Create}
-use Rattle.data_tree.proofs.SetSteps.{remove-insert}
+use Rattle.data_tree.proofs.SetSteps.{remove-insert, insert-present, not-false, not-true}
+use Rattle.data_tree.specs.Making.{listing, unlisting, gains}
+use mathlib.Core.Bool.{true≢false}
 use Rattle.std.specs.Cmp.{tied_itself}
 use Rattle.data_tree.specs.declared.node.Node.{Node}
 use Rattle.data_tree.proofs.Totals.{path_total}
@@ -62,3 +64,27 @@ undone m path name h c parent is free =
     (ap (orphaning name parent.stat) (adopting_new h c name parent free)
     ∙ (λ i. record parent { children = remove-insert path_total exact_bytes parent.children name free i }))
     ∙ insert_same m path parent is
+
+-- a name that was added, and taken out again
+pub undone_listing : (m : Nodes) (path name : Bytes) → gains (finmap.get m path) name ≡ true → update_node (update_node m path (listing name)) path (unlisting name) ≡ m
+undone_listing m path name = by (finmap.get m path) refl
+  where
+    by : (o : Option Node) → finmap.get m path ≡ o → gains o name ≡ true → update_node (update_node m path (listing name)) path (unlisting name) ≡ m
+    by None is gain = absurd (true≢false (sym gain))
+    by (Some parent) is gain =
+        ap (λ o. update_node (update_found m path (listing name) o) path (unlisting name)) is
+        ∙ ap (update_found (finmap.insert m path (listing name parent)) path (unlisting name)) (get_inserted m path (listing name parent))
+        ∙ insert_insert m path (listing name parent) (unlisting name (listing name parent))
+        ∙ ap (finmap.insert m path) (λ i. record parent { children = remove-insert path_total exact_bytes parent.children name (not-true (set.contains parent.children name) gain) i })
+        ∙ insert_same m path parent is
+
+-- a name that was there, or had no node to be added to
+pub kept_listing : (m : Nodes) (path name : Bytes) → gains (finmap.get m path) name ≡ false → update_node m path (listing name) ≡ m
+kept_listing m path name = by (finmap.get m path) refl
+  where
+    by : (o : Option Node) → finmap.get m path ≡ o → gains o name ≡ false → update_node m path (listing name) ≡ m
+    by None is gain = ap (update_found m path (listing name)) is
+    by (Some parent) is gain =
+        ap (update_found m path (listing name)) is
+        ∙ ap (finmap.insert m path) (λ i. record parent { children = sym (insert-present path_total exact_bytes parent.children name (not-false (set.contains parent.children name) gain)) i })
+        ∙ insert_same m path parent is

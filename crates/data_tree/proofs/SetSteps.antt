@@ -11,6 +11,10 @@ pub not-false : (b : Bool) → not b ≡ false → b ≡ true
 not-false true e = refl
 not-false false e = sym e
 
+pub not-true : (b : Bool) → not b ≡ true → b ≡ false
+not-true true e = sym e
+not-true false e = refl
+
 module _ {K : Type 0} {R : K → K → Ordering} (o : IsTotalOrder R) (exact : CmpEqualImpliesEq R) where
   pub remove-insert : (s : set.FinSet R) (k : K) → set.contains s k ≡ false → set.remove (set.insert s k) k ≡ s
   remove-insert s k none = set.same_set o exact _ _ (λ q. set.contains-remove o (set.insert s k) k q ∙ ap (λ b. not (eq_by_cmp R q k) && b) (set.contains-insert o s k q) ∙ by q (eq_by_cmp R q k) refl)

@@ -5,7 +5,7 @@ use Rattle.std.specs.Borrow.{MutBor}
 use Rattle.std.specs.BTreeMap as tree
 use Rattle.std.specs.BTreeMap.{BTreeMap, is_at}
 use Rattle.std.specs.Map.{lookup, keys_of}
-use Rattle.std.specs.List.{AllByRecursion}
+use Rattle.std.specs.List.{AllByRecursion, AllZip}
 use Rattle.std.specs.List.Sorted.{IsStrictlySortedBy}
 use Rattle.std.specs.declared.cmp.Ordering.TheVariants.{Less}
 use Rattle.std.proofs.lemmas.Map.Keys.{sorted_head, sorted_tail}
@@ -63,7 +63,7 @@ module _ {X Z : Type 0} where
       → seen n.entries ≡ finmap.remove (seen m.entries) bs
   seen-remove bs m n u = finmap.same_map path_total exact_bytes _ _ (λ q. get-updated bs m n None u q ∙ sym (finmap.get-remove path_total (seen m.entries) bs q))
 
-  none_ahead : (q : Bytes) (es : List (String Z × X)) → AllByRecursion (λ (y : String Z). slice_cmp nat_cmp q (string_bytes y) ≡ Less) (keys_of es) → lookup (query q) es ≡ None
+  pub none_ahead : (q : Bytes) (es : List (String Z × X)) → AllByRecursion (λ (y : String Z). slice_cmp nat_cmp q (string_bytes y) ≡ Less) (keys_of es) → lookup (query q) es ≡ None
   none_ahead q [] h = refl
   none_ahead q (e ∷ es) h = ap (λ r. cond (is_eq r) (Some e.1) (lookup (query q) es)) h.0 ∙ none_ahead q es h.1
 
@@ -75,3 +75,16 @@ module _ {X Z : Type 0} where
       ∙ ap (λ (o : Option X). cond (is_some o) (finmap.len (seen es)) (finmap.len (seen es) + 1))
       (get-seen es (string_bytes e.0) ∙ none_ahead (string_bytes e.0) es (sorted_head string_cmp e.0 (keys_of es) s))
       ∙ omega arith
+
+  -- entries that were cloned
+  same_entries : {Y : Type 0} (xs : List (String Z × X)) (ys : List (String Y × X))
+      → AllZip (λ (x : String Z × X) (y : String Y × X). (string_bytes y.0 ≡ string_bytes x.0) × (y.1 ≡ x.1)) xs ys → by_bytes ys ≡ by_bytes xs
+  same_entries [] [] h = refl
+  same_entries [] (y ∷ ys) h = absurd h
+  same_entries (x ∷ xs) [] h = absurd h
+  same_entries (x ∷ xs) (y ∷ ys) h = λ i. (h.0.0 i, h.0.1 i) ∷ same_entries xs ys h.1 i
+
+  pub seen-clone : {Y : Type 0} (xs : List (String Z × X)) (ys : List (String Y × X))
+      → AllZip (λ (x : String Z × X) (y : String Y × X). (string_bytes y.0 ≡ string_bytes x.0) × (y.1 ≡ x.1)) xs ys
+      → finmap.from_entries {R = path_cmp} (by_bytes ys) ≡ finmap.from_entries {R = path_cmp} (by_bytes xs)
+  seen-clone xs ys h = ap (λ es. finmap.from_entries {R = path_cmp} es) (same_entries xs ys h)

@@ -5,6 +5,8 @@ pub mod Stats
 pub mod State
 pub mod Meaning
 pub mod Updates
+pub mod Whole
+pub mod Making
 pub mod NodeMapLends
 pub mod Multi
 pub mod Refused

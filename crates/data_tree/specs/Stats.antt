@@ -3,6 +3,7 @@ use Rattle.std.specs.Prelude.{ℕ, ℤ, pos, ◌%◌, ◌^◌, List, Option, Som
 use Rattle.std.specs.Int.{int_wrapping_sub, int_wrapping_mul, cast_signed, w32}
 use Rattle.std.specs.FinSet as set
 use Rattle.jute.specs.declared.stat.Stat.{Stat}
+use Rattle.ephemerals.specs.Orders.{Names}
 use Rattle.data_tree.specs.declared.node.Node.{Node}
 use Rattle.data_tree.specs.declared.node.StatPersisted.{StatPersisted}
 
@@ -37,3 +38,6 @@ shown_stat stat children bytes = record {
 
 abbrev pub shown : Node → Stat
 shown node = shown_stat node.stat (java_int (set.len node.children)) (java_int (length_of node.bytes))
+
+abbrev pub children_of : Node → Names
+children_of node = node.children

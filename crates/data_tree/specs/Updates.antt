@@ -7,7 +7,7 @@ use Rattle.ephemerals.specs.Pairs.{owned_too}
 use Rattle.txn_codec.specs.declared.txn.TxnHeader.{TxnHeader}
 use Rattle.txn_codec.specs.declared.txn.Create.{Create}
 use Rattle.data_tree.specs.State.{State, Nodes}
-use Rattle.data_tree.specs.Meaning.{next_cversion, new_node, owner_of}
+use Rattle.data_tree.specs.Meaning.{next_cversion}
 use Rattle.data_tree.specs.declared.node.Node.{Node}
 use Rattle.data_tree.specs.declared.node.StatPersisted.{StatPersisted}
 use Rattle.data_tree.specs.declared.adoption.Adoption.{Adoption}
@@ -48,10 +48,10 @@ orphaning name stat parent = record parent { children = set.remove parent.childr
 abbrev pub bereaved : Bytes → ℤ → Node → Node
 bereaved name zxid parent = record parent { children = set.remove parent.children name; stat = record parent.stat { pzxid = zxid } }
 
--- the node of a create, and its owner's pair
-abbrev pub settled : State → TxnHeader → Create → State
-settled s header create = record {
-  nodes = finmap.insert s.nodes create.path (new_node header create);
-  pairs = owned_too s.pairs (owner_of header create.ephemeral) create.path;
+-- the node, and its owner's pair
+abbrev pub settled : State → Bytes → Node → State
+settled s path node = record {
+  nodes = finmap.insert s.nodes path node;
+  pairs = owned_too s.pairs node.stat.ephemeral_owner path;
   sessions = s.sessions;
 }

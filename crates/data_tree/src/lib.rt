@@ -16,4 +16,5 @@ mod tree;
 pub use law::{footprints, groups};
 pub use node::{Node, StatPersisted};
 pub use outcome::{Outcome, Trigger};
+pub use sessions::Timeouts;
 pub use tree::Tree;

@@ -8,7 +8,7 @@ ghost use Rattle.data_tree.specs.Stats.{shown, shown_stat, java_int, length_of, 
 
 use ephemerals::TextSet;
 use jute::{Acl, Blob, Id, Listed, NoMemory, Stat, Text};
-use std::alloc::Global;
+use std::alloc::{AllocError, Global};
 use txn_codec::{Create, SetAcl, SetData, TxnHeader};
 
 /// The numbers of a node that are kept (StatPersisted of zookeeper.jute).
@@ -41,6 +41,19 @@ pub struct Node {
     pub acl: Listed<Acl>,
     pub stat: StatPersisted,
     pub children: TextSet,
+}
+
+impl Clone for Node {
+    ghost is_clone = { λ x y. y ≡ x };
+
+    fn clone(&self) -> Result<Node, AllocError> {
+        Ok(Node {
+            bytes: self.bytes.clone()?,
+            acl: self.acl.clone()?,
+            stat: self.stat,
+            children: self.children.clone()?,
+        })
+    }
 }
 
 // The stored cversion of a parent after a create.

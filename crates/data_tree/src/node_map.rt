@@ -1,17 +1,21 @@
 //! The nodes by path, seen as a finite map.
 
-ghost use Rattle.std.specs.Prelude.{◌≡◌, OnOk, OnErr, IfOk, Option, None, Some, is_some, string_bytes};
+ghost use Rattle.std.specs.Prelude.{◌≡◌, ◌↔◌, ℤ, OnOk, OnErr, IfOk, IsTrue, Option, None, Some, is_some, true, string_bytes};
 ghost use Rattle.std.specs.Option.{option_copied, option_copied_mut};
 ghost use Rattle.std.specs.Borrow.{sem};
 ghost use Rattle.std.specs.FinMap as finmap;
 ghost use Rattle.data_tree.specs.NodeMapLends.{LendsNode};
 ghost use Rattle.data_tree.specs.Updates.{update_node, adopting, adoption, orphaning, bereaved};
 ghost use Rattle.data_tree.specs.Meaning.{rewritten, regranted};
+ghost use Rattle.data_tree.specs.Making.{listing, unlisting, gains};
+ghost use Rattle.data_tree.specs.Whole.{has_node, has_parent, HasItsChildren, AreLinked, AreOwned, lists};
 
 use crate::adoption::Adoption;
 use crate::node::{Node, StatPersisted, bereft};
+use crate::split::{child, name, parent};
+use ephemerals::{Ephemerals, TextSet};
 use jute::NoMemory;
-use std::alloc::Global;
+use std::alloc::{AllocError, Global};
 use std::collections::BTreeMap;
 use std::marker::Model;
 use txn_codec::{Create, SetAcl, SetData, TxnHeader};
@@ -35,6 +39,16 @@ impl Model for NodeMap {
     ghost coded = { finmap.code (coded_list coded_ℕ) node.the_row.coded };
 
     ghost view = { λ m. nodes_of m.map.entries };
+}
+
+impl Clone for NodeMap {
+    ghost is_clone = { λ x y. y ≡ x };
+
+    fn clone(&self) -> Result<NodeMap, AllocError> {
+        Ok(NodeMap {
+            map: self.map.clone()?,
+        })
+    }
 }
 
 impl NodeMap {
@@ -83,6 +97,30 @@ impl NodeMap {
         ensures value { option_copied_mut result ≡ finmap.get self.old path.now }
     {
         self.map.get_mut(path)
+    }
+
+    /// Makes the node at the path list the name, and says whether there is such a node and the name is new to it.
+    pub fn list(&mut self, path: &str, name: String) -> Result<bool, NoMemory>
+        ensures state { OnOk result (self.new ≡ update_node self.old path.now (listing (string_bytes name))) }
+        ensures gained { IfOk result (λ gained. gained ≡ gains (finmap.get self.old path.now) (string_bytes name)) }
+        ensures err { OnErr result (self.new ≡ self.old) }
+    {
+        match self.get_mut(path) {
+            None => return Ok(false),
+            Some(node) => Ok(node.children.insert(name)?),
+        }
+    }
+
+    /// Makes the node at the path, if any, list the name no more.
+    pub fn unlist(&mut self, path: &str, name: &str)
+        ensures { self.new ≡ update_node self.old path.now (unlisting name.now) }
+    {
+        match self.get_mut(path) {
+            None => return,
+            Some(node) => {
+                node.children.remove(name);
+            }
+        }
     }
 
     /// Adds a child's name to the node at the path, or raises that node's numbers where it has the name.
@@ -170,5 +208,51 @@ impl NodeMap {
                 Ok(true)
             }
         }
+    }
+
+    // Whether the node at the path lists the name.
+    fn lists(&self, path: &str, name: &str) -> bool
+        ensures { result ≡ lists self.now path.now name.now }
+    {
+        match self.get(path) {
+            None => false,
+            Some(node) => node.children.contains(name),
+        }
+    }
+
+    // Whether the path is "/", or has a parent that lists its name.
+    fn has_parent(&self, path: &str) -> bool
+        ensures { result ≡ has_parent self.now path.now }
+    {
+        path == "/" || self.lists(parent(path), name(path))
+    }
+
+    // Whether each of the names at the path has a node.
+    fn has_all(&self, alloc: Global, path: &str, names: &TextSet) -> Result<bool, NoMemory>
+        ensures { IfOk result (λ has. IsTrue has ↔ HasItsChildren self.now path.now names.now) }
+    {
+        for name in names.iter() {
+            let path = child(alloc, path, name.as_str())?;
+            if self.get(path.as_str()).is_none() {
+                return Ok(false);
+            }
+        }
+        Ok(true)
+    }
+
+    /// Whether each node but the root has a parent that lists its name, and each name that a node lists has a node.
+    pub fn are_linked(&self, alloc: Global) -> Result<bool, NoMemory>
+        ensures { IfOk result (λ linked. IsTrue linked ↔ AreLinked self.now) }
+    {
+        for (path, node) in self.map.iter() {
+            let path = path.as_str();
+            if !self.has_parent(path) {
+                return Ok(false);
+            }
+            if !self.has_all(alloc, path, &node.children)? {
+                return Ok(false);
+            }
+        }
+        Ok(true)
     }
 }

@@ -4,7 +4,7 @@ ghost use Rattle.std.specs.Prelude.{◌≡◌, OnOk, OnErr};
 ghost use Rattle.std.specs.FinMap as finmap;
 
 use jute::NoMemory;
-use std::alloc::Global;
+use std::alloc::{AllocError, Global};
 use std::collections::BTreeMap;
 use std::marker::Model;
 
@@ -26,9 +26,19 @@ impl Model for Timeouts {
     ghost view = { λ s. finmap.from_entries s.map.entries };
 }
 
+impl Clone for Timeouts {
+    ghost is_clone = { λ x y. y ≡ x };
+
+    fn clone(&self) -> Result<Timeouts, AllocError> {
+        Ok(Timeouts {
+            map: self.map.clone()?,
+        })
+    }
+}
+
 impl Timeouts {
-    /// No session, which takes no memory.
-    pub fn new(alloc: Global) -> Timeouts
+    // No session, which takes no memory.
+    pub(crate) fn new(alloc: Global) -> Timeouts
         ensures { result ≡ finmap.empty }
     {
         Timeouts {
@@ -36,15 +46,15 @@ impl Timeouts {
         }
     }
 
-    /// The timeout of a session that there is.
+    /// The timeout of the session, if there is that session.
     pub fn get(&self, session: i64) -> Option<i32>
         ensures { result ≡ finmap.get self.now session }
     {
         self.map.get(&session).copied()
     }
 
-    /// Sets a session's timeout.
-    pub fn set(&mut self, session: i64, timeout: i32) -> Result<(), NoMemory>
+    // Sets a session's timeout.
+    pub(crate) fn set(&mut self, session: i64, timeout: i32) -> Result<(), NoMemory>
         ensures ok { OnOk result (self.new ≡ finmap.insert self.old session timeout) }
         ensures err { OnErr result (self.new ≡ self.old) }
     {
@@ -52,8 +62,8 @@ impl Timeouts {
         Ok(())
     }
 
-    /// Drops a session.
-    pub fn remove(&mut self, session: i64)
+    // Drops a session.
+    pub(crate) fn remove(&mut self, session: i64)
         ensures { self.new ≡ finmap.remove self.old session }
     {
         self.map.remove(&session);

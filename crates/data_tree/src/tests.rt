@@ -1,4 +1,5 @@
-use super::{Outcome, Tree, Trigger};
+use super::{Node, Outcome, StatPersisted, Tree, Trigger};
+use ephemerals::TextSet;
 use jute::Listed;
 use std::alloc::Global;
 use std::process::Abort;
@@ -183,18 +184,100 @@ fn a_multi_goes_on_after_an_error(rt: HostRuntime) -> Result<(), Fail> {
 fn an_orphan_and_its_pair(rt: HostRuntime) -> Result<(), Fail> {
     let alloc = rt.alloc();
     let mut tree = Tree::fresh(alloc)?;
-    let steps: [Step; 5] = [
+    let steps: [Step; 4] = [
         (1, "open", "", 0, ""),
         (2, "create", "/p", 0, "+/p~/"),
         (3, "ephemeral", "/p/c", 0, "+/p/c~/p"),
         (4, "delete", "/p", 0, "-/p~/"),
-        (5, "delete", "/p/c", -101, ""),
     ];
     play(&rt, alloc, &mut tree, &steps)?;
-    assert_eq!(rt; tree.timeout(9), Some(5000));
+    assert!(rt; !tree.is_whole(alloc)?);
+    play(&rt, alloc, &mut tree, &[(5, "delete", "/p/c", -101, "")])?;
+    assert_eq!(rt; tree.sessions().get(9), Some(5000));
     assert!(rt; tree.ephemerals().contains(9, "/p/c") && tree.node("/p/c").is_none());
+    assert!(rt; !tree.is_whole(alloc)?);
     play(&rt, alloc, &mut tree, &[(6, "close", "", 0, "")])?;
-    assert!(rt; !tree.ephemerals().contains(9, "/p/c") && tree.timeout(9).is_none());
+    assert!(rt; tree.ephemerals().count() == 0 && tree.sessions().get(9).is_none());
+    assert!(rt; tree.is_whole(alloc)?);
+    Ok(())
+}
+
+// A node without bytes, entries and children, of the owner.
+fn owned(alloc: Global, owner: i64) -> Node {
+    Node {
+        bytes: None,
+        acl: Listed::from_vec(Vec::new(alloc)),
+        stat: StatPersisted {
+            czxid: 1,
+            mzxid: 2,
+            ctime: 3,
+            mtime: 4,
+            version: 5,
+            cversion: 6,
+            aversion: 7,
+            ephemeral_owner: owner,
+            pzxid: 8,
+        },
+        children: TextSet::new(alloc),
+    }
+}
+
+// Puts a node of the owner, and says whether there was a place.
+fn put(alloc: Global, tree: &mut Tree, text: &str, owner: i64) -> Result<bool, Fail> {
+    let path = path(alloc, text)?;
+    if !tree.has_place(&path) {
+        return Ok(false);
+    }
+    tree.put_node(alloc, &path, owned(alloc, owner))?;
+    Ok(true)
+}
+
+#[test]
+fn a_tree_is_made_node_by_node(rt: HostRuntime) -> Result<(), Fail> {
+    let alloc = rt.alloc();
+    let mut tree = Tree::empty(alloc);
+    assert!(rt; tree.paths() == 0 && !tree.is_whole(alloc)?);
+    tree.put_session(9, 5000)?;
+    assert!(rt; !put(alloc, &mut tree, "/a", 0)? && put(alloc, &mut tree, "/", 0)?);
+    assert!(rt; put(alloc, &mut tree, "/b", 0)? && put(alloc, &mut tree, "/a", 9)?);
+    assert!(rt; !put(alloc, &mut tree, "/a", 0)? && !put(alloc, &mut tree, "/", 0)?);
+    assert_eq!(rt; numbers(&tree, "/"), Some((10, 2, 8, 7)));
+    assert!(rt; tree.ephemerals().contains(9, "/a") && tree.ephemerals().count() == 1);
+    assert_eq!(rt; tree.sessions().get(9), Some(5000));
+    assert!(rt; tree.is_whole(alloc)?);
+    Ok(())
+}
+
+#[test]
+fn children_come_in_ascending_bytes(rt: HostRuntime) -> Result<(), Fail> {
+    let alloc = rt.alloc();
+    let mut tree = Tree::empty(alloc);
+    for text in ["/", "/b", "/a", "/a/c"] {
+        assert!(rt; put(alloc, &mut tree, text, 0)?);
+    }
+    let mut names = String::new(alloc);
+    for name in tree.children("/").ok_or("no root")?.iter() {
+        names.push_str(name.as_str())?;
+    }
+    assert_eq!(rt; names.as_str(), "ab");
+    assert!(rt; tree.children("/a").ok_or("no /a")?.contains("c") && tree.children("/q").is_none());
+    Ok(())
+}
+
+#[test]
+fn a_copy_stays(rt: HostRuntime) -> Result<(), Fail> {
+    let alloc = rt.alloc();
+    let mut tree = Tree::fresh(alloc)?;
+    let steps: [Step; 2] = [
+        (1, "open", "", 0, ""),
+        (2, "ephemeral", "/a", 0, "+/a~/"),
+    ];
+    play(&rt, alloc, &mut tree, &steps)?;
+    let copy = tree.copy()?;
+    play(&rt, alloc, &mut tree, &[(3, "close", "", 0, "-/a~/")])?;
+    assert!(rt; tree.node("/a").is_none() && copy.node("/a").is_some());
+    assert!(rt; copy.ephemerals().contains(9, "/a") && copy.is_whole(alloc)?);
+    assert_eq!(rt; (copy.paths(), copy.sessions().get(9)), (4, Some(5000)));
     Ok(())
 }
 

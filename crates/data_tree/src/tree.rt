@@ -1,18 +1,20 @@
 //! The data tree.
 
-ghost use Rattle.std.specs.Prelude.{◌≡◌, ◌++◌, OnOk, OnErr, IfOk, string_bytes};
+ghost use Rattle.std.specs.Prelude.{◌≡◌, ◌++◌, ◌↔◌, OnOk, OnErr, IfOk, IsTrue};
 ghost use Rattle.std.specs.Option.{option_copied, option_map};
 ghost use Rattle.std.specs.FinMap as finmap;
 ghost use Rattle.data_tree.specs.Updates.{settled};
-ghost use Rattle.data_tree.specs.Meaning.{new_node, of_operation, of_set_acl, of_create_session, of_close_session, of_parts, of_multi, deletes, has_error, mean, answer_of, fresh};
+ghost use Rattle.data_tree.specs.Making.{nothing, with_session, with_node, has_place};
+ghost use Rattle.data_tree.specs.Whole.{IsWhole};
+ghost use Rattle.data_tree.specs.Meaning.{of_operation, of_set_acl, of_create_session, of_close_session, of_parts, of_multi, deletes, has_error, mean, answer_of, fresh};
 ghost use Rattle.data_tree.specs.Multi.{IsAfterFront};
 ghost use Rattle.data_tree.specs.Refused.{IsPartly, IsLeftBy};
-ghost use Rattle.data_tree.specs.Stats.{shown};
+ghost use Rattle.data_tree.specs.Stats.{shown, children_of};
 ghost use Rattle.ephemerals.specs.Orders.{in_order};
 
 use crate::adoption::Adoption;
 use crate::multi::{fail, first_error, has_error};
-use crate::node::{Node, owner};
+use crate::node::Node;
 use crate::node_map::NodeMap;
 use crate::outcome::{Outcome, Trigger, fire_created, fire_data_changed, fire_deleted};
 use crate::sessions::Timeouts;
@@ -21,7 +23,7 @@ use ephemerals::{Ephemerals, TextSet};
 use jute::{Listed, NoMemory, Stat};
 use std::alloc::Global;
 use std::marker::Model;
-use txn_codec::{Body, Create, Operation, SetAcl, SetData, Txn, TxnHeader};
+use txn_codec::{Body, Create, Operation, Path, SetAcl, SetData, Txn, TxnHeader};
 
 const NO_NODE: i32 = -101;
 
@@ -71,27 +73,80 @@ impl Tree {
         })
     }
 
-    // Puts a new node and its owner's pair, or leaves all as it was.
-    fn settle(
-        &mut self,
-        alloc: Global,
-        header: &TxnHeader,
-        create: &Create,
-        path: String,
-        node: Node,
-    ) -> Result<(), NoMemory>
-        requires path_is { string_bytes path ≡ create.now.path }
-        requires node_is { node ≡ new_node header.now create.now }
-        ensures ok { OnOk result (self.new ≡ settled self.old header.now create.now) }
+    /// A tree without a node and without a session, which takes no memory: where a tree that is read from an image begins.
+    pub fn empty(alloc: Global) -> Tree
+        ensures { result ≡ nothing }
+    {
+        Tree {
+            nodes: NodeMap::new(alloc),
+            ephemerals: Ephemerals::new(alloc),
+            timeouts: Timeouts::new(alloc),
+        }
+    }
+
+    /// A tree that is equal to this one.
+    pub fn copy(&self) -> Result<Tree, NoMemory>
+        ensures { IfOk result (λ tree. tree ≡ self.now) }
+    {
+        Ok(Tree {
+            nodes: self.nodes.clone()?,
+            ephemerals: self.ephemerals.clone()?,
+            timeouts: self.timeouts.clone()?,
+        })
+    }
+
+    /// Sets a session's timeout in milliseconds. Refused, it leaves the tree as it was.
+    pub fn put_session(&mut self, session: i64, timeout: i32) -> Result<(), NoMemory>
+        ensures ok { OnOk result (self.new ≡ with_session self.old session timeout) }
         ensures err { OnErr result (self.new ≡ self.old) }
     {
-        let owner = owner(header, create.ephemeral);
-        let added = self.ephemerals.add(alloc, owner, create.path.as_str())?;
-        match self.nodes.insert(path, node) {
+        self.timeouts.set(session, timeout)
+    }
+
+    /// Whether a node can be put at the path: at "/" where there is no node, and at any other path where it is new and its parent
+    /// is there.
+    pub fn has_place(&self, path: &Path) -> bool
+        ensures { result ≡ has_place self.now.nodes path.now }
+    {
+        if path.as_str() == "/" {
+            return self.paths() == 0;
+        }
+        self.node(path.as_str()).is_none() && self.node(path.parent()).is_some()
+    }
+
+    /// Adds a node at a path that has a place, its name in the parent and its owner's pair. Refused, it leaves the tree as it was.
+    pub fn put_node(&mut self, alloc: Global, path: &Path, node: Node) -> Result<(), NoMemory>
+        requires place { IsTrue (has_place self.old.nodes path.now) }
+        ensures ok { OnOk result (self.new ≡ with_node self.old path.now node) }
+        ensures err { OnErr result (self.new ≡ self.old) }
+    {
+        let name = String::from_str(alloc, path.name())?;
+        let listed = self.nodes.list(path.parent(), name)?;
+        match self.settle(alloc, path.as_str(), node) {
+            Ok(()) => Ok(()),
+            Err(error) => {
+                if listed {
+                    self.nodes.unlist(path.parent(), path.name());
+                    return Err(error);
+                }
+                Err(error)
+            }
+        }
+    }
+
+    // Puts a node and its owner's pair, or leaves all as it was.
+    fn settle(&mut self, alloc: Global, path: &str, node: Node) -> Result<(), NoMemory>
+        ensures ok { OnOk result (self.new ≡ settled self.old path.now node) }
+        ensures err { OnErr result (self.new ≡ self.old) }
+    {
+        let owner = node.stat.ephemeral_owner;
+        let key = String::from_str(alloc, path)?;
+        let added = self.ephemerals.add(alloc, owner, path)?;
+        match self.nodes.insert(key, node) {
             Ok(()) => Ok(()),
             Err(error) => {
                 if added {
-                    self.ephemerals.remove(owner, create.path.as_str());
+                    self.ephemerals.remove(owner, path);
                     return Err(error);
                 }
                 Err(error)
@@ -115,7 +170,6 @@ impl Tree {
         let before = triggers.len();
         fire_created(triggers, alloc, create.path.as_str(), parent)?;
         let node = Node::created(alloc, header, create)?;
-        let path = String::from_str(alloc, create.path.as_str())?;
         let name = String::from_str(alloc, create.path.name())?;
         match self.nodes.adopt(parent, name, header, create)? {
             Adoption::NoParent => {
@@ -126,7 +180,7 @@ impl Tree {
                 triggers.truncate(before);
                 Ok(NODE_EXISTS)
             }
-            Adoption::Adopted(stat) => match self.settle(alloc, header, create, path, node) {
+            Adoption::Adopted(stat) => match self.settle(alloc, create.path.as_str(), node) {
                 Ok(()) => Ok(0),
                 Err(error) => {
                     self.nodes.disown(parent, create.path.name(), stat);
@@ -198,7 +252,7 @@ impl Tree {
         ensures ok { OnOk result (self.new ≡ (of_create_session header.now timeout self.old).state) }
         ensures err { OnErr result (self.new ≡ self.old) }
     {
-        self.timeouts.set(header.client_id, timeout)
+        self.put_session(header.client_id, timeout)
     }
 
     // Does one operation, and adds what it fires.
@@ -344,11 +398,18 @@ impl Tree {
         self.nodes.len()
     }
 
-    /// The timeout of a session in milliseconds.
-    pub fn timeout(&self, session: i64) -> Option<i32>
-        ensures { result ≡ finmap.get self.now.sessions session }
+    /// The names of the children of the node at the path, in ascending bytes.
+    pub fn children(&self, path: &str) -> Option<&TextSet>
+        ensures { option_copied result ≡ option_map children_of (finmap.get self.now.nodes path.now) }
     {
-        self.timeouts.get(session)
+        Some(&self.node(path)?.children)
+    }
+
+    /// Each session's timeout.
+    pub fn sessions(&self) -> &Timeouts
+        ensures { result.now ≡ self.now.sessions }
+    {
+        &self.timeouts
     }
 
     /// Which session owns which ephemeral node.

@@ -1,0 +1,15 @@
+use Rattle.std.proofs.Common.{◌≡◌, true, String, Global, string_bytes, sym, subst}
+use Rattle.data_tree.specs.Whole.{has_node, child_of, HasItsChildren}
+use Rattle.data_tree.proofs.Deciding.{Decides}
+use Rattle.data_tree.proofs.Links.{all_texts}
+use Rattle.data_tree.proofs.node_map.NodeMap.has_all.Goals as goal
+
+pub loop-name-init : goal.loop-name-init
+loop-name-init c = (
+  tt,
+  tt,
+  subst
+  (λ ks. Decides (λ (k : String Global). has_node c.args.self.now (child_of c.args.path.now (string_bytes k)) ≡ true) (HasItsChildren c.args.self.now c.args.path.now c.args.names.now) ks)
+  (sym c.into_iter-name-iterator.ensures.into_iter_gives)
+  (all_texts (λ name. has_node c.args.self.now (child_of c.args.path.now name) ≡ true) c.args.names.now c.iter-name-items.result c.iter-name-items.ensures.members),
+)

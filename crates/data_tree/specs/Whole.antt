@@ -1,0 +1,56 @@
+-- When a tree is whole: its nodes, the names that they list, and the pairs of sessions and paths agree.
+use Rattle.std.specs.Prelude.{◌≡◌, ℤ, pos, not, ◌&&◌, Bool, true, false, Option, Some, None, is_some, codes, ◌∷◌, ◌++◌, if◌then◌else◌}
+use Rattle.std.specs.Ordering.{int_eq}
+use Rattle.std.specs.FinMap as finmap
+use Rattle.std.specs.FinSet as set
+use Rattle.ephemerals.specs.Orders.{Bytes, Names, Pairs}
+use Rattle.txn_codec.specs.Paths.{is_root, parent_of, name_of}
+use Rattle.data_tree.specs.State.{State, Nodes}
+use Rattle.data_tree.specs.declared.node.Node.{Node}
+
+abbrev pub has_node : Nodes → Bytes → Bool
+has_node nodes path = is_some (finmap.get nodes path)
+
+abbrev pub is_listed : Bytes → Option Node → Bool
+is_listed name None = false
+is_listed name (Some node) = set.contains node.children name
+
+-- whether there is a node at the path that lists the name
+abbrev pub lists : Nodes → Bytes → Bytes → Bool
+lists nodes path name = is_listed name (finmap.get nodes path)
+
+-- the root has no parent, and any other node has one that lists its name
+abbrev pub has_parent : Nodes → Bytes → Bool
+has_parent nodes path = if is_root path then true else lists nodes (parent_of path) (name_of path)
+
+-- the path of the child with the name
+abbrev pub child_of : Bytes → Bytes → Bytes
+child_of path name = if is_root path then path ++ name else path ++ 47 ∷ name
+
+-- whether the session owns the node; session 0 owns none
+abbrev pub is_owner : ℤ → Option Node → Bool
+is_owner session None = false
+is_owner session (Some node) = not (int_eq session (pos 0)) && int_eq node.stat.ephemeral_owner session
+
+abbrev pub owns : Nodes → ℤ → Bytes → Bool
+owns nodes session path = is_owner session (finmap.get nodes path)
+
+-- each of the names has a node under the path
+abbrev pub HasItsChildren : Nodes → Bytes → Names → Type 0
+HasItsChildren nodes path names = (name : Bytes) → set.contains names name ≡ true → has_node nodes (child_of path name) ≡ true
+
+-- nodes and names agree
+pub record AreLinked (nodes : Nodes) : Type 0 where
+  -- each node but the root has a parent that lists its name
+  pub parents : (path : Bytes) → has_node nodes path ≡ true → has_parent nodes path ≡ true
+  -- each name that a node lists has a node
+  pub children : (path name : Bytes) → lists nodes path name ≡ true → has_node nodes (child_of path name) ≡ true
+
+-- a session lists a path exactly where it owns the node there
+abbrev pub AreOwned : Nodes → Pairs → Type 0
+AreOwned nodes pairs = (session : ℤ) (path : Bytes) → set.contains pairs (session, path) ≡ owns nodes session path
+
+pub record IsWhole (s : State) : Type 0 where
+  pub root : has_node s.nodes (codes "/") ≡ true
+  pub links : AreLinked s.nodes
+  pub owners : AreOwned s.nodes s.pairs
