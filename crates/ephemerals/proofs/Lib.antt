@@ -3,3 +3,4 @@ pub mod TextMaps
 pub mod TextSets
 pub mod SetSteps
 pub mod PairSets
+pub mod Counts

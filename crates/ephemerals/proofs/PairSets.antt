@@ -1,5 +1,5 @@
 -- Sets of paths by session, read as a set of pairs.
-use Rattle.std.proofs.Common.{◌≡◌, ℤ, List, [], ◌∷◌, ◌++◌, Bool, true, false, cond, not, ◌||◌, ◌&&◌, Option, Some, None, refl, sym, ap, ◌∙◌, map, if◌then◌else◌, pos}
+use Rattle.std.proofs.Common.{◌≡◌, ℤ, List, [], ◌∷◌, ◌++◌, Bool, true, false, cond, not, ◌||◌, ◌&&◌, Option, Some, None, IsSome, refl, sym, ap, subst, ◌∙◌, map, if◌then◌else◌, pos}
 use mathlib.Core.Bool.{true≢false}
 use Rattle.std.specs.BTreeMap as tree
 use Rattle.std.specs.BTreeMap.{BTreeMap, is_at}
@@ -21,7 +21,7 @@ use Rattle.ephemerals.specs.Pairs.{owned_too, disowned, replaced, owned_by, with
 use Rattle.ephemerals.specs.PairsView.{all_pairs, pairs_of}
 use Rattle.ephemerals.proofs.Totals.{path_total, pair_total, pair_exact}
 
-tied_then : (a b : Ordering) → is_eq (ordering_then a b) ≡ (is_eq a && is_eq b)
+pub tied_then : (a b : Ordering) → is_eq (ordering_then a b) ≡ (is_eq a && is_eq b)
 tied_then Less b = refl
 tied_then Equal b = refl
 tied_then Greater b = refl
@@ -30,7 +30,7 @@ and_or : (a b c : Bool) → ((a && b) || (a && c)) ≡ (a && (b || c))
 and_or true b c = refl
 and_or false b c = refl
 
-and_false : (a : Bool) → (a && false) ≡ false
+pub and_false : (a : Bool) → (a && false) ≡ false
 and_false true = refl
 and_false false = refl
 
@@ -92,6 +92,10 @@ pub contains-pairs : (m : BTreeMap ℤ Names) → tree.IsOrdered int_cmp m → (
 contains-pairs m ordered v p =
     set.contains-from_list pair_total (all_pairs m.entries) (v, p) ∙ any-pairs m.entries v p ∙ holds-lookup m.entries v p (IsDistinct-from_sorted int_cmp (keys_of m.entries) ordered)
 
+-- whether the set that was found for the session has the path
+pub contains-found : (m : BTreeMap ℤ Names) → tree.IsOrdered int_cmp m → (k : ℤ) (found : Option Names) → found ≡ tree.get int_cmp m k → (p : Bytes) → set.contains (pairs_of m.entries) (k, p) ≡ listed found p
+contains-found m ordered k found is p = contains-pairs m ordered k p ∙ ap (λ o. listed o p) (sym is)
+
 contains-updated : (m n : BTreeMap ℤ Names) → tree.IsOrdered int_cmp m → tree.IsOrdered int_cmp n → (k : ℤ) (w : Option Names) → tree.UpdatesBy int_cmp (int_cmp k) m n w
     → (v : ℤ) (p : Bytes) → set.contains (pairs_of n.entries) (v, p) ≡ cond (eq_by_cmp int_cmp k v) (listed w p) (set.contains (pairs_of m.entries) (v, p))
 contains-updated m n om on k w u v p =
@@ -120,6 +124,17 @@ pairs-insert m n om on k q old new was is u = set.same_set pair_total pair_exact
         ∙ ap (λ b. b || set.contains (pairs_of m.entries) (v, p)) (sym (tied_then (int_cmp v k) (path_cmp p q)))
         ∙ sym (set.contains-insert pair_total (pairs_of m.entries) (k, q) (v, p))
 
+-- as it is written through what `get_mut` lent for the session
+pub pairs-insert_through : (m n : BTreeMap ℤ Names) → tree.IsOrdered int_cmp m → tree.IsOrdered int_cmp n → (k : ℤ) (q : Bytes) (old new : Names) → Some old ≡ tree.get int_cmp m k → new ≡ set.insert old q
+    → (IsSome (tree.get int_cmp m k) → tree.UpdatesBy int_cmp (int_cmp k) m n (Some new)) → pairs_of n.entries ≡ set.insert (pairs_of m.entries) (k, q)
+pairs-insert_through m n om on k q old new found is updates = pairs-insert m n om on k q old new (λ p. ap (λ o. listed o p) (sym found)) is (updates (subst IsSome found refl))
+
+-- as the session's first path
+pub pairs-insert_first : (m n : BTreeMap ℤ Names) → tree.IsOrdered int_cmp m → tree.IsOrdered int_cmp n → (k : ℤ) (q : Bytes) (old new : Names) → tree.get int_cmp m k ≡ None → old ≡ set.empty → new ≡ set.insert old q
+    → tree.UpdatesBy int_cmp (int_cmp k) m n (Some new) → pairs_of n.entries ≡ set.insert (pairs_of m.entries) (k, q)
+pairs-insert_first m n om on k q old new none empty is updates =
+    pairs-insert m n om on k q old new (λ p. ap (λ o. listed o p) none ∙ sym (set.contains-empty path_cmp p) ∙ ap (λ s. set.contains s p) (sym empty)) is updates
+
 pub pairs-remove : (m n : BTreeMap ℤ Names) → tree.IsOrdered int_cmp m → tree.IsOrdered int_cmp n → (k : ℤ) (q : Bytes) (old new : Names) → ((p : Bytes) → listed (tree.get int_cmp m k) p ≡ set.contains old p) → new ≡ set.remove old q
     → tree.UpdatesBy int_cmp (int_cmp k) m n (Some new) → pairs_of n.entries ≡ set.remove (pairs_of m.entries) (k, q)
 pairs-remove m n om on k q old new was is u = set.same_set pair_total pair_exact _ _ (λ r. each r.0 r.1)
@@ -137,6 +152,10 @@ pairs-remove m n om on k q old new was is u = set.same_set pair_total pair_exact
         (λ t. ap (λ x. set.contains (pairs_of m.entries) (x, p)) (tells_apart exact_signed v k t))
         ∙ ap (λ b. not b && set.contains (pairs_of m.entries) (v, p)) (sym (tied_then (int_cmp v k) (path_cmp p q)))
         ∙ sym (set.contains-remove pair_total (pairs_of m.entries) (k, q) (v, p))
+
+pub pairs-remove_through : (m n : BTreeMap ℤ Names) → tree.IsOrdered int_cmp m → tree.IsOrdered int_cmp n → (k : ℤ) (q : Bytes) (old new : Names) → Some old ≡ tree.get int_cmp m k → new ≡ set.remove old q
+    → (IsSome (tree.get int_cmp m k) → tree.UpdatesBy int_cmp (int_cmp k) m n (Some new)) → pairs_of n.entries ≡ set.remove (pairs_of m.entries) (k, q)
+pairs-remove_through m n om on k q old new found is updates = pairs-remove m n om on k q old new (λ p. ap (λ o. listed o p) (sym found)) is (updates (subst IsSome found refl))
 
 -- no path of a session that has none
 pub pairs-remove_none : (m : BTreeMap ℤ Names) → tree.IsOrdered int_cmp m → (k : ℤ) (q : Bytes) → tree.get int_cmp m k ≡ None → pairs_of m.entries ≡ set.remove (pairs_of m.entries) (k, q)
@@ -178,8 +197,12 @@ pub not-false : (b : Bool) → not b ≡ false → b ≡ true
 not-false true e = refl
 not-false false e = sym e
 
+pub not-true : (b : Bool) → not b ≡ true → b ≡ false
+not-true true e = sym e
+not-true false e = refl
+
 -- whether two sessions are equal, by their order
-same_session : (a b : ℤ) → int_eq a b ≡ eq_by_cmp int_cmp b a
+pub same_session : (a b : ℤ) → int_eq a b ≡ eq_by_cmp int_cmp b a
 same_session a b = (eq_by_cmp_equiv int_cmp_total).symm a b
 
 -- the paths of one session
@@ -208,6 +231,10 @@ owned-listed m om k found is = set.same_set path_total exact_bytes _ _ (λ q. sy
 pub owned-none : (m : BTreeMap ℤ Names) → tree.IsOrdered int_cmp m → (k : ℤ) → tree.get int_cmp m k ≡ None → owned_by k (pairs_of m.entries) ≡ set.empty
 owned-none m om k none = set.same_set path_total exact_bytes _ _ (λ q. contains-owned k (pairs_of m.entries) q ∙ contains-pairs m om k q ∙ ap (λ o. listed o q) none ∙ sym (set.contains-empty path_cmp q))
 
+-- the pairs of the other sessions
+pub contains-without : (k : ℤ) (pairs : Pairs) (q : ℤ × Bytes) → set.contains (without_session k pairs) q ≡ (set.contains pairs q && not (int_eq q.0 k))
+contains-without k pairs q = set.contains-retain pairs (λ (p : ℤ × Bytes). not (int_eq p.0 k)) q (λ x tie. ap (λ (p : ℤ × Bytes). not (int_eq p.0 k)) (sym (pair_exact q x tie)))
+
 -- all pairs of a session are taken out
 pub pairs-take : (m n : BTreeMap ℤ Names) → tree.IsOrdered int_cmp m → tree.IsOrdered int_cmp n → (k : ℤ) → tree.UpdatesBy int_cmp (int_cmp k) m n None
     → pairs_of n.entries ≡ without_session k (pairs_of m.entries)
@@ -224,7 +251,7 @@ pairs-take m n om on k u = set.same_set pair_total pair_exact _ _ (λ r. each r.
         contains-updated m n om on k None u v p
         ∙ by (eq_by_cmp int_cmp k v) (set.contains (pairs_of m.entries) (v, p))
         ∙ ap (λ b. set.contains (pairs_of m.entries) (v, p) && not b) (sym (same_session v k))
-        ∙ sym (set.contains-retain (pairs_of m.entries) (λ (p : ℤ × Bytes). not (int_eq p.0 k)) (v, p) (λ x tie. ap (λ (p : ℤ × Bytes). not (int_eq p.0 k)) (sym (pair_exact (v, p) x tie))))
+        ∙ sym (contains-without k (pairs_of m.entries) (v, p))
 
 -- the laws of one owner in place of another
 pub replaced-same : (pairs : Pairs) (k : ℤ) (p : Bytes) → owned_too pairs k p ≡ replaced pairs p k k

@@ -15,9 +15,12 @@ use std::marker::Model;
 #[derive(Drop)]
 pub struct Ephemerals {
     sets: BTreeMap<i64, TextSet>,
+    // How many pairs there are.
+    count: usize,
 }
 
 impl Model for Ephemerals {
+    ghost use Rattle.std.specs.Prelude.{◌≡◌};
     ghost use Rattle.std.specs.Ordering.{int_cmp};
     ghost use Rattle.std.specs.BTreeMap.{IsOrdered};
     ghost use Rattle.ephemerals.specs.Orders.{Pairs};
@@ -31,7 +34,7 @@ impl Model for Ephemerals {
 
     ghost view = { λ e. pairs_of e.sets.entries };
 
-    ghost invariant = { λ e. IsOrdered int_cmp e.sets };
+    ghost invariant = { λ e. IsOrdered int_cmp e.sets × (e.count ≡ set.len (pairs_of e.sets.entries)) };
 }
 
 impl Ephemerals {
@@ -41,7 +44,15 @@ impl Ephemerals {
     {
         Ephemerals {
             sets: BTreeMap::new(alloc),
+            count: 0,
         }
+    }
+
+    /// How many pairs there are.
+    pub fn count(&self) -> usize
+        ensures { result ≡ set.len self.now }
+    {
+        self.count
     }
 
     /// Whether the session owns the path.
@@ -60,12 +71,21 @@ impl Ephemerals {
         ensures added { IfOk result (λ added. added ≡ not (set.contains self.old (session, string_bytes path))) }
         ensures err { OnErr result (self.new ≡ self.old) }
     {
+        // Each pair takes more than a byte of memory, so that memory ends before the numbers do.
+        let count = self.count.checked_add(1).ok_or(NoMemory)?;
         match self.sets.get_mut(&session) {
-            Some(paths) => paths.insert(path),
+            Some(paths) => {
+                let added = paths.insert(path)?;
+                if added {
+                    self.count = count;
+                }
+                Ok(added)
+            }
             None => {
                 let mut paths = TextSet::new(alloc);
                 paths.insert(path)?;
                 self.sets.insert(session, paths)?;
+                self.count = count;
                 Ok(true)
             }
         }
@@ -79,7 +99,9 @@ impl Ephemerals {
         match self.sets.get_mut(&session) {
             None => return true,
             Some(paths) => {
-                paths.remove(path);
+                if paths.remove(path) {
+                    self.count -= 1;
+                }
                 !paths.is_empty()
             }
         }
@@ -148,7 +170,10 @@ impl Ephemerals {
     {
         match self.sets.remove(&session) {
             None => return TextSet::new(alloc),
-            Some(paths) => paths,
+            Some(paths) => {
+                self.count -= paths.len();
+                paths
+            }
         }
     }
 }
@@ -159,6 +184,7 @@ impl Clone for Ephemerals {
     fn clone(&self) -> Result<Ephemerals, AllocError> {
         Ok(Ephemerals {
             sets: self.sets.clone()?,
+            count: self.count,
         })
     }
 }

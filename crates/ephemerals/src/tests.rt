@@ -71,11 +71,14 @@ fn a_path_goes_from_session_to_session(rt: HostRuntime) -> Result<(), Fail> {
     assert!(rt; owners.contains(7, "/a") && !owners.contains(9, "/a") && !owners.contains(0, "/c"));
     let paths = owners.of(9).ok_or("no path")?;
     assert_eq!(rt; paths.len(), 1);
+    assert_eq!(rt; owners.count(), 2);
     assert!(rt; owners.add(alloc, 9, "/d")? && !owners.add(alloc, 9, "/d")?);
     owners.remove(7, "/a");
     assert!(rt; owners.of(7).is_none());
+    assert_eq!(rt; owners.count(), 2);
     let taken = owners.take_session(alloc, 9);
     assert_eq!(rt; taken.len(), 2);
     assert!(rt; owners.of(9).is_none());
+    assert_eq!(rt; owners.count(), 0);
     Ok(())
 }
