@@ -1,5 +1,5 @@
 -- A loop over a list that stops at the first item that fails: what is left decides.
-use Rattle.std.proofs.Common.{◌≡◌, List, [], ◌∷◌, false, true, IsTrue, ◌↔◌, refl, sym}
+use Rattle.std.proofs.Common.{List, [], ◌∷◌, false, true, IsTrue, ◌↔◌, refl, sym}
 use mathlib.Core.Bool.{true≢false}
 use Rattle.std.specs.List.{AllByRecursion}
 

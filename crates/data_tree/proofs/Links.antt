@@ -1,5 +1,5 @@
 -- The entries of a map are its nodes, and what links them.
-use Rattle.std.proofs.Common.{◌≡◌, suc, ◌+◌, ◌<◌, List, [], ◌∷◌, Bool, true, false, cond, Option, Some, None, refl, sym, ap, subst, ◌∙◌, ◌||◌, ◌↔◌, map, length, string_bytes, is_some, arith}
+use Rattle.std.proofs.Common.{◌≡◌, suc, ◌<◌, List, [], ◌∷◌, Bool, true, false, cond, Option, Some, None, refl, sym, ap, subst, ◌∙◌, ◌||◌, ◌↔◌, map, length, string_bytes, is_some, arith}
 use mathlib.Core.Bool.{true≢false}
 use Rattle.std.specs.BTreeMap as tree
 use Rattle.std.specs.BTreeMap.{BTreeMap}
@@ -14,7 +14,6 @@ use Rattle.std.proofs.lemmas.Map.Views.{tells_apart}
 use Rattle.std.specs.FinMap as finmap
 use Rattle.std.specs.FinSet as set
 use Rattle.ephemerals.specs.Orders.{Bytes, Names, path_cmp}
-use Rattle.txn_codec.specs.Paths.{parent_of, name_of, is_root}
 use Rattle.data_tree.specs.Nodes.{Nodes}
 use Rattle.data_tree.specs.NodesView.{nodes_of}
 use Rattle.data_tree.specs.Whole.{has_node, has_parent, is_listed, child_of, HasItsChildren, AreLinked}
@@ -72,8 +71,8 @@ module _ {Z : Type 0} (P : Bytes → Node → Type 0) where
   all_nodes m found = (
     (λ all path node is. each_entry path node m.entries all (sym (get-seen m.entries path) ∙ is)),
     (λ each. all_map (λ (e : String Z × Node). tree.get string_cmp m e.0 ≡ Some e.1) (λ (e : String Z × Node). P (string_bytes e.0) e.1)
-    (λ e is. each (string_bytes e.0) e.1 (get-seen m.entries (string_bytes e.0) ∙ is))
-    m.entries (each_of_all (λ (e : String Z × Node). tree.get string_cmp m e.0 ≡ Some e.1) m.entries found)),
+        (λ e is. each (string_bytes e.0) e.1 (get-seen m.entries (string_bytes e.0) ∙ is))
+        m.entries (each_of_all (λ (e : String Z × Node). tree.get string_cmp m e.0 ≡ Some e.1) m.entries found)),
   )
 
 -- what a node owes, that nodes and names agree
@@ -102,6 +101,7 @@ pub linked-entries : {Z : Type 0} (m : BTreeMap (String Z) Node) → All (λ (e 
     → Decides (λ (e : String Z × Node). IsLinked nodes (string_bytes e.0) e.1) (AreLinked nodes) rest
 linked-entries {Z} m found rest all nodes is =
     subst (λ ns. Decides (λ (e : String Z × Node). IsLinked ns (string_bytes e.0) e.1) (AreLinked ns) rest) is
-    (subst (λ es. Decides (λ (e : String Z × Node). IsLinked (nodes_of m.entries) (string_bytes e.0) e.1) (AreLinked (nodes_of m.entries)) es) (sym all)
-    ((λ each. (linked-is (nodes_of m.entries)).0 ((all_nodes (IsLinked (nodes_of m.entries)) m found).0 each)),
-    (λ linked. (all_nodes (IsLinked (nodes_of m.entries)) m found).1 ((linked-is (nodes_of m.entries)).1 linked))))
+    (subst (λ es. Decides (λ (e : String Z × Node). IsLinked (nodes_of m.entries) (string_bytes e.0) e.1) (AreLinked (nodes_of m.entries)) es) (sym all) (
+      (λ each. (linked-is (nodes_of m.entries)).0 ((all_nodes (IsLinked (nodes_of m.entries)) m found).0 each)),
+      (λ linked. (all_nodes (IsLinked (nodes_of m.entries)) m found).1 ((linked-is (nodes_of m.entries)).1 linked)),
+    ))

@@ -1,8 +1,8 @@
 -- The owners of a map's nodes, as pairs, and how they are counted.
-use Rattle.std.proofs.Common.{◌≡◌, ℕ, ℤ, pos, suc, ◌+◌, ◌<◌, ◌^◌, List, [], ◌∷◌, ◌++◌, Bool, true, false, cond, not, ◌&&◌, ◌||◌, Option, Some, None, IsTrue, refl, sym, ap, subst, ◌∙◌, ◌↔◌, length, string_bytes, append-nil, length-append, ◌≤◌, arith, if◌then◌else◌}
+use Rattle.std.proofs.Common.{◌≡◌, ℕ, ℤ, pos, ◌+◌, ◌<◌, ◌^◌, List, [], ◌∷◌, ◌++◌, Bool, true, false, cond, not, ◌&&◌, ◌||◌, Some, None, IsTrue, refl, sym, ap, subst, ◌∙◌, ◌↔◌, length, string_bytes, append-nil, length-append, ◌≤◌, arith, if◌then◌else◌}
 use mathlib.Core.Bool.{true≢false}
 use Rattle.std.specs.Map.{lookup, keys_of}
-use Rattle.std.specs.List.{list_any, AllByRecursion}
+use Rattle.std.specs.List.{list_any}
 use Rattle.std.specs.List.Sorted.{IsStrictlySortedBy}
 use Rattle.std.specs.Ordering.{eq_by_cmp, is_eq, int_eq, int_cmp, ordering_then}
 use Rattle.std.specs.Cmp.{tied_itself, int_cmp_total, eq_by_cmp_equiv}
@@ -18,7 +18,7 @@ use Rattle.std.specs.FinSet as set
 use Rattle.ephemerals.specs.Orders.{Bytes, Pairs, path_cmp, pair_cmp}
 use Rattle.data_tree.specs.Nodes.{Nodes}
 use Rattle.data_tree.specs.NodesView.{nodes_of}
-use Rattle.data_tree.specs.Whole.{is_owner, owns, AreOwned}
+use Rattle.data_tree.specs.Whole.{is_owner, AreOwned}
 use Rattle.data_tree.specs.declared.node.Node.{Node}
 use Rattle.data_tree.proofs.Totals.{path_total, pair_total, pair_exact}
 use Rattle.data_tree.proofs.TextMaps.{query, get-seen, none_ahead}
@@ -125,7 +125,7 @@ module _ {Z : Type 0} where
       by rest true = rest
       by rest false = (
         owners-any es (sorted_tail string_cmp e.0 (keys_of es) sorted) e.1.stat.ephemeral_owner (string_bytes e.0)
-        ∙ ap (is_owner e.1.stat.ephemeral_owner) (none_ahead (string_bytes e.0) es (sorted_head string_cmp e.0 (keys_of es) sorted)),
+            ∙ ap (is_owner e.1.stat.ephemeral_owner) (none_ahead (string_bytes e.0) es (sorted_head string_cmp e.0 (keys_of es) sorted)),
         rest,
       )
 
@@ -222,9 +222,9 @@ module _ {Z : Type 0} where
     not_owned some missing = (
       (λ t. absurd (true≢false (sym t))),
       (λ owned. absurd (true≢false
-      (sym (ap (is_owner e.1.stat.ephemeral_owner) here ∙ (λ i. not (some i) && itself i))
-      ∙ sym (owned e.1.stat.ephemeral_owner (string_bytes e.0))
-      ∙ missing))),
+          (sym (ap (is_owner e.1.stat.ephemeral_owner) here ∙ (λ i. not (some i) && itself i))
+          ∙ sym (owned e.1.stat.ephemeral_owner (string_bytes e.0))
+          ∙ missing))),
     )
       where
         here : finmap.get nodes (string_bytes e.0) ≡ Some e.1

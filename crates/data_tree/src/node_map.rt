@@ -255,4 +255,21 @@ impl NodeMap {
         }
         Ok(true)
     }
+
+    /// Whether the pairs are the owned nodes' owners and paths. Where each of these is a pair, and they are as many as the pairs,
+    /// there is no other pair.
+    pub fn are_owned(&self, pairs: &Ephemerals) -> bool
+        ensures { IsTrue result ↔ AreOwned self.now pairs.now }
+    {
+        let mut owned = 0;
+        for (path, node) in self.map.iter() {
+            if node.stat.ephemeral_owner != 0 {
+                if !pairs.contains(node.stat.ephemeral_owner, path.as_str()) {
+                    return false;
+                }
+                owned += 1;
+            }
+        }
+        owned == pairs.count()
+    }
 }

@@ -268,10 +268,7 @@ fn children_come_in_ascending_bytes(rt: HostRuntime) -> Result<(), Fail> {
 fn a_copy_stays(rt: HostRuntime) -> Result<(), Fail> {
     let alloc = rt.alloc();
     let mut tree = Tree::fresh(alloc)?;
-    let steps: [Step; 2] = [
-        (1, "open", "", 0, ""),
-        (2, "ephemeral", "/a", 0, "+/a~/"),
-    ];
+    let steps: [Step; 2] = [(1, "open", "", 0, ""), (2, "ephemeral", "/a", 0, "+/a~/")];
     play(&rt, alloc, &mut tree, &steps)?;
     let copy = tree.copy()?;
     play(&rt, alloc, &mut tree, &[(3, "close", "", 0, "-/a~/")])?;

@@ -418,4 +418,15 @@ impl Tree {
     {
         &self.ephemerals
     }
+
+    /// Whether the tree is whole: there is a root; each other node has a parent that lists its name; each name that a node lists has
+    /// a node; and the ephemerals are the owned nodes' paths, each with its owner.
+    pub fn is_whole(&self, alloc: Global) -> Result<bool, NoMemory>
+        ensures { IfOk result (λ whole. IsTrue whole ↔ IsWhole self.now) }
+    {
+        if self.node("/").is_none() || !self.nodes.are_owned(&self.ephemerals) {
+            return Ok(false);
+        }
+        self.nodes.are_linked(alloc)
+    }
 }

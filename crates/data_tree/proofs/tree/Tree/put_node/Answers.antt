@@ -1,9 +1,8 @@
 use Rattle.std.proofs.Common.{◌≡◌, sym, ap, ◌∙◌, string_bytes}
-use Rattle.std.specs.FinMap as finmap
 use Rattle.txn_codec.specs.Paths.{name_of}
 use Rattle.data_tree.specs.State.{State}
 use Rattle.data_tree.specs.Updates.{update_node}
-use Rattle.data_tree.specs.Making.{listing, unlisting, gains}
+use Rattle.data_tree.specs.Making.{unlisting}
 use Rattle.data_tree.proofs.NodeUpdates.{undone_listing, kept_listing}
 use Rattle.data_tree.proofs.tree.Tree.put_node.Goals as goal
 
