@@ -1,4 +1,3 @@
-pub mod Slashes
 pub mod Totals
 pub mod SetSteps
 pub mod TextMaps

@@ -16,7 +16,7 @@ use Rattle.std.specs.FinSet as set
 use Rattle.ephemerals.specs.Orders.{Bytes, Names, path_cmp}
 use Rattle.data_tree.specs.Nodes.{Nodes}
 use Rattle.data_tree.specs.NodesView.{nodes_of}
-use Rattle.data_tree.specs.Whole.{has_node, has_parent, is_listed, child_of, HasItsChildren, AreLinked}
+use Rattle.data_tree.specs.Whole.{has_node, has_parent, is_listed, HasItsChildren, AreLinked}
 use Rattle.data_tree.specs.declared.node.Node.{Node}
 use Rattle.data_tree.proofs.Totals.{path_total}
 use Rattle.data_tree.proofs.Deciding.{Decides}

@@ -1,10 +1,10 @@
 -- When a tree is whole: its nodes, the names that they list, and the pairs of sessions and paths agree.
-use Rattle.std.specs.Prelude.{◌≡◌, ℤ, pos, not, ◌&&◌, Bool, true, false, Option, Some, None, is_some, codes, ◌∷◌, ◌++◌, if◌then◌else◌}
+use Rattle.std.specs.Prelude.{◌≡◌, ℤ, pos, not, ◌&&◌, Bool, true, false, Option, Some, None, is_some, codes, if◌then◌else◌}
 use Rattle.std.specs.Ordering.{int_eq}
 use Rattle.std.specs.FinMap as finmap
 use Rattle.std.specs.FinSet as set
 use Rattle.ephemerals.specs.Orders.{Bytes, Names, Pairs}
-use Rattle.txn_codec.specs.Paths.{is_root, parent_of, name_of}
+use Rattle.txn_codec.specs.Paths.{is_root, parent_of, name_of, child_of}
 use Rattle.data_tree.specs.State.{State, Nodes}
 use Rattle.data_tree.specs.declared.node.Node.{Node}
 
@@ -22,10 +22,6 @@ lists nodes path name = is_listed name (finmap.get nodes path)
 -- the root has no parent, and any other node has one that lists its name
 abbrev pub has_parent : Nodes → Bytes → Bool
 has_parent nodes path = if is_root path then true else lists nodes (parent_of path) (name_of path)
-
--- the path of the child with the name
-abbrev pub child_of : Bytes → Bytes → Bytes
-child_of path name = if is_root path then path ++ name else path ++ 47 ∷ name
 
 -- whether the session owns the node; session 0 owns none
 abbrev pub is_owner : ℤ → Option Node → Bool

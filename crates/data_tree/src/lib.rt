@@ -8,7 +8,6 @@ mod node;
 mod node_map;
 mod outcome;
 mod sessions;
-mod split;
 #[cfg(test)]
 mod tests;
 mod tree;

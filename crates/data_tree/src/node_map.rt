@@ -12,13 +12,12 @@ ghost use Rattle.data_tree.specs.Whole.{has_node, has_parent, HasItsChildren, Ar
 
 use crate::adoption::Adoption;
 use crate::node::{Node, StatPersisted, bereft};
-use crate::split::{child, name, parent};
 use ephemerals::{Ephemerals, TextSet};
 use jute::NoMemory;
 use std::alloc::{AllocError, Global};
 use std::collections::BTreeMap;
 use std::marker::Model;
-use txn_codec::{Create, SetAcl, SetData, TxnHeader};
+use txn_codec::{Create, SetAcl, SetData, TxnHeader, child_of, name_of, parent_of};
 
 /// Nodes by path.
 #[derive(Drop)]
@@ -224,7 +223,7 @@ impl NodeMap {
     fn has_parent(&self, path: &str) -> bool
         ensures { result ≡ has_parent self.now path.now }
     {
-        path == "/" || self.lists(parent(path), name(path))
+        path == "/" || self.lists(parent_of(path), name_of(path))
     }
 
     // Whether each of the names at the path has a node.
@@ -232,7 +231,7 @@ impl NodeMap {
         ensures { IfOk result (λ has. IsTrue has ↔ HasItsChildren self.now path.now names.now) }
     {
         for name in names.iter() {
-            let path = child(alloc, path, name.as_str())?;
+            let path = child_of(alloc, path, name.as_str())?;
             if self.get(path.as_str()).is_none() {
                 return Ok(false);
             }

@@ -18,12 +18,13 @@ use crate::node::Node;
 use crate::node_map::NodeMap;
 use crate::outcome::{Outcome, Trigger, fire_created, fire_data_changed, fire_deleted};
 use crate::sessions::Timeouts;
-use crate::split::{name, parent};
 use ephemerals::{Ephemerals, TextSet};
 use jute::{Listed, NoMemory, Stat};
 use std::alloc::Global;
 use std::marker::Model;
-use txn_codec::{Body, Create, Operation, Path, SetAcl, SetData, Txn, TxnHeader};
+use txn_codec::{
+    Body, Create, Operation, Path, SetAcl, SetData, Txn, TxnHeader, name_of, parent_of,
+};
 
 const NO_NODE: i32 = -101;
 
@@ -203,12 +204,12 @@ impl Tree {
         ensures err { OnErr result (self.new ≡ self.old) }
     {
         let before = triggers.len();
-        fire_deleted(triggers, alloc, path, parent(path))?;
+        fire_deleted(triggers, alloc, path, parent_of(path))?;
         let Some(node) = self.nodes.remove(path) else {
             triggers.truncate(before);
             return Ok(NO_NODE);
         };
-        if !self.nodes.bereave(parent(path), name(path), header) {
+        if !self.nodes.bereave(parent_of(path), name_of(path), header) {
             triggers.truncate(before);
             return Ok(NO_NODE);
         }

@@ -21,7 +21,7 @@ pub use fault::{Fault, NoMemory, ReadError};
 pub use frame::read_frame;
 pub use law::{formats, pieces, refused, waits};
 pub use message::{GetDataRequest, GetDataResponse, ReplyHeader, RequestHeader};
-pub use owned::{Acl, Id};
+pub use owned::{Acl, Id, put_blob, read_blob};
 pub use reader::{BUFFER_LIMIT, COUNT_LIMIT, Reader};
 pub use record::{ReadRecord, read_name, read_vector};
 pub use stat::Stat;

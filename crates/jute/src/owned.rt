@@ -1,13 +1,43 @@
-//! Who may do what with a node. These records own what was read.
+//! What owns the bytes that were read: buffers, and who may do what with a node.
 
+ghost use Rattle.std.specs.Prelude.{◌≡◌, ◌++◌, OnOk, OnErr};
+ghost use Rattle.jute.specs.Format.{buffer};
 ghost use Rattle.jute.specs.Owned.{id, acl, IsWritableId};
+ghost use Rattle.jute.specs.Reads.{Gives};
+ghost use Rattle.jute.specs.Records.{IsWritableBuffer};
+ghost use Rattle.jute.specs.Writes.{IsFront};
 
 use crate::fault::{NoMemory, ReadError};
 use crate::reader::Reader;
 use crate::record::{ReadRecord, read_name};
-use crate::value::{Listed, Text};
-use crate::writer::{WriteRecord, put_int, put_string};
+use crate::value::{Blob, Text};
+use crate::writer::{WriteRecord, put_bytes, put_int, put_string};
 use std::alloc::Global;
+
+/// Reads a buffer, null among them, and copies its bytes. A refused read leaves the place.
+pub fn read_blob(alloc: Global, reader: &mut Reader<'_>) -> Result<Option<Blob>, ReadError>
+    ensures { Gives buffer.read (λ b. b) result reader.old reader.new }
+{
+    let mut ahead = Reader::new(reader.rest());
+    let bytes = match ahead.read_buffer()? {
+        None => None,
+        Some(bytes) => Some(Blob::new(alloc, bytes)?),
+    };
+    *reader = ahead;
+    Ok(bytes)
+}
+
+/// Writes a buffer, or null. Where memory is refused, a front of its bytes may stand behind the old ones.
+pub fn put_blob(out: &mut Vec<u8>, bytes: &Option<Blob>) -> Result<(), NoMemory>
+    requires { IsWritableBuffer bytes.now }
+    ensures ok { OnOk result (out.new.items ≡ out.old.items ++ buffer.written bytes.now) }
+    ensures err { OnErr result (IsFront out.old.items out.new.items) }
+{
+    match bytes {
+        None => put_int(out, -1),
+        Some(bytes) => put_bytes(out, bytes.as_slice()),
+    }
+}
 
 /// The Id of zookeeper.jute: whom an ACL speaks of. Null texts are read as empty.
 #[derive(Clone, Debug, Drop, PartialEq, Eq)]

@@ -202,6 +202,20 @@ fn fields_are_read_and_written(rt: HostRuntime) -> Result<(), Fail> {
 }
 
 #[test]
+fn blobs_are_written_and_read(rt: HostRuntime) -> Result<(), Fail> {
+    let alloc = rt.alloc();
+    let mut out = Vec::new(alloc);
+    put_blob(&mut out, &Some(Blob::new(alloc, b"hi")?))?;
+    put_blob(&mut out, &None)?;
+    assert_eq!(rt; out.as_slice(), b"\0\0\0\x02hi\xff\xff\xff\xff".as_slice());
+    let mut reader = Reader::new(out.as_slice());
+    let bytes = read_blob(alloc, &mut reader)?.ok_or("bytes")?;
+    assert_eq!(rt; bytes.as_slice(), b"hi".as_slice());
+    assert!(rt; read_blob(alloc, &mut reader)?.is_none());
+    Ok(())
+}
+
+#[test]
 fn values_hold_what_they_are_given(rt: HostRuntime) -> Result<(), Fail> {
     let alloc = rt.alloc();
     let blob = Blob::new(alloc, b"hi")?;

@@ -3,3 +3,4 @@ pub mod Streams
 pub mod Playing
 pub mod Meeting
 pub mod Rows
+pub mod Logs

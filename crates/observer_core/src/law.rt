@@ -5,6 +5,7 @@ ghost use Rattle.observer_core.specs.declared.machine.Machine.{Machine};
 ghost use Rattle.observer_core.specs.declared.event.Event.{Event};
 ghost use Rattle.observer_core.specs.declared.event.Event.TheVariants.{LeaderBytes, ClientBytes};
 ghost use Rattle.observer_core.specs.Play.{play, behind};
+ghost use Rattle.observer_core.specs.Logs.{LogsAreFollowed};
 ghost use Rattle.observer_core.specs.Rows.{WorkedRows};
 
 /// Two lists of events, one behind the other.
@@ -16,6 +17,11 @@ pub fn plays_on()
 pub fn cut_anywhere()
     ensures leader { (m : Machine) (a b : List ℕ) (events : List Event) → play m (LeaderBytes (a ++ b) ∷ events) ≡ play m (LeaderBytes a ∷ LeaderBytes b ∷ events) }
     ensures client { (m : Machine) (n : ℕ) (a b : List ℕ) (events : List Event) → play m (ClientBytes n (a ++ b) ∷ events) ≡ play m (ClientBytes n a ∷ ClientBytes n b ∷ events) }
+{}
+
+/// The tree is what the log makes of the base, at the start and after every list of events, faults among them.
+pub fn logs_are_followed()
+    ensures { LogsAreFollowed }
 {}
 
 /// The definitions, computed on rows of bytes that were worked out by hand.

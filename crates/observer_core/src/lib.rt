@@ -13,7 +13,7 @@ pub use answer::{Answer, FRAME_LIMIT, GET_DATA, READ, Refusal};
 pub use config::{BadConfig, Config, SECRET_LIMIT};
 pub use engine::{Engine, Stop};
 pub use event::{Event, Output};
-pub use law::{cut_anywhere, plays_on, worked_rows};
+pub use law::{cut_anywhere, logs_are_followed, plays_on, worked_rows};
 pub use machine::{Base, Learner, Log, Machine, Replica};
 pub use run::{CLIENT_FRAME_LIMIT, FIRST};
 

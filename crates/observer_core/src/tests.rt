@@ -5,24 +5,31 @@ use std::alloc::Global;
 use std::test::*;
 
 // An INFORM of a create of /a with the data "hi", zxid 0x100000001.
-#[rattlefmt::skip]
-const CREATE: [u8; 96] = [0x00, 0x00, 0x00, 0x08, 0x00, 0x00, 0x00, 0x01, 0x00, 0x00, 0x00, 0x01, 0x00, 0x00, 0x00, 0x4c, 0x00, 0x00, 0x00, 0x00, 0x00, 0x00, 0x00, 0x07, 0x00, 0x00, 0x00, 0x01, 0x00, 0x00, 0x00, 0x01, 0x00, 0x00, 0x00, 0x01, 0x00, 0x00, 0x00, 0x00, 0x00, 0x00, 0x03, 0xe8, 0x00, 0x00, 0x00, 0x01, 0x00, 0x00, 0x00, 0x02, 0x2f, 0x61, 0x00, 0x00, 0x00, 0x02, 0x68, 0x69, 0x00, 0x00, 0x00, 0x01, 0x00, 0x00, 0x00, 0x1f, 0x00, 0x00, 0x00, 0x05, 0x77, 0x6f, 0x72, 0x6c, 0x64, 0x00, 0x00, 0x00, 0x06, 0x61, 0x6e, 0x79, 0x6f, 0x6e, 0x65, 0x00, 0x00, 0x00, 0x00, 0x01, 0xff, 0xff, 0xff, 0xff];
+const CREATE: &[u8; 96] =
+    b"\0\0\0\x08\0\0\0\x01\0\0\0\x01\0\0\0L\0\0\0\0\0\0\0\x07\0\0\0\x01\0\0\0\x01\0\0\0\x01\0\0\0\0\0\0\x03\xe8\0\0\0\x01\0\0\0\x02/a\0\0\0\x02hi\0\0\0\x01\0\0\0\x1f\0\0\0\x05world\0\0\0\x06anyone\0\0\0\0\x01\xff\xff\xff\xff";
 
 // An INFORM of a setData of /a to null at version 1, zxid 0x100000002.
-#[rattlefmt::skip]
-const SET: [u8; 66] = [0x00, 0x00, 0x00, 0x08, 0x00, 0x00, 0x00, 0x01, 0x00, 0x00, 0x00, 0x02, 0x00, 0x00, 0x00, 0x2e, 0x00, 0x00, 0x00, 0x00, 0x00, 0x00, 0x00, 0x07, 0x00, 0x00, 0x00, 0x02, 0x00, 0x00, 0x00, 0x01, 0x00, 0x00, 0x00, 0x02, 0x00, 0x00, 0x00, 0x00, 0x00, 0x00, 0x07, 0xd0, 0x00, 0x00, 0x00, 0x05, 0x00, 0x00, 0x00, 0x02, 0x2f, 0x61, 0xff, 0xff, 0xff, 0xff, 0x00, 0x00, 0x00, 0x01, 0xff, 0xff, 0xff, 0xff];
+const SET: &[u8; 66] =
+    b"\0\0\0\x08\0\0\0\x01\0\0\0\x02\0\0\0.\0\0\0\0\0\0\0\x07\0\0\0\x02\0\0\0\x01\0\0\0\x02\0\0\0\0\0\0\x07\xd0\0\0\0\x05\0\0\0\x02/a\xff\xff\xff\xff\0\0\0\x01\xff\xff\xff\xff";
 
 // getData of /a, xid 1.
-#[rattlefmt::skip]
-const GET: [u8; 19] = [0x00, 0x00, 0x00, 0x0f, 0x00, 0x00, 0x00, 0x01, 0x00, 0x00, 0x00, 0x04, 0x00, 0x00, 0x00, 0x02, 0x2f, 0x61, 0x00];
+const GET: &[u8; 19] = b"\0\0\0\x0f\0\0\0\x01\0\0\0\x04\0\0\0\x02/a\0";
 
 // The reply after the create.
-#[rattlefmt::skip]
-const CREATED: [u8; 94] = [0x00, 0x00, 0x00, 0x5a, 0x00, 0x00, 0x00, 0x01, 0x00, 0x00, 0x00, 0x01, 0x00, 0x00, 0x00, 0x01, 0x00, 0x00, 0x00, 0x00, 0x00, 0x00, 0x00, 0x02, 0x68, 0x69, 0x00, 0x00, 0x00, 0x01, 0x00, 0x00, 0x00, 0x01, 0x00, 0x00, 0x00, 0x01, 0x00, 0x00, 0x00, 0x01, 0x00, 0x00, 0x00, 0x00, 0x00, 0x00, 0x03, 0xe8, 0x00, 0x00, 0x00, 0x00, 0x00, 0x00, 0x03, 0xe8, 0x00, 0x00, 0x00, 0x00, 0x00, 0x00, 0x00, 0x00, 0x00, 0x00, 0x00, 0x00, 0x00, 0x00, 0x00, 0x00, 0x00, 0x00, 0x00, 0x00, 0x00, 0x00, 0x00, 0x02, 0x00, 0x00, 0x00, 0x00, 0x00, 0x00, 0x00, 0x01, 0x00, 0x00, 0x00, 0x01];
+const CREATED: &[u8; 94] =
+    b"\0\0\0Z\0\0\0\x01\0\0\0\x01\0\0\0\x01\0\0\0\0\0\0\0\x02hi\0\0\0\x01\0\0\0\x01\0\0\0\x01\0\0\0\x01\0\0\0\0\0\0\x03\xe8\0\0\0\0\0\0\x03\xe8\0\0\0\0\0\0\0\0\0\0\0\0\0\0\0\0\0\0\0\0\0\0\0\x02\0\0\0\0\0\0\0\x01\0\0\0\x01";
 
 // The reply after the setData.
-#[rattlefmt::skip]
-const WRITTEN: [u8; 92] = [0x00, 0x00, 0x00, 0x58, 0x00, 0x00, 0x00, 0x01, 0x00, 0x00, 0x00, 0x01, 0x00, 0x00, 0x00, 0x02, 0x00, 0x00, 0x00, 0x00, 0xff, 0xff, 0xff, 0xff, 0x00, 0x00, 0x00, 0x01, 0x00, 0x00, 0x00, 0x01, 0x00, 0x00, 0x00, 0x01, 0x00, 0x00, 0x00, 0x02, 0x00, 0x00, 0x00, 0x00, 0x00, 0x00, 0x03, 0xe8, 0x00, 0x00, 0x00, 0x00, 0x00, 0x00, 0x07, 0xd0, 0x00, 0x00, 0x00, 0x01, 0x00, 0x00, 0x00, 0x00, 0x00, 0x00, 0x00, 0x00, 0x00, 0x00, 0x00, 0x00, 0x00, 0x00, 0x00, 0x00, 0x00, 0x00, 0x00, 0x00, 0x00, 0x00, 0x00, 0x00, 0x00, 0x00, 0x00, 0x01, 0x00, 0x00, 0x00, 0x01];
+const WRITTEN: &[u8; 92] =
+    b"\0\0\0X\0\0\0\x01\0\0\0\x01\0\0\0\x02\0\0\0\0\xff\xff\xff\xff\0\0\0\x01\0\0\0\x01\0\0\0\x01\0\0\0\x02\0\0\0\0\0\0\x03\xe8\0\0\0\0\0\0\x07\xd0\0\0\0\x01\0\0\0\0\0\0\0\0\0\0\0\0\0\0\0\0\0\0\0\0\0\0\0\0\0\0\0\x01\0\0\0\x01";
+
+// An INFORM of a multi that failed, zxid 0x100000002: a create of /m, an error of -101, a delete of /a.
+const FAILED: &[u8; 109] =
+    b"\0\0\0\x08\0\0\0\x01\0\0\0\x02\0\0\0Y\0\0\0\0\0\0\0\x07\0\0\0\x03\0\0\0\x01\0\0\0\x02\0\0\0\0\0\0\x0b\xb8\0\0\0\x0e\0\0\0\x03\0\0\0\x01\0\0\0\x13\0\0\0\x02/m\0\0\0\0\xff\xff\xff\xff\0\xff\xff\xff\xff\xff\xff\xff\xff\0\0\0\x04\xff\xff\xff\x9b\0\0\0\x02\0\0\0\x06\0\0\0\x02/a\xff\xff\xff\xff";
+
+// The reply after the create and the failed multi, whose zxid it names.
+const UNCHANGED: &[u8; 94] =
+    b"\0\0\0Z\0\0\0\x01\0\0\0\x01\0\0\0\x02\0\0\0\0\0\0\0\x02hi\0\0\0\x01\0\0\0\x01\0\0\0\x01\0\0\0\x01\0\0\0\0\0\0\x03\xe8\0\0\0\0\0\0\x03\xe8\0\0\0\0\0\0\0\0\0\0\0\0\0\0\0\0\0\0\0\0\0\0\0\x02\0\0\0\0\0\0\0\x01\0\0\0\x01";
 
 fn config(alloc: Global, server_id: i32) -> Result<Config, &'static str> {
     let secret = Blob::new(alloc, &[]).ok().ok_or("memory")?;
@@ -59,15 +66,15 @@ fn create_and_set_then_get(rt: HostRuntime) -> Result<(), Fail> {
     let alloc = rt.alloc();
     let mut engine = primed(alloc)?;
     let events = [
-        Event::LeaderBytes(Bytes::new(&CREATE)),
-        Event::ClientBytes(1, Bytes::new(&GET)),
-        Event::LeaderBytes(Bytes::new(&SET)),
-        Event::ClientBytes(1, Bytes::new(&GET)),
+        Event::LeaderBytes(Bytes::new(CREATE)),
+        Event::ClientBytes(1, Bytes::new(GET)),
+        Event::LeaderBytes(Bytes::new(SET)),
+        Event::ClientBytes(1, Bytes::new(GET)),
     ];
     let outputs = feed(alloc, &mut engine, &events)?;
     let wanted = [
-        Output::ToClient(1, blob(alloc, &CREATED)?),
-        Output::ToClient(1, blob(alloc, &WRITTEN)?),
+        Output::ToClient(1, blob(alloc, CREATED)?),
+        Output::ToClient(1, blob(alloc, WRITTEN)?),
     ];
     assert_eq!(rt; outputs.as_slice(), wanted.as_slice());
     assert_eq!(rt; engine.learner().last_zxid(), 0x1_0000_0002);
@@ -81,11 +88,11 @@ fn cut_request(rt: HostRuntime) -> Result<(), Fail> {
     let mut engine = primed(alloc)?;
     let events = [
         Event::ClientBytes(1, Bytes::new(&GET[..10])),
-        Event::LeaderBytes(Bytes::new(&CREATE)),
+        Event::LeaderBytes(Bytes::new(CREATE)),
         Event::ClientBytes(1, Bytes::new(&GET[10..])),
     ];
     let outputs = feed(alloc, &mut engine, &events)?;
-    let wanted = [Output::ToClient(1, blob(alloc, &CREATED)?)];
+    let wanted = [Output::ToClient(1, blob(alloc, CREATED)?)];
     assert_eq!(rt; outputs.as_slice(), wanted.as_slice());
     Ok(())
 }
@@ -95,10 +102,10 @@ fn same_zxid_twice(rt: HostRuntime) -> Result<(), Fail> {
     let alloc = rt.alloc();
     let mut engine = primed(alloc)?;
     let events = [
-        Event::LeaderBytes(Bytes::new(&CREATE)),
-        Event::LeaderBytes(Bytes::new(&CREATE)),
-        Event::LeaderBytes(Bytes::new(&SET)),
-        Event::ClientBytes(1, Bytes::new(&GET)),
+        Event::LeaderBytes(Bytes::new(CREATE)),
+        Event::LeaderBytes(Bytes::new(CREATE)),
+        Event::LeaderBytes(Bytes::new(SET)),
+        Event::ClientBytes(1, Bytes::new(GET)),
     ];
     let outputs = feed(alloc, &mut engine, &events)?;
     let wanted = [
@@ -112,6 +119,22 @@ fn same_zxid_twice(rt: HostRuntime) -> Result<(), Fail> {
 }
 
 #[test]
+fn failed_multi(rt: HostRuntime) -> Result<(), Fail> {
+    let alloc = rt.alloc();
+    let mut engine = primed(alloc)?;
+    let events = [
+        Event::LeaderBytes(Bytes::new(CREATE)),
+        Event::LeaderBytes(Bytes::new(FAILED)),
+        Event::ClientBytes(1, Bytes::new(GET)),
+    ];
+    let outputs = feed(alloc, &mut engine, &events)?;
+    let wanted = [Output::ToClient(1, blob(alloc, UNCHANGED)?)];
+    assert_eq!(rt; outputs.as_slice(), wanted.as_slice());
+    assert_eq!(rt; engine.tree().paths(), 4);
+    Ok(())
+}
+
+#[test]
 fn nothing(rt: HostRuntime) -> Result<(), Fail> {
     let alloc = rt.alloc();
     let mut engine = primed(alloc)?;
@@ -119,9 +142,9 @@ fn nothing(rt: HostRuntime) -> Result<(), Fail> {
     let mut idle = Engine::new(alloc, config(alloc, 3)?).ok().ok_or("memory")?;
     let events = [
         Event::LeaderUp,
-        Event::LeaderBytes(Bytes::new(&CREATE)),
+        Event::LeaderBytes(Bytes::new(CREATE)),
         Event::ClientUp(1),
-        Event::ClientBytes(1, Bytes::new(&GET)),
+        Event::ClientBytes(1, Bytes::new(GET)),
         Event::Expire(7),
         Event::Checkpoint,
         Event::ClientEnd(1),
@@ -131,21 +154,32 @@ fn nothing(rt: HostRuntime) -> Result<(), Fail> {
     assert_eq!(rt; idle.tree().paths(), 3);
     plays_on();
     cut_anywhere();
+    logs_are_followed();
     worked_rows();
     Ok(())
 }
 
+// A server id, an accepted epoch, the timeouts, how long the secret is, and whether a Config takes them.
+const SETTINGS: [(i32, i32, i32, i32, usize, bool); 9] = [
+    (1, 0, 4000, 40000, 0, true),
+    (255, 0, 4000, 40000, 0, true),
+    (0, 0, 4000, 40000, 0, false),
+    (256, 0, 4000, 40000, 0, false),
+    (1, -1, 4000, 40000, 0, false),
+    (1, 0, 0, 40000, 0, false),
+    (1, 0, 5, 4, 0, false),
+    (1, 0, 1, 1, 64, true),
+    (1, 0, 1, 1, 65, false),
+];
+
 #[test]
 fn settings_within_their_bounds(rt: HostRuntime) -> Result<(), Fail> {
     let alloc = rt.alloc();
-    assert!(rt; config(alloc, 1).is_ok());
-    assert!(rt; config(alloc, 255).is_ok());
-    assert!(rt; config(alloc, 0).is_err());
-    assert!(rt; config(alloc, 256).is_err());
-    assert!(rt; Config::new(1, -1, 0, 4000, 40000, blob(alloc, &[])?).is_err());
-    assert!(rt; Config::new(1, 0, 0, 0, 40000, blob(alloc, &[])?).is_err());
-    assert!(rt; Config::new(1, 0, 0, 5, 4, blob(alloc, &[])?).is_err());
-    assert!(rt; Config::new(1, 0, 0, 1, 1, blob(alloc, &[7; 64])?).is_ok());
-    assert!(rt; Config::new(1, 0, 0, 1, 1, blob(alloc, &[7; 65])?).is_err());
+    let secrets = [7; 65];
+    for (server_id, epoch, least, most, length, taken) in SETTINGS {
+        let secret = blob(alloc, &secrets[..length])?;
+        let config = Config::new(server_id, epoch, 0, least, most, secret);
+        assert_eq!(rt; config.is_ok(), taken);
+    }
     Ok(())
 }

@@ -1,16 +1,14 @@
 //! One packet.
 
 ghost use Rattle.std.specs.Prelude.{◌≡◌, ◌++◌, OnOk, OnErr};
-ghost use Rattle.jute.specs.Format.{buffer, vector};
+ghost use Rattle.jute.specs.Format.{vector};
 ghost use Rattle.jute.specs.Owned.{id};
-ghost use Rattle.jute.specs.Reads.{Gives};
-ghost use Rattle.jute.specs.Records.{IsWritableBuffer};
 ghost use Rattle.jute.specs.Writes.{IsFront};
 ghost use Rattle.quorum_packet.specs.Packet.{packet as packet_format, IsWritable as IsWritablePacket, IsWritableIds};
 
 use jute::{
-    Blob, Id, Listed, NoMemory, ReadError, ReadRecord, Reader, put_bytes, put_int, put_long,
-    put_vector, read_vector,
+    Blob, Id, Listed, NoMemory, ReadError, ReadRecord, Reader, put_blob, put_int, put_long,
+    put_vector, read_blob, read_vector,
 };
 use std::alloc::Global;
 
@@ -24,19 +22,6 @@ pub struct QuorumPacket {
     pub bytes: Option<Blob>,
     /// Whose request it is; `None` is null.
     pub authinfo: Option<Listed<Id>>,
-}
-
-fn read_blob(alloc: Global, reader: &mut Reader<'_>) -> Result<Option<Blob>, ReadError>
-    ensures { Gives buffer.read (λ b. b) result reader.old reader.new }
-{
-    let mut ahead = Reader::new(reader.rest());
-    let Some(bytes) = ahead.read_buffer()? else {
-        *reader = ahead;
-        return Ok(None);
-    };
-    let blob = Blob::new(alloc, bytes)?;
-    *reader = ahead;
-    Ok(Some(blob))
 }
 
 impl<'a> ReadRecord<'a> for QuorumPacket {
@@ -56,17 +41,6 @@ impl<'a> ReadRecord<'a> for QuorumPacket {
             bytes,
             authinfo,
         })
-    }
-}
-
-fn put_blob(blob: &Option<Blob>, out: &mut Vec<u8>) -> Result<(), NoMemory>
-    requires { IsWritableBuffer blob.now }
-    ensures ok { OnOk result (out.new.items ≡ out.old.items ++ buffer.written blob.now) }
-    ensures err { OnErr result (IsFront out.old.items out.new.items) }
-{
-    match blob {
-        None => put_int(out, -1),
-        Some(bytes) => put_bytes(out, bytes.as_slice()),
     }
 }
 
@@ -91,6 +65,6 @@ pub fn write_packet(packet: &QuorumPacket, out: &mut Vec<u8>) -> Result<(), NoMe
 {
     put_int(out, packet.kind)?;
     put_long(out, packet.zxid)?;
-    put_blob(&packet.bytes, out)?;
+    put_blob(out, &packet.bytes)?;
     put_ids(&packet.authinfo, out)
 }

@@ -18,7 +18,8 @@ use Rattle.txn_codec.specs.declared.txn.Txn.{Txn}
 use Rattle.txn_codec.specs.Paths.{is_path, is_child_path}
 use Rattle.txn_codec.specs.Parents.{HasParent, HaveParents}
 use Rattle.txn_codec.specs.Spelling.{path_by, path, child_path, int_or_end, create_with, set_data, set_acl, check, header, SpellsOperation, operation_bytes, FitsOperation, part, parts_of, SpellsContent, FitsContent, body, txn}
-use Rattle.txn_codec.specs.Writable.{IsWritableBuffer, IsWritableAcls, IsWritableOperation, IsWritablePart, IsWritableBody}
+use Rattle.jute.specs.Records.{IsWritableBuffer}
+use Rattle.txn_codec.specs.Writable.{IsWritableAcls, IsWritableOperation, IsWritablePart, IsWritableBody}
 
 -- what is spelled is within the limits
 record Limited {A : Type 0} (f : Format A) : Type 0 where

@@ -1,5 +1,5 @@
 -- Paths of nodes (ZooKeeper Programmer's Guide, "The ZooKeeper Data Model").
-use Rattle.std.specs.Prelude.{ℕ, Bool, true, false, not, ◌&&◌, ◌||◌, ◌==◌, List, [], ◌∷◌, Result, Ok, Err, if◌then◌else◌}
+use Rattle.std.specs.Prelude.{ℕ, Bool, true, false, not, ◌&&◌, ◌||◌, ◌==◌, List, [], ◌∷◌, ◌++◌, Result, Ok, Err, if◌then◌else◌}
 use Rattle.jute.specs.declared.fault.Fault.{Fault}
 use Rattle.jute.specs.declared.fault.Fault.TheVariants.{BadPath}
 
@@ -57,3 +57,7 @@ parent_of path = or_root (before_last_slash path)
 -- what stands behind the last slash; the name of "/" is empty
 abbrev pub name_of : List ℕ → List ℕ
 name_of path = after_last_slash path
+
+-- the path of the child with the name; the child "a" of "/" is "/a"
+abbrev pub child_of : List ℕ → List ℕ → List ℕ
+child_of path name = if is_root path then path ++ name else path ++ 47 ∷ name

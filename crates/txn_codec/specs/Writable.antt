@@ -2,6 +2,7 @@
 use Rattle.std.specs.Prelude.{ℕ, List, ◌<◌, ◌^◌, length, Option, Some, None, All}
 use Rattle.jute.specs.declared.owned.Acl.{Acl}
 use Rattle.jute.specs.Owned.{IsWritableId}
+use Rattle.jute.specs.Records.{IsWritableBuffer}
 use Rattle.txn_codec.specs.declared.txn.Create.{Create}
 use Rattle.txn_codec.specs.declared.txn.SetData.{SetData}
 use Rattle.txn_codec.specs.declared.txn.SetAcl.{SetAcl}
@@ -10,10 +11,6 @@ use Rattle.txn_codec.specs.declared.txn.Operation.TheVariants as operations
 use Rattle.txn_codec.specs.declared.txn.Body.{Body}
 use Rattle.txn_codec.specs.declared.txn.Body.TheVariants as bodies
 use Rattle.txn_codec.specs.Spelling.{operation_bytes}
-
-abbrev pub IsWritableBuffer : Option (List ℕ) → Type 0
-IsWritableBuffer None = Unit {0}
-IsWritableBuffer (Some bytes) = length bytes < 2 ^ 31
 
 abbrev pub IsWritableAcls : Option (List Acl) → Type 0
 IsWritableAcls None = Unit {0}

@@ -1,7 +1,6 @@
 //! Reading transactions field by field.
 
 ghost use Rattle.std.specs.Prelude.{◌≡◌, IfOk, IfErr, Ok, option_map};
-ghost use Rattle.jute.specs.Format.{buffer};
 ghost use Rattle.jute.specs.Reads.{Gives, GivesWhole};
 ghost use Rattle.txn_codec.specs.Spelling.{path, child_path, last_of, kind, create_with, set_data, set_acl, check, header, operation_at, is_part, part_of, part_at, content_at, body, txn, whole};
 ghost use Rattle.txn_codec.specs.Writable.{IsWritableBody};
@@ -12,7 +11,7 @@ ghost use Rattle.txn_codec.specs.declared.txn.Txn.{Txn as TheTxn};
 use crate::kind::Kind;
 use crate::path::Path;
 use crate::txn::{Body, Check, Create, Operation, SetAcl, SetData, Txn, TxnHeader};
-use jute::{Acl, Blob, Fault, Listed, ReadError, ReadRecord, Reader, read_vector};
+use jute::{Acl, Fault, Listed, ReadError, ReadRecord, Reader, read_blob, read_vector};
 use std::alloc::Global;
 
 fn read_path(alloc: Global, reader: &mut Reader<'_>) -> Result<Path, ReadError>
@@ -37,18 +36,6 @@ fn read_child_path(alloc: Global, reader: &mut Reader<'_>) -> Result<Path, ReadE
     let path = Path::new_child(alloc, text)?;
     *reader = ahead;
     Ok(path)
-}
-
-fn read_blob(alloc: Global, reader: &mut Reader<'_>) -> Result<Option<Blob>, ReadError>
-    ensures { Gives buffer.read (λ b. b) result reader.old reader.new }
-{
-    let mut ahead = Reader::new(reader.rest());
-    let bytes = match ahead.read_buffer()? {
-        None => None,
-        Some(bytes) => Some(Blob::new(alloc, bytes)?),
-    };
-    *reader = ahead;
-    Ok(bytes)
 }
 
 fn read_kind(reader: &mut Reader<'_>) -> Result<Kind, ReadError>

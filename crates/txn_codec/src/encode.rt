@@ -1,16 +1,16 @@
 //! Writing transactions.
 
 ghost use Rattle.std.specs.Prelude.{◌≡◌, ◌<◌, ◌^◌, ◌++◌, length, OnOk, OnErr};
-ghost use Rattle.jute.specs.Format.{int, vector, buffer};
+ghost use Rattle.jute.specs.Format.{int, vector};
 ghost use Rattle.jute.specs.Owned.{acl};
 ghost use Rattle.jute.specs.Writes.{IsFront};
 ghost use Rattle.txn_codec.specs.Spelling.{header as header_format, create_with, set_data as set_data_format, set_acl as set_acl_format, check as check_format, operation_bytes, part_bytes, content_bytes, txn as txn_format};
-ghost use Rattle.txn_codec.specs.Writable.{IsWritableBuffer, IsWritableAcls, IsWritableCreate, IsWritableSetData, IsWritableSetAcl, IsWritableOperation, IsWritablePart, IsWritableBody};
+ghost use Rattle.txn_codec.specs.Writable.{IsWritableAcls, IsWritableCreate, IsWritableSetData, IsWritableSetAcl, IsWritableOperation, IsWritablePart, IsWritableBody};
 
 use crate::txn::{Body, Check, Create, Operation, SetAcl, SetData, Txn, TxnHeader};
 use jute::{
-    Acl, Blob, Listed, NoMemory, WriteRecord, put_bool, put_bytes, put_int, put_long, put_string,
-    put_vector,
+    Acl, Listed, NoMemory, WriteRecord, put_blob, put_bool, put_bytes, put_int, put_long,
+    put_string, put_vector,
 };
 
 fn put_header(out: &mut Vec<u8>, header: &TxnHeader) -> Result<(), NoMemory>
@@ -21,17 +21,6 @@ fn put_header(out: &mut Vec<u8>, header: &TxnHeader) -> Result<(), NoMemory>
     put_int(out, header.cxid)?;
     put_long(out, header.zxid)?;
     put_long(out, header.time)
-}
-
-fn put_blob(out: &mut Vec<u8>, bytes: &Option<Blob>) -> Result<(), NoMemory>
-    requires { IsWritableBuffer bytes.now }
-    ensures ok { OnOk result (out.new.items ≡ out.old.items ++ buffer.written bytes.now) }
-    ensures err { OnErr result (IsFront out.old.items out.new.items) }
-{
-    match bytes {
-        None => put_int(out, -1),
-        Some(bytes) => put_bytes(out, bytes.as_slice()),
-    }
 }
 
 fn put_acls(out: &mut Vec<u8>, acls: &Option<Listed<Acl>>) -> Result<(), NoMemory>

@@ -12,7 +12,7 @@ pub use decode::decode_txn;
 pub use encode::encode_txn;
 pub use kind::Kind;
 pub use law::transactions;
-pub use path::Path;
+pub use path::{Path, child_of, name_of, parent_of};
 pub use txn::{Body, Check, Create, Operation, SetAcl, SetData, Txn, TxnHeader};
 
 #[cfg(test)]

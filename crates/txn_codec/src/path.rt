@@ -1,10 +1,10 @@
 //! Paths that are checked.
 
-ghost use Rattle.std.specs.Prelude.{◌≡◌, List, ℕ, string_bytes, IsTrue};
+ghost use Rattle.std.specs.Prelude.{◌≡◌, List, ℕ, string_bytes, IsTrue, IfOk};
 ghost use Rattle.jute.specs.Reads.{GivesWhole};
-ghost use Rattle.txn_codec.specs.Paths.{is_path, is_child_path, path_of, child_path_of, parent_of, name_of};
+ghost use Rattle.txn_codec.specs.Paths.{is_path, is_child_path, path_of, child_path_of, parent_of, name_of, child_of};
 
-use jute::{Fault, ReadError};
+use jute::{Fault, NoMemory, ReadError};
 use std::alloc::Global;
 use std::marker::Model;
 
@@ -46,6 +46,43 @@ fn is_path(text: &[u8]) -> bool
     matches!(text, [b'/']) || is_child_path(text)
 }
 
+/// What stands before the last slash; the parent of "/a" and of "/" is "/".
+pub fn parent_of(path: &str) -> &str
+    ensures { result.now ≡ parent_of path.now }
+{
+    match path.rsplit_once('/') {
+        None => "/",
+        Some((front, _)) => {
+            if front.is_empty() {
+                return "/";
+            }
+            front
+        }
+    }
+}
+
+/// What stands behind the last slash; the name of "/" is empty.
+pub fn name_of(path: &str) -> &str
+    ensures { result.now ≡ name_of path.now }
+{
+    match path.rsplit_once('/') {
+        None => path,
+        Some((_, name)) => name,
+    }
+}
+
+/// The path of the child with the name; the child "a" of "/" is "/a".
+pub fn child_of(alloc: Global, path: &str, name: &str) -> Result<String, NoMemory>
+    ensures { IfOk result (λ text. string_bytes text ≡ child_of path.now name.now) }
+{
+    let mut text = String::from_str(alloc, path)?;
+    if path != "/" {
+        text.push_str("/")?;
+    }
+    text.push_str(name)?;
+    Ok(text)
+}
+
 impl Path {
     /// The text as a path; a text that is not one is `BadPath`.
     pub fn new(alloc: Global, text: &str) -> Result<Path, ReadError>
@@ -83,25 +120,13 @@ impl Path {
     pub fn parent(&self) -> &str
         ensures { result.now ≡ parent_of self.now }
     {
-        match self.as_str().rsplit_once('/') {
-            None => "/",
-            Some((front, _)) => {
-                if front.is_empty() {
-                    return "/";
-                }
-                front
-            }
-        }
+        parent_of(self.as_str())
     }
 
     /// What stands behind the last slash; the name of "/" is empty.
     pub fn name(&self) -> &str
         ensures { result.now ≡ name_of self.now }
     {
-        let text = self.as_str();
-        match text.rsplit_once('/') {
-            None => text,
-            Some((_, name)) => name,
-        }
+        name_of(self.as_str())
     }
 }

@@ -257,6 +257,10 @@ fn paths(rt: HostRuntime) -> Result<(), Fail> {
         assert_eq!(rt; path.parent(), parent);
         assert_eq!(rt; path.name(), name);
     }
+    for (path, child) in [("/", "/c"), ("/a/b", "/a/b/c")] {
+        assert_eq!(rt; child_of(rt.alloc(), path, "c")?.as_str(), child);
+        assert_eq!(rt; (parent_of(child), name_of(child)), (path, "c"));
+    }
     for text in ["", "a", "//", "/a/", "/a//b", "/\0"] {
         let refused = Path::new(rt.alloc(), text).err();
         assert_eq!(rt; refused, Some(ReadError::Fault(Fault::BadPath)));

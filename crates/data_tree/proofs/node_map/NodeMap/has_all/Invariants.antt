@@ -1,5 +1,6 @@
 use Rattle.std.proofs.Common.{◌≡◌, true, String, Global, string_bytes}
-use Rattle.data_tree.specs.Whole.{has_node, child_of, HasItsChildren}
+use Rattle.txn_codec.specs.Paths.{child_of}
+use Rattle.data_tree.specs.Whole.{has_node, HasItsChildren}
 use Rattle.data_tree.proofs.Deciding.{Decides}
 use Rattle.data_tree.proofs.node_map.NodeMap.has_all.Given as goal
 

@@ -26,7 +26,7 @@ returns-then-not-bereave-clause-fired c =
     let nothing : none ≡ (delete_at c.args.header.now c.args.path.now (finmap.get c.args.self.now.nodes c.args.path.now) (finmap.get (finmap.remove c.args.self.now.nodes c.args.path.now) (parent_of c.args.path.now))).triggers =
     ap (λ (e : Effect). e.triggers)
     (orphan-effect before c.args.header.now c.args.path.now c.in-Some.node c.in-Some.ensures.value
-    (c.if-not-bereave.ensures.found ∙ (λ i. is_some (finmap.get (c.in-Some.ensures.removed i) (c.parent-2.ensures i)))))
+    (c.if-not-bereave.ensures.found ∙ (λ i. is_some (finmap.get (c.in-Some.ensures.removed i) (c.parent_of-2.ensures i)))))
     ∙ ap (λ (s : State). (delete_at c.args.header.now c.args.path.now (finmap.get s.nodes c.args.path.now) (finmap.get (finmap.remove s.nodes c.args.path.now) (parent_of c.args.path.now))).triggers) c.self.view_is in
     let front : c.truncate-then-not-bereave.new.self.items ≡ c.args.triggers.now.items = grind (arith, common_steps) in
     front ∙ nothing_more c.args.triggers.now.items none refl ∙ ap (λ (x : List Trigger). c.args.triggers.now.items ++ x) nothing
@@ -36,7 +36,7 @@ returns-clause-state c =
     let before : State = record { nodes = c.self.inside.nodes; pairs = c.self.inside.ephemerals; sessions = c.self.inside.timeouts } in
     let fits : SFits w64 c.in-Some.node.stat.ephemeral_owner = search rules in
     deleted-is before c.args.header.now c.args.path.now c.in-Some.node c.bereave.new.self c.remove-2.new.self c.in-Some.ensures.value
-    (c.if-not-bereave.ensures.found ∙ (λ i. is_some (finmap.get (c.in-Some.ensures.removed i) (c.parent-2.ensures i))))
-    (c.if-not-bereave.ensures.state ∙ (λ i. update_node (c.in-Some.ensures.removed i) (c.parent-2.ensures i) (bereaved (c.name.ensures i) c.args.header.now.zxid)))
+    (c.if-not-bereave.ensures.found ∙ (λ i. is_some (finmap.get (c.in-Some.ensures.removed i) (c.parent_of-2.ensures i))))
+    (c.if-not-bereave.ensures.state ∙ (λ i. update_node (c.in-Some.ensures.removed i) (c.parent_of-2.ensures i) (bereaved (c.name_of.ensures i) c.args.header.now.zxid)))
     (c.remove-2.ensures ∙ (λ i. disowned c.self.inside.ephemerals (to_z-of_z w64 c.in-Some.node.stat.ephemeral_owner fits i) c.args.path.now))
     ∙ ap (λ (s : State). all_changed s (delete_at c.args.header.now c.args.path.now (finmap.get s.nodes c.args.path.now) (finmap.get (finmap.remove s.nodes c.args.path.now) (parent_of c.args.path.now))).changes) c.self.view_is

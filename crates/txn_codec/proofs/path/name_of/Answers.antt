@@ -1,6 +1,6 @@
 use Rattle.std.proofs.Common.{sym, ◌∙◌}
-use Rattle.data_tree.proofs.Slashes.{uncut, all_after, name_of_cut}
-use Rattle.data_tree.proofs.split.name.Goals as goal
+use Rattle.txn_codec.proofs.Slashes.{uncut, all_after, name_of_cut}
+use Rattle.txn_codec.proofs.path.name_of.Goals as goal
 
 pub returns-in-None : goal.returns-in-None
 returns-in-None c = sym (all_after c.args.path.now (uncut c.args.path.now c.in-None.ensures.cases))
