@@ -38,7 +38,11 @@ set_data_of path = Single (SetData (record { path = path; bytes = Some content; 
 abbrev pub inform_of : Txn → QuorumPacket
 inform_of t = record { kind = pos 8; zxid = t.header.zxid; bytes = Some (txn.written t); authinfo = None }
 
--- a frame with a getData (4) that sets no watch
+-- a getData (4) that sets no watch
+abbrev pub request_of : ℤ → List ℕ → List ℕ
+request_of xid path =
+    request_header.written (record { xid = xid; kind = pos 4 }) ++ get_data_request.written (record { path = Some path; watch = false })
+
+-- the frame with this request
 abbrev pub frame_of : ℤ → List ℕ → List ℕ
-frame_of xid path =
-    buffer.written (Some (request_header.written (record { xid = xid; kind = pos 4 }) ++ get_data_request.written (record { path = Some path; watch = false })))
+frame_of xid path = buffer.written (Some (request_of xid path))

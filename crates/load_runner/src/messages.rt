@@ -1,22 +1,27 @@
 //! The bytes of a leader's messages and of a client's requests.
 
-ghost use Rattle.std.specs.Prelude.{◌≡◌, ◌≤◌, ◌++◌, length, Some, IfOk, OnOk, pos};
+ghost use Rattle.std.specs.Prelude.{◌≡◌, ◌<◌, ◌≤◌, ◌++◌, length, Some, IfOk, IsErrOf, IsTrue, OnOk, OnErr};
+ghost use Rattle.jute.specs.Writes.{IsFront};
 ghost use Rattle.quorum_packet.specs.Packet.{packet};
+ghost use Rattle.txn_codec.specs.Paths.{is_path};
+ghost use Rattle.txn_codec.specs.Spelling.{txn as txn_format};
 ghost use Rattle.txn_codec.specs.Writable.{IsWritableBody};
 ghost use Rattle.load_runner.specs.Messages.{parent_text, child_text, open_to_all, create_of, set_data_of, inform_of, frame_of};
+ghost use Rattle.load_runner.specs.declared.messages.Untold.TheVariants as untold;
 
-use anyhow::{Result, ensure};
 use jute::{
-    Acl, Blob, GetDataRequest, Id, Listed, RequestHeader, Str, Text, WriteRecord, put_bytes,
+    Acl, Blob, GetDataRequest, Id, Listed, NoMemory, ReadError, RequestHeader, Str, Text,
+    WriteRecord, put_bytes,
 };
 use quorum_packet::{PacketKind, QuorumPacket, write_packet};
 use std::alloc::Global;
+use thiserror::Error;
 use txn_codec::{Body, Create, Operation, Path, SetData, Txn, encode_txn};
 
 /// The most bytes of a path here.
 pub const PATH_LIMIT: usize = 64;
 
-// The most bytes of what a message carries here.
+// The most bytes of a transaction that a message carries here.
 const CARRIED_LIMIT: usize = 1024;
 
 // The operation getData.
@@ -28,36 +33,59 @@ const ALL: i32 = 31;
 // What each node holds.
 const CONTENT: &[u8; 16] = b"0123456789abcdef";
 
-// A path that is short enough here.
-fn short_path(alloc: Global, text: &str) -> Result<Path>
-    ensures path { IfOk result (λ p. p ≡ text.now) }
-    ensures short { IfOk result (λ p. length p ≤ PATH_LIMIT) }
-{
-    ensure!(text.len() <= PATH_LIMIT, "a path is too long");
-    let path = Path::new(alloc, text)?;
-    Ok(path)
+/// Why the leader did not tell of a transaction.
+#[derive(Clone, Copy, Debug, PartialEq, Eq, Error)]
+pub enum Untold {
+    /// A growth was refused.
+    #[error("no memory")]
+    NoMemory,
+    /// The transaction takes more bytes than a message carries here.
+    #[error("a transaction is too long")]
+    TooLong,
 }
 
-/// The path of a node below the root.
-pub fn parent_path(alloc: Global, parent: u32) -> Result<Path>
+impl From<NoMemory> for Untold {
+    ghost from_gives = { λ _ e. e ≡ untold.NoMemory };
+
+    fn from(_e: NoMemory) -> Untold {
+        Untold::NoMemory
+    }
+}
+
+// The path of a text that is one.
+fn known_path(alloc: Global, text: &str) -> Result<Path, NoMemory>
+    requires { IsTrue (is_path text.now) }
+    ensures { IfOk result (λ p. p ≡ text.now) }
+{
+    match Path::new(alloc, text) {
+        Ok(path) => Ok(path),
+        Err(ReadError::NoMemory) => Err(NoMemory),
+        Err(ReadError::Fault(_)) => unreachable!(),
+    }
+}
+
+/// The path of a node below the root. It is always one: only a growth can be refused.
+#[tactic(auto, using(crate::proofs::Paths::parent_is_path, crate::proofs::Paths::parent_is_short))]
+pub fn parent_path(alloc: Global, parent: u32) -> Result<Path, NoMemory>
     ensures path { IfOk result (λ p. p ≡ parent_text parent) }
     ensures short { IfOk result (λ p. length p ≤ PATH_LIMIT) }
 {
     let text = format!(in alloc; "/p{parent}")?;
-    short_path(alloc, text.as_str())
+    known_path(alloc, text.as_str())
 }
 
-/// The path of a node below such a node.
-pub fn child_path(alloc: Global, parent: u32, child: u32) -> Result<Path>
+/// The path of a node below such a node. It is always one: only a growth can be refused.
+#[tactic(auto, using(crate::proofs::Paths::child_is_path, crate::proofs::Paths::child_is_short))]
+pub fn child_path(alloc: Global, parent: u32, child: u32) -> Result<Path, NoMemory>
     ensures path { IfOk result (λ p. p ≡ child_text parent child) }
     ensures short { IfOk result (λ p. length p ≤ PATH_LIMIT) }
 {
     let text = format!(in alloc; "/p{parent}/n{child}")?;
-    short_path(alloc, text.as_str())
+    known_path(alloc, text.as_str())
 }
 
 // Everyone may do anything.
-fn open_list(alloc: Global) -> Result<Option<Listed<Acl>>>
+fn open_list(alloc: Global) -> Result<Option<Listed<Acl>>, NoMemory>
     ensures { IfOk result (λ acl. acl ≡ Some open_to_all) }
 {
     let scheme = Text::new(alloc, "world")?;
@@ -72,7 +100,7 @@ fn open_list(alloc: Global) -> Result<Option<Listed<Acl>>>
 }
 
 /// A node is made that everyone may change.
-pub fn create(alloc: Global, path: Path) -> Result<Body>
+pub fn create(alloc: Global, path: Path) -> Result<Body, NoMemory>
     requires { length path ≤ PATH_LIMIT }
     ensures body { IfOk result (λ body. body ≡ create_of path) }
     ensures writable { IfOk result IsWritableBody }
@@ -89,7 +117,7 @@ pub fn create(alloc: Global, path: Path) -> Result<Body>
 }
 
 /// A node's data is replaced.
-pub fn set_data(alloc: Global, path: Path) -> Result<Body>
+pub fn set_data(alloc: Global, path: Path) -> Result<Body, NoMemory>
     requires { length path ≤ PATH_LIMIT }
     ensures body { IfOk result (λ body. body ≡ set_data_of path) }
     ensures writable { IfOk result IsWritableBody }
@@ -102,14 +130,19 @@ pub fn set_data(alloc: Global, path: Path) -> Result<Body>
     })))
 }
 
-/// Writes the packet by which a leader tells of a transaction.
-pub fn write_inform(alloc: Global, txn: &Txn, out: &mut Vec<u8>) -> Result<()>
+/// Writes the packet by which a leader tells of a transaction. It is `TooLong` only where the transaction takes more
+/// than `CARRIED_LIMIT` bytes. An error may leave a front of the packet.
+pub fn write_inform(alloc: Global, txn: &Txn, out: &mut Vec<u8>) -> Result<(), Untold>
     requires { IsWritableBody txn.now.body }
-    ensures { OnOk result (out.new.items ≡ out.old.items ++ packet.written (inform_of txn.now)) }
+    ensures ok { OnOk result (out.new.items ≡ out.old.items ++ packet.written (inform_of txn.now)) }
+    ensures err { OnErr result (IsFront out.old.items out.new.items) }
+    ensures too_long { IsErrOf result Untold.TooLong → CARRIED_LIMIT < length (txn_format.written txn.now) }
 {
     let mut bytes = Vec::new(alloc);
     encode_txn(txn, &mut bytes)?;
-    ensure!(bytes.len() <= CARRIED_LIMIT, "a transaction is too long");
+    if bytes.len() > CARRIED_LIMIT {
+        return Err(Untold::TooLong);
+    }
     let informing = QuorumPacket {
         kind: PacketKind::Inform.code(),
         zxid: txn.header.zxid,
@@ -120,10 +153,17 @@ pub fn write_inform(alloc: Global, txn: &Txn, out: &mut Vec<u8>) -> Result<()>
     Ok(())
 }
 
-/// Writes the frame by which a client asks for a node's data, without a watch.
-pub fn write_get_data(alloc: Global, xid: i32, path: &Path, out: &mut Vec<u8>) -> Result<()>
+/// Writes the frame by which a client asks for a node's data, without a watch. `NoMemory` may leave a front of it.
+#[tactic(auto, using(crate::proofs::Requests::request_length))]
+pub fn write_get_data(
+    alloc: Global,
+    xid: i32,
+    path: &Path,
+    out: &mut Vec<u8>,
+) -> Result<(), NoMemory>
     requires { length path.now ≤ PATH_LIMIT }
-    ensures { OnOk result (out.new.items ≡ out.old.items ++ frame_of xid path.now) }
+    ensures ok { OnOk result (out.new.items ≡ out.old.items ++ frame_of xid path.now) }
+    ensures err { OnErr result (IsFront out.old.items out.new.items) }
 {
     let mut frame = Vec::new(alloc);
     let header = RequestHeader {
@@ -136,7 +176,5 @@ pub fn write_get_data(alloc: Global, xid: i32, path: &Path, out: &mut Vec<u8>) -
         watch: false,
     };
     request.write(&mut frame)?;
-    ensure!(frame.len() <= CARRIED_LIMIT, "a request is too long");
-    put_bytes(out, frame.as_slice())?;
-    Ok(())
+    put_bytes(out, frame.as_slice())
 }
