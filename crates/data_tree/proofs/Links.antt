@@ -14,6 +14,7 @@ use Rattle.std.proofs.lemmas.Map.Views.{tells_apart}
 use Rattle.std.specs.FinMap as finmap
 use Rattle.std.specs.FinSet as set
 use Rattle.ephemerals.specs.Orders.{Bytes, Names, path_cmp}
+use Rattle.txn_codec.specs.Paths.{child_of}
 use Rattle.data_tree.specs.Nodes.{Nodes}
 use Rattle.data_tree.specs.NodesView.{nodes_of}
 use Rattle.data_tree.specs.Whole.{has_node, has_parent, is_listed, HasItsChildren, AreLinked}
