@@ -13,7 +13,7 @@ const SET: &[u8; 66] =
     b"\0\0\0\x08\0\0\0\x01\0\0\0\x02\0\0\0.\0\0\0\0\0\0\0\x07\0\0\0\x02\0\0\0\x01\0\0\0\x02\0\0\0\0\0\0\x07\xd0\0\0\0\x05\0\0\0\x02/a\xff\xff\xff\xff\0\0\0\x01\xff\xff\xff\xff";
 
 // getData of /a, xid 1.
-const GET: &[u8; 19] = b"\0\0\0\x0f\0\0\0\x01\0\0\0\x04\0\0\0\x02/a\0";
+const GET: [u8; 19] = *b"\0\0\0\x0f\0\0\0\x01\0\0\0\x04\0\0\0\x02/a\0";
 
 // The reply after the create.
 const CREATED: &[u8; 94] =
@@ -67,9 +67,9 @@ fn create_and_set_then_get(rt: HostRuntime) -> Result<(), Fail> {
     let mut engine = primed(alloc)?;
     let events = [
         Event::LeaderBytes(Bytes::new(CREATE)),
-        Event::ClientBytes(1, Bytes::new(GET)),
+        Event::ClientBytes(1, Bytes::new(&GET)),
         Event::LeaderBytes(Bytes::new(SET)),
-        Event::ClientBytes(1, Bytes::new(GET)),
+        Event::ClientBytes(1, Bytes::new(&GET)),
     ];
     let outputs = feed(alloc, &mut engine, &events)?;
     let wanted = [
@@ -105,7 +105,7 @@ fn same_zxid_twice(rt: HostRuntime) -> Result<(), Fail> {
         Event::LeaderBytes(Bytes::new(CREATE)),
         Event::LeaderBytes(Bytes::new(CREATE)),
         Event::LeaderBytes(Bytes::new(SET)),
-        Event::ClientBytes(1, Bytes::new(GET)),
+        Event::ClientBytes(1, Bytes::new(&GET)),
     ];
     let outputs = feed(alloc, &mut engine, &events)?;
     let wanted = [
@@ -125,7 +125,7 @@ fn failed_multi(rt: HostRuntime) -> Result<(), Fail> {
     let events = [
         Event::LeaderBytes(Bytes::new(CREATE)),
         Event::LeaderBytes(Bytes::new(FAILED)),
-        Event::ClientBytes(1, Bytes::new(GET)),
+        Event::ClientBytes(1, Bytes::new(&GET)),
     ];
     let outputs = feed(alloc, &mut engine, &events)?;
     let wanted = [Output::ToClient(1, blob(alloc, UNCHANGED)?)];
@@ -144,7 +144,7 @@ fn nothing(rt: HostRuntime) -> Result<(), Fail> {
         Event::LeaderUp,
         Event::LeaderBytes(Bytes::new(CREATE)),
         Event::ClientUp(1),
-        Event::ClientBytes(1, Bytes::new(GET)),
+        Event::ClientBytes(1, Bytes::new(&GET)),
         Event::Expire(7),
         Event::Checkpoint,
         Event::ClientEnd(1),
