@@ -1,5 +1,22 @@
+ghost use Rattle.std.specs.Prelude.{◌≡◌, IfOk, string_bytes};
+ghost use Rattle.std.specs.List.{concat};
+ghost use Rattle.ephemerals.specs.Orders.{in_order};
+
 use super::{Ephemerals, TextSet};
+use jute::NoMemory;
+use std::alloc::Global;
 use std::test::Fail;
+
+// The texts one after another, as a loop over them sees them.
+fn joined(alloc: Global, texts: &TextSet) -> Result<String, NoMemory>
+    ensures { IfOk result (λ s. string_bytes s ≡ concat (in_order texts.now)) }
+{
+    let mut out = String::new(alloc);
+    for text in texts.iter() {
+        out.push_str(text)?;
+    }
+    Ok(out)
+}
 
 #[test]
 fn texts_come_in_ascending_bytes(rt: HostRuntime) -> Result<(), Fail> {
@@ -26,12 +43,7 @@ fn a_loop_sees_the_texts_in_ascending_bytes(rt: HostRuntime) -> Result<(), Fail>
     for text in ["b", "a/c", "a", "b"] {
         texts.insert(String::from_str(alloc, text)?)?;
     }
-    let mut seen = String::new(alloc);
-    for text in texts.iter() {
-        seen.push_str(text)?;
-        seen.push(' ')?;
-    }
-    assert_eq!(rt; seen.as_str(), "a a/c b ");
+    assert_eq!(rt; joined(alloc, &texts)?.as_str(), "aa/cb");
     Ok(())
 }
 
