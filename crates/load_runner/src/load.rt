@@ -1,7 +1,8 @@
 //! A leader and a client that know what they say, and the engine that they say it to.
 
-ghost use Rattle.std.specs.Prelude.{◌≤◌, length};
+ghost use Rattle.std.specs.Prelude.{◌≡◌, ◌≤◌, [], ◌∷◌, length, IfOk, OnOk};
 ghost use Rattle.txn_codec.specs.Writable.{IsWritableBody};
+ghost use Rattle.load_runner.specs.Load.{Tell, Ask, IsNew, Says, parents_made, children_made, is_read, set_of, sets_made, load_of};
 
 use crate::choice::Choice;
 use crate::messages::{
@@ -40,9 +41,9 @@ pub struct Sizes {
 pub struct Load {
     pub engine: Engine,
     /// How many transactions the leader told of.
-    pub transactions: u32,
+    pub transactions: u64,
     /// How many reads were answered.
-    pub replies: u32,
+    pub replies: u64,
     // The zxid of the last one.
     zxid: i64,
     // The bytes of the message that is said next.
@@ -51,9 +52,18 @@ pub struct Load {
     outputs: Vec<Output>,
 }
 
+// Whether a node is read before the set of a number.
+fn is_read(every: u32, set: u32) -> bool
+    ensures { result ≡ is_read every set }
+{
+    every != 0 && set % every == 0
+}
+
 impl Load {
     /// An engine that follows a leader and has one client's connection.
-    pub fn new(alloc: Global) -> Result<Load> {
+    pub fn new(alloc: Global) -> Result<Load>
+        ensures { IfOk result IsNew }
+    {
         let secret = Blob::from_vec(Vec::new(alloc));
         let config = Config::new(1, 0, 0, 4000, 40_000, secret)?;
         let engine = Engine::primed(alloc, config)?;
@@ -70,6 +80,7 @@ impl Load {
     // The leader tells of a transaction.
     fn tell(&mut self, alloc: Global, body: Body) -> Result<()>
         requires { IsWritableBody body }
+        ensures { OnOk result (Says self.old (Tell body ∷ []) self.new) }
     {
         let zxid = self.zxid.checked_add(1).context("no zxid is left")?;
         let header = TxnHeader {
@@ -79,7 +90,10 @@ impl Load {
             time: 1000,
         };
         self.zxid = zxid;
-        self.transactions = self.transactions.saturating_add(1);
+        self.transactions = self
+            .transactions
+            .checked_add(1)
+            .context("no count of transactions is left")?;
         self.message.clear();
         write_inform(alloc, &Txn { header, body }, &mut self.message)?;
         let events = [Event::LeaderBytes(Bytes::new(self.message.as_slice()))];
@@ -94,24 +108,30 @@ impl Load {
     // The client asks for a node's data.
     fn ask(&mut self, alloc: Global, path: &Path) -> Result<()>
         requires { length path.now ≤ PATH_LIMIT }
+        ensures { OnOk result (Says self.old (Ask path.now ∷ []) self.new) }
     {
         self.message.clear();
         write_get_data(alloc, 1, path, &mut self.message)?;
         let events = [Event::ClientBytes(CONNECTION, Bytes::new(self.message.as_slice()))];
         self.engine.feed_inline(alloc, &events, &mut self.outputs)?;
-        for output in &self.outputs {
-            ensure!(
-                matches!(output, Output::ToClient(_, _)),
-                "a connection was closed"
-            );
-            self.replies = self.replies.saturating_add(1);
-        }
+        ensure!(
+            self.outputs
+                .iter()
+                .all(|output| matches!(output, Output::ToClient(_, _))),
+            "a connection was closed"
+        );
+        self.replies = self
+            .replies
+            .checked_add(self.outputs.len() as u64)
+            .context("no count of replies is left")?;
         self.outputs.clear();
         Ok(())
     }
 
     // Makes the nodes below a parent.
-    fn make_children(&mut self, alloc: Global, parent: u32, children: u32) -> Result<()> {
+    fn make_children(&mut self, alloc: Global, parent: u32, children: u32) -> Result<()>
+        ensures { OnOk result (Says self.old (children_made children parent) self.new) }
+    {
         for child in 0..children {
             let path = child_path(alloc, parent, child)?;
             let body = create(alloc, path)?;
@@ -121,7 +141,9 @@ impl Load {
     }
 
     // Makes the nodes below the root.
-    fn make_parents(&mut self, alloc: Global, parents: u32) -> Result<()> {
+    fn make_parents(&mut self, alloc: Global, parents: u32) -> Result<()>
+        ensures { OnOk result (Says self.old (parents_made parents) self.new) }
+    {
         for parent in 0..parents {
             let path = parent_path(alloc, parent)?;
             let body = create(alloc, path)?;
@@ -130,27 +152,38 @@ impl Load {
         Ok(())
     }
 
+    // Sets a node's data, and may read it before.
+    fn set_one(&mut self, alloc: Global, path: Path, is_read: bool) -> Result<()>
+        requires { length path ≤ PATH_LIMIT }
+        ensures { OnOk result (Says self.old (set_of is_read path) self.new) }
+    {
+        if is_read {
+            self.ask(alloc, &path)?;
+        }
+        let body = set_data(alloc, path)?;
+        self.tell(alloc, body)
+    }
+
     // Sets the data of children, and reads some of them.
     fn set(&mut self, alloc: Global, sizes: &Sizes) -> Result<()>
         requires parents { 1 ≤ sizes.now.parents }
         requires children { 1 ≤ sizes.now.children }
+        ensures { OnOk result (Says self.old (sets_made sizes.now sizes.now.sets) self.new) }
     {
         let mut choice = Choice::new();
         for set in 0..sizes.sets {
             let parent = choice.below(sizes.parents);
             let child = choice.below(sizes.children);
             let path = child_path(alloc, parent, child)?;
-            if sizes.every != 0 && set % sizes.every == 0 {
-                self.ask(alloc, &path)?;
-            }
-            let body = set_data(alloc, path)?;
-            self.tell(alloc, body)?;
+            self.set_one(alloc, path, is_read(sizes.every, set))?;
         }
         Ok(())
     }
 
     /// Makes the nodes, and then sets and reads children, which are chosen by a fixed sequence of numbers.
-    pub fn run(&mut self, alloc: Global, sizes: &Sizes) -> Result<()> {
+    pub fn run(&mut self, alloc: Global, sizes: &Sizes) -> Result<()>
+        ensures { OnOk result (Says self.old (load_of sizes.now) self.new) }
+    {
         self.make_parents(alloc, sizes.parents)?;
         for parent in 0..sizes.parents {
             self.make_children(alloc, parent, sizes.children)?;
