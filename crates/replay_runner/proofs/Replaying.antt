@@ -82,7 +82,11 @@ front_kept script a b c p q =
 pub ends_kept : (outcome : Outcome) (text : List ℕ) (a b c : Option (List ℕ)) → Ends outcome text a b → Keeps b c → Ends outcome text a c
 ends_kept Done text a b c p q = (p.0, p.1, all_kept p.0 a b c p.2 q)
 ends_kept (BadLine number) text a b c p q = (p.0, keeps_both a b c p.1 q)
-ends_kept Failed text a b c p q = tt
+ends_kept Failed text a b c p q =
+    elim p as (λ _. Ends Failed text a c) [
+      | inl same ↦ inl (keeps_both a b c same q)
+      | inr found ↦ inr found
+    ]
 ends_kept NoMemory text a b c p q =
     elim p as (λ _. Ends NoMemory text a c) [
       | inl same ↦ inl (keeps_both a b c same q)

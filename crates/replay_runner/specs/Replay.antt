@@ -66,11 +66,12 @@ abbrev pub PrintsFront : Script → Option (List ℕ) → Option (List ℕ) → 
 PrintsFront script old new = Keeps old new ⊎ ((config : Config) × HasSettings script config × WritesFront old new (happened script config).outputs)
 
 -- What was printed, by the way in which the replay of a text ended: the lines of all outputs and the end line;
--- nothing, where the text is no script; and where memory was refused nothing, or the lines of the first outputs.
+-- nothing, where the text is no script; where memory was refused nothing, or the lines of the first outputs; and where
+-- a read or a write failed nothing, unless the text is a script.
 abbrev pub Ends : Outcome → List ℕ → Option (List ℕ) → Option (List ℕ) → Type 0
 Ends Done text old new = (script : Script) × (script_of text ≡ Ok script) × PrintsAll script old new
 Ends (BadLine number) text old new = (script_of text ≡ Err number) × Keeps old new
-Ends Failed text old new = Unit {0}
+Ends Failed text old new = Keeps old new ⊎ ((script : Script) × (script_of text ≡ Ok script))
 Ends NoMemory text old new = Keeps old new ⊎ ((script : Script) × (script_of text ≡ Ok script) × PrintsFront script old new)
 
 -- the same by the exit status

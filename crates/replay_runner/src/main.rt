@@ -6,6 +6,11 @@ mod outcome;
 mod print;
 mod replay;
 
+ghost use Rattle.std.specs.Prelude.{◌≡◌, ◌≢◌, IfSome, None};
+ghost use Rattle.std.specs.IoError.{error_kind};
+ghost use Rattle.replay_runner.specs.Outcome.{status_of};
+ghost use Rattle.replay_runner.specs.Replay.{EndsWith};
+
 use command::{Source, source_of};
 use outcome::Outcome;
 use replay::replay_on;
@@ -15,18 +20,25 @@ use std::process::ExitCode;
 use std::{env, fs};
 
 // Where no script was replayed.
-fn fail(rt: &HostRuntime, outcome: Outcome) -> u8 {
+fn fail(rt: &HostRuntime, outcome: Outcome) -> u8
+    ensures { result ≡ status_of outcome }
+{
     let _ = outcome.tell(&mut rt.stderr());
     outcome.status()
 }
 
-fn usage(rt: &HostRuntime) -> u8 {
+fn usage(rt: &HostRuntime) -> u8
+    ensures { result ≡ 2 }
+{
     let _ = eprintln!(rt; "usage");
     2
 }
 
 // What a failed call of the system ends with.
-fn outcome_of(error: &Error) -> Outcome {
+fn outcome_of(error: &Error) -> Outcome
+    ensures no_memory { error_kind error.now ≡ ErrorKind.OutOfMemory → result ≡ Outcome.NoMemory }
+    ensures failed { error_kind error.now ≢ ErrorKind.OutOfMemory → result ≡ Outcome.Failed }
+{
     if error.kind() == ErrorKind::OutOfMemory {
         Outcome::NoMemory
     } else {
@@ -34,7 +46,10 @@ fn outcome_of(error: &Error) -> Outcome {
     }
 }
 
-fn replay_from<R: Read>(rt: &HostRuntime, reader: &mut R) -> u8 {
+// Answers the exit status; no contract sees what stands on standard output.
+fn replay_from<R: Read>(rt: &HostRuntime, reader: &mut R) -> u8
+    ensures { IfSome (R.remaining reader.old) (λ text. EndsWith result text None None) }
+{
     match BufWriter::new(rt.alloc(), rt.stdout()) {
         Ok(mut writer) => replay_on(rt.alloc(), reader, &mut writer, &mut rt.stderr()),
         Err(_) => fail(rt, Outcome::NoMemory),

@@ -1,6 +1,6 @@
 //! How a replay ends.
 
-ghost use Rattle.std.specs.Prelude.{◌≡◌, OnOk};
+ghost use Rattle.std.specs.Prelude.{◌≡◌, IsOk, OnOk};
 ghost use Rattle.std.specs.Io.KnownBytes.{Appends};
 ghost use Rattle.replay_runner.specs.Outcome.{status_of, message_of};
 
@@ -35,7 +35,8 @@ impl Outcome {
 
     /// Writes what standard error is told: nothing where all went well, else one line.
     pub fn tell<E: Write>(self, writer: &mut E) -> io::Result<()>
-        ensures { OnOk result (Appends (E.contents writer.old) (E.contents writer.new) (message_of self)) }
+        ensures written { OnOk result (Appends (E.contents writer.old) (E.contents writer.new) (message_of self)) }
+        ensures done { self ≡ Outcome.Done → IsOk result }
     {
         match self {
             Outcome::Done => Ok(()),

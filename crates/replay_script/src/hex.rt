@@ -1,6 +1,7 @@
 //! Bytes as hexadecimal digits.
 
-ghost use Rattle.std.specs.Prelude.{◌≡◌, ◌<◌, ◌+◌, ◌++◌, IfSome, IfOk, OnOk};
+ghost use Rattle.std.specs.Prelude.{◌≡◌, ◌<◌, ◌+◌, ◌++◌, IfSome, IfOk, OnOk, OnErr};
+ghost use Rattle.jute.specs.Writes.{IsFront};
 ghost use Rattle.replay_script.specs.Hex.{digit_of, hex, digit, digits};
 
 use jute::{Blob, NoMemory};
@@ -59,11 +60,11 @@ fn digit(value: u8) -> u8
 
 /// Appends bytes in lower-case hexadecimal digits. Where memory is refused, some of the digits may stand there.
 pub fn put_hex(out: &mut Vec<u8>, bytes: &[u8]) -> Result<(), NoMemory>
-    ensures { OnOk result (out.new.items ≡ out.old.items ++ digits bytes.now) }
+    ensures ok { OnOk result (out.new.items ≡ out.old.items ++ digits bytes.now) }
+    ensures err { OnErr result (IsFront out.old.items out.new.items) }
 {
     for byte in bytes {
-        out.push(digit(byte / 16))?;
-        out.push(digit(byte % 16))?;
+        out.extend_from_slice(&[digit(byte / 16), digit(byte % 16)])?;
     }
     Ok(())
 }
