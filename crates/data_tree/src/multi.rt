@@ -4,9 +4,9 @@ ghost use Rattle.std.specs.Prelude.{◌≡◌, IfOk};
 ghost use Rattle.data_tree.specs.Meaning.{first_error, error_of, has_error, errors_of_failed, failed_answer};
 
 use crate::outcome::Outcome;
-use jute::{Listed, NoMemory};
 use std::alloc::Global;
 use txn_codec::Operation;
+use values::{Listed, NoMemory};
 
 // The error of a part that stands after the first error part.
 const RUNTIME_INCONSISTENCY: i32 = -2;

@@ -7,9 +7,10 @@ ghost use Rattle.data_tree.specs.Meaning.{new_node, owner_of, next_cversion, acl
 ghost use Rattle.data_tree.specs.Stats.{shown, shown_stat, java_int, length_of, shown_cversion};
 
 use ephemerals::TextSet;
-use jute::{Acl, Blob, Id, Listed, NoMemory, Stat, Text};
+use jute::{Acl, Id, Stat};
 use std::alloc::{AllocError, Global};
 use txn_codec::{Create, SetAcl, SetData, TxnHeader};
+use values::{Blob, Listed, NoMemory, Text};
 
 /// The numbers of a node that are kept (StatPersisted of zookeeper.jute).
 #[derive(Clone, Copy, Debug)]

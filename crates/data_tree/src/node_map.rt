@@ -13,11 +13,11 @@ ghost use Rattle.data_tree.specs.Whole.{has_node, has_parent, HasItsChildren, Ar
 use crate::adoption::Adoption;
 use crate::node::{Node, StatPersisted, bereft};
 use ephemerals::{Ephemerals, TextSet};
-use jute::NoMemory;
 use std::alloc::{AllocError, Global};
 use std::collections::BTreeMap;
 use std::marker::Model;
 use txn_codec::{Create, SetAcl, SetData, TxnHeader, child_of, name_of, parent_of};
+use values::NoMemory;
 
 /// Nodes by path.
 #[derive(Drop)]

@@ -2,8 +2,8 @@
 
 ghost use Rattle.std.specs.Prelude.{◌≡◌, ◌∷◌, ◌++◌, [], OnOk};
 
-use jute::{Listed, NoMemory, Text};
 use std::alloc::Global;
+use values::{Listed, NoMemory, Text};
 
 /// What a change of the tree tells watchers, with the path that it concerns (ZooKeeper Programmer's Guide, "Watches").
 #[derive(Debug, Drop)]

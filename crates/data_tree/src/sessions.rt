@@ -3,10 +3,10 @@
 ghost use Rattle.std.specs.Prelude.{◌≡◌, OnOk, OnErr};
 ghost use Rattle.std.specs.FinMap as finmap;
 
-use jute::NoMemory;
 use std::alloc::{AllocError, Global};
 use std::collections::BTreeMap;
 use std::marker::Model;
+use values::NoMemory;
 
 /// Each session's timeout in milliseconds.
 #[derive(Drop)]

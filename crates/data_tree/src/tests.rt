@@ -1,10 +1,10 @@
 use super::{Node, Outcome, StatPersisted, Tree, Trigger};
 use ephemerals::TextSet;
-use jute::Listed;
 use std::alloc::Global;
 use std::process::Abort;
 use std::test::Fail;
 use txn_codec::{Body, Create, Operation, Path, SetAcl, SetData, Txn, TxnHeader, decode_txn};
+use values::Listed;
 
 // Session 7 makes /a with the data "hi", for world:anyone; the root's cversion is 1 then.
 const CREATE: &[u8; 76] =

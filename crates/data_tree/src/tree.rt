@@ -19,12 +19,13 @@ use crate::node_map::NodeMap;
 use crate::outcome::{Outcome, Trigger, fire_created, fire_data_changed, fire_deleted};
 use crate::sessions::Timeouts;
 use ephemerals::{Ephemerals, TextSet};
-use jute::{Listed, NoMemory, Stat};
+use jute::Stat;
 use std::alloc::Global;
 use std::marker::Model;
 use txn_codec::{
     Body, Create, Operation, Path, SetAcl, SetData, Txn, TxnHeader, name_of, parent_of,
 };
+use values::{Listed, NoMemory};
 
 const NO_NODE: i32 = -101;
 

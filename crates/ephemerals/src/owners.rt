@@ -6,10 +6,10 @@ ghost use Rattle.std.specs.FinSet as set;
 ghost use Rattle.ephemerals.specs.Pairs.{owned_too, disowned, replaced, owned_by, without_session};
 
 use crate::text_set::TextSet;
-use jute::NoMemory;
 use std::alloc::{AllocError, Global};
 use std::collections::BTreeMap;
 use std::marker::Model;
+use values::NoMemory;
 
 /// Which session owns which ephemeral node: a set of pairs of a session and a path. Session 0 owns none.
 #[derive(Drop)]

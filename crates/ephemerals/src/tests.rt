@@ -3,9 +3,9 @@ ghost use Rattle.std.specs.List.{concat};
 ghost use Rattle.ephemerals.specs.Orders.{in_order};
 
 use super::{Ephemerals, TextSet};
-use jute::NoMemory;
 use std::alloc::Global;
 use std::test::Fail;
+use values::NoMemory;
 
 // The texts one after another, as a loop over them sees them.
 fn joined(alloc: Global, texts: &TextSet) -> Result<String, NoMemory>

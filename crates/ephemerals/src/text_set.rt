@@ -7,11 +7,11 @@ ghost use Rattle.std.specs.Map.Iter.{ShowsInOrder, deref};
 ghost use Rattle.std.specs.FinSet as set;
 ghost use Rattle.ephemerals.specs.Orders.{Bytes, path_cmp, in_order};
 
-use jute::NoMemory;
 use std::alloc::{AllocError, Global};
 use std::collections::BTreeSet;
 use std::collections::btree_set::Iter;
 use std::marker::Model;
+use values::NoMemory;
 
 /// A set of texts, in ascending bytes.
 #[derive(Drop)]

@@ -8,7 +8,7 @@ use Rattle.std.proofs.lemmas.Bool.{ltb-false, le-ltb, leb-true, le-leb}
 use Rattle.std.proofs.lemmas.List.{take_at, drop_at, take-append-drop, length-append, length-take}
 use Rattle.std.proofs.lemmas.List.Concat.{flat_map-cons}
 use Rattle.std.proofs.lemmas.Str.{IsUtf8-from_is_utf8, is_utf8-from_IsUtf8}
-use Rattle.jute.specs.declared.fault.Fault.TheVariants.{Short, BadLength, BadText}
+use Rattle.values.specs.declared.fault.Fault.TheVariants.{Short, BadLength, BadText}
 use Rattle.jute.specs.Format.{◌>>=◌, Format, number_bytes, int, null, boolean, boolean_at, length_of, length_at, taken, buffer, buffer_at, buffer_limit, count_limit, SpellsBuffer, FitsBuffer, buffer_bytes, text, text_at, text_of, IsText, name, or_empty, SpellsName, times, items_at, vector, vector_at, SpellsEach, SpellsVector, FitsVector, vector_bytes}
 use Rattle.jute.specs.Laws.{IsBytes, Takes, Lawful}
 use Rattle.jute.proofs.Lawfulness.{IsBytes-drop, bind_ok, guard_ok, ok_is, int_lawful}

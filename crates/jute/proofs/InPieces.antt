@@ -6,8 +6,8 @@ use Rattle.std.proofs.lemmas.Bool.{cases_lt, lt-ltb, le-ltb}
 use Rattle.std.proofs.lemmas.List.{take-append-le, drop-append-le, length-drop, length-append}
 use Rattle.byteorder.specs.Endian.{big_number}
 use Rattle.byteorder.specs.Numbers.{big_from-take}
-use Rattle.jute.specs.declared.fault.Fault.{Fault}
-use Rattle.jute.specs.declared.fault.Fault.TheVariants.{Short}
+use Rattle.values.specs.declared.fault.Fault.{Fault}
+use Rattle.values.specs.declared.fault.Fault.TheVariants.{Short}
 use Rattle.jute.specs.Format.{◌>>=◌, Format, number, int, long, boolean, boolean_at, buffer, buffer_at, buffer_limit, text, text_at, text_of, length_at, length_of, taken, name, or_empty, times, items_at, vector, vector_at, count_limit, both, mapped}
 use Rattle.jute.specs.Pieces.{Stands, Leaves, Pieced, Eats, TakesSome}
 

@@ -11,8 +11,8 @@ use borrow.Author.Gap.{read_sfits}
 use Rattle.byteorder.specs.Endian.{big_number, big_bytes}
 use Rattle.byteorder.specs.Numbers.{big_number-reads_back, big_from-take}
 use Rattle.std.proofs.Math.Facts.{Fits-of_z}
-use Rattle.jute.specs.declared.fault.Fault.{Fault}
-use Rattle.jute.specs.declared.fault.Fault.TheVariants.{Short}
+use Rattle.values.specs.declared.fault.Fault.{Fault}
+use Rattle.values.specs.declared.fault.Fault.TheVariants.{Short}
 use Rattle.jute.specs.Format.{◌>>=◌, Format, number, number_bytes, int, long, both, mapped}
 use Rattle.jute.specs.Laws.{IsBytes, Takes, Lawful}
 

@@ -1,9 +1,9 @@
 -- The loop over a count: the items so far, before what is read of the rest.
 use Rattle.std.proofs.Common.{◌≡◌, ℕ, suc, ◌+◌, ◌-◌, ◌<◌, ◌≤◌, List, [], ◌∷◌, ◌++◌, Result, Ok, Err, refl, sym, ap, ◌∙◌, append_assoc, arith}
 use Rattle.std.proofs.lemmas.List.{append-nil}
-use Rattle.jute.specs.declared.fault.Fault.{Fault}
-use Rattle.jute.specs.declared.fault.ReadError.{ReadError}
-use Rattle.jute.specs.declared.fault.ReadError.TheVariants as errors
+use Rattle.values.specs.declared.fault.Fault.{Fault}
+use Rattle.values.specs.declared.fault.ReadError.{ReadError}
+use Rattle.values.specs.declared.fault.ReadError.TheVariants as errors
 use Rattle.jute.specs.Reads.{Failed}
 use Rattle.jute.specs.Format.{◌>>=◌, times}
 

@@ -7,8 +7,8 @@ use Rattle.std.proofs.lemmas.Int.{ints}
 use Rattle.std.proofs.lemmas.Bool.{ltb-true, leb-false}
 use Rattle.std.proofs.lemmas.Str.{is_utf8-from_IsUtf8}
 use Rattle.byteorder.specs.Endian.{big_number}
-use Rattle.jute.specs.declared.fault.Fault.{Fault}
-use Rattle.jute.specs.declared.fault.Fault.TheVariants.{Short, BadLength, BadText}
+use Rattle.values.specs.declared.fault.Fault.{Fault}
+use Rattle.values.specs.declared.fault.Fault.TheVariants.{Short, BadLength, BadText}
 use Rattle.jute.specs.Format.{◌>>=◌, Format, number, int, boolean, boolean_at, length_of, length_at, taken, buffer, buffer_at, buffer_limit, count_limit, text, text_at, text_of, name, or_empty, times, items_at, vector, vector_at, both, mapped}
 use Rattle.jute.specs.Laws.{IsBytes, Lawful}
 use Rattle.jute.specs.Refusals.{Against, Named, number_against, boolean_against, length_against, buffer_against, text_against, both_against, ItemRefused, vector_against}

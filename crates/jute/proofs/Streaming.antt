@@ -1,7 +1,7 @@
 -- The values of a stream, however it is cut.
 use Rattle.std.proofs.Common.{◌≡◌, ℕ, zero, suc, ◌<◌, List, ◌++◌, length, Result, Ok, Err, refl, ap, subst, ◌∙◌, arith, ◌⊎◌, inl, inr}
-use Rattle.jute.specs.declared.fault.Fault.{Fault}
-use Rattle.jute.specs.declared.fault.Fault.TheVariants.{Short}
+use Rattle.values.specs.declared.fault.Fault.{Fault}
+use Rattle.values.specs.declared.fault.Fault.TheVariants.{Short}
 use Rattle.jute.specs.Format.{Format}
 use Rattle.jute.specs.Pieces.{Stands, Eats}
 use Rattle.jute.specs.Stream.{Reading, values, passes, Phased, Unread, Place, place_at, Items, add, nothing, before, joined, read_in, kept_in, refused, stopped, go_on, items_within, items, only, Streamed, StreamedIn, IsStream, ComesInPieces}

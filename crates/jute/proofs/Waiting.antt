@@ -6,8 +6,8 @@ use Rattle.std.specs.Str.{is_utf8}
 use Rattle.std.proofs.lemmas.Bool.{cases_lt, le-ltb}
 use Rattle.std.proofs.lemmas.List.{length-append, length-replicate, get_or-replicate, get_or_past}
 use Rattle.byteorder.specs.Endian.{big_number}
-use Rattle.jute.specs.declared.fault.Fault.{Fault}
-use Rattle.jute.specs.declared.fault.Fault.TheVariants.{Short, BadLength, BadText}
+use Rattle.values.specs.declared.fault.Fault.{Fault}
+use Rattle.values.specs.declared.fault.Fault.TheVariants.{Short, BadLength, BadText}
 use Rattle.jute.specs.Format.{◌>>=◌, Format, number, int, boolean, boolean_at, length_of, length_at, taken, buffer, buffer_at, buffer_limit, count_limit, text, text_of, text_at, name, or_empty, times, items_at, vector, vector_at, both, mapped}
 use Rattle.jute.specs.Laws.{IsBytes}
 use Rattle.jute.specs.Pieces.{Stands, Pieced}

@@ -1,7 +1,7 @@
 -- A frame: how many bytes follow, as an int, and those bytes. There is no null frame.
 use Rattle.std.specs.Prelude.{◌≡◌, ℕ, List, length, take, drop, Result, Ok, Err, nat_lt, nat_le, ◌≤◌, if◌then◌else◌, ℤ, pos, negsuc}
-use Rattle.jute.specs.declared.fault.Fault.{Fault}
-use Rattle.jute.specs.declared.fault.Fault.TheVariants.{Short, BadLength}
+use Rattle.values.specs.declared.fault.Fault.{Fault}
+use Rattle.values.specs.declared.fault.Fault.TheVariants.{Short, BadLength}
 use Rattle.jute.specs.Format.{Format, ◌>>=◌, int, counted}
 
 abbrev pub frame_length : ℕ → ℤ → Result ℕ Fault

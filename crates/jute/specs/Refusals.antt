@@ -2,8 +2,8 @@
 -- each format this says which fault it is, and what is then against the spelling.
 use Rattle.std.specs.Prelude.{◌≡◌, ◌<◌, ◌≤◌, ◌<ℤ◌, ◌⊎◌, ℕ, pos, negsuc, List, [], ◌++◌, length, Some, Err, IsUtf8}
 use Rattle.std.specs.Int.{Width, w32, w64, byte_len}
-use Rattle.jute.specs.declared.fault.Fault.{Fault}
-use Rattle.jute.specs.declared.fault.Fault.TheVariants.{Short, BadLength, BadText}
+use Rattle.values.specs.declared.fault.Fault.{Fault}
+use Rattle.values.specs.declared.fault.Fault.TheVariants.{Short, BadLength, BadText}
 use Rattle.jute.specs.Format.{Format, int, long, buffer, text, name, buffer_limit, count_limit, SpellsEach}
 use Rattle.jute.specs.Laws.{IsBytes}
 

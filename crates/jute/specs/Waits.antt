@@ -1,8 +1,8 @@
 -- Short is honest: bytes that are too few have others to come behind which the read is not Short.
 -- That it then finds a value cannot be promised, since a text is judged at its last byte.
 use Rattle.std.specs.Prelude.{◌≢◌, ℕ, List, ◌++◌, Result, Err}
-use Rattle.jute.specs.declared.fault.Fault.{Fault}
-use Rattle.jute.specs.declared.fault.Fault.TheVariants.{Short}
+use Rattle.values.specs.declared.fault.Fault.{Fault}
+use Rattle.values.specs.declared.fault.Fault.TheVariants.{Short}
 use Rattle.jute.specs.Format.{Format}
 use Rattle.jute.specs.Laws.{IsBytes}
 

@@ -4,8 +4,8 @@ ghost use Rattle.jute.specs.Frame.{frame, frame_length};
 ghost use Rattle.jute.specs.Format.{Took};
 ghost use Rattle.std.specs.Prelude.{◌≡◌};
 
-use crate::fault::Fault;
 use crate::reader::Reader;
+use values::Fault;
 
 // The length that a number stands for.
 fn frame_length(length: i32, limit: u32) -> Result<u32, Fault>

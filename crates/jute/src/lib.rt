@@ -1,8 +1,6 @@
 //! The fields and records of Jute.
 #![tactic(auto)]
 
-mod byte_queue;
-mod fault;
 mod frame;
 mod law;
 mod message;
@@ -13,11 +11,8 @@ mod stat;
 mod stream_law;
 #[cfg(test)]
 mod tests;
-mod value;
 mod writer;
 
-pub use byte_queue::ByteQueue;
-pub use fault::{Fault, NoMemory, ReadError};
 pub use frame::read_frame;
 pub use law::{formats, pieces, refused, waits};
 pub use message::{GetDataRequest, GetDataResponse, ReplyHeader, RequestHeader};
@@ -26,7 +21,6 @@ pub use reader::{BUFFER_LIMIT, COUNT_LIMIT, Reader};
 pub use record::{ReadRecord, read_name, read_vector};
 pub use stat::Stat;
 pub use stream_law::{relates, streams};
-pub use value::{Blob, Bytes, Listed, Str, Text};
 pub use writer::{
     WriteRecord, put_bool, put_buffer, put_bytes, put_int, put_long, put_string, put_vector,
 };

@@ -3,13 +3,12 @@
 
 ghost use Rattle.jute.specs.Records.{request_header, reply_header, get_data_request, get_data_response, IsWritableBuffer};
 
-use crate::fault::{NoMemory, ReadError};
 use crate::reader::Reader;
 use crate::record::ReadRecord;
 use crate::stat::Stat;
-use crate::value::{Bytes, Str};
 use crate::writer::{WriteRecord, put_bool, put_bytes, put_int, put_long, put_string};
 use std::alloc::Global;
+use values::{Bytes, NoMemory, ReadError, Str};
 
 /// The RequestHeader of zookeeper.jute.
 #[derive(Clone, Copy, Debug, PartialEq, Eq)]

@@ -7,12 +7,11 @@ ghost use Rattle.jute.specs.Reads.{Gives};
 ghost use Rattle.jute.specs.Records.{IsWritableBuffer};
 ghost use Rattle.jute.specs.Writes.{IsFront};
 
-use crate::fault::{NoMemory, ReadError};
 use crate::reader::Reader;
 use crate::record::{ReadRecord, read_name};
-use crate::value::{Blob, Text};
 use crate::writer::{WriteRecord, put_bytes, put_int, put_string};
 use std::alloc::Global;
+use values::{Blob, NoMemory, ReadError, Text};
 
 /// Reads a buffer, null among them, and copies its bytes. A refused read leaves the place.
 pub fn read_blob(alloc: Global, reader: &mut Reader<'_>) -> Result<Option<Blob>, ReadError>

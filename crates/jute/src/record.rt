@@ -1,14 +1,13 @@
 //! Records: what is read from the front of a byte text by one function.
 
 ghost use Rattle.std.specs.Prelude.{◌≡◌, List, ℕ, Result};
-ghost use Rattle.jute.specs.declared.fault.Fault.{Fault as TheFault};
+ghost use Rattle.values.specs.declared.fault.Fault.{Fault as TheFault};
 ghost use Rattle.jute.specs.Reads.{Gives};
 ghost use Rattle.jute.specs.Format.{name, times, vector_at, Took};
 
-use crate::fault::{Fault, ReadError};
 use crate::reader::Reader;
-use crate::value::{Listed, Str};
 use std::alloc::Global;
+use values::{Fault, Listed, ReadError, Str};
 
 /// What is read from the front of a byte text. Its faults are those of its fields, the first one
 /// first; a refused read leaves the place unchanged.

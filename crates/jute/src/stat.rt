@@ -2,11 +2,11 @@
 
 ghost use Rattle.jute.specs.Records.{stat};
 
-use crate::fault::{NoMemory, ReadError};
 use crate::reader::Reader;
 use crate::record::ReadRecord;
 use crate::writer::{WriteRecord, put_int, put_long};
 use std::alloc::Global;
+use values::{NoMemory, ReadError};
 
 /// The Stat of zookeeper.jute, 68 bytes.
 #[derive(Clone, Copy, Debug, PartialEq, Eq)]

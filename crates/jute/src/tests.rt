@@ -1,6 +1,7 @@
 use super::*;
 use std::alloc::Global;
 use std::test::Fail;
+use values::*;
 
 /// The frame that answers getData: header, bytes and Stat of a node that was created with two.
 const REPLY: [u8; 94] = *b"\x00\x00\x00\x5a\
@@ -265,4 +266,21 @@ fn laws_are_called() {
     pieces();
     refused();
     waits();
+}
+
+#[test]
+fn bytes_wait_in_their_order(rt: HostRuntime) -> Result<(), Fail> {
+    let mut queue = ByteQueue::new(rt.alloc());
+    assert!(rt; queue.is_empty());
+    queue.add(b"abc")?;
+    queue.add(b"defg")?;
+    assert!(rt; queue.len() == 7);
+    queue.drop_front(2);
+    assert!(rt; queue.as_slice() == b"cdefg".as_slice());
+    queue.drop_front(3);
+    queue.add(b"h")?;
+    assert!(rt; queue.as_slice() == b"fgh".as_slice());
+    queue.drop_front(3);
+    assert!(rt; queue.is_empty());
+    Ok(())
 }

@@ -6,8 +6,8 @@ ghost use Rattle.std.specs.List.{flat_map};
 ghost use Rattle.jute.specs.Format.{int, long, boolean, buffer, vector_bytes};
 ghost use Rattle.jute.specs.Writes.{IsFront};
 
-use crate::fault::NoMemory;
 use byteorder::{BigEndian, ByteOrder};
+use values::NoMemory;
 
 /// Writes an int: 4 bytes, big-endian two's complement.
 #[tactic(auto, unfolding(crate::specs::Format::number_bytes))]

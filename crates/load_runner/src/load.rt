@@ -9,10 +9,10 @@ use crate::messages::{
     PATH_LIMIT, child_path, create, parent_path, set_data, write_get_data, write_inform,
 };
 use anyhow::{Context, Result, ensure};
-use jute::{Blob, Bytes};
 use observer_core::{Config, Engine, Event, Output};
 use std::alloc::Global;
 use txn_codec::{Body, Path, Txn, TxnHeader};
+use values::{Blob, Bytes};
 
 // The session that asked for all transactions.
 const SESSION: i64 = 7;

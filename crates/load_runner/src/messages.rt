@@ -9,14 +9,12 @@ ghost use Rattle.txn_codec.specs.Writable.{IsWritableBody};
 ghost use Rattle.load_runner.specs.Messages.{parent_text, child_text, open_to_all, create_of, set_data_of, inform_of, frame_of};
 ghost use Rattle.load_runner.specs.declared.messages.Untold.TheVariants as untold;
 
-use jute::{
-    Acl, Blob, GetDataRequest, Id, Listed, NoMemory, ReadError, RequestHeader, Str, Text,
-    WriteRecord, put_bytes,
-};
+use jute::{Acl, GetDataRequest, Id, RequestHeader, WriteRecord, put_bytes};
 use quorum_packet::{PacketKind, QuorumPacket, write_packet};
 use std::alloc::Global;
 use thiserror::Error;
 use txn_codec::{Body, Create, Operation, Path, SetData, Txn, encode_txn};
+use values::{Blob, Listed, NoMemory, ReadError, Str, Text};
 
 /// The most bytes of a path here.
 pub const PATH_LIMIT: usize = 64;

@@ -2,7 +2,7 @@
 use Rattle.std.proofs.Common.{◌≡◌, ℕ, Bool, true, false, cond, eqb, List, [], ◌∷◌, ◌++◌, Option, Some, None, Result, Ok, Err, refl, sym, ap, ◌∙◌, append_assoc}
 use Rattle.std.specs.Prelude.{ℤ}
 use Rattle.std.proofs.lemmas.List.{append-nil}
-use Rattle.jute.specs.declared.fault.Fault.{Fault}
+use Rattle.values.specs.declared.fault.Fault.{Fault}
 use Rattle.jute.specs.Stream.{Unread, Place, Items, items, add, place_at, nothing, IsStream}
 use Rattle.jute.proofs.Streaming.{comes_in_pieces}
 use Rattle.quorum_packet.specs.declared.packet.QuorumPacket.{QuorumPacket}

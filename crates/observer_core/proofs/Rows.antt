@@ -9,8 +9,8 @@ use Rattle.std.specs.Str.{IsUtf8, is_utf8}
 use lib.Utf8.{encode}
 use Rattle.std.proofs.lemmas.Str.{IsUtf8-from_ascii, is_utf8-from_IsUtf8}
 use Rattle.std.specs.Ordering.{nat_cmp}
-use Rattle.jute.specs.declared.fault.Fault.{Fault}
-use Rattle.jute.specs.declared.fault.Fault.TheVariants.{OutOfOrder}
+use Rattle.values.specs.declared.fault.Fault.{Fault}
+use Rattle.values.specs.declared.fault.Fault.TheVariants.{OutOfOrder}
 use Rattle.jute.specs.declared.owned.Acl.{Acl}
 use Rattle.jute.specs.declared.message.RequestHeader.{RequestHeader}
 use Rattle.jute.specs.declared.message.GetDataRequest.{GetDataRequest}

@@ -6,7 +6,7 @@ use Rattle.std.specs.List.{list_any, starts_with}
 use Rattle.std.specs.FinMap as finmap
 use Rattle.std.specs.Borrow.{Bor}
 use lib.Pointwise.{pointwise}
-use Rattle.jute.specs.declared.fault.Fault.{Fault}
+use Rattle.values.specs.declared.fault.Fault.{Fault}
 use Rattle.jute.specs.declared.owned.Acl.{Acl}
 use Rattle.jute.specs.declared.message.RequestHeader.{RequestHeader}
 use Rattle.jute.specs.declared.message.GetDataRequest.{GetDataRequest}

@@ -1,10 +1,10 @@
 -- What the code answers and leaves.
 use Rattle.std.specs.Prelude.{◌≡◌, ℕ, List, ◌++◌, Result, Ok, Err, Option, Some, None, Bool, true, false, length, drop, ◌<◌, ◌≤◌}
 use Rattle.std.specs.Borrow.{Bor}
-use Rattle.jute.specs.declared.fault.Fault.{Fault}
-use Rattle.jute.specs.declared.fault.NoMemory.{NoMemory}
-use Rattle.jute.specs.declared.fault.ReadError.{ReadError}
-use Rattle.jute.specs.declared.fault.ReadError.TheVariants as errors
+use Rattle.values.specs.declared.fault.Fault.{Fault}
+use Rattle.values.specs.declared.fault.NoMemory.{NoMemory}
+use Rattle.values.specs.declared.fault.ReadError.{ReadError}
+use Rattle.values.specs.declared.fault.ReadError.TheVariants as errors
 use Rattle.jute.specs.Stream.{Place, place_at, items, before, nothing}
 use Rattle.quorum_packet.specs.declared.phase.Phase.{Phase}
 use Rattle.observer_core.specs.declared.machine.Replica.{Replica}

@@ -1,8 +1,8 @@
 -- What a machine does with a list of events: the outputs, and the machine that is left.
 use Rattle.std.specs.Prelude.{◌≡◌, ℕ, ℤ, pos, List, [], ◌∷◌, ◌++◌, length, Option, Some, None, Result, Ok, Err, Bool, true, false, ◌==◌, int_lt, if◌then◌else◌}
 use Rattle.std.specs.Ordering.{int_eq}
-use Rattle.jute.specs.declared.fault.Fault.{Fault}
-use Rattle.jute.specs.declared.fault.Fault.TheVariants.{OutOfOrder}
+use Rattle.values.specs.declared.fault.Fault.{Fault}
+use Rattle.values.specs.declared.fault.Fault.TheVariants.{OutOfOrder}
 use Rattle.jute.specs.Frame.{frame}
 use Rattle.jute.specs.Stream.{Phased, Place, Items, Unread, only, place_at, add, items}
 use Rattle.quorum_packet.specs.declared.packet.QuorumPacket.{QuorumPacket}

@@ -1,6 +1,6 @@
 -- Rows of bytes that were worked out by hand: what comes, and what goes.
 use Rattle.std.specs.Prelude.{◌≡◌, ℕ, List, [], ◌∷◌, ◌++◌}
-use Rattle.jute.specs.declared.fault.Fault.TheVariants.{OutOfOrder}
+use Rattle.values.specs.declared.fault.Fault.TheVariants.{OutOfOrder}
 use Rattle.observer_core.specs.declared.config.Config.{Config}
 use Rattle.observer_core.specs.declared.event.Event.{Event}
 use Rattle.observer_core.specs.declared.event.Event.TheVariants.{LeaderBytes, ClientBytes}

@@ -9,10 +9,11 @@ ghost use Rattle.observer_core.specs.Answer.{grants_read, may_read, is_asked, lo
 
 use data_tree::{Node, Tree};
 use jute::{
-    Acl, Blob, Bytes, GetDataRequest, GetDataResponse, NoMemory, ReadError, ReadRecord, Reader,
-    ReplyHeader, RequestHeader, Str, WriteRecord, put_int,
+    Acl, GetDataRequest, GetDataResponse, ReadRecord, Reader, ReplyHeader, RequestHeader,
+    WriteRecord, put_int,
 };
 use std::alloc::Global;
+use values::{Blob, Bytes, NoMemory, ReadError, Str};
 
 /// The permission to read a node.
 pub const READ: u32 = 1;

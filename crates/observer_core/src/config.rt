@@ -3,8 +3,8 @@
 ghost use Rattle.std.specs.Prelude.{◌≡◌, ◌↔◌, IsOk, IsTrue, IfOk, length};
 ghost use Rattle.observer_core.specs.Config.{is_server_id, are_epochs, are_timeouts, is_secret};
 
-use jute::Blob;
 use thiserror::Error;
+use values::Blob;
 
 /// The most bytes of a secret.
 pub const SECRET_LIMIT: usize = 64;

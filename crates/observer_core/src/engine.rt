@@ -10,11 +10,11 @@ use crate::event::{Event, Output};
 use crate::machine::{Base, Learner, Log, Machine, Replica};
 use crate::run::run;
 use data_tree::Tree;
-use jute::{ByteQueue, NoMemory};
 use quorum_packet::PacketFeed;
 use std::alloc::Global;
 use std::marker::Model;
 use thiserror::Error;
+use values::{ByteQueue, NoMemory};
 
 /// Why an engine stopped.
 #[derive(Clone, Copy, Debug, PartialEq, Eq, Error)]

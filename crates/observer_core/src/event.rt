@@ -1,6 +1,6 @@
 //! What comes to an observer, and what goes out.
 
-use jute::{Blob, Bytes, Fault};
+use values::{Blob, Bytes, Fault};
 
 /// What comes. A connection is named by its number.
 #[derive(Drop)]

@@ -4,11 +4,11 @@ ghost use Rattle.std.specs.Prelude.{◌≡◌, ◌++◌, ◌∷◌, [], OnOk, On
 
 use crate::config::Config;
 use data_tree::Tree;
-use jute::{ByteQueue, NoMemory};
 use quorum_packet::PacketFeed;
 use std::alloc::Global;
 use std::marker::Model;
 use txn_codec::Txn;
+use values::{ByteQueue, NoMemory};
 
 /// The transactions that were applied, in order.
 #[derive(Drop)]

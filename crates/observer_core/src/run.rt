@@ -10,10 +10,11 @@ ghost use Rattle.observer_core.specs.Meets.{Meets, Receives, Delivers, Answers, 
 use crate::answer::{Answer, answer_frame};
 use crate::event::{Event, Output};
 use crate::machine::{Machine, Replica};
-use jute::{ByteQueue, Fault, NoMemory, ReadError, Reader, read_frame};
+use jute::{Reader, read_frame};
 use quorum_packet::{PacketFeed, PacketKind, QuorumPacket};
 use std::alloc::Global;
 use txn_codec::{Txn, decode_txn};
+use values::{ByteQueue, Fault, NoMemory, ReadError};
 
 /// The number of the one connection of a client.
 pub const FIRST: u64 = 1;

@@ -1,8 +1,8 @@
 //! Rows of bytes that were worked out by hand: what comes, and what goes.
 use super::*;
-use jute::{Blob, Bytes, Fault};
 use std::alloc::Global;
 use std::test::*;
+use values::{Blob, Bytes, Fault};
 
 // An INFORM of a create of /a with the data "hi", zxid 0x100000001.
 const CREATE: &[u8; 96] =

@@ -1,8 +1,8 @@
 -- A packet at the front of the bytes, and what stands behind it.
 use Rattle.std.proofs.Common.{◌≡◌, ℕ, ◌-◌, ◌<◌, ◌≤◌, List, length, drop, Option, Some, None, Ok, Err, is_err, false, refl, sym, ap, ◌∙◌, arith}
 use Rattle.std.proofs.Math.Seq.{drop-length}
-use Rattle.jute.specs.declared.fault.Fault.{Fault}
-use Rattle.jute.specs.declared.fault.Fault.TheVariants.{Short}
+use Rattle.values.specs.declared.fault.Fault.{Fault}
+use Rattle.values.specs.declared.fault.Fault.TheVariants.{Short}
 use Rattle.jute.specs.Laws.{IsBytes}
 use Rattle.jute.specs.Stream.{Unread, Place, items, before, nothing}
 use Rattle.jute.proofs.Streaming.{items_whole, items_short, items_refused, shorter_rest, refused_other}

@@ -3,7 +3,7 @@ use Rattle.std.proofs.Common.{◌≡◌, ℕ, zero, suc, ◌-◌, ◌*◌, ◌<�
 use Rattle.std.specs.Prelude.{ℤ, unwrap_or, OnOk, OnErr}
 use Rattle.std.proofs.lemmas.List.{length-append, drop_at, drop-append-le, take-append-drop, append-nil}
 use Rattle.std.specs.Int.{w32, w64}
-use Rattle.jute.specs.declared.fault.Fault.{Fault}
+use Rattle.values.specs.declared.fault.Fault.{Fault}
 use Rattle.jute.specs.Format.{◌>>=◌, Format, int, long, buffer, name, count_limit, length_at, times, items_at, vector_at, both, mapped}
 use Rattle.jute.specs.Laws.{IsBytes}
 use Rattle.jute.specs.Owned.{id}

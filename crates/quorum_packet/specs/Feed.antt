@@ -1,9 +1,9 @@
 -- What the feed of packets answers.
 use Rattle.std.specs.Prelude.{◌≡◌, ℕ, List, [], ◌∷◌, length, Option, Some, None, Result, Ok, Err, is_err, false, ◌<◌, ◌≤◌, drop}
-use Rattle.jute.specs.declared.fault.Fault.{Fault}
-use Rattle.jute.specs.declared.fault.Fault.TheVariants.{Short}
-use Rattle.jute.specs.declared.fault.ReadError.{ReadError}
-use Rattle.jute.specs.declared.fault.ReadError.TheVariants as errors
+use Rattle.values.specs.declared.fault.Fault.{Fault}
+use Rattle.values.specs.declared.fault.Fault.TheVariants.{Short}
+use Rattle.values.specs.declared.fault.ReadError.{ReadError}
+use Rattle.values.specs.declared.fault.ReadError.TheVariants as errors
 use Rattle.jute.specs.Reads.{Failed}
 use Rattle.jute.specs.Stream.{Unread, Place, nothing, before, items}
 use Rattle.quorum_packet.specs.declared.packet.QuorumPacket.{QuorumPacket}

@@ -1,6 +1,6 @@
 -- What of the packet at the front wasn't looked at yet: some texts of its authinfo, from a place on.
 use Rattle.std.specs.Prelude.{◌≡◌, ◌≤◌, ℕ, List, ◌++◌, length, drop, Option, Some, None, Err}
-use Rattle.jute.specs.declared.fault.Fault.{Fault}
+use Rattle.values.specs.declared.fault.Fault.{Fault}
 use Rattle.jute.specs.Format.{name, times}
 use Rattle.quorum_packet.specs.declared.unseen.Unseen.{Unseen}
 use Rattle.quorum_packet.specs.Packet.{packet}

@@ -12,9 +12,10 @@ use crate::kind::PacketKind;
 use crate::packet::QuorumPacket;
 use crate::phase::Phase;
 use crate::unseen::{Unseen, look};
-use jute::{ByteQueue, Fault, NoMemory, ReadError, ReadRecord, Reader};
+use jute::{ReadRecord, Reader};
 use std::alloc::Global;
 use std::marker::Model;
+use values::{ByteQueue, Fault, NoMemory, ReadError};
 
 /// The packets of a stream, seen as the place up to which it was read: what stands there next, and the bytes
 /// that aren't read yet, or the fault that ended it.

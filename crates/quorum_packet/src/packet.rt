@@ -7,10 +7,10 @@ ghost use Rattle.jute.specs.Writes.{IsFront};
 ghost use Rattle.quorum_packet.specs.Packet.{packet as packet_format, IsWritable as IsWritablePacket, IsWritableIds};
 
 use jute::{
-    Blob, Id, Listed, NoMemory, ReadError, ReadRecord, Reader, put_blob, put_int, put_long,
-    put_vector, read_blob, read_vector,
+    Id, ReadRecord, Reader, put_blob, put_int, put_long, put_vector, read_blob, read_vector,
 };
 use std::alloc::Global;
+use values::{Blob, Listed, NoMemory, ReadError};
 
 /// The QuorumPacket of zookeeper.jute: what a leader and its servers send to each other.
 #[derive(Debug, Drop)]

@@ -1,6 +1,6 @@
 use super::*;
-use jute::{Blob, Fault, ReadError};
 use std::test::Fail;
+use values::{Blob, Fault, ReadError};
 
 /// An INFORM that creates /a with the data "hi".
 const INFORM: [u8; 96] = *b"\x00\x00\x00\x08\x00\x00\x00\x01\x00\x00\x00\x01\x00\x00\x00\x4c\

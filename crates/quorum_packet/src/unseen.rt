@@ -4,7 +4,8 @@ ghost use Rattle.std.specs.Prelude.{◌≡◌, Err, IfOk, IfErr, OnOk};
 ghost use Rattle.quorum_packet.specs.Packet.{packet};
 ghost use Rattle.quorum_packet.specs.Unseen.{IsUnseen, MayBeUnseen, AllSeen};
 
-use jute::{Fault, Reader, read_name};
+use jute::{Reader, read_name};
+use values::Fault;
 
 /// The texts of a packet's authinfo from a place on: where the first one begins, and how many there are.
 #[derive(Clone, Copy, Debug)]

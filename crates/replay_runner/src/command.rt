@@ -3,7 +3,7 @@
 ghost use Rattle.std.specs.Prelude.{◌≡◌, map, string_bytes};
 ghost use Rattle.replay_runner.specs.Command.{source_of};
 
-use jute::Str;
+use values::Str;
 
 /// Where a script is read from.
 #[derive(Drop)]

@@ -3,10 +3,10 @@
 ghost use Rattle.std.specs.Prelude.{◌≡◌, ◌++◌, OnOk, decimal};
 ghost use Rattle.replay_runner.specs.Lines.{fault_word, output_line, hex_number, end_line};
 
-use jute::{Fault, NoMemory};
 use observer_core::Output;
 use replay_script::put_hex;
 use std::io::Write;
+use values::{Fault, NoMemory};
 
 fn fault_word(fault: Fault) -> &'static [u8]
     ensures { result.now ≡ fault_word fault }

@@ -11,11 +11,11 @@ ghost use Rattle.replay_runner.specs.declared.replay.Refusal.TheVariants as refu
 
 use crate::outcome::Outcome;
 use crate::print::{put_end, put_output};
-use jute::{Bytes, Listed, NoMemory};
 use observer_core::{Config, Engine, Event, Output};
 use replay_script::{Script, ScriptError, ScriptEvent, parse};
 use std::alloc::Global;
 use std::io::{ErrorKind, Read, Write};
+use values::{Bytes, Listed, NoMemory};
 
 /// Why a replay could not be printed to its end.
 #[derive(Clone, Copy, Debug, PartialEq, Eq)]

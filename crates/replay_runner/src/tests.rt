@@ -2,11 +2,11 @@ use crate::command::{Source, source_of};
 use crate::outcome::Outcome;
 use crate::print::{put_end, put_output};
 use crate::replay::replay_on;
-use jute::{Blob, Fault};
 use observer_core::Output;
 use std::io;
 use std::io::{ErrorKind, Read, Write};
 use std::test::*;
+use values::{Blob, Fault};
 
 const SCRIPT: &[u8] = b"server 3\nprimed\nclient 1 0000000000\nclient 1 ffffffff";
 

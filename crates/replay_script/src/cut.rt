@@ -3,7 +3,7 @@
 ghost use Rattle.std.specs.Prelude.{◌≡◌, ◌==◌, position};
 ghost use Rattle.replay_script.specs.Cut.{cut_at};
 
-use jute::Bytes;
+use values::Bytes;
 
 /// A text in two.
 #[derive(Drop)]

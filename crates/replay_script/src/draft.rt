@@ -5,9 +5,9 @@ ghost use Rattle.std.specs.Prelude.{◌≡◌, Some, None, [], OnOk, IfOk, if◌
 use crate::event::{Line, ScriptEvent, Setting};
 use crate::line::line_of;
 use crate::script::{Script, Settings};
-use jute::{Blob, Listed, NoMemory};
 use std::alloc::Global;
 use std::marker::Model;
+use values::{Blob, Listed, NoMemory};
 
 /// What the lines of a script have said so far.
 #[derive(Drop)]

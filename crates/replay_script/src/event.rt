@@ -1,6 +1,6 @@
 //! What a script says.
 
-use jute::Blob;
+use values::Blob;
 
 /// An event of a script. A connection is named by its number.
 #[derive(Debug, Drop)]

@@ -1,11 +1,11 @@
 //! Bytes as hexadecimal digits.
 
-ghost use Rattle.std.specs.Prelude.{◌≡◌, ◌<◌, ◌+◌, ◌++◌, IfSome, IfOk, OnOk, OnErr};
-ghost use Rattle.jute.specs.Writes.{IsFront};
+ghost use Rattle.std.specs.Prelude.{◌≡◌, ◌<◌, ◌+◌, ◌++◌, IfSome, IfOk, OnOk};
 ghost use Rattle.replay_script.specs.Hex.{digit_of, hex, digit, digits};
+ghost use Rattle.values.specs.Gains.{Puts};
 
-use jute::{Blob, NoMemory};
 use std::alloc::Global;
+use values::{Blob, NoMemory};
 
 fn digit_of(byte: u8) -> Option<u8>
     ensures value { result ≡ digit_of byte }
@@ -60,8 +60,7 @@ fn digit(value: u8) -> u8
 
 /// Appends bytes in lower-case hexadecimal digits. Where memory is refused, some of the digits may stand there.
 pub fn put_hex(out: &mut Vec<u8>, bytes: &[u8]) -> Result<(), NoMemory>
-    ensures ok { OnOk result (out.new.items ≡ out.old.items ++ digits bytes.now) }
-    ensures err { OnErr result (IsFront out.old.items out.new.items) }
+    ensures { Puts result out.old.items (digits bytes.now) out.new.items }
 {
     for byte in bytes {
         out.extend_from_slice(&[digit(byte / 16), digit(byte % 16)])?;

@@ -9,8 +9,8 @@ use crate::event::{Coming, Keyword, Line, ScriptEvent, Setting};
 use crate::hex::read_hex;
 use crate::number::{number_between, pair_between};
 use byteorder::{BigEndian, ByteOrder};
-use jute::NoMemory;
 use std::alloc::Global;
+use values::NoMemory;
 
 const INT_MAX: u32 = i32::MAX as u32;
 

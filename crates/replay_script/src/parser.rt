@@ -8,9 +8,9 @@ ghost use Rattle.replay_script.specs.declared.parser.ScriptError.TheVariants as 
 use crate::cut::cut_at;
 use crate::draft::Draft;
 use crate::script::Script;
-use jute::{Bytes, NoMemory};
 use std::alloc::Global;
 use thiserror::Error;
+use values::{Bytes, NoMemory};
 
 /// Why a text is no script.
 #[derive(Clone, Copy, Debug, PartialEq, Eq, Error)]

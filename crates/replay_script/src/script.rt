@@ -1,7 +1,7 @@
 //! Scripts as a whole.
 
 use crate::event::ScriptEvent;
-use jute::{Blob, Listed};
+use values::{Blob, Listed};
 
 /// A script: the settings, and the events in order.
 #[derive(Debug, Drop)]

@@ -2,9 +2,9 @@
 use Rattle.std.proofs.Common.{◌≡◌, ℕ, Bool, true, false, cond, List, [], ◌++◌, length, Option, Some, None, Result, Ok, Err, refl, sym, ap, subst, ◌∙◌, append_assoc, inl, inr}
 use Rattle.std.specs.Prelude.{ℤ, pos, IfOk}
 use Rattle.std.specs.Int.{w32}
-use Rattle.jute.specs.declared.fault.Fault.{Fault}
-use Rattle.jute.specs.declared.fault.Fault.TheVariants.{BadTxnType}
-use Rattle.jute.specs.declared.fault.ReadError.{ReadError}
+use Rattle.values.specs.declared.fault.Fault.{Fault}
+use Rattle.values.specs.declared.fault.Fault.TheVariants.{BadTxnType}
+use Rattle.values.specs.declared.fault.ReadError.{ReadError}
 use Rattle.jute.specs.Format.{Format, ◌>>=◌, int, long, boolean, buffer, buffer_at, vector, number_bytes}
 use Rattle.jute.specs.Owned.{acl}
 use Rattle.jute.specs.Reads.{GivesWhole}

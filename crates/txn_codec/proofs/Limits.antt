@@ -5,7 +5,7 @@ use Rattle.std.specs.Int.{w32}
 use Rattle.std.specs.List.{flat_map, AllByRecursion}
 use Rattle.std.proofs.lemmas.List.Elements.{All-from_recursion}
 use Rattle.std.proofs.lemmas.Str.{IsUtf8-nil}
-use Rattle.jute.specs.declared.fault.ReadError.{ReadError}
+use Rattle.values.specs.declared.fault.ReadError.{ReadError}
 use Rattle.jute.specs.declared.owned.Acl.{Acl}
 use Rattle.jute.specs.Format.{Format, int, long, boolean, buffer, text, name, vector, both, mapped, SpellsEach, counted, null, number_bytes, buffer_limit, count_limit}
 use Rattle.jute.specs.Owned.{id, acl, IsWritableId}

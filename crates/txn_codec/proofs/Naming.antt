@@ -2,10 +2,10 @@
 use Rattle.std.proofs.Common.{◌≡◌, ◌≢◌, ℕ, Bool, true, false, cond, eqb, List, [], ◌∷◌, ◌++◌, length, Option, Some, None, Result, Ok, Err, refl, sym, ap, subst, ◌∙◌, ◌⊎◌, inl, inr}
 use Rattle.std.specs.Prelude.{ℤ, negsuc, IsTrue, IfErr}
 use Rattle.std.specs.Int.{w32, w64}
-use Rattle.jute.specs.declared.fault.Fault.{Fault}
-use Rattle.jute.specs.declared.fault.Fault.TheVariants.{BadPath, BadTxnType, TrailingBytes}
-use Rattle.jute.specs.declared.fault.ReadError.{ReadError}
-use Rattle.jute.specs.declared.fault.ReadError.TheVariants as errors
+use Rattle.values.specs.declared.fault.Fault.{Fault}
+use Rattle.values.specs.declared.fault.Fault.TheVariants.{BadPath, BadTxnType, TrailingBytes}
+use Rattle.values.specs.declared.fault.ReadError.{ReadError}
+use Rattle.values.specs.declared.fault.ReadError.TheVariants as errors
 use Rattle.jute.specs.Format.{Format, ◌>>=◌, int, long, boolean, buffer, buffer_at, text_at, vector}
 use Rattle.jute.specs.Owned.{acl}
 use Rattle.jute.specs.Reads.{GivesWhole}

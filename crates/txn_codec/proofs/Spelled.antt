@@ -5,8 +5,8 @@ use Rattle.std.specs.Ordering.{int_eq}
 use Rattle.std.proofs.lemmas.Bool.{eqb-true}
 use Rattle.std.proofs.lemmas.Bool.Decides.{Decides-int_eq}
 use Rattle.std.proofs.lemmas.List.{append-nil, nil_from_length}
-use Rattle.jute.specs.declared.fault.Fault.{Fault}
-use Rattle.jute.specs.declared.fault.Fault.TheVariants.{BadPath, TrailingBytes}
+use Rattle.values.specs.declared.fault.Fault.{Fault}
+use Rattle.values.specs.declared.fault.Fault.TheVariants.{BadPath, TrailingBytes}
 use Rattle.jute.specs.Format.{Format, ◌>>=◌, int, text, text_at, both, mapped, number_bytes}
 use Rattle.jute.specs.Laws.{IsBytes, Takes, Lawful}
 use Rattle.jute.proofs.Lawfulness.{bind_ok, ok_is, int_lawful}

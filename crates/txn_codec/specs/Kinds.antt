@@ -1,8 +1,8 @@
 -- The codes of the types of transactions (the operation codes of ZooDefs.OpCode).
 use Rattle.std.specs.Prelude.{ℤ, pos, negsuc, Result, Ok, Err, if◌then◌else◌}
 use Rattle.std.specs.Ordering.{int_eq}
-use Rattle.jute.specs.declared.fault.Fault.{Fault}
-use Rattle.jute.specs.declared.fault.Fault.TheVariants.{BadTxnType}
+use Rattle.values.specs.declared.fault.Fault.{Fault}
+use Rattle.values.specs.declared.fault.Fault.TheVariants.{BadTxnType}
 use Rattle.txn_codec.specs.declared.kind.Kind.{Kind}
 use Rattle.txn_codec.specs.declared.kind.Kind.TheVariants as kinds
 use Rattle.txn_codec.specs.declared.txn.Operation.{Operation}

@@ -1,7 +1,7 @@
 -- Paths of nodes (ZooKeeper Programmer's Guide, "The ZooKeeper Data Model").
 use Rattle.std.specs.Prelude.{ℕ, Bool, true, false, not, ◌&&◌, ◌||◌, ◌==◌, List, [], ◌∷◌, ◌++◌, Result, Ok, Err, if◌then◌else◌}
-use Rattle.jute.specs.declared.fault.Fault.{Fault}
-use Rattle.jute.specs.declared.fault.Fault.TheVariants.{BadPath}
+use Rattle.values.specs.declared.fault.Fault.{Fault}
+use Rattle.values.specs.declared.fault.Fault.TheVariants.{BadPath}
 
 -- what may stand behind a slash (the flag), or inside a name: no NUL, and no slash behind a slash or at the end
 abbrev pub goes_on : Bool → List ℕ → Bool

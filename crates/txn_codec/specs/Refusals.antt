@@ -1,9 +1,9 @@
 -- Which field a refusal names: those before it are spelled, and no bytes at its place spell it.
 use Rattle.std.specs.Prelude.{◌≡◌, ◌≢◌, ◌⊎◌, ℕ, Bool, List, [], Option, Some, None, IsTrue}
-use Rattle.jute.specs.declared.fault.Fault.{Fault}
-use Rattle.jute.specs.declared.fault.Fault.TheVariants.{Short, BadPath, BadTxnType, TrailingBytes}
-use Rattle.jute.specs.declared.fault.ReadError.{ReadError}
-use Rattle.jute.specs.declared.fault.ReadError.TheVariants as errors
+use Rattle.values.specs.declared.fault.Fault.{Fault}
+use Rattle.values.specs.declared.fault.Fault.TheVariants.{Short, BadPath, BadTxnType, TrailingBytes}
+use Rattle.values.specs.declared.fault.ReadError.{ReadError}
+use Rattle.values.specs.declared.fault.ReadError.TheVariants as errors
 use Rattle.jute.specs.Format.{Format, int, long, boolean, buffer, text, vector}
 use Rattle.jute.specs.Owned.{acl}
 use Rattle.jute.specs.Refusals.{Against, Behind, int_against, long_against, boolean_against, buffer_against, text_against, both_against, vector_against, acl_against}

@@ -1,7 +1,7 @@
 -- How transactions are spelled (zookeeper.jute), and how they are read from the left.
 use Rattle.std.specs.Prelude.{◌≡◌, ℕ, ℤ, negsuc, List, [], ◌∷◌, ◌++◌, length, Option, Some, None, Result, Ok, Err, Bool, true, false, ◌==◌, ◌≤◌, ◌⊎◌, if◌then◌else◌, IsTrue}
-use Rattle.jute.specs.declared.fault.Fault.{Fault}
-use Rattle.jute.specs.declared.fault.Fault.TheVariants.{Short, BadPath, BadTxnType, TrailingBytes}
+use Rattle.values.specs.declared.fault.Fault.{Fault}
+use Rattle.values.specs.declared.fault.Fault.TheVariants.{Short, BadPath, BadTxnType, TrailingBytes}
 use Rattle.jute.specs.Format.{Format, ◌>>=◌, int, long, boolean, buffer, buffer_at, text, text_at, vector, both, mapped, buffer_limit}
 use Rattle.jute.specs.Owned.{acl}
 use Rattle.txn_codec.specs.declared.kind.Kind.{Kind}

@@ -11,8 +11,9 @@ ghost use Rattle.txn_codec.specs.declared.txn.Txn.{Txn as TheTxn};
 use crate::kind::Kind;
 use crate::path::Path;
 use crate::txn::{Body, Check, Create, Operation, SetAcl, SetData, Txn, TxnHeader};
-use jute::{Acl, Fault, Listed, ReadError, ReadRecord, Reader, read_blob, read_vector};
+use jute::{Acl, ReadRecord, Reader, read_blob, read_vector};
 use std::alloc::Global;
+use values::{Fault, Listed, ReadError};
 
 fn read_path(alloc: Global, reader: &mut Reader<'_>) -> Result<Path, ReadError>
     ensures { Gives path.read (λ p. p) result reader.old reader.new }

@@ -9,9 +9,9 @@ ghost use Rattle.txn_codec.specs.Writable.{IsWritableAcls, IsWritableCreate, IsW
 
 use crate::txn::{Body, Check, Create, Operation, SetAcl, SetData, Txn, TxnHeader};
 use jute::{
-    Acl, Listed, NoMemory, WriteRecord, put_blob, put_bool, put_bytes, put_int, put_long,
-    put_string, put_vector,
+    Acl, WriteRecord, put_blob, put_bool, put_bytes, put_int, put_long, put_string, put_vector,
 };
+use values::{Listed, NoMemory};
 
 fn put_header(out: &mut Vec<u8>, header: &TxnHeader) -> Result<(), NoMemory>
     ensures ok { OnOk result (out.new.items ≡ out.old.items ++ header_format.written header.now) }

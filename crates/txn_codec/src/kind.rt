@@ -3,7 +3,7 @@
 ghost use Rattle.std.specs.Prelude.{◌≡◌};
 ghost use Rattle.txn_codec.specs.Kinds.{kind_of, code_of};
 
-use jute::Fault;
+use values::Fault;
 
 /// The type of a transaction, or of a part of a multi (the operation codes of `ZooDefs.OpCode`).
 #[derive(Clone, Copy, Debug, PartialEq, Eq)]

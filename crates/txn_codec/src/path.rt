@@ -4,9 +4,9 @@ ghost use Rattle.std.specs.Prelude.{◌≡◌, List, ℕ, string_bytes, IsTrue, 
 ghost use Rattle.jute.specs.Reads.{GivesWhole};
 ghost use Rattle.txn_codec.specs.Paths.{is_path, is_child_path, path_of, child_path_of, parent_of, name_of, child_of};
 
-use jute::{Fault, NoMemory, ReadError};
 use std::alloc::Global;
 use std::marker::Model;
+use values::{Fault, NoMemory, ReadError};
 
 /// A path of a node: "/", or names that are not empty, each behind a slash, without NUL (ZooKeeper Programmer's Guide).
 #[derive(Clone, Debug, Drop)]

@@ -1,7 +1,7 @@
 use super::*;
-use jute::{Fault, ReadError};
 use std::alloc::{AllocError, Global};
 use std::test::*;
+use values::{Fault, ReadError};
 
 // Session 7 makes /a with the data "hi", for world:anyone.
 const CREATE: &[u8; 76] =

@@ -5,8 +5,9 @@ ghost use Rattle.txn_codec.specs.Kinds.{operation_kind, body_kind};
 
 use crate::kind::Kind;
 use crate::path::Path;
-use jute::{Acl, Blob, Listed};
+use jute::Acl;
 use std::alloc::AllocError;
+use values::{Blob, Listed};
 
 /// Who asked for a transaction, and its place in the order of all (TxnHeader); the type is the body's.
 #[derive(Clone, Copy, Debug, PartialEq, Eq)]

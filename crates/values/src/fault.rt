@@ -1,8 +1,8 @@
 //! Why a field could not be read, and want of memory.
 
 ghost use Rattle.std.specs.Prelude.{◌≡◌};
-ghost use Rattle.jute.specs.declared.fault.ReadError.TheVariants as errors;
-ghost use Rattle.jute.specs.Faults.{fault_number};
+ghost use Rattle.values.specs.declared.fault.ReadError.TheVariants as errors;
+ghost use Rattle.values.specs.Faults.{fault_number};
 
 use std::alloc::{AllocError, AllocFailed};
 use thiserror::Error;

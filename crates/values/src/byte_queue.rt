@@ -78,6 +78,3 @@ impl ByteQueue {
         }
     }
 }
-
-#[cfg(test)]
-mod tests;

@@ -1,0 +1,2 @@
+-- what a list has gained, step by step
+pub mod Gaining
