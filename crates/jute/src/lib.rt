@@ -9,8 +9,6 @@ mod reader;
 mod record;
 mod stat;
 mod stream_law;
-#[cfg(test)]
-mod tests;
 mod writer;
 
 pub use frame::read_frame;

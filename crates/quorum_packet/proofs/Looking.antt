@@ -12,9 +12,11 @@ use Rattle.jute.proofs.Refusals.{bind_err}
 use Rattle.jute.proofs.Lawfulness.{int_lawful, long_lawful, IsBytes-drop}
 use Rattle.jute.proofs.Fields.{buffer_lawful, name_lawful, length_takes}
 use Rattle.jute.proofs.InPieces.{number_pieced, buffer_pieced, name_pieced, length_stands}
+use Rattle.quorum_packet.specs.declared.unseen.Texts.{Texts}
 use Rattle.quorum_packet.specs.declared.unseen.Unseen.{Unseen}
+use Rattle.quorum_packet.specs.declared.unseen.Unseen.TheVariants as unseen
 use Rattle.quorum_packet.specs.Packet.{packet}
-use Rattle.quorum_packet.specs.Unseen.{IsUnseen, MayBeUnseen}
+use Rattle.quorum_packet.specs.Unseen.{AreUnseen, MayBeUnseen}
 
 -- an answer is no refusal
 abbrev done : {A : Type 0} → A → Result A Fault
@@ -122,12 +124,12 @@ shorter : (bytes text rest : List ℕ) → bytes ≡ text ++ rest → length res
 shorter bytes text rest e = omega (arith, ap length e, length-append text rest)
 
 -- a rest, and how many texts stand there
-abbrev unseen_at : List ℕ → List ℕ → ℕ → Unseen
-unseen_at bytes rest texts = record { start = length bytes - length rest; texts = texts }
+abbrev texts_at : List ℕ → List ℕ → ℕ → Texts
+texts_at bytes rest count = record { start = length bytes - length rest; count = count }
 
 pub fields_unseen : (bytes b1 b2 b3 b4 : List ℕ) (kind zxid : ℤ) (carried : Option (List ℕ)) (ids : Option ℕ)
     → IsBytes bytes → int.read bytes ≡ Ok (kind, b1) → long.read b1 ≡ Ok (zxid, b2) → buffer.read b2 ≡ Ok (carried, b3) → length_at count_limit b3 ≡ Ok (ids, b4)
-    → (length b4 ≤ length bytes) × IsUnseen bytes (unseen_at bytes b4 (2 * unwrap_or ids 0))
+    → (length b4 ≤ length bytes) × AreUnseen bytes (texts_at bytes b4 (2 * unwrap_or ids 0))
 fields_unseen bytes b1 b2 b3 b4 kind zxid carried ids fits h1 h2 h3 h4 =
     let t1 = int_lawful.takes bytes kind b1 fits h1 in
     let t2 = long_lawful.takes b1 zxid b2 t1.rest_fits h2 in
@@ -145,43 +147,47 @@ fields_unseen bytes b1 b2 b3 b4 kind zxid carried ids fits h1 h2 h3 h4 =
     )
 
 -- the texts of which the first stands at the front of the rest
-module _ (bytes ahead : List ℕ) (unseen : Unseen) (u : IsUnseen bytes unseen) (some : 0 < unseen.texts) (is : ahead ≡ drop unseen.start bytes) where
-  at_texts : (more : List ℕ) (e : Fault) → times name.read (suc (unseen.texts - 1)) (ahead ++ more) ≡ Err e → packet.read (bytes ++ more) ≡ Err e
+module _ (bytes ahead : List ℕ) (texts : Texts) (u : AreUnseen bytes texts) (some : 0 < texts.count) (is : ahead ≡ drop texts.start bytes) where
+  at_texts : (more : List ℕ) (e : Fault) → times name.read (suc (texts.count - 1)) (ahead ++ more) ≡ Err e → packet.read (bytes ++ more) ≡ Err e
   at_texts more e k =
-      let count : suc (unseen.texts - 1) ≡ unseen.texts = omega (arith, some) in
-      let place : drop unseen.start (bytes ++ more) ≡ ahead ++ more = drop-append-le unseen.start bytes more u.within ∙ ap (λ (t : List ℕ). t ++ more) (sym is) in
+      let count : suc (texts.count - 1) ≡ texts.count = omega (arith, some) in
+      let place : drop texts.start (bytes ++ more) ≡ ahead ++ more = drop-append-le texts.start bytes more u.within ∙ ap (λ (t : List ℕ). t ++ more) (sym is) in
       u.refuses more e (rw place (subst (λ (n : ℕ). times name.read n (ahead ++ more) ≡ Err e) count k))
 
   pub text_refused : (e : Fault) → name.read ahead ≡ Err e → packet.read bytes ≡ Err e
   text_refused e h =
-      let k = at_texts [] e (rw (append-nil ahead) (times_first name (unseen.texts - 1) ahead e h)) in
+      let k = at_texts [] e (rw (append-nil ahead) (times_first name (texts.count - 1) ahead e h)) in
       subst (λ (t : List ℕ). packet.read t ≡ Err e) (append-nil bytes) k
 
   pub text_unseen : (rest v : List ℕ) → IsBytes bytes → name.read ahead ≡ Ok (v, rest)
-      → (length rest ≤ length bytes) × IsUnseen bytes (unseen_at bytes rest (unseen.texts - 1)) × (rest ≡ drop (length bytes - length rest) bytes)
+      → (length rest ≤ length bytes) × AreUnseen bytes (texts_at bytes rest (texts.count - 1)) × (rest ≡ drop (length bytes - length rest) bytes)
   text_unseen rest v fits h =
-      let t = name_lawful.takes ahead v rest (subst IsBytes (sym is) (IsBytes-drop unseen.start bytes fits)) h in
-      let front : bytes ≡ take unseen.start bytes ++ ahead = sym (take-append-drop unseen.start bytes) ∙ ap (λ (b : List ℕ). take unseen.start bytes ++ b) (sym is) in
-      let whole = joined_fronts bytes (take unseen.start bytes) ahead t.text rest front t.parts in
-      let text = take unseen.start bytes ++ t.text in (
+      let t = name_lawful.takes ahead v rest (subst IsBytes (sym is) (IsBytes-drop texts.start bytes fits)) h in
+      let front : bytes ≡ take texts.start bytes ++ ahead = sym (take-append-drop texts.start bytes) ∙ ap (λ (b : List ℕ). take texts.start bytes ++ b) (sym is) in
+      let whole = joined_fronts bytes (take texts.start bytes) ahead t.text rest front t.parts in
+      let text = take texts.start bytes ++ t.text in (
         shorter bytes text rest whole,
         record {
           within = omega arith;
-          refuses = λ more e k. at_texts more e (times_next name name_pieced (unseen.texts - 1) ahead rest more v e h (rw (drop_more bytes text rest more whole) at k));
+          refuses = λ more e k. at_texts more e (times_next name name_pieced (texts.count - 1) ahead rest more v e h (rw (drop_more bytes text rest more whole) at k));
         },
         sym (drop_front_of bytes text rest whole),
       )
 
 -- a piece behind them
-unseen_more : (bytes piece : List ℕ) (unseen : Option Unseen) → MayBeUnseen bytes unseen → MayBeUnseen (bytes ++ piece) unseen
-unseen_more bytes piece None h = tt
-unseen_more bytes piece (Some unseen) h = record {
+texts_more : (bytes piece : List ℕ) (texts : Texts) → AreUnseen bytes texts → AreUnseen (bytes ++ piece) texts
+texts_more bytes piece texts h = record {
   within = omega (arith, h.within, length-append bytes piece);
   refuses = λ more e k. rw (append_assoc bytes piece more) (h.refuses (piece ++ more) e (rw (append_assoc bytes piece more) at k));
 }
 
+unseen_more : (bytes piece : List ℕ) (u : Option Unseen) → MayBeUnseen bytes u → MayBeUnseen (bytes ++ piece) u
+unseen_more bytes piece None h = tt
+unseen_more bytes piece (Some unseen.Fields) h = tt
+unseen_more bytes piece (Some (unseen.Texts texts)) h = texts_more bytes piece texts h
+
 -- the same where memory may have been refused for the piece
-pub unseen_after : {T E : Type 0} (r : Result T E) (old new piece : List ℕ) (unseen : Option Unseen) → OnOk r (new ≡ old ++ piece) → OnErr r (new ≡ old)
-    → MayBeUnseen old unseen → MayBeUnseen new unseen
-unseen_after (Ok x) old new piece unseen added same h = rw added (unseen_more old piece unseen h)
-unseen_after (Err e) old new piece unseen added same h = rw same h
+pub unseen_after : {T E : Type 0} (r : Result T E) (old new piece : List ℕ) (u : Option Unseen) → OnOk r (new ≡ old ++ piece) → OnErr r (new ≡ old)
+    → MayBeUnseen old u → MayBeUnseen new u
+unseen_after (Ok x) old new piece u added same h = rw added (unseen_more old piece u h)
+unseen_after (Err e) old new piece u added same h = rw same h

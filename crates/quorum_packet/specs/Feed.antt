@@ -18,11 +18,12 @@ unread_len (Ok bytes) = length bytes
 unread_len (Err e) = 0
 
 -- What next answers and leaves: the first packet and the stream behind it, that no packet is whole, or the fault.
+-- Memory is refused only where no fault came.
 abbrev pub First : Result (Option QuorumPacket) ReadError → Place Phase → Place Phase → Type 0
 First (Ok (Some p)) old new =
     (items packets old ≡ before p (items packets new)) × (unread_len new.unread < unread_len old.unread)
 First (Ok None) old new = (items packets old ≡ nothing new) × (is_err new.unread ≡ false)
-First (Err errors.NoMemory) old new = new ≡ old
+First (Err errors.NoMemory) old new = (new ≡ old) × (is_err old.unread ≡ false)
 First (Err (errors.Fault e)) old new = (items packets old ≡ nothing new) × (new.unread ≡ Err e)
 
 -- bytes wait, and no packet at their front is read for this fault
@@ -33,7 +34,7 @@ RefusesUnread fault (Err e) = ⊥
 abbrev pub Refuses : Place Phase → Fault → Type 0
 Refuses place fault = RefusesUnread fault place.unread
 
--- Whether the stream may end here: a fault, or a part of a packet or an image that is still to come.
+-- Whether a stream of which this is left may end: a fault, or a part of a packet or an image that is still to come.
 abbrev pub ended : Phase → Unread → Result (Unit {0}) Fault
 ended phase (Err e) = Err e
 ended ImageOwed (Ok bytes) = Err Short

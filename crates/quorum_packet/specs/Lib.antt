@@ -3,4 +3,5 @@ pub mod Held
 pub mod Kinds
 pub mod Packet
 pub mod Packets
+pub mod Skips
 pub mod Unseen

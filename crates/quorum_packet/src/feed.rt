@@ -1,16 +1,17 @@
 //! The stream of packets, in whatever pieces it comes.
 
-ghost use Rattle.std.specs.Prelude.{◌≡◌, [], Ok, Err, false, is_err, IsNone, IfOk, IfSome, OnOk, OnErr};
-ghost use Rattle.jute.specs.Stream.{add, place_at};
+ghost use Rattle.std.specs.Prelude.{◌≡◌, [], Ok, Err, false, is_err, IsTrue, IsOk, IsNone, IfOk, IfErr, IfSome, OnOk, OnErr};
+ghost use Rattle.jute.specs.Stream.{add, items, place_at};
 ghost use Rattle.quorum_packet.specs.Feed.{First, ReadsFront, Refuses, end_of};
 ghost use Rattle.quorum_packet.specs.Packet.{IsWritable};
-ghost use Rattle.quorum_packet.specs.Packets.{phase_behind};
+ghost use Rattle.quorum_packet.specs.Packets.{packets, phase_behind};
 ghost use Rattle.quorum_packet.specs.Kinds.{kind_of};
 ghost use Rattle.quorum_packet.specs.declared.phase.Phase.TheVariants.{Packets};
 
 use crate::kind::PacketKind;
 use crate::packet::QuorumPacket;
 use crate::phase::Phase;
+use crate::skip::skip_packet;
 use crate::unseen::{Unseen, look};
 use jute::{ReadRecord, Reader};
 use std::alloc::Global;
@@ -20,11 +21,12 @@ use values::{ByteQueue, Fault, NoMemory, ReadError};
 /// The packets of a stream, seen as the place up to which it was read: what stands there next, and the bytes
 /// that aren't read yet, or the fault that ended it.
 ///
-/// A packet is read when all of it is in. Until then only what a piece brings is looked at, so the work is linear
-/// in the bytes of the stream, however it is cut.
+/// A packet that is whole when it is met is read at once. Of one that isn't, only what a piece brings is looked at
+/// until all of it is in, so the work is linear in the bytes of the stream, however it is cut.
 #[derive(Drop)]
 pub struct PacketFeed {
     waiting: ByteQueue,
+    // `None`: the packet at the front wasn't met yet.
     unseen: Option<Unseen>,
     phase: Phase,
     fault: Option<Fault>,
@@ -54,12 +56,48 @@ fn read_front(alloc: Global, bytes: &[u8]) -> Result<(QuorumPacket, usize), Read
     Ok((packet, bytes.len() - left))
 }
 
-fn phase_behind(packet: &QuorumPacket) -> Phase
-    ensures { result ≡ phase_behind (kind_of packet.now.kind) }
+fn phase_behind(kind: i32) -> Phase
+    ensures { result ≡ phase_behind (kind_of kind) }
 {
-    match PacketKind::from_code(packet.kind) {
+    match PacketKind::from_code(kind) {
         Some(PacketKind::Snap) => Phase::ImageOwed,
-        _ => Phase::Packets,
+        None
+        | Some(
+            PacketKind::Request
+            | PacketKind::Proposal
+            | PacketKind::Ack
+            | PacketKind::Commit
+            | PacketKind::Ping
+            | PacketKind::Revalidate
+            | PacketKind::Sync
+            | PacketKind::Inform
+            | PacketKind::NewLeader
+            | PacketKind::FollowerInfo
+            | PacketKind::UpToDate
+            | PacketKind::Diff
+            | PacketKind::Trunc
+            | PacketKind::ObserverInfo
+            | PacketKind::LeaderInfo
+            | PacketKind::AckEpoch,
+        ) => Phase::Packets,
+    }
+}
+
+// Whether the stream may end behind the packets that stand whole in the bytes.
+fn end_behind(phase: Phase, bytes: &[u8]) -> Result<(), Fault>
+    ensures { result ≡ end_of (items packets (place_at phase bytes.now)).left }
+{
+    let mut phase = phase;
+    let mut ahead = Reader::new(bytes);
+    while !ahead.rest().is_empty() {
+        if let Phase::ImageOwed = phase {
+            return Err(Fault::Short);
+        }
+        phase = phase_behind(skip_packet(&mut ahead)?);
+    }
+    match phase {
+        Phase::Packets => Ok(()),
+        Phase::ImageOwed => Err(Fault::Short),
     }
 }
 
@@ -79,6 +117,7 @@ impl PacketFeed {
     pub fn feed(&mut self, piece: &[u8]) -> Result<(), NoMemory>
         ensures ok { OnOk result (self.new ≡ add self.old piece.now) }
         ensures err { OnErr result (self.new ≡ self.old) }
+        ensures faulty { IsTrue (is_err self.old.unread) → IsOk result }
     {
         if self.is_faulty() {
             return Ok(());
@@ -105,6 +144,18 @@ impl PacketFeed {
         }
     }
 
+    // Looks at what came of a packet that was met before. It answers the packet's refusal, if there is one.
+    fn look_on(&mut self) -> Result<(), Fault>
+        requires fine { is_err self.old.unread ≡ false }
+        ensures kept { self.new ≡ self.old }
+        ensures err { IfErr result (Refuses self.old) }
+    {
+        match &mut self.unseen {
+            None => Ok(()),
+            Some(unseen) => look(self.waiting.as_slice(), unseen),
+        }
+    }
+
     // The first packet, where packets stand next and no fault came.
     fn next_packet(&mut self, alloc: Global) -> Result<Option<QuorumPacket>, ReadError>
         requires packets { self.old.phase ≡ Packets }
@@ -112,18 +163,21 @@ impl PacketFeed {
         ensures first { First result self.old self.new }
         ensures writable { IfOk result (λ found. IfSome found IsWritable) }
     {
-        if let Err(fault) = look(self.waiting.as_slice(), &mut self.unseen) {
+        if let Err(fault) = self.look_on() {
             return self.refuse(fault);
         }
         match read_front(alloc, self.waiting.as_slice()) {
             Ok((packet, used)) => {
                 self.waiting.drop_front(used);
                 self.unseen = None;
-                self.phase = phase_behind(&packet);
+                self.phase = phase_behind(packet.kind);
                 Ok(Some(packet))
             }
             Err(ReadError::NoMemory) => Err(ReadError::NoMemory),
-            Err(ReadError::Fault(fault)) => self.refuse(fault),
+            Err(ReadError::Fault(fault)) => {
+                self.unseen = Some(Unseen::Fields);
+                self.refuse(fault)
+            }
         }
     }
 
@@ -143,23 +197,14 @@ impl PacketFeed {
         }
     }
 
-    /// Whether the stream may end here: after a fault that fault, and `Short` where a part of a packet waits or an
-    /// image is owed.
+    /// Whether the stream may end here: after a fault that fault, and of what stands behind the packets that are
+    /// whole the fault, or `Short` where it is a part of a packet or an image is owed.
     pub fn end(&self) -> Result<(), Fault>
-        ensures { result ≡ end_of self.now }
+        ensures { result ≡ end_of (items packets self.now).left }
     {
-        if let Some(fault) = self.fault {
-            return Err(fault);
-        }
-        match self.phase {
-            Phase::ImageOwed => Err(Fault::Short),
-            Phase::Packets => {
-                if self.waiting.is_empty() {
-                    Ok(())
-                } else {
-                    Err(Fault::Short)
-                }
-            }
+        match self.fault {
+            Some(fault) => Err(fault),
+            None => end_behind(self.phase, self.waiting.as_slice()),
         }
     }
 
@@ -168,12 +213,5 @@ impl PacketFeed {
         ensures { result ≡ is_err self.now.unread }
     {
         self.fault.is_some()
-    }
-
-    /// Ends the stream with a fault.
-    pub fn end_with(&mut self, fault: Fault)
-        ensures { self.new ≡ record self.old { unread = Err fault } }
-    {
-        self.fault = Some(fault);
     }
 }

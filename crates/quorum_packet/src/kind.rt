@@ -7,39 +7,39 @@ ghost use Rattle.quorum_packet.specs.Kinds.{code_of, kind_of};
 #[derive(Clone, Copy, Debug, PartialEq, Eq)]
 pub enum PacketKind {
     /// A server hands a client's request on to the leader.
-    Request,
+    Request = 1,
     /// The leader proposes a transaction.
-    Proposal,
+    Proposal = 2,
     /// A proposal, or a new leader, is acknowledged.
-    Ack,
+    Ack = 3,
     /// A proposal is committed.
-    Commit,
+    Commit = 4,
     /// The leader asks whether the server is there, and the server answers.
-    Ping,
+    Ping = 5,
     /// A session is to be confirmed.
-    Revalidate,
+    Revalidate = 6,
     /// A server asks to be brought up to what was committed so far.
-    Sync,
+    Sync = 7,
     /// A transaction is proposed and committed in one.
-    Inform,
+    Inform = 8,
     /// The leader's epoch begins.
-    NewLeader,
+    NewLeader = 10,
     /// A follower introduces itself.
-    FollowerInfo,
+    FollowerInfo = 11,
     /// The server is up to date and may serve.
-    UpToDate,
+    UpToDate = 12,
     /// The transactions that the server lacks follow.
-    Diff,
+    Diff = 13,
     /// The server is to forget the transactions above a zxid.
-    Trunc,
+    Trunc = 14,
     /// An image of the leader's state follows.
-    Snap,
+    Snap = 15,
     /// An observer introduces itself.
-    ObserverInfo,
+    ObserverInfo = 16,
     /// The leader names its epoch.
-    LeaderInfo,
+    LeaderInfo = 17,
     /// A server answers the leader's epoch.
-    AckEpoch,
+    AckEpoch = 18,
 }
 
 impl PacketKind {
@@ -76,24 +76,6 @@ impl PacketKind {
         ensures code { result ≡ code_of self }
         ensures back { kind_of result ≡ Some self }
     {
-        match self {
-            PacketKind::Request => 1,
-            PacketKind::Proposal => 2,
-            PacketKind::Ack => 3,
-            PacketKind::Commit => 4,
-            PacketKind::Ping => 5,
-            PacketKind::Revalidate => 6,
-            PacketKind::Sync => 7,
-            PacketKind::Inform => 8,
-            PacketKind::NewLeader => 10,
-            PacketKind::FollowerInfo => 11,
-            PacketKind::UpToDate => 12,
-            PacketKind::Diff => 13,
-            PacketKind::Trunc => 14,
-            PacketKind::Snap => 15,
-            PacketKind::ObserverInfo => 16,
-            PacketKind::LeaderInfo => 17,
-            PacketKind::AckEpoch => 18,
-        }
+        self as i32
     }
 }

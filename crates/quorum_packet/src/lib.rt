@@ -6,6 +6,7 @@ mod kind;
 mod law;
 mod packet;
 mod phase;
+mod skip;
 mod unseen;
 
 pub use feed::PacketFeed;
@@ -13,6 +14,3 @@ pub use kind::PacketKind;
 pub use law::packet_stream;
 pub use packet::{QuorumPacket, write_packet};
 pub use phase::Phase;
-
-#[cfg(test)]
-mod tests;

@@ -12,8 +12,8 @@ use Rattle.jute.specs.Laws.{IsBytes, Takes, Lawful}
 use Rattle.jute.proofs.Lawfulness.{bind_ok, ok_is, int_lawful, long_lawful, both_lawful, mapped_lawful}
 use Rattle.jute.proofs.Fields.{buffer_lawful, boolean_lawful, vector_lawful}
 use Rattle.jute.proofs.Records.{acl_lawful}
-use Rattle.txn_codec.specs.declared.kind.Kind.{Kind}
-use Rattle.txn_codec.specs.declared.kind.Kind.TheVariants as kinds
+use Rattle.txn_codec.specs.declared.kind.TxnKind.{TxnKind}
+use Rattle.txn_codec.specs.declared.kind.TxnKind.TheVariants as kinds
 use Rattle.txn_codec.specs.declared.txn.Create.{Create}
 use Rattle.txn_codec.specs.declared.txn.Operation.{Operation}
 use Rattle.txn_codec.specs.declared.txn.Operation.TheVariants as operations
@@ -64,7 +64,7 @@ case_takes {A} {B} f g lf inj same bytes b rest fits e =
 
 -- ---- operations
 
-operation_takes : (last : Format ℤ) → LawfulAtEnd last → (k : Kind) (bytes : List ℕ) (o : Operation) (rest : List ℕ) → IsBytes bytes → operation_at last k bytes ≡ Ok (o, rest) → Takes (operation last k) bytes o rest
+operation_takes : (last : Format ℤ) → LawfulAtEnd last → (k : TxnKind) (bytes : List ℕ) (o : Operation) (rest : List ℕ) → IsBytes bytes → operation_at last k bytes ≡ Ok (o, rest) → Takes (operation last k) bytes o rest
 operation_takes last ll kinds.Create bytes o rest fits e = case_takes (create_with last) (operation last kinds.Create) (create_ends last ll) operations.Create (λ v x s. (refl, s)) bytes o rest fits e
 operation_takes last ll kinds.Delete bytes o rest fits e = case_takes child_path (operation last kinds.Delete) (ends child_path child_lawful) operations.Delete (λ v x s. (refl, s)) bytes o rest fits e
 operation_takes last ll kinds.SetData bytes o rest fits e = case_takes set_data (operation last kinds.SetData) (ends set_data set_data_lawful) operations.SetData (λ v x s. (refl, s)) bytes o rest fits e
@@ -93,17 +93,17 @@ operation_writes last same (operations.SetData d) h = set_data_lawful.writes d h
 operation_writes last same (operations.Check d) h = check_lawful.writes d h
 operation_writes last same (operations.Error z) h = int_lawful.writes z h
 
-operation_ends : (last : Format ℤ) → LawfulAtEnd last → WritesCreate last → (k : Kind) → LawfulAtEnd (operation last k)
+operation_ends : (last : Format ℤ) → LawfulAtEnd last → WritesCreate last → (k : TxnKind) → LawfulAtEnd (operation last k)
 operation_ends last ll same k = record {
   takes = operation_takes last ll k;
-  again = λ o text s. ap (λ (j : Kind). operation_at last j text) (sym s.0) ∙ operation_again last ll o text s.1;
+  again = λ o text s. ap (λ (j : TxnKind). operation_at last j text) (sym s.0) ∙ operation_again last ll o text s.1;
   writes = λ o h. (h.0, operation_writes last same o h.1);
 }
 
-pub part_ends : (k : Kind) → LawfulAtEnd (operation int k)
+pub part_ends : (k : TxnKind) → LawfulAtEnd (operation int k)
 part_ends = operation_ends int (ends int int_lawful) create_lawful.writes
 
-single_ends : (k : Kind) → LawfulAtEnd (operation int_or_end k)
+single_ends : (k : TxnKind) → LawfulAtEnd (operation int_or_end k)
 single_ends = operation_ends int_or_end last_lawful (create_ends int_or_end last_lawful).writes
 
 -- ---- parts
@@ -118,16 +118,16 @@ IsBytes-buffer x text rest fits s =
     let regrouped : text ++ rest ≡ number_bytes w32 (pos (length x)) ++ (x ++ rest) = ap (λ (t : List ℕ). t ++ rest) s.1 ∙ append_assoc (number_bytes w32 (pos (length x))) x rest in
     IsBytes-front x rest (IsBytes-back (number_bytes w32 (pos (length x))) (x ++ rest) (subst IsBytes regrouped fits))
 
-part_opened : (k : Kind) (d : Option (List ℕ)) (front text : List ℕ) (o : Operation) → kind.Spells k front → buffer.Spells d text → ((x : List ℕ) → buffer.Spells (Some x) text → IsBytes x) → part_of k d ≡ Ok o → part.Spells o (front ++ text)
+part_opened : (k : TxnKind) (d : Option (List ℕ)) (front text : List ℕ) (o : Operation) → kind.Spells k front → buffer.Spells d text → ((x : List ℕ) → buffer.Spells (Some x) text → IsBytes x) → part_of k d ≡ Ok o → part.Spells o (front ++ text)
 part_opened k None front text o sk sd fits e = absurd cc
 part_opened k (Some x) front text o sk sd fits e =
     let s = whole_found (operation int k) (part_ends k) x o (fits x sd) e in
-    (x, s.1, (front, text, refl, subst (λ (j : Kind). kind.Spells j front) (sym s.0) sk, sd))
+    (x, s.1, (front, text, refl, subst (λ (j : TxnKind). kind.Spells j front) (sym s.0) sk, sd))
 
 part_takes : (bytes : List ℕ) (o : Operation) (rest : List ℕ) → IsBytes bytes → part_at bytes ≡ Ok (o, rest) → Takes part bytes o rest
 unfolding part_at
 part_takes bytes o rest fits e =
-    let a = bind_ok (kind.read bytes) (λ (k : Kind × List ℕ). cond (is_part k.0) (buffer_at k.1 >>= λ (x : Option (List ℕ) × List ℕ). part_of k.0 x.0 >>= λ (o : Operation). Ok (o, x.1)) (Err BadTxnType)) (o, rest) e in
+    let a = bind_ok (kind.read bytes) (λ (k : TxnKind × List ℕ). cond (is_part k.0) (buffer_at k.1 >>= λ (x : Option (List ℕ) × List ℕ). part_of k.0 x.0 >>= λ (o : Operation). Ok (o, x.1)) (Err BadTxnType)) (o, rest) e in
     let g = guard_kept (is_part a.0.0) BadTxnType (buffer_at a.0.1 >>= λ (x : Option (List ℕ) × List ℕ). part_of a.0.0 x.0 >>= λ (o : Operation). Ok (o, x.1)) (o, rest) a.2 in
     let b = bind_ok (buffer_at a.0.1) (λ (x : Option (List ℕ) × List ℕ). part_of a.0.0 x.0 >>= λ (o : Operation). Ok (o, x.1)) (o, rest) g.1 in
     let c = bind_ok (part_of a.0.0 b.0.0) (λ (o : Operation). Ok (o, b.0.1)) (o, rest) b.2 in
@@ -189,7 +189,7 @@ parts_lawful = or_null_lawful (vector part) (vector_lawful part part_lawful)
 
 -- ---- bodies
 
-single_takes : (k : Kind) (bytes : List ℕ) (b : Body) (rest : List ℕ) → IsBytes bytes → single_at k bytes ≡ Ok (b, rest) → Takes (content k) bytes b rest
+single_takes : (k : TxnKind) (bytes : List ℕ) (b : Body) (rest : List ℕ) → IsBytes bytes → single_at k bytes ≡ Ok (b, rest) → Takes (content k) bytes b rest
 single_takes k = case_takes (operation int_or_end k) (content k) (single_ends k) bodies.Single (λ v x s. s)
 
 close_takes : (bytes : List ℕ) (b : Body) (rest : List ℕ) → IsBytes bytes → content_at kinds.CloseSession bytes ≡ Ok (b, rest) → Takes (content kinds.CloseSession) bytes b rest
@@ -197,7 +197,7 @@ close_takes bytes b rest fits e =
     let made : Takes (content kinds.CloseSession) bytes bodies.CloseSession bytes = record { text = []; parts = refl; spells = (refl, refl); rest_fits = fits } in
     subst (λ (y : Body × List ℕ). Takes (content kinds.CloseSession) bytes y.0 y.1) (ok_is (bodies.CloseSession, bytes) (b, rest) e) made
 
-content_takes : (k : Kind) (bytes : List ℕ) (b : Body) (rest : List ℕ) → IsBytes bytes → content_at k bytes ≡ Ok (b, rest) → Takes (content k) bytes b rest
+content_takes : (k : TxnKind) (bytes : List ℕ) (b : Body) (rest : List ℕ) → IsBytes bytes → content_at k bytes ≡ Ok (b, rest) → Takes (content k) bytes b rest
 content_takes kinds.Create = single_takes kinds.Create
 content_takes kinds.Delete = single_takes kinds.Delete
 content_takes kinds.SetData = single_takes kinds.SetData
@@ -232,13 +232,13 @@ content_writes bodies.CloseSession h = refl
 body_takes : (bytes : List ℕ) (b : Body) (rest : List ℕ) → IsBytes bytes → body_at bytes ≡ Ok (b, rest) → Takes body bytes b rest
 unfolding body_at
 body_takes bytes b rest fits e =
-    let a = bind_ok (kind.read bytes) (λ (k : Kind × List ℕ). content_at k.0 k.1) (b, rest) e in
+    let a = bind_ok (kind.read bytes) (λ (k : TxnKind × List ℕ). content_at k.0 k.1) (b, rest) e in
     let t0 = kind_lawful.takes bytes a.0.0 a.0.1 fits a.1 in
     let t1 = content_takes a.0.0 a.0.1 b rest t0.rest_fits a.2 in
     record {
       text = t0.text ++ t1.text;
       parts = t0.parts ∙ ap (λ (t : List ℕ). t0.text ++ t) t1.parts ∙ sym (append_assoc t0.text t1.text rest);
-      spells = (t0.text, t1.text, refl, subst (λ (j : Kind). kind.Spells j t0.text) (sym t1.spells.0) t0.spells, t1.spells.1);
+      spells = (t0.text, t1.text, refl, subst (λ (j : TxnKind). kind.Spells j t0.text) (sym t1.spells.0) t0.spells, t1.spells.1);
       rest_fits = t1.rest_fits;
     }
 

@@ -1,3 +1,4 @@
+pub mod Names
 pub mod Slashes
 pub mod Spelled
 pub mod Bodies

@@ -15,8 +15,8 @@ use Rattle.jute.proofs.Lawfulness.{int_lawful, long_lawful}
 use Rattle.jute.proofs.Fields.{text_lawful, buffer_lawful, boolean_lawful, vector_lawful}
 use Rattle.jute.proofs.Refusals.{bind_err, guard_refused, number_named, boolean_named, buffer_named, text_named, both_named, mapped_named, vector_named}
 use Rattle.jute.proofs.Records.{acl_lawful, acl_sound}
-use Rattle.txn_codec.specs.declared.kind.Kind.{Kind}
-use Rattle.txn_codec.specs.declared.kind.Kind.TheVariants as kinds
+use Rattle.txn_codec.specs.declared.kind.TxnKind.{TxnKind}
+use Rattle.txn_codec.specs.declared.kind.TxnKind.TheVariants as kinds
 use Rattle.txn_codec.specs.declared.txn.Operation.{Operation}
 use Rattle.txn_codec.specs.declared.txn.Operation.TheVariants as operations
 use Rattle.txn_codec.specs.declared.txn.Body.TheVariants as bodies
@@ -73,17 +73,17 @@ last_refused (b ∷ bytes) e fits h = ((number_named w32).names (b ∷ bytes) e 
 pub last_named : Named int_or_end last_against
 last_named = record { names = last_refused }
 
-unknown_step : (b : Bool) (k : Kind) (rest : Result Kind Fault) (e : Fault) → (rest ≡ Err e → e ≡ BadTxnType) → cond b (Ok k) rest ≡ Err e → e ≡ BadTxnType
+unknown_step : (b : Bool) (k : TxnKind) (rest : Result TxnKind Fault) (e : Fault) → (rest ≡ Err e → e ≡ BadTxnType) → cond b (Ok k) rest ≡ Err e → e ≡ BadTxnType
 unknown_step true k rest e more h = absurd (not_refused k e h)
 unknown_step false k rest e more h = more h
 
-abbrev no_kind : Result Kind Fault
+abbrev no_kind : Result TxnKind Fault
 no_kind = Err BadTxnType
 
 no_kind_fault : (e : Fault) → no_kind ≡ Err e → e ≡ BadTxnType
 no_kind_fault e h = cc
 
-unknown_kind : (z : ℤ) (e : Fault) → kind_of z ≡ Err e → (e ≡ BadTxnType) × ((k : Kind) → z ≢ code_of k)
+unknown_kind : (z : ℤ) (e : Fault) → kind_of z ≡ Err e → (e ≡ BadTxnType) × ((k : TxnKind) → z ≢ code_of k)
 unknown_kind z e h = (
   unknown_step _ kinds.Create _ e (unknown_step _ kinds.Delete _ e (unknown_step _ kinds.SetData _ e
       (unknown_step _ kinds.SetAcl _ e (unknown_step _ kinds.Check _ e (unknown_step _ kinds.Multi _ e
@@ -94,11 +94,11 @@ unknown_kind z e h = (
 pub kind_named : Named kind (type_against (λ k. Unit {0}))
 kind_named = record {
   names = λ bytes e fits h.
-      elim (bind_err (int.read bytes) (λ (z : ℤ × List ℕ). kind_of z.0 >>= λ (k : Kind). Ok (k, z.1)) e h) [
+      elim (bind_err (int.read bytes) (λ (z : ℤ × List ℕ). kind_of z.0 >>= λ (k : TxnKind). Ok (k, z.1)) e h) [
         | inl first ↦ inl ((number_named w32).names bytes e fits first)
         | inr later ↦
             let t = int_lawful.takes bytes later.0.0 later.0.1 fits later.1 in
-            elim (bind_err (kind_of later.0.0) (λ (k : Kind). Ok (k, later.0.1)) e later.2) [
+            elim (bind_err (kind_of later.0.0) (λ (k : TxnKind). Ok (k, later.0.1)) e later.2) [
               | inl second ↦
                   let bad = unknown_kind later.0.0 e second in
                   inr (bad.0, (later.0.0, t.text, later.0.1, t.parts, t.spells, λ k allowed. bad.1 k))
@@ -164,7 +164,7 @@ case_named {A} f r nf inj bytes e fits h =
       | inr never ↦ absurd (not_refused (inj never.0.0, never.0.1) e never.2)
     ]
 
-operation_refused : (last : Format ℤ) (r : Against) → Named last r → (k : Kind) (bytes : List ℕ) (e : Fault) → IsBytes bytes → operation_at last k bytes ≡ Err e → operation_against r k e bytes
+operation_refused : (last : Format ℤ) (r : Against) → Named last r → (k : TxnKind) (bytes : List ℕ) (e : Fault) → IsBytes bytes → operation_at last k bytes ≡ Err e → operation_against r k e bytes
 operation_refused last r nl kinds.Create bytes e fits h = case_named (create_with last) (create_against r) (create_named last r nl) operations.Create bytes e fits h
 operation_refused last r nl kinds.Delete bytes e fits h = case_named child_path (path_against is_child_path) child_named operations.Delete bytes e fits h
 operation_refused last r nl kinds.SetData bytes e fits h = case_named set_data set_data_against set_data_named operations.SetData bytes e fits h
@@ -175,22 +175,22 @@ operation_refused last r nl kinds.Multi bytes e fits h = cc
 operation_refused last r nl kinds.CreateSession bytes e fits h = cc
 operation_refused last r nl kinds.CloseSession bytes e fits h = cc
 
-pub operation_named : (last : Format ℤ) (r : Against) → Named last r → (k : Kind) → Named (operation last k) (operation_against r k)
+pub operation_named : (last : Format ℤ) (r : Against) → Named last r → (k : TxnKind) → Named (operation last k) (operation_against r k)
 operation_named last r nl k = record { names = operation_refused last r nl k }
 
-held_refused : (k : Kind) (held : Option (List ℕ)) (e : Fault) → ((x : List ℕ) → held ≡ Some x → IsBytes x) → part_of k held ≡ Err e → held_against k e held
+held_refused : (k : TxnKind) (held : Option (List ℕ)) (e : Fault) → ((x : List ℕ) → held ≡ Some x → IsBytes x) → part_of k held ≡ Err e → held_against k e held
 held_refused k None e fits h = cc
 held_refused k (Some x) e fits h = whole_named (operation int k) (operation_against int_against k) (part_ends k) (operation_named int int_against (number_named w32) k) x e (fits x refl) h
 
 -- a type that no part may have
-no_part_type : (z : ℤ) (k : Kind) → z ≡ code_of k → is_part k ≡ false → (j : Kind) → IsTrue (is_part j) → z ≢ code_of j
+no_part_type : (z : ℤ) (k : TxnKind) → z ≡ code_of k → is_part k ≡ false → (j : TxnKind) → IsTrue (is_part j) → z ≢ code_of j
 no_part_type z k is never j allowed other =
     let same : Ok k ≡ Ok j = sym (kind_found k) ∙ ap kind_of (sym is ∙ other) ∙ kind_found j in
     let equal : k ≡ j = cc in
     let yes : is_part k ≡ true = ap is_part equal ∙ allowed in
     absurd cc
 
-code_spelled : (k : Kind) (x : List ℕ) → kind.Spells k x → int.Spells (code_of k) x
+code_spelled : (k : TxnKind) (x : List ℕ) → kind.Spells k x → int.Spells (code_of k) x
 code_spelled k x s = (code_fits k, s)
 
 part_type_refused : (bytes : List ℕ) (e : Fault) → IsBytes bytes → kind.read bytes ≡ Err e → type_against (λ k. IsTrue (is_part k)) e bytes
@@ -200,10 +200,10 @@ part_type_refused bytes e fits h =
       | inr b ↦ inr (b.0, (b.1.0, b.1.1, b.1.2, b.1.3, b.1.4, λ k allowed. b.1.5 k tt))
     ]
 
-abbrev opened : Kind → Option (List ℕ) × List ℕ → Result (Operation × List ℕ) Fault
+abbrev opened : TxnKind → Option (List ℕ) × List ℕ → Result (Operation × List ℕ) Fault
 opened k x = part_of k x.0 >>= λ (o : Operation). Ok (o, x.1)
 
-part_held_refused : (k : Kind) (bytes : List ℕ) (e : Fault) → IsBytes bytes
+part_held_refused : (k : TxnKind) (bytes : List ℕ) (e : Fault) → IsBytes bytes
     → (buffer_at bytes >>= opened k) ≡ Err e
     → buffer_against e bytes ⊎ Behind buffer (λ held rest. held_against k e held) bytes
 part_held_refused k bytes e fits h =
@@ -223,7 +223,7 @@ part_held_refused k bytes e fits h =
 part_refused : (bytes : List ℕ) (e : Fault) → IsBytes bytes → part_at bytes ≡ Err e → part_against e bytes
 unfolding part_at
 part_refused bytes e fits h =
-    elim (bind_err (kind.read bytes) (λ (k : Kind × List ℕ). cond (is_part k.0) (buffer_at k.1 >>= opened k.0) (Err BadTxnType)) e h) [
+    elim (bind_err (kind.read bytes) (λ (k : TxnKind × List ℕ). cond (is_part k.0) (buffer_at k.1 >>= opened k.0) (Err BadTxnType)) e h) [
       | inl first ↦ inl (part_type_refused bytes e fits first)
       | inr later ↦
           let t = kind_lawful.takes bytes later.0.0 later.0.1 fits later.1 in
@@ -247,10 +247,10 @@ parts_named = record {
 
 -- ---- bodies and transactions
 
-single_refused : (k : Kind) (bytes : List ℕ) (e : Fault) → IsBytes bytes → single_at k bytes ≡ Err e → operation_against last_against k e bytes
+single_refused : (k : TxnKind) (bytes : List ℕ) (e : Fault) → IsBytes bytes → single_at k bytes ≡ Err e → operation_against last_against k e bytes
 single_refused k bytes e fits h = case_named (operation int_or_end k) (operation_against last_against k) (operation_named int_or_end last_against last_named k) bodies.Single bytes e fits h
 
-content_refused : (k : Kind) (bytes : List ℕ) (e : Fault) → IsBytes bytes → content_at k bytes ≡ Err e → content_against k e bytes
+content_refused : (k : TxnKind) (bytes : List ℕ) (e : Fault) → IsBytes bytes → content_at k bytes ≡ Err e → content_against k e bytes
 content_refused kinds.Create bytes e fits h = single_refused kinds.Create bytes e fits h
 content_refused kinds.Delete bytes e fits h = single_refused kinds.Delete bytes e fits h
 content_refused kinds.SetData bytes e fits h = single_refused kinds.SetData bytes e fits h
@@ -264,7 +264,7 @@ content_refused kinds.CloseSession bytes e fits h = not_refused (bodies.CloseSes
 body_refused : (bytes : List ℕ) (e : Fault) → IsBytes bytes → body_at bytes ≡ Err e → body_against e bytes
 unfolding body_at
 body_refused bytes e fits h =
-    elim (bind_err (kind.read bytes) (λ (k : Kind × List ℕ). content_at k.0 k.1) e h) [
+    elim (bind_err (kind.read bytes) (λ (k : TxnKind × List ℕ). content_at k.0 k.1) e h) [
       | inl first ↦ inl (kind_named.names bytes e fits first)
       | inr later ↦
           let t = kind_lawful.takes bytes later.0.0 later.0.1 fits later.1 in

@@ -11,8 +11,8 @@ use Rattle.jute.specs.Format.{Format, ◌>>=◌, int, text, text_at, both, mappe
 use Rattle.jute.specs.Laws.{IsBytes, Takes, Lawful}
 use Rattle.jute.proofs.Lawfulness.{bind_ok, ok_is, int_lawful}
 use Rattle.jute.proofs.Fields.{text_lawful}
-use Rattle.txn_codec.specs.declared.kind.Kind.{Kind}
-use Rattle.txn_codec.specs.declared.kind.Kind.TheVariants as kinds
+use Rattle.txn_codec.specs.declared.kind.TxnKind.{TxnKind}
+use Rattle.txn_codec.specs.declared.kind.TxnKind.TheVariants as kinds
 use Rattle.txn_codec.specs.Ends.{LawfulAtEnd}
 use Rattle.txn_codec.specs.Kinds.{kind_of, code_of}
 use Rattle.txn_codec.specs.Spelling.{tested, path_by, last_at, int_or_end, kind, whole}
@@ -120,7 +120,7 @@ last_again z bytes (inr s) = ap last_at s.1 ∙ rw s.0 refl
 pub last_lawful : LawfulAtEnd int_or_end
 last_lawful = record { takes = last_takes; again = last_again; writes = λ z h. inl (int_lawful.writes z h) }
 
-pub kind_found : (k : Kind) → kind_of (code_of k) ≡ Ok k
+pub kind_found : (k : TxnKind) → kind_of (code_of k) ≡ Ok k
 kind_found kinds.Create = refl
 kind_found kinds.Delete = refl
 kind_found kinds.SetData = refl
@@ -131,13 +131,13 @@ kind_found kinds.CreateSession = refl
 kind_found kinds.CloseSession = refl
 kind_found kinds.Error = refl
 
-code_step : (b : Bool) (z c : ℤ) (k' : Kind) (rest : Result Kind Fault) (k : Kind) → (b ≡ true → z ≡ c) → code_of k' ≡ c → (rest ≡ Ok k → z ≡ code_of k) → cond b (Ok k') rest ≡ Ok k → z ≡ code_of k
+code_step : (b : Bool) (z c : ℤ) (k' : TxnKind) (rest : Result TxnKind Fault) (k : TxnKind) → (b ≡ true → z ≡ c) → code_of k' ≡ c → (rest ≡ Ok k → z ≡ code_of k) → cond b (Ok k') rest ≡ Ok k → z ≡ code_of k
 code_step true z c k' rest k sound is more e =
     let same : k' ≡ k = cc in
     sound refl ∙ sym is ∙ ap code_of same
 code_step false z c k' rest k sound is more e = more e
 
-code_found : (z : ℤ) (k : Kind) → kind_of z ≡ Ok k → z ≡ code_of k
+code_found : (z : ℤ) (k : TxnKind) → kind_of z ≡ Ok k → z ≡ code_of k
 code_found z k =
     code_step (int_eq z (pos 1)) z (pos 1) kinds.Create _ k (Decides-int_eq z (pos 1)).0 refl
     (code_step (int_eq z (pos 2)) z (pos 2) kinds.Delete _ k (Decides-int_eq z (pos 2)).0 refl
@@ -149,7 +149,7 @@ code_found z k =
     (code_step (int_eq z (negsuc 10)) z (negsuc 10) kinds.CloseSession _ k (Decides-int_eq z (negsuc 10)).0 refl
     (code_step (int_eq z (negsuc 0)) z (negsuc 0) kinds.Error _ k (Decides-int_eq z (negsuc 0)).0 refl (λ e. absurd cc)))))))))
 
-pub code_fits : (k : Kind) → int.Fits (code_of k)
+pub code_fits : (k : TxnKind) → int.Fits (code_of k)
 code_fits kinds.Create = record { sfits = omega arith }
 code_fits kinds.Delete = record { sfits = omega arith }
 code_fits kinds.SetData = record { sfits = omega arith }
@@ -163,11 +163,11 @@ code_fits kinds.Error = record { sfits = omega arith }
 pub kind_lawful : Lawful kind
 kind_lawful = record {
   takes = λ bytes v rest fits e.
-      let a = bind_ok (int.read bytes) (λ (z : ℤ × List ℕ). kind_of z.0 >>= λ (k : Kind). Ok (k, z.1)) (v, rest) e in
-      let b = bind_ok (kind_of a.0.0) (λ (k : Kind). Ok (k, a.0.1)) (v, rest) a.2 in
+      let a = bind_ok (int.read bytes) (λ (z : ℤ × List ℕ). kind_of z.0 >>= λ (k : TxnKind). Ok (k, z.1)) (v, rest) e in
+      let b = bind_ok (kind_of a.0.0) (λ (k : TxnKind). Ok (k, a.0.1)) (v, rest) a.2 in
       let t = int_lawful.takes bytes a.0.0 a.0.1 fits a.1 in
       let made : Takes kind bytes b.0 a.0.1 = record { text = t.text; parts = t.parts; spells = t.spells.1 ∙ ap int.written (code_found a.0.0 b.0 b.1); rest_fits = t.rest_fits } in
-      subst (λ (y : Kind × List ℕ). Takes kind bytes y.0 y.1) (ok_is (b.0, a.0.1) (v, rest) b.2) made;
+      subst (λ (y : TxnKind × List ℕ). Takes kind bytes y.0 y.1) (ok_is (b.0, a.0.1) (v, rest) b.2) made;
   again = λ k text rest s. rw (int_lawful.again (code_of k) text rest (code_fits k, s), kind_found k) refl;
   writes = λ k h. refl;
 }

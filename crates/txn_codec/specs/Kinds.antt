@@ -3,14 +3,14 @@ use Rattle.std.specs.Prelude.{ℤ, pos, negsuc, Result, Ok, Err, if◌then◌els
 use Rattle.std.specs.Ordering.{int_eq}
 use Rattle.values.specs.declared.fault.Fault.{Fault}
 use Rattle.values.specs.declared.fault.Fault.TheVariants.{BadTxnType}
-use Rattle.txn_codec.specs.declared.kind.Kind.{Kind}
-use Rattle.txn_codec.specs.declared.kind.Kind.TheVariants as kinds
+use Rattle.txn_codec.specs.declared.kind.TxnKind.{TxnKind}
+use Rattle.txn_codec.specs.declared.kind.TxnKind.TheVariants as kinds
 use Rattle.txn_codec.specs.declared.txn.Operation.{Operation}
 use Rattle.txn_codec.specs.declared.txn.Operation.TheVariants as operations
 use Rattle.txn_codec.specs.declared.txn.Body.{Body}
 use Rattle.txn_codec.specs.declared.txn.Body.TheVariants as bodies
 
-abbrev pub code_of : Kind → ℤ
+abbrev pub code_of : TxnKind → ℤ
 code_of kinds.Create = pos 1
 code_of kinds.Delete = pos 2
 code_of kinds.SetData = pos 5
@@ -22,7 +22,7 @@ code_of kinds.CloseSession = negsuc 10
 code_of kinds.Error = negsuc 0
 
 -- the type with that code, the first in this list; every other code is refused
-abbrev pub kind_of : ℤ → Result Kind Fault
+abbrev pub kind_of : ℤ → Result TxnKind Fault
 kind_of z = if int_eq z (pos 1) then Ok kinds.Create
     else (if int_eq z (pos 2) then Ok kinds.Delete
     else (if int_eq z (pos 5) then Ok kinds.SetData
@@ -34,14 +34,14 @@ kind_of z = if int_eq z (pos 1) then Ok kinds.Create
     else (if int_eq z (negsuc 0) then Ok kinds.Error
     else Err BadTxnType))))))))
 
-abbrev pub operation_kind : Operation → Kind
+abbrev pub operation_kind : Operation → TxnKind
 operation_kind (operations.Create c) = kinds.Create
 operation_kind (operations.Delete p) = kinds.Delete
 operation_kind (operations.SetData s) = kinds.SetData
 operation_kind (operations.Check c) = kinds.Check
 operation_kind (operations.Error e) = kinds.Error
 
-abbrev pub body_kind : Body → Kind
+abbrev pub body_kind : Body → TxnKind
 body_kind (bodies.Single o) = operation_kind o
 body_kind (bodies.SetAcl s) = kinds.SetAcl
 body_kind (bodies.Multi ps) = kinds.Multi

@@ -1,17 +1,21 @@
 -- Paths of nodes (ZooKeeper Programmer's Guide, "The ZooKeeper Data Model").
 use Rattle.std.specs.Prelude.{ℕ, Bool, true, false, not, ◌&&◌, ◌||◌, ◌==◌, List, [], ◌∷◌, ◌++◌, Result, Ok, Err, if◌then◌else◌}
+use Rattle.std.specs.List.{list_all, slice_split}
 use Rattle.values.specs.declared.fault.Fault.{Fault}
 use Rattle.values.specs.declared.fault.Fault.TheVariants.{BadPath}
 
--- what may stand behind a slash (the flag), or inside a name: no NUL, and no slash behind a slash or at the end
-abbrev pub goes_on : Bool → List ℕ → Bool
-goes_on after_slash [] = not after_slash
-goes_on after_slash (b ∷ bytes) = if b == 0 || (after_slash && b == 47) then false else goes_on (b == 47) bytes
+abbrev pub is_name : List ℕ → Bool
+is_name [] = false
+is_name (b ∷ name) = true
 
--- names that are not empty, each behind a slash
+-- no byte is NUL, and what stands between the slashes is not empty
+abbrev pub are_names : List ℕ → Bool
+are_names text = list_all (λ b. not (b == 0)) text && list_all is_name (slice_split (λ b. b == 47) text)
+
+-- a slash, and names
 abbrev pub is_child_path : List ℕ → Bool
 is_child_path [] = false
-is_child_path (b ∷ bytes) = b == 47 && goes_on true bytes
+is_child_path (b ∷ names) = b == 47 && are_names names
 
 -- the text "/"
 abbrev pub is_root : List ℕ → Bool

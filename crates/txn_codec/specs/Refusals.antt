@@ -7,8 +7,8 @@ use Rattle.values.specs.declared.fault.ReadError.TheVariants as errors
 use Rattle.jute.specs.Format.{Format, int, long, boolean, buffer, text, vector}
 use Rattle.jute.specs.Owned.{acl}
 use Rattle.jute.specs.Refusals.{Against, Behind, int_against, long_against, boolean_against, buffer_against, text_against, both_against, vector_against, acl_against}
-use Rattle.txn_codec.specs.declared.kind.Kind.{Kind}
-use Rattle.txn_codec.specs.declared.kind.Kind.TheVariants as kinds
+use Rattle.txn_codec.specs.declared.kind.TxnKind.{TxnKind}
+use Rattle.txn_codec.specs.declared.kind.TxnKind.TheVariants as kinds
 use Rattle.txn_codec.specs.Paths.{is_path, is_child_path}
 use Rattle.txn_codec.specs.Kinds.{code_of}
 use Rattle.txn_codec.specs.Spelling.{path, child_path, kind, header, operation, is_part, part}
@@ -20,8 +20,8 @@ abbrev pub path_against : (List ℕ → Bool) → Against
 path_against test e bytes = text_against e bytes ⊎ ((e ≡ BadPath) × Behind text (λ t rest. (p : List ℕ) → t ≡ Some p → IsTrue (test p) → ⊥) bytes)
 
 -- the number of a type, or no type that is allowed has that number
-abbrev pub type_against : (Kind → Type 0) → Against
-type_against IsAllowed e bytes = int_against e bytes ⊎ ((e ≡ BadTxnType) × Behind int (λ z rest. (k : Kind) → IsAllowed k → z ≢ code_of k) bytes)
+abbrev pub type_against : (TxnKind → Type 0) → Against
+type_against IsAllowed e bytes = int_against e bytes ⊎ ((e ≡ BadTxnType) × Behind int (λ z rest. (k : TxnKind) → IsAllowed k → z ≢ code_of k) bytes)
 
 -- a number that may be left out at the end: some bytes, but too few
 abbrev pub last_against : Against
@@ -54,7 +54,7 @@ header_against = both_against long long_against (both_against int int_against (b
 
 -- ---- operations and parts
 
-abbrev pub operation_against : Against → Kind → Against
+abbrev pub operation_against : Against → TxnKind → Against
 operation_against last kinds.Create e bytes = create_against last e bytes
 operation_against last kinds.Delete e bytes = path_against is_child_path e bytes
 operation_against last kinds.SetData e bytes = set_data_against e bytes
@@ -66,7 +66,7 @@ operation_against last kinds.CreateSession e bytes = e ≡ BadTxnType
 operation_against last kinds.CloseSession e bytes = e ≡ BadTxnType
 
 -- a part's buffer is null, or its bytes are not just an operation of the type
-abbrev pub held_against : Kind → Fault → Option (List ℕ) → Type 0
+abbrev pub held_against : TxnKind → Fault → Option (List ℕ) → Type 0
 held_against k e None = e ≡ Short
 held_against k e (Some x) = whole_against (operation int k) (operation_against int_against k) e x
 
@@ -78,7 +78,7 @@ part_against e bytes =
 
 -- ---- bodies and transactions
 
-abbrev pub content_against : Kind → Against
+abbrev pub content_against : TxnKind → Against
 content_against kinds.Create e bytes = operation_against last_against kinds.Create e bytes
 content_against kinds.Delete e bytes = operation_against last_against kinds.Delete e bytes
 content_against kinds.SetData e bytes = operation_against last_against kinds.SetData e bytes

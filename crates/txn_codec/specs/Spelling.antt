@@ -4,8 +4,10 @@ use Rattle.values.specs.declared.fault.Fault.{Fault}
 use Rattle.values.specs.declared.fault.Fault.TheVariants.{Short, BadPath, BadTxnType, TrailingBytes}
 use Rattle.jute.specs.Format.{Format, ◌>>=◌, int, long, boolean, buffer, buffer_at, text, text_at, vector, both, mapped, buffer_limit}
 use Rattle.jute.specs.Owned.{acl}
-use Rattle.txn_codec.specs.declared.kind.Kind.{Kind}
-use Rattle.txn_codec.specs.declared.kind.Kind.TheVariants as kinds
+use Rattle.txn_codec.specs.declared.kind.TxnKind.{TxnKind}
+use Rattle.txn_codec.specs.declared.kind.TxnKind.TheVariants as kinds
+use Rattle.txn_codec.specs.declared.place.Place.{Place}
+use Rattle.txn_codec.specs.declared.place.Place.TheVariants.{Alone, Part}
 use Rattle.txn_codec.specs.declared.txn.TxnHeader.{TxnHeader}
 use Rattle.txn_codec.specs.declared.txn.Create.{Create}
 use Rattle.txn_codec.specs.declared.txn.SetData.{SetData}
@@ -55,12 +57,12 @@ int_or_end = record {
 }
 
 -- the last field of a create: it may be left out of one that stands alone
-abbrev pub last_of : Bool → Format ℤ
-last_of true = int_or_end
-last_of false = int
+abbrev pub last_of : Place → Format ℤ
+last_of Alone = int_or_end
+last_of Part = int
 
 -- a type, by its code
-abbrev pub kind : Format Kind
+abbrev pub kind : Format TxnKind
 kind = record {
   Spells = λ k bytes. bytes ≡ int.written (code_of k);
   written = λ k. int.written (code_of k);
@@ -115,7 +117,7 @@ FitsOperation (operations.SetData s) = set_data.Fits s
 FitsOperation (operations.Check c) = check.Fits c
 FitsOperation (operations.Error e) = int.Fits e
 
-abbrev pub operation_at : Format ℤ → Kind → List ℕ → Result (Operation × List ℕ) Fault
+abbrev pub operation_at : Format ℤ → TxnKind → List ℕ → Result (Operation × List ℕ) Fault
 operation_at last kinds.Create bytes = (create_with last).read bytes >>= λ c. Ok (operations.Create c.0, c.1)
 operation_at last kinds.Delete bytes = child_path.read bytes >>= λ p. Ok (operations.Delete p.0, p.1)
 operation_at last kinds.SetData bytes = set_data.read bytes >>= λ s. Ok (operations.SetData s.0, s.1)
@@ -127,7 +129,7 @@ operation_at last kinds.CreateSession bytes = Err BadTxnType
 operation_at last kinds.CloseSession bytes = Err BadTxnType
 
 -- the operations of one type
-abbrev pub operation : Format ℤ → Kind → Format Operation
+abbrev pub operation : Format ℤ → TxnKind → Format Operation
 operation last k = record {
   Spells = λ o bytes. (operation_kind o ≡ k) × SpellsOperation last o bytes;
   written = operation_bytes;
@@ -142,7 +144,7 @@ whole f bytes = f.read bytes >>= λ v. if length v.1 == 0 then Ok v.0 else Err T
 -- ---- parts of a multi (Txn of MultiTxn): a type, and a buffer that holds just the operation
 
 -- whether a part may be of that type
-abbrev pub is_part : Kind → Bool
+abbrev pub is_part : TxnKind → Bool
 is_part kinds.Create = true
 is_part kinds.Delete = true
 is_part kinds.SetData = true
@@ -153,7 +155,7 @@ is_part kinds.Multi = false
 is_part kinds.CreateSession = false
 is_part kinds.CloseSession = false
 
-abbrev pub part_of : Kind → Option (List ℕ) → Result Operation Fault
+abbrev pub part_of : TxnKind → Option (List ℕ) → Result Operation Fault
 part_of k None = Err Short
 part_of k (Some x) = whole (operation int k) x
 
@@ -210,10 +212,10 @@ FitsContent (bodies.Multi ps) = parts_of.Fits ps
 FitsContent (bodies.CreateSession timeout) = int.Fits timeout
 FitsContent bodies.CloseSession = Unit {0}
 
-abbrev pub single_at : Kind → List ℕ → Result (Body × List ℕ) Fault
+abbrev pub single_at : TxnKind → List ℕ → Result (Body × List ℕ) Fault
 single_at k bytes = operation_at int_or_end k bytes >>= λ o. Ok (bodies.Single o.0, o.1)
 
-abbrev pub content_at : Kind → List ℕ → Result (Body × List ℕ) Fault
+abbrev pub content_at : TxnKind → List ℕ → Result (Body × List ℕ) Fault
 content_at kinds.Create bytes = single_at kinds.Create bytes
 content_at kinds.Delete bytes = single_at kinds.Delete bytes
 content_at kinds.SetData bytes = single_at kinds.SetData bytes
@@ -225,7 +227,7 @@ content_at kinds.CreateSession bytes = int.read bytes >>= λ z. Ok (bodies.Creat
 content_at kinds.CloseSession bytes = Ok (bodies.CloseSession, bytes)
 
 -- the bodies of one type
-abbrev pub content : Kind → Format Body
+abbrev pub content : TxnKind → Format Body
 content k = record {
   Spells = λ b bytes. (body_kind b ≡ k) × SpellsContent b bytes;
   written = content_bytes;

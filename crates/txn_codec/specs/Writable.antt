@@ -1,5 +1,5 @@
 -- Lengths and counts that fit an int, as they have to where a value is written.
-use Rattle.std.specs.Prelude.{ℕ, List, ◌<◌, ◌^◌, length, Option, Some, None, All}
+use Rattle.std.specs.Prelude.{List, ◌<◌, ◌^◌, length, Option, Some, None, All}
 use Rattle.jute.specs.declared.owned.Acl.{Acl}
 use Rattle.jute.specs.Owned.{IsWritableId}
 use Rattle.jute.specs.Records.{IsWritableBuffer}

@@ -8,8 +8,9 @@ ghost use Rattle.txn_codec.specs.Parents.{HaveParents};
 ghost use Rattle.txn_codec.specs.Refusals.{IfFault, whole_against, txn_against};
 ghost use Rattle.txn_codec.specs.declared.txn.Txn.{Txn as TheTxn};
 
-use crate::kind::Kind;
+use crate::kind::TxnKind;
 use crate::path::Path;
+use crate::place::Place;
 use crate::txn::{Body, Check, Create, Operation, SetAcl, SetData, Txn, TxnHeader};
 use jute::{Acl, ReadRecord, Reader, read_blob, read_vector};
 use std::alloc::Global;
@@ -39,11 +40,11 @@ fn read_child_path(alloc: Global, reader: &mut Reader<'_>) -> Result<Path, ReadE
     Ok(path)
 }
 
-fn read_kind(reader: &mut Reader<'_>) -> Result<Kind, ReadError>
+fn read_kind(reader: &mut Reader<'_>) -> Result<TxnKind, ReadError>
     ensures { Gives kind.read (λ k. k) result reader.old reader.new }
 {
     let mut ahead = Reader::new(reader.rest());
-    let kind = Kind::from_code(ahead.read_int()?)?;
+    let kind = TxnKind::from_code(ahead.read_int()?)?;
     *reader = ahead;
     Ok(kind)
 }
@@ -66,24 +67,24 @@ fn read_header(reader: &mut Reader<'_>) -> Result<TxnHeader, ReadError>
 }
 
 // The last field of a create; of one that stands alone it may be left out, which means -1.
-fn read_parent_cversion(alone: bool, reader: &mut Reader<'_>) -> Result<i32, ReadError>
-    ensures { Gives (last_of alone).read (λ z. z) result reader.old reader.new }
+fn read_parent_cversion(place: Place, reader: &mut Reader<'_>) -> Result<i32, ReadError>
+    ensures { Gives (last_of place).read (λ z. z) result reader.old reader.new }
 {
-    if alone && reader.rest().is_empty() {
+    if matches!(place, Place::Alone) && reader.rest().is_empty() {
         return Ok(-1);
     }
     Ok(reader.read_int()?)
 }
 
-fn read_create(alloc: Global, alone: bool, reader: &mut Reader<'_>) -> Result<Create, ReadError>
-    ensures { Gives (create_with (last_of alone)).read (λ c. c) result reader.old reader.new }
+fn read_create(alloc: Global, place: Place, reader: &mut Reader<'_>) -> Result<Create, ReadError>
+    ensures { Gives (create_with (last_of place)).read (λ c. c) result reader.old reader.new }
 {
     let mut ahead = Reader::new(reader.rest());
     let path = read_child_path(alloc, &mut ahead)?;
     let bytes = read_blob(alloc, &mut ahead)?;
     let acl = read_vector::<Acl>(alloc, &mut ahead)?;
     let ephemeral = ahead.read_bool()?;
-    let parent_cversion = read_parent_cversion(alone, &mut ahead)?;
+    let parent_cversion = read_parent_cversion(place, &mut ahead)?;
     *reader = ahead;
     Ok(Create {
         path,
@@ -133,43 +134,43 @@ fn read_check(alloc: Global, reader: &mut Reader<'_>) -> Result<Check, ReadError
 // An operation of that type, alone or in a multi.
 fn read_operation(
     alloc: Global,
-    kind: Kind,
-    alone: bool,
+    kind: TxnKind,
+    place: Place,
     reader: &mut Reader<'_>,
 ) -> Result<Operation, ReadError>
-    ensures { Gives (operation_at (last_of alone) kind) (λ o. o) result reader.old reader.new }
+    ensures { Gives (operation_at (last_of place) kind) (λ o. o) result reader.old reader.new }
 {
     match kind {
-        Kind::Create => Ok(Operation::Create(read_create(alloc, alone, reader)?)),
-        Kind::Delete => Ok(Operation::Delete(read_child_path(alloc, reader)?)),
-        Kind::SetData => Ok(Operation::SetData(read_set_data(alloc, reader)?)),
-        Kind::Check => Ok(Operation::Check(read_check(alloc, reader)?)),
-        Kind::Error => Ok(Operation::Error(reader.read_int()?)),
-        Kind::SetAcl | Kind::Multi | Kind::CreateSession | Kind::CloseSession => {
+        TxnKind::Create => Ok(Operation::Create(read_create(alloc, place, reader)?)),
+        TxnKind::Delete => Ok(Operation::Delete(read_child_path(alloc, reader)?)),
+        TxnKind::SetData => Ok(Operation::SetData(read_set_data(alloc, reader)?)),
+        TxnKind::Check => Ok(Operation::Check(read_check(alloc, reader)?)),
+        TxnKind::Error => Ok(Operation::Error(reader.read_int()?)),
+        TxnKind::SetAcl | TxnKind::Multi | TxnKind::CreateSession | TxnKind::CloseSession => {
             Err(ReadError::Fault(Fault::BadTxnType))
         }
     }
 }
 
 // Whether a part of a multi may be of that type.
-fn is_part(kind: Kind) -> bool
+fn is_part(kind: TxnKind) -> bool
     ensures { result ≡ is_part kind }
 {
     matches!(
         kind,
-        Kind::Create | Kind::Delete | Kind::SetData | Kind::Check | Kind::Error
+        TxnKind::Create | TxnKind::Delete | TxnKind::SetData | TxnKind::Check | TxnKind::Error
     )
 }
 
 // The operation that a part's buffer holds.
-fn read_buffered(alloc: Global, kind: Kind, held: Option<&[u8]>) -> Result<Operation, ReadError>
+fn read_buffered(alloc: Global, kind: TxnKind, held: Option<&[u8]>) -> Result<Operation, ReadError>
     ensures { GivesWhole (part_of kind (option_map (λ b. b.now) held.entry)) result }
 {
     let Some(bytes) = held else {
         return Err(ReadError::Fault(Fault::Short));
     };
     let mut ahead = Reader::new(bytes);
-    let operation = read_operation(alloc, kind, false, &mut ahead)?;
+    let operation = read_operation(alloc, kind, Place::Part, &mut ahead)?;
     if !ahead.rest().is_empty() {
         return Err(ReadError::Fault(Fault::TrailingBytes));
     }
@@ -194,20 +195,20 @@ impl<'a> ReadRecord<'a> for Operation {
 }
 
 // What stands behind a transaction's type.
-fn read_content(alloc: Global, kind: Kind, reader: &mut Reader<'_>) -> Result<Body, ReadError>
+fn read_content(alloc: Global, kind: TxnKind, reader: &mut Reader<'_>) -> Result<Body, ReadError>
     ensures { Gives (content_at kind) (λ b. b) result reader.old reader.new }
 {
     match kind {
-        Kind::Create | Kind::Delete | Kind::SetData | Kind::Check | Kind::Error => {
-            Ok(Body::Single(read_operation(alloc, kind, true, reader)?))
+        TxnKind::Create | TxnKind::Delete | TxnKind::SetData | TxnKind::Check | TxnKind::Error => {
+            Ok(Body::Single(read_operation(alloc, kind, Place::Alone, reader)?))
         }
-        Kind::SetAcl => Ok(Body::SetAcl(read_set_acl(alloc, reader)?)),
-        Kind::Multi => Ok(Body::Multi(match read_vector(alloc, reader)? {
+        TxnKind::SetAcl => Ok(Body::SetAcl(read_set_acl(alloc, reader)?)),
+        TxnKind::Multi => Ok(Body::Multi(match read_vector(alloc, reader)? {
             None => Listed::from_vec(Vec::new(alloc)),
             Some(parts) => parts,
         })),
-        Kind::CreateSession => Ok(Body::CreateSession(reader.read_int()?)),
-        Kind::CloseSession => Ok(Body::CloseSession),
+        TxnKind::CreateSession => Ok(Body::CreateSession(reader.read_int()?)),
+        TxnKind::CloseSession => Ok(Body::CloseSession),
     }
 }
 

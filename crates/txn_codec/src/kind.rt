@@ -7,42 +7,42 @@ use values::Fault;
 
 /// The type of a transaction, or of a part of a multi (the operation codes of `ZooDefs.OpCode`).
 #[derive(Clone, Copy, Debug, PartialEq, Eq)]
-pub enum Kind {
-    /// 1
-    Create,
-    /// 2
-    Delete,
-    /// 5
-    SetData,
-    /// 7
-    SetAcl,
-    /// 13
-    Check,
-    /// 14
-    Multi,
-    /// -10
-    CreateSession,
-    /// -11
-    CloseSession,
-    /// -1
-    Error,
+pub enum TxnKind {
+    /// A node is made.
+    Create = 1,
+    /// A node is removed.
+    Delete = 2,
+    /// A node's data is replaced.
+    SetData = 5,
+    /// A node's access control list is replaced.
+    SetAcl = 7,
+    /// A node's version is compared.
+    Check = 13,
+    /// Several parts, all of them or none.
+    Multi = 14,
+    /// A session begins.
+    CreateSession = -10,
+    /// A session ends.
+    CloseSession = -11,
+    /// A request failed.
+    Error = -1,
 }
 
-impl Kind {
+impl TxnKind {
     /// The type with this code; another code is `BadTxnType`.
-    pub fn from_code(code: i32) -> Result<Kind, Fault>
+    pub fn from_code(code: i32) -> Result<TxnKind, Fault>
         ensures { result ≡ kind_of code }
     {
         match code {
-            1 => Ok(Kind::Create),
-            2 => Ok(Kind::Delete),
-            5 => Ok(Kind::SetData),
-            7 => Ok(Kind::SetAcl),
-            13 => Ok(Kind::Check),
-            14 => Ok(Kind::Multi),
-            -10 => Ok(Kind::CreateSession),
-            -11 => Ok(Kind::CloseSession),
-            -1 => Ok(Kind::Error),
+            1 => Ok(TxnKind::Create),
+            2 => Ok(TxnKind::Delete),
+            5 => Ok(TxnKind::SetData),
+            7 => Ok(TxnKind::SetAcl),
+            13 => Ok(TxnKind::Check),
+            14 => Ok(TxnKind::Multi),
+            -10 => Ok(TxnKind::CreateSession),
+            -11 => Ok(TxnKind::CloseSession),
+            -1 => Ok(TxnKind::Error),
             _ => Err(Fault::BadTxnType),
         }
     }
@@ -51,16 +51,6 @@ impl Kind {
     pub fn code(self) -> i32
         ensures { result ≡ code_of self }
     {
-        match self {
-            Kind::Create => 1,
-            Kind::Delete => 2,
-            Kind::SetData => 5,
-            Kind::SetAcl => 7,
-            Kind::Check => 13,
-            Kind::Multi => 14,
-            Kind::CreateSession => -10,
-            Kind::CloseSession => -11,
-            Kind::Error => -1,
-        }
+        self as i32
     }
 }

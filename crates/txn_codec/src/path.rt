@@ -2,7 +2,7 @@
 
 ghost use Rattle.std.specs.Prelude.{◌≡◌, List, ℕ, string_bytes, IsTrue, IfOk};
 ghost use Rattle.jute.specs.Reads.{GivesWhole};
-ghost use Rattle.txn_codec.specs.Paths.{is_path, is_child_path, path_of, child_path_of, parent_of, name_of, child_of};
+ghost use Rattle.txn_codec.specs.Paths.{are_names, is_path, is_child_path, path_of, child_path_of, parent_of, name_of, child_of};
 
 use std::alloc::Global;
 use std::marker::Model;
@@ -22,21 +22,28 @@ impl Model for Path {
     ghost invariant = { λ p. IsTrue (is_path (string_bytes p.text)) };
 }
 
-// Whether a text is a path other than "/".
-fn is_child_path(text: &[u8]) -> bool
-    ensures { result ≡ is_child_path text.now }
+// Whether a text is names between slashes.
+fn are_names(text: &[u8]) -> bool
+    ensures { result ≡ are_names text.now }
 {
-    let [b'/', rest @ ..] = text else {
-        return false;
-    };
     let mut after_slash = true;
-    for byte in rest {
+    for byte in text {
         if *byte == 0 || (after_slash && *byte == b'/') {
             return false;
         }
         after_slash = *byte == b'/';
     }
     !after_slash
+}
+
+// Whether a text is a path other than "/".
+fn is_child_path(text: &[u8]) -> bool
+    ensures { result ≡ is_child_path text.now }
+{
+    match text {
+        [b'/', names @ ..] => are_names(names),
+        _ => false,
+    }
 }
 
 // Whether a text is a path.

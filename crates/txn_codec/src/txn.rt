@@ -3,7 +3,7 @@
 ghost use Rattle.std.specs.Prelude.{◌≡◌};
 ghost use Rattle.txn_codec.specs.Kinds.{operation_kind, body_kind};
 
-use crate::kind::Kind;
+use crate::kind::TxnKind;
 use crate::path::Path;
 use jute::Acl;
 use std::alloc::AllocError;
@@ -93,30 +93,30 @@ pub struct Txn {
 
 impl Operation {
     /// Its type.
-    pub fn kind(&self) -> Kind
+    pub fn kind(&self) -> TxnKind
         ensures { result ≡ operation_kind self.now }
     {
         match self {
-            Operation::Create(_) => Kind::Create,
-            Operation::Delete(_) => Kind::Delete,
-            Operation::SetData(_) => Kind::SetData,
-            Operation::Check(_) => Kind::Check,
-            Operation::Error(_) => Kind::Error,
+            Operation::Create(_) => TxnKind::Create,
+            Operation::Delete(_) => TxnKind::Delete,
+            Operation::SetData(_) => TxnKind::SetData,
+            Operation::Check(_) => TxnKind::Check,
+            Operation::Error(_) => TxnKind::Error,
         }
     }
 }
 
 impl Body {
     /// Its type, as it stands in the header (TxnHeader).
-    pub fn kind(&self) -> Kind
+    pub fn kind(&self) -> TxnKind
         ensures { result ≡ body_kind self.now }
     {
         match self {
             Body::Single(operation) => operation.kind(),
-            Body::SetAcl(_) => Kind::SetAcl,
-            Body::Multi(_) => Kind::Multi,
-            Body::CreateSession(_) => Kind::CreateSession,
-            Body::CloseSession => Kind::CloseSession,
+            Body::SetAcl(_) => TxnKind::SetAcl,
+            Body::Multi(_) => TxnKind::Multi,
+            Body::CreateSession(_) => TxnKind::CreateSession,
+            Body::CloseSession => TxnKind::CloseSession,
         }
     }
 }

@@ -1,9 +1,9 @@
 use Rattle.std.proofs.Common.{◌≡◌, drop}
-use Rattle.quorum_packet.specs.Unseen.{IsUnseen}
+use Rattle.quorum_packet.specs.Unseen.{AreUnseen}
 use Rattle.quorum_packet.proofs.unseen.look_at_texts.Given as goal
 
-abbrev pub invariant-loop-unseen : goal.invariant-loop-unseen
-invariant-loop-unseen l = record { kept : IsUnseen l.bytes l.unseen; place : l.ahead ≡ drop l.unseen.start l.bytes }
+abbrev pub invariant-loop-texts : goal.invariant-loop-texts
+invariant-loop-texts l = record { kept : AreUnseen l.bytes l.texts; place : l.ahead ≡ drop l.texts.start l.bytes }
 
-abbrev pub decreases-loop-unseen : goal.decreases-loop-unseen
-decreases-loop-unseen l = l.unseen.texts
+abbrev pub decreases-loop-texts : goal.decreases-loop-texts
+decreases-loop-texts l = l.texts.count

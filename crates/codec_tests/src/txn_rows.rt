@@ -1,6 +1,10 @@
-use super::*;
+//! Transactions and paths.
+
 use std::alloc::{AllocError, Global};
 use std::test::*;
+use txn_codec::{
+    Body, Operation, Path, TxnKind, child_of, decode_txn, encode_txn, name_of, parent_of,
+};
 use values::{Fault, ReadError};
 
 // Session 7 makes /a with the data "hi", for world:anyone.
@@ -271,7 +275,7 @@ fn paths(rt: HostRuntime) -> Result<(), Fail> {
 #[test]
 fn codes(rt: HostRuntime) {
     for code in [1, 2, 5, 7, 13, 14, -10, -11, -1] {
-        assert_eq!(rt; Kind::from_code(code).map(|kind| kind.code()), Ok(code));
+        assert_eq!(rt; TxnKind::from_code(code).map(|kind| kind.code()), Ok(code));
     }
-    assert_eq!(rt; Kind::from_code(3), Err(Fault::BadTxnType));
+    assert_eq!(rt; TxnKind::from_code(3), Err(Fault::BadTxnType));
 }

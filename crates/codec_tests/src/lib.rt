@@ -1,0 +1,40 @@
+//! Tests of the crates that read and write bytes: `values`, `jute`, `txn_codec` and `quorum_packet`. They stand apart,
+//! since a crate with tests is proved twice.
+#![tactic(auto)]
+
+#[cfg(test)]
+mod field_rows;
+#[cfg(test)]
+mod packet_rows;
+#[cfg(test)]
+mod record_rows;
+#[cfg(test)]
+mod txn_rows;
+#[cfg(test)]
+mod value_rows;
+
+ghost use Rattle.std.specs.Prelude.{◌<◌, ◌^◌, length};
+
+use quorum_packet::{PacketKind, QuorumPacket, write_packet};
+use std::alloc::Global;
+use values::{Blob, NoMemory};
+
+/// The bytes of a packet that carries the data, for nobody's request.
+pub fn packet_bytes(
+    alloc: Global,
+    kind: PacketKind,
+    zxid: i64,
+    data: &[u8],
+) -> Result<Vec<u8>, NoMemory>
+    requires { length data.now < 2 ^ 31 }
+{
+    let packet = QuorumPacket {
+        kind: kind.code(),
+        zxid,
+        bytes: Some(Blob::new(alloc, data)?),
+        authinfo: None,
+    };
+    let mut out = Vec::new(alloc);
+    write_packet(&packet, &mut out)?;
+    Ok(out)
+}
