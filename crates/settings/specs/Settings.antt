@@ -1,5 +1,5 @@
 -- What an observer may be set up with, and what it is set up with where nothing is said.
-use Rattle.std.specs.Prelude.{ℕ, ℤ, pos, Bool, ◌&&◌, List, [], length, nat_le, int_le}
+use Rattle.std.specs.Prelude.{ℕ, ℤ, pos, Bool, ◌&&◌, List, [], length, Option, Some, None, nat_le, int_le, if◌then◌else◌}
 
 -- the greatest epoch that a leader was accepted with, and the epoch of the last leader that was followed
 pub record EpochPair : Type 0 where
@@ -33,6 +33,24 @@ secret_limit = 64
 
 abbrev pub is_secret : List ℕ → Bool
 is_secret bytes = nat_le (length bytes) secret_limit
+
+-- ---- the settings that are made of numbers and bytes: none, where these are out of their bounds
+
+abbrev pub server_id_of : ℤ → Option ℤ
+server_id_of number = if is_server_id number then Some number else None
+
+abbrev pub epochs_of : ℤ → ℤ → Option EpochPair
+epochs_of accepted current =
+    let epochs = epoch_pair accepted current in
+    if are_epochs epochs then Some epochs else None
+
+abbrev pub timeouts_of : ℤ → ℤ → Option TimeoutPair
+timeouts_of least greatest =
+    let timeouts = timeout_pair least greatest in
+    if are_timeouts timeouts then Some timeouts else None
+
+abbrev pub secret_of : List ℕ → Option (List ℕ)
+secret_of bytes = if is_secret bytes then Some bytes else None
 
 -- ---- defaults
 

@@ -1,7 +1,7 @@
 //! Two epochs.
 
-ghost use Rattle.std.specs.Prelude.{◌≡◌, Some, None, IsTrue, if◌then◌else◌};
-ghost use Rattle.settings.specs.Settings.{EpochPair, epoch_pair, are_epochs, default_epochs};
+ghost use Rattle.std.specs.Prelude.{◌≡◌, IsTrue};
+ghost use Rattle.settings.specs.Settings.{EpochPair, epoch_pair, are_epochs, epochs_of, default_epochs};
 
 use std::marker::Model;
 
@@ -26,8 +26,7 @@ impl Model for Epochs {
 impl Epochs {
     /// These epochs, if they are some.
     pub fn new(accepted: i32, current: i32) -> Option<Epochs>
-        ensures { let epochs = epoch_pair accepted current in
-            result ≡ (if are_epochs epochs then Some epochs else None) }
+        ensures { result ≡ epochs_of accepted current }
     {
         let are_epochs = 0 <= accepted && 0 <= current;
         if !are_epochs {

@@ -1,7 +1,7 @@
 //! What passwords are made of.
 
-ghost use Rattle.std.specs.Prelude.{◌≡◌, ℕ, List, Some, None, IsTrue, if◌then◌else◌};
-ghost use Rattle.settings.specs.Settings.{is_secret, default_secret};
+ghost use Rattle.std.specs.Prelude.{◌≡◌, ℕ, List, IsTrue};
+ghost use Rattle.settings.specs.Settings.{is_secret, secret_of, default_secret};
 
 use std::alloc::Global;
 use std::marker::Model;
@@ -27,7 +27,7 @@ impl Model for Secret {
 impl Secret {
     /// The secret of these bytes, if they are one.
     pub fn new(bytes: Blob) -> Option<Secret>
-        ensures { result ≡ (if is_secret bytes then Some bytes else None) }
+        ensures { result ≡ secret_of bytes }
     {
         if bytes.as_slice().len() > SECRET_LIMIT {
             return None;

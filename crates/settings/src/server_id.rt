@@ -1,7 +1,7 @@
 //! The number of a server.
 
-ghost use Rattle.std.specs.Prelude.{◌≡◌, ℤ, Some, None, IsTrue, if◌then◌else◌};
-ghost use Rattle.settings.specs.Settings.{is_server_id, default_server_id};
+ghost use Rattle.std.specs.Prelude.{◌≡◌, ℤ, IsTrue};
+ghost use Rattle.settings.specs.Settings.{is_server_id, server_id_of, default_server_id};
 
 use std::marker::Model;
 
@@ -25,7 +25,7 @@ impl Model for ServerId {
 impl ServerId {
     /// The server of this number, if it is one.
     pub fn new(number: i32) -> Option<ServerId>
-        ensures { result ≡ (if is_server_id number then Some number else None) }
+        ensures { result ≡ server_id_of number }
     {
         let is_server_id = 1 <= number && number <= 255;
         if !is_server_id {

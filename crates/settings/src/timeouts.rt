@@ -1,7 +1,7 @@
 //! The bounds of timeouts.
 
-ghost use Rattle.std.specs.Prelude.{◌≡◌, Some, None, IsTrue, if◌then◌else◌};
-ghost use Rattle.settings.specs.Settings.{TimeoutPair, timeout_pair, are_timeouts, default_timeouts};
+ghost use Rattle.std.specs.Prelude.{◌≡◌, IsTrue};
+ghost use Rattle.settings.specs.Settings.{TimeoutPair, timeout_pair, are_timeouts, timeouts_of, default_timeouts};
 
 use std::marker::Model;
 
@@ -25,8 +25,7 @@ impl Model for TimeoutBounds {
 impl TimeoutBounds {
     /// These bounds, if they are some.
     pub fn new(least: i32, greatest: i32) -> Option<TimeoutBounds>
-        ensures { let timeouts = timeout_pair least greatest in
-            result ≡ (if are_timeouts timeouts then Some timeouts else None) }
+        ensures { result ≡ timeouts_of least greatest }
     {
         let are_timeouts = 1 <= least && least <= greatest;
         if !are_timeouts {
