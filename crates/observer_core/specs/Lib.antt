@@ -1,4 +1,3 @@
-pub mod Config
 pub mod Answer
 pub mod Play
 pub mod Meets

@@ -195,7 +195,7 @@ started_machine config accepted current leader client = record {
 
 -- the configured epochs, without a leader and without a client
 abbrev pub new_machine : Config → Machine
-new_machine config = started_machine config config.accepted_epoch config.current_epoch None None
+new_machine config = started_machine config config.epochs.accepted config.epochs.current None None
 
 -- following a leader in epoch 1, with the first connection open
 abbrev pub primed_machine : Config → Machine

@@ -10,7 +10,7 @@ mod machine;
 mod run;
 
 pub use answer::{Answer, FRAME_LIMIT, GET_DATA, READ, Refusal};
-pub use config::{BadConfig, Config, SECRET_LIMIT};
+pub use config::{BadConfig, Config};
 pub use engine::{Engine, Stop};
 pub use event::{Event, Output};
 pub use law::{cut_anywhere, logs_are_followed, plays_on, worked_rows};
