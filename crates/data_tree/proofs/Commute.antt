@@ -7,7 +7,7 @@ use Rattle.std.specs.FinSet as set
 use Rattle.ephemerals.specs.Orders.{Bytes, path_cmp}
 use Rattle.txn_codec.specs.Paths.{parent_of, name_of}
 use Rattle.data_tree.specs.State.{State, Nodes}
-use Rattle.data_tree.specs.Meaning.{Effect, effect_of, create_under, create_taken, create_new, delete_at, set_data_at, set_acl_at, owner_of, Meant, answer_of, of_effect, of_operation, of_set_acl, of_parts, of_failed, has_error, first_error, mean, all_changed}
+use Rattle.data_tree.specs.Meaning.{Effect, effect_of, create_under, create_taken, create_new, delete_at, set_data_at, set_acl_at, owner_of, Meant, answer_of, of_effect, of_operation, of_set_acl, of_parts, of_failed, has_error, first_error, mean, after_changes}
 use Rattle.data_tree.specs.Meaning.Change.{Put, Own, Disown}
 use Rattle.data_tree.specs.Footprint.{touches, IsSameCell, AreSameAt, AreApart, footprint_of, footprint_of_parts, footprint, KeepsToCells}
 use Rattle.data_tree.specs.Commuting.{IsConfined, IsConfinedTo, DoCommute, TransactionsKeepToTheirFootprints, DisjointTransactionsCommute}
@@ -22,18 +22,18 @@ use Rattle.txn_codec.specs.declared.txn.Body.{Body}
 use Rattle.txn_codec.specs.declared.txn.Body.TheVariants as body
 use Rattle.txn_codec.specs.declared.txn.Operation.{Operation}
 use Rattle.txn_codec.specs.declared.txn.Operation.TheVariants as op
-use Rattle.data_tree.proofs.Totals.{path_total}
-use Rattle.data_tree.proofs.Cells.{AreWithin, same_state, same_cell_sym, same_cell_trans, same_cell_refl, all_changed-frame, all_changed-local, all_changed-sessions, touches_first, touches_second}
+use Rattle.ephemerals.proofs.Totals.{path_total}
+use Rattle.data_tree.proofs.Cells.{AreWithin, same_state, same_cell_sym, same_cell_trans, same_cell_refl, after_changes-frame, after_changes-local, after_changes-sessions, touches_first, touches_second}
 
 -- ---- one operation
 
-within_owned : (ps : List Bytes) (owner : ℤ) (path : Bytes) (b : Bool) → touches ps path ≡ true → AreWithin ps (if b then [] else Own owner path ∷ [])
-within_owned ps owner path true h = tt
-within_owned ps owner path false h = (h, tt)
+within_gained : (ps : List Bytes) (owner : ℤ) (path : Bytes) (b : Bool) → touches ps path ≡ true → AreWithin ps (if b then [] else Own owner path ∷ [])
+within_gained ps owner path true h = tt
+within_gained ps owner path false h = (h, tt)
 
-within_disowned : (ps : List Bytes) (owner : ℤ) (path : Bytes) (b : Bool) → touches ps path ≡ true → AreWithin ps (if b then [] else Disown owner path ∷ [])
-within_disowned ps owner path true h = tt
-within_disowned ps owner path false h = (h, tt)
+within_lost : (ps : List Bytes) (owner : ℤ) (path : Bytes) (b : Bool) → touches ps path ≡ true → AreWithin ps (if b then [] else Disown owner path ∷ [])
+within_lost ps owner path true h = tt
+within_lost ps owner path false h = (h, tt)
 
 within_taken : (ps : List Bytes) (path : Bytes) (node : Node) (b : Bool) → touches ps path ≡ true → AreWithin ps (if b then Put path node ∷ [] else [])
 within_taken ps path node true h = (h, tt)
@@ -47,7 +47,7 @@ within_create h c (Some parent) =
     let up : touches ps (parent_of c.path) ≡ true = touches_second (parent_of c.path) c.path [] in
     elim (set.contains parent.children (name_of c.path)) as (λ b. AreWithin ps (if b then create_taken h c parent else create_new h c parent).changes) [
       | true ↦ within_taken ps (parent_of c.path) _ _ up
-      | false ↦ (up, (here, within_owned ps (owner_of h c.ephemeral) c.path _ here))
+      | false ↦ (up, (here, within_gained ps (owner_of h c.ephemeral) c.path _ here))
     ]
 
 within_delete : (h : TxnHeader) (p : Bytes) (node parent : Option Node) → AreWithin (footprint_of (op.Delete p)) (delete_at h p node parent).changes
@@ -55,7 +55,7 @@ within_delete h p None parent = tt
 within_delete h p (Some node) None = (touches_first p (parent_of p ∷ []), tt)
 within_delete h p (Some node) (Some parent) =
     let here : touches (footprint_of (op.Delete p)) p ≡ true = touches_first p (parent_of p ∷ []) in
-    (here, (touches_second (parent_of p) p [], within_disowned (footprint_of (op.Delete p)) node.stat.ephemeral_owner p (int_eq node.stat.ephemeral_owner (pos 0)) here))
+    (here, (touches_second (parent_of p) p [], within_lost (footprint_of (op.Delete p)) node.stat.ephemeral_owner p (int_eq node.stat.ephemeral_owner (pos 0)) here))
 
 within_set_data : (h : TxnHeader) (b : SetData) (node : Option Node) → AreWithin (footprint_of (op.SetData b)) (set_data_at h b node).changes
 within_set_data h b None = tt
@@ -87,11 +87,11 @@ effect-confined : (ps : List Bytes) (effect : State → Effect) → ((s : State)
     → IsConfinedTo ps (λ s. of_effect (effect s) s)
 effect-confined ps effect within local = record {
   state = record {
-    frame = λ s q out. all_changed-frame ps s (effect s).changes (within s) q out;
-    local = λ s t same q at. subst (λ e. IsSameCell (all_changed s (effect s).changes) (all_changed t e.changes) q) (local s t same) (all_changed-local s t (effect s).changes q (same q at));
-    sessions = λ s. all_changed-sessions s (effect s).changes;
+    frame = λ s q out. after_changes-frame ps s (effect s).changes (within s) q out;
+    local = λ s t same q at. subst (λ e. IsSameCell (after_changes s (effect s).changes) (after_changes t e.changes) q) (local s t same) (after_changes-local s t (effect s).changes q (same q at));
+    sessions = λ s. after_changes-sessions s (effect s).changes;
   };
-  answer = λ s t same. ap (λ e. let a : Outcome = record { error = e.error; parts = []; triggers = e.triggers } in a) (local s t same);
+  answer = λ s t same. ap (λ e. let a : Outcome = record { err = e.err; parts = []; triggers = e.triggers } in a) (local s t same);
 }
 
 pub operation-confined : (h : TxnHeader) (o : Operation) → IsConfinedTo (footprint_of o) (of_operation h o)
@@ -174,8 +174,8 @@ wider ps qs f sub c s t same q at = by (touches ps q) refl
 
 joined : Outcome → Outcome → Outcome
 joined first rest = record {
-  error = first_error (first.error ∷ rest.parts);
-  parts = first.error ∷ rest.parts;
+  err = first_error (first.err ∷ rest.parts);
+  parts = first.err ∷ rest.parts;
   triggers = first.triggers ++ rest.triggers;
 }
 

@@ -6,15 +6,16 @@ use Rattle.std.proofs.lemmas.Map.Lookups.{exact_bytes}
 use Rattle.std.proofs.lemmas.Map.Views.{tells_apart}
 use Rattle.std.specs.FinMap as finmap
 use Rattle.ephemerals.specs.Orders.{Bytes, Pairs, path_cmp}
-use Rattle.ephemerals.specs.Pairs.{disowned}
+use Rattle.ephemerals.specs.Pairs.{without_pair}
 use Rattle.txn_codec.specs.Paths.{parent_of, name_of}
 use Rattle.txn_codec.specs.declared.txn.TxnHeader.{TxnHeader}
 use Rattle.data_tree.specs.State.{State, Nodes}
-use Rattle.data_tree.specs.Meaning.{Effect, all_changed, delete_at}
-use Rattle.data_tree.specs.Updates.{update_node, update_found, bereaved}
+use Rattle.data_tree.specs.Meaning.{Effect, after_changes, delete_at}
+use Rattle.data_tree.specs.Making.{update_node, update_found}
+use Rattle.data_tree.specs.Inner.Children.{without_child}
 use Rattle.data_tree.specs.declared.node.Node.{Node}
-use Rattle.data_tree.proofs.Totals.{path_total}
-use Rattle.data_tree.proofs.Owners.{all_changed-disowning}
+use Rattle.ephemerals.proofs.Totals.{path_total}
+use Rattle.data_tree.proofs.UndonePairs.{after_changes-lost_pair}
 
 remove_absent : (m : Nodes) (path : Bytes) → finmap.get m path ≡ None → finmap.remove m path ≡ m
 remove_absent m path none = finmap.same_map path_total exact_bytes _ _ (λ q. finmap.get-remove path_total m path q ∙ by q (eq_by_cmp path_cmp q path) refl)
@@ -28,10 +29,10 @@ effect s h path = delete_at h path (finmap.get s.nodes path) (finmap.get (finmap
 
 -- no node
 pub missing-is : (s : State) (h : TxnHeader) (path : Bytes) (n : Nodes) → None ≡ finmap.get s.nodes path → n ≡ finmap.remove s.nodes path
-    → (let t : State = record { nodes = n; pairs = s.pairs; sessions = s.sessions } in t) ≡ all_changed s (effect s h path).changes
+    → (let t : State = record { nodes = n; pairs = s.pairs; sessions = s.sessions } in t) ≡ after_changes s (effect s h path).changes
 missing-is s h path n none is =
     (λ i. record { nodes = (is ∙ remove_absent s.nodes path (sym none)) i; pairs = s.pairs; sessions = s.sessions })
-    ∙ ap (λ o. all_changed s (delete_at h path o (finmap.get (finmap.remove s.nodes path) (parent_of path))).changes) none
+    ∙ ap (λ o. after_changes s (delete_at h path o (finmap.get (finmap.remove s.nodes path) (parent_of path))).changes) none
 
 no_parent : (o : Option Node) → false ≡ is_some o → o ≡ None
 no_parent None e = refl
@@ -45,18 +46,18 @@ orphan-effect s h path node found none = (λ i. delete_at h path (found i) (sym 
 -- a node with a parent
 pub deleted-is : (s : State) (h : TxnHeader) (path : Bytes) (node : Node) (n : Nodes) (p : Pairs) → Some node ≡ finmap.get s.nodes path
     → true ≡ is_some (finmap.get (finmap.remove s.nodes path) (parent_of path))
-    → n ≡ update_node (finmap.remove s.nodes path) (parent_of path) (bereaved (name_of path) h.zxid)
-    → p ≡ disowned s.pairs node.stat.ephemeral_owner path
-    → (let t : State = record { nodes = n; pairs = p; sessions = s.sessions } in t) ≡ all_changed s (effect s h path).changes
+    → n ≡ update_node (finmap.remove s.nodes path) (parent_of path) (without_child (name_of path) h.zxid)
+    → p ≡ without_pair s.pairs node.stat.ephemeral_owner path
+    → (let t : State = record { nodes = n; pairs = p; sessions = s.sessions } in t) ≡ after_changes s (effect s h path).changes
 deleted-is s h path node n p found some nodes pairs =
     (λ i. record { nodes = nodes i; pairs = pairs i; sessions = s.sessions })
     ∙ by (finmap.get (finmap.remove s.nodes path) (parent_of path)) some
-    ∙ ap (λ o. all_changed s (delete_at h path o (finmap.get (finmap.remove s.nodes path) (parent_of path))).changes) found
+    ∙ ap (λ o. after_changes s (delete_at h path o (finmap.get (finmap.remove s.nodes path) (parent_of path))).changes) found
   where
     by : (o : Option Node) → true ≡ is_some o
-        → (let t : State = record { nodes = update_found (finmap.remove s.nodes path) (parent_of path) (bereaved (name_of path) h.zxid) o; pairs = disowned s.pairs node.stat.ephemeral_owner path; sessions = s.sessions } in t)
-        ≡ all_changed s (delete_at h path (Some node) o).changes
+        → (let t : State = record { nodes = update_found (finmap.remove s.nodes path) (parent_of path) (without_child (name_of path) h.zxid) o; pairs = without_pair s.pairs node.stat.ephemeral_owner path; sessions = s.sessions } in t)
+        ≡ after_changes s (delete_at h path (Some node) o).changes
     by None e = absurd (true≢false e)
     by (Some parent) e =
-        sym (all_changed-disowning (let t : State = record { nodes = finmap.insert (finmap.remove s.nodes path) (parent_of path) (bereaved (name_of path) h.zxid parent); pairs = s.pairs; sessions = s.sessions } in t)
+        sym (after_changes-lost_pair (let t : State = record { nodes = finmap.insert (finmap.remove s.nodes path) (parent_of path) (without_child (name_of path) h.zxid parent); pairs = s.pairs; sessions = s.sessions } in t)
         node.stat.ephemeral_owner path)

@@ -1,17 +1,32 @@
-pub mod Totals
-pub mod SetSteps
-pub mod TextMaps
-pub mod NodeUpdates
-pub mod Multis
-pub mod IntMaps
-pub mod Owners
-pub mod Creates
-pub mod Deletes
+-- A list that grew and was cut back
 pub mod Lists
+-- A map from texts as a finite map from bytes
+pub mod TextMaps
+-- A map from signed numbers as a finite map
+pub mod IntMaps
+-- A node that was lent for writing
+pub mod NodeUpdates
+-- A pair that was added and is taken out again, and the changes of pairs
+pub mod UndonePairs
+-- What a create leaves where the name is taken, or where it is refused
+pub mod Creates
+-- What a delete leaves
+pub mod Deletes
+-- One more part of a multi, one more delete of a closeSession, and the errors of parts
+pub mod Multis
+-- States with the same cells, and what one change does to a cell
 pub mod Cells
+-- Transactions on other cells commute
 pub mod Commute
+-- The groups of a batch, each on its own cells
 pub mod Batches
+-- A loop that stops at the first item that fails
 pub mod Deciding
+-- The entries of a map are its nodes, and what links them
 pub mod Links
+-- Items of a set that are as many as the set
 pub mod Counting
-pub mod Owned
+-- The owners of a map's nodes, as pairs
+pub mod OwnersOfNodes
+-- How many nodes a loop found to be owned
+pub mod CountedOwners

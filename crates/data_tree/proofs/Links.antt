@@ -16,12 +16,14 @@ use Rattle.std.specs.FinSet as set
 use Rattle.ephemerals.specs.Orders.{Bytes, Names, path_cmp}
 use Rattle.txn_codec.specs.Paths.{child_of}
 use Rattle.data_tree.specs.Nodes.{Nodes}
-use Rattle.data_tree.specs.NodesView.{nodes_of}
-use Rattle.data_tree.specs.Whole.{has_node, has_parent, is_listed, HasItsChildren, AreLinked}
+use Rattle.data_tree.specs.Inner.NodesView.{nodes_of}
+use Rattle.data_tree.specs.Whole.{has_node, has_parent, is_listed, AreLinked}
+use Rattle.data_tree.specs.Inner.Children.{HasItsChildren}
 use Rattle.data_tree.specs.declared.node.Node.{Node}
-use Rattle.data_tree.proofs.Totals.{path_total}
+use Rattle.ephemerals.proofs.Totals.{path_total}
 use Rattle.data_tree.proofs.Deciding.{Decides}
-use Rattle.data_tree.proofs.TextMaps.{query, get-seen}
+use Rattle.data_tree.proofs.TextMaps.{get-seen}
+use Rattle.ephemerals.proofs.TextKeys.{query}
 
 pub each_of_all : {A : Type 0} (P : A → Type 0) (xs : List A) → All P xs → AllByRecursion P xs
 each_of_all P [] h = tt

@@ -7,16 +7,19 @@ use Rattle.std.proofs.lemmas.Map.Views.{tells_apart}
 use Rattle.std.specs.FinMap as finmap
 use Rattle.ephemerals.specs.Orders.{Bytes, path_cmp}
 use Rattle.data_tree.specs.Nodes.{Nodes}
-use Rattle.data_tree.specs.Updates.{update_node, update_found, adopting, raising, raised, orphaning}
+use Rattle.data_tree.specs.Making.{update_node, update_found}
+use Rattle.data_tree.specs.Inner.Children.{with_added_child, with_raised_stat, stat_after_create, without_added_child}
 use Rattle.std.specs.FinSet as set
 use Rattle.txn_codec.specs.declared.txn.TxnHeader.{TxnHeader}
 use Rattle.txn_codec.specs.declared.txn.Create.{Create}
-use Rattle.data_tree.proofs.SetSteps.{remove-insert, insert-present, not-false, not-true}
-use Rattle.data_tree.specs.Making.{listing, unlisting, gains}
+use Rattle.std.proofs.lemmas.Bool.{not-false, not-true}
+use Rattle.ephemerals.proofs.SetSteps.{remove-insert, insert-present}
+use Rattle.data_tree.specs.Making.{with_name}
+use Rattle.data_tree.specs.Inner.Children.{without_name, lacks_name}
 use mathlib.Core.Bool.{true≢false}
 use Rattle.std.specs.Cmp.{tied_itself}
 use Rattle.data_tree.specs.declared.node.Node.{Node}
-use Rattle.data_tree.proofs.Totals.{path_total}
+use Rattle.ephemerals.proofs.Totals.{path_total}
 
 -- what a path has, put there again
 pub insert_same : (m : Nodes) (path : Bytes) (node : Node) → finmap.get m path ≡ Some node → finmap.insert m path node ≡ m
@@ -45,46 +48,46 @@ pub get_inserted : (m : Nodes) (path : Bytes) (node : Node) → finmap.get (finm
 get_inserted m path node = finmap.get-insert path_total m path node path ∙ ap (λ r. cond (is_eq r) (Some node) (finmap.get m path)) (tied_itself path_total path)
 
 -- a new name
-pub adopting_new : (h : TxnHeader) (c : Create) (name : Bytes) (parent : Node) → set.contains parent.children name ≡ false
-    → adopting h c name parent ≡ record parent { children = set.insert parent.children name; stat = raised h c parent.stat }
-adopting_new h c name parent free = ap (λ b. if b then raising h c parent else record parent { children = set.insert parent.children name; stat = raised h c parent.stat }) free
+pub added_child_new : (h : TxnHeader) (c : Create) (name : Bytes) (parent : Node) → set.contains parent.children name ≡ false
+    → with_added_child h c name parent ≡ record parent { children = set.insert parent.children name; stat = stat_after_create h c parent.stat }
+added_child_new h c name parent free = ap (λ b. if b then with_raised_stat h c parent else record parent { children = set.insert parent.children name; stat = stat_after_create h c parent.stat }) free
 
 -- a name that is taken
-pub adopting_taken : (h : TxnHeader) (c : Create) (name : Bytes) (parent : Node) → set.contains parent.children name ≡ true → adopting h c name parent ≡ raising h c parent
-adopting_taken h c name parent taken = ap (λ b. if b then raising h c parent else record parent { children = set.insert parent.children name; stat = raised h c parent.stat }) taken
+pub added_child_taken : (h : TxnHeader) (c : Create) (name : Bytes) (parent : Node) → set.contains parent.children name ≡ true → with_added_child h c name parent ≡ with_raised_stat h c parent
+added_child_taken h c name parent taken = ap (λ b. if b then with_raised_stat h c parent else record parent { children = set.insert parent.children name; stat = stat_after_create h c parent.stat }) taken
 
 -- a name that was added, and taken out again with the old numbers
 pub undone : (m : Nodes) (path name : Bytes) (h : TxnHeader) (c : Create) (parent : Node) → finmap.get m path ≡ Some parent → set.contains parent.children name ≡ false
-    → update_node (update_node m path (adopting h c name)) path (orphaning name parent.stat) ≡ m
+    → update_node (update_node m path (with_added_child h c name)) path (without_added_child name parent.stat) ≡ m
 undone m path name h c parent is free =
-    ap (λ o. update_node (update_found m path (adopting h c name) o) path (orphaning name parent.stat)) is
-    ∙ ap (update_found (finmap.insert m path (adopting h c name parent)) path (orphaning name parent.stat)) (get_inserted m path (adopting h c name parent))
-    ∙ insert_insert m path (adopting h c name parent) (orphaning name parent.stat (adopting h c name parent))
+    ap (λ o. update_node (update_found m path (with_added_child h c name) o) path (without_added_child name parent.stat)) is
+    ∙ ap (update_found (finmap.insert m path (with_added_child h c name parent)) path (without_added_child name parent.stat)) (get_inserted m path (with_added_child h c name parent))
+    ∙ insert_insert m path (with_added_child h c name parent) (without_added_child name parent.stat (with_added_child h c name parent))
     ∙ ap (finmap.insert m path)
-    (ap (orphaning name parent.stat) (adopting_new h c name parent free)
+    (ap (without_added_child name parent.stat) (added_child_new h c name parent free)
     ∙ (λ i. record parent { children = remove-insert path_total exact_bytes parent.children name free i }))
     ∙ insert_same m path parent is
 
 -- a name that was added, and taken out again
-pub undone_listing : (m : Nodes) (path name : Bytes) → gains (finmap.get m path) name ≡ true → update_node (update_node m path (listing name)) path (unlisting name) ≡ m
-undone_listing m path name = by (finmap.get m path) refl
+pub undone_name : (m : Nodes) (path name : Bytes) → lacks_name (finmap.get m path) name ≡ true → update_node (update_node m path (with_name name)) path (without_name name) ≡ m
+undone_name m path name = by (finmap.get m path) refl
   where
-    by : (o : Option Node) → finmap.get m path ≡ o → gains o name ≡ true → update_node (update_node m path (listing name)) path (unlisting name) ≡ m
+    by : (o : Option Node) → finmap.get m path ≡ o → lacks_name o name ≡ true → update_node (update_node m path (with_name name)) path (without_name name) ≡ m
     by None is gain = absurd (true≢false (sym gain))
     by (Some parent) is gain =
-        ap (λ o. update_node (update_found m path (listing name) o) path (unlisting name)) is
-        ∙ ap (update_found (finmap.insert m path (listing name parent)) path (unlisting name)) (get_inserted m path (listing name parent))
-        ∙ insert_insert m path (listing name parent) (unlisting name (listing name parent))
+        ap (λ o. update_node (update_found m path (with_name name) o) path (without_name name)) is
+        ∙ ap (update_found (finmap.insert m path (with_name name parent)) path (without_name name)) (get_inserted m path (with_name name parent))
+        ∙ insert_insert m path (with_name name parent) (without_name name (with_name name parent))
         ∙ ap (finmap.insert m path) (λ i. record parent { children = remove-insert path_total exact_bytes parent.children name (not-true (set.contains parent.children name) gain) i })
         ∙ insert_same m path parent is
 
 -- a name that was there, or had no node to be added to
-pub kept_listing : (m : Nodes) (path name : Bytes) → gains (finmap.get m path) name ≡ false → update_node m path (listing name) ≡ m
-kept_listing m path name = by (finmap.get m path) refl
+pub kept_name : (m : Nodes) (path name : Bytes) → lacks_name (finmap.get m path) name ≡ false → update_node m path (with_name name) ≡ m
+kept_name m path name = by (finmap.get m path) refl
   where
-    by : (o : Option Node) → finmap.get m path ≡ o → gains o name ≡ false → update_node m path (listing name) ≡ m
-    by None is gain = ap (update_found m path (listing name)) is
+    by : (o : Option Node) → finmap.get m path ≡ o → lacks_name o name ≡ false → update_node m path (with_name name) ≡ m
+    by None is gain = ap (update_found m path (with_name name)) is
     by (Some parent) is gain =
-        ap (update_found m path (listing name)) is
+        ap (update_found m path (with_name name)) is
         ∙ ap (finmap.insert m path) (λ i. record parent { children = sym (insert-present path_total exact_bytes parent.children name (not-false (set.contains parent.children name) gain)) i })
         ∙ insert_same m path parent is

@@ -1,41 +1,30 @@
 -- A map from text, read as a finite map from bytes.
-use Rattle.std.proofs.Common.{◌≡◌, List, [], ◌∷◌, Bool, cond, Option, Some, None, refl, sym, ap, subst, ◌∙◌, string_bytes, OnSome, IsSome, OnErr, Result, Ok, Err, is_some, ◌+◌, length, arith}
+use Rattle.std.proofs.Common.{◌≡◌, List, [], ◌∷◌, cond, Option, Some, None, refl, sym, ap, subst, ◌∙◌, string_bytes, OnSome, IsSome, is_some, ◌+◌, length, arith}
 use Rattle.std.specs.Option.{option_copied_mut}
 use Rattle.std.specs.Borrow.{MutBor}
 use Rattle.std.specs.BTreeMap as tree
-use Rattle.std.specs.BTreeMap.{BTreeMap, is_at}
+use Rattle.std.specs.BTreeMap.{BTreeMap}
 use Rattle.std.specs.Map.{lookup, keys_of}
 use Rattle.std.specs.List.{AllByRecursion, AllZip}
 use Rattle.std.specs.List.Sorted.{IsStrictlySortedBy}
 use Rattle.std.specs.declared.cmp.Ordering.TheVariants.{Less}
 use Rattle.std.proofs.lemmas.Map.Keys.{sorted_head, sorted_tail}
 use Rattle.std.specs.Ordering.{eq_by_cmp, is_eq, nat_cmp}
-use Rattle.std.specs.Cmp.{eq_by_cmp_equiv}
 use Rattle.std.specs.Cmp.Lexicographic.{slice_cmp}
-use Rattle.std.specs.Str.{bytes_eq}
 use Rattle.std.specs.String.{string_cmp}
 use Rattle.std.specs.declared.string.String.{String}
-use Rattle.std.proofs.lemmas.Map.Text.{is_eq-slice_cmp, btree_map_updates_text}
+use Rattle.std.proofs.lemmas.Map.Text.{btree_map_updates_text}
 use Rattle.std.proofs.lemmas.Map.Lookups.{exact_bytes}
 use Rattle.std.specs.FinMap as finmap
 use Rattle.ephemerals.specs.Orders.{Bytes, path_cmp}
-use Rattle.data_tree.specs.NodesView.{by_bytes}
-use Rattle.data_tree.proofs.Totals.{path_total}
-
-abbrev pub query : {Z : Type 0} → Bytes → String Z → Bool
-query {Z} q = is_at (λ (k : String Z). slice_cmp nat_cmp q (string_bytes k))
-
-pub same_test : (q bs : Bytes) → bytes_eq bs q ≡ eq_by_cmp path_cmp q bs
-same_test q bs = sym ((eq_by_cmp_equiv path_total).symm q bs ∙ is_eq-slice_cmp bs q)
+use Rattle.data_tree.specs.Inner.NodesView.{by_bytes}
+use Rattle.ephemerals.proofs.Totals.{path_total}
+use Rattle.ephemerals.proofs.TextKeys.{query, same_test}
 
 -- what holds where a look-up finds something holds where it lent something
 pub on_some : {Y : Type 0} {P : Type 0} (r : Option (MutBor Y)) (x : Option Y) → option_copied_mut r ≡ x → (IsSome x → P) → OnSome r P
 on_some None x e f = tt
 on_some (Some m) x e f = f (subst IsSome e refl)
-
-pub on_err : {A E : Type 0} {P : Type 0} (r : Result A E) → P → OnErr r P
-on_err (Ok x) p = tt
-on_err (Err e) p = p
 
 module _ {X Z : Type 0} where
   find-by_bytes : (es : List (String Z × X)) (q : Bytes) → finmap.find path_cmp q (by_bytes es) ≡ lookup (query q) es

@@ -1,14 +1,11 @@
-pub mod SessionsView
+pub mod Sessions
 pub mod Nodes
-pub mod NodesView
 pub mod Stats
 pub mod State
 pub mod Meaning
-pub mod Updates
 pub mod Whole
 pub mod Making
-pub mod NodeMapLends
-pub mod Multi
 pub mod Refused
 pub mod Footprint
 pub mod Commuting
+pub mod Inner

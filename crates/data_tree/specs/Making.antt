@@ -3,35 +3,42 @@ use Rattle.std.specs.Prelude.{ℤ, Bool, false, not, ◌&&◌, ◌==◌, Option,
 use Rattle.std.specs.FinMap as finmap
 use Rattle.std.specs.FinSet as set
 use Rattle.ephemerals.specs.Orders.{Bytes}
+use Rattle.ephemerals.specs.Pairs.{with_pair}
 use Rattle.txn_codec.specs.Paths.{is_root, parent_of, name_of}
 use Rattle.data_tree.specs.State.{State, Nodes}
-use Rattle.data_tree.specs.Updates.{update_node, settled}
 use Rattle.data_tree.specs.Whole.{has_node}
 use Rattle.data_tree.specs.declared.node.Node.{Node}
 
 -- no node and no session
-abbrev pub nothing : State
-nothing = record { nodes = finmap.empty; pairs = set.empty; sessions = finmap.empty }
+abbrev pub empty_state : State
+empty_state = record { nodes = finmap.empty; pairs = set.empty; sessions = finmap.empty }
 
 abbrev pub with_session : State → ℤ → ℤ → State
 with_session s session timeout = record s { sessions = finmap.insert s.sessions session timeout }
 
 -- a node that lists the name too
-abbrev pub listing : Bytes → Node → Node
-listing name parent = record parent { children = set.insert parent.children name }
+abbrev pub with_name : Bytes → Node → Node
+with_name name parent = record parent { children = set.insert parent.children name }
 
--- a node that doesn't list the name
-abbrev pub unlisting : Bytes → Node → Node
-unlisting name parent = record parent { children = set.remove parent.children name }
+abbrev pub update_found : Nodes → Bytes → (Node → Node) → Option Node → Nodes
+update_found nodes path f None = nodes
+update_found nodes path f (Some node) = finmap.insert nodes path (f node)
 
--- whether there is a node that doesn't list the name yet
-abbrev pub gains : Option Node → Bytes → Bool
-gains None name = false
-gains (Some parent) name = not (set.contains parent.children name)
+-- f of the node at the path, if any
+abbrev pub update_node : Nodes → Bytes → (Node → Node) → Nodes
+update_node nodes path f = update_found nodes path f (finmap.get nodes path)
+
+-- the node, and its owner's pair
+abbrev pub with_placed_node : State → Bytes → Node → State
+with_placed_node s path node = record {
+  nodes = finmap.insert s.nodes path node;
+  pairs = with_pair s.pairs node.stat.ephemeral_owner path;
+  sessions = s.sessions;
+}
 
 -- the node at the path, its name in the parent, if any, and its owner's pair
 abbrev pub with_node : State → Bytes → Node → State
-with_node s path node = settled (record s { nodes = update_node s.nodes (parent_of path) (listing (name_of path)) }) path node
+with_node s path node = with_placed_node (record s { nodes = update_node s.nodes (parent_of path) (with_name (name_of path)) }) path node
 
 -- "/" has a place where there is no node, and any other path where it is new and its parent is there
 abbrev pub has_place : Nodes → Bytes → Bool

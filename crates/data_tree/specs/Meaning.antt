@@ -2,11 +2,12 @@
 use Rattle.std.specs.Prelude.{ℤ, pos, negsuc, ◌+ℤ◌, List, [], ◌∷◌, ◌++◌, if◌then◌else◌, Bool, false, ◌||◌, Option, Some, None, is_some, map, int_lt, codes}
 use Rattle.std.specs.Int.{int_wrap, w32}
 use Rattle.std.specs.Option.{unwrap_or}
+use Rattle.std.specs.List.{list_any}
 use Rattle.std.specs.Ordering.{int_eq}
 use Rattle.std.specs.FinMap as finmap
 use Rattle.std.specs.FinSet as set
 use Rattle.ephemerals.specs.Orders.{Bytes, Names, in_order}
-use Rattle.ephemerals.specs.Pairs.{owned_by, without_session}
+use Rattle.ephemerals.specs.Pairs.{paths_of, without_session}
 use Rattle.jute.specs.declared.owned.Acl.{Acl}
 use Rattle.txn_codec.specs.Paths.{parent_of, name_of}
 use Rattle.txn_codec.specs.declared.txn.TxnHeader.{TxnHeader}
@@ -45,24 +46,24 @@ pub data Change : Type 0 where
   -- the session doesn't
   Disown : (session : ℤ) (path : Bytes) → Change
 
-abbrev pub changed : State → Change → State
-changed s (Put path node) = record s { nodes = finmap.insert s.nodes path node }
-changed s (Remove path) = record s { nodes = finmap.remove s.nodes path }
-changed s (Own session path) = record s { pairs = set.insert s.pairs (session, path) }
-changed s (Disown session path) = record s { pairs = set.remove s.pairs (session, path) }
+abbrev pub after_change : State → Change → State
+after_change s (Put path node) = record s { nodes = finmap.insert s.nodes path node }
+after_change s (Remove path) = record s { nodes = finmap.remove s.nodes path }
+after_change s (Own session path) = record s { pairs = set.insert s.pairs (session, path) }
+after_change s (Disown session path) = record s { pairs = set.remove s.pairs (session, path) }
 
-abbrev pub all_changed : State → List Change → State
-all_changed s [] = s
-all_changed s (c ∷ cs) = all_changed (changed s c) cs
+abbrev pub after_changes : State → List Change → State
+after_changes s [] = s
+after_changes s (c ∷ cs) = after_changes (after_change s c) cs
 
 -- what one operation does: its error, its changes in order, and what it fires
 pub record Effect : Type 0 where
-  pub error : ℤ
+  pub err : ℤ
   pub changes : List Change
   pub triggers : List Trigger
 
-abbrev pub refused : ℤ → Effect
-refused error = record { error = error; changes = []; triggers = [] }
+abbrev pub no_change : ℤ → Effect
+no_change error = record { err = error; changes = []; triggers = [] }
 
 -- everyone may do everything
 abbrev pub open_acl : List Acl
@@ -104,18 +105,18 @@ new_node header create = record {
 }
 
 -- session 0 owns nothing
-abbrev pub owning : ℤ → Bytes → List Change
-owning owner path = if int_eq owner (pos 0) then [] else Own owner path ∷ []
+abbrev pub gained_pair : ℤ → Bytes → List Change
+gained_pair owner path = if int_eq owner (pos 0) then [] else Own owner path ∷ []
 
-abbrev pub disowning : ℤ → Bytes → List Change
-disowning owner path = if int_eq owner (pos 0) then [] else Disown owner path ∷ []
+abbrev pub lost_pair : ℤ → Bytes → List Change
+lost_pair owner path = if int_eq owner (pos 0) then [] else Disown owner path ∷ []
 
 -- a name that is taken raises the parent's numbers at most
 abbrev pub create_taken : TxnHeader → Create → Node → Effect
 create_taken header create parent =
     let next = next_cversion parent.stat.cversion create.parent_cversion in
     record {
-      error = NODE_EXISTS;
+      err = NODE_EXISTS;
       changes = if int_lt parent.stat.cversion next then Put (parent_of create.path) (with_children parent parent.children next header.zxid) ∷ [] else [];
       triggers = [];
     }
@@ -124,63 +125,63 @@ abbrev pub create_new : TxnHeader → Create → Node → Effect
 create_new header create parent =
     let next = next_cversion parent.stat.cversion create.parent_cversion in
     record {
-      error = pos 0;
+      err = pos 0;
       changes =
           Put (parent_of create.path) (with_children parent (set.insert parent.children (name_of create.path)) next header.zxid)
           ∷ Put create.path (new_node header create)
-          ∷ owning (owner_of header create.ephemeral) create.path;
+          ∷ gained_pair (owner_of header create.ephemeral) create.path;
       triggers = Created create.path ∷ ChildrenChanged (parent_of create.path) ∷ [];
     }
 
 abbrev pub create_under : TxnHeader → Create → Option Node → Effect
-create_under header create None = refused NO_NODE
+create_under header create None = no_change NO_NODE
 create_under header create (Some parent) =
     if set.contains parent.children (name_of create.path) then create_taken header create parent else create_new header create parent
 
 -- the node that is removed, and its parent
 abbrev pub delete_at : TxnHeader → Bytes → Option Node → Option Node → Effect
-delete_at header path None parent = refused NO_NODE
-delete_at header path (Some node) None = record { error = NO_NODE; changes = Remove path ∷ []; triggers = [] }
+delete_at header path None parent = no_change NO_NODE
+delete_at header path (Some node) None = record { err = NO_NODE; changes = Remove path ∷ []; triggers = [] }
 delete_at header path (Some node) (Some parent) = record {
-  error = pos 0;
+  err = pos 0;
   changes =
       Remove path
       ∷ Put (parent_of path) (with_children parent (set.remove parent.children (name_of path)) parent.stat.cversion header.zxid)
-      ∷ disowning node.stat.ephemeral_owner path;
+      ∷ lost_pair node.stat.ephemeral_owner path;
   triggers = Deleted path ∷ ChildrenChanged (parent_of path) ∷ [];
 }
 
-abbrev pub rewritten : TxnHeader → SetData → Node → Node
-rewritten header body node = record node { bytes = body.bytes; stat = record node.stat { version = body.version; mzxid = header.zxid; mtime = header.time } }
+abbrev pub with_data : TxnHeader → SetData → Node → Node
+with_data header body node = record node { bytes = body.bytes; stat = record node.stat { version = body.version; mzxid = header.zxid; mtime = header.time } }
 
 abbrev pub set_data_at : TxnHeader → SetData → Option Node → Effect
-set_data_at header body None = refused NO_NODE
-set_data_at header body (Some node) = record { error = pos 0; changes = Put body.path (rewritten header body node) ∷ []; triggers = DataChanged body.path ∷ [] }
+set_data_at header body None = no_change NO_NODE
+set_data_at header body (Some node) = record { err = pos 0; changes = Put body.path (with_data header body node) ∷ []; triggers = DataChanged body.path ∷ [] }
 
 -- an operation reads the nodes at its path and at the parent, and no more
 abbrev pub effect_of : TxnHeader → Operation → Nodes → Effect
 effect_of header (op.Create body) nodes = create_under header body (finmap.get nodes (parent_of body.path))
 effect_of header (op.Delete path) nodes = delete_at header path (finmap.get nodes path) (finmap.get (finmap.remove nodes path) (parent_of path))
 effect_of header (op.SetData body) nodes = set_data_at header body (finmap.get nodes body.path)
-effect_of header (op.Check body) nodes = refused (pos 0)
-effect_of header (op.Error error) nodes = refused error
+effect_of header (op.Check body) nodes = no_change (pos 0)
+effect_of header (op.Error error) nodes = no_change error
 
-abbrev pub regranted : SetAcl → Node → Node
-regranted body node = record node { acl = acl_or_open body.acl; stat = record node.stat { aversion = body.version } }
+abbrev pub with_acl : SetAcl → Node → Node
+with_acl body node = record node { acl = acl_or_open body.acl; stat = record node.stat { aversion = body.version } }
 
 abbrev pub set_acl_at : SetAcl → Option Node → Effect
-set_acl_at body None = refused NO_NODE
-set_acl_at body (Some node) = record { error = pos 0; changes = Put body.path (regranted body node) ∷ []; triggers = [] }
+set_acl_at body None = no_change NO_NODE
+set_acl_at body (Some node) = record { err = pos 0; changes = Put body.path (with_acl body node) ∷ []; triggers = [] }
 
 -- the state after a transaction, its error, the errors of its parts, and what it fires
 pub record Meant : Type 0 where
   pub state : State
-  pub error : ℤ
+  pub err : ℤ
   pub parts : List ℤ
   pub triggers : List Trigger
 
 abbrev pub of_effect : Effect → State → Meant
-of_effect effect s = record { state = all_changed s effect.changes; error = effect.error; parts = []; triggers = effect.triggers }
+of_effect effect s = record { state = after_changes s effect.changes; err = effect.err; parts = []; triggers = effect.triggers }
 
 abbrev pub of_operation : TxnHeader → Operation → State → Meant
 of_operation header operation s = of_effect (effect_of header operation s.nodes) s
@@ -202,32 +203,35 @@ error_of (op.SetData body) = None
 error_of (op.Check body) = None
 
 abbrev pub has_error : List Operation → Bool
-has_error [] = false
-has_error (o ∷ os) = is_some (error_of o) || has_error os
+has_error parts = list_any (λ (o : Operation). is_some (error_of o)) parts
 
--- the parts of a multi with an error part: 0 before the first one, and -2 after it
-abbrev pub errors_of_failed : ℤ → List Operation → List ℤ
-errors_of_failed otherwise [] = []
-errors_of_failed otherwise (o ∷ os) = unwrap_or (error_of o) otherwise ∷ errors_of_failed (if is_some (error_of o) then RUNTIME_INCONSISTENCY else otherwise) os
+-- its own error for an error part, and -2 for any other
+abbrev pub error_in_failed : Operation → ℤ
+error_in_failed o = unwrap_or (error_of o) RUNTIME_INCONSISTENCY
+
+-- the parts of a multi with an error part: 0 before the first one
+abbrev pub errors_of_failed : List Operation → List ℤ
+errors_of_failed [] = []
+errors_of_failed (o ∷ os) = if is_some (error_of o) then map error_in_failed (o ∷ os) else pos 0 ∷ errors_of_failed os
 
 -- the answer of a multi with an error part
-abbrev pub failed_answer : List Operation → Outcome
-failed_answer parts = let errors = errors_of_failed (pos 0) parts in record { error = first_error errors; parts = errors; triggers = [] }
+abbrev pub failed_outcome : List Operation → Outcome
+failed_outcome parts = let errors = errors_of_failed parts in record { err = first_error errors; parts = errors; triggers = [] }
 
 -- nothing is applied
 abbrev pub of_failed : List Operation → State → Meant
-of_failed parts s = let answer = failed_answer parts in record { state = s; error = answer.error; parts = answer.parts; triggers = answer.triggers }
+of_failed parts s = let answer = failed_outcome parts in record { state = s; err = answer.err; parts = answer.parts; triggers = answer.triggers }
 
 -- the parts in order; one that fails stops none after it
 abbrev pub of_parts : TxnHeader → List Operation → State → Meant
-of_parts header [] s = record { state = s; error = pos 0; parts = []; triggers = [] }
+of_parts header [] s = record { state = s; err = pos 0; parts = []; triggers = [] }
 of_parts header (o ∷ os) s =
     let first = of_operation header o s in
     let rest = of_parts header os first.state in
     record {
       state = rest.state;
-      error = first_error (first.error ∷ rest.parts);
-      parts = first.error ∷ rest.parts;
+      err = first_error (first.err ∷ rest.parts);
+      parts = first.err ∷ rest.parts;
       triggers = first.triggers ++ rest.triggers;
     }
 
@@ -236,20 +240,20 @@ of_multi header parts s = if has_error parts then of_failed parts s else of_part
 
 -- the session's timeout is set
 abbrev pub of_create_session : TxnHeader → ℤ → State → Meant
-of_create_session header timeout s = record { state = record s { sessions = finmap.insert s.sessions header.client_id timeout }; error = pos 0; parts = []; triggers = [] }
+of_create_session header timeout s = record { state = record s { sessions = finmap.insert s.sessions header.client_id timeout }; err = pos 0; parts = []; triggers = [] }
 
 abbrev pub deletes : List Bytes → List Operation
 deletes paths = map op.Delete paths
 
 -- the state without the session and its pairs
-abbrev pub closed : ℤ → State → State
-closed session s = record { nodes = s.nodes; pairs = without_session session s.pairs; sessions = finmap.remove s.sessions session }
+abbrev pub state_without_session : ℤ → State → State
+state_without_session session s = record { nodes = s.nodes; pairs = without_session session s.pairs; sessions = finmap.remove s.sessions session }
 
 -- the session's ephemerals are deleted in ascending bytes; an error is passed over
 abbrev pub of_close_session : TxnHeader → State → Meant
 of_close_session header s =
-    let deleted = of_parts header (deletes (in_order (owned_by header.client_id s.pairs))) (closed header.client_id s) in
-    record { state = deleted.state; error = pos 0; parts = []; triggers = deleted.triggers }
+    let deleted = of_parts header (deletes (in_order (paths_of header.client_id s.pairs))) (state_without_session header.client_id s) in
+    record { state = deleted.state; err = pos 0; parts = []; triggers = deleted.triggers }
 
 abbrev pub mean_of : TxnHeader → Body → State → Meant
 mean_of header (body.Single operation) s = of_operation header operation s
@@ -262,16 +266,12 @@ abbrev pub mean : State → Txn → Meant
 mean s txn = mean_of txn.header txn.body s
 
 abbrev pub answer_of : Meant → Outcome
-answer_of m = record { error = m.error; parts = m.parts; triggers = m.triggers }
+answer_of m = record { err = m.err; parts = m.parts; triggers = m.triggers }
 
 -- the transactions one after the other
 abbrev pub after : State → List Txn → State
 after s [] = s
 after s (t ∷ ts) = after (mean s t).state ts
-
-abbrev pub outcomes : State → List Txn → List Outcome
-outcomes s [] = []
-outcomes s (t ∷ ts) = answer_of (mean s t) ∷ outcomes (mean s t).state ts
 
 -- a node that nobody made: empty data, the open list, all numbers 0
 abbrev pub first_node : Names → Node

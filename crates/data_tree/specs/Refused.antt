@@ -1,12 +1,15 @@
 -- What a transaction that was refused for want of memory leaves.
-use Rattle.std.specs.Prelude.{◌≡◌, List, Bool, true, false}
+use Rattle.std.specs.Prelude.{◌≡◌, ℕ, List, Bool, true, false, take}
 use Rattle.txn_codec.specs.declared.txn.TxnHeader.{TxnHeader}
 use Rattle.txn_codec.specs.declared.txn.Operation.{Operation}
 use Rattle.txn_codec.specs.declared.txn.Body.{Body}
 use Rattle.txn_codec.specs.declared.txn.Body.TheVariants as body
 use Rattle.data_tree.specs.State.{State}
-use Rattle.data_tree.specs.Meaning.{has_error}
-use Rattle.data_tree.specs.Multi.{IsAfterFront}
+use Rattle.data_tree.specs.Meaning.{has_error, of_parts}
+
+-- a front of the parts was done
+abbrev pub IsAfterFront : TxnHeader → List Operation → State → State → Type 0
+IsAfterFront header parts old new = (n : ℕ) × (new ≡ (of_parts header (take n parts) old).state)
 
 -- a multi with an error part has done nothing, and any other a front of its parts
 abbrev pub IsPartly : Bool → TxnHeader → List Operation → State → State → Type 0

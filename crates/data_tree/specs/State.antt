@@ -6,7 +6,7 @@ use Rattle.std.specs.FinSet as set
 use Rattle.std.specs.Ordering.{int_cmp}
 use Rattle.ephemerals.specs.Orders.{Pairs, path_cmp, pair_cmp}
 pub use Rattle.data_tree.specs.Nodes.{Nodes}
-pub use Rattle.data_tree.specs.SessionsView.{Sessions}
+pub use Rattle.data_tree.specs.Sessions.{Sessions}
 use Rattle.data_tree.specs.declared.node.Node.{Node}
 
 -- the nodes by path, the ephemerals as pairs of a session and a path, and each session's timeout

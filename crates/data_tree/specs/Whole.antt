@@ -31,10 +31,6 @@ is_owner session (Some node) = not (int_eq session (pos 0)) && int_eq node.stat.
 abbrev pub owns : Nodes → ℤ → Bytes → Bool
 owns nodes session path = is_owner session (finmap.get nodes path)
 
--- each of the names has a node under the path
-abbrev pub HasItsChildren : Nodes → Bytes → Names → Type 0
-HasItsChildren nodes path names = (name : Bytes) → set.contains names name ≡ true → has_node nodes (child_of path name) ≡ true
-
 -- nodes and names agree
 pub record AreLinked (nodes : Nodes) : Type 0 where
   -- each node but the root has a parent that lists its name

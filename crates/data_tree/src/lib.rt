@@ -1,18 +1,29 @@
-//! The data tree: nodes, the sessions' ephemerals, and sessions.
+//! The data tree of ZooKeeper: what each transaction does to it, answers, and tells watchers.
+//!
+//! A `Tree` is a state in three parts: the nodes by path, which session owns which ephemeral node, and each session's
+//! timeout. It starts `fresh`, or `empty` where it is read from an image node by node. `apply` does one transaction, and is
+//! proved to be what `specs/Meaning.antt` says of it; `docs/TRANSACTIONS.md` tells that in a table. What allocates is done
+//! first: where memory is refused, the tree is as it was, but after a multi or a closeSession. The laws in `law` say which
+//! transactions can be done apart.
+//!
+//! ```text
+//! let mut tree = Tree::fresh(alloc)?;
+//! let outcome = tree.apply(alloc, &decode_txn(alloc, bytes)?)?;
+//! outcome.err                          // 0, or the number of the first error
+//! outcome.triggers                     // what watchers are told, in order
+//! tree.node("/a"), tree.stat("/a")     // the node, and what it shows of itself
+//! ```
 #![tactic(auto)]
 
-mod adoption;
-mod law;
+mod added_child;
+pub mod law;
 mod multi;
 mod node;
 mod node_map;
 mod outcome;
 mod sessions;
-#[cfg(test)]
-mod tests;
 mod tree;
 
-pub use law::{footprints, groups};
 pub use node::{Node, StatPersisted};
 pub use outcome::{Outcome, Trigger};
 pub use sessions::Timeouts;

@@ -1,7 +1,7 @@
 //! The errors of a multi's parts.
 
 ghost use Rattle.std.specs.Prelude.{◌≡◌, IfOk};
-ghost use Rattle.data_tree.specs.Meaning.{first_error, error_of, has_error, errors_of_failed, failed_answer};
+ghost use Rattle.data_tree.specs.Meaning.{first_error, error_of, has_error, errors_of_failed, failed_outcome};
 
 use crate::outcome::Outcome;
 use std::alloc::Global;
@@ -47,8 +47,8 @@ pub fn has_error(parts: &[Operation]) -> bool
 }
 
 /// What a multi with an error part answers.
-pub fn fail(alloc: Global, parts: &[Operation]) -> Result<Outcome, NoMemory>
-    ensures { IfOk result (λ o. o ≡ failed_answer parts.now) }
+pub fn failed_outcome(alloc: Global, parts: &[Operation]) -> Result<Outcome, NoMemory>
+    ensures { IfOk result (λ o. o ≡ failed_outcome parts.now) }
 {
     let mut otherwise = 0;
     let mut errors = Vec::new(alloc);
@@ -62,7 +62,7 @@ pub fn fail(alloc: Global, parts: &[Operation]) -> Result<Outcome, NoMemory>
         }
     }
     Ok(Outcome {
-        error: first_error(errors.as_slice()),
+        err: first_error(errors.as_slice()),
         parts: Listed::from_vec(errors),
         triggers: Listed::from_vec(Vec::new(alloc)),
     })

@@ -2,8 +2,8 @@
 
 ghost use Rattle.std.specs.Prelude.{◌≡◌, OnOk, OnErr, IfOk, not, int_lt, if◌then◌else◌, string_bytes};
 ghost use Rattle.std.specs.FinSet as set;
-ghost use Rattle.data_tree.specs.Updates.{adopting, raised};
-ghost use Rattle.data_tree.specs.Meaning.{new_node, owner_of, next_cversion, acl_or_open, open_acl, rewritten, regranted, first_node};
+ghost use Rattle.data_tree.specs.Inner.Children.{with_added_child, stat_after_create};
+ghost use Rattle.data_tree.specs.Meaning.{new_node, owner_of, next_cversion, acl_or_open, open_acl, with_data, with_acl, first_node};
 ghost use Rattle.data_tree.specs.Stats.{shown, shown_stat, java_int, length_of, shown_cversion};
 
 use ephemerals::TextSet;
@@ -69,8 +69,8 @@ fn next_version(stored: i32, wanted: i32) -> i32
 }
 
 // A parent's numbers after a create.
-fn raise(before: StatPersisted, header: &TxnHeader, create: &Create) -> StatPersisted
-    ensures { result ≡ raised header.now create.now before }
+fn stat_after_create(before: StatPersisted, header: &TxnHeader, create: &Create) -> StatPersisted
+    ensures { result ≡ stat_after_create header.now create.now before }
 {
     let mut after = before;
     after.cversion = next_version(before.cversion, create.parent_cversion);
@@ -79,7 +79,7 @@ fn raise(before: StatPersisted, header: &TxnHeader, create: &Create) -> StatPers
 }
 
 // The numbers with the greater cversion; the first ones where it is the same.
-fn higher(before: StatPersisted, after: StatPersisted) -> StatPersisted
+fn higher_stat(before: StatPersisted, after: StatPersisted) -> StatPersisted
     ensures { result ≡ (if int_lt before.cversion after.cversion then after else before) }
 {
     if before.cversion < after.cversion {
@@ -89,7 +89,7 @@ fn higher(before: StatPersisted, after: StatPersisted) -> StatPersisted
 }
 
 /// A parent's numbers after a child was deleted.
-pub(crate) fn bereft(before: StatPersisted, header: &TxnHeader) -> StatPersisted
+pub(crate) fn stat_after_delete(before: StatPersisted, header: &TxnHeader) -> StatPersisted
     ensures { result ≡ record before { pzxid = header.now.zxid } }
 {
     let mut numbers = before;
@@ -105,7 +105,7 @@ pub(crate) fn owner(header: &TxnHeader, ephemeral: bool) -> i64
 }
 
 // The list that grants everyone everything.
-fn open(alloc: Global) -> Result<Listed<Acl>, NoMemory>
+fn open_acl(alloc: Global) -> Result<Listed<Acl>, NoMemory>
     ensures { IfOk result (λ acl. acl ≡ open_acl) }
 {
     let mut list = Vec::new(alloc);
@@ -120,11 +120,11 @@ fn open(alloc: Global) -> Result<Listed<Acl>, NoMemory>
 }
 
 // A copy of the list, or the open one for null.
-fn copy_acl(alloc: Global, acl: &Option<Listed<Acl>>) -> Result<Listed<Acl>, NoMemory>
+fn acl_or_open(alloc: Global, acl: &Option<Listed<Acl>>) -> Result<Listed<Acl>, NoMemory>
     ensures { IfOk result (λ list. list ≡ acl_or_open acl.now) }
 {
     match acl {
-        None => open(alloc),
+        None => open_acl(alloc),
         Some(list) => Ok(list.clone()?),
     }
 }
@@ -147,7 +147,7 @@ fn first_stat(header: &TxnHeader, create: &Create) -> StatPersisted
 }
 
 // A node's numbers after its bytes were written.
-fn written(before: StatPersisted, header: &TxnHeader, body: &SetData) -> StatPersisted
+fn stat_with_data(before: StatPersisted, header: &TxnHeader, body: &SetData) -> StatPersisted
     ensures { result ≡ record before { version = body.now.version; mzxid = header.now.zxid; mtime = header.now.time } }
 {
     let mut after = before;
@@ -158,7 +158,7 @@ fn written(before: StatPersisted, header: &TxnHeader, body: &SetData) -> StatPer
 }
 
 // A set of one text.
-fn only(alloc: Global, text: &str) -> Result<TextSet, NoMemory>
+fn one_text(alloc: Global, text: &str) -> Result<TextSet, NoMemory>
     ensures { IfOk result (λ texts. texts ≡ set.insert set.empty text.now) }
 {
     let mut texts = TextSet::new(alloc);
@@ -167,7 +167,7 @@ fn only(alloc: Global, text: &str) -> Result<TextSet, NoMemory>
 }
 
 // The numbers of a node that nobody made.
-fn no_stat() -> StatPersisted
+fn zero_stat() -> StatPersisted
     ensures { result ≡ (first_node set.empty).stat }
 {
     StatPersisted {
@@ -184,30 +184,30 @@ fn no_stat() -> StatPersisted
 }
 
 // A node that nobody made.
-fn first(alloc: Global, children: TextSet) -> Result<Node, NoMemory>
+fn first_node(alloc: Global, children: TextSet) -> Result<Node, NoMemory>
     ensures { IfOk result (λ node. node ≡ first_node children) }
 {
     Ok(Node {
         bytes: Some(Blob::new(alloc, &[])?),
-        acl: open(alloc)?,
-        stat: no_stat(),
+        acl: open_acl(alloc)?,
+        stat: zero_stat(),
         children,
     })
 }
 
 impl Node {
     /// A node that nobody made, without a child.
-    pub(crate) fn bare(alloc: Global) -> Result<Node, NoMemory>
+    pub(crate) fn childless(alloc: Global) -> Result<Node, NoMemory>
         ensures { IfOk result (λ node. node ≡ first_node set.empty) }
     {
-        first(alloc, TextSet::new(alloc))
+        first_node(alloc, TextSet::new(alloc))
     }
 
     /// A node that nobody made, with one child.
-    pub(crate) fn over(alloc: Global, child: &str) -> Result<Node, NoMemory>
+    pub(crate) fn with_child(alloc: Global, child: &str) -> Result<Node, NoMemory>
         ensures { IfOk result (λ node. node ≡ first_node (set.insert set.empty child.now)) }
     {
-        first(alloc, only(alloc, child)?)
+        first_node(alloc, one_text(alloc, child)?)
     }
 
     /// The node that a create makes.
@@ -220,50 +220,50 @@ impl Node {
     {
         Ok(Node {
             bytes: create.bytes.clone()?,
-            acl: copy_acl(alloc, &create.acl)?,
+            acl: acl_or_open(alloc, &create.acl)?,
             stat: first_stat(header, create),
             children: TextSet::new(alloc),
         })
     }
 
     /// Adds a child's name, or raises the numbers where it is taken, and says whether the name is new.
-    pub(crate) fn adopt(
+    pub(crate) fn add_child(
         &mut self,
         name: String,
         header: &TxnHeader,
         create: &Create,
     ) -> Result<bool, NoMemory>
-        ensures state { OnOk result (self.new ≡ adopting header.now create.now (string_bytes name) self.old) }
+        ensures state { OnOk result (self.new ≡ with_added_child header.now create.now (string_bytes name) self.old) }
         ensures added { IfOk result (λ added. added ≡ not (set.contains self.old.children (string_bytes name))) }
         ensures err { OnErr result (self.new ≡ self.old) }
     {
-        let after = raise(self.stat, header, create);
+        let after = stat_after_create(self.stat, header, create);
         let added = self.children.insert(name)?;
         if added {
             self.stat = after;
             return Ok(true);
         }
-        self.stat = higher(self.stat, after);
+        self.stat = higher_stat(self.stat, after);
         Ok(false)
     }
 
     /// Replaces the bytes.
-    pub(crate) fn write(&mut self, header: &TxnHeader, body: &SetData) -> Result<(), NoMemory>
-        ensures ok { OnOk result (self.new ≡ rewritten header.now body.now self.old) }
+    pub(crate) fn set_data(&mut self, header: &TxnHeader, body: &SetData) -> Result<(), NoMemory>
+        ensures ok { OnOk result (self.new ≡ with_data header.now body.now self.old) }
         ensures err { OnErr result (self.new ≡ self.old) }
     {
         let bytes = body.bytes.clone()?;
         self.bytes = bytes;
-        self.stat = written(self.stat, header, body);
+        self.stat = stat_with_data(self.stat, header, body);
         Ok(())
     }
 
     /// Replaces the access control list.
-    pub(crate) fn grant(&mut self, alloc: Global, body: &SetAcl) -> Result<(), NoMemory>
-        ensures ok { OnOk result (self.new ≡ regranted body.now self.old) }
+    pub(crate) fn set_acl(&mut self, alloc: Global, body: &SetAcl) -> Result<(), NoMemory>
+        ensures ok { OnOk result (self.new ≡ with_acl body.now self.old) }
         ensures err { OnErr result (self.new ≡ self.old) }
     {
-        let acl = copy_acl(alloc, &body.acl)?;
+        let acl = acl_or_open(alloc, &body.acl)?;
         self.acl = acl;
         self.stat.aversion = body.version;
         Ok(())

@@ -4,14 +4,17 @@ ghost use Rattle.std.specs.Prelude.{◌≡◌, ◌↔◌, ℤ, OnOk, OnErr, IfOk
 ghost use Rattle.std.specs.Option.{option_copied, option_copied_mut};
 ghost use Rattle.std.specs.Borrow.{sem};
 ghost use Rattle.std.specs.FinMap as finmap;
-ghost use Rattle.data_tree.specs.NodeMapLends.{LendsNode};
-ghost use Rattle.data_tree.specs.Updates.{update_node, adopting, adoption, orphaning, bereaved};
-ghost use Rattle.data_tree.specs.Meaning.{rewritten, regranted};
-ghost use Rattle.data_tree.specs.Making.{listing, unlisting, gains};
-ghost use Rattle.data_tree.specs.Whole.{has_node, has_parent, HasItsChildren, AreLinked, AreOwned, lists};
+ghost use Rattle.data_tree.specs.Inner.NodeMapLends.{LendsNode};
+ghost use Rattle.data_tree.specs.Making.{update_node};
+ghost use Rattle.data_tree.specs.Inner.Children.{with_added_child, added_child, without_added_child, without_child};
+ghost use Rattle.data_tree.specs.Meaning.{with_data, with_acl};
+ghost use Rattle.data_tree.specs.Making.{with_name};
+ghost use Rattle.data_tree.specs.Inner.Children.{without_name, lacks_name};
+ghost use Rattle.data_tree.specs.Whole.{has_node, has_parent, AreLinked, AreOwned, lists};
+ghost use Rattle.data_tree.specs.Inner.Children.{HasItsChildren};
 
-use crate::adoption::Adoption;
-use crate::node::{Node, StatPersisted, bereft};
+use crate::added_child::AddedChild;
+use crate::node::{Node, StatPersisted, stat_after_delete};
 use ephemerals::{Ephemerals, TextSet};
 use std::alloc::{AllocError, Global};
 use std::collections::BTreeMap;
@@ -27,7 +30,7 @@ pub struct NodeMap {
 
 impl Model for NodeMap {
     ghost use Rattle.data_tree.specs.Nodes.{Nodes};
-    ghost use Rattle.data_tree.specs.NodesView.{nodes_of};
+    ghost use Rattle.data_tree.specs.Inner.NodesView.{nodes_of};
 
     ghost Value = { Nodes };
 
@@ -99,9 +102,9 @@ impl NodeMap {
     }
 
     /// Makes the node at the path list the name, and says whether there is such a node and the name is new to it.
-    pub fn list(&mut self, path: &str, name: String) -> Result<bool, NoMemory>
-        ensures state { OnOk result (self.new ≡ update_node self.old path.now (listing (string_bytes name))) }
-        ensures gained { IfOk result (λ gained. gained ≡ gains (finmap.get self.old path.now) (string_bytes name)) }
+    pub fn add_name(&mut self, path: &str, name: String) -> Result<bool, NoMemory>
+        ensures state { OnOk result (self.new ≡ update_node self.old path.now (with_name (string_bytes name))) }
+        ensures gained { IfOk result (λ gained. gained ≡ lacks_name (finmap.get self.old path.now) (string_bytes name)) }
         ensures err { OnErr result (self.new ≡ self.old) }
     {
         match self.get_mut(path) {
@@ -111,8 +114,8 @@ impl NodeMap {
     }
 
     /// Makes the node at the path, if any, list the name no more.
-    pub fn unlist(&mut self, path: &str, name: &str)
-        ensures { self.new ≡ update_node self.old path.now (unlisting name.now) }
+    pub fn remove_name(&mut self, path: &str, name: &str)
+        ensures { self.new ≡ update_node self.old path.now (without_name name.now) }
     {
         match self.get_mut(path) {
             None => return,
@@ -123,32 +126,32 @@ impl NodeMap {
     }
 
     /// Adds a child's name to the node at the path, or raises that node's numbers where it has the name.
-    pub fn adopt(
+    pub fn add_child(
         &mut self,
         path: &str,
         name: String,
         header: &TxnHeader,
         create: &Create,
-    ) -> Result<Adoption, NoMemory>
-        ensures state { OnOk result (self.new ≡ update_node self.old path.now (adopting header.now create.now (string_bytes name))) }
-        ensures outcome { IfOk result (λ is. is ≡ adoption (finmap.get self.old path.now) (string_bytes name)) }
+    ) -> Result<AddedChild, NoMemory>
+        ensures state { OnOk result (self.new ≡ update_node self.old path.now (with_added_child header.now create.now (string_bytes name))) }
+        ensures outcome { IfOk result (λ is. is ≡ added_child (finmap.get self.old path.now) (string_bytes name)) }
         ensures err { OnErr result (self.new ≡ self.old) }
     {
         match self.get_mut(path) {
-            None => return Ok(Adoption::NoParent),
+            None => return Ok(AddedChild::NoParent),
             Some(node) => {
                 let before = node.stat;
-                if node.adopt(name, header, create)? {
-                    return Ok(Adoption::Adopted(before));
+                if node.add_child(name, header, create)? {
+                    return Ok(AddedChild::Added(before));
                 }
-                Ok(Adoption::Taken)
+                Ok(AddedChild::Taken)
             }
         }
     }
 
     /// Takes a child's name from the node at the path, if any, and gives it back its numbers.
-    pub fn disown(&mut self, path: &str, name: &str, before: StatPersisted)
-        ensures { self.new ≡ update_node self.old path.now (orphaning name.now before) }
+    pub fn undo_add_child(&mut self, path: &str, name: &str, before: StatPersisted)
+        ensures { self.new ≡ update_node self.old path.now (without_added_child name.now before) }
     {
         match self.get_mut(path) {
             None => return,
@@ -160,50 +163,50 @@ impl NodeMap {
     }
 
     /// Takes the name of a deleted child from the node at the path, and says whether there is such a node.
-    pub fn bereave(&mut self, path: &str, name: &str, header: &TxnHeader) -> bool
-        ensures state { self.new ≡ update_node self.old path.now (bereaved name.now header.now.zxid) }
+    pub fn remove_child(&mut self, path: &str, name: &str, header: &TxnHeader) -> bool
+        ensures state { self.new ≡ update_node self.old path.now (without_child name.now header.now.zxid) }
         ensures found { result ≡ is_some (finmap.get self.old path.now) }
     {
         match self.get_mut(path) {
             None => return false,
             Some(node) => {
                 node.children.remove(name);
-                node.stat = bereft(node.stat, header);
+                node.stat = stat_after_delete(node.stat, header);
                 true
             }
         }
     }
 
     /// Replaces the bytes of the node at the path, and says whether there is such a node.
-    pub fn write(
+    pub fn set_data(
         &mut self,
         path: &str,
         header: &TxnHeader,
         body: &SetData,
     ) -> Result<bool, NoMemory>
-        ensures state { OnOk result (self.new ≡ update_node self.old path.now (rewritten header.now body.now)) }
+        ensures state { OnOk result (self.new ≡ update_node self.old path.now (with_data header.now body.now)) }
         ensures found { IfOk result (λ found. found ≡ is_some (finmap.get self.old path.now)) }
         ensures err { OnErr result (self.new ≡ self.old) }
     {
         match self.get_mut(path) {
             None => return Ok(false),
             Some(node) => {
-                node.write(header, body)?;
+                node.set_data(header, body)?;
                 Ok(true)
             }
         }
     }
 
     /// Replaces the access control list of the node at the path, and says whether there is such a node.
-    pub fn grant(&mut self, alloc: Global, path: &str, body: &SetAcl) -> Result<bool, NoMemory>
-        ensures state { OnOk result (self.new ≡ update_node self.old path.now (regranted body.now)) }
+    pub fn set_acl(&mut self, alloc: Global, path: &str, body: &SetAcl) -> Result<bool, NoMemory>
+        ensures state { OnOk result (self.new ≡ update_node self.old path.now (with_acl body.now)) }
         ensures found { IfOk result (λ found. found ≡ is_some (finmap.get self.old path.now)) }
         ensures err { OnErr result (self.new ≡ self.old) }
     {
         match self.get_mut(path) {
             None => return Ok(false),
             Some(node) => {
-                node.grant(alloc, body)?;
+                node.set_acl(alloc, body)?;
                 Ok(true)
             }
         }

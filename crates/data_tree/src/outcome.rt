@@ -22,7 +22,7 @@ pub enum Trigger {
 #[derive(Debug, Drop)]
 pub struct Outcome {
     /// 0, or the number of the first error.
-    pub error: i32,
+    pub err: i32,
     /// The error of each part of a multi, in order; no other transaction has parts.
     pub parts: Listed<i32>,
     /// What watchers are told, in order.

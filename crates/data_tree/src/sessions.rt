@@ -17,7 +17,7 @@ pub struct Timeouts {
 impl Model for Timeouts {
     ghost use Rattle.std.specs.Coded.{coded_ℤ};
     ghost use Rattle.std.specs.FinMap as finmap;
-    ghost use Rattle.data_tree.specs.SessionsView.{Sessions};
+    ghost use Rattle.data_tree.specs.Sessions.{Sessions};
 
     ghost Value = { Sessions };
 

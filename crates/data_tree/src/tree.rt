@@ -3,17 +3,17 @@
 ghost use Rattle.std.specs.Prelude.{◌≡◌, ◌++◌, ◌↔◌, OnOk, OnErr, IfOk, IsTrue};
 ghost use Rattle.std.specs.Option.{option_copied, option_map};
 ghost use Rattle.std.specs.FinMap as finmap;
-ghost use Rattle.data_tree.specs.Updates.{settled};
-ghost use Rattle.data_tree.specs.Making.{nothing, with_session, with_node, has_place};
+ghost use Rattle.data_tree.specs.Making.{with_placed_node};
+ghost use Rattle.data_tree.specs.Making.{empty_state, with_session, with_node, has_place};
 ghost use Rattle.data_tree.specs.Whole.{IsWhole};
 ghost use Rattle.data_tree.specs.Meaning.{of_operation, of_set_acl, of_create_session, of_close_session, of_parts, of_multi, deletes, has_error, mean, answer_of, fresh};
-ghost use Rattle.data_tree.specs.Multi.{IsAfterFront};
+ghost use Rattle.data_tree.specs.Refused.{IsAfterFront};
 ghost use Rattle.data_tree.specs.Refused.{IsPartly, IsLeftBy};
 ghost use Rattle.data_tree.specs.Stats.{shown, children_of};
 ghost use Rattle.ephemerals.specs.Orders.{in_order};
 
-use crate::adoption::Adoption;
-use crate::multi::{fail, first_error, has_error};
+use crate::added_child::AddedChild;
+use crate::multi::{failed_outcome, first_error, has_error};
 use crate::node::Node;
 use crate::node_map::NodeMap;
 use crate::outcome::{Outcome, Trigger, fire_created, fire_data_changed, fire_deleted};
@@ -58,15 +58,15 @@ impl Tree {
         let mut nodes = NodeMap::new(alloc);
         nodes.insert(
             String::from_str(alloc, "/")?,
-            Node::over(alloc, "zookeeper")?,
+            Node::with_child(alloc, "zookeeper")?,
         )?;
         nodes.insert(
             String::from_str(alloc, "/zookeeper")?,
-            Node::over(alloc, "quota")?,
+            Node::with_child(alloc, "quota")?,
         )?;
         nodes.insert(
             String::from_str(alloc, "/zookeeper/quota")?,
-            Node::bare(alloc)?,
+            Node::childless(alloc)?,
         )?;
         Ok(Tree {
             nodes,
@@ -77,7 +77,7 @@ impl Tree {
 
     /// A tree without a node and without a session, which takes no memory: where a tree that is read from an image begins.
     pub fn empty(alloc: Global) -> Tree
-        ensures { result ≡ nothing }
+        ensures { result ≡ empty_state }
     {
         Tree {
             nodes: NodeMap::new(alloc),
@@ -123,12 +123,12 @@ impl Tree {
         ensures err { OnErr result (self.new ≡ self.old) }
     {
         let name = String::from_str(alloc, path.name())?;
-        let listed = self.nodes.list(path.parent(), name)?;
-        match self.settle(alloc, path.as_str(), node) {
+        let listed = self.nodes.add_name(path.parent(), name)?;
+        match self.place_node(alloc, path.as_str(), node) {
             Ok(()) => Ok(()),
             Err(error) => {
                 if listed {
-                    self.nodes.unlist(path.parent(), path.name());
+                    self.nodes.remove_name(path.parent(), path.name());
                     return Err(error);
                 }
                 Err(error)
@@ -137,8 +137,8 @@ impl Tree {
     }
 
     // Puts a node and its owner's pair, or leaves all as it was.
-    fn settle(&mut self, alloc: Global, path: &str, node: Node) -> Result<(), NoMemory>
-        ensures ok { OnOk result (self.new ≡ settled self.old path.now node) }
+    fn place_node(&mut self, alloc: Global, path: &str, node: Node) -> Result<(), NoMemory>
+        ensures ok { OnOk result (self.new ≡ with_placed_node self.old path.now node) }
         ensures err { OnErr result (self.new ≡ self.old) }
     {
         let owner = node.stat.ephemeral_owner;
@@ -164,7 +164,7 @@ impl Tree {
         triggers: &mut Vec<Trigger>,
     ) -> Result<i32, NoMemory>
         ensures state { OnOk result (self.new ≡ (of_operation header.now (Operation.Create create.now) self.old).state) }
-        ensures error { IfOk result (λ error. error ≡ (of_operation header.now (Operation.Create create.now) self.old).error) }
+        ensures error { IfOk result (λ err. err ≡ (of_operation header.now (Operation.Create create.now) self.old).err) }
         ensures fired { OnOk result (triggers.new.items ≡ triggers.old.items ++ (of_operation header.now (Operation.Create create.now) self.old).triggers) }
         ensures err { OnErr result (self.new ≡ self.old) }
     {
@@ -173,19 +173,19 @@ impl Tree {
         fire_created(triggers, alloc, create.path.as_str(), parent)?;
         let node = Node::created(alloc, header, create)?;
         let name = String::from_str(alloc, create.path.name())?;
-        match self.nodes.adopt(parent, name, header, create)? {
-            Adoption::NoParent => {
+        match self.nodes.add_child(parent, name, header, create)? {
+            AddedChild::NoParent => {
                 triggers.truncate(before);
                 Ok(NO_NODE)
             }
-            Adoption::Taken => {
+            AddedChild::Taken => {
                 triggers.truncate(before);
                 Ok(NODE_EXISTS)
             }
-            Adoption::Adopted(stat) => match self.settle(alloc, create.path.as_str(), node) {
+            AddedChild::Added(stat) => match self.place_node(alloc, create.path.as_str(), node) {
                 Ok(()) => Ok(0),
                 Err(error) => {
-                    self.nodes.disown(parent, create.path.name(), stat);
+                    self.nodes.undo_add_child(parent, create.path.name(), stat);
                     Err(error)
                 }
             },
@@ -200,7 +200,7 @@ impl Tree {
         triggers: &mut Vec<Trigger>,
     ) -> Result<i32, NoMemory>
         ensures state { OnOk result (self.new ≡ (of_operation header.now (Operation.Delete path.now) self.old).state) }
-        ensures error { IfOk result (λ error. error ≡ (of_operation header.now (Operation.Delete path.now) self.old).error) }
+        ensures error { IfOk result (λ err. err ≡ (of_operation header.now (Operation.Delete path.now) self.old).err) }
         ensures fired { OnOk result (triggers.new.items ≡ triggers.old.items ++ (of_operation header.now (Operation.Delete path.now) self.old).triggers) }
         ensures err { OnErr result (self.new ≡ self.old) }
     {
@@ -210,7 +210,7 @@ impl Tree {
             triggers.truncate(before);
             return Ok(NO_NODE);
         };
-        if !self.nodes.bereave(parent_of(path), name_of(path), header) {
+        if !self.nodes.remove_child(parent_of(path), name_of(path), header) {
             triggers.truncate(before);
             return Ok(NO_NODE);
         }
@@ -226,13 +226,13 @@ impl Tree {
         triggers: &mut Vec<Trigger>,
     ) -> Result<i32, NoMemory>
         ensures state { OnOk result (self.new ≡ (of_operation header.now (Operation.SetData body.now) self.old).state) }
-        ensures error { IfOk result (λ error. error ≡ (of_operation header.now (Operation.SetData body.now) self.old).error) }
+        ensures error { IfOk result (λ err. err ≡ (of_operation header.now (Operation.SetData body.now) self.old).err) }
         ensures fired { OnOk result (triggers.new.items ≡ triggers.old.items ++ (of_operation header.now (Operation.SetData body.now) self.old).triggers) }
         ensures err { OnErr result (self.new ≡ self.old) }
     {
         let before = triggers.len();
         fire_data_changed(triggers, alloc, body.path.as_str())?;
-        if !self.nodes.write(body.path.as_str(), header, body)? {
+        if !self.nodes.set_data(body.path.as_str(), header, body)? {
             triggers.truncate(before);
             return Ok(NO_NODE);
         }
@@ -241,10 +241,10 @@ impl Tree {
 
     fn set_acl(&mut self, alloc: Global, body: &SetAcl) -> Result<i32, NoMemory>
         ensures state { OnOk result (self.new ≡ (of_set_acl body.now self.old).state) }
-        ensures error { IfOk result (λ error. error ≡ (of_set_acl body.now self.old).error) }
+        ensures error { IfOk result (λ err. err ≡ (of_set_acl body.now self.old).err) }
         ensures err { OnErr result (self.new ≡ self.old) }
     {
-        if !self.nodes.grant(alloc, body.path.as_str(), body)? {
+        if !self.nodes.set_acl(alloc, body.path.as_str(), body)? {
             return Ok(NO_NODE);
         }
         Ok(0)
@@ -266,7 +266,7 @@ impl Tree {
         triggers: &mut Vec<Trigger>,
     ) -> Result<i32, NoMemory>
         ensures state { OnOk result (self.new ≡ (of_operation header.now operation.now self.old).state) }
-        ensures error { IfOk result (λ error. error ≡ (of_operation header.now operation.now self.old).error) }
+        ensures error { IfOk result (λ err. err ≡ (of_operation header.now operation.now self.old).err) }
         ensures fired { OnOk result (triggers.new.items ≡ triggers.old.items ++ (of_operation header.now operation.now self.old).triggers) }
         ensures err { OnErr result (self.new ≡ self.old) }
     {
@@ -297,7 +297,7 @@ impl Tree {
             errors.push(error)?;
         }
         Ok(Outcome {
-            error: first_error(errors.as_slice()),
+            err: first_error(errors.as_slice()),
             parts: Listed::from_vec(errors),
             triggers: Listed::from_vec(triggers),
         })
@@ -343,7 +343,7 @@ impl Tree {
         ensures err { OnErr result (IsLeftBy txn.now.header txn.now.body self.old self.new) }
     {
         let mut triggers = Vec::new(alloc);
-        let error = match &txn.body {
+        let err = match &txn.body {
             Body::Single(operation) => self.operate(alloc, &txn.header, operation, &mut triggers)?,
             Body::SetAcl(body) => self.set_acl(alloc, body)?,
             Body::Multi(parts) => return self.apply_multi(alloc, &txn.header, parts.as_slice()),
@@ -357,7 +357,7 @@ impl Tree {
             }
         };
         Ok(Outcome {
-            error,
+            err,
             parts: Listed::from_vec(Vec::new(alloc)),
             triggers: Listed::from_vec(triggers),
         })
@@ -374,7 +374,7 @@ impl Tree {
         ensures err { OnErr result (IsPartly (has_error parts.now) header.now parts.now self.old self.new) }
     {
         if has_error(parts) {
-            return fail(alloc, parts);
+            return failed_outcome(alloc, parts);
         }
         self.operate_all(alloc, header, parts)
     }

@@ -8,10 +8,12 @@ use Rattle.std.proofs.lemmas.Map.Views.{tells_apart}
 use Rattle.std.proofs.lemmas.Map.Lookups.{exact_bytes, exact_signed}
 use Rattle.std.specs.FinSet as set
 use Rattle.ephemerals.specs.Orders.{Bytes, path_cmp, pair_cmp, Pairs}
-use Rattle.ephemerals.specs.Pairs.{owned_by, without_session}
+use Rattle.ephemerals.specs.Pairs.{paths_of, without_session}
 use Rattle.ephemerals.proofs.Totals.{path_total, pair_total, pair_exact}
 use Rattle.ephemerals.proofs.SetSteps.{insert-present}
-use Rattle.ephemerals.proofs.PairSets.{and_false, tied_then, same_session, contains-owned, contains-without}
+use Rattle.std.proofs.Math.Bool.{and-false}
+use Rattle.ephemerals.proofs.Ties.{tied_then, same_session}
+use Rattle.ephemerals.proofs.SessionPaths.{contains-owned, contains-without}
 
 -- whether a pair of the session k is the pair p
 tied-mine : (k : ℤ) (p : ℤ × Bytes) (q : Bytes) → eq_by_cmp pair_cmp (k, q) p ≡ (int_eq p.0 k && eq_by_cmp path_cmp q p.1)
@@ -22,22 +24,22 @@ tied-session : (k : ℤ) (p q : ℤ × Bytes) → eq_by_cmp pair_cmp q p ≡ tru
 tied-session k p q e = ap (λ (r : ℤ × Bytes). int_eq r.0 k) (tells_apart pair_exact q p e)
 
 contains-owned-insert : (k : ℤ) (pairs : Pairs) (p : ℤ × Bytes) (q : Bytes)
-    → set.contains (owned_by k (set.insert pairs p)) q ≡ ((int_eq p.0 k && eq_by_cmp path_cmp q p.1) || set.contains (owned_by k pairs) q)
+    → set.contains (paths_of k (set.insert pairs p)) q ≡ ((int_eq p.0 k && eq_by_cmp path_cmp q p.1) || set.contains (paths_of k pairs) q)
 contains-owned-insert k pairs p q =
     contains-owned k (set.insert pairs p) q
     ∙ set.contains-insert pair_total pairs p (k, q)
     ∙ (λ i. tied-mine k p q i || sym (contains-owned k pairs q) i)
 
-owned-insert-mine : (k : ℤ) (pairs : Pairs) (p : ℤ × Bytes) → int_eq p.0 k ≡ true → owned_by k (set.insert pairs p) ≡ set.insert (owned_by k pairs) p.1
+owned-insert-mine : (k : ℤ) (pairs : Pairs) (p : ℤ × Bytes) → int_eq p.0 k ≡ true → paths_of k (set.insert pairs p) ≡ set.insert (paths_of k pairs) p.1
 owned-insert-mine k pairs p mine = set.same_set path_total exact_bytes _ _ (λ q.
     contains-owned-insert k pairs p q
-    ∙ ap (λ b. (b && eq_by_cmp path_cmp q p.1) || set.contains (owned_by k pairs) q) mine
-    ∙ sym (set.contains-insert path_total (owned_by k pairs) p.1 q))
+    ∙ ap (λ b. (b && eq_by_cmp path_cmp q p.1) || set.contains (paths_of k pairs) q) mine
+    ∙ sym (set.contains-insert path_total (paths_of k pairs) p.1 q))
 
-owned-insert-other : (k : ℤ) (pairs : Pairs) (p : ℤ × Bytes) → int_eq p.0 k ≡ false → owned_by k (set.insert pairs p) ≡ owned_by k pairs
+owned-insert-other : (k : ℤ) (pairs : Pairs) (p : ℤ × Bytes) → int_eq p.0 k ≡ false → paths_of k (set.insert pairs p) ≡ paths_of k pairs
 owned-insert-other k pairs p other = set.same_set path_total exact_bytes _ _ (λ q.
     contains-owned-insert k pairs p q
-    ∙ ap (λ b. (b && eq_by_cmp path_cmp q p.1) || set.contains (owned_by k pairs) q) other)
+    ∙ ap (λ b. (b && eq_by_cmp path_cmp q p.1) || set.contains (paths_of k pairs) q) other)
 
 contains-without-insert : (k : ℤ) (pairs : Pairs) (p q : ℤ × Bytes)
     → set.contains (without_session k (set.insert pairs p)) q ≡ ((eq_by_cmp pair_cmp q p || set.contains pairs q) && not (int_eq q.0 k))
@@ -50,7 +52,7 @@ without-insert-mine k pairs p mine = set.same_set pair_total pair_exact _ _ (λ 
     ∙ sym (contains-without k pairs q))
   where
     by : (a b m : Bool) → (a ≡ true → m ≡ true) → ((a || b) && not m) ≡ (b && not m)
-    by true b m h = ap not (h refl) ∙ sym (ap (λ x. b && not x) (h refl) ∙ and_false b)
+    by true b m h = ap not (h refl) ∙ sym (ap (λ x. b && not x) (h refl) ∙ and-false b)
     by false b m h = refl
 
 without-insert-other : (k : ℤ) (pairs : Pairs) (p : ℤ × Bytes) → int_eq p.0 k ≡ false → without_session k (set.insert pairs p) ≡ set.insert (without_session k pairs) p
@@ -69,7 +71,7 @@ len-insert-new o s k new = set.len-insert o s k ∙ ap (λ b. cond b (set.len s)
 
 -- the session's pairs and the others are all pairs
 abbrev PartsAddUp : ℤ → Pairs → Type 0
-PartsAddUp k pairs = set.len (owned_by k pairs) + set.len (without_session k pairs) ≡ set.len pairs
+PartsAddUp k pairs = set.len (paths_of k pairs) + set.len (without_session k pairs) ≡ set.len pairs
 
 -- a new pair is the session's or another's
 parts-grow : (k : ℤ) (pairs : Pairs) (p : ℤ × Bytes) → set.contains pairs p ≡ false → PartsAddUp k pairs → PartsAddUp k (set.insert pairs p)
@@ -80,13 +82,13 @@ parts-grow k pairs p new sum = by (int_eq p.0 k) refl
 
     by : (b : Bool) → int_eq p.0 k ≡ b → PartsAddUp k (set.insert pairs p)
     by true mine =
-        let unseen : set.contains (owned_by k pairs) p.1 ≡ false = contains-owned k pairs p.1 ∙ (λ i. set.contains pairs (sym (tells_apart exact_signed p.0 k mine) i, p.1)) ∙ new in
-        let owned : set.len (owned_by k (set.insert pairs p)) ≡ set.len (owned_by k pairs) + 1 = ap set.len (owned-insert-mine k pairs p mine) ∙ len-insert-new path_total (owned_by k pairs) p.1 unseen in
+        let unseen : set.contains (paths_of k pairs) p.1 ≡ false = contains-owned k pairs p.1 ∙ (λ i. set.contains pairs (sym (tells_apart exact_signed p.0 k mine) i, p.1)) ∙ new in
+        let owned : set.len (paths_of k (set.insert pairs p)) ≡ set.len (paths_of k pairs) + 1 = ap set.len (owned-insert-mine k pairs p mine) ∙ len-insert-new path_total (paths_of k pairs) p.1 unseen in
         let rest : set.len (without_session k (set.insert pairs p)) ≡ set.len (without_session k pairs) = ap set.len (without-insert-mine k pairs p mine) in
         omega (arith, more, owned, rest, sum)
     by false other =
         let unseen : set.contains (without_session k pairs) p ≡ false = contains-without k pairs p ∙ ap (λ b. b && not (int_eq p.0 k)) new in
-        let owned : set.len (owned_by k (set.insert pairs p)) ≡ set.len (owned_by k pairs) = ap set.len (owned-insert-other k pairs p other) in
+        let owned : set.len (paths_of k (set.insert pairs p)) ≡ set.len (paths_of k pairs) = ap set.len (owned-insert-other k pairs p other) in
         let rest : set.len (without_session k (set.insert pairs p)) ≡ set.len (without_session k pairs) + 1 = ap set.len (without-insert-other k pairs p other) ∙ len-insert-new pair_total (without_session k pairs) p unseen in
         omega (arith, more, owned, rest, sum)
 
@@ -94,7 +96,7 @@ parts-grow k pairs p new sum = by (int_eq p.0 k) refl
 len-parts-listed : (k : ℤ) (ps : List (ℤ × Bytes)) → PartsAddUp k (set.from_list ps)
 len-parts-listed k [] = omega (arith, ap set.len owned ∙ set.len-empty path_cmp, ap set.len rest)
   where
-    owned : owned_by k (set.empty {R = pair_cmp}) ≡ set.empty
+    owned : paths_of k (set.empty {R = pair_cmp}) ≡ set.empty
     owned = set.same_set path_total exact_bytes _ _ (λ q. contains-owned k (set.empty {R = pair_cmp}) q ∙ set.contains-empty pair_cmp (k, q) ∙ sym (set.contains-empty path_cmp q))
 
     rest : without_session k (set.empty {R = pair_cmp}) ≡ set.empty
@@ -106,7 +108,7 @@ len-parts-listed k (p ∷ ps) = by (len-parts-listed k ps) (set.contains (set.fr
     by sum true here = subst (PartsAddUp k) (insert-present pair_total pair_exact (set.from_list ps) p here) sum
     by sum false new = parts-grow k (set.from_list ps) p new sum
 
-pub len-parts : (k : ℤ) (pairs : Pairs) → set.len (owned_by k pairs) + set.len (without_session k pairs) ≡ set.len pairs
+pub len-parts : (k : ℤ) (pairs : Pairs) → set.len (paths_of k pairs) + set.len (without_session k pairs) ≡ set.len pairs
 len-parts k pairs =
     let listed : set.from_list (set.items pairs) ≡ pairs = set.same_set pair_total pair_exact _ _ (λ q. set.contains-from_list pair_total (set.items pairs) q ∙ sym (set.contains-items pairs q)) in
     subst (PartsAddUp k) listed (len-parts-listed k (set.items pairs))
@@ -133,8 +135,8 @@ pub count-remove_none : (pairs new : Pairs) (p : ℤ × Bytes) (count : ℕ) →
 count-remove_none pairs new p count is made none = is ∙ sym (ap set.len made ∙ set.len-remove pair_total pairs p ∙ ap (λ b. cond b (set.len pairs - 1) (set.len pairs)) none)
 
 -- the pairs of a session less
-pub count-owned : (k : ℤ) (pairs : Pairs) (count owned : ℕ) → count ≡ set.len pairs → owned ≡ set.len (owned_by k pairs) → owned ≤ count
+pub count-owned : (k : ℤ) (pairs : Pairs) (count owned : ℕ) → count ≡ set.len pairs → owned ≡ set.len (paths_of k pairs) → owned ≤ count
 count-owned k pairs count owned is some = omega (arith, is, some, len-parts k pairs)
 
-pub count-without : (k : ℤ) (pairs new : Pairs) (count owned : ℕ) → count ≡ set.len pairs → owned ≡ set.len (owned_by k pairs) → new ≡ without_session k pairs → count - owned ≡ set.len new
+pub count-without : (k : ℤ) (pairs new : Pairs) (count owned : ℕ) → count ≡ set.len pairs → owned ≡ set.len (paths_of k pairs) → new ≡ without_session k pairs → count - owned ≡ set.len new
 count-without k pairs new count owned is some made = omega (arith, is, some, len-parts k pairs, ap set.len made)

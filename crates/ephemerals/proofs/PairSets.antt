@@ -1,6 +1,6 @@
 -- Sets of paths by session, read as a set of pairs.
 use Rattle.std.proofs.Common.{◌≡◌, ℤ, List, [], ◌∷◌, ◌++◌, Bool, true, false, cond, not, ◌||◌, ◌&&◌, Option, Some, None, IsSome, refl, sym, ap, subst, ◌∙◌, map, if◌then◌else◌, pos}
-use mathlib.Core.Bool.{true≢false}
+use Rattle.std.proofs.Math.Bool.{and-false, or-false}
 use Rattle.std.specs.BTreeMap as tree
 use Rattle.std.specs.BTreeMap.{BTreeMap, is_at}
 use Rattle.std.specs.Map.{lookup, keys_of}
@@ -17,26 +17,15 @@ use Rattle.std.proofs.lemmas.Map.Entries.{none_past_head}
 use Rattle.std.proofs.lemmas.Map.Keys.{IsDistinct-from_sorted}
 use Rattle.std.specs.FinSet as set
 use Rattle.ephemerals.specs.Orders.{Bytes, path_cmp, pair_cmp, Names, Pairs}
-use Rattle.ephemerals.specs.Pairs.{owned_too, disowned, replaced, owned_by, without_session}
-use Rattle.ephemerals.specs.PairsView.{all_pairs, pairs_of}
+use Rattle.ephemerals.specs.Pairs.{paths_of, without_session}
+use Rattle.ephemerals.specs.Inner.PairsView.{all_pairs, pairs_of}
 use Rattle.ephemerals.proofs.Totals.{path_total, pair_total, pair_exact}
-
-pub tied_then : (a b : Ordering) → is_eq (ordering_then a b) ≡ (is_eq a && is_eq b)
-tied_then Less b = refl
-tied_then Equal b = refl
-tied_then Greater b = refl
+use Rattle.ephemerals.proofs.Ties.{tied_then, same_session}
+use Rattle.ephemerals.proofs.SessionPaths.{contains-owned, contains-without}
 
 and_or : (a b c : Bool) → ((a && b) || (a && c)) ≡ (a && (b || c))
 and_or true b c = refl
 and_or false b c = refl
-
-pub and_false : (a : Bool) → (a && false) ≡ false
-and_false true = refl
-and_false false = refl
-
-or_false : (a : Bool) → (a || false) ≡ a
-or_false true = refl
-or_false false = refl
 
 any-append : (test : ℤ × Bytes → Bool) (xs ys : List (ℤ × Bytes)) → list_any test (xs ++ ys) ≡ (list_any test xs || list_any test ys)
 any-append test [] ys = refl
@@ -47,7 +36,7 @@ any-append test (x ∷ xs) ys = ap (λ b. test x || b) (any-append test xs ys) �
     or_assoc false b c = refl
 
 any-one : (v k : ℤ) (p : Bytes) (qs : List Bytes) → list_any (eq_by_cmp pair_cmp (v, p)) (map (λ (q : Bytes). (k, q)) qs) ≡ (eq_by_cmp int_cmp v k && list_any (eq_by_cmp path_cmp p) qs)
-any-one v k p [] = sym (and_false (eq_by_cmp int_cmp v k))
+any-one v k p [] = sym (and-false (eq_by_cmp int_cmp v k))
 any-one v k p (q ∷ qs) =
     (λ i. tied_then (int_cmp v k) (path_cmp p q) i || any-one v k p qs i)
     ∙ and_or (eq_by_cmp int_cmp v k) (eq_by_cmp path_cmp p q) (list_any (eq_by_cmp path_cmp p) qs)
@@ -81,7 +70,7 @@ holds-lookup (e ∷ es) v p distinct = by (holds-lookup es v p distinct.1) (eq_b
     by : holds es v p ≡ listed (lookup (is_at (int_cmp v)) es) p → (b : Bool) → eq_by_cmp int_cmp v e.0 ≡ b → ((eq_by_cmp int_cmp v e.0 && set.contains e.1 p) || holds es v p) ≡ listed (cond (eq_by_cmp int_cmp v e.0) (Some e.1) (lookup (is_at (int_cmp v)) es)) p
     by rest true t =
         (λ i. (t i && set.contains e.1 p) || holds-none es v p (none_past_head (eq_by_cmp_equiv int_cmp_total) v e es distinct t) i)
-        ∙ or_false (set.contains e.1 p)
+        ∙ or-false (set.contains e.1 p)
         ∙ ap (λ b. listed (cond b (Some e.1) (lookup (is_at (int_cmp v)) es)) p) (sym t)
     by rest false t =
         ap (λ b. (b && set.contains e.1 p) || holds es v p) t
@@ -105,64 +94,62 @@ contains-updated m n om on k w u v p =
     by true = refl
     by false = refl
 
--- the pairs after the session k gets a set of paths with one more path
-pub pairs-insert : (m n : BTreeMap ℤ Names) → tree.IsOrdered int_cmp m → tree.IsOrdered int_cmp n → (k : ℤ) (q : Bytes) (old new : Names) → ((p : Bytes) → listed (tree.get int_cmp m k) p ≡ set.contains old p) → new ≡ set.insert old q
-    → tree.UpdatesBy int_cmp (int_cmp k) m n (Some new) → pairs_of n.entries ≡ set.insert (pairs_of m.entries) (k, q)
-pairs-insert m n om on k q old new was is u = set.same_set pair_total pair_exact _ _ (λ r. each r.0 r.1)
-  where
-    by : (v : ℤ) (p : Bytes) (b : Bool) → eq_by_cmp int_cmp v k ≡ b → set.contains (pairs_of m.entries) (k, p) ≡ set.contains old p → (b ≡ true → set.contains (pairs_of m.entries) (v, p) ≡ set.contains (pairs_of m.entries) (k, p)) →
-        cond b (set.contains new p) (set.contains (pairs_of m.entries) (v, p)) ≡ ((b && eq_by_cmp path_cmp p q) || set.contains (pairs_of m.entries) (v, p))
-    by v p true e here same = ap (λ s. set.contains s p) is ∙ set.contains-insert path_total old q p ∙ ap (λ b. eq_by_cmp path_cmp p q || b) (sym (same refl ∙ here))
-    by v p false e here same = refl
+-- The pairs after the session k gets a set of paths that differs at the path q alone. What a set has of a path is `change` of
+-- whether the path is q, and of what it had.
+module _ (m n : BTreeMap ℤ Names) (om : tree.IsOrdered int_cmp m) (on : tree.IsOrdered int_cmp n) (k : ℤ) (q : Bytes) (old new : Names)
+    (was : (p : Bytes) → listed (tree.get int_cmp m k) p ≡ set.contains old p) (u : tree.UpdatesBy int_cmp (int_cmp k) m n (Some new)) where
+  pairs-change : (change : Bool → Bool → Bool) → ((b : Bool) → change false b ≡ b) → ((p : Bytes) → set.contains new p ≡ change (eq_by_cmp path_cmp p q) (set.contains old p))
+      → (step : Pairs) → ((r : ℤ × Bytes) → set.contains step r ≡ change (eq_by_cmp pair_cmp r (k, q)) (set.contains (pairs_of m.entries) r)) → pairs_of n.entries ≡ step
+  pairs-change change elsewhere is step steps = set.same_set pair_total pair_exact _ _ (λ r. each r.0 r.1)
+    where
+      by : (v : ℤ) (p : Bytes) (b : Bool) → eq_by_cmp int_cmp v k ≡ b → set.contains (pairs_of m.entries) (k, p) ≡ set.contains old p
+          → (b ≡ true → set.contains (pairs_of m.entries) (v, p) ≡ set.contains (pairs_of m.entries) (k, p))
+          → cond b (set.contains new p) (set.contains (pairs_of m.entries) (v, p)) ≡ change (b && eq_by_cmp path_cmp p q) (set.contains (pairs_of m.entries) (v, p))
+      by v p true e here same = is p ∙ ap (change (eq_by_cmp path_cmp p q)) (sym (same refl ∙ here))
+      by v p false e here same = sym (elsewhere (set.contains (pairs_of m.entries) (v, p)))
 
-    each : (v : ℤ) (p : Bytes) → set.contains (pairs_of n.entries) (v, p) ≡ set.contains (set.insert (pairs_of m.entries) (k, q)) (v, p)
-    each v p =
-        contains-updated m n om on k (Some new) u v p
-        ∙ ap (λ b. cond b (set.contains new p) (set.contains (pairs_of m.entries) (v, p))) ((eq_by_cmp_equiv int_cmp_total).symm k v)
-        ∙ by v p (eq_by_cmp int_cmp v k) refl (contains-pairs m om k p ∙ was p)
-        (λ t. ap (λ x. set.contains (pairs_of m.entries) (x, p)) (tells_apart exact_signed v k t))
-        ∙ ap (λ b. b || set.contains (pairs_of m.entries) (v, p)) (sym (tied_then (int_cmp v k) (path_cmp p q)))
-        ∙ sym (set.contains-insert pair_total (pairs_of m.entries) (k, q) (v, p))
+      each : (v : ℤ) (p : Bytes) → set.contains (pairs_of n.entries) (v, p) ≡ set.contains step (v, p)
+      each v p =
+          contains-updated m n om on k (Some new) u v p
+          ∙ ap (λ b. cond b (set.contains new p) (set.contains (pairs_of m.entries) (v, p))) ((eq_by_cmp_equiv int_cmp_total).symm k v)
+          ∙ by v p (eq_by_cmp int_cmp v k) refl (contains-pairs m om k p ∙ was p)
+          (λ t. ap (λ x. set.contains (pairs_of m.entries) (x, p)) (tells_apart exact_signed v k t))
+          ∙ ap (λ b. change b (set.contains (pairs_of m.entries) (v, p))) (sym (tied_then (int_cmp v k) (path_cmp p q)))
+          ∙ sym (steps (v, p))
+
+  pairs-insert : new ≡ set.insert old q → pairs_of n.entries ≡ set.insert (pairs_of m.entries) (k, q)
+  pairs-insert is =
+      pairs-change (λ t b. t || b) (λ b. refl) (λ p. ap (λ s. set.contains s p) is ∙ set.contains-insert path_total old q p) _
+      (λ r. set.contains-insert pair_total (pairs_of m.entries) (k, q) r)
+
+  pairs-remove : new ≡ set.remove old q → pairs_of n.entries ≡ set.remove (pairs_of m.entries) (k, q)
+  pairs-remove is =
+      pairs-change (λ t b. not t && b) (λ b. refl) (λ p. ap (λ s. set.contains s p) is ∙ set.contains-remove path_total old q p) _
+      (λ r. set.contains-remove pair_total (pairs_of m.entries) (k, q) r)
 
 -- as it is written through what `get_mut` lent for the session
 pub pairs-insert_through : (m n : BTreeMap ℤ Names) → tree.IsOrdered int_cmp m → tree.IsOrdered int_cmp n → (k : ℤ) (q : Bytes) (old new : Names) → Some old ≡ tree.get int_cmp m k → new ≡ set.insert old q
     → (IsSome (tree.get int_cmp m k) → tree.UpdatesBy int_cmp (int_cmp k) m n (Some new)) → pairs_of n.entries ≡ set.insert (pairs_of m.entries) (k, q)
-pairs-insert_through m n om on k q old new found is updates = pairs-insert m n om on k q old new (λ p. ap (λ o. listed o p) (sym found)) is (updates (subst IsSome found refl))
+pairs-insert_through m n om on k q old new found is updates =
+    pairs-insert m n om on k q old new (λ p. ap (λ o. listed o p) (sym found)) (updates (subst IsSome found refl)) is
 
 -- as the session's first path
 pub pairs-insert_first : (m n : BTreeMap ℤ Names) → tree.IsOrdered int_cmp m → tree.IsOrdered int_cmp n → (k : ℤ) (q : Bytes) (old new : Names) → tree.get int_cmp m k ≡ None → old ≡ set.empty → new ≡ set.insert old q
     → tree.UpdatesBy int_cmp (int_cmp k) m n (Some new) → pairs_of n.entries ≡ set.insert (pairs_of m.entries) (k, q)
 pairs-insert_first m n om on k q old new none empty is updates =
-    pairs-insert m n om on k q old new (λ p. ap (λ o. listed o p) none ∙ sym (set.contains-empty path_cmp p) ∙ ap (λ s. set.contains s p) (sym empty)) is updates
-
-pub pairs-remove : (m n : BTreeMap ℤ Names) → tree.IsOrdered int_cmp m → tree.IsOrdered int_cmp n → (k : ℤ) (q : Bytes) (old new : Names) → ((p : Bytes) → listed (tree.get int_cmp m k) p ≡ set.contains old p) → new ≡ set.remove old q
-    → tree.UpdatesBy int_cmp (int_cmp k) m n (Some new) → pairs_of n.entries ≡ set.remove (pairs_of m.entries) (k, q)
-pairs-remove m n om on k q old new was is u = set.same_set pair_total pair_exact _ _ (λ r. each r.0 r.1)
-  where
-    by : (v : ℤ) (p : Bytes) (b : Bool) → eq_by_cmp int_cmp v k ≡ b → set.contains (pairs_of m.entries) (k, p) ≡ set.contains old p → (b ≡ true → set.contains (pairs_of m.entries) (v, p) ≡ set.contains (pairs_of m.entries) (k, p)) →
-        cond b (set.contains new p) (set.contains (pairs_of m.entries) (v, p)) ≡ (not (b && eq_by_cmp path_cmp p q) && set.contains (pairs_of m.entries) (v, p))
-    by v p true e here same = ap (λ s. set.contains s p) is ∙ set.contains-remove path_total old q p ∙ ap (λ b. not (eq_by_cmp path_cmp p q) && b) (sym (same refl ∙ here))
-    by v p false e here same = refl
-
-    each : (v : ℤ) (p : Bytes) → set.contains (pairs_of n.entries) (v, p) ≡ set.contains (set.remove (pairs_of m.entries) (k, q)) (v, p)
-    each v p =
-        contains-updated m n om on k (Some new) u v p
-        ∙ ap (λ b. cond b (set.contains new p) (set.contains (pairs_of m.entries) (v, p))) ((eq_by_cmp_equiv int_cmp_total).symm k v)
-        ∙ by v p (eq_by_cmp int_cmp v k) refl (contains-pairs m om k p ∙ was p)
-        (λ t. ap (λ x. set.contains (pairs_of m.entries) (x, p)) (tells_apart exact_signed v k t))
-        ∙ ap (λ b. not b && set.contains (pairs_of m.entries) (v, p)) (sym (tied_then (int_cmp v k) (path_cmp p q)))
-        ∙ sym (set.contains-remove pair_total (pairs_of m.entries) (k, q) (v, p))
+    pairs-insert m n om on k q old new (λ p. ap (λ o. listed o p) none ∙ sym (set.contains-empty path_cmp p) ∙ ap (λ s. set.contains s p) (sym empty)) updates is
 
 pub pairs-remove_through : (m n : BTreeMap ℤ Names) → tree.IsOrdered int_cmp m → tree.IsOrdered int_cmp n → (k : ℤ) (q : Bytes) (old new : Names) → Some old ≡ tree.get int_cmp m k → new ≡ set.remove old q
     → (IsSome (tree.get int_cmp m k) → tree.UpdatesBy int_cmp (int_cmp k) m n (Some new)) → pairs_of n.entries ≡ set.remove (pairs_of m.entries) (k, q)
-pairs-remove_through m n om on k q old new found is updates = pairs-remove m n om on k q old new (λ p. ap (λ o. listed o p) (sym found)) is (updates (subst IsSome found refl))
+pairs-remove_through m n om on k q old new found is updates =
+    pairs-remove m n om on k q old new (λ p. ap (λ o. listed o p) (sym found)) (updates (subst IsSome found refl)) is
 
 -- no path of a session that has none
 pub pairs-remove_none : (m : BTreeMap ℤ Names) → tree.IsOrdered int_cmp m → (k : ℤ) (q : Bytes) → tree.get int_cmp m k ≡ None → pairs_of m.entries ≡ set.remove (pairs_of m.entries) (k, q)
 pairs-remove_none m om k q none = set.same_set pair_total pair_exact _ _ (λ r. each r.0 r.1)
   where
     by : (a b c : Bool) → (a ≡ true → c ≡ false) → c ≡ (not (a && b) && c)
-    by true b c h = h refl ∙ sym (ap (λ x. not b && x) (h refl) ∙ and_false (not b))
+    by true b c h = h refl ∙ sym (ap (λ x. not b && x) (h refl) ∙ and-false (not b))
     by false b c h = refl
 
     each : (v : ℤ) (p : Bytes) → set.contains (pairs_of m.entries) (v, p) ≡ set.contains (set.remove (pairs_of m.entries) (k, q)) (v, p)
@@ -193,47 +180,12 @@ pairs-emptied m n om on k new e u p =
     ∙ ap (λ s. set.contains s p) e
     ∙ set.contains-empty path_cmp p
 
-pub not-false : (b : Bool) → not b ≡ false → b ≡ true
-not-false true e = refl
-not-false false e = sym e
-
-pub not-true : (b : Bool) → not b ≡ true → b ≡ false
-not-true true e = sym e
-not-true false e = refl
-
--- whether two sessions are equal, by their order
-pub same_session : (a b : ℤ) → int_eq a b ≡ eq_by_cmp int_cmp b a
-same_session a b = (eq_by_cmp_equiv int_cmp_total).symm a b
-
--- the paths of one session
-any-owned : (k : ℤ) (q : Bytes) (ps : List (ℤ × Bytes))
-    → list_any (eq_by_cmp path_cmp q) (map (λ (p : ℤ × Bytes). p.1) (filter (λ (p : ℤ × Bytes). int_eq p.0 k) ps)) ≡ list_any (eq_by_cmp pair_cmp (k, q)) ps
-any-owned k q [] = refl
-any-owned k q (p ∷ ps) = by (any-owned k q ps) (int_eq p.0 k) refl
-  where
-    by : list_any (eq_by_cmp path_cmp q) (map (λ (p : ℤ × Bytes). p.1) (filter (λ (p : ℤ × Bytes). int_eq p.0 k) ps)) ≡ list_any (eq_by_cmp pair_cmp (k, q)) ps
-        → (b : Bool) → int_eq p.0 k ≡ b
-        → list_any (eq_by_cmp path_cmp q) (map (λ (p : ℤ × Bytes). p.1) (cond b (p ∷ filter (λ (p : ℤ × Bytes). int_eq p.0 k) ps) (filter (λ (p : ℤ × Bytes). int_eq p.0 k) ps)))
-        ≡ list_any (eq_by_cmp pair_cmp (k, q)) (p ∷ ps)
-    by rest true e = (λ i. (sym (tied_then (int_cmp k p.0) (path_cmp q p.1) ∙ ap (λ b. b && eq_by_cmp path_cmp q p.1) (sym (same_session p.0 k) ∙ e)) i) || rest i)
-    by rest false e = rest ∙ ap (λ b. b || list_any (eq_by_cmp pair_cmp (k, q)) ps) (sym (tied_then (int_cmp k p.0) (path_cmp q p.1) ∙ ap (λ b. b && eq_by_cmp path_cmp q p.1) (sym (same_session p.0 k) ∙ e)))
-
-pub contains-owned : (k : ℤ) (pairs : Pairs) (q : Bytes) → set.contains (owned_by k pairs) q ≡ set.contains pairs (k, q)
-contains-owned k pairs q =
-    set.contains-from_list path_total (map (λ (p : ℤ × Bytes). p.1) (filter (λ (p : ℤ × Bytes). int_eq p.0 k) (set.items pairs))) q
-    ∙ any-owned k q (set.items pairs)
-    ∙ sym (set.contains-items pairs (k, q))
-
 -- the set of a session is the paths that it owns
-pub owned-listed : (m : BTreeMap ℤ Names) → tree.IsOrdered int_cmp m → (k : ℤ) (found : Names) → ((p : Bytes) → listed (tree.get int_cmp m k) p ≡ set.contains found p) → found ≡ owned_by k (pairs_of m.entries)
+pub owned-listed : (m : BTreeMap ℤ Names) → tree.IsOrdered int_cmp m → (k : ℤ) (found : Names) → ((p : Bytes) → listed (tree.get int_cmp m k) p ≡ set.contains found p) → found ≡ paths_of k (pairs_of m.entries)
 owned-listed m om k found is = set.same_set path_total exact_bytes _ _ (λ q. sym (is q) ∙ sym (contains-pairs m om k q) ∙ sym (contains-owned k (pairs_of m.entries) q))
 
-pub owned-none : (m : BTreeMap ℤ Names) → tree.IsOrdered int_cmp m → (k : ℤ) → tree.get int_cmp m k ≡ None → owned_by k (pairs_of m.entries) ≡ set.empty
+pub owned-none : (m : BTreeMap ℤ Names) → tree.IsOrdered int_cmp m → (k : ℤ) → tree.get int_cmp m k ≡ None → paths_of k (pairs_of m.entries) ≡ set.empty
 owned-none m om k none = set.same_set path_total exact_bytes _ _ (λ q. contains-owned k (pairs_of m.entries) q ∙ contains-pairs m om k q ∙ ap (λ o. listed o q) none ∙ sym (set.contains-empty path_cmp q))
-
--- the pairs of the other sessions
-pub contains-without : (k : ℤ) (pairs : Pairs) (q : ℤ × Bytes) → set.contains (without_session k pairs) q ≡ (set.contains pairs q && not (int_eq q.0 k))
-contains-without k pairs q = set.contains-retain pairs (λ (p : ℤ × Bytes). not (int_eq p.0 k)) q (λ x tie. ap (λ (p : ℤ × Bytes). not (int_eq p.0 k)) (sym (pair_exact q x tie)))
 
 -- all pairs of a session are taken out
 pub pairs-take : (m n : BTreeMap ℤ Names) → tree.IsOrdered int_cmp m → tree.IsOrdered int_cmp n → (k : ℤ) → tree.UpdatesBy int_cmp (int_cmp k) m n None
@@ -252,58 +204,3 @@ pairs-take m n om on k u = set.same_set pair_total pair_exact _ _ (λ r. each r.
         ∙ by (eq_by_cmp int_cmp k v) (set.contains (pairs_of m.entries) (v, p))
         ∙ ap (λ b. set.contains (pairs_of m.entries) (v, p) && not b) (sym (same_session v k))
         ∙ sym (contains-without k (pairs_of m.entries) (v, p))
-
--- the laws of one owner in place of another
-pub replaced-same : (pairs : Pairs) (k : ℤ) (p : Bytes) → owned_too pairs k p ≡ replaced pairs p k k
-replaced-same pairs k p = by (int_eq k (pos 0))
-  where
-    again : set.insert pairs (k, p) ≡ set.insert (set.remove pairs (k, p)) (k, p)
-    again = set.same_set pair_total pair_exact _ _ (λ q.
-        set.contains-insert pair_total pairs (k, p) q
-        ∙ or_not (eq_by_cmp pair_cmp q (k, p)) (set.contains pairs q)
-        ∙ ap (λ b. eq_by_cmp pair_cmp q (k, p) || b) (sym (set.contains-remove pair_total pairs (k, p) q))
-        ∙ sym (set.contains-insert pair_total (set.remove pairs (k, p)) (k, p) q))
-      where
-        or_not : (a b : Bool) → (a || b) ≡ (a || (not a && b))
-        or_not true b = refl
-        or_not false b = refl
-
-    by : (b : Bool) → (if b then pairs else set.insert pairs (k, p)) ≡ (if b then (if b then pairs else set.remove pairs (k, p)) else set.insert (if b then pairs else set.remove pairs (k, p)) (k, p))
-    by true = refl
-    by false = again
-
-pub replaced-apart : (pairs : Pairs) (old new : ℤ) (p : Bytes) → int_eq old new ≡ false → disowned (owned_too pairs new p) old p ≡ replaced pairs p old new
-replaced-apart pairs old new p apart = by (int_eq old (pos 0)) (int_eq new (pos 0))
-  where
-    swap : (t u b : Bool) → (t ≡ true → u ≡ true → ⊥) → (not t && (u || b)) ≡ (u || (not t && b))
-    swap true true b h = absurd (h refl refl)
-    swap true false b h = refl
-    swap false true b h = refl
-    swap false false b h = refl
-
-    clash : (q : ℤ × Bytes) → eq_by_cmp pair_cmp q (old, p) ≡ true → eq_by_cmp pair_cmp q (new, p) ≡ true → ⊥
-    clash q a b =
-        let one : (old, p) ≡ (new, p) = sym (tells_apart pair_exact q (old, p) a) ∙ tells_apart pair_exact q (new, p) b in
-        true≢false (sym (same_session old old ∙ ap is_eq (tied_itself int_cmp_total old)) ∙ ap (λ (r : ℤ × Bytes). int_eq old r.0) one ∙ apart)
-
-    both : set.remove (set.insert pairs (new, p)) (old, p) ≡ set.insert (set.remove pairs (old, p)) (new, p)
-    both = set.same_set pair_total pair_exact _ _ (λ q.
-        set.contains-remove pair_total (set.insert pairs (new, p)) (old, p) q
-        ∙ ap (λ b. not (eq_by_cmp pair_cmp q (old, p)) && b) (set.contains-insert pair_total pairs (new, p) q)
-        ∙ swap (eq_by_cmp pair_cmp q (old, p)) (eq_by_cmp pair_cmp q (new, p)) (set.contains pairs q) (clash q)
-        ∙ ap (λ b. eq_by_cmp pair_cmp q (new, p) || b) (sym (set.contains-remove pair_total pairs (old, p) q))
-        ∙ sym (set.contains-insert pair_total (set.remove pairs (old, p)) (new, p) q))
-
-    by : (a b : Bool) → (if a then (if b then pairs else set.insert pairs (new, p)) else set.remove (if b then pairs else set.insert pairs (new, p)) (old, p))
-        ≡ (if b then (if a then pairs else set.remove pairs (old, p)) else set.insert (if a then pairs else set.remove pairs (old, p)) (new, p))
-    by true true = refl
-    by true false = refl
-    by false true = refl
-    by false false = both
-
-pub apart_sessions : (a b : ℤ) → (a ≡ b → ⊥) → int_eq a b ≡ false
-apart_sessions a b apart = by (int_eq a b) refl
-  where
-    by : (t : Bool) → int_eq a b ≡ t → int_eq a b ≡ false
-    by true e = absurd (apart (tells_apart exact_signed a b e))
-    by false e = e

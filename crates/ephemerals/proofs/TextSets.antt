@@ -17,9 +17,9 @@ use Rattle.std.proofs.lemmas.Map.Text.{btree_set_updates_text}
 use Rattle.std.proofs.lemmas.Map.Lookups.{exact_bytes}
 use Rattle.std.specs.FinSet as set
 use Rattle.ephemerals.specs.Orders.{Bytes, path_cmp, in_order}
-use Rattle.ephemerals.specs.NamesView.{names_of}
+use Rattle.ephemerals.specs.Inner.NamesView.{names_of}
 use Rattle.ephemerals.proofs.Totals.{path_total}
-use Rattle.ephemerals.proofs.TextMaps.{query, same_test}
+use Rattle.ephemerals.proofs.TextKeys.{query, same_test}
 
 any-bytes : {Z : Type 0} (keys : List (String Z)) (q : Bytes) → list_any (eq_by_cmp path_cmp q) (map string_bytes keys) ≡ list_any (query q) keys
 any-bytes [] q = refl

@@ -1,4 +1,3 @@
 pub mod Orders
 pub mod Pairs
-pub mod NamesView
-pub mod PairsView
+pub mod Inner

@@ -1,9 +1,20 @@
-//! Which session owns which ephemeral node, and ordered sets of texts.
+//! Ordered sets of texts, and which session owns which path.
+//!
+//! A `TextSet` is a finite set of texts that is gone over in ascending bytes: a node's children, or a session's paths.
+//! `Ephemerals` is a finite set of pairs of a session and a path, kept as a `TextSet` for each session, so that the
+//! paths of a session that ends are taken out at once. Session 0 owns nothing: what would add or remove a pair of it does
+//! nothing.
+//!
+//! ```text
+//! let mut owners = Ephemerals::new(alloc);
+//! owners.add(alloc, 9, "/a")?;                // true: the pair is new
+//! owners.replace(alloc, "/a", 9, 7)?;         // from session 9 to session 7
+//! owners.of(9)                                // None
+//! owners.take_session(alloc, 7)               // the set of "/a"
+//! ```
 #![tactic(auto)]
 
 mod owners;
-#[cfg(test)]
-mod tests;
 mod text_set;
 
 pub use owners::Ephemerals;

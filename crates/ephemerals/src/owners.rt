@@ -1,9 +1,9 @@
 //! For each session the paths of its ephemeral nodes.
 
-ghost use Rattle.std.specs.Prelude.{◌≡◌, ◌&&◌, OnOk, OnErr, IfOk, IfSome, IfNone, IsTrue, not, false, pos, string_bytes, List, ℕ};
+ghost use Rattle.std.specs.Prelude.{◌≡◌, ◌≢◌, ◌&&◌, OnOk, OnErr, IfOk, IfSome, IfNone, IsTrue, not, false, pos, string_bytes, List, ℕ};
 ghost use Rattle.std.specs.Ordering.{int_eq};
 ghost use Rattle.std.specs.FinSet as set;
-ghost use Rattle.ephemerals.specs.Pairs.{owned_too, disowned, replaced, owned_by, without_session};
+ghost use Rattle.ephemerals.specs.Pairs.{with_pair, without_pair, with_other_owner, paths_of, without_session};
 
 use crate::text_set::TextSet;
 use std::alloc::{AllocError, Global};
@@ -24,7 +24,7 @@ impl Model for Ephemerals {
     ghost use Rattle.std.specs.Ordering.{int_cmp};
     ghost use Rattle.std.specs.BTreeMap.{IsOrdered};
     ghost use Rattle.ephemerals.specs.Orders.{Pairs};
-    ghost use Rattle.ephemerals.specs.PairsView.{pairs_of};
+    ghost use Rattle.ephemerals.specs.Inner.PairsView.{pairs_of};
     ghost use Rattle.std.specs.FinSet as set;
     ghost use Rattle.std.specs.Coded.{coded_ℕ, coded_list, coded_ℤ, coded×};
 
@@ -68,7 +68,9 @@ impl Ephemerals {
     // Adds the pair, and says whether it is new.
     fn insert(&mut self, alloc: Global, session: i64, path: String) -> Result<bool, NoMemory>
         ensures ok { OnOk result (self.new ≡ set.insert self.old (session, string_bytes path)) }
-        ensures added { IfOk result (λ added. added ≡ not (set.contains self.old (session, string_bytes path))) }
+        ensures added {
+            IfOk result (λ added. added ≡ not (set.contains self.old (session, string_bytes path)))
+        }
         ensures err { OnErr result (self.new ≡ self.old) }
     {
         // Each pair takes more than a byte of memory, so that memory ends before the numbers do.
@@ -91,18 +93,20 @@ impl Ephemerals {
         }
     }
 
-    // Takes the pair out, and says whether the session owns a path yet.
-    fn take(&mut self, session: i64, path: &str) -> bool
+    // Takes the pair out, and says whether the session has a set that is empty now.
+    fn remove_pair(&mut self, session: i64, path: &str) -> bool
         ensures removed { self.new ≡ set.remove self.old (session, path.now) }
-        ensures emptied { result ≡ false → (p : List ℕ) → set.contains self.new (session, p) ≡ false }
+        ensures emptied {
+            IsTrue result → (p : List ℕ) → set.contains self.new (session, p) ≡ false
+        }
     {
         match self.sets.get_mut(&session) {
-            None => return true,
+            None => return false,
             Some(paths) => {
                 if paths.remove(path) {
                     self.count -= 1;
                 }
-                !paths.is_empty()
+                paths.is_empty()
             }
         }
     }
@@ -117,8 +121,11 @@ impl Ephemerals {
 
     /// Makes the session own the path, and says whether it is new. Session 0 gains nothing.
     pub fn add(&mut self, alloc: Global, session: i64, path: &str) -> Result<bool, NoMemory>
-        ensures ok { OnOk result (self.new ≡ owned_too self.old session path.now) }
-        ensures added { IfOk result (λ added. added ≡ (not (int_eq session (pos 0)) && not (set.contains self.old (session, path.now)))) }
+        ensures ok { OnOk result (self.new ≡ with_pair self.old session path.now) }
+        ensures added {
+            let owns = set.contains self.old (session, path.now) in
+            IfOk result (λ added. added ≡ (not (int_eq session (pos 0)) && not owns))
+        }
         ensures err { OnErr result (self.new ≡ self.old) }
     {
         if session == 0 {
@@ -129,19 +136,19 @@ impl Ephemerals {
 
     /// Makes the session own the path no more. Session 0 loses nothing.
     pub fn remove(&mut self, session: i64, path: &str)
-        ensures { self.new ≡ disowned self.old session path.now }
+        ensures { self.new ≡ without_pair self.old session path.now }
     {
         if session == 0 {
             return;
         }
-        if !self.take(session, path) {
+        if self.remove_pair(session, path) {
             self.forget(session);
         }
     }
 
     /// The path goes from the old session to the new one. Session 0 loses and gains nothing.
     pub fn replace(&mut self, alloc: Global, path: &str, old: i64, new: i64) -> Result<(), NoMemory>
-        ensures ok { OnOk result (self.new ≡ replaced self.old path.now old new) }
+        ensures ok { OnOk result (self.new ≡ with_other_owner self.old path.now old new) }
         ensures err { OnErr result (self.new ≡ self.old) }
     {
         self.add(alloc, new, path)?;
@@ -154,18 +161,24 @@ impl Ephemerals {
 
     /// The paths of a session, in ascending bytes, if it owns one.
     pub fn of(&self, session: i64) -> Option<&TextSet>
-        ensures paths { IfSome result (λ paths. paths.now ≡ owned_by session self.now) }
-        ensures none { IfNone result (owned_by session self.now ≡ set.empty) }
+        ensures paths { IfSome result (λ paths. paths.now ≡ paths_of session self.now) }
+        ensures some { IfSome result (λ paths. paths.now ≢ set.empty) }
+        ensures none { IfNone result (paths_of session self.now ≡ set.empty) }
     {
         match self.sets.get(&session) {
             None => return None,
-            Some(paths) => Some(paths),
+            Some(paths) => {
+                if paths.is_empty() {
+                    return None;
+                }
+                Some(paths)
+            }
         }
     }
 
     /// Takes out all paths of a session, which takes no memory.
     pub fn take_session(&mut self, alloc: Global, session: i64) -> TextSet
-        ensures paths { result ≡ owned_by session self.old }
+        ensures paths { result ≡ paths_of session self.old }
         ensures rest { self.new ≡ without_session session self.old }
     {
         match self.sets.remove(&session) {

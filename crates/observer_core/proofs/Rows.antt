@@ -33,7 +33,7 @@ use Rattle.txn_codec.specs.declared.txn.Body.TheVariants as bodies
 use Rattle.txn_codec.specs.declared.txn.Txn.{Txn}
 use Rattle.txn_codec.specs.Spelling.{txn, whole}
 use Rattle.data_tree.specs.State.{State, Nodes}
-use Rattle.data_tree.specs.Meaning.{mean, fresh, first_node, open_acl, all_changed, create_new, create_taken, create_under, set_data_at, of_effect, new_node, rewritten}
+use Rattle.data_tree.specs.Meaning.{mean, fresh, first_node, open_acl, after_changes, create_new, create_taken, create_under, set_data_at, of_effect, new_node, with_data}
 use Rattle.data_tree.specs.Stats.{shown_stat, java_int, length_of}
 use Rattle.data_tree.specs.declared.node.Node.{Node}
 use Rattle.observer_core.specs.declared.answer.Answer.{Answer}
@@ -104,7 +104,7 @@ name_free : set.contains root.children (codes "a") ≡ false
 name_free = set.contains-insert nat_list_cmp_total set.empty (codes "zookeeper") (codes "a") ∙ set.contains-empty (slice_cmp nat_cmp) (codes "a")
 
 abbrev made : State
-made = all_changed fresh (create_new create_header create_body root).changes
+made = after_changes fresh (create_new create_header create_body root).changes
 
 made-is : (mean fresh create_txn).state ≡ made
 made-is =
@@ -118,13 +118,13 @@ node_there : finmap.get made.nodes (codes "/a") ≡ Some node
 node_there = simp (finmap.get-insert {X = Node} nat_list_cmp_total)
 
 abbrev written : State
-written = all_changed made (set_data_at set_header set_body (Some node)).changes
+written = after_changes made (set_data_at set_header set_body (Some node)).changes
 
 written-is : (mean made set_txn).state ≡ written
 written-is = ap (λ (o : Option Node). (of_effect (set_data_at set_header set_body o) made).state) node_there
 
 abbrev written_node : Node
-written_node = rewritten set_header set_body node
+written_node = with_data set_header set_body node
 
 written_there : finmap.get written.nodes (codes "/a") ≡ Some written_node
 written_there = simp (finmap.get-insert {X = Node} nat_list_cmp_total)

@@ -2,7 +2,7 @@ use Rattle.std.proofs.Common.{rules, ◌≡◌, pos, true, false, Global, string
 use Rattle.std.specs.Ordering.{int_eq}
 use Rattle.std.proofs.lemmas.Bool.{eqb-true, eq-eqb}
 use Rattle.std.specs.FinSet as set
-use Rattle.data_tree.proofs.Owned.{AreCounted, counted-first, unowned, one_more, not_owned, all_owned}
+use Rattle.data_tree.proofs.CountedOwners.{AreCounted, counted-first, unowned, one_more, not_owned, all_owned}
 use Rattle.data_tree.proofs.node_map.NodeMap.are_owned.Goals as goal
 
 pub loop-path-init : goal.loop-path-init

@@ -1,4 +1,4 @@
-use Rattle.data_tree.proofs.Owned.{AreCounted}
+use Rattle.data_tree.proofs.CountedOwners.{AreCounted}
 use Rattle.data_tree.proofs.node_map.NodeMap.are_owned.Given as goal
 
 abbrev pub invariant-loop-path : goal.invariant-loop-path

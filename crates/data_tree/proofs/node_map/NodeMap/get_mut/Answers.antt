@@ -1,6 +1,6 @@
 use Rattle.std.proofs.Common.{ap, sym, ◌∙◌, refl}
 use Rattle.std.specs.FinMap as finmap
-use Rattle.data_tree.specs.NodesView.{nodes_of}
+use Rattle.data_tree.specs.Inner.NodesView.{nodes_of}
 use Rattle.data_tree.proofs.TextMaps.{get-seen, seen-insert, on_some}
 use Rattle.data_tree.proofs.node_map.NodeMap.get_mut.Goals as goal
 

@@ -1,6 +1,7 @@
 use Rattle.std.proofs.Common.{◌≡◌, true, String, Global, string_bytes}
 use Rattle.txn_codec.specs.Paths.{child_of}
-use Rattle.data_tree.specs.Whole.{has_node, HasItsChildren}
+use Rattle.data_tree.specs.Whole.{has_node}
+use Rattle.data_tree.specs.Inner.Children.{HasItsChildren}
 use Rattle.data_tree.proofs.Deciding.{Decides}
 use Rattle.data_tree.proofs.node_map.NodeMap.has_all.Given as goal
 

@@ -2,9 +2,10 @@ use Rattle.std.proofs.Common.{◌≡◌, ap, sym, ◌∙◌, string_bytes}
 use Rattle.std.specs.FinMap as finmap
 use Rattle.txn_codec.specs.Paths.{parent_of, name_of}
 use Rattle.data_tree.specs.State.{State}
-use Rattle.data_tree.specs.Meaning.{all_changed, create_under}
-use Rattle.data_tree.specs.Updates.{update_node, adopting, adoption, orphaning}
-use Rattle.data_tree.proofs.Creates.{taken-is, undone_adoption}
+use Rattle.data_tree.specs.Meaning.{after_changes, create_under}
+use Rattle.data_tree.specs.Making.{update_node}
+use Rattle.data_tree.specs.Inner.Children.{with_added_child, added_child, without_added_child}
+use Rattle.data_tree.proofs.Creates.{taken-is, undone_child}
 use Rattle.data_tree.proofs.tree.Tree.create.Goals as goal
 
 pub returns-in-Taken-clause-state : goal.returns-in-Taken-clause-state
@@ -12,18 +13,18 @@ returns-in-Taken-clause-state c =
     let parent : c.parent-parent.result.now ≡ parent_of c.args.create.now.path = c.parent-parent.ensures in
     let name : string_bytes c.in_ok-name.name ≡ name_of c.args.create.now.path = c.in_ok-name.ensures.ok ∙ c.name.ensures in
     let before : State = record { nodes = c.self.inside.nodes; pairs = c.self.inside.ephemerals; sessions = c.self.inside.timeouts } in
-    taken-is before c.args.header.now c.args.create.now c.adopt.new.self
-    (sym c.in-Taken.is ∙ c.in_ok-adopt.ensures.outcome ∙ (λ i. adoption (finmap.get c.self.inside.nodes (parent i)) (name i)))
-    (c.in_ok-adopt.ensures.state ∙ (λ i. update_node c.self.inside.nodes (parent i) (adopting c.args.header.now c.args.create.now (name i))))
-    ∙ ap (λ (s : State). all_changed s (create_under c.args.header.now c.args.create.now (finmap.get s.nodes (parent_of c.args.create.now.path))).changes) c.self.view_is
+    taken-is before c.args.header.now c.args.create.now c.add_child.new.self
+    (sym c.in-Taken.is ∙ c.in_ok-add_child.ensures.outcome ∙ (λ i. added_child (finmap.get c.self.inside.nodes (parent i)) (name i)))
+    (c.in_ok-add_child.ensures.state ∙ (λ i. update_node c.self.inside.nodes (parent i) (with_added_child c.args.header.now c.args.create.now (name i))))
+    ∙ ap (λ (s : State). after_changes s (create_under c.args.header.now c.args.create.now (finmap.get s.nodes (parent_of c.args.create.now.path))).changes) c.self.view_is
 
 pub returns-in-Err-clause-err : goal.returns-in-Err-clause-err
 returns-in-Err-clause-err c =
     let name : string_bytes c.in_ok-name.name ≡ name_of c.args.create.now.path = c.in_ok-name.ensures.ok ∙ c.name.ensures in
-    let kept = c.self-in-Adopted.view_is ∙ c.in-Err.ensures.err in
-    let nodes : c.disown.new.self ≡ c.self.inside.nodes =
-    c.disown.ensures
-    ∙ (λ i. update_node ((ap (λ (s : State). s.nodes) kept ∙ c.in_ok-adopt.ensures.state) i) c.parent-parent.result.now (orphaning ((c.name-in-Err.ensures ∙ sym name) i) c.in-Adopted.stat))
-    ∙ undone_adoption c.self.inside.nodes c.parent-parent.result.now (string_bytes c.in_ok-name.name) c.args.header.now c.args.create.now c.in-Adopted.stat
-    (sym c.in-Adopted.is ∙ c.in_ok-adopt.ensures.outcome) in
+    let kept = c.self-in-Added.view_is ∙ c.in-Err.ensures.err in
+    let nodes : c.undo_add_child.new.self ≡ c.self.inside.nodes =
+    c.undo_add_child.ensures
+    ∙ (λ i. update_node ((ap (λ (s : State). s.nodes) kept ∙ c.in_ok-add_child.ensures.state) i) c.parent-parent.result.now (without_added_child ((c.name-in-Err.ensures ∙ sym name) i) c.in-Added.stat))
+    ∙ undone_child c.self.inside.nodes c.parent-parent.result.now (string_bytes c.in_ok-name.name) c.args.header.now c.args.create.now c.in-Added.stat
+    (sym c.in-Added.is ∙ c.in_ok-add_child.ensures.outcome) in
     (λ i. record { nodes = nodes i; pairs = (kept i).pairs; sessions = (kept i).sessions }) ∙ c.self.view_is

@@ -1,6 +1,6 @@
 use Rattle.std.proofs.Common.{length}
 use Rattle.ephemerals.specs.Orders.{in_order}
-use Rattle.data_tree.specs.Multi.{IsClosing}
+use Rattle.data_tree.proofs.Multis.{IsClosing}
 use Rattle.data_tree.proofs.tree.Tree.delete_all.Given as goal
 
 abbrev pub invariant-loop-path : goal.invariant-loop-path

@@ -2,7 +2,7 @@ use Rattle.std.proofs.Common.{rules, ◌≡◌, ◌<◌, ◌≤◌, length, [], 
 use mir.Val.{SFits}
 use Rattle.std.proofs.lemmas.Int.{to_z-of_z}
 use Rattle.data_tree.specs.Meaning.{first_error}
-use Rattle.data_tree.proofs.TextMaps.{on_err}
+use Rattle.ephemerals.proofs.Errors.{on_err}
 use Rattle.data_tree.proofs.Multis.{midway_step, midway_done, front_step}
 use Rattle.data_tree.proofs.tree.Tree.operate_all.Goals as goal
 
@@ -28,5 +28,5 @@ returns-clause-answer c =
     let past : length c.args.parts.now ≤ c.loop-part.part-index = omega arith in
     let fits : SFits w32 c.first_error.result = search rules in
     let error : to_z w32 (of_z w32 c.first_error.result) ≡ first_error c.loop-part.errors.items = to_z-of_z w32 c.first_error.result fits ∙ c.first_error.ensures ∙ ap first_error c.as_slice.ensures.value in
-    (λ i. record { error = error i; parts = c.from_vec.ensures i; triggers = c.from_vec-2.ensures i })
+    (λ i. record { err = error i; parts = c.from_vec.ensures i; triggers = c.from_vec-2.ensures i })
     ∙ midway_done c.args.header.now c.args.parts.now c.loop-part.part-index c.args.self.now c.loop-part.self c.loop-part.errors.items c.loop-part.triggers.items past c.loop-part.invariant

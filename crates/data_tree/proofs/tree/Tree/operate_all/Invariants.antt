@@ -1,4 +1,4 @@
-use Rattle.data_tree.specs.Multi.{IsMidway}
+use Rattle.data_tree.proofs.Multis.{IsMidway}
 use Rattle.data_tree.proofs.tree.Tree.operate_all.Given as goal
 
 abbrev pub invariant-loop-part : goal.invariant-loop-part

@@ -7,10 +7,11 @@ use Rattle.std.specs.Ordering.{int_cmp}
 use Rattle.std.proofs.lemmas.Int.{to_z-of_z}
 use Rattle.std.proofs.lemmas.Map.Steps.{set_value_same}
 use Rattle.ephemerals.specs.Orders.{Names}
-use Rattle.ephemerals.specs.PairsView.{pairs_of}
-use Rattle.ephemerals.proofs.TextMaps.{on_err}
+use Rattle.ephemerals.specs.Inner.PairsView.{pairs_of}
+use Rattle.ephemerals.proofs.Errors.{on_err}
 use Rattle.ephemerals.proofs.Counts.{count-insert, count-insert_again}
-use Rattle.ephemerals.proofs.PairSets.{pairs-insert_through, pairs-insert_first, contains-found, not-false, not-true}
+use Rattle.ephemerals.proofs.PairSets.{pairs-insert_through, pairs-insert_first, contains-found}
+use Rattle.std.proofs.lemmas.Bool.{not-false, not-true}
 use Rattle.ephemerals.proofs.owners.Ephemerals.insert.Goals as goal
 
 -- the set of a session that was written back as it was

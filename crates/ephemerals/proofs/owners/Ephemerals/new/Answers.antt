@@ -1,7 +1,7 @@
 use Rattle.std.proofs.Common.{ap, sym, ◌∙◌}
 use Rattle.std.specs.FinSet as set
 use Rattle.ephemerals.specs.Orders.{pair_cmp}
-use Rattle.ephemerals.specs.PairsView.{pairs_of}
+use Rattle.ephemerals.specs.Inner.PairsView.{pairs_of}
 use Rattle.ephemerals.proofs.owners.Ephemerals.new.Goals as goal
 
 pub invariant_of-result : goal.invariant_of-result

@@ -1,6 +1,6 @@
 use Rattle.std.proofs.Common.{ap, sym, not, ◌∙◌, string_bytes}
 use Rattle.std.specs.FinSet as set
-use Rattle.ephemerals.proofs.TextMaps.{on_err}
+use Rattle.ephemerals.proofs.Errors.{on_err}
 use Rattle.ephemerals.proofs.TextSets.{contains-names, names-insert}
 use Rattle.ephemerals.proofs.text_set.TextSet.insert.Goals as goal
 

@@ -1,7 +1,7 @@
 use Rattle.ephemerals.proofs.TextSets.{popped_first, popped_none}
 use Rattle.std.proofs.Common.{subst, IfSome, IfNone, ◌≡◌, ◌∷◌, [], string_bytes}
 use Rattle.ephemerals.specs.Orders.{in_order, Names}
-use Rattle.ephemerals.specs.NamesView.{names_of}
+use Rattle.ephemerals.specs.Inner.NamesView.{names_of}
 use Rattle.ephemerals.proofs.text_set.TextSet.pop_first.Goals as goal
 
 pub returns-clause-first : goal.returns-clause-first

@@ -1,6 +1,0 @@
-use Rattle.std.proofs.Common.{◌≡◌, ◌++◌, drop, pos}
-use Rattle.data_tree.specs.Meaning.{errors_of_failed}
-use Rattle.data_tree.proofs.multi.fail.Given as goal
-
-abbrev pub invariant-loop-part : goal.invariant-loop-part
-invariant-loop-part l = l.errors.items ++ errors_of_failed l.otherwise (drop l.part-index l.parts) ≡ errors_of_failed (pos 0) l.parts

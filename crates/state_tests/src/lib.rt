@@ -1,0 +1,23 @@
+//! Tests of the data tree and of the sets below it, over public calls alone. They stand in a crate of their own, since a
+//! crate that has tests is proved twice; and most calls stand in functions without clauses, so that a test's own proof is
+//! short.
+#![tactic(auto)]
+
+#[cfg(test)]
+mod acts;
+#[cfg(test)]
+mod built_trees;
+#[cfg(test)]
+mod owners;
+#[cfg(test)]
+mod texts;
+#[cfg(test)]
+mod transactions;
+
+use std::alloc::Global;
+use txn_codec::Path;
+
+/// The text as a path, if it is one.
+pub fn path_of(alloc: Global, text: &str) -> Option<Path> {
+    Path::new(alloc, text).ok()
+}
