@@ -178,14 +178,14 @@ def informs(program, room):
 
 def engine_against(options, room):
     """Gives both engines the same load, in turns. Returns how many times as fast the first is."""
-    best = {}
+    programs, best = (options.program, options.against), [0.0, 0.0]
     for _ in range(options.rounds):
-        for program in (options.program, options.against):
+        for place, program in enumerate(programs):
             number, rate = informs(program, room)
-            best[program] = max(best.get(program, 0), rate)
-    for program in (options.program, options.against):
-        print(f"{program}: {number:,} INFORMs, {best[program]:,.0f} a second of the processor", flush=True)
-    return [("the engine's INFORMs a second", best[options.program] / best[options.against])]
+            best[place] = max(best[place], rate)
+    for program, rate in zip(programs, best):
+        print(f"{program}: {number:,} INFORMs, {rate:,.0f} a second of the processor", flush=True)
+    return [("the engine's INFORMs a second", best[0] / best[1])]
 
 
 def are_faster(ratios):
