@@ -24,7 +24,7 @@ gains_item w old mid new items i item lt put gains =
 
 -- a call that failed has gained what is said
 pub fails : {E : Type 0} {old items new : List ℕ} (r : Result (Unit {0}) E) → IsErr r → Gains old items new → Puts r old items new
-fails (Ok u) h g = absurd h
+fails (Ok u) h g = absurd cc
 fails (Err e) h g = g
 
 -- numbers, which are passed by their bits

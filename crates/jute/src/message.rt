@@ -1,12 +1,14 @@
 //! What stands in the frames of a client: headers, requests and replies. Texts and bytes are
 //! borrowed.
 
+ghost use Rattle.jute.specs.Format.{buffer};
 ghost use Rattle.jute.specs.Records.{request_header, reply_header, get_data_request, get_data_response};
+ghost use Rattle.values.specs.Gains.{Puts};
 
 use crate::reader::Reader;
 use crate::record::ReadRecord;
 use crate::stat::Stat;
-use crate::writer::{WriteRecord, put_bool, put_bytes, put_int, put_long, put_string};
+use crate::writer::{WriteRecord, put_bool, put_bytes, put_int, put_string};
 use std::alloc::Global;
 use values::{Bytes, NoMemory, ReadError, Str};
 
@@ -42,8 +44,8 @@ impl WriteRecord for RequestHeader {
 
     #[tactic(auto, unfolding(crate::specs::Records::request_header))]
     fn write(&self, out: &mut Vec<u8>) -> Result<(), NoMemory> {
-        put_int(out, self.xid)?;
-        put_int(out, self.kind)
+        self.xid.write(out)?;
+        self.kind.write(out)
     }
 }
 
@@ -82,9 +84,9 @@ impl WriteRecord for ReplyHeader {
 
     #[tactic(auto, unfolding(crate::specs::Records::reply_header))]
     fn write(&self, out: &mut Vec<u8>) -> Result<(), NoMemory> {
-        put_int(out, self.xid)?;
-        put_long(out, self.zxid)?;
-        put_int(out, self.err)
+        self.xid.write(out)?;
+        self.zxid.write(out)?;
+        self.err.write(out)
     }
 }
 
@@ -123,11 +125,19 @@ impl<'a> WriteRecord for GetDataRequest<'a> {
 
     #[tactic(auto, unfolding(crate::specs::Records::get_data_request))]
     fn write(&self, out: &mut Vec<u8>) -> Result<(), NoMemory> {
-        match &self.path {
-            None => put_int(out, -1)?,
-            Some(path) => put_string(out, path.as_str())?,
-        }
+        put_text(out, &self.path)?;
         put_bool(out, self.watch)
+    }
+}
+
+// A ustring, or null.
+fn put_text(out: &mut Vec<u8>, text: &Option<Str<'_>>) -> Result<(), NoMemory>
+    requires { buffer.Writable text.now }
+    ensures { Puts result out.old.items (buffer.written text.now) out.new.items }
+{
+    match text {
+        None => put_int(out, -1),
+        Some(text) => put_string(out, text.as_str()),
     }
 }
 

@@ -116,7 +116,7 @@ impl WriteRecord for Acl {
 
     #[tactic(auto, unfolding(crate::specs::Owned::acl))]
     fn write(&self, out: &mut Vec<u8>) -> Result<(), NoMemory> {
-        put_int(out, self.perms)?;
+        self.perms.write(out)?;
         self.id.write(out)
     }
 }

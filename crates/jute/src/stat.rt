@@ -1,13 +1,11 @@
 //! What a node is said to be.
 
-ghost use Rattle.std.specs.List.{flat_map};
-ghost use Rattle.jute.specs.Format.{int, long};
-ghost use Rattle.jute.specs.Records.{stat, stat_persisted};
+ghost use Rattle.jute.specs.Records.{stat, stat_persisted, times_bytes, versions_bytes};
 ghost use Rattle.values.specs.Gains.{Puts};
 
 use crate::reader::Reader;
 use crate::record::ReadRecord;
-use crate::writer::{WriteRecord, put_int, put_long};
+use crate::writer::WriteRecord;
 use std::alloc::Global;
 use values::{NoMemory, ReadError};
 
@@ -72,11 +70,12 @@ impl WriteRecord for Stat {
 
     #[tactic(auto, unfolding(crate::specs::Records::stat))]
     fn write(&self, out: &mut Vec<u8>) -> Result<(), NoMemory> {
-        put_longs(out, &[self.czxid, self.mzxid, self.ctime, self.mtime])?;
-        put_ints(out, &[self.version, self.cversion, self.aversion])?;
-        put_long(out, self.ephemeral_owner)?;
-        put_ints(out, &[self.data_length, self.num_children])?;
-        put_long(out, self.pzxid)
+        put_times(out, &self.czxid, &self.mzxid, &self.ctime, &self.mtime)?;
+        put_versions(out, &self.version, &self.cversion, &self.aversion)?;
+        self.ephemeral_owner.write(out)?;
+        self.data_length.write(out)?;
+        self.num_children.write(out)?;
+        self.pzxid.write(out)
     }
 }
 
@@ -135,28 +134,39 @@ impl WriteRecord for StatPersisted {
 
     #[tactic(auto, unfolding(crate::specs::Records::stat_persisted))]
     fn write(&self, out: &mut Vec<u8>) -> Result<(), NoMemory> {
-        put_longs(out, &[self.czxid, self.mzxid, self.ctime, self.mtime])?;
-        put_ints(out, &[self.version, self.cversion, self.aversion])?;
-        put_longs(out, &[self.ephemeral_owner, self.pzxid])
+        put_times(out, &self.czxid, &self.mzxid, &self.ctime, &self.mtime)?;
+        put_versions(out, &self.version, &self.cversion, &self.aversion)?;
+        self.ephemeral_owner.write(out)?;
+        self.pzxid.write(out)
     }
 }
 
-// Longs, one behind the other.
-fn put_longs(out: &mut Vec<u8>, numbers: &[i64]) -> Result<(), NoMemory>
-    ensures { Puts result out.old.items (flat_map long.written numbers.now) out.new.items }
+// The zxids and times of a node.
+fn put_times(
+    out: &mut Vec<u8>,
+    czxid: &i64,
+    mzxid: &i64,
+    ctime: &i64,
+    mtime: &i64,
+) -> Result<(), NoMemory>
+    ensures { Puts result out.old.items (times_bytes czxid.now mzxid.now ctime.now mtime.now) out.new.items }
 {
-    for number in numbers {
-        put_long(out, *number)?;
-    }
-    Ok(())
+    czxid.write(out)?;
+    mzxid.write(out)?;
+    ctime.write(out)?;
+    mtime.write(out)
 }
 
-// Ints, one behind the other.
-fn put_ints(out: &mut Vec<u8>, numbers: &[i32]) -> Result<(), NoMemory>
-    ensures { Puts result out.old.items (flat_map int.written numbers.now) out.new.items }
+// The versions of a node.
+fn put_versions(
+    out: &mut Vec<u8>,
+    version: &i32,
+    cversion: &i32,
+    aversion: &i32,
+) -> Result<(), NoMemory>
+    ensures { Puts result out.old.items (versions_bytes version.now cversion.now aversion.now) out.new.items }
 {
-    for number in numbers {
-        put_int(out, *number)?;
-    }
-    Ok(())
+    version.write(out)?;
+    cversion.write(out)?;
+    aversion.write(out)
 }

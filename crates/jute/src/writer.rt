@@ -71,6 +71,34 @@ pub trait WriteRecord: Sized {
         ensures { Puts result out.old.items (format.written self.now) out.new.items };
 }
 
+impl WriteRecord for i32 {
+    ghost format = { int };
+
+    #[tactic(auto, unfolding(crate::specs::Format::number_bytes))]
+    fn written_len(&self) -> usize {
+        4
+    }
+
+    #[tactic(auto, using(crate::proofs::Writing::puts_number))]
+    fn write(&self, out: &mut Vec<u8>) -> Result<(), NoMemory> {
+        put_int(out, *self)
+    }
+}
+
+impl WriteRecord for i64 {
+    ghost format = { long };
+
+    #[tactic(auto, unfolding(crate::specs::Format::number_bytes))]
+    fn written_len(&self) -> usize {
+        8
+    }
+
+    #[tactic(auto, using(crate::proofs::Writing::puts_number))]
+    fn write(&self, out: &mut Vec<u8>) -> Result<(), NoMemory> {
+        put_long(out, *self)
+    }
+}
+
 fn put_items<T: WriteRecord>(out: &mut Vec<u8>, items: &[T]) -> Result<(), NoMemory>
     requires { All T.format.Writable items.now }
     ensures { Puts result out.old.items (flat_map T.format.written items.now) out.new.items }
