@@ -11,16 +11,17 @@ use Rattle.std.proofs.lemmas.List.Concat.{flat_map-cons}
 use Rattle.std.proofs.Math.Seq.{split_at}
 use Rattle.values.specs.Gains.{Gains, Puts}
 use Rattle.jute.specs.Format.{number_bytes}
-use Rattle.values.proofs.Gaining.{gains_first, gains_behind}
+use Rattle.values.proofs.Gaining.{gains_first, gains_behind, gains_same}
 
 -- the items before one are put, and a front of that one
-pub gains_item : {A : Type 0} (w : A → List ℕ) (old mid new : List ℕ) (items : List A) (i : ℕ) (item : A) → i < length items
-    → mid ≡ old ++ flat_map w (take i items) → Gains mid (w (get_or items i item)) new → Gains old (flat_map w items) new
-gains_item w old mid new items i item lt put gains =
-    let one = get_or items i item in
-    let whole : flat_map w items ≡ flat_map w (take i items) ++ (w one ++ flat_map w (drop (suc i) items)) =
-    ap (flat_map w) (split_at items i item lt) ∙ flat_map-append w (take i items) (one ∷ drop (suc i) items) ∙ ap (λ x. flat_map w (take i items) ++ x) (flat_map-cons w one (drop (suc i) items)) in
-    subst (λ (x : List ℕ). Gains old x new) (sym whole) (gains_behind old (flat_map w (take i items)) put (gains_first (flat_map w (drop (suc i) items)) gains))
+pub gains_item : {A : Type 0} (w : A → List ℕ) (old mid new : List ℕ) (items : List A) (i : ℕ) (item : A) → i < length items → item ≡ get_or items i item
+    → mid ≡ old ++ flat_map w (take i items) → Gains mid (w item) new → Gains old (flat_map w items) new
+gains_item w old mid new items i item lt is put gains =
+    let behind = flat_map w (drop (suc i) items) in
+    let parts : items ≡ take i items ++ item ∷ drop (suc i) items = split_at items i item lt ∙ ap (λ x. take i items ++ x ∷ drop (suc i) items) (sym is) in
+    let whole : flat_map w items ≡ flat_map w (take i items) ++ (w item ++ behind) =
+    ap (flat_map w) parts ∙ flat_map-append w (take i items) (item ∷ drop (suc i) items) ∙ ap (λ x. flat_map w (take i items) ++ x) (flat_map-cons w item (drop (suc i) items)) in
+    gains_same (sym whole) (gains_behind old (flat_map w (take i items)) put (gains_first behind gains))
 
 -- a call that failed has gained what is said
 pub fails : {E : Type 0} {old items new : List ℕ} (r : Result (Unit {0}) E) → IsErr r → Gains old items new → Puts r old items new

@@ -30,3 +30,6 @@ puts_behind old a mid b new (Err d) e h = gains_behind old a e h
 -- the same items, said otherwise
 pub puts_same : {A U E : Type 0} (old a b new : List A) (r : Result U E) → a ≡ b → Puts r old a new → Puts r old b new
 puts_same old a b new r e h = subst (λ (x : List _). Puts r old x new) e h
+
+pub gains_same : {A : Type 0} {old a b new : List A} → a ≡ b → Gains old a new → Gains old b new
+gains_same {old = old} {new = new} e g = subst (λ (x : List _). Gains old x new) e g
