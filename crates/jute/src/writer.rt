@@ -109,6 +109,31 @@ fn put_items<T: WriteRecord>(out: &mut Vec<u8>, items: &[T]) -> Result<(), NoMem
     Ok(())
 }
 
+fn items_len<T: WriteRecord>(items: &[T]) -> usize
+    requires writable { All T.format.Writable items.now }
+    requires small { length (flat_map T.format.written items.now) < 2 ^ 63 }
+    ensures { result ≡ length (flat_map T.format.written items.now) }
+{
+    let mut len = 0;
+    for item in items {
+        len += item.written_len();
+    }
+    len
+}
+
+/// How many bytes a vector takes, or null.
+#[tactic(auto, unfolding(crate::specs::Format::number_bytes))]
+pub fn vector_len<T: WriteRecord>(items: &Option<Listed<T>>) -> usize
+    requires writable { (vector T.format).Writable items.now }
+    requires small { length ((vector T.format).written items.now) < 2 ^ 63 }
+    ensures { result ≡ length ((vector T.format).written items.now) }
+{
+    match items {
+        None => 4,
+        Some(items) => 4 + items_len(items.as_slice()),
+    }
+}
+
 /// Writes a vector: an int count, and the records one behind the other; `None` is null, the count -1.
 pub fn put_vector<T: WriteRecord>(
     out: &mut Vec<u8>,
