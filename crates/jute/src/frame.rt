@@ -44,9 +44,7 @@ pub fn read_frame<'a>(reader: &mut Reader<'a>, limit: u32) -> Result<&'a [u8], F
 pub fn put_frame<T: WriteRecord>(out: &mut Vec<u8>, value: &T) -> Result<(), NoMemory>
     requires writable { T.format.Writable value.now }
     requires small { length (T.format.written value.now) < 2 ^ 31 }
-    ensures {
-        (limit : ℕ) → Puts result out.old.items ((frame limit).written (T.format.written value.now)) out.new.items
-    }
+    ensures { (limit : ℕ) → Puts result out.old.items ((frame limit).written (T.format.written value.now)) out.new.items }
 {
     put_int(out, value.written_len() as i32)?;
     value.write(out)

@@ -1,6 +1,6 @@
-use Rattle.std.proofs.Common.{◌≡◌, ◌++◌, append_assoc, sym}
+use Rattle.std.proofs.Common.{◌≡◌, ◌++◌, append_assoc}
 use Rattle.values.proofs.Gaining.{gains_first, gains_behind, gains_same, puts_behind, puts_same}
-use Rattle.jute.specs.Format.{int, long}
+use Rattle.jute.specs.Format.{long}
 use Rattle.jute.specs.Records.{stat_persisted, times_bytes, versions_bytes}
 use Rattle.jute.specs.declared.stat.StatPersisted.{StatPersisted}
 use Rattle.jute.proofs.Writing.{fails}

@@ -1,4 +1,4 @@
-use Rattle.std.proofs.Common.{◌≡◌, ◌++◌, append_assoc, sym}
+use Rattle.std.proofs.Common.{◌≡◌, ◌++◌, append_assoc}
 use Rattle.values.proofs.Gaining.{gains_first, gains_behind, gains_same, puts_behind, puts_same}
 use Rattle.jute.specs.Format.{int, long}
 use Rattle.jute.specs.Records.{stat, times_bytes, versions_bytes}
