@@ -99,7 +99,8 @@ impl WriteRecord for i64 {
     }
 }
 
-fn put_items<T: WriteRecord>(out: &mut Vec<u8>, items: &[T]) -> Result<(), NoMemory>
+/// Writes records, one behind the other.
+pub fn put_items<T: WriteRecord>(out: &mut Vec<u8>, items: &[T]) -> Result<(), NoMemory>
     requires { All T.format.Writable items.now }
     ensures { Puts result out.old.items (flat_map T.format.written items.now) out.new.items }
 {
@@ -109,7 +110,8 @@ fn put_items<T: WriteRecord>(out: &mut Vec<u8>, items: &[T]) -> Result<(), NoMem
     Ok(())
 }
 
-fn items_len<T: WriteRecord>(items: &[T]) -> usize
+/// How many bytes records take, one behind the other.
+pub fn items_len<T: WriteRecord>(items: &[T]) -> usize
     requires writable { All T.format.Writable items.now }
     requires small { length (flat_map T.format.written items.now) < 2 ^ 63 }
     ensures { result ≡ length (flat_map T.format.written items.now) }
@@ -134,7 +136,8 @@ pub fn vector_len<T: WriteRecord>(items: &Option<Listed<T>>) -> usize
     }
 }
 
-/// Writes a vector: an int count, and the records one behind the other; `None` is null, the count -1.
+/// Writes a vector: an int count, and the records one behind the other; `None` is null, the
+/// count -1.
 pub fn put_vector<T: WriteRecord>(
     out: &mut Vec<u8>,
     items: &Option<Listed<T>>,
