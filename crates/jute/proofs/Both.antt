@@ -1,7 +1,6 @@
 -- One format behind another, and values of one type as those of another.
-use Rattle.std.proofs.Common.{◌≡◌, ℕ, List, [], ◌++◌, length, Ok, Err, refl, sym, ap, subst, ◌∙◌, append_assoc, arith, inl, inr}
+use Rattle.std.proofs.Common.{◌≡◌, ℕ, List, [], ◌++◌, length, Ok, refl, sym, ap, subst, ◌∙◌, append_assoc, arith, inl, inr}
 use Rattle.std.proofs.lemmas.List.{append-nil, length-append}
-use Rattle.values.specs.declared.fault.Fault.{Fault}
 use Rattle.jute.specs.Format.{◌>>=◌, Format, both, mapped}
 use Rattle.jute.specs.Laws.{Takes, TakesSpellings, Named, Lawful, Sound, SoundAtEnd}
 use Rattle.jute.specs.Pieces.{Pieced, TakesSome}

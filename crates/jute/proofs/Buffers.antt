@@ -1,5 +1,5 @@
 -- Counts, buffers and texts.
-use Rattle.std.proofs.Common.{◌≡◌, ℕ, zero, suc, ◌^◌, ◌<◌, ◌≤◌, false, ltb, leb, List, [], ◌∷◌, ◌++◌, length, take, drop, Option, Some, None, Ok, Err, refl, sym, ap, subst, ◌∙◌, append_assoc, arith, inl, inr}
+use Rattle.std.proofs.Common.{◌≡◌, ℕ, zero, suc, ◌^◌, ◌<◌, ◌≤◌, false, ltb, leb, List, [], ◌++◌, length, take, drop, Option, Some, None, Ok, Err, refl, sym, ap, subst, ◌∙◌, append_assoc, arith, inl, inr}
 use Rattle.std.specs.Prelude.{ℤ, pos, negsuc}
 use Rattle.std.specs.Int.{w32}
 use Rattle.std.specs.Str.{is_utf8}
@@ -8,7 +8,7 @@ use Rattle.std.proofs.lemmas.Str.{IsUtf8-nil, is_utf8-from_IsUtf8}
 use Rattle.std.proofs.lemmas.List.{take_at, drop_at, take-append-drop, take-append-le, length-append, length-take}
 use Rattle.values.specs.declared.fault.Fault.{Fault}
 use Rattle.values.specs.declared.fault.Fault.TheVariants.{Short, BadLength, BadText}
-use Rattle.jute.specs.Format.{◌>>=◌, number_bytes, int, null, counted, length_of, length_number, count, taken, LacksBytes, buffer, buffer_at, buffer_limit, SpellsBuffer, FitsBuffer, WritableBuffer, buffer_bytes, text, text_of, name}
+use Rattle.jute.specs.Format.{number_bytes, int, null, counted, length_of, length_number, count, taken, LacksBytes, buffer, buffer_at, buffer_limit, SpellsBuffer, FitsBuffer, WritableBuffer, buffer_bytes, text, text_of, name}
 use Rattle.jute.specs.Laws.{IsBytes, Takes, Named, Sound}
 use Rattle.jute.specs.Pieces.{Stands, Leaves, Eats}
 use Rattle.jute.proofs.Steps.{IsBytes-drop, same_length, bind_ok, guard_ok, guard_ended, ok_is, guard_err, bind_err, not_refused, behind_read, then_stands, then_leaves, within, cut_stands, cut_leaves, then_eats}

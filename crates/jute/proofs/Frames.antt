@@ -1,12 +1,11 @@
 -- Frames.
-use Rattle.std.proofs.Common.{◌≡◌, ℕ, ◌<◌, ◌≤◌, ◌^◌, false, ltb, leb, List, ◌++◌, length, take, drop, Result, Some, Ok, Err, refl, sym, ap, subst, ◌∙◌, append_assoc, arith, inl, inr}
+use Rattle.std.proofs.Common.{◌≡◌, ℕ, ◌<◌, ◌≤◌, ◌^◌, false, ltb, leb, List, ◌++◌, length, take, drop, Some, Ok, Err, refl, sym, ap, subst, ◌∙◌, append_assoc, arith, inl, inr}
 use Rattle.std.specs.Prelude.{ℤ, pos, negsuc}
 use Rattle.std.specs.Int.{w32}
 use Rattle.std.proofs.lemmas.Bool.{ltb-true, ltb-false, lt-ltb, le-ltb, leb-true, le-leb}
 use Rattle.std.proofs.lemmas.List.{take_at, drop_at, take-append-drop, take-append-le, length-append, length-take}
-use Rattle.values.specs.declared.fault.Fault.{Fault}
 use Rattle.values.specs.declared.fault.Fault.TheVariants.{Short, BadLength}
-use Rattle.jute.specs.Format.{◌>>=◌, number_bytes, counted, int}
+use Rattle.jute.specs.Format.{number_bytes, counted, int}
 use Rattle.jute.specs.Frame.{frame, frame_at, frame_count, frame_length, front_of}
 use Rattle.jute.specs.Laws.{IsBytes, Takes, Named, Sound}
 use Rattle.jute.specs.Pieces.{Stands, Leaves, Eats}

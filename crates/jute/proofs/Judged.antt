@@ -1,7 +1,7 @@
 -- Values that are judged after reading.
-use Rattle.std.proofs.Common.{◌≡◌, ℕ, ◌≤◌, List, [], ◌++◌, length, Option, Some, None, Result, Ok, Err, refl, sym, ap, subst, ◌∙◌, append_assoc, arith, inl, inr}
+use Rattle.std.proofs.Common.{◌≡◌, ℕ, ◌≤◌, List, [], ◌++◌, length, Option, Some, None, Result, Ok, Err, refl, subst, arith, inl, inr}
 use Rattle.values.specs.declared.fault.Fault.{Fault}
-use Rattle.jute.specs.Format.{◌>>=◌, Format, Behind, OfBack, back_bytes, judged, judged_at, case_of, or_empty, or_null}
+use Rattle.jute.specs.Format.{◌>>=◌, Format, OfBack, back_bytes, judged, judged_at, case_of, or_empty, or_null}
 use Rattle.jute.specs.Laws.{IsBytes, Takes, TakesSpellings, Named, Lawful, Sound, SoundAtEnd}
 use Rattle.jute.specs.Pieces.{Pieced, TakesSome}
 use Rattle.jute.proofs.Steps.{bind_ok, ok_is, bind_err, not_refused, behind_read, then_stands, plain_stands, then_leaves, plain_leaves, then_eats}

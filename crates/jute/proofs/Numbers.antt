@@ -1,5 +1,5 @@
 -- Numbers and booleans.
-use Rattle.std.proofs.Common.{◌≡◌, ℕ, suc, ◌^◌, ◌<◌, ◌≤◌, Bool, true, false, not, ltb, eqb, List, [], ◌∷◌, ◌++◌, length, take, drop, Ok, Err, refl, sym, ap, subst, ◌∙◌, arith, inl, inr}
+use Rattle.std.proofs.Common.{◌≡◌, ℕ, suc, ◌^◌, ◌<◌, ◌≤◌, Bool, true, false, not, ltb, eqb, List, [], ◌∷◌, ◌++◌, length, take, drop, Ok, Err, refl, sym, ap, subst, ◌∙◌, arith, inl}
 use Rattle.std.specs.Prelude.{ℤ, FitsSigned}
 use Rattle.std.specs.Int.{Width, w32, w64, byte_len, cast_signed, cast_unsigned}
 use Rattle.std.proofs.lemmas.Bool.{ltb-true, ltb-false, lt-ltb, le-ltb}
@@ -15,7 +15,7 @@ use Rattle.values.specs.declared.fault.Fault.{Fault}
 use Rattle.values.specs.declared.fault.Fault.TheVariants.{Short}
 use Rattle.jute.specs.Format.{number, number_bytes, int, long, boolean, boolean_at}
 use Rattle.jute.specs.Laws.{IsBytes, Takes, Lawful, Named, Sound}
-use Rattle.jute.specs.Pieces.{Stands, Leaves, Pieced, Eats, TakesSome}
+use Rattle.jute.specs.Pieces.{Stands, Leaves, Pieced, Eats}
 use Rattle.jute.proofs.Steps.{IsBytes-drop, IsBytes-take, same_length, guard_ok, guard_err, ok_is, not_refused, cut_stands, cut_leaves, cut_eats}
 
 -- ---- numbers

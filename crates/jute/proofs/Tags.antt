@@ -1,14 +1,14 @@
 -- Sums of cases behind a tag, and parts.
-use Rattle.std.proofs.Common.{◌≡◌, ℕ, ◌<◌, ◌≤◌, ◌^◌, Bool, true, false, cond, eqb, List, [], ◌∷◌, ◌++◌, length, Option, Some, None, Result, Ok, Err, refl, sym, ap, subst, ◌∙◌, append_assoc, arith, inl, inr}
+use Rattle.std.proofs.Common.{◌≡◌, ℕ, ◌≤◌, false, cond, eqb, List, [], ◌∷◌, ◌++◌, length, Option, Some, None, Result, Ok, Err, refl, sym, ap, subst, ◌∙◌, append_assoc, arith, inl, inr}
 use Rattle.std.specs.Prelude.{◌≢◌, ℤ, pos}
 use Rattle.std.specs.Int.{w32}
 use Rattle.std.proofs.lemmas.Bool.{eqb-true, ne_eqb}
 use Rattle.std.proofs.lemmas.List.{append-nil, nil_from_length, length-append}
 use Rattle.values.specs.declared.fault.Fault.{Fault}
-use Rattle.values.specs.declared.fault.Fault.TheVariants.{Short, TrailingBytes}
-use Rattle.jute.specs.Format.{◌>>=◌, Format, Behind, number_bytes, judged, buffer, buffer_at, buffer_limit}
+use Rattle.values.specs.declared.fault.Fault.TheVariants.{TrailingBytes}
+use Rattle.jute.specs.Format.{Format, number_bytes, buffer, buffer_limit}
 use Rattle.jute.specs.Sums.{empty, refusal, tagged, tagged_at, whole, AgainstWhole, held_value, AgainstHeld, held}
-use Rattle.jute.specs.Laws.{IsBytes, Takes, TakesSpellings, Named, Lawful, Sound, SoundAtEnd}
+use Rattle.jute.specs.Laws.{IsBytes, Takes, TakesSpellings, Named, Sound, SoundAtEnd}
 use Rattle.jute.specs.Pieces.{Pieced, TakesSome}
 use Rattle.jute.proofs.Steps.{IsBytes-front, IsBytes-back, bind_ok, guard_ended, ok_is, guard_refused, bind_err, behind_read, then_stands, then_leaves, within, then_eats}
 use Rattle.jute.proofs.Judged.{judged_takes, judged_named, judged_pieced, judged_eats, judged_reads}

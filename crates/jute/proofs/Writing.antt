@@ -1,5 +1,5 @@
--- What a loop that writes items has put, where one of them was refused memory.
-use Rattle.std.proofs.Common.{◌≡◌, ℕ, suc, ◌<◌, List, [], ◌∷◌, ◌++◌, length, take, drop, get_or, Result, Ok, Err, refl, sym, ap, subst, ◌∙◌}
+-- Loops that write items, or sum their lengths.
+use Rattle.std.proofs.Common.{◌≡◌, ℕ, suc, ◌+◌, ◌<◌, ◌≤◌, List, ◌∷◌, ◌++◌, length, take, drop, get_or, Result, Ok, Err, sym, ap, subst, ◌∙◌}
 use Rattle.std.specs.Prelude.{ℤ, FitsSigned}
 use Rattle.std.specs.Int.{Width}
 use Rattle.std.specs.List.{flat_map}
@@ -8,6 +8,7 @@ use mir.Val.{to_z, of_z}
 use Rattle.std.proofs.lemmas.Int.{to_z-of_z}
 use Rattle.std.proofs.lemmas.Grind.{flat_map-append}
 use Rattle.std.proofs.lemmas.List.Concat.{flat_map-cons}
+use Rattle.std.proofs.lemmas.List.Folds.{length-flat_map-take}
 use Rattle.std.proofs.Math.Seq.{split_at}
 use Rattle.values.specs.Gains.{Gains, Puts}
 use Rattle.jute.specs.Format.{number_bytes}
@@ -31,3 +32,8 @@ fails (Err e) h g = g
 -- numbers, which are passed by their bits
 pub puts_number : {E : Type 0} (r : Result (Unit {0}) E) (w : Width) (z : ℤ) (old new : List ℕ) → FitsSigned w z → Puts r old (number_bytes w (to_z w (of_z w z))) new → Puts r old (number_bytes w z) new
 puts_number r w z old new fits h = subst (λ (y : ℤ). Puts r old (number_bytes w y) new) (to_z-of_z w z fits) h
+
+-- the items before one and that one are no longer than all
+pub length_item : {A : Type 0} (w : A → List ℕ) (items : List A) (i : ℕ) (item : A) → i < length items → item ≡ get_or items i item
+    → length (flat_map w (take i items)) + length (w item) ≤ length (flat_map w items)
+length_item w items i item lt is = subst (λ x. length (flat_map w (take i items)) + length (w x) ≤ length (flat_map w items)) (sym is) (length-flat_map-take w items i item lt)

@@ -18,10 +18,14 @@ front_of n bytes = if nat_lt (length bytes) n then Err Short else Ok (take n byt
 unfoldable pub frame_at : ℕ → List ℕ → Result (List ℕ × List ℕ) Fault
 frame_at limit bytes = (frame_count limit).read bytes >>= λ k. front_of k.0 k.1
 
+-- the bytes behind their length
+abbrev pub framed : List ℕ → List ℕ
+framed bytes = counted (length bytes) bytes
+
 abbrev pub frame : ℕ → Format (List ℕ)
 frame limit = record {
-  Spells = λ v bytes. (length v ≤ limit) × (bytes ≡ counted (length v) v);
-  written = λ v. counted (length v) v;
+  Spells = λ v bytes. (length v ≤ limit) × (bytes ≡ framed v);
+  written = framed;
   Fits = λ v. length v ≤ limit;
   Writable = λ v. length v < 2 ^ 31;
   read = frame_at limit;

@@ -10,10 +10,10 @@ ghost use Rattle.jute.specs.Stream.{Streamed, ComesInPieces, only, Items, items,
 ghost use Rattle.jute.specs.declared.owned.Acl.{Acl};
 ghost use Rattle.std.specs.Prelude.{◌≡◌, ℕ, List, ◌<◌, ◌^◌};
 
-/// What is read is spelled so, what is spelled so is read whatever follows, and what is written is the
-/// shortest spelling. So a refusal is given only where no front of the bytes spells a value; it names
-/// the first field that no bytes at its place spell, and stands whatever comes behind, but for too few
-/// bytes.
+/// What is read is spelled so, what is spelled so is read whatever follows, and what is written is
+/// the shortest spelling. So a refusal is given only where no front of the bytes spells a value; it
+/// names the first field that no bytes at its place spell, and no other refusal does; it stands
+/// whatever comes behind, but for too few bytes.
 pub fn formats()
     ensures int { Sound int }
     ensures long { Sound long }
@@ -42,7 +42,8 @@ pub fn streams()
 
 /// What stands in the bytes, as a relation, is what the function finds, and nothing else is.
 pub fn relates()
-    ensures found { (bytes : List ℕ) → IsBytes bytes → AreItems (only acl) tt bytes (items (only acl) (place_at tt bytes)) }
+    ensures found { (bytes : List ℕ) → IsBytes bytes
+        → AreItems (only acl) tt bytes (items (only acl) (place_at tt bytes)) }
     ensures alone { (bytes : List ℕ) (i : Items (Unit {0}) Acl) → AreItems (only acl) tt bytes i
         → items (only acl) (place_at tt bytes) ≡ i }
 {}

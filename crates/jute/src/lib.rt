@@ -1,6 +1,7 @@
 //! The fields and records of Jute.
 #![tactic(auto)]
 
+pub mod codes;
 mod frame;
 pub mod law;
 mod message;
@@ -17,5 +18,6 @@ pub use reader::{BUFFER_LIMIT, COUNT_LIMIT, Reader};
 pub use record::{ReadRecord, read_name, read_vector};
 pub use stat::{Stat, StatPersisted};
 pub use writer::{
-    WriteRecord, put_bool, put_bytes, put_int, put_long, put_string, put_vector,
+    WriteRecord, items_len, put_bool, put_bytes, put_int, put_items, put_long, put_string,
+    put_vector, vector_len,
 };

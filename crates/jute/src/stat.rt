@@ -1,6 +1,6 @@
 //! What a node is said to be.
 
-ghost use Rattle.jute.specs.Records.{stat, stat_persisted, times_bytes, versions_bytes};
+ghost use Rattle.jute.specs.Records.{stat, stat_persisted, four_longs, three_ints};
 ghost use Rattle.values.specs.Gains.{Puts};
 
 use crate::reader::Reader;
@@ -70,8 +70,8 @@ impl WriteRecord for Stat {
 
     #[tactic(auto, unfolding(crate::specs::Records::stat))]
     fn write(&self, out: &mut Vec<u8>) -> Result<(), NoMemory> {
-        put_times(out, &self.czxid, &self.mzxid, &self.ctime, &self.mtime)?;
-        put_versions(out, &self.version, &self.cversion, &self.aversion)?;
+        put_four_longs(out, &self.czxid, &self.mzxid, &self.ctime, &self.mtime)?;
+        put_three_ints(out, &self.version, &self.cversion, &self.aversion)?;
         self.ephemeral_owner.write(out)?;
         self.data_length.write(out)?;
         self.num_children.write(out)?;
@@ -134,39 +134,34 @@ impl WriteRecord for StatPersisted {
 
     #[tactic(auto, unfolding(crate::specs::Records::stat_persisted))]
     fn write(&self, out: &mut Vec<u8>) -> Result<(), NoMemory> {
-        put_times(out, &self.czxid, &self.mzxid, &self.ctime, &self.mtime)?;
-        put_versions(out, &self.version, &self.cversion, &self.aversion)?;
+        put_four_longs(out, &self.czxid, &self.mzxid, &self.ctime, &self.mtime)?;
+        put_three_ints(out, &self.version, &self.cversion, &self.aversion)?;
         self.ephemeral_owner.write(out)?;
         self.pzxid.write(out)
     }
 }
 
-// The zxids and times of a node.
-fn put_times(
+// Four longs, one behind the other.
+fn put_four_longs(
     out: &mut Vec<u8>,
-    czxid: &i64,
-    mzxid: &i64,
-    ctime: &i64,
-    mtime: &i64,
+    a: &i64,
+    b: &i64,
+    c: &i64,
+    d: &i64,
 ) -> Result<(), NoMemory>
-    ensures { Puts result out.old.items (times_bytes czxid.now mzxid.now ctime.now mtime.now) out.new.items }
+    ensures { Puts result out.old.items (four_longs a.now b.now c.now d.now) out.new.items }
 {
-    czxid.write(out)?;
-    mzxid.write(out)?;
-    ctime.write(out)?;
-    mtime.write(out)
+    a.write(out)?;
+    b.write(out)?;
+    c.write(out)?;
+    d.write(out)
 }
 
-// The versions of a node.
-fn put_versions(
-    out: &mut Vec<u8>,
-    version: &i32,
-    cversion: &i32,
-    aversion: &i32,
-) -> Result<(), NoMemory>
-    ensures { Puts result out.old.items (versions_bytes version.now cversion.now aversion.now) out.new.items }
+// Three ints, one behind the other.
+fn put_three_ints(out: &mut Vec<u8>, a: &i32, b: &i32, c: &i32) -> Result<(), NoMemory>
+    ensures { Puts result out.old.items (three_ints a.now b.now c.now) out.new.items }
 {
-    version.write(out)?;
-    cversion.write(out)?;
-    aversion.write(out)
+    a.write(out)?;
+    b.write(out)?;
+    c.write(out)
 }

@@ -99,7 +99,8 @@ impl WriteRecord for i64 {
     }
 }
 
-fn put_items<T: WriteRecord>(out: &mut Vec<u8>, items: &[T]) -> Result<(), NoMemory>
+/// Writes records, one behind the other.
+pub fn put_items<T: WriteRecord>(out: &mut Vec<u8>, items: &[T]) -> Result<(), NoMemory>
     requires { All T.format.Writable items.now }
     ensures { Puts result out.old.items (flat_map T.format.written items.now) out.new.items }
 {
@@ -109,7 +110,34 @@ fn put_items<T: WriteRecord>(out: &mut Vec<u8>, items: &[T]) -> Result<(), NoMem
     Ok(())
 }
 
-/// Writes a vector: an int count, and the records one behind the other; `None` is null, the count -1.
+/// How many bytes records take, one behind the other.
+pub fn items_len<T: WriteRecord>(items: &[T]) -> usize
+    requires writable { All T.format.Writable items.now }
+    requires small { length (flat_map T.format.written items.now) < 2 ^ 63 }
+    ensures { result ≡ length (flat_map T.format.written items.now) }
+{
+    let mut len = 0;
+    for item in items {
+        len += item.written_len();
+    }
+    len
+}
+
+/// How many bytes a vector takes, or null.
+#[tactic(auto, unfolding(crate::specs::Format::number_bytes))]
+pub fn vector_len<T: WriteRecord>(items: &Option<Listed<T>>) -> usize
+    requires writable { (vector T.format).Writable items.now }
+    requires small { length ((vector T.format).written items.now) < 2 ^ 63 }
+    ensures { result ≡ length ((vector T.format).written items.now) }
+{
+    match items {
+        None => 4,
+        Some(items) => 4 + items_len(items.as_slice()),
+    }
+}
+
+/// Writes a vector: an int count, and the records one behind the other; `None` is null, the
+/// count -1.
 pub fn put_vector<T: WriteRecord>(
     out: &mut Vec<u8>,
     items: &Option<Listed<T>>,

@@ -1,5 +1,5 @@
 use Rattle.values.proofs.Gaining.{puts_behind}
-use Rattle.jute.proofs.stat.put_times.Goals as goal
+use Rattle.jute.proofs.stat.put_four_longs.Goals as goal
 
 pub returns : goal.returns
 returns c =
