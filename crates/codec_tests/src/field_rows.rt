@@ -1,8 +1,8 @@
 //! Fields, and refused reads.
 
 use jute::{
-    Reader, put_blob, put_bool, put_buffer, put_bytes, put_int, put_long, put_string, read_blob,
-    read_frame, read_name,
+    Reader, put_blob, put_bool, put_bytes, put_int, put_long, put_string, read_blob, read_frame,
+    read_name,
 };
 use std::test::Fail;
 use values::{Blob, Fault};
@@ -43,7 +43,7 @@ fn fields_are_read_and_written(rt: HostRuntime) -> Result<(), Fail> {
     put_long(&mut out, 0x1_0000_0001)?;
     put_bool(&mut out, true)?;
     put_bytes(&mut out, b"hi")?;
-    put_buffer(&mut out, None)?;
+    put_int(&mut out, -1)?;
     put_string(&mut out, "/a")?;
     let bytes =
         b"\xff\xff\xff\xfe\x00\x00\x00\x01\x00\x00\x00\x01\x01\x00\x00\x00\x02hi\xff\xff\xff\xff\x00\x00\x00\x02/a";

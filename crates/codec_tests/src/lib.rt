@@ -7,7 +7,11 @@ mod field_rows;
 #[cfg(test)]
 mod packet_rows;
 #[cfg(test)]
+mod path_rows;
+#[cfg(test)]
 mod record_rows;
+#[cfg(test)]
+mod rows;
 #[cfg(test)]
 mod txn_rows;
 #[cfg(test)]
@@ -19,19 +23,19 @@ use quorum_packet::{PacketKind, QuorumPacket, write_packet};
 use std::alloc::Global;
 use values::{Blob, NoMemory};
 
-/// The bytes of a packet that carries the data, for nobody's request.
+/// What is written of a packet that carries the bytes, for nobody's request.
 pub fn packet_bytes(
     alloc: Global,
     kind: PacketKind,
     zxid: i64,
-    data: &[u8],
+    bytes: &[u8],
 ) -> Result<Vec<u8>, NoMemory>
-    requires { length data.now < 2 ^ 31 }
+    requires { length bytes.now < 2 ^ 31 }
 {
     let packet = QuorumPacket {
         kind: kind.code(),
         zxid,
-        bytes: Some(Blob::new(alloc, data)?),
+        bytes: Some(Blob::new(alloc, bytes)?),
         authinfo: None,
     };
     let mut out = Vec::new(alloc);

@@ -110,7 +110,7 @@ fn fault_stays(rt: HostRuntime) -> Result<(), Fail> {
     let inform = with_data(alloc, PacketKind::Inform)?;
     let mut feed = PacketFeed::new(alloc);
     feed.feed(&with_data(alloc, PacketKind::UpToDate)?)?;
-    feed.feed(&inform[..12])?;
+    feed.feed(b"\0\0\0\x08\0\0\0\x01\0\0\0\x01")?;
     feed.feed(b"\xff\xff\xff\xfe")?;
     assert!(rt; next_outline(alloc, &mut feed)?.is_some());
     for _ in 0..2 {

@@ -6,7 +6,7 @@ use jute::{
 };
 use std::alloc::Global;
 use std::test::Fail;
-use values::{Bytes, NoMemory, Str, Text};
+use values::{Bytes, Listed, NoMemory, Str, Text};
 
 /// The frame that answers getData: header, bytes and Stat of a node that was created with two.
 const REPLY: [u8; 94] = *b"\x00\x00\x00\x5a\
@@ -128,7 +128,7 @@ fn acls_are_written(rt: HostRuntime) -> Result<(), Fail> {
         },
     };
     let mut out = Vec::new(alloc);
-    put_vector(&mut out, &[acl])?;
+    put_vector(&mut out, &Some(Listed::from_vec(vec![in alloc; acl]?)))?;
     assert_eq!(rt; out.as_slice(), OPEN.as_slice());
     Ok(())
 }

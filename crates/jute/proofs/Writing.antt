@@ -1,50 +1,39 @@
--- Fields that are written one behind another.
-use Rattle.std.proofs.Common.{◌≡◌, ℕ, List, [], ◌++◌, Result, Ok, Err, ◌∙◌, sym, ap, subst, append_assoc}
-use Rattle.std.specs.Prelude.{ℤ, OnOk, OnErr, FitsSigned}
+-- Loops that write items, or sum their lengths.
+use Rattle.std.proofs.Common.{◌≡◌, ℕ, suc, ◌+◌, ◌<◌, ◌≤◌, List, ◌∷◌, ◌++◌, length, take, drop, get_or, Result, Ok, Err, sym, ap, subst, ◌∙◌}
+use Rattle.std.specs.Prelude.{ℤ, FitsSigned}
 use Rattle.std.specs.Int.{Width}
-use Rattle.std.proofs.lemmas.Int.{to_z-of_z}
+use Rattle.std.specs.List.{flat_map}
+use Rattle.std.specs.Result.{IsErr}
 use mir.Val.{to_z, of_z}
-use Rattle.std.proofs.lemmas.List.{append-nil}
+use Rattle.std.proofs.lemmas.Int.{to_z-of_z}
+use Rattle.std.proofs.lemmas.Grind.{flat_map-append}
+use Rattle.std.proofs.lemmas.List.Concat.{flat_map-cons}
+use Rattle.std.proofs.lemmas.List.Folds.{length-flat_map-take}
+use Rattle.std.proofs.Math.Seq.{split_at}
+use Rattle.values.specs.Gains.{Gains, Puts}
 use Rattle.jute.specs.Format.{number_bytes}
-use Rattle.jute.specs.Writes.{IsFront}
+use Rattle.values.proofs.Gaining.{gains_first, gains_behind, gains_same}
 
--- the bytes were written behind the old ones
-pub record Puts (old bytes new : List ℕ) : Type 0 where
-  pub is : new ≡ old ++ bytes
+-- the items before one are put, and a front of that one
+pub gains_item : {A : Type 0} (w : A → List ℕ) (old mid new : List ℕ) (items : List A) (i : ℕ) (item : A) → i < length items → item ≡ get_or items i item
+    → mid ≡ old ++ flat_map w (take i items) → Gains mid (w item) new → Gains old (flat_map w items) new
+gains_item w old mid new items i item lt is put gains =
+    let behind = flat_map w (drop (suc i) items) in
+    let parts : items ≡ take i items ++ item ∷ drop (suc i) items = split_at items i item lt ∙ ap (λ x. take i items ++ x ∷ drop (suc i) items) (sym is) in
+    let whole : flat_map w items ≡ flat_map w (take i items) ++ (w item ++ behind) =
+    ap (flat_map w) parts ∙ flat_map-append w (take i items) (item ∷ drop (suc i) items) ∙ ap (λ x. flat_map w (take i items) ++ x) (flat_map-cons w item (drop (suc i) items)) in
+    gains_same (sym whole) (gains_behind old (flat_map w (take i items)) put (gains_first behind gains))
 
--- the same of the last field, whose answer is that of the whole
-pub record EndsWith {E : Type 0} (r : Result (Unit {0}) E) (old bytes new : List ℕ) : Type 0 where
-  pub is : OnOk r (new ≡ old ++ bytes)
+-- a call that failed has gained what is said
+pub fails : {E : Type 0} {old items new : List ℕ} (r : Result (Unit {0}) E) → IsErr r → Gains old items new → Puts r old items new
+fails (Ok u) h g = absurd cc
+fails (Err e) h g = g
 
 -- numbers, which are passed by their bits
-pub puts_number : (w : Width) (z : ℤ) (old new : List ℕ) → FitsSigned w z → new ≡ old ++ number_bytes w (to_z w (of_z w z)) → Puts old (number_bytes w z) new
-puts_number w z old new fits h = record { is = subst (λ (y : ℤ). new ≡ old ++ number_bytes w y) (to_z-of_z w z fits) h }
+pub puts_number : {E : Type 0} (r : Result (Unit {0}) E) (w : Width) (z : ℤ) (old new : List ℕ) → FitsSigned w z → Puts r old (number_bytes w (to_z w (of_z w z))) new → Puts r old (number_bytes w z) new
+puts_number r w z old new fits h = subst (λ (y : ℤ). Puts r old (number_bytes w y) new) (to_z-of_z w z fits) h
 
-pub ends_with_number : {E : Type 0} (r : Result (Unit {0}) E) (w : Width) (z : ℤ) (old new : List ℕ) → FitsSigned w z → OnOk r (new ≡ old ++ number_bytes w (to_z w (of_z w z))) → EndsWith r old (number_bytes w z) new
-ends_with_number r w z old new fits h = record { is = subst (λ (y : ℤ). OnOk r (new ≡ old ++ number_bytes w y)) (to_z-of_z w z fits) h }
-
-ends_behind : {E : Type 0} (r : Result (Unit {0}) E) (old mid new x y : List ℕ) → mid ≡ old ++ x → OnOk r (new ≡ mid ++ y) → OnOk r (new ≡ old ++ (x ++ y))
-ends_behind (Ok u) old mid new x y e h = h ∙ ap (λ (front : List ℕ). front ++ y) e ∙ append_assoc old x y
-ends_behind (Err d) old mid new x y e h = h
-
-pub then_ends : {E : Type 0} {r : Result (Unit {0}) E} {old mid new x y : List ℕ} → Puts old x mid → EndsWith r mid y new → EndsWith r old (x ++ y) new
-then_ends {r = r} {old} {mid} {new} {x} {y} p e = record { is = ends_behind r old mid new x y p.is e.is }
-
--- ---- what is left where memory was refused
-
-pub front_same : {old new : List ℕ} → new ≡ old → IsFront old new
-front_same {old} {new} e = record { rest = []; is = e ∙ sym (append-nil old) }
-
-pub front_more : (old bytes new : List ℕ) → new ≡ old ++ bytes → IsFront old new
-front_more old bytes new e = record { rest = bytes; is = e }
-
-pub front_trans : {a b c : List ℕ} → IsFront a b → IsFront b c → IsFront a c
-front_trans {a} {b} {c} p q = record { rest = p.rest ++ q.rest; is = q.is ∙ ap (λ (x : List ℕ). x ++ q.rest) p.is ∙ append_assoc a p.rest q.rest }
-
-pub fails : {E : Type 0} (r : Result (Unit {0}) E) {P : Type 0} → P → OnErr r P
-fails (Ok u) p = tt
-fails (Err e) p = p
-
-pub fails_behind : {E : Type 0} (r : Result (Unit {0}) E) (old mid new : List ℕ) → IsFront old mid → OnErr r (IsFront mid new) → OnErr r (IsFront old new)
-fails_behind (Ok u) old mid new p q = q
-fails_behind (Err e) old mid new p q = front_trans p q
+-- the items before one and that one are no longer than all
+pub length_item : {A : Type 0} (w : A → List ℕ) (items : List A) (i : ℕ) (item : A) → i < length items → item ≡ get_or items i item
+    → length (flat_map w (take i items)) + length (w item) ≤ length (flat_map w items)
+length_item w items i item lt is = subst (λ x. length (flat_map w (take i items)) + length (w x) ≤ length (flat_map w items)) (sym is) (length-flat_map-take w items i item lt)

@@ -1,11 +1,13 @@
 //! The frames of a client's connection.
 
-ghost use Rattle.jute.specs.Frame.{frame, frame_length};
+ghost use Rattle.jute.specs.Frame.{frame, frame_length, framed};
 ghost use Rattle.jute.specs.Format.{Took};
-ghost use Rattle.std.specs.Prelude.{◌≡◌};
+ghost use Rattle.std.specs.Prelude.{◌≡◌, ◌<◌, ◌^◌, length};
+ghost use Rattle.values.specs.Gains.{Puts};
 
 use crate::reader::Reader;
-use values::Fault;
+use crate::writer::{WriteRecord, put_int};
+use values::{Fault, NoMemory};
 
 // The length that a number stands for.
 fn frame_length(length: i32, limit: u32) -> Result<u32, Fault>
@@ -21,13 +23,13 @@ fn frame_length(length: i32, limit: u32) -> Result<u32, Fault>
     Ok(length)
 }
 
-/// Reads a frame: an int length from 0 to the limit, and that many bytes. Below 0 or above the limit
-/// it is `BadLength`, and with fewer bytes behind it `Short`. A refused read leaves the place.
-#[tactic(auto, unfolding(crate::specs::Frame::frame_at))]
+/// Reads a frame: an int length from 0 to the limit, and that many bytes. Below 0 or above the
+/// limit it is `BadLength`, and with fewer bytes behind it `Short`. A refused read leaves the place.
+#[tactic(auto, unfolding(crate::specs::Frame::frame_at, crate::specs::Format::judged_at))]
 pub fn read_frame<'a>(reader: &mut Reader<'a>, limit: u32) -> Result<&'a [u8], Fault>
     ensures { Took (frame limit) (λ b. b.now) result reader.old reader.new }
 {
-    let mut ahead = Reader::new(reader.rest());
+    let mut ahead = reader.ahead();
     let length = frame_length(ahead.read_int()?, limit)? as usize;
     let bytes = ahead.rest();
     if bytes.len() < length {
@@ -36,4 +38,14 @@ pub fn read_frame<'a>(reader: &mut Reader<'a>, limit: u32) -> Result<&'a [u8], F
     let (front, rest) = bytes.split_at(length);
     *reader = Reader::new(rest);
     Ok(front)
+}
+
+/// Writes a frame that holds the record: its length as an int, and its bytes.
+pub fn put_frame<T: WriteRecord>(out: &mut Vec<u8>, value: &T) -> Result<(), NoMemory>
+    requires writable { T.format.Writable value.now }
+    requires small { length (T.format.written value.now) < 2 ^ 31 }
+    ensures { Puts result out.old.items (framed (T.format.written value.now)) out.new.items }
+{
+    put_int(out, value.written_len() as i32)?;
+    value.write(out)
 }

@@ -1,12 +1,14 @@
 //! What stands in the frames of a client: headers, requests and replies. Texts and bytes are
 //! borrowed.
 
-ghost use Rattle.jute.specs.Records.{request_header, reply_header, get_data_request, get_data_response, IsWritableBuffer};
+ghost use Rattle.jute.specs.Format.{buffer};
+ghost use Rattle.jute.specs.Records.{request_header, reply_header, get_data_request, get_data_response};
+ghost use Rattle.values.specs.Gains.{Puts};
 
 use crate::reader::Reader;
 use crate::record::ReadRecord;
 use crate::stat::Stat;
-use crate::writer::{WriteRecord, put_bool, put_bytes, put_int, put_long, put_string};
+use crate::writer::{WriteRecord, put_bool, put_bytes, put_int, put_string};
 use std::alloc::Global;
 use values::{Bytes, NoMemory, ReadError, Str};
 
@@ -24,7 +26,7 @@ impl<'a> ReadRecord<'a> for RequestHeader {
 
     #[tactic(auto, unfolding(crate::specs::Records::request_header))]
     fn read(_alloc: Global, reader: &mut Reader<'a>) -> Result<RequestHeader, ReadError> {
-        let mut ahead = Reader::new(reader.rest());
+        let mut ahead = reader.ahead();
         let xid = ahead.read_int()?;
         let kind = ahead.read_int()?;
         *reader = ahead;
@@ -33,14 +35,17 @@ impl<'a> ReadRecord<'a> for RequestHeader {
 }
 
 impl WriteRecord for RequestHeader {
-    ghost IsWritable = { λ h. Unit {0} };
+    ghost format = { request_header };
 
-    ghost bytes_of = { request_header.written };
+    #[tactic(auto, unfolding(crate::specs::Records::request_header, crate::specs::Format::number_bytes))]
+    fn written_len(&self) -> usize {
+        8
+    }
 
     #[tactic(auto, unfolding(crate::specs::Records::request_header))]
     fn write(&self, out: &mut Vec<u8>) -> Result<(), NoMemory> {
-        put_int(out, self.xid)?;
-        put_int(out, self.kind)
+        self.xid.write(out)?;
+        self.kind.write(out)
     }
 }
 
@@ -60,7 +65,7 @@ impl<'a> ReadRecord<'a> for ReplyHeader {
 
     #[tactic(auto, unfolding(crate::specs::Records::reply_header))]
     fn read(_alloc: Global, reader: &mut Reader<'a>) -> Result<ReplyHeader, ReadError> {
-        let mut ahead = Reader::new(reader.rest());
+        let mut ahead = reader.ahead();
         let xid = ahead.read_int()?;
         let zxid = ahead.read_long()?;
         let err = ahead.read_int()?;
@@ -70,15 +75,18 @@ impl<'a> ReadRecord<'a> for ReplyHeader {
 }
 
 impl WriteRecord for ReplyHeader {
-    ghost IsWritable = { λ h. Unit {0} };
+    ghost format = { reply_header };
 
-    ghost bytes_of = { reply_header.written };
+    #[tactic(auto, unfolding(crate::specs::Records::reply_header, crate::specs::Format::number_bytes))]
+    fn written_len(&self) -> usize {
+        16
+    }
 
     #[tactic(auto, unfolding(crate::specs::Records::reply_header))]
     fn write(&self, out: &mut Vec<u8>) -> Result<(), NoMemory> {
-        put_int(out, self.xid)?;
-        put_long(out, self.zxid)?;
-        put_int(out, self.err)
+        self.xid.write(out)?;
+        self.zxid.write(out)?;
+        self.err.write(out)
     }
 }
 
@@ -96,7 +104,7 @@ impl<'a> ReadRecord<'a> for GetDataRequest<'a> {
 
     #[tactic(auto, unfolding(crate::specs::Records::get_data_request))]
     fn read(_alloc: Global, reader: &mut Reader<'a>) -> Result<GetDataRequest<'a>, ReadError> {
-        let mut ahead = Reader::new(reader.rest());
+        let mut ahead = reader.ahead();
         let path = ahead.read_string()?.map(Str::new);
         let watch = ahead.read_bool()?;
         *reader = ahead;
@@ -105,17 +113,31 @@ impl<'a> ReadRecord<'a> for GetDataRequest<'a> {
 }
 
 impl<'a> WriteRecord for GetDataRequest<'a> {
-    ghost IsWritable = { λ r. IsWritableBuffer r.path };
+    ghost format = { get_data_request };
 
-    ghost bytes_of = { get_data_request.written };
+    #[tactic(auto, unfolding(crate::specs::Records::get_data_request, crate::specs::Format::number_bytes))]
+    fn written_len(&self) -> usize {
+        match &self.path {
+            None => 5,
+            Some(path) => path.as_str().len() + 5,
+        }
+    }
 
     #[tactic(auto, unfolding(crate::specs::Records::get_data_request))]
     fn write(&self, out: &mut Vec<u8>) -> Result<(), NoMemory> {
-        match &self.path {
-            None => put_int(out, -1)?,
-            Some(path) => put_string(out, path.as_str())?,
-        }
+        put_text(out, &self.path)?;
         put_bool(out, self.watch)
+    }
+}
+
+// A ustring, or null.
+fn put_text(out: &mut Vec<u8>, text: &Option<Str<'_>>) -> Result<(), NoMemory>
+    requires { buffer.Writable text.now }
+    ensures { Puts result out.old.items (buffer.written text.now) out.new.items }
+{
+    match text {
+        None => put_int(out, -1),
+        Some(text) => put_string(out, text.as_str()),
     }
 }
 
@@ -132,7 +154,7 @@ impl<'a> ReadRecord<'a> for GetDataResponse<'a> {
 
     #[tactic(auto, unfolding(crate::specs::Records::get_data_response))]
     fn read(alloc: Global, reader: &mut Reader<'a>) -> Result<GetDataResponse<'a>, ReadError> {
-        let mut ahead = Reader::new(reader.rest());
+        let mut ahead = reader.ahead();
         let bytes = ahead.read_buffer()?.map(Bytes::new);
         let stat = Stat::read(alloc, &mut ahead)?;
         *reader = ahead;
@@ -141,9 +163,15 @@ impl<'a> ReadRecord<'a> for GetDataResponse<'a> {
 }
 
 impl<'a> WriteRecord for GetDataResponse<'a> {
-    ghost IsWritable = { λ r. IsWritableBuffer r.bytes };
+    ghost format = { get_data_response };
 
-    ghost bytes_of = { get_data_response.written };
+    #[tactic(auto, unfolding(crate::specs::Records::get_data_response, crate::specs::Format::number_bytes))]
+    fn written_len(&self) -> usize {
+        match &self.bytes {
+            None => 4 + self.stat.written_len(),
+            Some(bytes) => 4 + bytes.as_slice().len() + self.stat.written_len(),
+        }
+    }
 
     #[tactic(auto, unfolding(crate::specs::Records::get_data_response))]
     fn write(&self, out: &mut Vec<u8>) -> Result<(), NoMemory> {

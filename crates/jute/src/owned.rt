@@ -1,11 +1,10 @@
 //! What owns the bytes that were read: buffers, and who may do what with a node.
 
-ghost use Rattle.std.specs.Prelude.{◌≡◌, ◌++◌, OnOk, OnErr};
+ghost use Rattle.std.specs.Prelude.{◌≡◌, length};
 ghost use Rattle.jute.specs.Format.{buffer};
-ghost use Rattle.jute.specs.Owned.{id, acl, IsWritableId};
+ghost use Rattle.jute.specs.Owned.{id, acl};
 ghost use Rattle.jute.specs.Reads.{Gives};
-ghost use Rattle.jute.specs.Records.{IsWritableBuffer};
-ghost use Rattle.jute.specs.Writes.{IsFront};
+ghost use Rattle.values.specs.Gains.{Puts};
 
 use crate::reader::Reader;
 use crate::record::{ReadRecord, read_name};
@@ -17,7 +16,7 @@ use values::{Blob, NoMemory, ReadError, Text};
 pub fn read_blob(alloc: Global, reader: &mut Reader<'_>) -> Result<Option<Blob>, ReadError>
     ensures { Gives buffer.read (λ b. b) result reader.old reader.new }
 {
-    let mut ahead = Reader::new(reader.rest());
+    let mut ahead = reader.ahead();
     let bytes = match ahead.read_buffer()? {
         None => None,
         Some(bytes) => Some(Blob::new(alloc, bytes)?),
@@ -26,11 +25,22 @@ pub fn read_blob(alloc: Global, reader: &mut Reader<'_>) -> Result<Option<Blob>,
     Ok(bytes)
 }
 
-/// Writes a buffer, or null. Where memory is refused, a front of its bytes may stand behind the old ones.
+/// How many bytes a buffer takes, or null.
+#[tactic(auto, unfolding(crate::specs::Format::number_bytes))]
+pub fn blob_len(bytes: &Option<Blob>) -> usize
+    requires { buffer.Writable bytes.now }
+    ensures { result ≡ length (buffer.written bytes.now) }
+{
+    match bytes {
+        None => 4,
+        Some(bytes) => 4 + bytes.as_slice().len(),
+    }
+}
+
+/// Writes a buffer, or null.
 pub fn put_blob(out: &mut Vec<u8>, bytes: &Option<Blob>) -> Result<(), NoMemory>
-    requires { IsWritableBuffer bytes.now }
-    ensures ok { OnOk result (out.new.items ≡ out.old.items ++ buffer.written bytes.now) }
-    ensures err { OnErr result (IsFront out.old.items out.new.items) }
+    requires { buffer.Writable bytes.now }
+    ensures { Puts result out.old.items (buffer.written bytes.now) out.new.items }
 {
     match bytes {
         None => put_int(out, -1),
@@ -60,7 +70,7 @@ impl<'a> ReadRecord<'a> for Id {
 
     #[tactic(auto, unfolding(crate::specs::Owned::id))]
     fn read(alloc: Global, reader: &mut Reader<'a>) -> Result<Id, ReadError> {
-        let mut ahead = Reader::new(reader.rest());
+        let mut ahead = reader.ahead();
         let scheme = Text::new(alloc, read_name(&mut ahead)?.as_str())?;
         let id = Text::new(alloc, read_name(&mut ahead)?.as_str())?;
         *reader = ahead;
@@ -73,7 +83,7 @@ impl<'a> ReadRecord<'a> for Acl {
 
     #[tactic(auto, unfolding(crate::specs::Owned::acl))]
     fn read(alloc: Global, reader: &mut Reader<'a>) -> Result<Acl, ReadError> {
-        let mut ahead = Reader::new(reader.rest());
+        let mut ahead = reader.ahead();
         let perms = ahead.read_int()?;
         let id = Id::read(alloc, &mut ahead)?;
         *reader = ahead;
@@ -82,9 +92,12 @@ impl<'a> ReadRecord<'a> for Acl {
 }
 
 impl WriteRecord for Id {
-    ghost IsWritable = { IsWritableId };
+    ghost format = { id };
 
-    ghost bytes_of = { id.written };
+    #[tactic(auto, unfolding(crate::specs::Owned::id, crate::specs::Format::number_bytes))]
+    fn written_len(&self) -> usize {
+        4 + self.scheme.as_str().len() + 4 + self.id.as_str().len()
+    }
 
     #[tactic(auto, unfolding(crate::specs::Owned::id))]
     fn write(&self, out: &mut Vec<u8>) -> Result<(), NoMemory> {
@@ -94,13 +107,16 @@ impl WriteRecord for Id {
 }
 
 impl WriteRecord for Acl {
-    ghost IsWritable = { λ a. IsWritableId a.id };
+    ghost format = { acl };
 
-    ghost bytes_of = { acl.written };
+    #[tactic(auto, unfolding(crate::specs::Owned::acl, crate::specs::Format::number_bytes))]
+    fn written_len(&self) -> usize {
+        4 + self.id.written_len()
+    }
 
     #[tactic(auto, unfolding(crate::specs::Owned::acl))]
     fn write(&self, out: &mut Vec<u8>) -> Result<(), NoMemory> {
-        put_int(out, self.perms)?;
+        self.perms.write(out)?;
         self.id.write(out)
     }
 }

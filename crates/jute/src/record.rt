@@ -26,7 +26,7 @@ fn read_items<'a, T: ReadRecord<'a>>(
 ) -> Result<Vec<T>, ReadError>
     ensures { Gives (times T.read_of count) (λ v. v.items) result reader.old reader.new }
 {
-    let mut ahead = Reader::new(reader.rest());
+    let mut ahead = reader.ahead();
     let mut items = Vec::new(alloc);
     for _ in 0..count {
         items.push(T::read(alloc, &mut ahead)?)?;
@@ -44,7 +44,7 @@ pub fn read_vector<'a, T: ReadRecord<'a>>(
 ) -> Result<Option<Listed<T>>, ReadError>
     ensures { Gives (vector_at T.read_of) (λ v. v) result reader.old reader.new }
 {
-    let mut ahead = Reader::new(reader.rest());
+    let mut ahead = reader.ahead();
     let Some(count) = ahead.read_count()? else {
         *reader = ahead;
         return Ok(None);
@@ -55,6 +55,7 @@ pub fn read_vector<'a, T: ReadRecord<'a>>(
 }
 
 /// Reads a ustring, where null is read as empty.
+#[tactic(auto, unfolding(crate::specs::Format::judged_at))]
 pub fn read_name<'a>(reader: &mut Reader<'a>) -> Result<Str<'a>, Fault>
     ensures { Took name (λ t. t) result reader.old reader.new }
 {

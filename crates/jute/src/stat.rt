@@ -1,10 +1,11 @@
 //! What a node is said to be.
 
-ghost use Rattle.jute.specs.Records.{stat};
+ghost use Rattle.jute.specs.Records.{stat, stat_persisted, four_longs, three_ints};
+ghost use Rattle.values.specs.Gains.{Puts};
 
 use crate::reader::Reader;
 use crate::record::ReadRecord;
-use crate::writer::{WriteRecord, put_int, put_long};
+use crate::writer::WriteRecord;
 use std::alloc::Global;
 use values::{NoMemory, ReadError};
 
@@ -40,7 +41,7 @@ impl<'a> ReadRecord<'a> for Stat {
 
     #[tactic(auto, unfolding(crate::specs::Records::stat))]
     fn read(_alloc: Global, reader: &mut Reader<'a>) -> Result<Stat, ReadError> {
-        let mut ahead = Reader::new(reader.rest());
+        let mut ahead = reader.ahead();
         let stat = Stat {
             czxid: ahead.read_long()?,
             mzxid: ahead.read_long()?,
@@ -60,22 +61,107 @@ impl<'a> ReadRecord<'a> for Stat {
 }
 
 impl WriteRecord for Stat {
-    ghost IsWritable = { λ s. Unit {0} };
+    ghost format = { stat };
 
-    ghost bytes_of = { stat.written };
+    #[tactic(auto, unfolding(crate::specs::Records::stat, crate::specs::Format::number_bytes))]
+    fn written_len(&self) -> usize {
+        68
+    }
 
     #[tactic(auto, unfolding(crate::specs::Records::stat))]
     fn write(&self, out: &mut Vec<u8>) -> Result<(), NoMemory> {
-        put_long(out, self.czxid)?;
-        put_long(out, self.mzxid)?;
-        put_long(out, self.ctime)?;
-        put_long(out, self.mtime)?;
-        put_int(out, self.version)?;
-        put_int(out, self.cversion)?;
-        put_int(out, self.aversion)?;
-        put_long(out, self.ephemeral_owner)?;
-        put_int(out, self.data_length)?;
-        put_int(out, self.num_children)?;
-        put_long(out, self.pzxid)
+        put_four_longs(out, &self.czxid, &self.mzxid, &self.ctime, &self.mtime)?;
+        put_three_ints(out, &self.version, &self.cversion, &self.aversion)?;
+        self.ephemeral_owner.write(out)?;
+        self.data_length.write(out)?;
+        self.num_children.write(out)?;
+        self.pzxid.write(out)
     }
+}
+
+/// The StatPersisted of zookeeper.jute, 60 bytes: the numbers of a node that are kept.
+#[derive(Clone, Copy, Debug, PartialEq, Eq)]
+pub struct StatPersisted {
+    /// The zxid of the node's creation.
+    pub czxid: i64,
+    /// The zxid of the last change of the node's bytes.
+    pub mzxid: i64,
+    /// When the node was created, in milliseconds since 1970.
+    pub ctime: i64,
+    /// When the node's bytes were last changed, in milliseconds since 1970.
+    pub mtime: i64,
+    /// How often the node's bytes were changed.
+    pub version: i32,
+    /// How often a child was created.
+    pub cversion: i32,
+    /// How often the node's ACL was changed.
+    pub aversion: i32,
+    /// The session that owns an ephemeral node, and 0 for any other.
+    pub ephemeral_owner: i64,
+    /// The zxid of the last change of the node's children.
+    pub pzxid: i64,
+}
+
+impl<'a> ReadRecord<'a> for StatPersisted {
+    ghost read_of = { stat_persisted.read };
+
+    #[tactic(auto, unfolding(crate::specs::Records::stat_persisted))]
+    fn read(_alloc: Global, reader: &mut Reader<'a>) -> Result<StatPersisted, ReadError> {
+        let mut ahead = reader.ahead();
+        let stat = StatPersisted {
+            czxid: ahead.read_long()?,
+            mzxid: ahead.read_long()?,
+            ctime: ahead.read_long()?,
+            mtime: ahead.read_long()?,
+            version: ahead.read_int()?,
+            cversion: ahead.read_int()?,
+            aversion: ahead.read_int()?,
+            ephemeral_owner: ahead.read_long()?,
+            pzxid: ahead.read_long()?,
+        };
+        *reader = ahead;
+        Ok(stat)
+    }
+}
+
+impl WriteRecord for StatPersisted {
+    ghost format = { stat_persisted };
+
+    #[tactic(auto, unfolding(crate::specs::Records::stat_persisted, crate::specs::Format::number_bytes))]
+    fn written_len(&self) -> usize {
+        60
+    }
+
+    #[tactic(auto, unfolding(crate::specs::Records::stat_persisted))]
+    fn write(&self, out: &mut Vec<u8>) -> Result<(), NoMemory> {
+        put_four_longs(out, &self.czxid, &self.mzxid, &self.ctime, &self.mtime)?;
+        put_three_ints(out, &self.version, &self.cversion, &self.aversion)?;
+        self.ephemeral_owner.write(out)?;
+        self.pzxid.write(out)
+    }
+}
+
+// Four longs, one behind the other.
+fn put_four_longs(
+    out: &mut Vec<u8>,
+    a: &i64,
+    b: &i64,
+    c: &i64,
+    d: &i64,
+) -> Result<(), NoMemory>
+    ensures { Puts result out.old.items (four_longs a.now b.now c.now d.now) out.new.items }
+{
+    a.write(out)?;
+    b.write(out)?;
+    c.write(out)?;
+    d.write(out)
+}
+
+// Three ints, one behind the other.
+fn put_three_ints(out: &mut Vec<u8>, a: &i32, b: &i32, c: &i32) -> Result<(), NoMemory>
+    ensures { Puts result out.old.items (three_ints a.now b.now c.now) out.new.items }
+{
+    a.write(out)?;
+    b.write(out)?;
+    c.write(out)
 }

@@ -1,19 +1,18 @@
-//! Fields that are written behind a byte text. Where memory is refused, some of the new bytes may
-//! stand behind the old ones.
+//! Fields that are written behind a byte text. Where memory is refused, a front of the new bytes
+//! stands behind the old ones.
 
-ghost use Rattle.std.specs.Prelude.{◌≡◌, ◌<◌, ◌^◌, ◌++◌, length, OnOk, OnErr, IfSome, Some, option_map, List, ℕ, All};
+ghost use Rattle.std.specs.Prelude.{◌≡◌, ◌<◌, ◌^◌, length, Some, List, ℕ, All};
 ghost use Rattle.std.specs.List.{flat_map};
-ghost use Rattle.jute.specs.Format.{int, long, boolean, buffer, vector_bytes};
-ghost use Rattle.jute.specs.Writes.{IsFront};
+ghost use Rattle.values.specs.Gains.{Puts};
+ghost use Rattle.jute.specs.Format.{Format, int, long, boolean, buffer, vector};
 
 use byteorder::{BigEndian, ByteOrder};
-use values::NoMemory;
+use values::{Listed, NoMemory};
 
 /// Writes an int: 4 bytes, big-endian two's complement.
-#[tactic(auto, unfolding(crate::specs::Format::number_bytes))]
+#[tactic(auto, using(values::proofs::Gaining::gains_nothing), unfolding(crate::specs::Format::number_bytes))]
 pub fn put_int(out: &mut Vec<u8>, n: i32) -> Result<(), NoMemory>
-    ensures ok { OnOk result (out.new.items ≡ out.old.items ++ int.written n) }
-    ensures err { OnErr result (IsFront out.old.items out.new.items) }
+    ensures { Puts result out.old.items (int.written n) out.new.items }
 {
     let mut bytes = [0; 4];
     BigEndian::write_i32(&mut bytes, n);
@@ -21,10 +20,9 @@ pub fn put_int(out: &mut Vec<u8>, n: i32) -> Result<(), NoMemory>
 }
 
 /// Writes a long: 8 bytes, big-endian two's complement.
-#[tactic(auto, unfolding(crate::specs::Format::number_bytes))]
+#[tactic(auto, using(values::proofs::Gaining::gains_nothing), unfolding(crate::specs::Format::number_bytes))]
 pub fn put_long(out: &mut Vec<u8>, n: i64) -> Result<(), NoMemory>
-    ensures ok { OnOk result (out.new.items ≡ out.old.items ++ long.written n) }
-    ensures err { OnErr result (IsFront out.old.items out.new.items) }
+    ensures { Puts result out.old.items (long.written n) out.new.items }
 {
     let mut bytes = [0; 8];
     BigEndian::write_i64(&mut bytes, n);
@@ -32,9 +30,9 @@ pub fn put_long(out: &mut Vec<u8>, n: i64) -> Result<(), NoMemory>
 }
 
 /// Writes a boolean: one byte, 1 or 0.
+#[tactic(auto, using(values::proofs::Gaining::gains_nothing))]
 pub fn put_bool(out: &mut Vec<u8>, b: bool) -> Result<(), NoMemory>
-    ensures ok { OnOk result (out.new.items ≡ out.old.items ++ boolean.written b) }
-    ensures err { OnErr result (IsFront out.old.items out.new.items) }
+    ensures { Puts result out.old.items (boolean.written b) out.new.items }
 {
     out.push(if b { 1 } else { 0 })?;
     Ok(())
@@ -43,51 +41,68 @@ pub fn put_bool(out: &mut Vec<u8>, b: bool) -> Result<(), NoMemory>
 /// Writes a buffer that is not null: an int length, and the bytes.
 pub fn put_bytes(out: &mut Vec<u8>, bytes: &[u8]) -> Result<(), NoMemory>
     requires { length bytes.now < 2 ^ 31 }
-    ensures ok { OnOk result (out.new.items ≡ out.old.items ++ buffer.written (Some bytes.now)) }
-    ensures err { OnErr result (IsFront out.old.items out.new.items) }
+    ensures { Puts result out.old.items (buffer.written (Some bytes.now)) out.new.items }
 {
     put_int(out, bytes.len() as i32)?;
-    Ok(out.extend_from_slice(bytes)?)
-}
-
-/// Writes a buffer; `None` is null, the length -1.
-pub fn put_buffer(out: &mut Vec<u8>, bytes: Option<&[u8]>) -> Result<(), NoMemory>
-    requires { IfSome bytes (λ b. length b.now < 2 ^ 31) }
-    ensures ok { OnOk result (out.new.items ≡ out.old.items ++ buffer.written (option_map (λ b. b.now) bytes.entry)) }
-    ensures err { OnErr result (IsFront out.old.items out.new.items) }
-{
-    match bytes {
-        None => put_int(out, -1),
-        Some(bytes) => put_bytes(out, bytes),
-    }
+    out.extend_from_slice(bytes)?;
+    Ok(())
 }
 
 /// Writes a ustring that is not null: an int length, and the bytes of its UTF-8.
 pub fn put_string(out: &mut Vec<u8>, text: &str) -> Result<(), NoMemory>
     requires { length text.now < 2 ^ 31 }
-    ensures ok { OnOk result (out.new.items ≡ out.old.items ++ buffer.written (Some text.now)) }
-    ensures err { OnErr result (IsFront out.old.items out.new.items) }
+    ensures { Puts result out.old.items (buffer.written (Some text.now)) out.new.items }
 {
     put_bytes(out, text.as_bytes())
 }
 
-/// What is written behind a byte text in one spelling.
+/// What is written behind a byte text in the one spelling of its format.
 pub trait WriteRecord: Sized {
-    // Lengths and counts fit an int.
-    ghost IsWritable: { Self → Type 0 };
+    ghost format: { Format Self };
 
-    ghost bytes_of: { Self → List ℕ };
+    /// How many bytes are written.
+    fn written_len(&self) -> usize
+        requires writable { format.Writable self.now }
+        requires small { length (format.written self.now) < 2 ^ 63 }
+        ensures { result ≡ length (format.written self.now) };
 
     fn write(&self, out: &mut Vec<u8>) -> Result<(), NoMemory>
-        requires { IsWritable self.now }
-        ensures ok { OnOk result (out.new.items ≡ out.old.items ++ bytes_of self.now) }
-        ensures err { OnErr result (IsFront out.old.items out.new.items) };
+        requires { format.Writable self.now }
+        ensures { Puts result out.old.items (format.written self.now) out.new.items };
 }
 
-fn put_items<T: WriteRecord>(out: &mut Vec<u8>, items: &[T]) -> Result<(), NoMemory>
-    requires { All T.IsWritable items.now }
-    ensures ok { OnOk result (out.new.items ≡ out.old.items ++ flat_map T.bytes_of items.now) }
-    ensures err { OnErr result (IsFront out.old.items out.new.items) }
+impl WriteRecord for i32 {
+    ghost format = { int };
+
+    #[tactic(auto, unfolding(crate::specs::Format::number_bytes))]
+    fn written_len(&self) -> usize {
+        4
+    }
+
+    #[tactic(auto, using(crate::proofs::Writing::puts_number))]
+    fn write(&self, out: &mut Vec<u8>) -> Result<(), NoMemory> {
+        put_int(out, *self)
+    }
+}
+
+impl WriteRecord for i64 {
+    ghost format = { long };
+
+    #[tactic(auto, unfolding(crate::specs::Format::number_bytes))]
+    fn written_len(&self) -> usize {
+        8
+    }
+
+    #[tactic(auto, using(crate::proofs::Writing::puts_number))]
+    fn write(&self, out: &mut Vec<u8>) -> Result<(), NoMemory> {
+        put_long(out, *self)
+    }
+}
+
+/// Writes records, one behind the other.
+pub fn put_items<T: WriteRecord>(out: &mut Vec<u8>, items: &[T]) -> Result<(), NoMemory>
+    requires { All T.format.Writable items.now }
+    ensures { Puts result out.old.items (flat_map T.format.written items.now) out.new.items }
 {
     for item in items {
         item.write(out)?;
@@ -95,13 +110,46 @@ fn put_items<T: WriteRecord>(out: &mut Vec<u8>, items: &[T]) -> Result<(), NoMem
     Ok(())
 }
 
-/// Writes a vector that is not null: an int count, and the records one behind the other.
-pub fn put_vector<T: WriteRecord>(out: &mut Vec<u8>, items: &[T]) -> Result<(), NoMemory>
-    requires count { length items.now < 2 ^ 31 }
-    requires items { All T.IsWritable items.now }
-    ensures ok { OnOk result (out.new.items ≡ out.old.items ++ vector_bytes T.bytes_of (Some items.now)) }
-    ensures err { OnErr result (IsFront out.old.items out.new.items) }
+/// How many bytes records take, one behind the other.
+pub fn items_len<T: WriteRecord>(items: &[T]) -> usize
+    requires writable { All T.format.Writable items.now }
+    requires small { length (flat_map T.format.written items.now) < 2 ^ 63 }
+    ensures { result ≡ length (flat_map T.format.written items.now) }
 {
-    put_int(out, items.len() as i32)?;
-    put_items(out, items)
+    let mut len = 0;
+    for item in items {
+        len += item.written_len();
+    }
+    len
+}
+
+/// How many bytes a vector takes, or null.
+#[tactic(auto, unfolding(crate::specs::Format::number_bytes))]
+pub fn vector_len<T: WriteRecord>(items: &Option<Listed<T>>) -> usize
+    requires writable { (vector T.format).Writable items.now }
+    requires small { length ((vector T.format).written items.now) < 2 ^ 63 }
+    ensures { result ≡ length ((vector T.format).written items.now) }
+{
+    match items {
+        None => 4,
+        Some(items) => 4 + items_len(items.as_slice()),
+    }
+}
+
+/// Writes a vector: an int count, and the records one behind the other; `None` is null, the
+/// count -1.
+pub fn put_vector<T: WriteRecord>(
+    out: &mut Vec<u8>,
+    items: &Option<Listed<T>>,
+) -> Result<(), NoMemory>
+    requires { (vector T.format).Writable items.now }
+    ensures { Puts result out.old.items ((vector T.format).written items.now) out.new.items }
+{
+    match items {
+        None => put_int(out, -1),
+        Some(items) => {
+            put_int(out, items.len() as i32)?;
+            put_items(out, items.as_slice())
+        }
+    }
 }

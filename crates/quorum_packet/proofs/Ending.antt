@@ -4,7 +4,7 @@ use Rattle.std.specs.Prelude.{ℤ}
 use Rattle.values.specs.declared.fault.Fault.{Fault}
 use Rattle.values.specs.declared.fault.Fault.TheVariants.{Short}
 use Rattle.jute.specs.Stream.{Place, Items, items, place_at, refused}
-use Rattle.jute.proofs.Streaming.{items_whole, items_refused, shorter_rest}
+use Rattle.jute.proofs.Public.{items_whole, items_refused, shorter_rest}
 use Rattle.quorum_packet.specs.declared.packet.QuorumPacket.{QuorumPacket}
 use Rattle.quorum_packet.specs.declared.phase.Phase.{Phase}
 use Rattle.quorum_packet.specs.declared.phase.Phase.TheVariants.{Packets, ImageOwed}

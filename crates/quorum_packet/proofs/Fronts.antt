@@ -5,7 +5,7 @@ use Rattle.values.specs.declared.fault.Fault.{Fault}
 use Rattle.values.specs.declared.fault.Fault.TheVariants.{Short}
 use Rattle.jute.specs.Laws.{IsBytes}
 use Rattle.jute.specs.Stream.{Unread, Place, items, before, nothing}
-use Rattle.jute.proofs.Streaming.{items_whole, items_short, items_refused, shorter_rest, refused_other}
+use Rattle.jute.proofs.Public.{items_whole, items_short, items_refused, shorter_rest, refused_other}
 use Rattle.quorum_packet.specs.declared.packet.QuorumPacket.{QuorumPacket}
 use Rattle.quorum_packet.specs.declared.phase.Phase.{Phase}
 use Rattle.quorum_packet.specs.declared.phase.Phase.TheVariants.{Packets, ImageOwed}
@@ -24,6 +24,10 @@ pub front : (bytes rest : List ℕ) (p : QuorumPacket) → IsBytes bytes → pac
 front bytes rest p h e =
     let t = packet_sound.lawful.takes bytes p rest h e in
     e ∙ ap (λ (b : List ℕ). Ok (p, b)) (sym (drop_front_of bytes t.text rest t.parts))
+
+-- what was read can be written
+pub read_writable : (bytes rest : List ℕ) (p : QuorumPacket) → IsBytes bytes → packet.read bytes ≡ Ok (p, rest) → packet.Writable p
+read_writable bytes rest p h e = let t = packet_sound.lawful.takes bytes p rest h e in packet_sound.writable p (packet_sound.limited p t.text t.spells)
 
 -- what the feed's fields stand for
 abbrev place_of : List ℕ → Phase → Option Fault → Place Phase

@@ -2,16 +2,12 @@
 use Rattle.std.proofs.Common.{◌≡◌, ℕ, zero, suc, ◌-◌, ◌*◌, ◌<◌, ◌≤◌, List, [], ◌∷◌, ◌++◌, length, drop, take, Option, Some, None, Result, Ok, Err, refl, sym, ap, subst, ◌∙◌, append_assoc, arith, inl, inr}
 use Rattle.std.specs.Prelude.{ℤ, unwrap_or, OnOk, OnErr}
 use Rattle.std.proofs.lemmas.List.{length-append, drop_at, drop-append-le, take-append-drop, append-nil}
-use Rattle.std.specs.Int.{w32, w64}
 use Rattle.values.specs.declared.fault.Fault.{Fault}
-use Rattle.jute.specs.Format.{◌>>=◌, Format, int, long, buffer, name, count_limit, length_at, times, items_at, vector_at, both, mapped}
+use Rattle.jute.specs.Format.{◌>>=◌, Format, int, long, buffer, name, count, count_limit, times, items_at, vector_at, both, mapped}
 use Rattle.jute.specs.Laws.{IsBytes}
 use Rattle.jute.specs.Owned.{id}
 use Rattle.jute.specs.Pieces.{Stands, Pieced}
-use Rattle.jute.proofs.Refusals.{bind_err}
-use Rattle.jute.proofs.Lawfulness.{int_lawful, long_lawful, IsBytes-drop}
-use Rattle.jute.proofs.Fields.{buffer_lawful, name_lawful, length_takes}
-use Rattle.jute.proofs.InPieces.{number_pieced, buffer_pieced, name_pieced, length_stands}
+use Rattle.jute.proofs.Public.{IsBytes-drop, bind_err, int_sound, long_sound, buffer_sound, count_sound, name_sound}
 use Rattle.quorum_packet.specs.declared.unseen.Texts.{Texts}
 use Rattle.quorum_packet.specs.declared.unseen.Unseen.{Unseen}
 use Rattle.quorum_packet.specs.declared.unseen.Unseen.TheVariants as unseen
@@ -97,12 +93,11 @@ counted_refused None bytes e h = absurd (no_times name bytes e h)
 counted_refused (Some n) bytes e h = rw (ids_refused n bytes e h) refl
 
 pub fields_refused : (bytes b1 b2 b3 b4 more : List ℕ) (kind zxid : ℤ) (carried : Option (List ℕ)) (ids : Option ℕ) (e : Fault)
-    → int.read bytes ≡ Ok (kind, b1) → long.read b1 ≡ Ok (zxid, b2) → buffer.read b2 ≡ Ok (carried, b3) → length_at count_limit b3 ≡ Ok (ids, b4)
+    → int.read bytes ≡ Ok (kind, b1) → long.read b1 ≡ Ok (zxid, b2) → buffer.read b2 ≡ Ok (carried, b3) → (count count_limit).read b3 ≡ Ok (ids, b4)
     → times name.read (2 * unwrap_or ids 0) (b4 ++ more) ≡ Err e → packet.read (bytes ++ more) ≡ Err e
 unfolding packet vector_at
 fields_refused bytes b1 b2 b3 b4 more kind zxid carried ids e h1 h2 h3 h4 k =
-    let counted : length_at count_limit (b3 ++ more) ≡ Ok (ids, b4 ++ more) = subst (λ (r : Result (Option ℕ × List ℕ) Fault). Stands r more (length_at count_limit (b3 ++ more))) h4 (length_stands count_limit b3 more) in
-    rw (stands_ok int (number_pieced w32) bytes b1 more kind h1, stands_ok long (number_pieced w64) b1 b2 more zxid h2, stands_ok buffer buffer_pieced b2 b3 more carried h3, counted, counted_refused ids (b4 ++ more) e k) refl
+    rw (stands_ok int int_sound.pieced bytes b1 more kind h1, stands_ok long long_sound.pieced b1 b2 more zxid h2, stands_ok buffer buffer_sound.pieced b2 b3 more carried h3, stands_ok (count count_limit) (count_sound count_limit).pieced b3 b4 more ids h4, counted_refused ids (b4 ++ more) e k) refl
 
 -- ---- what wasn't looked at
 
@@ -128,13 +123,13 @@ abbrev texts_at : List ℕ → List ℕ → ℕ → Texts
 texts_at bytes rest count = record { start = length bytes - length rest; count = count }
 
 pub fields_unseen : (bytes b1 b2 b3 b4 : List ℕ) (kind zxid : ℤ) (carried : Option (List ℕ)) (ids : Option ℕ)
-    → IsBytes bytes → int.read bytes ≡ Ok (kind, b1) → long.read b1 ≡ Ok (zxid, b2) → buffer.read b2 ≡ Ok (carried, b3) → length_at count_limit b3 ≡ Ok (ids, b4)
+    → IsBytes bytes → int.read bytes ≡ Ok (kind, b1) → long.read b1 ≡ Ok (zxid, b2) → buffer.read b2 ≡ Ok (carried, b3) → (count count_limit).read b3 ≡ Ok (ids, b4)
     → (length b4 ≤ length bytes) × AreUnseen bytes (texts_at bytes b4 (2 * unwrap_or ids 0))
 fields_unseen bytes b1 b2 b3 b4 kind zxid carried ids fits h1 h2 h3 h4 =
-    let t1 = int_lawful.takes bytes kind b1 fits h1 in
-    let t2 = long_lawful.takes b1 zxid b2 t1.rest_fits h2 in
-    let t3 = buffer_lawful.takes b2 carried b3 t2.rest_fits h3 in
-    let t4 = length_takes count_limit b3 ids b4 t3.rest_fits h4 in
+    let t1 = int_sound.lawful.takes bytes kind b1 fits h1 in
+    let t2 = long_sound.lawful.takes b1 zxid b2 t1.rest_fits h2 in
+    let t3 = buffer_sound.lawful.takes b2 carried b3 t2.rest_fits h3 in
+    let t4 = (count_sound count_limit).lawful.takes b3 ids b4 t3.rest_fits h4 in
     let p2 = joined_fronts bytes t1.text b1 t2.text b2 t1.parts t2.parts in
     let p3 = joined_fronts bytes (t1.text ++ t2.text) b2 t3.text b3 p2 t3.parts in
     let p4 = joined_fronts bytes ((t1.text ++ t2.text) ++ t3.text) b3 t4.text b4 p3 t4.parts in
@@ -162,14 +157,14 @@ module _ (bytes ahead : List ℕ) (texts : Texts) (u : AreUnseen bytes texts) (s
   pub text_unseen : (rest v : List ℕ) → IsBytes bytes → name.read ahead ≡ Ok (v, rest)
       → (length rest ≤ length bytes) × AreUnseen bytes (texts_at bytes rest (texts.count - 1)) × (rest ≡ drop (length bytes - length rest) bytes)
   text_unseen rest v fits h =
-      let t = name_lawful.takes ahead v rest (subst IsBytes (sym is) (IsBytes-drop texts.start bytes fits)) h in
+      let t = name_sound.lawful.takes ahead v rest (subst IsBytes (sym is) (IsBytes-drop texts.start bytes fits)) h in
       let front : bytes ≡ take texts.start bytes ++ ahead = sym (take-append-drop texts.start bytes) ∙ ap (λ (b : List ℕ). take texts.start bytes ++ b) (sym is) in
       let whole = joined_fronts bytes (take texts.start bytes) ahead t.text rest front t.parts in
       let text = take texts.start bytes ++ t.text in (
         shorter bytes text rest whole,
         record {
           within = omega arith;
-          refuses = λ more e k. at_texts more e (times_next name name_pieced (texts.count - 1) ahead rest more v e h (rw (drop_more bytes text rest more whole) at k));
+          refuses = λ more e k. at_texts more e (times_next name name_sound.pieced (texts.count - 1) ahead rest more v e h (rw (drop_more bytes text rest more whole) at k));
         },
         sym (drop_front_of bytes text rest whole),
       )

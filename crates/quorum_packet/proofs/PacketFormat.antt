@@ -2,18 +2,18 @@
 use Rattle.std.proofs.Common.{refl}
 use Rattle.jute.specs.Relation.{LawfulIn, AreLawful}
 use Rattle.jute.specs.Stream.{Streamed, StreamedIn, IsStream}
-use Rattle.jute.proofs.Sound.{Sound, int_sound, long_sound, buffer_sound, both_sound, mapped_sound, vector_sound}
-use Rattle.jute.proofs.Records.{id_sound}
+use Rattle.jute.specs.Laws.{Sound}
+use Rattle.jute.proofs.Public.{int_sound, long_sound, buffer_sound, both_sound, mapped_sound, vector_sound, id_sound}
 use Rattle.quorum_packet.specs.declared.phase.Phase.{Phase}
 use Rattle.quorum_packet.specs.declared.phase.Phase.TheVariants.{Packets, ImageOwed}
-use Rattle.quorum_packet.specs.Packet.{packet, packet_against}
+use Rattle.quorum_packet.specs.Packet.{packet}
 use Rattle.quorum_packet.specs.Packets.{reading_of, packets}
 
-pub packet_sound : Sound packet packet_against
+pub packet_sound : Sound packet
 unfolding packet
 packet_sound =
-    mapped_sound _ _ _ _ (λ v. refl) (λ p. refl)
-    (both_sound _ _ _ _ int_sound (both_sound _ _ _ _ long_sound (both_sound _ _ _ _ buffer_sound (vector_sound _ _ id_sound))))
+    mapped_sound _ _ _ (λ v. refl) (λ p. refl)
+    (both_sound _ _ int_sound (both_sound _ _ long_sound (both_sound _ _ buffer_sound (vector_sound _ id_sound))))
 
 pub packet_streamed : Streamed packet
 packet_streamed = record { pieced = packet_sound.pieced; some = packet_sound.some }

@@ -2,7 +2,7 @@
 use Rattle.std.proofs.Common.{◌≡◌, ℕ, suc, ◌+◌, ◌-◌, ◌<◌, ◌≤◌, List, [], ◌∷◌, Option, Some, None, Result, Ok, Err, refl, sym, ap, ◌∙◌, arith}
 use Rattle.std.specs.Prelude.{ℤ, unwrap_or}
 use Rattle.values.specs.declared.fault.Fault.{Fault}
-use Rattle.jute.specs.Format.{◌>>=◌, int, long, buffer, count_limit, length_at, times, items_at, vector_at}
+use Rattle.jute.specs.Format.{◌>>=◌, int, long, buffer, count, count_limit, times, items_at, vector_at}
 use Rattle.jute.specs.Owned.{id}
 use Rattle.jute.specs.declared.owned.Id.{Id}
 use Rattle.quorum_packet.specs.declared.packet.QuorumPacket.{QuorumPacket}
@@ -72,7 +72,7 @@ refused_ids None bytes e h = absurd cc
 refused_ids (Some n) bytes e h = rw h refl
 
 module _ (bytes b1 b2 b3 b4 : List ℕ) (kind zxid : ℤ) (carried : Option (List ℕ)) (ids : Option ℕ)
-    (h1 : int.read bytes ≡ Ok (kind, b1)) (h2 : long.read b1 ≡ Ok (zxid, b2)) (h3 : buffer.read b2 ≡ Ok (carried, b3)) (h4 : length_at count_limit b3 ≡ Ok (ids, b4)) where
+    (h1 : int.read bytes ≡ Ok (kind, b1)) (h2 : long.read b1 ≡ Ok (zxid, b2)) (h3 : buffer.read b2 ≡ Ok (carried, b3)) (h4 : (count count_limit).read b3 ≡ Ok (ids, b4)) where
   pub packet_skipped : (rest : List ℕ) (vs : List Id) → times id.read (unwrap_or ids 0) b4 ≡ Ok (vs, rest)
       → (p : QuorumPacket) × (packet.read bytes ≡ Ok (p, rest)) × (p.kind ≡ kind)
   unfolding packet vector_at

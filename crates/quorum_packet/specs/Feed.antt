@@ -9,7 +9,7 @@ use Rattle.jute.specs.Stream.{Unread, Place, nothing, before, items}
 use Rattle.quorum_packet.specs.declared.packet.QuorumPacket.{QuorumPacket}
 use Rattle.quorum_packet.specs.declared.phase.Phase.{Phase}
 use Rattle.quorum_packet.specs.declared.phase.Phase.TheVariants.{Packets, ImageOwed}
-use Rattle.quorum_packet.specs.Packet.{packet, IsWritable}
+use Rattle.quorum_packet.specs.Packet.{packet}
 use Rattle.quorum_packet.specs.Packets.{packets}
 
 -- how many bytes are unread
@@ -46,5 +46,5 @@ end_of place = ended place.phase place.unread
 
 -- a packet at the front of the bytes, which can be written, and how many it takes
 abbrev pub ReadsFront : Result (QuorumPacket × ℕ) ReadError → List ℕ → Type 0
-ReadsFront (Ok x) bytes = (packet.read bytes ≡ Ok (x.0, drop x.1 bytes)) × (x.1 ≤ length bytes) × IsWritable x.0
+ReadsFront (Ok x) bytes = (packet.read bytes ≡ Ok (x.0, drop x.1 bytes)) × (x.1 ≤ length bytes) × packet.Writable x.0
 ReadsFront (Err e) bytes = Failed e (packet.read bytes)

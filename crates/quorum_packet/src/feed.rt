@@ -3,7 +3,7 @@
 ghost use Rattle.std.specs.Prelude.{◌≡◌, [], Ok, Err, false, is_err, IsTrue, IsOk, IsNone, IfOk, IfErr, IfSome, OnOk, OnErr};
 ghost use Rattle.jute.specs.Stream.{add, items, place_at};
 ghost use Rattle.quorum_packet.specs.Feed.{First, ReadsFront, Refuses, end_of};
-ghost use Rattle.quorum_packet.specs.Packet.{IsWritable};
+ghost use Rattle.quorum_packet.specs.Packet.{packet as packet_format};
 ghost use Rattle.quorum_packet.specs.Packets.{packets, phase_behind};
 ghost use Rattle.quorum_packet.specs.Kinds.{kind_of};
 ghost use Rattle.quorum_packet.specs.declared.phase.Phase.TheVariants.{Packets};
@@ -129,7 +129,7 @@ impl PacketFeed {
     /// a SNAP packet `None`, whatever comes. Refused memory leaves the feed as it was.
     pub fn next(&mut self, alloc: Global) -> Result<Option<QuorumPacket>, ReadError>
         ensures first { First result self.old self.new }
-        ensures writable { IfOk result (λ found. IfSome found IsWritable) }
+        ensures writable { IfOk result (λ found. IfSome found packet_format.Writable) }
     {
         if let Some(fault) = self.fault {
             return Err(ReadError::Fault(fault));
@@ -161,7 +161,7 @@ impl PacketFeed {
         requires packets { self.old.phase ≡ Packets }
         requires fine { is_err self.old.unread ≡ false }
         ensures first { First result self.old self.new }
-        ensures writable { IfOk result (λ found. IfSome found IsWritable) }
+        ensures writable { IfOk result (λ found. IfSome found packet_format.Writable) }
     {
         if let Err(fault) = self.look_on() {
             return self.refuse(fault);

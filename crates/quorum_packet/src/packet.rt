@@ -1,13 +1,11 @@
 //! One packet.
 
-ghost use Rattle.std.specs.Prelude.{◌≡◌, ◌++◌, OnOk, OnErr};
-ghost use Rattle.jute.specs.Format.{vector};
-ghost use Rattle.jute.specs.Owned.{id};
-ghost use Rattle.jute.specs.Writes.{IsFront};
-ghost use Rattle.quorum_packet.specs.Packet.{packet as packet_format, IsWritable as IsWritablePacket, IsWritableIds};
+ghost use Rattle.quorum_packet.specs.Packet.{packet as packet_format};
+ghost use Rattle.values.specs.Gains.{Puts};
 
 use jute::{
-    Id, ReadRecord, Reader, put_blob, put_int, put_long, put_vector, read_blob, read_vector,
+    Id, ReadRecord, Reader, WriteRecord, blob_len, put_blob, put_vector, read_blob, read_vector,
+    vector_len,
 };
 use std::alloc::Global;
 use values::{Blob, Listed, NoMemory, ReadError};
@@ -29,7 +27,7 @@ impl<'a> ReadRecord<'a> for QuorumPacket {
 
     #[tactic(auto, unfolding(crate::specs::Packet::packet))]
     fn read(alloc: Global, reader: &mut Reader<'a>) -> Result<QuorumPacket, ReadError> {
-        let mut ahead = Reader::new(reader.rest());
+        let mut ahead = reader.ahead();
         let kind = ahead.read_int()?;
         let zxid = ahead.read_long()?;
         let bytes = read_blob(alloc, &mut ahead)?;
@@ -44,27 +42,28 @@ impl<'a> ReadRecord<'a> for QuorumPacket {
     }
 }
 
-fn put_ids(ids: &Option<Listed<Id>>, out: &mut Vec<u8>) -> Result<(), NoMemory>
-    requires { IsWritableIds ids.now }
-    ensures ok { OnOk result (out.new.items ≡ out.old.items ++ (vector id).written ids.now) }
-    ensures err { OnErr result (IsFront out.old.items out.new.items) }
-{
-    match ids {
-        None => put_int(out, -1),
-        Some(ids) => put_vector(out, ids.as_slice()),
+impl WriteRecord for QuorumPacket {
+    ghost format = { packet_format };
+
+    #[tactic(auto, unfolding(crate::specs::Packet::packet, jute::specs::Format::number_bytes))]
+    fn written_len(&self) -> usize {
+        12 + blob_len(&self.bytes) + vector_len(&self.authinfo)
+    }
+
+    #[tactic(auto, unfolding(crate::specs::Packet::packet))]
+    fn write(&self, out: &mut Vec<u8>) -> Result<(), NoMemory> {
+        self.kind.write(out)?;
+        self.zxid.write(out)?;
+        put_blob(out, &self.bytes)?;
+        put_vector(out, &self.authinfo)
     }
 }
 
-/// Writes the packet behind what stands there. Where memory is refused, some of its bytes may stand behind the
-/// old ones.
-#[tactic(auto, unfolding(crate::specs::Packet::packet))]
+/// Writes the packet behind what stands there. Where memory is refused, a front of its bytes may stand
+/// behind the old ones.
 pub fn write_packet(packet: &QuorumPacket, out: &mut Vec<u8>) -> Result<(), NoMemory>
-    requires { IsWritablePacket packet.now }
-    ensures ok { OnOk result (out.new.items ≡ out.old.items ++ packet_format.written packet.now) }
-    ensures err { OnErr result (IsFront out.old.items out.new.items) }
+    requires { packet_format.Writable packet.now }
+    ensures { Puts result out.old.items (packet_format.written packet.now) out.new.items }
 {
-    put_int(out, packet.kind)?;
-    put_long(out, packet.zxid)?;
-    put_blob(out, &packet.bytes)?;
-    put_ids(&packet.authinfo, out)
+    packet.write(out)
 }

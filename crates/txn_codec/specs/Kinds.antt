@@ -1,5 +1,5 @@
 -- The codes of the types of transactions (the operation codes of ZooDefs.OpCode).
-use Rattle.std.specs.Prelude.{ℤ, pos, negsuc, Result, Ok, Err, if◌then◌else◌}
+use Rattle.std.specs.Prelude.{ℤ, pos, negsuc, Bool, true, false, Result, Ok, Err, if◌then◌else◌}
 use Rattle.std.specs.Ordering.{int_eq}
 use Rattle.values.specs.declared.fault.Fault.{Fault}
 use Rattle.values.specs.declared.fault.Fault.TheVariants.{BadTxnType}
@@ -47,3 +47,18 @@ body_kind (bodies.SetAcl s) = kinds.SetAcl
 body_kind (bodies.Multi ps) = kinds.Multi
 body_kind (bodies.CreateSession timeout) = kinds.CreateSession
 body_kind bodies.CloseSession = kinds.CloseSession
+
+-- whether a part of a multi may be of that type
+abbrev pub is_part : TxnKind → Bool
+is_part kinds.Create = true
+is_part kinds.Delete = true
+is_part kinds.SetData = true
+is_part kinds.Check = true
+is_part kinds.Error = true
+is_part kinds.SetAcl = false
+is_part kinds.Multi = false
+is_part kinds.CreateSession = false
+is_part kinds.CloseSession = false
+
+abbrev pub part_type : TxnKind → Result TxnKind Fault
+part_type k = if is_part k then Ok k else Err BadTxnType

@@ -1,11 +1,13 @@
 //! Reading transactions field by field.
 
-ghost use Rattle.std.specs.Prelude.{◌≡◌, IfOk, IfErr, Ok, option_map};
+ghost use Rattle.std.specs.Prelude.{◌≡◌, IfOk, IfErr, Ok};
 ghost use Rattle.jute.specs.Reads.{Gives, GivesWhole};
-ghost use Rattle.txn_codec.specs.Spelling.{path, child_path, last_of, kind, create_with, set_data, set_acl, check, header, operation_at, is_part, part_of, part_at, content_at, body, txn, whole};
-ghost use Rattle.txn_codec.specs.Writable.{IsWritableBody};
+ghost use Rattle.jute.specs.Format.{int};
+ghost use Rattle.jute.specs.Sums.{held};
+ghost use Rattle.txn_codec.specs.Kinds.{part_type};
+ghost use Rattle.txn_codec.specs.Spelling.{path, child_path, last_of, kind, part_kind, create_with, create as create_format, set_data as set_data_format, set_acl as set_acl_format, check as check_format, header as header_format, operation, part, parts, content, body, txn, whole};
 ghost use Rattle.txn_codec.specs.Parents.{HaveParents};
-ghost use Rattle.txn_codec.specs.Refusals.{IfFault, whole_against, txn_against};
+ghost use Rattle.txn_codec.specs.Refusals.{IfFault, AgainstTxn};
 ghost use Rattle.txn_codec.specs.declared.txn.Txn.{Txn as TheTxn};
 
 use crate::kind::TxnKind;
@@ -16,10 +18,11 @@ use jute::{Acl, ReadRecord, Reader, read_blob, read_vector};
 use std::alloc::Global;
 use values::{Fault, Listed, ReadError};
 
+#[tactic(auto, unfolding(jute::specs::Format::judged_at))]
 fn read_path(alloc: Global, reader: &mut Reader<'_>) -> Result<Path, ReadError>
     ensures { Gives path.read (λ p. p) result reader.old reader.new }
 {
-    let mut ahead = Reader::new(reader.rest());
+    let mut ahead = reader.ahead();
     let Some(text) = ahead.read_string()? else {
         return Err(ReadError::Fault(Fault::BadPath));
     };
@@ -28,10 +31,11 @@ fn read_path(alloc: Global, reader: &mut Reader<'_>) -> Result<Path, ReadError>
     Ok(path)
 }
 
+#[tactic(auto, unfolding(jute::specs::Format::judged_at))]
 fn read_child_path(alloc: Global, reader: &mut Reader<'_>) -> Result<Path, ReadError>
     ensures { Gives child_path.read (λ p. p) result reader.old reader.new }
 {
-    let mut ahead = Reader::new(reader.rest());
+    let mut ahead = reader.ahead();
     let Some(text) = ahead.read_string()? else {
         return Err(ReadError::Fault(Fault::BadPath));
     };
@@ -40,30 +44,44 @@ fn read_child_path(alloc: Global, reader: &mut Reader<'_>) -> Result<Path, ReadE
     Ok(path)
 }
 
+#[tactic(auto, unfolding(jute::specs::Format::judged_at))]
 fn read_kind(reader: &mut Reader<'_>) -> Result<TxnKind, ReadError>
     ensures { Gives kind.read (λ k. k) result reader.old reader.new }
 {
-    let mut ahead = Reader::new(reader.rest());
+    let mut ahead = reader.ahead();
     let kind = TxnKind::from_code(ahead.read_int()?)?;
     *reader = ahead;
     Ok(kind)
 }
 
-fn read_header(reader: &mut Reader<'_>) -> Result<TxnHeader, ReadError>
-    ensures { Gives header.read (λ h. h) result reader.old reader.new }
+// The type of a part of a multi.
+#[tactic(auto, unfolding(jute::specs::Format::judged_at))]
+fn read_part_kind(reader: &mut Reader<'_>) -> Result<TxnKind, ReadError>
+    ensures { Gives part_kind.read (λ k. k) result reader.old reader.new }
 {
-    let mut ahead = Reader::new(reader.rest());
-    let client_id = ahead.read_long()?;
-    let cxid = ahead.read_int()?;
-    let zxid = ahead.read_long()?;
-    let time = ahead.read_long()?;
+    let mut ahead = reader.ahead();
+    let kind = read_kind(&mut ahead)?.of_part()?;
     *reader = ahead;
-    Ok(TxnHeader {
-        client_id,
-        cxid,
-        zxid,
-        time,
-    })
+    Ok(kind)
+}
+
+impl<'a> ReadRecord<'a> for TxnHeader {
+    ghost read_of = { header_format.read };
+
+    fn read(_alloc: Global, reader: &mut Reader<'a>) -> Result<TxnHeader, ReadError> {
+        let mut ahead = reader.ahead();
+        let client_id = ahead.read_long()?;
+        let cxid = ahead.read_int()?;
+        let zxid = ahead.read_long()?;
+        let time = ahead.read_long()?;
+        *reader = ahead;
+        Ok(TxnHeader {
+            client_id,
+            cxid,
+            zxid,
+            time,
+        })
+    }
 }
 
 // The last field of a create; of one that stands alone it may be left out, which means -1.
@@ -79,7 +97,7 @@ fn read_parent_cversion(place: Place, reader: &mut Reader<'_>) -> Result<i32, Re
 fn read_create(alloc: Global, place: Place, reader: &mut Reader<'_>) -> Result<Create, ReadError>
     ensures { Gives (create_with (last_of place)).read (λ c. c) result reader.old reader.new }
 {
-    let mut ahead = Reader::new(reader.rest());
+    let mut ahead = reader.ahead();
     let path = read_child_path(alloc, &mut ahead)?;
     let bytes = read_blob(alloc, &mut ahead)?;
     let acl = read_vector::<Acl>(alloc, &mut ahead)?;
@@ -95,56 +113,71 @@ fn read_create(alloc: Global, place: Place, reader: &mut Reader<'_>) -> Result<C
     })
 }
 
-fn read_set_data(alloc: Global, reader: &mut Reader<'_>) -> Result<SetData, ReadError>
-    ensures { Gives set_data.read (λ c. c) result reader.old reader.new }
-{
-    let mut ahead = Reader::new(reader.rest());
-    let path = read_path(alloc, &mut ahead)?;
-    let bytes = read_blob(alloc, &mut ahead)?;
-    let version = ahead.read_int()?;
-    *reader = ahead;
-    Ok(SetData {
-        path,
-        bytes,
-        version,
-    })
+impl<'a> ReadRecord<'a> for Create {
+    ghost read_of = { create_format.read };
+
+    fn read(alloc: Global, reader: &mut Reader<'a>) -> Result<Create, ReadError> {
+        read_create(alloc, Place::Part, reader)
+    }
 }
 
-fn read_set_acl(alloc: Global, reader: &mut Reader<'_>) -> Result<SetAcl, ReadError>
-    ensures { Gives set_acl.read (λ c. c) result reader.old reader.new }
-{
-    let mut ahead = Reader::new(reader.rest());
-    let path = read_path(alloc, &mut ahead)?;
-    let acl = read_vector::<Acl>(alloc, &mut ahead)?;
-    let version = ahead.read_int()?;
-    *reader = ahead;
-    Ok(SetAcl { path, acl, version })
+impl<'a> ReadRecord<'a> for SetData {
+    ghost read_of = { set_data_format.read };
+
+    fn read(alloc: Global, reader: &mut Reader<'a>) -> Result<SetData, ReadError> {
+        let mut ahead = reader.ahead();
+        let path = read_path(alloc, &mut ahead)?;
+        let bytes = read_blob(alloc, &mut ahead)?;
+        let version = ahead.read_int()?;
+        *reader = ahead;
+        Ok(SetData {
+            path,
+            bytes,
+            version,
+        })
+    }
 }
 
-fn read_check(alloc: Global, reader: &mut Reader<'_>) -> Result<Check, ReadError>
-    ensures { Gives check.read (λ c. c) result reader.old reader.new }
-{
-    let mut ahead = Reader::new(reader.rest());
-    let path = read_path(alloc, &mut ahead)?;
-    let version = ahead.read_int()?;
-    *reader = ahead;
-    Ok(Check { path, version })
+impl<'a> ReadRecord<'a> for SetAcl {
+    ghost read_of = { set_acl_format.read };
+
+    fn read(alloc: Global, reader: &mut Reader<'a>) -> Result<SetAcl, ReadError> {
+        let mut ahead = reader.ahead();
+        let path = read_path(alloc, &mut ahead)?;
+        let acl = read_vector::<Acl>(alloc, &mut ahead)?;
+        let version = ahead.read_int()?;
+        *reader = ahead;
+        Ok(SetAcl { path, acl, version })
+    }
+}
+
+impl<'a> ReadRecord<'a> for Check {
+    ghost read_of = { check_format.read };
+
+    fn read(alloc: Global, reader: &mut Reader<'a>) -> Result<Check, ReadError> {
+        let mut ahead = reader.ahead();
+        let path = read_path(alloc, &mut ahead)?;
+        let version = ahead.read_int()?;
+        *reader = ahead;
+        Ok(Check { path, version })
+    }
 }
 
 // An operation of that type, alone or in a multi.
+#[tactic(auto, unfolding(jute::specs::Format::judged_at))]
 fn read_operation(
     alloc: Global,
     kind: TxnKind,
     place: Place,
     reader: &mut Reader<'_>,
 ) -> Result<Operation, ReadError>
-    ensures { Gives (operation_at (last_of place) kind) (λ o. o) result reader.old reader.new }
+    ensures { Gives (operation (last_of place) kind).read (λ o. o) result reader.old reader.new }
 {
     match kind {
         TxnKind::Create => Ok(Operation::Create(read_create(alloc, place, reader)?)),
         TxnKind::Delete => Ok(Operation::Delete(read_child_path(alloc, reader)?)),
-        TxnKind::SetData => Ok(Operation::SetData(read_set_data(alloc, reader)?)),
-        TxnKind::Check => Ok(Operation::Check(read_check(alloc, reader)?)),
+        TxnKind::SetData => Ok(Operation::SetData(SetData::read(alloc, reader)?)),
+        TxnKind::Check => Ok(Operation::Check(Check::read(alloc, reader)?)),
         TxnKind::Error => Ok(Operation::Error(reader.read_int()?)),
         TxnKind::SetAcl | TxnKind::Multi | TxnKind::CreateSession | TxnKind::CloseSession => {
             Err(ReadError::Fault(Fault::BadTxnType))
@@ -152,23 +185,11 @@ fn read_operation(
     }
 }
 
-// Whether a part of a multi may be of that type.
-fn is_part(kind: TxnKind) -> bool
-    ensures { result ≡ is_part kind }
+// All of a text as an operation of that type.
+#[tactic(auto, unfolding(jute::specs::Sums::whole))]
+fn read_held(alloc: Global, kind: TxnKind, bytes: &[u8]) -> Result<Operation, ReadError>
+    ensures { GivesWhole (whole (operation int kind) bytes.now) result }
 {
-    matches!(
-        kind,
-        TxnKind::Create | TxnKind::Delete | TxnKind::SetData | TxnKind::Check | TxnKind::Error
-    )
-}
-
-// The operation that a part's buffer holds.
-fn read_buffered(alloc: Global, kind: TxnKind, held: Option<&[u8]>) -> Result<Operation, ReadError>
-    ensures { GivesWhole (part_of kind (option_map (λ b. b.now) held.entry)) result }
-{
-    let Some(bytes) = held else {
-        return Err(ReadError::Fault(Fault::Short));
-    };
     let mut ahead = Reader::new(bytes);
     let operation = read_operation(alloc, kind, Place::Part, &mut ahead)?;
     if !ahead.rest().is_empty() {
@@ -177,46 +198,69 @@ fn read_buffered(alloc: Global, kind: TxnKind, held: Option<&[u8]>) -> Result<Op
     Ok(operation)
 }
 
+// A buffer that holds an operation of that type.
+#[tactic(auto, unfolding(jute::specs::Format::judged_at))]
+fn read_buffered(
+    alloc: Global,
+    kind: TxnKind,
+    reader: &mut Reader<'_>,
+) -> Result<Operation, ReadError>
+    ensures { Gives (held (operation int kind)).read (λ o. o) result reader.old reader.new }
+{
+    let mut ahead = reader.ahead();
+    let Some(bytes) = ahead.read_buffer()? else {
+        return Err(ReadError::Fault(Fault::Short));
+    };
+    let operation = read_held(alloc, kind, bytes)?;
+    *reader = ahead;
+    Ok(operation)
+}
+
 impl<'a> ReadRecord<'a> for Operation {
-    ghost read_of = { part_at };
+    ghost read_of = { part.read };
 
     // A part of a multi: a type, and a buffer with the operation.
-    #[tactic(auto, unfolding(crate::specs::Spelling::part_at))]
+    #[tactic(auto, unfolding(jute::specs::Sums::tagged_at))]
     fn read(alloc: Global, reader: &mut Reader<'a>) -> Result<Operation, ReadError> {
-        let mut ahead = Reader::new(reader.rest());
-        let kind = read_kind(&mut ahead)?;
-        if !is_part(kind) {
-            return Err(ReadError::Fault(Fault::BadTxnType));
-        }
-        let operation = read_buffered(alloc, kind, ahead.read_buffer()?)?;
+        let mut ahead = reader.ahead();
+        let kind = read_part_kind(&mut ahead)?;
+        let operation = read_buffered(alloc, kind, &mut ahead)?;
         *reader = ahead;
         Ok(operation)
     }
 }
 
+// The parts of a multi; null stands for none.
+#[tactic(auto, unfolding(jute::specs::Format::judged_at))]
+fn read_parts(alloc: Global, reader: &mut Reader<'_>) -> Result<Listed<Operation>, ReadError>
+    ensures { Gives parts.read (λ p. p) result reader.old reader.new }
+{
+    match read_vector(alloc, reader)? {
+        None => Ok(Listed::from_vec(Vec::new(alloc))),
+        Some(parts) => Ok(parts),
+    }
+}
+
 // What stands behind a transaction's type.
+#[tactic(auto, unfolding(jute::specs::Format::judged_at))]
 fn read_content(alloc: Global, kind: TxnKind, reader: &mut Reader<'_>) -> Result<Body, ReadError>
-    ensures { Gives (content_at kind) (λ b. b) result reader.old reader.new }
+    ensures { Gives (content kind).read (λ b. b) result reader.old reader.new }
 {
     match kind {
-        TxnKind::Create | TxnKind::Delete | TxnKind::SetData | TxnKind::Check | TxnKind::Error => {
-            Ok(Body::Single(read_operation(alloc, kind, Place::Alone, reader)?))
-        }
-        TxnKind::SetAcl => Ok(Body::SetAcl(read_set_acl(alloc, reader)?)),
-        TxnKind::Multi => Ok(Body::Multi(match read_vector(alloc, reader)? {
-            None => Listed::from_vec(Vec::new(alloc)),
-            Some(parts) => parts,
-        })),
+        TxnKind::Create | TxnKind::Delete | TxnKind::SetData | TxnKind::Check | TxnKind::Error =>
+            Ok(Body::Single(read_operation(alloc, kind, Place::Alone, reader)?)),
+        TxnKind::SetAcl => Ok(Body::SetAcl(SetAcl::read(alloc, reader)?)),
+        TxnKind::Multi => Ok(Body::Multi(read_parts(alloc, reader)?)),
         TxnKind::CreateSession => Ok(Body::CreateSession(reader.read_int()?)),
         TxnKind::CloseSession => Ok(Body::CloseSession),
     }
 }
 
-#[tactic(auto, unfolding(crate::specs::Spelling::body_at))]
+#[tactic(auto, unfolding(jute::specs::Sums::tagged_at))]
 fn read_body(alloc: Global, reader: &mut Reader<'_>) -> Result<Body, ReadError>
     ensures { Gives body.read (λ b. b) result reader.old reader.new }
 {
-    let mut ahead = Reader::new(reader.rest());
+    let mut ahead = reader.ahead();
     let kind = read_kind(&mut ahead)?;
     let body = read_content(alloc, kind, &mut ahead)?;
     *reader = ahead;
@@ -226,13 +270,14 @@ fn read_body(alloc: Global, reader: &mut Reader<'_>) -> Result<Body, ReadError>
 fn read_txn(alloc: Global, reader: &mut Reader<'_>) -> Result<Txn, ReadError>
     ensures { Gives txn.read (λ t. t) result reader.old reader.new }
 {
-    let mut ahead = Reader::new(reader.rest());
-    let header = read_header(&mut ahead)?;
+    let mut ahead = reader.ahead();
+    let header = TxnHeader::read(alloc, &mut ahead)?;
     let body = read_body(alloc, &mut ahead)?;
     *reader = ahead;
     Ok(Txn { header, body })
 }
 
+#[tactic(auto, unfolding(jute::specs::Sums::whole))]
 fn read_whole(alloc: Global, bytes: &[u8]) -> Result<Txn, ReadError>
     ensures { GivesWhole (whole txn bytes.now) result }
 {
@@ -255,11 +300,11 @@ pub fn decode_txn(alloc: Global, bytes: &[u8]) -> Result<Txn, ReadError>
     ensures exact { GivesWhole (whole txn bytes.now) result }
     // A refusal comes only where the bytes spell no transaction ..
     ensures none { IfErr result (λ e. IfFault e (λ fault. (t : TheTxn) → txn.Spells t bytes.now → ⊥)) }
-    // .. and names the first field that is against the spelling.
-    ensures named { IfErr result (λ e. IfFault e (λ fault. whole_against txn txn_against fault bytes.now)) }
+    // .. and names the first field that is against the spelling, and no other fault.
+    ensures named { IfErr result (λ e. IfFault e (λ fault. AgainstTxn fault bytes.now)) }
     // What is read is within the limits, so it may be written and is then read again.
     ensures fits { IfOk result (λ t. txn.Fits t) }
-    ensures writable { IfOk result (λ t. IsWritableBody t.body) }
+    ensures writable { IfOk result (λ t. txn.Writable t) }
     // A node that is made or removed is not "/".
     ensures parents { IfOk result (λ t. HaveParents t.body) }
 {

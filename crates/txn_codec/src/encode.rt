@@ -1,132 +1,217 @@
 //! Writing transactions.
 
-ghost use Rattle.std.specs.Prelude.{◌≡◌, ◌<◌, ◌^◌, ◌++◌, length, OnOk, OnErr};
-ghost use Rattle.jute.specs.Format.{int, vector};
-ghost use Rattle.jute.specs.Owned.{acl};
-ghost use Rattle.jute.specs.Writes.{IsFront};
-ghost use Rattle.txn_codec.specs.Spelling.{header as header_format, create_with, set_data as set_data_format, set_acl as set_acl_format, check as check_format, operation_bytes, part_bytes, content_bytes, txn as txn_format};
-ghost use Rattle.txn_codec.specs.Writable.{IsWritableAcls, IsWritableCreate, IsWritableSetData, IsWritableSetAcl, IsWritableOperation, IsWritablePart, IsWritableBody};
+ghost use Rattle.std.specs.Prelude.{◌≡◌, ◌<◌, ◌^◌, length};
+ghost use Rattle.values.specs.Gains.{Puts};
+ghost use Rattle.jute.specs.Format.{int};
+ghost use Rattle.jute.specs.Sums.{held};
+ghost use Rattle.txn_codec.specs.Kinds.{operation_kind, body_kind};
+ghost use Rattle.txn_codec.specs.Spelling.{create as create_format, set_data as set_data_format, set_acl as set_acl_format, check as check_format, header as header_format, kind as kind_format, operation as operation_format, part as part_format, parts as parts_format, content as content_format, txn as txn_format};
 
+use crate::kind::TxnKind;
 use crate::txn::{Body, Check, Create, Operation, SetAcl, SetData, Txn, TxnHeader};
 use jute::{
-    Acl, WriteRecord, put_blob, put_bool, put_bytes, put_int, put_long, put_string, put_vector,
+    WriteRecord, blob_len, items_len, put_blob, put_bool, put_int, put_items, put_string,
+    put_vector, vector_len,
 };
 use values::{Listed, NoMemory};
 
-fn put_header(out: &mut Vec<u8>, header: &TxnHeader) -> Result<(), NoMemory>
-    ensures ok { OnOk result (out.new.items ≡ out.old.items ++ header_format.written header.now) }
-    ensures err { OnErr result (IsFront out.old.items out.new.items) }
-{
-    put_long(out, header.client_id)?;
-    put_int(out, header.cxid)?;
-    put_long(out, header.zxid)?;
-    put_long(out, header.time)
-}
+impl WriteRecord for TxnHeader {
+    ghost format = { header_format };
 
-fn put_acls(out: &mut Vec<u8>, acls: &Option<Listed<Acl>>) -> Result<(), NoMemory>
-    requires { IsWritableAcls acls.now }
-    ensures ok { OnOk result (out.new.items ≡ out.old.items ++ (vector acl).written acls.now) }
-    ensures err { OnErr result (IsFront out.old.items out.new.items) }
-{
-    match acls {
-        None => put_int(out, -1),
-        Some(acls) => put_vector(out, acls.as_slice()),
+    #[tactic(auto, unfolding(jute::specs::Format::number_bytes))]
+    fn written_len(&self) -> usize {
+        28
+    }
+
+    fn write(&self, out: &mut Vec<u8>) -> Result<(), NoMemory> {
+        self.client_id.write(out)?;
+        self.cxid.write(out)?;
+        self.zxid.write(out)?;
+        self.time.write(out)
     }
 }
 
-fn put_create(out: &mut Vec<u8>, create: &Create) -> Result<(), NoMemory>
-    requires { IsWritableCreate create.now }
-    ensures ok { OnOk result (out.new.items ≡ out.old.items ++ (create_with int).written create.now) }
-    ensures err { OnErr result (IsFront out.old.items out.new.items) }
-{
-    put_string(out, create.path.as_str())?;
-    put_blob(out, &create.bytes)?;
-    put_acls(out, &create.acl)?;
-    put_bool(out, create.ephemeral)?;
-    put_int(out, create.parent_cversion)
+impl WriteRecord for Create {
+    ghost format = { create_format };
+
+    #[tactic(auto, unfolding(jute::specs::Format::number_bytes))]
+    fn written_len(&self) -> usize {
+        self.path.as_str().len() + blob_len(&self.bytes) + vector_len(&self.acl) + 9
+    }
+
+    fn write(&self, out: &mut Vec<u8>) -> Result<(), NoMemory> {
+        put_string(out, self.path.as_str())?;
+        put_blob(out, &self.bytes)?;
+        put_vector(out, &self.acl)?;
+        put_bool(out, self.ephemeral)?;
+        self.parent_cversion.write(out)
+    }
 }
 
-fn put_set_data(out: &mut Vec<u8>, set_data: &SetData) -> Result<(), NoMemory>
-    requires { IsWritableSetData set_data.now }
-    ensures ok { OnOk result (out.new.items ≡ out.old.items ++ set_data_format.written set_data.now) }
-    ensures err { OnErr result (IsFront out.old.items out.new.items) }
-{
-    put_string(out, set_data.path.as_str())?;
-    put_blob(out, &set_data.bytes)?;
-    put_int(out, set_data.version)
+impl WriteRecord for SetData {
+    ghost format = { set_data_format };
+
+    #[tactic(auto, unfolding(jute::specs::Format::number_bytes))]
+    fn written_len(&self) -> usize {
+        self.path.as_str().len() + blob_len(&self.bytes) + 8
+    }
+
+    fn write(&self, out: &mut Vec<u8>) -> Result<(), NoMemory> {
+        put_string(out, self.path.as_str())?;
+        put_blob(out, &self.bytes)?;
+        self.version.write(out)
+    }
 }
 
-fn put_set_acl(out: &mut Vec<u8>, set_acl: &SetAcl) -> Result<(), NoMemory>
-    requires { IsWritableSetAcl set_acl.now }
-    ensures ok { OnOk result (out.new.items ≡ out.old.items ++ set_acl_format.written set_acl.now) }
-    ensures err { OnErr result (IsFront out.old.items out.new.items) }
-{
-    put_string(out, set_acl.path.as_str())?;
-    put_acls(out, &set_acl.acl)?;
-    put_int(out, set_acl.version)
+impl WriteRecord for SetAcl {
+    ghost format = { set_acl_format };
+
+    #[tactic(auto, unfolding(jute::specs::Format::number_bytes))]
+    fn written_len(&self) -> usize {
+        self.path.as_str().len() + vector_len(&self.acl) + 8
+    }
+
+    fn write(&self, out: &mut Vec<u8>) -> Result<(), NoMemory> {
+        put_string(out, self.path.as_str())?;
+        put_vector(out, &self.acl)?;
+        self.version.write(out)
+    }
 }
 
-fn put_check(out: &mut Vec<u8>, check: &Check) -> Result<(), NoMemory>
-    requires { length check.now.path < 2 ^ 31 }
-    ensures ok { OnOk result (out.new.items ≡ out.old.items ++ check_format.written check.now) }
-    ensures err { OnErr result (IsFront out.old.items out.new.items) }
+impl WriteRecord for Check {
+    ghost format = { check_format };
+
+    #[tactic(auto, unfolding(jute::specs::Format::number_bytes))]
+    fn written_len(&self) -> usize {
+        self.path.as_str().len() + 8
+    }
+
+    fn write(&self, out: &mut Vec<u8>) -> Result<(), NoMemory> {
+        put_string(out, self.path.as_str())?;
+        self.version.write(out)
+    }
+}
+
+// How many bytes stand behind an operation's type, or in a part's buffer.
+#[tactic(auto, unfolding(jute::specs::Format::number_bytes))]
+fn operation_len(operation: &Operation) -> usize
+    requires writable { (operation_format int (operation_kind operation.now)).Writable operation.now }
+    requires small { length ((operation_format int (operation_kind operation.now)).written operation.now) < 2 ^ 63 }
+    ensures { result ≡ length ((operation_format int (operation_kind operation.now)).written operation.now) }
 {
-    put_string(out, check.path.as_str())?;
-    put_int(out, check.version)
+    match operation {
+        Operation::Create(create) => create.written_len(),
+        Operation::Delete(path) => path.as_str().len() + 4,
+        Operation::SetData(set_data) => set_data.written_len(),
+        Operation::Check(check) => check.written_len(),
+        Operation::Error(_) => 4,
+    }
 }
 
 // What stands behind an operation's type, or in a part's buffer.
 fn put_operation(out: &mut Vec<u8>, operation: &Operation) -> Result<(), NoMemory>
-    requires { IsWritableOperation operation.now }
-    ensures ok { OnOk result (out.new.items ≡ out.old.items ++ operation_bytes operation.now) }
-    ensures err { OnErr result (IsFront out.old.items out.new.items) }
+    requires { (operation_format int (operation_kind operation.now)).Writable operation.now }
+    ensures { Puts result out.old.items ((operation_format int (operation_kind operation.now)).written operation.now) out.new.items }
 {
     match operation {
-        Operation::Create(create) => put_create(out, create),
+        Operation::Create(create) => create.write(out),
         Operation::Delete(path) => put_string(out, path.as_str()),
-        Operation::SetData(set_data) => put_set_data(out, set_data),
-        Operation::Check(check) => put_check(out, check),
-        Operation::Error(error) => put_int(out, *error),
+        Operation::SetData(set_data) => set_data.write(out),
+        Operation::Check(check) => check.write(out),
+        Operation::Error(error) => error.write(out),
     }
 }
 
+// A buffer that holds the operation.
+fn put_buffered(out: &mut Vec<u8>, operation: &Operation) -> Result<(), NoMemory>
+    requires { (held (operation_format int (operation_kind operation.now))).Writable operation.now }
+    ensures { Puts result out.old.items ((held (operation_format int (operation_kind operation.now))).written operation.now) out.new.items }
+{
+    put_int(out, operation_len(operation) as i32)?;
+    put_operation(out, operation)
+}
+
+// The code of a type.
+fn put_kind(out: &mut Vec<u8>, kind: TxnKind) -> Result<(), NoMemory>
+    ensures { Puts result out.old.items (kind_format.written kind) out.new.items }
+{
+    kind.code().write(out)
+}
+
 impl WriteRecord for Operation {
-    ghost IsWritable = { IsWritablePart };
+    ghost format = { part_format };
 
-    ghost bytes_of = { part_bytes };
-
-    // A part of a multi: its type, and a buffer with the operation, which is written aside first.
-    fn write(&self, out: &mut Vec<u8>) -> Result<(), NoMemory> {
-        put_int(out, self.kind().code())?;
-        let mut aside = Vec::new(*out.allocator());
-        put_operation(&mut aside, self)?;
-        put_bytes(out, &aside)
+    #[tactic(auto, unfolding(jute::specs::Format::number_bytes))]
+    fn written_len(&self) -> usize {
+        8 + operation_len(self)
     }
+
+    // A part of a multi: its type, and a buffer with the operation.
+    fn write(&self, out: &mut Vec<u8>) -> Result<(), NoMemory> {
+        put_kind(out, self.kind())?;
+        put_buffered(out, self)
+    }
+}
+
+// How many bytes stand behind a transaction's type.
+#[tactic(auto, unfolding(jute::specs::Format::number_bytes))]
+fn content_len(body: &Body) -> usize
+    requires writable { (content_format (body_kind body.now)).Writable body.now }
+    requires small { length ((content_format (body_kind body.now)).written body.now) < 2 ^ 63 }
+    ensures { result ≡ length ((content_format (body_kind body.now)).written body.now) }
+{
+    match body {
+        Body::Single(operation) => operation_len(operation),
+        Body::SetAcl(set_acl) => set_acl.written_len(),
+        Body::Multi(parts) => 4 + items_len(parts.as_slice()),
+        Body::CreateSession(_) => 4,
+        Body::CloseSession => 0,
+    }
+}
+
+// The parts of a multi, behind their count.
+fn put_parts(out: &mut Vec<u8>, parts: &Listed<Operation>) -> Result<(), NoMemory>
+    requires { parts_format.Writable parts.now }
+    ensures { Puts result out.old.items (parts_format.written parts.now) out.new.items }
+{
+    put_int(out, parts.len() as i32)?;
+    put_items(out, parts.as_slice())
 }
 
 // What stands behind a transaction's type.
 fn put_content(out: &mut Vec<u8>, body: &Body) -> Result<(), NoMemory>
-    requires { IsWritableBody body.now }
-    ensures ok { OnOk result (out.new.items ≡ out.old.items ++ content_bytes body.now) }
-    ensures err { OnErr result (IsFront out.old.items out.new.items) }
+    requires { (content_format (body_kind body.now)).Writable body.now }
+    ensures { Puts result out.old.items ((content_format (body_kind body.now)).written body.now) out.new.items }
 {
     match body {
         Body::Single(operation) => put_operation(out, operation),
-        Body::SetAcl(set_acl) => put_set_acl(out, set_acl),
-        Body::Multi(parts) => put_vector(out, parts.as_slice()),
-        Body::CreateSession(timeout) => put_int(out, *timeout),
+        Body::SetAcl(set_acl) => set_acl.write(out),
+        Body::Multi(parts) => put_parts(out, parts),
+        Body::CreateSession(timeout) => timeout.write(out),
         Body::CloseSession => Ok(()),
     }
 }
 
+impl WriteRecord for Txn {
+    ghost format = { txn_format };
+
+    #[tactic(auto, unfolding(jute::specs::Format::number_bytes))]
+    fn written_len(&self) -> usize {
+        self.header.written_len() + 4 + content_len(&self.body)
+    }
+
+    fn write(&self, out: &mut Vec<u8>) -> Result<(), NoMemory> {
+        self.header.write(out)?;
+        put_kind(out, self.body.kind())?;
+        put_content(out, &self.body)
+    }
+}
+
 /// Writes the transaction behind what `out` holds, in its one written spelling: a create always as
-/// a CreateTxn, and a multi without parts with a count of 0. `NoMemory` may leave some of it there.
+/// a CreateTxn, and a multi without parts with a count of 0.
 pub fn encode_txn(txn: &Txn, out: &mut Vec<u8>) -> Result<(), NoMemory>
-    requires { IsWritableBody txn.now.body }
-    ensures ok { OnOk result (out.new.items ≡ out.old.items ++ txn_format.written txn.now) }
-    ensures err { OnErr result (IsFront out.old.items out.new.items) }
+    requires { txn_format.Writable txn.now }
+    ensures { Puts result out.old.items (txn_format.written txn.now) out.new.items }
 {
-    put_header(out, &txn.header)?;
-    put_int(out, txn.body.kind().code())?;
-    put_content(out, &txn.body)
+    txn.write(out)
 }

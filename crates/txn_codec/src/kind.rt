@@ -1,7 +1,7 @@
 //! Types of transactions.
 
 ghost use Rattle.std.specs.Prelude.{◌≡◌};
-ghost use Rattle.txn_codec.specs.Kinds.{kind_of, code_of};
+ghost use Rattle.txn_codec.specs.Kinds.{kind_of, code_of, part_type};
 
 use values::Fault;
 
@@ -52,5 +52,20 @@ impl TxnKind {
         ensures { result ≡ code_of self }
     {
         self as i32
+    }
+
+    // The type, where a part of a multi may be of it; another one is `BadTxnType`.
+    pub(crate) fn of_part(self) -> Result<TxnKind, Fault>
+        ensures { result ≡ part_type self }
+    {
+        match self {
+            TxnKind::Create
+            | TxnKind::Delete
+            | TxnKind::SetData
+            | TxnKind::Check
+            | TxnKind::Error => Ok(self),
+            TxnKind::SetAcl | TxnKind::Multi | TxnKind::CreateSession | TxnKind::CloseSession =>
+                Err(Fault::BadTxnType),
+        }
     }
 }

@@ -1,6 +1,5 @@
 use Rattle.std.proofs.Common.{arith}
-use Rattle.quorum_packet.proofs.Fronts.{front, fits}
-use Rattle.quorum_packet.proofs.Writable.{read_writable}
+use Rattle.quorum_packet.proofs.Fronts.{front, fits, read_writable}
 use Rattle.quorum_packet.proofs.feed.read_front.Goals as goal
 
 pub overflow_sub-result : goal.overflow_sub-result

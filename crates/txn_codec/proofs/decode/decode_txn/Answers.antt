@@ -1,7 +1,6 @@
 use Rattle.std.proofs.Common.{arith}
-use Rattle.txn_codec.proofs.Bodies.{decoded, decoded_only}
 use Rattle.txn_codec.proofs.Limits.{decoded_fits, decoded_writable, decoded_parents}
-use Rattle.txn_codec.proofs.Naming.{refused_is_named, refused_spells_none}
+use Rattle.txn_codec.proofs.Naming.{decoded, decoded_only, refused_is_named, refused_spells_none}
 use Rattle.txn_codec.proofs.decode.decode_txn.Goals as goal
 
 pub returns-clause-found : goal.returns-clause-found

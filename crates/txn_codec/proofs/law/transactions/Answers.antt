@@ -1,21 +1,25 @@
 use Rattle.txn_codec.specs.Paths.{is_path, is_child_path}
-use Rattle.txn_codec.proofs.Spelled.{path_lawful, kind_lawful}
-use Rattle.txn_codec.proofs.Bodies.{create_lawful, set_data_lawful, set_acl_lawful, check_lawful, header_lawful, part_lawful, parts_lawful, body_ends, txn_ends, written_again}
+use Rattle.txn_codec.proofs.Spelled.{path_sound, kind_sound, part_kind_sound, create_sound, set_data_sound, set_acl_sound, check_sound, header_sound}
+use Rattle.txn_codec.proofs.Bodies.{part_sound, parts_sound, body_at_end, txn_at_end}
+use Rattle.txn_codec.proofs.Naming.{written_again, refusal_names, naming_answers}
 use Rattle.txn_codec.proofs.law.transactions.Goals as goal
 
 pub returns : goal.returns
 returns c = record {
-  path = path_lawful is_path;
-  child_path = path_lawful is_child_path;
-  kind = kind_lawful;
-  create = create_lawful;
-  set_data = set_data_lawful;
-  set_acl = set_acl_lawful;
-  check = check_lawful;
-  header = header_lawful;
-  part = part_lawful;
-  parts = parts_lawful;
-  body = body_ends;
-  txn = txn_ends;
+  path = path_sound is_path;
+  child_path = path_sound is_child_path;
+  kind = kind_sound;
+  part_kind = part_kind_sound;
+  create = create_sound;
+  set_data = set_data_sound;
+  set_acl = set_acl_sound;
+  check = check_sound;
+  header = header_sound;
+  part = part_sound;
+  parts = parts_sound;
+  body = body_at_end;
+  txn = txn_at_end;
   again = written_again;
+  names = refusal_names;
+  answers = naming_answers;
 }

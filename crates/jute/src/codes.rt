@@ -1,0 +1,46 @@
+//! The numbers of ZooKeeper's protocol, and its open ACL.
+
+ghost use Rattle.std.specs.Prelude.{◌≡◌, IfOk};
+ghost use Rattle.jute.specs.Codes.{open_acl};
+
+use crate::owned::{Acl, Id};
+use std::alloc::Global;
+use values::{Listed, NoMemory, Text};
+
+/// The error of a part of a multi that stands behind the one that failed.
+pub const RUNTIME_INCONSISTENCY: i32 = -2;
+
+/// The error of a request that can't be read, or asks what can't be.
+pub const BAD_ARGUMENTS: i32 = -8;
+
+/// The error where a node is wanted and isn't there.
+pub const NO_NODE: i32 = -101;
+
+/// The error where the node's ACL doesn't grant what is asked.
+pub const NO_AUTH: i32 = -102;
+
+/// The error where a node is to be made and is there.
+pub const NODE_EXISTS: i32 = -110;
+
+/// The operation getData.
+pub const GET_DATA: i32 = 4;
+
+/// The permission to read a node's bytes and to list its children.
+pub const READ: u32 = 1;
+
+/// All permissions: READ, WRITE, CREATE, DELETE and ADMIN.
+pub const ALL: i32 = 31;
+
+/// The list that grants everyone everything.
+pub fn open_list(alloc: Global) -> Result<Listed<Acl>, NoMemory>
+    ensures { IfOk result (λ acl. acl ≡ open_acl) }
+{
+    let scheme = Text::new(alloc, "world")?;
+    let id = Text::new(alloc, "anyone")?;
+    let mut list = Vec::new(alloc);
+    list.push(Acl {
+        perms: ALL,
+        id: Id { scheme, id },
+    })?;
+    Ok(Listed::from_vec(list))
+}

@@ -1,0 +1,7 @@
+use Rattle.values.proofs.Gaining.{puts_behind}
+use Rattle.txn_codec.proofs.encode.SetDataWriteRecord.write.Goals as goal
+
+pub returns : goal.returns
+returns c =
+    puts_behind _ _ _ _ _ _ (rw c.as_str.ensures.text at c.in_ok-put_string.ensures)
+    (puts_behind _ _ _ _ _ _ c.in_ok-put_blob.ensures c.write.ensures)
