@@ -4,8 +4,6 @@
 #![tactic(auto)]
 
 #[cfg(test)]
-mod acts;
-#[cfg(test)]
 mod built_trees;
 #[cfg(test)]
 mod owners;

@@ -18,6 +18,16 @@ fn paths(alloc: Global, owners: &Ephemerals, session: i64) -> Result<String, Fai
     Ok(text)
 }
 
+// The paths of sessions 0, 7 and 9.
+fn text_of(alloc: Global, owners: &Ephemerals) -> Result<String, Fail> {
+    let mut text = String::new(alloc);
+    for session in [0, 7, 9] {
+        text.push_str(paths(alloc, owners, session)?.as_str())?;
+        text.push_str(";")?;
+    }
+    Ok(text)
+}
+
 // Adds pairs, and says for each whether it was new.
 fn add_all(
     alloc: Global,
@@ -31,54 +41,28 @@ fn add_all(
     Ok(news)
 }
 
-// A path, its old session and its new one.
-type Move = (&'static str, i64, i64);
-
-fn replace_all(alloc: Global, owners: &mut Ephemerals, moves: &[Move]) -> Result<(), Fail> {
-    for (path, old, new) in moves {
-        owners.replace(alloc, path, *old, *new)?;
-    }
-    Ok(())
-}
-
-#[test]
-fn session_zero_owns_nothing(rt: HostRuntime) -> Result<(), Fail> {
-    let alloc = rt.alloc();
-    let mut owners = Ephemerals::new(alloc);
-    let news = add_all(alloc, &mut owners, &[(9, "/b"), (9, "/a"), (9, "/b"), (0, "/c")])?;
-    assert_eq!(rt; news.as_slice(), [true, true, false, false].as_slice());
-    assert_eq!(rt; paths(alloc, &owners, 9)?.as_str(), "/a/b");
-    assert_eq!(rt; paths(alloc, &owners, 0)?.as_str(), "-");
-    Ok(())
-}
-
-#[test]
-fn a_path_goes_from_session_to_session(rt: HostRuntime) -> Result<(), Fail> {
-    let alloc = rt.alloc();
-    let mut owners = Ephemerals::new(alloc);
-    let moves = [("/a", 0, 9), ("/b", 0, 9), ("/a", 9, 7), ("/c", 0, 0)];
-    replace_all(alloc, &mut owners, &moves)?;
-    assert_eq!(rt; paths(alloc, &owners, 7)?.as_str(), "/a");
-    assert_eq!(rt; paths(alloc, &owners, 9)?.as_str(), "/b");
-    assert_eq!(rt; owners.count(), 2);
-    Ok(())
-}
-
-// A copy of the pairs, of which then a session's are taken out.
-fn copy_and_take(alloc: Global, owners: &mut Ephemerals, session: i64) -> Result<Ephemerals, Fail> {
-    let copy = owners.clone()?;
-    let _ = owners.take_session(alloc, session);
+// A copy of the pairs, in which /a goes from session 9 to session 7.
+fn moved(alloc: Global, owners: &Ephemerals) -> Result<Ephemerals, Fail> {
+    let mut copy = owners.clone()?;
+    copy.replace(alloc, "/a", 9, 7)?;
+    copy.replace(alloc, "/c", 0, 0)?;
     Ok(copy)
 }
 
 #[test]
-fn a_clone_keeps_its_pairs(rt: HostRuntime) -> Result<(), Fail> {
+fn pairs_come_and_go(rt: HostRuntime) -> Result<(), Fail> {
     let alloc = rt.alloc();
     let mut owners = Ephemerals::new(alloc);
-    let _ = add_all(alloc, &mut owners, &[(9, "/a"), (7, "/b")])?;
-    let copy = copy_and_take(alloc, &mut owners, 9)?;
-    assert_eq!(rt; paths(alloc, &owners, 9)?.as_str(), "-");
-    assert_eq!(rt; paths(alloc, &copy, 9)?.as_str(), "/a");
-    assert_eq!(rt; paths(alloc, &copy, 7)?.as_str(), "/b");
+    let news = add_all(
+        alloc,
+        &mut owners,
+        &[(9, "/b"), (9, "/a"), (9, "/b"), (0, "/c")],
+    )?;
+    assert_eq!(rt; news.as_slice(), [true, true, false, false].as_slice());
+    let copy = moved(alloc, &owners)?;
+    assert_eq!(rt; text_of(alloc, &copy)?.as_str(), "-;/a;/b;");
+    let taken = owners.take_session(alloc, 9);
+    assert_eq!(rt; taken.len(), 2);
+    assert_eq!(rt; text_of(alloc, &owners)?.as_str(), "-;-;-;");
     Ok(())
 }
