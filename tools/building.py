@@ -76,6 +76,11 @@ class Crate:
         numbers = [int(it) for it in found[-1] if it]
         return numbers[0], numbers[1]
 
+    def waits(self):
+        """Returns whether another rt works in this crate, so that this one waits for it."""
+        with open(self.log, "rb") as it:
+            return it.read().rstrip().split(b"\n")[-1].startswith(b"rt: waiting for another rt")
+
     def stop(self):
         """Ends what this crate's build started, which has a session of its own."""
         if self.ran.poll() is None:
@@ -145,7 +150,8 @@ class Build:
         parts = []
         for crate in self.running:
             checked, of = crate.counted()
-            parts.append(f"{crate.name} {checked} of {of} functions" if of else crate.name)
+            wait = ", which another rt works in," if crate.waits() else ""
+            parts.append(f"{crate.name} {checked} of {of} functions" if of else crate.name + wait)
         say(f"{len(self.done)} of {len(self.crates)} crates done, now {', '.join(parts)}{self.rest()}")
 
     def run(self):

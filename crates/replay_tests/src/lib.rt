@@ -4,8 +4,8 @@
 //! proof needs to know nothing of that.
 #![tactic(auto)]
 
-use replay::{put_end, put_output, replay_on, source_of};
 use observer_core::Output;
+use replay::{put_end, put_output, replay_on, source_of};
 use replay_script::{Script, ScriptError, parse, put_hex};
 use std::alloc::Global;
 use std::io::{Read, Write};

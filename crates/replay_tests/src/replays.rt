@@ -56,10 +56,7 @@ fn a_script_is_replayed(rt: HostRuntime) {
     let mut out = Vec::new(rt.alloc());
     let mut errors = Vec::new(rt.alloc());
     let mut reader = SCRIPT;
-    assert_eq!(rt;
-        replayed(rt.alloc(), &mut reader, &mut out, &mut errors),
-        0
-    );
+    assert_eq!(rt; replayed(rt.alloc(), &mut reader, &mut out, &mut errors), 0);
     assert_eq!(rt;
         out.as_slice(),
         b"C 1 close\nend zxid=0x0 paths=3\n".as_slice()
@@ -68,27 +65,11 @@ fn a_script_is_replayed(rt: HostRuntime) {
 }
 
 #[test]
-fn a_bad_line_is_named(rt: HostRuntime) {
-    let mut out = Vec::new(rt.alloc());
-    let mut errors = Vec::new(rt.alloc());
-    let mut reader = b"primed\nclient 1 ffffffff\n\nwhat".as_slice();
-    assert_eq!(rt;
-        replayed(rt.alloc(), &mut reader, &mut out, &mut errors),
-        1
-    );
-    assert!(rt; out.is_empty());
-    assert_eq!(rt; errors.as_slice(), b"line 4: bad line\n".as_slice());
-}
-
-#[test]
 fn a_read_fails_midway(rt: HostRuntime) {
     let mut out = Vec::new(rt.alloc());
     let mut errors = Vec::new(rt.alloc());
     let mut reader = Torn { bytes: b"what\n" };
-    assert_eq!(rt;
-        replayed(rt.alloc(), &mut reader, &mut out, &mut errors),
-        3
-    );
+    assert_eq!(rt; replayed(rt.alloc(), &mut reader, &mut out, &mut errors), 3);
     assert!(rt; out.is_empty());
     assert_eq!(rt; errors.as_slice(), b"cannot open\n".as_slice());
 }
