@@ -148,7 +148,12 @@ fn first_stat(header: &TxnHeader, create: &Create) -> StatPersisted
 
 // A node's numbers after its bytes were written.
 fn stat_with_data(before: StatPersisted, header: &TxnHeader, body: &SetData) -> StatPersisted
-    ensures { result ≡ record before { version = body.now.version; mzxid = header.now.zxid; mtime = header.now.time } }
+    ensures { result ≡
+        record before {
+          version = body.now.version;
+          mzxid = header.now.zxid;
+          mtime = header.now.time;
+        } }
 {
     let mut after = before;
     after.version = body.version;
@@ -233,8 +238,10 @@ impl Node {
         header: &TxnHeader,
         create: &Create,
     ) -> Result<bool, NoMemory>
-        ensures state { OnOk result (self.new ≡ with_added_child header.now create.now (string_bytes name) self.old) }
-        ensures added { IfOk result (λ added. added ≡ not (set.contains self.old.children (string_bytes name))) }
+        ensures state { OnOk result
+            (self.new ≡ with_added_child header.now create.now (string_bytes name) self.old) }
+        ensures added { IfOk result
+            (λ added. added ≡ not (set.contains self.old.children (string_bytes name))) }
         ensures err { OnErr result (self.new ≡ self.old) }
     {
         let after = stat_after_create(self.stat, header, create);

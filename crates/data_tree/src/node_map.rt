@@ -103,8 +103,10 @@ impl NodeMap {
 
     /// Makes the node at the path list the name, and says whether there is such a node and the name is new to it.
     pub fn add_name(&mut self, path: &str, name: String) -> Result<bool, NoMemory>
-        ensures state { OnOk result (self.new ≡ update_node self.old path.now (with_name (string_bytes name))) }
-        ensures gained { IfOk result (λ gained. gained ≡ lacks_name (finmap.get self.old path.now) (string_bytes name)) }
+        ensures state { OnOk result
+            (self.new ≡ update_node self.old path.now (with_name (string_bytes name))) }
+        ensures gained { IfOk result
+            (λ gained. gained ≡ lacks_name (finmap.get self.old path.now) (string_bytes name)) }
         ensures err { OnErr result (self.new ≡ self.old) }
     {
         match self.get_mut(path) {
@@ -133,8 +135,11 @@ impl NodeMap {
         header: &TxnHeader,
         create: &Create,
     ) -> Result<AddedChild, NoMemory>
-        ensures state { OnOk result (self.new ≡ update_node self.old path.now (with_added_child header.now create.now (string_bytes name))) }
-        ensures outcome { IfOk result (λ is. is ≡ added_child (finmap.get self.old path.now) (string_bytes name)) }
+        ensures state { OnOk result
+            (self.new ≡ update_node self.old path.now
+            (with_added_child header.now create.now (string_bytes name))) }
+        ensures outcome { IfOk result
+            (λ is. is ≡ added_child (finmap.get self.old path.now) (string_bytes name)) }
         ensures err { OnErr result (self.new ≡ self.old) }
     {
         match self.get_mut(path) {
@@ -164,7 +169,8 @@ impl NodeMap {
 
     /// Takes the name of a deleted child from the node at the path, and says whether there is such a node.
     pub fn remove_child(&mut self, path: &str, name: &str, header: &TxnHeader) -> bool
-        ensures state { self.new ≡ update_node self.old path.now (without_child name.now header.now.zxid) }
+        ensures state { self.new ≡
+            update_node self.old path.now (without_child name.now header.now.zxid) }
         ensures found { result ≡ is_some (finmap.get self.old path.now) }
     {
         match self.get_mut(path) {
@@ -184,7 +190,8 @@ impl NodeMap {
         header: &TxnHeader,
         body: &SetData,
     ) -> Result<bool, NoMemory>
-        ensures state { OnOk result (self.new ≡ update_node self.old path.now (with_data header.now body.now)) }
+        ensures state { OnOk result
+            (self.new ≡ update_node self.old path.now (with_data header.now body.now)) }
         ensures found { IfOk result (λ found. found ≡ is_some (finmap.get self.old path.now)) }
         ensures err { OnErr result (self.new ≡ self.old) }
     {

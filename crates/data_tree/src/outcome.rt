@@ -36,7 +36,9 @@ pub fn fire_created(
     path: &str,
     parent: &str,
 ) -> Result<(), NoMemory>
-    ensures { OnOk result (triggers.new.items ≡ triggers.old.items ++ (Trigger.Created path.now ∷ Trigger.ChildrenChanged parent.now ∷ [])) }
+    ensures { OnOk result
+        (triggers.new.items ≡ triggers.old.items ++
+        (Trigger.Created path.now ∷ Trigger.ChildrenChanged parent.now ∷ [])) }
 {
     triggers.push(Trigger::Created(Text::new(alloc, path)?))?;
     triggers.push(Trigger::ChildrenChanged(Text::new(alloc, parent)?))?;
@@ -50,7 +52,9 @@ pub fn fire_deleted(
     path: &str,
     parent: &str,
 ) -> Result<(), NoMemory>
-    ensures { OnOk result (triggers.new.items ≡ triggers.old.items ++ (Trigger.Deleted path.now ∷ Trigger.ChildrenChanged parent.now ∷ [])) }
+    ensures { OnOk result
+        (triggers.new.items ≡ triggers.old.items ++
+        (Trigger.Deleted path.now ∷ Trigger.ChildrenChanged parent.now ∷ [])) }
 {
     triggers.push(Trigger::Deleted(Text::new(alloc, path)?))?;
     triggers.push(Trigger::ChildrenChanged(Text::new(alloc, parent)?))?;
@@ -63,7 +67,8 @@ pub fn fire_data_changed(
     alloc: Global,
     path: &str,
 ) -> Result<(), NoMemory>
-    ensures { OnOk result (triggers.new.items ≡ triggers.old.items ++ Trigger.DataChanged path.now ∷ []) }
+    ensures { OnOk result
+        (triggers.new.items ≡ triggers.old.items ++ Trigger.DataChanged path.now ∷ []) }
 {
     triggers.push(Trigger::DataChanged(Text::new(alloc, path)?))?;
     Ok(())

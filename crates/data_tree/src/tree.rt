@@ -163,9 +163,13 @@ impl Tree {
         create: &Create,
         triggers: &mut Vec<Trigger>,
     ) -> Result<i32, NoMemory>
-        ensures state { OnOk result (self.new ≡ (of_operation header.now (Operation.Create create.now) self.old).state) }
-        ensures error { IfOk result (λ err. err ≡ (of_operation header.now (Operation.Create create.now) self.old).err) }
-        ensures fired { OnOk result (triggers.new.items ≡ triggers.old.items ++ (of_operation header.now (Operation.Create create.now) self.old).triggers) }
+        ensures state { OnOk result
+            (self.new ≡ (of_operation header.now (Operation.Create create.now) self.old).state) }
+        ensures error { IfOk result
+            (λ err. err ≡ (of_operation header.now (Operation.Create create.now) self.old).err) }
+        ensures fired { OnOk result
+            (triggers.new.items ≡ triggers.old.items ++
+            (of_operation header.now (Operation.Create create.now) self.old).triggers) }
         ensures err { OnErr result (self.new ≡ self.old) }
     {
         let parent = create.path.parent();
@@ -199,9 +203,13 @@ impl Tree {
         path: &str,
         triggers: &mut Vec<Trigger>,
     ) -> Result<i32, NoMemory>
-        ensures state { OnOk result (self.new ≡ (of_operation header.now (Operation.Delete path.now) self.old).state) }
-        ensures error { IfOk result (λ err. err ≡ (of_operation header.now (Operation.Delete path.now) self.old).err) }
-        ensures fired { OnOk result (triggers.new.items ≡ triggers.old.items ++ (of_operation header.now (Operation.Delete path.now) self.old).triggers) }
+        ensures state { OnOk result
+            (self.new ≡ (of_operation header.now (Operation.Delete path.now) self.old).state) }
+        ensures error { IfOk result
+            (λ err. err ≡ (of_operation header.now (Operation.Delete path.now) self.old).err) }
+        ensures fired { OnOk result
+            (triggers.new.items ≡ triggers.old.items ++
+            (of_operation header.now (Operation.Delete path.now) self.old).triggers) }
         ensures err { OnErr result (self.new ≡ self.old) }
     {
         let before = triggers.len();
@@ -210,7 +218,10 @@ impl Tree {
             triggers.truncate(before);
             return Ok(NO_NODE);
         };
-        if !self.nodes.remove_child(parent_of(path), name_of(path), header) {
+        if !self
+            .nodes
+            .remove_child(parent_of(path), name_of(path), header)
+        {
             triggers.truncate(before);
             return Ok(NO_NODE);
         }
@@ -225,9 +236,13 @@ impl Tree {
         body: &SetData,
         triggers: &mut Vec<Trigger>,
     ) -> Result<i32, NoMemory>
-        ensures state { OnOk result (self.new ≡ (of_operation header.now (Operation.SetData body.now) self.old).state) }
-        ensures error { IfOk result (λ err. err ≡ (of_operation header.now (Operation.SetData body.now) self.old).err) }
-        ensures fired { OnOk result (triggers.new.items ≡ triggers.old.items ++ (of_operation header.now (Operation.SetData body.now) self.old).triggers) }
+        ensures state { OnOk result
+            (self.new ≡ (of_operation header.now (Operation.SetData body.now) self.old).state) }
+        ensures error { IfOk result
+            (λ err. err ≡ (of_operation header.now (Operation.SetData body.now) self.old).err) }
+        ensures fired { OnOk result
+            (triggers.new.items ≡ triggers.old.items ++
+            (of_operation header.now (Operation.SetData body.now) self.old).triggers) }
         ensures err { OnErr result (self.new ≡ self.old) }
     {
         let before = triggers.len();
@@ -251,7 +266,8 @@ impl Tree {
     }
 
     fn create_session(&mut self, header: &TxnHeader, timeout: i32) -> Result<(), NoMemory>
-        ensures ok { OnOk result (self.new ≡ (of_create_session header.now timeout self.old).state) }
+        ensures ok { OnOk result
+            (self.new ≡ (of_create_session header.now timeout self.old).state) }
         ensures err { OnErr result (self.new ≡ self.old) }
     {
         self.put_session(header.client_id, timeout)
@@ -265,9 +281,13 @@ impl Tree {
         operation: &Operation,
         triggers: &mut Vec<Trigger>,
     ) -> Result<i32, NoMemory>
-        ensures state { OnOk result (self.new ≡ (of_operation header.now operation.now self.old).state) }
-        ensures error { IfOk result (λ err. err ≡ (of_operation header.now operation.now self.old).err) }
-        ensures fired { OnOk result (triggers.new.items ≡ triggers.old.items ++ (of_operation header.now operation.now self.old).triggers) }
+        ensures state { OnOk result
+            (self.new ≡ (of_operation header.now operation.now self.old).state) }
+        ensures error { IfOk result
+            (λ err. err ≡ (of_operation header.now operation.now self.old).err) }
+        ensures fired { OnOk result
+            (triggers.new.items ≡ triggers.old.items ++
+            (of_operation header.now operation.now self.old).triggers) }
         ensures err { OnErr result (self.new ≡ self.old) }
     {
         match operation {
@@ -311,8 +331,11 @@ impl Tree {
         paths: TextSet,
         triggers: &mut Vec<Trigger>,
     ) -> Result<(), NoMemory>
-        ensures state { OnOk result (self.new ≡ (of_parts header.now (deletes (in_order paths)) self.old).state) }
-        ensures fired { OnOk result (triggers.new.items ≡ triggers.old.items ++ (of_parts header.now (deletes (in_order paths)) self.old).triggers) }
+        ensures state { OnOk result
+            (self.new ≡ (of_parts header.now (deletes (in_order paths)) self.old).state) }
+        ensures fired { OnOk result
+            (triggers.new.items ≡ triggers.old.items ++
+            (of_parts header.now (deletes (in_order paths)) self.old).triggers) }
     {
         let mut left = paths;
         while let Some(path) = left.pop_first() {
@@ -328,7 +351,9 @@ impl Tree {
         triggers: &mut Vec<Trigger>,
     ) -> Result<(), NoMemory>
         ensures state { OnOk result (self.new ≡ (of_close_session header.now self.old).state) }
-        ensures fired { OnOk result (triggers.new.items ≡ triggers.old.items ++ (of_close_session header.now self.old).triggers) }
+        ensures fired { OnOk result
+            (triggers.new.items ≡ triggers.old.items ++
+            (of_close_session header.now self.old).triggers) }
     {
         let paths = self.ephemerals.take_session(alloc, header.client_id);
         self.timeouts.remove(header.client_id);
@@ -371,7 +396,8 @@ impl Tree {
     ) -> Result<Outcome, NoMemory>
         ensures state { OnOk result (self.new ≡ (of_multi header.now parts.now self.old).state) }
         ensures answer { IfOk result (λ o. o ≡ answer_of (of_multi header.now parts.now self.old)) }
-        ensures err { OnErr result (IsPartly (has_error parts.now) header.now parts.now self.old self.new) }
+        ensures err { OnErr result
+            (IsPartly (has_error parts.now) header.now parts.now self.old self.new) }
     {
         if has_error(parts) {
             return failed_outcome(alloc, parts);
@@ -402,7 +428,8 @@ impl Tree {
 
     /// The names of the children of the node at the path, in ascending bytes.
     pub fn children(&self, path: &str) -> Option<&TextSet>
-        ensures { option_copied result ≡ option_map children_of (finmap.get self.now.nodes path.now) }
+        ensures { option_copied result ≡
+            option_map children_of (finmap.get self.now.nodes path.now) }
     {
         Some(&self.node(path)?.children)
     }

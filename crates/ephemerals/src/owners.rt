@@ -34,7 +34,8 @@ impl Model for Ephemerals {
 
     ghost view = { λ e. pairs_of e.sets.entries };
 
-    ghost invariant = { λ e. IsOrdered int_cmp e.sets × (e.count ≡ set.len (pairs_of e.sets.entries)) };
+    ghost invariant = { λ e. IsOrdered int_cmp e.sets ×
+        (e.count ≡ set.len (pairs_of e.sets.entries)) };
 }
 
 impl Ephemerals {
@@ -68,9 +69,8 @@ impl Ephemerals {
     // Adds the pair, and says whether it is new.
     fn insert(&mut self, alloc: Global, session: i64, path: String) -> Result<bool, NoMemory>
         ensures ok { OnOk result (self.new ≡ set.insert self.old (session, string_bytes path)) }
-        ensures added {
-            IfOk result (λ added. added ≡ not (set.contains self.old (session, string_bytes path)))
-        }
+        ensures added { IfOk result
+            (λ added. added ≡ not (set.contains self.old (session, string_bytes path))) }
         ensures err { OnErr result (self.new ≡ self.old) }
     {
         // Each pair takes more than a byte of memory, so that memory ends before the numbers do.
@@ -96,9 +96,8 @@ impl Ephemerals {
     // Takes the pair out, and says whether the session has a set that is empty now.
     fn remove_pair(&mut self, session: i64, path: &str) -> bool
         ensures removed { self.new ≡ set.remove self.old (session, path.now) }
-        ensures emptied {
-            IsTrue result → (p : List ℕ) → set.contains self.new (session, p) ≡ false
-        }
+        ensures emptied { IsTrue result →
+            (p : List ℕ) → set.contains self.new (session, p) ≡ false }
     {
         match self.sets.get_mut(&session) {
             None => return false,
@@ -122,10 +121,8 @@ impl Ephemerals {
     /// Makes the session own the path, and says whether it is new. Session 0 gains nothing.
     pub fn add(&mut self, alloc: Global, session: i64, path: &str) -> Result<bool, NoMemory>
         ensures ok { OnOk result (self.new ≡ with_pair self.old session path.now) }
-        ensures added {
-            let owns = set.contains self.old (session, path.now) in
-            IfOk result (λ added. added ≡ (not (int_eq session (pos 0)) && not owns))
-        }
+        ensures added { let owns = set.contains self.old (session, path.now) in
+            IfOk result (λ added. added ≡ (not (int_eq session (pos 0)) && not owns)) }
         ensures err { OnErr result (self.new ≡ self.old) }
     {
         if session == 0 {

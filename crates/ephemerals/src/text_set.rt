@@ -66,9 +66,8 @@ impl TextSet {
     /// Adds a text, and says whether it is new. Only a new text can be refused.
     pub fn insert(&mut self, text: String) -> Result<bool, NoMemory>
         ensures ok { OnOk result (self.new ≡ set.insert self.old (string_bytes text)) }
-        ensures added {
-            IfOk result (λ added. added ≡ not (set.contains self.old (string_bytes text)))
-        }
+        ensures added { IfOk result
+            (λ added. added ≡ not (set.contains self.old (string_bytes text))) }
         ensures err { OnErr result (self.new ≡ self.old) }
         ensures absent { OnErr result (set.contains self.old (string_bytes text) ≡ false) }
     {
@@ -86,10 +85,8 @@ impl TextSet {
     /// The texts in ascending bytes.
     pub fn iter(&self) -> Iter<'_, String>
         ensures texts { map string_bytes result ≡ in_order self.now }
-        ensures members {
-            let texts = map string_bytes result in
-            (q : Bytes) → set.contains self.now q ≡ list_any (eq_by_cmp path_cmp q) texts
-        }
+        ensures members { let texts = map string_bytes result in
+            (q : Bytes) → set.contains self.now q ≡ list_any (eq_by_cmp path_cmp q) texts }
         ensures runs { ShowsInOrder (deref {X = String Global}) }
     {
         self.texts.iter()
@@ -97,9 +94,8 @@ impl TextSet {
 
     /// Takes out the first text in ascending bytes.
     pub fn pop_first(&mut self) -> Option<String>
-        ensures first {
-            IfSome result (λ text. in_order self.old ≡ string_bytes text ∷ in_order self.new)
-        }
+        ensures first { IfSome result
+            (λ text. in_order self.old ≡ string_bytes text ∷ in_order self.new) }
         ensures none { IfNone result (in_order self.old ≡ []) }
     {
         self.texts.pop_first()
