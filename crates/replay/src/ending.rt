@@ -35,7 +35,8 @@ impl Ending {
 
     /// Writes what standard error is told: nothing where all went well, else one line.
     pub fn tell<E: Write>(self, writer: &mut E) -> io::Result<()>
-        ensures written { OnOk result (Appends (E.contents writer.old) (E.contents writer.new) (message_of self)) }
+        ensures written { OnOk result
+            (Appends (E.contents writer.old) (E.contents writer.new) (message_of self)) }
         ensures done { self ≡ Ending.Done → IsOk result }
     {
         match self {

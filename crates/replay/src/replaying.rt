@@ -64,7 +64,8 @@ fn events_of(alloc: Global, script: &[ScriptEvent]) -> Result<Vec<Event<'_>>, No
 
 // The observer that a script sets up.
 fn engine_of(alloc: Global, primed: bool, config: Config) -> Result<Engine, NoMemory>
-    ensures { IfOk result (λ e. e ≡ Some (if primed then primed_machine config else new_machine config)) }
+    ensures { IfOk result
+        (λ e. e ≡ Some (if primed then primed_machine config else new_machine config)) }
 {
     if primed {
         Engine::primed(alloc, config)
@@ -79,7 +80,8 @@ fn print_output<W: Write>(
     output: &Output,
     writer: &mut W,
 ) -> Result<(), PrintError>
-    ensures ok { OnOk result (Appends (W.contents writer.old) (W.contents writer.new) (output_line output.now)) }
+    ensures ok { OnOk result
+        (Appends (W.contents writer.old) (W.contents writer.new) (output_line output.now)) }
     ensures no_memory { result ≡ Err print_errors.NoMemory → writer.new ≡ writer.old }
 {
     line.clear();

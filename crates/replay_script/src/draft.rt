@@ -97,7 +97,8 @@ impl Draft {
     /// Takes the next line, and answers whether it is a line of the language that may stand there. Where memory is
     /// refused the draft is only to be dropped.
     pub fn take_line(&mut self, alloc: Global, text: &[u8]) -> Result<bool, NoMemory>
-        ensures { IfOk result (λ taken. with_text self.old text.now ≡ (if taken then Some self.new else None)) }
+        ensures { IfOk result
+            (λ taken. with_text self.old text.now ≡ (if taken then Some self.new else None)) }
     {
         match line_of(alloc, text)? {
             None => Ok(false),

@@ -33,7 +33,8 @@ impl From<NoMemory> for ScriptError {
 /// Reads a script.
 pub fn parse(alloc: Global, text: &[u8]) -> Result<Script, ScriptError>
     ensures script { IfOk result (λ script. script_of text.now ≡ Ok script) }
-    ensures bad_line { (number : ℕ) → result ≡ Err (ScriptError.BadLine number) → script_of text.now ≡ Err number }
+    ensures bad_line { (number : ℕ) → result ≡ Err (ScriptError.BadLine number)
+        → script_of text.now ≡ Err number }
 {
     let mut draft = Draft::new(alloc);
     let mut rest = Some(Bytes::new(text));
