@@ -1,13 +1,17 @@
 #!/usr/bin/env python3
 """Times the program on large scripts, and prints the figures of one run side by side.
 
-    bench/run.py PROGRAM [ARG ..]           as bench/run.py crates/replay_runner/out/replay_runner
+    bench/run.py PROGRAM [ARG ..]                    as bench/run.py crates/replay_runner/out/replay_runner
+    bench/run.py PROGRAM --against OTHER             which of two programs replays the same scripts faster
+    bench/run.py --engine LOAD_RUNNER --against OTHER    the same of two executables of crates/load_runner
 
 It makes scripts by bench/generate.py, and `PROGRAM ARG .. replay SCRIPT` runs on them. The number n of messages
 doubles until a run takes long enough. Three ratios are judged: 2n messages take at most 2.2 times as long as n; the same
 bytes in pieces of 100 bytes take at most 1.5 times as long as in one piece; and where long messages come in such
 pieces, messages twice as long take at most 2.2 times as long. Each time is the least of several runs, of which those
-that are compared take turns. A program that writes something else than it should, or takes two minutes, is refused.
+that are compared take turns. Against another program the scripts, or the engine's load, are the same, both take turns, and
+the processor's times are compared: the ratio is 1 where both are as fast, and above 1 where PROGRAM is faster, which is what
+passes. A program that writes something else than it should, or takes two minutes, is refused.
 Times are of the whole program, so they hold reading the script's hexadecimal digits and printing the replies. The exit
 status is 0 where all pass.
 """
@@ -15,6 +19,7 @@ import argparse
 import hashlib
 import os
 import pathlib
+import re
 import subprocess
 import sys
 import tempfile
@@ -27,13 +32,28 @@ import generate  # noqa: E402
 MOST_MESSAGES, MOST_SECONDS = 1 << 23, 120
 TWICE, PIECES, PIECE = 2.2, 1.5, 100
 LONG_ENTRIES = 50_000
+# The engine's load: nodes below the root, nodes below each of these, sets, and no reads.
+LOAD = ["100", "1000", "1000000", "0"]
+
+
+def timed(words, out):
+    """Runs a program. Returns its exit status, the seconds by the clock, and what it used of processor and memory."""
+    began = time.perf_counter()
+    child = subprocess.Popen(words, stdin=subprocess.DEVNULL, stdout=out)
+    ending = threading.Timer(MOST_SECONDS, child.kill)
+    ending.start()
+    _, status, used = os.wait4(child.pid, 0)
+    ending.cancel()
+    seconds = time.perf_counter() - began
+    child.returncode = os.WEXITSTATUS(status) if os.WIFEXITED(status) else -os.WTERMSIG(status)
+    return child.returncode, seconds, used
 
 
 class Run:
-    """A script, and what the program's runs on it took."""
+    """A script, and what a program's runs on it took."""
 
-    def __init__(self, name, work, cut, options, room):
-        self.name, self.number, self.options = name, work.number, options
+    def __init__(self, name, work, cut, words, room):
+        self.name, self.number, self.words = name, work.number, words
         self.script, self.output = room / f"{name}.script", room / f"{name}.output"
         with open(self.script, "w", encoding="ascii") as out:
             generate.write(work, cut, out)
@@ -43,19 +63,12 @@ class Run:
         self.digest = None
 
     def once(self):
-        words = [self.options.program] + self.options.arguments + ["replay", str(self.script)]
         with open(self.output, "wb") as out:
-            began = time.perf_counter()
-            child = subprocess.Popen(words, stdin=subprocess.DEVNULL, stdout=out)
-            ending = threading.Timer(MOST_SECONDS, child.kill)
-            ending.start()
-            _, status, used = os.wait4(child.pid, 0)
-            ending.cancel()
-            self.seconds = min(self.seconds, time.perf_counter() - began)
-            child.returncode = os.WEXITSTATUS(status) if os.WIFEXITED(status) else -os.WTERMSIG(status)
+            status, seconds, used = timed(self.words + ["replay", str(self.script)], out)
+        self.seconds = min(self.seconds, seconds)
         self.processor = min(self.processor, used.ru_utime + used.ru_stime)
         self.memory = max(self.memory, used.ru_maxrss)
-        self.judge(child.returncode)
+        self.judge(status)
 
     def judge(self, status):
         """Stops where the program didn't do all of the work."""
@@ -77,7 +90,6 @@ class Run:
             f"{self.memory / 1024:>8.0f}{rate:>14,.0f}"
         )
 
-
     def clear(self):
         self.script.unlink()
         self.output.unlink()
@@ -94,10 +106,11 @@ def compare(runs, rounds):
     return runs[1].seconds / runs[0].seconds
 
 
-def enough(work_of, number, cut, options, room):
+def enough(options, number, cut, room, work_of=None):
     """Returns the number of messages, doubled from the one given, with which a run takes long enough to be measured."""
     while True:
-        trial = Run("trial", work_of(number), cut, options, room)
+        work = work_of(number) if work_of else work_with(options, number)
+        trial = Run("trial", work, cut, options.words, room)
         trial.once()
         trial.clear()
         if trial.seconds > options.seconds or number >= MOST_MESSAGES:
@@ -105,33 +118,81 @@ def enough(work_of, number, cut, options, room):
         number *= 2
 
 
+def work_with(options, number):
+    return generate.Work(number, options.parents, options.reads_every, options.content)
+
+
 def in_length(options, room):
     """Runs n and 2n messages. Returns how many times as long the second takes, and the messages a second of the first."""
-    work_of = lambda number: generate.Work(number, options.parents, options.reads_every, options.content)
-    number = enough(work_of, 1000, "message", options, room)
-    one = Run("n, a line each", work_of(number), "message", options, room)
-    two = Run("2n, a line each", work_of(2 * number), "message", options, room)
+    number = enough(options, 1000, "message", room)
+    one = Run("n, a line each", work_with(options, number), "message", options.words, room)
+    two = Run("2n, a line each", work_with(options, 2 * number), "message", options.words, room)
     ratio = compare([one, two], options.rounds)
     return ratio, one.number / one.seconds
 
 
 def in_pieces(options, room):
     """Runs the same bytes uncut and cut. Returns how many times as long the second takes, and whether both write the same."""
-    work_of = lambda number: generate.Work(number, options.parents, options.reads_every, options.content)
-    number = enough(work_of, 1000, "whole", options, room)
-    whole = Run("n, all in one piece", work_of(number), "whole", options, room)
-    cut = Run(f"n, in pieces of {PIECE} bytes", work_of(number), str(PIECE), options, room)
+    number = enough(options, 1000, "whole", room)
+    whole = Run("n, all in one piece", work_with(options, number), "whole", options.words, room)
+    cut = Run(f"n, in pieces of {PIECE} bytes", work_with(options, number), str(PIECE), options.words, room)
     ratio = compare([whole, cut], options.rounds)
     return ratio, whole.digest == cut.digest
 
 
 def in_long_messages(options, room):
     """Runs long messages in pieces, and the same number of twice as long ones, and returns the ratio."""
-    number = enough(lambda it: generate.LongWork(it, LONG_ENTRIES), 1, str(PIECE), options, room)
+    number = enough(options, 1, str(PIECE), room, lambda it: generate.LongWork(it, LONG_ENTRIES))
     once, twice = (generate.LongWork(number, many) for many in (LONG_ENTRIES, 2 * LONG_ENTRIES))
-    one = Run(f"long ones, {PIECE} bytes a piece", once, str(PIECE), options, room)
-    two = Run(f"twice as long ones, {PIECE} bytes", twice, str(PIECE), options, room)
+    one = Run(f"long ones, {PIECE} bytes a piece", once, str(PIECE), options.words, room)
+    two = Run(f"twice as long ones, {PIECE} bytes", twice, str(PIECE), options.words, room)
     return compare([one, two], options.rounds)
+
+
+def against(options, room):
+    """Runs both programs on the same scripts. Returns how many times as fast the first is on each."""
+    ratios = []
+    for cut in ("message", str(PIECE)):
+        number = enough(options, 1000, cut, room)
+        what = "a line each" if cut == "message" else f"in pieces of {cut} bytes"
+        one = Run(f"n, {what}", work_with(options, number), cut, options.words, room)
+        other = Run(f"the other, {what}", work_with(options, number), cut, [options.against], room)
+        compare([one, other], options.rounds)
+        ratios.append((f"replay, {what}", other.processor / one.processor))
+        if one.digest != other.digest:
+            sys.exit(f"the two programs write different bytes: n {number}, {what}")
+    return ratios
+
+
+def informs(program, room):
+    """Runs the engine's load once. Returns how many INFORMs it took, and how many in a second of the processor."""
+    output = room / "load.output"
+    with open(output, "wb") as out:
+        status, _, used = timed([program] + LOAD, out)
+    written = output.read_text(encoding="ascii", errors="replace")
+    found = re.match(r"transactions=(\d+) ", written)
+    if status or not found:
+        sys.exit(f"{program}: the load ended with status {status} and {written[:200]!r}")
+    return int(found.group(1)), int(found.group(1)) / (used.ru_utime + used.ru_stime)
+
+
+def engine_against(options, room):
+    """Gives both engines the same load, in turns. Returns how many times as fast the first is."""
+    programs, best = (options.program, options.against), [0.0, 0.0]
+    for _ in range(options.rounds):
+        for place, program in enumerate(programs):
+            number, rate = informs(program, room)
+            best[place] = max(best[place], rate)
+    for program, rate in zip(programs, best):
+        print(f"{program}: {number:,} INFORMs, {rate:,.0f} a second of the processor", flush=True)
+    return [("the engine's INFORMs a second", best[0] / best[1])]
+
+
+def are_faster(ratios):
+    """Prints how many times as fast the first program is. Returns whether it is as fast at least."""
+    for what, ratio in ratios:
+        print(f"{'PASS' if ratio >= 1 else 'FAIL'}  {what}: {ratio:.3f} times as fast as the other (at least 1)", flush=True)
+    return all(ratio >= 1 for _, ratio in ratios)
 
 
 def verdict(what, ratio, most):
@@ -145,27 +206,46 @@ def machine(when):
     print(f"{when}: {os.cpu_count()} cores, load of the last 1, 5 and 15 minutes {load}", flush=True)
 
 
-def main():
+def judged_alone(options, room):
+    """Judges the three ratios. Returns whether all pass."""
+    ratio, rate = in_length(options, room)
+    passes = [verdict("2n messages against n", ratio, TWICE)]
+    ratio, is_same = in_pieces(options, room)
+    passes += [verdict(f"pieces of {PIECE} bytes against one piece", ratio, PIECES), is_same]
+    print(f"{'PASS' if is_same else 'FAIL'}  both cuts are answered in the same bytes")
+    passes += [verdict("messages twice as long, in pieces", in_long_messages(options, room), TWICE)]
+    print(f"transactions a second, through a script: {rate:,.0f}")
+    return all(passes)
+
+
+def read_options():
     parser = argparse.ArgumentParser(description=__doc__, formatter_class=argparse.RawDescriptionHelpFormatter)
     parser.add_argument("--seconds", type=float, default=1.2, help="how long a run of n messages takes at least (1.2)")
     parser.add_argument("--rounds", type=int, default=3, help="how often each script is run (3)")
+    parser.add_argument("--against", metavar="OTHER", help="another program, to be compared with")
+    parser.add_argument("--engine", action="store_true", help="the two programs are executables of crates/load_runner")
     generate.options(parser)
     parser.add_argument("program")
-    parser.add_argument("arguments", nargs=argparse.REMAINDER)
+    parser.add_argument("arguments", nargs="*")
     options = parser.parse_args()
+    if options.engine and not options.against:
+        parser.error("--engine wants --against")
+    options.words = [options.program] + options.arguments
+    return options
+
+
+def main():
+    options = read_options()
     machine("before")
     with tempfile.TemporaryDirectory(prefix="bench-") as name:
         room = pathlib.Path(name)
-        print(f"{'':<34}{'messages':>10}{'seconds':>10}{'processor':>11}{'MiB':>8}{'messages/s':>14}")
-        ratio, rate = in_length(options, room)
-        passes = [verdict("2n messages against n", ratio, TWICE)]
-        ratio, is_same = in_pieces(options, room)
-        passes += [verdict(f"pieces of {PIECE} bytes against one piece", ratio, PIECES), is_same]
-        print(f"{'PASS' if is_same else 'FAIL'}  both cuts are answered in the same bytes")
-        passes += [verdict("messages twice as long, in pieces", in_long_messages(options, room), TWICE)]
-    print(f"transactions a second, through a script: {rate:,.0f}")
+        if options.engine:
+            passes = are_faster(engine_against(options, room))
+        else:
+            print(f"{'':<34}{'messages':>10}{'seconds':>10}{'processor':>11}{'MiB':>8}{'messages/s':>14}")
+            passes = are_faster(against(options, room)) if options.against else judged_alone(options, room)
     machine("after")
-    return 0 if all(passes) else 1
+    return 0 if passes else 1
 
 
 if __name__ == "__main__":

@@ -1,6 +1,6 @@
 """Where the proved program is, and of which sources it was made.
 
-`rt run` proves a program, builds it and runs it; a passing `rt ci` leaves the same executable behind. Neither says
+tools/building.py proves and builds it; a passing `rt ci` leaves the same executable behind. Neither says
 later of which sources an executable that lies there was made. So a file of our own, out/observer/built.json, keeps
 three things of the last build: a hash of the sources, a hash of the executable, and how long the build took. The
 executable is started only where both hashes are still right.
@@ -13,19 +13,10 @@ import subprocess
 import sys
 import time
 
-TOP = os.path.dirname(os.path.dirname(os.path.realpath(__file__)))
-CRATE = os.path.join(TOP, "crates", "replay_runner")
-PROGRAM = os.path.join(CRATE, "out", "replay_runner")
-KEPT = os.path.join(TOP, "out", "observer")
+import building
+from common import KEPT, NOT_BUILT, PROGRAM, PROGRAM_CRATE, TOP, how_long, say
+
 BUILT = os.path.join(KEPT, "built.json")
-LOG = os.path.join(KEPT, "build.log")
-
-# No exit status of the program itself, which are 0 to 6.
-NOT_BUILT = 70
-
-
-def say(text):
-    print("observer: " + text, file=sys.stderr, flush=True)
 
 
 def files_below(folder):
@@ -91,35 +82,15 @@ def is_built(of_sources):
     return found.get("program") == hash_of_file(PROGRAM)
 
 
-def how_long(seconds):
-    if seconds < 90:
-        return f"{seconds:.0f} seconds"
-    return f"{seconds / 60:.0f} minutes"
-
-
-def announce():
-    before = kept().get("seconds")
-    said = f"; the last build here took {how_long(before)}" if isinstance(before, (int, float)) else ""
-    say(f"proving and building the program{said} (the build's own lines: {os.path.relpath(LOG, TOP)})")
-
-
-def last_lines(path, number):
-    with open(path, encoding="utf-8", errors="replace") as it:
-        return it.read().splitlines()[-number:]
-
-
 def build(of_sources):
-    """Proves and builds the program by `rt run`, whose own run of it is dropped. Returns whether all went well."""
-    announce()
-    stdin = os.path.join(CRATE, "stdin")
+    """Proves and builds the program. Returns whether all went well, and says what went wrong."""
+    before = kept().get("seconds")
     began = time.monotonic()
-    with open(stdin if os.path.isfile(stdin) else os.devnull, "rb") as given, open(LOG, "wb") as log:
-        ran = subprocess.run(["rt", "run"], cwd=CRATE, stdin=given, stdout=subprocess.DEVNULL, stderr=log)
+    if not building.build(PROGRAM_CRATE, before if isinstance(before, (int, float)) else None):
+        return False
     seconds = time.monotonic() - began
-    if ran.returncode or not os.path.isfile(PROGRAM):
-        for line in last_lines(LOG, 20):
-            print("  " + line, file=sys.stderr)
-        say(f"the build failed after {how_long(seconds)}: rt run ended with status {ran.returncode}")
+    if not os.path.isfile(PROGRAM):
+        say("the program was not left where it belongs")
         return False
     if hash_of_sources() != of_sources:
         say("the sources changed while the program was built: start again")

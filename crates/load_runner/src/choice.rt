@@ -1,9 +1,6 @@
 //! Numbers in an order that only looks like chance.
 
-ghost use Rattle.std.specs.Prelude.{◌≡◌, ◌<◌, ◌≤◌};
-ghost use Rattle.load_runner.specs.Choice.{next, number};
-
-use std::marker::Model;
+ghost use Rattle.std.specs.Prelude.{◌<◌, ◌≤◌};
 
 /// A fixed sequence of numbers (a linear congruence of 64 bits).
 #[derive(Debug, Drop)]
@@ -11,29 +8,16 @@ pub struct Choice {
     state: u64,
 }
 
-impl Model for Choice {
-    ghost use Rattle.std.specs.Prelude.{ℕ};
-
-    ghost Value = { ℕ };
-
-    ghost view = { λ c. c.state };
-}
-
 impl Choice {
     /// The sequence from its start on.
-    pub fn new() -> Choice
-        ensures { result ≡ 1 }
-    {
+    pub fn new() -> Choice {
         Choice { state: 1 }
     }
 
     /// The next number, which is below the one given.
-    #[tactic(auto, unfolding(crate::specs::Choice::next, crate::specs::Choice::number))]
     pub fn below(&mut self, end: u32) -> u32
         requires { 1 ≤ end }
-        ensures state { self.new ≡ next self.old }
-        ensures number { result ≡ number self.new end }
-        ensures below { result < end }
+        ensures { result < end }
     {
         self.state = self
             .state

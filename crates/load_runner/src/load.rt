@@ -1,8 +1,7 @@
 //! A leader and a client that know what they say, and the engine that they say it to.
 
-ghost use Rattle.std.specs.Prelude.{◌≡◌, ◌≤◌, [], ◌∷◌, length, IfOk, OnOk};
+ghost use Rattle.std.specs.Prelude.{◌≤◌, length};
 ghost use Rattle.txn_codec.specs.Writable.{IsWritableBody};
-ghost use Rattle.load_runner.specs.Load.{Tell, Ask, IsNew, Says, parents_made, children_made, is_read, set_of, sets_made, load_of};
 
 use crate::choice::Choice;
 use crate::messages::{
@@ -53,17 +52,13 @@ pub struct Load {
 }
 
 // Whether a node is read before the set of a number.
-fn is_read(every: u32, set: u32) -> bool
-    ensures { result ≡ is_read every set }
-{
+fn is_read(every: u32, set: u32) -> bool {
     every != 0 && set % every == 0
 }
 
 impl Load {
     /// An engine that follows a leader and has one client's connection.
-    pub fn new(alloc: Global) -> Result<Load>
-        ensures { IfOk result IsNew }
-    {
+    pub fn new(alloc: Global) -> Result<Load> {
         let secret = Blob::from_vec(Vec::new(alloc));
         let config = Config::new(1, 0, 0, 4000, 40_000, secret)?;
         let engine = Engine::primed(alloc, config)?;
@@ -80,7 +75,6 @@ impl Load {
     // The leader tells of a transaction.
     fn tell(&mut self, alloc: Global, body: Body) -> Result<()>
         requires { IsWritableBody body }
-        ensures { OnOk result (Says self.old (Tell body ∷ []) self.new) }
     {
         let zxid = self.zxid.checked_add(1).context("no zxid is left")?;
         let header = TxnHeader {
@@ -108,7 +102,6 @@ impl Load {
     // The client asks for a node's data.
     fn ask(&mut self, alloc: Global, path: &Path) -> Result<()>
         requires { length path.now ≤ PATH_LIMIT }
-        ensures { OnOk result (Says self.old (Ask path.now ∷ []) self.new) }
     {
         self.message.clear();
         write_get_data(alloc, 1, path, &mut self.message)?;
@@ -129,9 +122,7 @@ impl Load {
     }
 
     // Makes the nodes below a parent.
-    fn make_children(&mut self, alloc: Global, parent: u32, children: u32) -> Result<()>
-        ensures { OnOk result (Says self.old (children_made children parent) self.new) }
-    {
+    fn make_children(&mut self, alloc: Global, parent: u32, children: u32) -> Result<()> {
         for child in 0..children {
             let path = child_path(alloc, parent, child)?;
             let body = create(alloc, path)?;
@@ -141,9 +132,7 @@ impl Load {
     }
 
     // Makes the nodes below the root.
-    fn make_parents(&mut self, alloc: Global, parents: u32) -> Result<()>
-        ensures { OnOk result (Says self.old (parents_made parents) self.new) }
-    {
+    fn make_parents(&mut self, alloc: Global, parents: u32) -> Result<()> {
         for parent in 0..parents {
             let path = parent_path(alloc, parent)?;
             let body = create(alloc, path)?;
@@ -155,7 +144,6 @@ impl Load {
     // Sets a node's data, and may read it before.
     fn set_one(&mut self, alloc: Global, path: Path, is_read: bool) -> Result<()>
         requires { length path ≤ PATH_LIMIT }
-        ensures { OnOk result (Says self.old (set_of is_read path) self.new) }
     {
         if is_read {
             self.ask(alloc, &path)?;
@@ -168,7 +156,6 @@ impl Load {
     fn set(&mut self, alloc: Global, sizes: &Sizes) -> Result<()>
         requires parents { 1 ≤ sizes.now.parents }
         requires children { 1 ≤ sizes.now.children }
-        ensures { OnOk result (Says self.old (sets_made sizes.now sizes.now.sets) self.new) }
     {
         let mut choice = Choice::new();
         for set in 0..sizes.sets {
@@ -181,9 +168,7 @@ impl Load {
     }
 
     /// Makes the nodes, and then sets and reads children, which are chosen by a fixed sequence of numbers.
-    pub fn run(&mut self, alloc: Global, sizes: &Sizes) -> Result<()>
-        ensures { OnOk result (Says self.old (load_of sizes.now) self.new) }
-    {
+    pub fn run(&mut self, alloc: Global, sizes: &Sizes) -> Result<()> {
         self.make_parents(alloc, sizes.parents)?;
         for parent in 0..sizes.parents {
             self.make_children(alloc, parent, sizes.children)?;

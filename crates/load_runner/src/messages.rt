@@ -1,25 +1,19 @@
 //! The bytes of a leader's messages and of a client's requests.
 
-ghost use Rattle.std.specs.Prelude.{◌≡◌, ◌<◌, ◌≤◌, ◌++◌, length, Some, IfOk, IsErrOf, IsTrue, OnOk, OnErr};
-ghost use Rattle.jute.specs.Writes.{IsFront};
-ghost use Rattle.quorum_packet.specs.Packet.{packet};
-ghost use Rattle.txn_codec.specs.Paths.{is_path};
-ghost use Rattle.txn_codec.specs.Spelling.{txn as txn_format};
-ghost use Rattle.txn_codec.specs.Writable.{IsWritableBody};
-ghost use Rattle.load_runner.specs.Messages.{parent_text, child_text, open_to_all, create_of, set_data_of, inform_of, frame_of};
-ghost use Rattle.load_runner.specs.declared.messages.Untold.TheVariants as untold;
+ghost use Rattle.std.specs.Prelude.{◌≤◌, length, IfOk};
+ghost use Rattle.txn_codec.specs.Writable.{IsWritableAcls, IsWritableBody};
 
+use anyhow::{Result, ensure};
 use jute::{Acl, GetDataRequest, Id, RequestHeader, WriteRecord, put_bytes};
 use quorum_packet::{PacketKind, QuorumPacket, write_packet};
 use std::alloc::Global;
-use thiserror::Error;
 use txn_codec::{Body, Create, Operation, Path, SetData, Txn, encode_txn};
-use values::{Blob, Listed, NoMemory, ReadError, Str, Text};
+use values::{Blob, Listed, NoMemory, Str, Text};
 
 /// The most bytes of a path here.
 pub const PATH_LIMIT: usize = 64;
 
-// The most bytes of a transaction that a message carries here.
+// The most bytes of a transaction or a request that a message carries here.
 const CARRIED_LIMIT: usize = 1024;
 
 // The operation getData.
@@ -31,60 +25,33 @@ const ALL: i32 = 31;
 // What each node holds.
 const CONTENT: &[u8; 16] = b"0123456789abcdef";
 
-/// Why the leader did not tell of a transaction.
-#[derive(Clone, Copy, Debug, PartialEq, Eq, Error)]
-pub enum Untold {
-    /// A growth was refused.
-    #[error("no memory")]
-    NoMemory,
-    /// The transaction takes more bytes than a message carries here.
-    #[error("a transaction is too long")]
-    TooLong,
-}
-
-impl From<NoMemory> for Untold {
-    ghost from_gives = { λ _ e. e ≡ untold.NoMemory };
-
-    fn from(_e: NoMemory) -> Untold {
-        Untold::NoMemory
-    }
-}
-
-// The path of a text that is one.
-fn known_path(alloc: Global, text: &str) -> Result<Path, NoMemory>
-    requires { IsTrue (is_path text.now) }
-    ensures { IfOk result (λ p. p ≡ text.now) }
+// The path of a text, if it is a short one.
+fn short_path(alloc: Global, text: &str) -> Result<Path>
+    ensures { IfOk result (λ p. length p ≤ PATH_LIMIT) }
 {
-    match Path::new(alloc, text) {
-        Ok(path) => Ok(path),
-        Err(ReadError::NoMemory) => Err(NoMemory),
-        Err(ReadError::Fault(_)) => unreachable!(),
-    }
+    ensure!(text.len() <= PATH_LIMIT, "a path is too long");
+    Ok(Path::new(alloc, text)?)
 }
 
-/// The path of a node below the root. It is always one: only a growth can be refused.
-#[tactic(auto, using(crate::proofs::Paths::parent_is_path, crate::proofs::Paths::parent_is_short))]
-pub fn parent_path(alloc: Global, parent: u32) -> Result<Path, NoMemory>
-    ensures path { IfOk result (λ p. p ≡ parent_text parent) }
-    ensures short { IfOk result (λ p. length p ≤ PATH_LIMIT) }
+/// The path of a node below the root.
+pub fn parent_path(alloc: Global, parent: u32) -> Result<Path>
+    ensures { IfOk result (λ p. length p ≤ PATH_LIMIT) }
 {
     let text = format!(in alloc; "/p{parent}")?;
-    known_path(alloc, text.as_str())
+    short_path(alloc, text.as_str())
 }
 
-/// The path of a node below such a node. It is always one: only a growth can be refused.
-#[tactic(auto, using(crate::proofs::Paths::child_is_path, crate::proofs::Paths::child_is_short))]
-pub fn child_path(alloc: Global, parent: u32, child: u32) -> Result<Path, NoMemory>
-    ensures path { IfOk result (λ p. p ≡ child_text parent child) }
-    ensures short { IfOk result (λ p. length p ≤ PATH_LIMIT) }
+/// The path of a node below such a node.
+pub fn child_path(alloc: Global, parent: u32, child: u32) -> Result<Path>
+    ensures { IfOk result (λ p. length p ≤ PATH_LIMIT) }
 {
     let text = format!(in alloc; "/p{parent}/n{child}")?;
-    known_path(alloc, text.as_str())
+    short_path(alloc, text.as_str())
 }
 
 // Everyone may do anything.
 fn open_list(alloc: Global) -> Result<Option<Listed<Acl>>, NoMemory>
-    ensures { IfOk result (λ acl. acl ≡ Some open_to_all) }
+    ensures { IfOk result IsWritableAcls }
 {
     let scheme = Text::new(alloc, "world")?;
     let id = Text::new(alloc, "anyone")?;
@@ -100,8 +67,7 @@ fn open_list(alloc: Global) -> Result<Option<Listed<Acl>>, NoMemory>
 /// A node is made that everyone may change.
 pub fn create(alloc: Global, path: Path) -> Result<Body, NoMemory>
     requires { length path ≤ PATH_LIMIT }
-    ensures body { IfOk result (λ body. body ≡ create_of path) }
-    ensures writable { IfOk result IsWritableBody }
+    ensures { IfOk result IsWritableBody }
 {
     let bytes = Blob::new(alloc, CONTENT)?;
     let acl = open_list(alloc)?;
@@ -117,8 +83,7 @@ pub fn create(alloc: Global, path: Path) -> Result<Body, NoMemory>
 /// A node's data is replaced.
 pub fn set_data(alloc: Global, path: Path) -> Result<Body, NoMemory>
     requires { length path ≤ PATH_LIMIT }
-    ensures body { IfOk result (λ body. body ≡ set_data_of path) }
-    ensures writable { IfOk result IsWritableBody }
+    ensures { IfOk result IsWritableBody }
 {
     let bytes = Blob::new(alloc, CONTENT)?;
     Ok(Body::Single(Operation::SetData(SetData {
@@ -128,40 +93,25 @@ pub fn set_data(alloc: Global, path: Path) -> Result<Body, NoMemory>
     })))
 }
 
-/// Writes the packet by which a leader tells of a transaction. It is `TooLong` only where the transaction takes more
-/// than `CARRIED_LIMIT` bytes. An error may leave a front of the packet.
-pub fn write_inform(alloc: Global, txn: &Txn, out: &mut Vec<u8>) -> Result<(), Untold>
+/// Writes the packet by which a leader tells of a transaction. An error may leave a front of the packet.
+pub fn write_inform(alloc: Global, txn: &Txn, out: &mut Vec<u8>) -> Result<()>
     requires { IsWritableBody txn.now.body }
-    ensures ok { OnOk result (out.new.items ≡ out.old.items ++ packet.written (inform_of txn.now)) }
-    ensures err { OnErr result (IsFront out.old.items out.new.items) }
-    ensures too_long { IsErrOf result Untold.TooLong → CARRIED_LIMIT < length (txn_format.written txn.now) }
 {
     let mut bytes = Vec::new(alloc);
     encode_txn(txn, &mut bytes)?;
-    if bytes.len() > CARRIED_LIMIT {
-        return Err(Untold::TooLong);
-    }
+    ensure!(bytes.len() <= CARRIED_LIMIT, "a transaction is too long");
     let informing = QuorumPacket {
         kind: PacketKind::Inform.code(),
         zxid: txn.header.zxid,
         bytes: Some(Blob::from_vec(bytes)),
         authinfo: None,
     };
-    write_packet(&informing, out)?;
-    Ok(())
+    Ok(write_packet(&informing, out)?)
 }
 
-/// Writes the frame by which a client asks for a node's data, without a watch. `NoMemory` may leave a front of it.
-#[tactic(auto, using(crate::proofs::Requests::request_length))]
-pub fn write_get_data(
-    alloc: Global,
-    xid: i32,
-    path: &Path,
-    out: &mut Vec<u8>,
-) -> Result<(), NoMemory>
+/// Writes the frame by which a client asks for a node's data, without a watch. An error may leave a front of it.
+pub fn write_get_data(alloc: Global, xid: i32, path: &Path, out: &mut Vec<u8>) -> Result<()>
     requires { length path.now ≤ PATH_LIMIT }
-    ensures ok { OnOk result (out.new.items ≡ out.old.items ++ frame_of xid path.now) }
-    ensures err { OnErr result (IsFront out.old.items out.new.items) }
 {
     let mut frame = Vec::new(alloc);
     let header = RequestHeader {
@@ -174,5 +124,6 @@ pub fn write_get_data(
         watch: false,
     };
     request.write(&mut frame)?;
-    put_bytes(out, frame.as_slice())
+    ensure!(frame.len() <= CARRIED_LIMIT, "a request is too long");
+    Ok(put_bytes(out, frame.as_slice())?)
 }

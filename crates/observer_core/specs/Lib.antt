@@ -1,4 +1,3 @@
-pub mod Config
 pub mod Machine
 pub mod Request
 pub mod Look

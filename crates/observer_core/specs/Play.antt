@@ -258,7 +258,7 @@ started_machine config accepted current tree leader connections = record {
 
 -- the configured epochs, without a leader and without a client
 abbrev pub new_machine : Config → Machine
-new_machine config = started_machine config config.accepted_epoch config.current_epoch fresh None finmap.empty
+new_machine config = started_machine config config.epochs.accepted config.epochs.current fresh None finmap.empty
 
 -- the one connection of a machine that follows a leader from the start
 abbrev pub first_connection : Connections

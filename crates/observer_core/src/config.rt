@@ -1,32 +1,20 @@
 //! What an observer is set up with.
 
-ghost use Rattle.std.specs.Prelude.{◌≡◌, ◌↔◌, IsOk, IsTrue, IfOk, length};
-ghost use Rattle.observer_core.specs.Config.{is_server_id, are_epochs, are_timeouts, is_secret};
+ghost use Rattle.std.specs.Prelude.{◌≡◌, ◌↔◌, IsOk, IsTrue, IfOk};
+ghost use Rattle.settings.specs.Settings.{epoch_pair, timeout_pair};
+ghost use Rattle.settings.specs.Settings.{is_server_id, are_epochs, are_timeouts, is_secret};
 
+use settings::{Epochs, Secret, ServerId, TimeoutBounds};
 use thiserror::Error;
 use values::Blob;
-
-/// The most bytes of a secret.
-pub const SECRET_LIMIT: usize = 64;
 
 /// The settings of an observer.
 #[derive(Debug, Drop)]
 pub struct Config {
-    /// 1 to 255; the high byte of the sessions that this observer opens.
-    pub server_id: i32,
-    /// The greatest epoch that a leader was accepted with; at least 0.
-    pub accepted_epoch: i32,
-    /// The epoch of the last leader that was followed; at least 0.
-    pub current_epoch: i32,
-    /// The bounds of a session's timeout in milliseconds: 1 <= least <= greatest.
-    pub min_timeout: i32,
-    pub max_timeout: i32,
-    /// What the passwords of sessions are made of; at most 64 bytes.
-    pub secret: Blob,
-    ghost server: { IsTrue (is_server_id server_id) },
-    ghost epochs: { IsTrue (are_epochs accepted_epoch current_epoch) },
-    ghost timeouts: { IsTrue (are_timeouts min_timeout max_timeout) },
-    ghost short: { IsTrue (is_secret (length secret)) },
+    pub server_id: ServerId,
+    pub epochs: Epochs,
+    pub timeouts: TimeoutBounds,
+    pub secret: Secret,
 }
 
 /// A setting is out of its bounds.
@@ -34,32 +22,8 @@ pub struct Config {
 #[error("a setting is out of its bounds")]
 pub struct BadConfig;
 
-fn is_server_id(id: i32) -> bool
-    ensures { result ≡ is_server_id id }
-{
-    1 <= id && id <= 255
-}
-
-fn are_epochs(accepted: i32, current: i32) -> bool
-    ensures { result ≡ are_epochs accepted current }
-{
-    0 <= accepted && 0 <= current
-}
-
-fn are_timeouts(least: i32, greatest: i32) -> bool
-    ensures { result ≡ are_timeouts least greatest }
-{
-    1 <= least && least <= greatest
-}
-
-fn is_secret(secret: &[u8]) -> bool
-    ensures { result ≡ is_secret (length secret.now) }
-{
-    secret.len() <= SECRET_LIMIT
-}
-
 impl Config {
-    /// The settings, each within its bounds.
+    /// The settings of these numbers and bytes, if each is within its bounds.
     pub fn new(
         server_id: i32,
         accepted_epoch: i32,
@@ -68,31 +32,50 @@ impl Config {
         max_timeout: i32,
         secret: Blob,
     ) -> Result<Config, BadConfig>
-        ensures accepted { IsOk result ↔ (IsTrue (is_server_id server_id) × IsTrue (are_epochs accepted_epoch current_epoch) × IsTrue (are_timeouts min_timeout max_timeout) × IsTrue (is_secret (length secret))) }
+        ensures accepted {
+            let epochs = epoch_pair accepted_epoch current_epoch in
+            let timeouts = timeout_pair min_timeout max_timeout in
+            IsOk result
+            ↔ (IsTrue (is_server_id server_id) × IsTrue (are_epochs epochs)
+            × IsTrue (are_timeouts timeouts) × IsTrue (is_secret secret))
+        }
         ensures server { IfOk result (λ c. c.server_id ≡ server_id) }
-        ensures epochs { IfOk result (λ c. (c.accepted_epoch ≡ accepted_epoch) × (c.current_epoch ≡ current_epoch)) }
-        ensures timeouts { IfOk result (λ c. (c.min_timeout ≡ min_timeout) × (c.max_timeout ≡ max_timeout)) }
+        ensures epochs { IfOk result (λ c. c.epochs ≡ epoch_pair accepted_epoch current_epoch) }
+        ensures timeouts { IfOk result (λ c. c.timeouts ≡ timeout_pair min_timeout max_timeout) }
         ensures secret { IfOk result (λ c. c.secret ≡ secret) }
     {
-        if !is_server_id(server_id) {
+        let Some(server_id) = ServerId::new(server_id) else {
             return Err(BadConfig);
-        }
-        if !are_epochs(accepted_epoch, current_epoch) {
+        };
+        let Some(epochs) = Epochs::new(accepted_epoch, current_epoch) else {
             return Err(BadConfig);
-        }
-        if !are_timeouts(min_timeout, max_timeout) {
+        };
+        let Some(timeouts) = TimeoutBounds::new(min_timeout, max_timeout) else {
             return Err(BadConfig);
-        }
-        if !is_secret(secret.as_slice()) {
+        };
+        let Some(secret) = Secret::new(secret) else {
             return Err(BadConfig);
-        }
-        Ok(Config {
+        };
+        Ok(Config::from_settings(server_id, epochs, timeouts, secret))
+    }
+
+    /// These settings, each of which is within its bounds.
+    pub fn from_settings(
+        server_id: ServerId,
+        epochs: Epochs,
+        timeouts: TimeoutBounds,
+        secret: Secret,
+    ) -> Config
+        ensures server { result.server_id ≡ server_id }
+        ensures epochs { result.epochs ≡ epochs }
+        ensures timeouts { result.timeouts ≡ timeouts }
+        ensures secret { result.secret ≡ secret }
+    {
+        Config {
             server_id,
-            accepted_epoch,
-            current_epoch,
-            min_timeout,
-            max_timeout,
+            epochs,
+            timeouts,
             secret,
-        })
+        }
     }
 }

@@ -92,7 +92,7 @@ impl Engine {
     pub fn new(alloc: Global, config: Config) -> Result<Engine, NoMemory>
         ensures { IfOk result (λ e. e ≡ Some (new_machine config)) }
     {
-        let epochs = (config.accepted_epoch, config.current_epoch);
+        let epochs = (config.epochs.accepted(), config.epochs.current());
         started(alloc, config, epochs, None, Connections::new(alloc))
     }
 

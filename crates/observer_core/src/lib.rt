@@ -17,7 +17,7 @@ mod request;
 mod run;
 
 pub use client::CLIENT_FRAME_LIMIT;
-pub use config::{BadConfig, Config, SECRET_LIMIT};
+pub use config::{BadConfig, Config};
 pub use engine::{Engine, Stop};
 pub use event::{Event, Output};
 pub use law::{cut_anywhere, logs_are_followed, plays_on, refusals_change_nothing, worked_rows};

@@ -1,30 +1,23 @@
 //! Replays scripts: feeds an observer the events of a script, and prints what goes out.
 #![tactic(auto)]
 
-mod command;
-mod outcome;
-mod print;
-mod replay;
-
 ghost use Rattle.std.specs.Prelude.{◌≡◌, ◌≢◌, IfSome, None};
 ghost use Rattle.std.specs.IoError.{error_kind};
-ghost use Rattle.replay_runner.specs.Outcome.{status_of};
-ghost use Rattle.replay_runner.specs.Replay.{EndsWith};
+ghost use Rattle.replay.specs.Ending.{status_of};
+ghost use Rattle.replay.specs.Replay.{EndsWith};
 
-use command::{Source, source_of};
-use outcome::Outcome;
-use replay::replay_on;
+use replay::{Ending, Source, replay_on, source_of};
 use std::alloc::AllocError;
 use std::io::{BufWriter, Error, ErrorKind, Read};
 use std::process::ExitCode;
 use std::{env, fs};
 
 // Where no script was replayed.
-fn fail(rt: &HostRuntime, outcome: Outcome) -> u8
-    ensures { result ≡ status_of outcome }
+fn fail(rt: &HostRuntime, ending: Ending) -> u8
+    ensures { result ≡ status_of ending }
 {
-    let _ = outcome.tell(&mut rt.stderr());
-    outcome.status()
+    let _ = ending.tell(&mut rt.stderr());
+    ending.status()
 }
 
 fn usage(rt: &HostRuntime) -> u8
@@ -35,14 +28,14 @@ fn usage(rt: &HostRuntime) -> u8
 }
 
 // What a failed call of the system ends with.
-fn outcome_of(error: &Error) -> Outcome
-    ensures no_memory { error_kind error.now ≡ ErrorKind.OutOfMemory → result ≡ Outcome.NoMemory }
-    ensures failed { error_kind error.now ≢ ErrorKind.OutOfMemory → result ≡ Outcome.Failed }
+fn ending_of(error: &Error) -> Ending
+    ensures no_memory { error_kind error.now ≡ ErrorKind.OutOfMemory → result ≡ Ending.NoMemory }
+    ensures failed { error_kind error.now ≢ ErrorKind.OutOfMemory → result ≡ Ending.Failed }
 {
     if error.kind() == ErrorKind::OutOfMemory {
-        Outcome::NoMemory
+        Ending::NoMemory
     } else {
-        Outcome::Failed
+        Ending::Failed
     }
 }
 
@@ -52,7 +45,7 @@ fn replay_from<R: Read>(rt: &HostRuntime, reader: &mut R) -> u8
 {
     match BufWriter::new(rt.alloc(), rt.stdout()) {
         Ok(mut writer) => replay_on(rt.alloc(), reader, &mut writer, &mut rt.stderr()),
-        Err(_) => fail(rt, Outcome::NoMemory),
+        Err(_) => fail(rt, Ending::NoMemory),
     }
 }
 
@@ -61,7 +54,7 @@ fn replay_source(rt: &HostRuntime, source: Source<'_>) -> u8 {
         Source::Input => replay_from(rt, &mut rt.stdin()),
         Source::File(name) => match fs::File::open(rt, name.as_str()) {
             Ok(mut file) => replay_from(rt, &mut file),
-            Err(error) => fail(rt, outcome_of(&error)),
+            Err(error) => fail(rt, ending_of(&error)),
         },
     }
 }
@@ -79,9 +72,9 @@ fn run(rt: &HostRuntime) -> u8 {
     let words = match words(rt) {
         Ok(words) => words,
         Err(error) => {
-            return match outcome_of(&error) {
-                Outcome::NoMemory => fail(rt, Outcome::NoMemory),
-                _ => usage(rt),
+            return match ending_of(&error) {
+                Ending::NoMemory => fail(rt, Ending::NoMemory),
+                Ending::Done | Ending::BadLine(_) | Ending::Failed => usage(rt),
             };
         }
     };
@@ -94,6 +87,3 @@ fn run(rt: &HostRuntime) -> u8 {
 fn main(rt: HostRuntime) -> ExitCode {
     ExitCode::from(run(&rt))
 }
-
-#[cfg(test)]
-mod tests;

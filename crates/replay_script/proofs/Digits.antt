@@ -1,12 +1,14 @@
 -- Hexadecimal digits, read one by one.
-use Rattle.std.proofs.Common.{◌≡◌, ℕ, ◌+◌, ◌*◌, List, [], ◌∷◌, ◌++◌, Option, None, Some, refl, ap, sym, ◌∙◌, append_assoc, arith}
+use Rattle.std.proofs.Common.{◌≡◌, ℕ, ◌+◌, ◌*◌, ◌/◌, ◌%◌, List, [], ◌∷◌, ◌++◌, take, Result, Ok, Err, Option, None, Some, refl, ap, sym, ◌∙◌, append_assoc, arith}
 use Rattle.std.specs.Option.{option_map}
 use Rattle.std.proofs.Common.{◌<◌, true, false, cond, eqb, length, get_or, drop}
-use Rattle.std.specs.Prelude.{not, ◌≢◌}
+use Rattle.std.specs.Prelude.{not, ◌≢◌, IsErr}
 use Rattle.std.proofs.lemmas.Bool.Decides.{nat_tests}
-use Rattle.std.proofs.lemmas.List.{at_drop_more}
+use Rattle.std.proofs.lemmas.List.{at_drop_more, take-append-drop}
+use Rattle.std.proofs.lemmas.Grind.{flat_map-append}
 use Rattle.replay_script.specs.Number.{◌>>=◌}
-use Rattle.replay_script.specs.Hex.{digit_of, bytes_of, without_blanks}
+use Rattle.replay_script.specs.Hex.{digit_of, bytes_of, without_blanks, digit, digits}
+use Rattle.values.specs.Gains.{Puts}
 
 -- the bytes that digits spell behind the value of one that waits for its second
 abbrev pub bytes_behind : Option ℕ → List ℕ → Option (List ℕ)
@@ -76,3 +78,16 @@ second_read text front items i first d waits waits' whole h ne digit some none m
     ∙ sym (ap (λ t. onto front (bytes_behind (Some first) t)) (without_blanks_kept text i h ne))
     ∙ sym (ap (λ w. onto front (bytes_behind w (without_blanks (drop i text)))) some)
     ∙ e
+
+-- ---- written
+
+-- where memory was refused behind some bytes, the digits of these stand there
+pub digits_so_far : {U E : Type 0} (r : Result U E) (old bytes new : List ℕ) (i : ℕ) → IsErr r
+    → new ≡ old ++ digits (take i bytes) → Puts r old (digits bytes) new
+digits_so_far (Ok u) old bytes new i err e = absurd cc
+digits_so_far (Err d) old bytes new i err e = record {
+  front = digits (take i bytes);
+  rest = digits (drop i bytes);
+  gained = e;
+  of = ap digits (sym (take-append-drop i bytes)) ∙ flat_map-append (λ b. digit (b / 16) ∷ digit (b % 16) ∷ []) (take i bytes) (drop i bytes);
+}

@@ -2,4 +2,3 @@ pub mod Digits
 pub mod Numbers
 pub mod Reading
 pub mod Utf8
-pub mod WithinBounds

@@ -1,7 +1,6 @@
-pub mod Bounds
 pub mod Cut
-pub mod Draft
 pub mod Hex
 pub mod Line
 pub mod Number
+pub mod Rows
 pub mod Script

@@ -1,11 +1,12 @@
 -- What a line of a script says.
-use Rattle.std.specs.Prelude.{ℕ, pos, ◌^◌, ◌-◌, ◌==◌, List, [], ◌∷◌, length, Option, Some, None, nat_le, if◌then◌else◌, codes}
+use Rattle.std.specs.Prelude.{ℕ, ◌^◌, ◌-◌, ◌==◌, List, [], ◌∷◌, length, Option, Some, None, if◌then◌else◌, codes}
 use Rattle.std.specs.Int.{w64, cast_signed}
 use Rattle.std.specs.Option.{option_map}
 use Rattle.std.specs.Str.{bytes_eq, is_utf8}
 use Rattle.byteorder.specs.Endian.{big_number}
+use Rattle.settings.specs.Settings as settings
 use Rattle.replay_script.specs.Cut.{cut_at}
-use Rattle.replay_script.specs.Number.{◌>>=◌, number_between, pair_between}
+use Rattle.replay_script.specs.Number.{◌>>=◌, number_up_to, int_of, ints_of}
 use Rattle.replay_script.specs.Hex.{hex}
 use Rattle.replay_script.specs.declared.event.ScriptEvent.{ScriptEvent}
 use Rattle.replay_script.specs.declared.event.ScriptEvent.TheVariants.{LeaderUp, LeaderBytes, LeaderEnd, ClientUp, ClientBytes, ClientEnd, Expire, Checkpoint}
@@ -17,10 +18,6 @@ use Rattle.replay_script.specs.declared.event.Keyword.{Keyword}
 use Rattle.replay_script.specs.declared.event.Keyword.TheVariants as words
 use Rattle.replay_script.specs.declared.event.Coming.{Coming}
 use Rattle.replay_script.specs.declared.event.Coming.TheVariants.{Up, Bytes, End}
-
--- the greatest number of an int of the settings
-abbrev pub int_max : ℕ
-int_max = 2 ^ 31 - 1
 
 -- the words that a line begins with
 abbrev pub keyword_of : List ℕ → Option Keyword
@@ -57,7 +54,7 @@ client_event client End = ClientEnd client
 abbrev pub client_of : List ℕ → Option ScriptEvent
 client_of text = do
   let words = cut_at 32 text
-  client ← number_between 0 (2 ^ 32 - 1) words.front
+  client ← number_up_to (2 ^ 32 - 1) words.front
   behind ← words.behind
   coming ← coming_of behind
   Some (client_event client coming)
@@ -69,27 +66,36 @@ expire_of text = do
   if length bytes == 8 then Some (Expire (cast_signed w64 (big_number 8 bytes))) else None
 
 abbrev pub server_of : List ℕ → Option Setting
-server_of text = option_map (λ n. Server (pos n)) (number_between 1 255 text)
+server_of text = do
+  number ← int_of text
+  option_map Server (settings.server_id_of number)
 
 abbrev pub epochs_of : List ℕ → Option Setting
-epochs_of text = option_map (λ n. Epochs (pos n.0) (pos n.1)) (pair_between 0 int_max text)
+epochs_of text = do
+  numbers ← ints_of text
+  option_map Epochs (settings.epochs_of numbers.0 numbers.1)
 
--- the least is not above the greatest
 abbrev pub timeouts_of : List ℕ → Option Setting
 timeouts_of text = do
-  bounds ← pair_between 1 int_max text
-  if nat_le bounds.0 bounds.1 then Some (Timeouts (pos bounds.0) (pos bounds.1)) else None
+  numbers ← ints_of text
+  option_map Timeouts (settings.timeouts_of numbers.0 numbers.1)
 
 abbrev pub secret_of : List ℕ → Option Setting
 secret_of text = do
   bytes ← hex text
-  if nat_le (length bytes) 64 then Some (Secret bytes) else None
+  option_map Secret (settings.secret_of bytes)
 
 -- what a word says with nothing behind it
 abbrev pub alone : Keyword → Option Line
 alone words.Primed = Some (Header Primed)
 alone words.Checkpoint = Some (Happening Checkpoint)
-alone _ = None
+alone words.Server = None
+alone words.Epochs = None
+alone words.Timeouts = None
+alone words.Secret = None
+alone words.Leader = None
+alone words.Client = None
+alone words.Expire = None
 
 -- what a word says with a blank and a text behind it
 abbrev pub followed : Keyword → List ℕ → Option Line

@@ -1,6 +1,7 @@
 -- Decimal numbers, and steps that may find nothing.
-use Rattle.std.specs.Prelude.{ℕ, ◌+◌, ◌-◌, ◌*◌, ◌&&◌, List, [], ◌∷◌, Option, Some, None, nat_le, if◌then◌else◌, option_and_then}
+use Rattle.std.specs.Prelude.{ℕ, ℤ, pos, ◌+◌, ◌-◌, ◌*◌, ◌^◌, List, [], ◌∷◌, Option, Some, None, nat_le, if◌then◌else◌, option_and_then}
 use Rattle.std.specs.Char.{is_ascii_digit}
+use Rattle.std.specs.Option.{option_map}
 use Rattle.replay_script.specs.Cut.{cut_at}
 
 infixl 10 ◌>>=◌
@@ -17,19 +18,23 @@ abbrev pub number_of : List ℕ → Option ℕ
 number_of [] = None
 number_of (b ∷ bs) = number_behind 0 (b ∷ bs)
 
--- nothing in place of a number below low or above high
-abbrev pub within : ℕ → ℕ → Option ℕ → Option ℕ
-within low high None = None
-within low high (Some n) = if nat_le low n && nat_le n high then Some n else None
+-- nothing in place of a number above a limit
+abbrev pub up_to : ℕ → Option ℕ → Option ℕ
+up_to limit None = None
+up_to limit (Some n) = if nat_le n limit then Some n else None
 
-abbrev pub number_between : ℕ → ℕ → List ℕ → Option ℕ
-number_between low high text = within low high (number_of text)
+abbrev pub number_up_to : ℕ → List ℕ → Option ℕ
+number_up_to limit text = up_to limit (number_of text)
 
--- two numbers, one blank between them
-abbrev pub pair_between : ℕ → ℕ → List ℕ → Option (ℕ × ℕ)
-pair_between low high text = do
+-- a number that fits an int
+abbrev pub int_of : List ℕ → Option ℤ
+int_of text = option_map pos (number_up_to (2 ^ 31 - 1) text)
+
+-- two of these, one blank between them
+abbrev pub ints_of : List ℕ → Option (ℤ × ℤ)
+ints_of text = do
   let words = cut_at 32 text
-  first ← number_between low high words.front
+  first ← int_of words.front
   behind ← words.behind
-  second ← number_between low high behind
+  second ← int_of behind
   Some (first, second)

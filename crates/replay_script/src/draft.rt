@@ -1,13 +1,14 @@
 //! A script, while its lines are read.
 
-ghost use Rattle.std.specs.Prelude.{◌≡◌, Some, None, [], OnOk, IfOk, if◌then◌else◌};
+ghost use Rattle.std.specs.Prelude.{◌≡◌, Some, None, OnOk, IfOk, if◌then◌else◌};
 
 use crate::event::{Line, ScriptEvent, Setting};
 use crate::line::line_of;
 use crate::script::{Script, Settings};
+use settings::{Epochs, Secret, ServerId, TimeoutBounds};
 use std::alloc::Global;
 use std::marker::Model;
-use values::{Blob, Listed, NoMemory};
+use values::{Listed, NoMemory};
 
 /// What the lines of a script have said so far.
 #[derive(Drop)]
@@ -17,7 +18,7 @@ pub struct Draft {
 }
 
 impl Model for Draft {
-    ghost use Rattle.replay_script.specs.Draft.{Kept};
+    ghost use Rattle.replay_script.specs.Script.{Kept};
 
     ghost Value = { Kept };
 
@@ -26,15 +27,15 @@ impl Model for Draft {
 
 impl Settings {
     ghost use Rattle.std.specs.Prelude.{◌≡◌};
-    ghost use Rattle.replay_script.specs.Draft.{is_kept, with_setting};
+    ghost use Rattle.replay_script.specs.Script.{is_kept, with_setting};
 
     fn is_kept(&self, setting: &Setting) -> bool
         ensures { result ≡ is_kept setting.now self.now }
     {
         match setting {
             Setting::Server(_) => self.server.is_some(),
-            Setting::Epochs(_, _) => self.epochs.is_some(),
-            Setting::Timeouts(_, _) => self.timeouts.is_some(),
+            Setting::Epochs(_) => self.epochs.is_some(),
+            Setting::Timeouts(_) => self.timeouts.is_some(),
             Setting::Secret(_) => self.secret.is_some(),
             Setting::Primed => self.primed,
         }
@@ -45,21 +46,21 @@ impl Settings {
     {
         match setting {
             Setting::Server(id) => self.server = Some(id),
-            Setting::Epochs(accepted, current) => self.epochs = Some((accepted, current)),
-            Setting::Timeouts(least, greatest) => self.timeouts = Some((least, greatest)),
-            Setting::Secret(bytes) => self.secret = Some(bytes),
+            Setting::Epochs(epochs) => self.epochs = Some(epochs),
+            Setting::Timeouts(timeouts) => self.timeouts = Some(timeouts),
+            Setting::Secret(secret) => self.secret = Some(secret),
             Setting::Primed => self.primed = true,
         }
     }
 }
 
 impl Draft {
-    ghost use Rattle.std.specs.Prelude.{◌≡◌, Some, None, [], OnOk, IfOk, if◌then◌else◌};
-    ghost use Rattle.replay_script.specs.Draft.{kept_of, may_take, kept_with, kept_behind, script_from};
+    ghost use Rattle.std.specs.Prelude.{◌≡◌, Some, None, OnOk, IfOk, if◌then◌else◌};
+    ghost use Rattle.replay_script.specs.Script.{kept_of_nothing, may_stand, with_line, with_text, script_with};
 
     /// No line was read.
     pub fn new(alloc: Global) -> Draft
-        ensures { result ≡ kept_of [] }
+        ensures { result ≡ kept_of_nothing }
     {
         Draft {
             settings: Settings {
@@ -73,17 +74,17 @@ impl Draft {
         }
     }
 
-    fn may_take(&self, line: &Line) -> bool
-        ensures { result ≡ may_take self.now line.now }
+    fn may_stand(&self, line: &Line) -> bool
+        ensures { result ≡ may_stand self.now line.now }
     {
         match line {
             Line::Header(setting) => self.events.is_empty() && !self.settings.is_kept(setting),
-            _ => true,
+            Line::Blank | Line::Happening(_) => true,
         }
     }
 
     fn take(&mut self, line: Line) -> Result<(), NoMemory>
-        ensures { OnOk result (self.new ≡ kept_with self.old line) }
+        ensures { OnOk result (self.new ≡ with_line self.old line) }
     {
         match line {
             Line::Blank => {}
@@ -96,12 +97,13 @@ impl Draft {
     /// Takes the next line, and answers whether it is a line of the language that may stand there. Where memory is
     /// refused the draft is only to be dropped.
     pub fn take_line(&mut self, alloc: Global, text: &[u8]) -> Result<bool, NoMemory>
-        ensures { IfOk result (λ taken. kept_behind self.old text.now ≡ (if taken then Some self.new else None)) }
+        ensures { IfOk result
+            (λ taken. with_text self.old text.now ≡ (if taken then Some self.new else None)) }
     {
         match line_of(alloc, text)? {
             None => Ok(false),
             Some(line) => {
-                if !self.may_take(&line) {
+                if !self.may_stand(&line) {
                     return Ok(false);
                 }
                 self.take(line)?;
@@ -112,7 +114,7 @@ impl Draft {
 
     /// The script, with the defaults of what no line has set.
     pub fn finish(self, alloc: Global) -> Script
-        ensures { result ≡ script_from self }
+        ensures { result ≡ script_with self }
     {
         let Draft { settings, events } = self;
         let Settings {
@@ -122,15 +124,11 @@ impl Draft {
             secret,
             primed,
         } = settings;
-        let (accepted_epoch, current_epoch) = epochs.unwrap_or((0, 0));
-        let (min_timeout, max_timeout) = timeouts.unwrap_or((4000, 40000));
         Script {
-            server_id: server.unwrap_or(1),
-            accepted_epoch,
-            current_epoch,
-            min_timeout,
-            max_timeout,
-            secret: secret.unwrap_or(Blob::from_vec(Vec::new(alloc))),
+            server_id: server.unwrap_or(ServerId::default()),
+            epochs: epochs.unwrap_or(Epochs::default()),
+            timeouts: timeouts.unwrap_or(TimeoutBounds::default()),
+            secret: secret.unwrap_or(Secret::empty(alloc)),
             primed,
             events: Listed::from_vec(events),
         }

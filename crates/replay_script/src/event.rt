@@ -1,5 +1,6 @@
 //! What a script says.
 
+use settings::{Epochs, Secret, ServerId, TimeoutBounds};
 use values::Blob;
 
 /// An event of a script. A connection is named by its number.
@@ -26,14 +27,14 @@ pub enum ScriptEvent {
 /// What a header line sets.
 #[derive(Debug, Drop)]
 pub enum Setting {
-    /// `server N`: the server id, 1 to 255.
-    Server(i32),
-    /// `epochs N N`: the accepted and the current epoch, at least 0.
-    Epochs(i32, i32),
-    /// `timeouts N N`: the least and the greatest timeout of a session in milliseconds, from 1 on.
-    Timeouts(i32, i32),
-    /// `secret HEX`: at most 64 bytes.
-    Secret(Blob),
+    /// `server N`
+    Server(ServerId),
+    /// `epochs N N`: the accepted and the current epoch.
+    Epochs(Epochs),
+    /// `timeouts N N`: the least and the greatest timeout of a session, in milliseconds.
+    Timeouts(TimeoutBounds),
+    /// `secret HEX`
+    Secret(Secret),
     /// `primed`
     Primed,
 }

@@ -7,12 +7,11 @@ ghost use Rattle.replay_script.specs.Line.{keyword_of, coming_of, leader_event, 
 use crate::cut::cut_at;
 use crate::event::{Coming, Keyword, Line, ScriptEvent, Setting};
 use crate::hex::read_hex;
-use crate::number::{number_between, pair_between};
+use crate::number::{int_of, ints_of, number_up_to};
 use byteorder::{BigEndian, ByteOrder};
+use settings::{Epochs, Secret, ServerId, TimeoutBounds};
 use std::alloc::Global;
 use values::NoMemory;
-
-const INT_MAX: u32 = i32::MAX as u32;
 
 fn keyword_of(word: &[u8]) -> Option<Keyword>
     ensures { result ≡ keyword_of word.now }
@@ -76,7 +75,7 @@ fn client_of(alloc: Global, text: &[u8]) -> Result<Option<ScriptEvent>, NoMemory
     ensures { IfOk result (λ event. event ≡ client_of text.now) }
 {
     let words = cut_at(b' ', text);
-    let Some(client) = number_between(0, u32::MAX, words.front.as_slice()) else {
+    let Some(client) = number_up_to(u32::MAX, words.front.as_slice()) else {
         return Ok(None);
     };
     let Some(behind) = words.behind else {
@@ -106,25 +105,24 @@ fn expire_of(alloc: Global, text: &[u8]) -> Result<Option<ScriptEvent>, NoMemory
 fn server_of(text: &[u8]) -> Option<Setting>
     ensures { result ≡ server_of text.now }
 {
-    let id = number_between(1, 255, text)?;
-    Some(Setting::Server(id as i32))
+    let id = ServerId::new(int_of(text)?)?;
+    Some(Setting::Server(id))
 }
 
 fn epochs_of(text: &[u8]) -> Option<Setting>
     ensures { result ≡ epochs_of text.now }
 {
-    let (accepted, current) = pair_between(0, INT_MAX, text)?;
-    Some(Setting::Epochs(accepted as i32, current as i32))
+    let (accepted, current) = ints_of(text)?;
+    let epochs = Epochs::new(accepted, current)?;
+    Some(Setting::Epochs(epochs))
 }
 
 fn timeouts_of(text: &[u8]) -> Option<Setting>
     ensures { result ≡ timeouts_of text.now }
 {
-    let (least, greatest) = pair_between(1, INT_MAX, text)?;
-    if least > greatest {
-        return None;
-    }
-    Some(Setting::Timeouts(least as i32, greatest as i32))
+    let (least, greatest) = ints_of(text)?;
+    let timeouts = TimeoutBounds::new(least, greatest)?;
+    Some(Setting::Timeouts(timeouts))
 }
 
 fn secret_of(alloc: Global, text: &[u8]) -> Result<Option<Setting>, NoMemory>
@@ -132,12 +130,7 @@ fn secret_of(alloc: Global, text: &[u8]) -> Result<Option<Setting>, NoMemory>
 {
     match read_hex(alloc, text)? {
         None => Ok(None),
-        Some(bytes) => {
-            if bytes.as_slice().len() > 64 {
-                return Ok(None);
-            }
-            Ok(Some(Setting::Secret(bytes)))
-        }
+        Some(bytes) => Ok(Secret::new(bytes).map(Setting::Secret)),
     }
 }
 
@@ -147,7 +140,13 @@ fn alone(word: Keyword) -> Option<Line>
     match word {
         Keyword::Primed => Some(Line::Header(Setting::Primed)),
         Keyword::Checkpoint => Some(Line::Happening(ScriptEvent::Checkpoint)),
-        _ => None,
+        Keyword::Server
+        | Keyword::Epochs
+        | Keyword::Timeouts
+        | Keyword::Secret
+        | Keyword::Leader
+        | Keyword::Client
+        | Keyword::Expire => None,
     }
 }
 

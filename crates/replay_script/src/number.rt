@@ -1,13 +1,15 @@
 //! Decimal numbers.
 
 ghost use Rattle.std.specs.Prelude.{◌≡◌};
-ghost use Rattle.replay_script.specs.Number.{number_between, pair_between};
+ghost use Rattle.replay_script.specs.Number.{number_up_to, int_of, ints_of};
 
 use crate::cut::cut_at;
 
-/// The number from `low` to `high` that a text spells in decimal digits, if it spells one.
-pub fn number_between(low: u32, high: u32, text: &[u8]) -> Option<u32>
-    ensures { result ≡ number_between low high text.now }
+const INT_MAX: u32 = i32::MAX as u32;
+
+/// The number that a text spells in decimal digits, if it spells one that is not above the limit.
+pub fn number_up_to(limit: u32, text: &[u8]) -> Option<u32>
+    ensures { result ≡ number_up_to limit text.now }
 {
     if text.is_empty() {
         return None;
@@ -18,20 +20,27 @@ pub fn number_between(low: u32, high: u32, text: &[u8]) -> Option<u32>
             return None;
         }
         number = number * 10 + u64::from(*byte - b'0');
-        if number > u64::from(high) {
+        if number > u64::from(limit) {
             return None;
         }
     }
-    let number = number as u32;
-    if number < low { None } else { Some(number) }
+    Some(number as u32)
 }
 
-/// Two numbers from `low` to `high`, one blank between them.
-pub fn pair_between(low: u32, high: u32, text: &[u8]) -> Option<(u32, u32)>
-    ensures { result ≡ pair_between low high text.now }
+/// The number that a text spells, if it is that of an int.
+pub fn int_of(text: &[u8]) -> Option<i32>
+    ensures { result ≡ int_of text.now }
+{
+    let number = number_up_to(INT_MAX, text)?;
+    Some(number as i32)
+}
+
+/// Two ints, one blank between them.
+pub fn ints_of(text: &[u8]) -> Option<(i32, i32)>
+    ensures { result ≡ ints_of text.now }
 {
     let words = cut_at(b' ', text);
-    let first = number_between(low, high, words.front.as_slice())?;
-    let second = number_between(low, high, words.behind?.as_slice())?;
+    let first = int_of(words.front.as_slice())?;
+    let second = int_of(words.behind?.as_slice())?;
     Some((first, second))
 }

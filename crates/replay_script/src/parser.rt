@@ -1,7 +1,6 @@
 //! From a text to its script.
 
 ghost use Rattle.std.specs.Prelude.{◌≡◌, ℕ, Ok, Err, IfOk};
-ghost use Rattle.replay_script.specs.Bounds.{IsWithinBounds};
 ghost use Rattle.replay_script.specs.Script.{script_of};
 ghost use Rattle.replay_script.specs.declared.parser.ScriptError.TheVariants as errors;
 
@@ -34,8 +33,8 @@ impl From<NoMemory> for ScriptError {
 /// Reads a script.
 pub fn parse(alloc: Global, text: &[u8]) -> Result<Script, ScriptError>
     ensures script { IfOk result (λ script. script_of text.now ≡ Ok script) }
-    ensures bounds { IfOk result IsWithinBounds }
-    ensures bad_line { (number : ℕ) → result ≡ Err (ScriptError.BadLine number) → script_of text.now ≡ Err number }
+    ensures bad_line { (number : ℕ) → result ≡ Err (ScriptError.BadLine number)
+        → script_of text.now ≡ Err number }
 {
     let mut draft = Draft::new(alloc);
     let mut rest = Some(Bytes::new(text));

@@ -1,13 +1,13 @@
 use Rattle.std.proofs.Common.{◌≡◌, ◌+◌, ◌≤◌, length}
-use Rattle.replay_script.specs.Script.{script_of}
-use Rattle.replay_script.proofs.Reading.{script_after, lines_behind, length_behind}
+use Rattle.replay_script.specs.Script.{script_behind, script_of}
+use Rattle.replay_script.proofs.Reading.{lines_behind, length_behind}
 use Rattle.replay_script.proofs.parser.parse.Given as goal
 
 abbrev pub invariant-loop-rest : goal.invariant-loop-rest
 invariant-loop-rest l =
     record {
       counted : l.number + length_behind l.rest ≤ length l.fn.text + 1;
-      same : script_after l.number l.draft (lines_behind l.rest) ≡ script_of l.fn.text;
+      same : script_behind l.number l.draft (lines_behind l.rest) ≡ script_of l.fn.text;
     }
 
 abbrev pub decreases-loop-rest : goal.decreases-loop-rest

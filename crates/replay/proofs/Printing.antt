@@ -1,0 +1,104 @@
+-- From what an engine was fed to what is printed.
+use Rattle.std.proofs.Common.{◌≡◌, ℕ, List, [], ◌++◌, Option, Some, None, Result, Ok, Err, map, refl, sym, ap, ◌∙◌, subst, append_assoc, inl, inr}
+use Rattle.std.specs.List.{flat_map}
+use Rattle.std.specs.Io.KnownBytes.{Appends, Keeps}
+use Rattle.std.specs.Prelude.{IfSome}
+use Rattle.observer_core.specs.declared.engine.Stop.{Stop}
+use Rattle.observer_core.specs.declared.engine.Stop.TheVariants as stops
+use Rattle.observer_core.specs.declared.event.Event.{Event}
+use Rattle.observer_core.specs.declared.event.Output.{Output}
+use Rattle.observer_core.specs.Machine.{Machine}
+use Rattle.observer_core.specs.Plays.{Plays}
+use Rattle.observer_core.specs.Play.{play}
+use Rattle.values.specs.Gains.{Gains}
+use Rattle.values.proofs.Gaining.{gains_all}
+use Rattle.replay_script.specs.declared.script.Script.{Script}
+use Rattle.replay.specs.Lines.{output_line}
+use Rattle.replay.specs.Replay.{event_of, machine_of, happened, end_line_of, printed, WritesFront, PrintsFront, Ends}
+use Rattle.replay.specs.declared.ending.Ending.{Ending}
+use Rattle.replay.specs.declared.ending.Ending.TheVariants.{Done, BadLine, Failed, NoMemory}
+
+pub appends_both : (a b c : Option (List ℕ)) (xs ys : List ℕ) → Appends a b xs → Appends b c ys → Appends a c (xs ++ ys)
+appends_both None b c xs ys p q = tt
+appends_both (Some x) None c xs ys p q = absurd p
+appends_both (Some x) (Some y) None xs ys p q = absurd q
+appends_both (Some x) (Some y) (Some z) xs ys p q = q ∙ ap (λ l. l ++ ys) p ∙ append_assoc x xs ys
+
+-- the outputs of an engine that was fed are the first of all
+first_at : (fed : Result (Unit {0}) Stop) (m : Machine) (events : List Event) (outputs : List Output) (after : Option Machine) → Plays fed (Some m) events [] outputs after → Gains [] (play m events).outputs outputs
+first_at (Ok u) m events outputs after p = gains_all [] _ _ p.0
+first_at (Err stops.NoMemory) m events outputs after p = p.0
+first_at (Err stops.Closed) m events outputs after p = absurd p
+
+pub fed_first : (script : Script) (fed : Result (Unit {0}) Stop) (engine : Option Machine) (events : List Event) (old outputs : List Output) (after : Option Machine) → engine ≡ Some (machine_of script) → events ≡ map event_of script.events → old ≡ [] → Plays fed engine events old outputs after → Gains [] (happened script).outputs outputs
+fed_first script fed engine events old outputs after is_engine are_events none p =
+    first_at fed (machine_of script) (map event_of script.events) outputs after
+    (subst (λ e. Plays fed e (map event_of script.events) [] outputs after) is_engine
+    (subst (λ es. Plays fed engine es [] outputs after) are_events
+    (subst (λ o. Plays fed engine events o outputs after) none p)))
+
+-- where no memory was refused they are all, and the machine is the one that is left
+pub fed_all : (script : Script) (u : Unit {0}) (engine : Option Machine) (events : List Event) (old outputs : List Output) (after : Option Machine) → engine ≡ Some (machine_of script) → events ≡ map event_of script.events → old ≡ [] → Plays (Ok u) engine events old outputs after → (outputs ≡ (happened script).outputs) × (after ≡ Some (happened script).after)
+fed_all script u engine events old outputs after is_engine are_events none p =
+    let all : Plays (Ok u) (Some (machine_of script)) (map event_of script.events) [] outputs after =
+    subst (λ e. Plays (Ok u) e (map event_of script.events) [] outputs after) is_engine
+    (subst (λ es. Plays (Ok u) engine es [] outputs after) are_events
+    (subst (λ o. Plays (Ok u) engine events o outputs after) none p)) in
+    (all.0, all.1)
+
+-- the first of the first
+pub first_of_first : {a b : Option (List ℕ)} {outputs all : List Output} → WritesFront a b outputs → Gains [] all outputs → WritesFront a b all
+first_of_first w f = record {
+  front = w.front;
+  first = record {
+    front = w.first.front;
+    rest = w.first.rest ++ f.rest;
+    gained = w.first.gained;
+    of = f.of ∙ ap (λ o. o ++ f.rest) (sym f.gained ∙ w.first.of) ∙ append_assoc w.first.front w.first.rest f.rest;
+  };
+  written = w.written;
+}
+
+-- the lines of all outputs, and the end line
+pub all_printed : (script : Script) (a b c : Option (List ℕ)) (outputs : List Output) → outputs ≡ (happened script).outputs → Appends a b (flat_map output_line outputs) → Appends b c (end_line_of (happened script).after) → Appends a c (printed (happened script))
+all_printed script a b c outputs are_all lines end =
+    appends_both a b c (flat_map output_line (happened script).outputs) (end_line_of (happened script).after)
+    (subst (λ o. Appends a b (flat_map output_line o)) are_all lines) end
+
+keeps_both : (a b c : Option (List ℕ)) → Keeps a b → Keeps b c → Keeps a c
+keeps_both None b c p q = tt
+keeps_both (Some x) None c p q = absurd p
+keeps_both (Some x) (Some y) None p q = absurd q
+keeps_both (Some x) (Some y) (Some z) p q = q ∙ p
+
+appends_kept : (a b c : Option (List ℕ)) (xs : List ℕ) → Appends a b xs → Keeps b c → Appends a c xs
+appends_kept None b c xs p q = tt
+appends_kept (Some x) None c xs p q = absurd p
+appends_kept (Some x) (Some y) None xs p q = absurd q
+appends_kept (Some x) (Some y) (Some z) xs p q = q ∙ p
+
+front_kept : (script : Script) (a b c : Option (List ℕ)) → PrintsFront script a b → Keeps b c → PrintsFront script a c
+front_kept script a b c p q =
+    elim p as (λ _. PrintsFront script a c) [
+      | inl same ↦ inl (keeps_both a b c same q)
+      | inr w ↦ inr (record { front = w.front; first = w.first; written = appends_kept a b c (flat_map output_line w.front) w.written q })
+    ]
+
+-- what was printed stays
+pub ends_kept : (ending : Ending) (text : List ℕ) (a b c : Option (List ℕ)) → Ends ending text a b → Keeps b c → Ends ending text a c
+ends_kept Done text a b c p q = (p.0, p.1, appends_kept a b c (printed (happened p.0)) p.2 q)
+ends_kept (BadLine number) text a b c p q = (p.0, keeps_both a b c p.1 q)
+ends_kept Failed text a b c p q =
+    elim p as (λ _. Ends Failed text a c) [
+      | inl same ↦ inl (keeps_both a b c same q)
+      | inr found ↦ inr found
+    ]
+ends_kept NoMemory text a b c p q =
+    elim p as (λ _. Ends NoMemory text a c) [
+      | inl same ↦ inl (keeps_both a b c same q)
+      | inr found ↦ inr (found.0, found.1, front_kept found.0 a b c found.2 q)
+    ]
+
+pub if_some : {A : Type 0} (o : Option A) (P Q : A → Type 0) → ((x : A) → P x → Q x) → IfSome o P → IfSome o Q
+if_some None P Q f h = tt
+if_some (Some x) P Q f h = f x h

@@ -1,0 +1,20 @@
+use Rattle.std.proofs.Common.{take, drop, refl, sym, subst, take-append-drop}
+use Rattle.std.proofs.lemmas.Result.{err_from_is_err_and}
+use Rattle.std.specs.List.{flat_map}
+use Rattle.std.specs.Io.KnownBytes.{Appends}
+use Rattle.replay.specs.Lines.{output_line}
+use Rattle.replay.proofs.replaying.print_outputs.Goals as goal
+
+-- the lines so far were written
+pub returns-in_err-print_output-clause-no_memory :
+    goal.returns-in_err-print_output-clause-no_memory
+returns-in_err-print_output-clause-no_memory g c =
+    let outputs = c.args.outputs.now in
+    let i = c.loop-output.output-index in
+    let p = err_from_is_err_and c.from_residual.result c.from_residual.ensures.1 in
+    rw (p.1, p.2)
+    (λ e. record {
+      front = take i outputs;
+      first = record { front = take i outputs; rest = drop i outputs; gained = refl; of = sym (take-append-drop i outputs) };
+      written = subst (λ w. Appends (g.W.Write.contents c.args.writer.now) (g.W.Write.contents w) (flat_map output_line (take i outputs))) (sym (c.in_err-print_output.ensures.no_memory e)) c.loop-output.invariant;
+    })

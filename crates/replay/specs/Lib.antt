@@ -1,0 +1,4 @@
+pub mod Command
+pub mod Ending
+pub mod Lines
+pub mod Replay

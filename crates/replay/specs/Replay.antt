@@ -1,0 +1,81 @@
+-- What a replay of a text prints.
+use Rattle.std.specs.Prelude.{◌≡◌, ℕ, List, [], ◌++◌, map, Option, Ok, Err, ◌⊎◌, if◌then◌else◌}
+use Rattle.std.specs.List.{flat_map}
+use Rattle.std.specs.FinMap as finmap
+use Rattle.std.specs.Io.KnownBytes.{Appends, Keeps}
+use Rattle.observer_core.specs.declared.config.Config.{Config}
+use Rattle.observer_core.specs.declared.event.Event.{Event}
+use Rattle.observer_core.specs.declared.event.Event.TheVariants as events
+use Rattle.observer_core.specs.declared.event.Output.{Output}
+use Rattle.observer_core.specs.Machine.{Machine}
+use Rattle.observer_core.specs.Play.{Happened, play, new_machine, primed_machine}
+use Rattle.values.specs.Gains.{Gains}
+use Rattle.replay_script.specs.Script.{script_of}
+use Rattle.replay_script.specs.declared.event.ScriptEvent.{ScriptEvent}
+use Rattle.replay_script.specs.declared.event.ScriptEvent.TheVariants.{LeaderUp, LeaderBytes, LeaderEnd, ClientUp, ClientBytes, ClientEnd, Expire, Checkpoint}
+use Rattle.replay_script.specs.declared.script.Script.{Script}
+use Rattle.replay.specs.Lines.{output_line, end_line}
+use Rattle.replay.specs.Ending.{status_of}
+use Rattle.replay.specs.declared.ending.Ending.{Ending}
+use Rattle.replay.specs.declared.ending.Ending.TheVariants.{Done, BadLine, Failed, NoMemory}
+
+abbrev pub event_of : ScriptEvent → Event
+event_of LeaderUp = events.LeaderUp
+event_of (LeaderBytes bytes) = events.LeaderBytes bytes
+event_of LeaderEnd = events.LeaderEnd
+event_of (ClientUp client) = events.ClientUp client
+event_of (ClientBytes client bytes) = events.ClientBytes client bytes
+event_of (ClientEnd client) = events.ClientEnd client
+event_of (Expire session) = events.Expire session
+event_of Checkpoint = events.Checkpoint
+
+-- what the script sets up
+abbrev pub config_of : Script → Config
+config_of script = record {
+  server_id = script.server_id;
+  epochs = script.epochs;
+  timeouts = script.timeouts;
+  secret = script.secret;
+}
+
+-- the observer at the start
+abbrev pub machine_of : Script → Machine
+machine_of script = if script.primed then primed_machine (config_of script) else new_machine (config_of script)
+
+-- what happens when the script's events come to the observer that its settings set up
+abbrev pub happened : Script → Happened Machine
+happened script = play (machine_of script) (map event_of script.events)
+
+abbrev pub end_line_of : Machine → List ℕ
+end_line_of m = end_line m.world.learner.last_zxid (finmap.len m.world.tree.nodes)
+
+-- a line for each output, and the end line
+abbrev pub printed : Happened Machine → List ℕ
+printed all = flat_map output_line all.outputs ++ end_line_of all.after
+
+-- the lines of the first outputs were written
+pub record WritesFront (old new : Option (List ℕ)) (outputs : List Output) : Type 0 where
+  pub front : List Output
+  pub first : Gains [] outputs front
+  pub written : Appends old new (flat_map output_line front)
+
+-- all that a script causes was printed
+abbrev pub PrintsAll : Script → Option (List ℕ) → Option (List ℕ) → Type 0
+PrintsAll script old new = Appends old new (printed (happened script))
+
+-- nothing was printed, or the lines of the first outputs
+abbrev pub PrintsFront : Script → Option (List ℕ) → Option (List ℕ) → Type 0
+PrintsFront script old new = Keeps old new ⊎ WritesFront old new (happened script).outputs
+
+-- What was printed, by the way in which the replay of a text ended: the lines of all outputs and the end line;
+-- nothing, where the text is no script; where memory was refused nothing, or the lines of the first outputs; and where
+-- a read or a write failed nothing, unless the text is a script.
+abbrev pub Ends : Ending → List ℕ → Option (List ℕ) → Option (List ℕ) → Type 0
+Ends Done text old new = (script : Script) × (script_of text ≡ Ok script) × PrintsAll script old new
+Ends (BadLine number) text old new = (script_of text ≡ Err number) × Keeps old new
+Ends Failed text old new = Keeps old new ⊎ ((script : Script) × (script_of text ≡ Ok script))
+Ends NoMemory text old new = Keeps old new ⊎ ((script : Script) × (script_of text ≡ Ok script) × PrintsFront script old new)
+
+-- the same by the exit status
+abbrev pub EndsWith : ℕ → List ℕ → Option (List ℕ) → Option (List ℕ) → Type 0
+EndsWith status text old new = (ending : Ending) × (status ≡ status_of ending) × Ends ending text old new

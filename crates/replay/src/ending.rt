@@ -1,0 +1,49 @@
+//! How a replay ends.
+
+ghost use Rattle.std.specs.Prelude.{◌≡◌, IsOk, OnOk};
+ghost use Rattle.std.specs.Io.KnownBytes.{Appends};
+ghost use Rattle.replay.specs.Ending.{status_of, message_of};
+
+use std::io;
+use std::io::Write;
+
+/// How a replay ended.
+#[derive(Clone, Copy, Debug, PartialEq, Eq)]
+pub enum Ending {
+    /// All was fed and printed.
+    Done,
+    /// The text is no script: the number of its first bad line.
+    BadLine(u64),
+    /// A file could not be opened or read, or the output could not be written.
+    Failed,
+    /// A growth was refused.
+    NoMemory,
+}
+
+impl Ending {
+    /// The exit status.
+    pub fn status(self) -> u8
+        ensures { result ≡ status_of self }
+    {
+        match self {
+            Ending::Done => 0,
+            Ending::BadLine(_) => 1,
+            Ending::Failed => 3,
+            Ending::NoMemory => 4,
+        }
+    }
+
+    /// Writes what standard error is told: nothing where all went well, else one line.
+    pub fn tell<E: Write>(self, writer: &mut E) -> io::Result<()>
+        ensures written { OnOk result
+            (Appends (E.contents writer.old) (E.contents writer.new) (message_of self)) }
+        ensures done { self ≡ Ending.Done → IsOk result }
+    {
+        match self {
+            Ending::Done => Ok(()),
+            Ending::BadLine(number) => writeln!(writer, "line {number}: bad line"),
+            Ending::Failed => writeln!(writer, "cannot open"),
+            Ending::NoMemory => writeln!(writer, "no memory"),
+        }
+    }
+}

@@ -1,0 +1,96 @@
+//! The lines that a replay prints.
+
+ghost use Rattle.std.specs.Prelude.{◌≡◌, ◌++◌, OnOk, decimal};
+ghost use Rattle.replay.specs.Lines.{fault_word, output_line, hex_number, end_line};
+
+use observer_core::Output;
+use replay_script::put_hex;
+use std::io::Write;
+use values::{Fault, NoMemory};
+
+fn fault_word(fault: Fault) -> &'static [u8]
+    ensures { result.now ≡ fault_word fault }
+{
+    match fault {
+        Fault::Short => b"Short",
+        Fault::BadLength => b"BadLength",
+        Fault::BadText => b"BadText",
+        Fault::BadPath => b"BadPath",
+        Fault::BadTxnType => b"BadTxnType",
+        Fault::TrailingBytes => b"TrailingBytes",
+        Fault::OutOfOrder => b"OutOfOrder",
+        Fault::CommitMismatch => b"CommitMismatch",
+        Fault::CannotTruncate => b"CannotTruncate",
+        Fault::BadImage => b"BadImage",
+        Fault::EpochTooSmall => b"EpochTooSmall",
+        Fault::UnexpectedPacket => b"UnexpectedPacket",
+    }
+}
+
+fn put(out: &mut Vec<u8>, text: &[u8]) -> Result<(), NoMemory>
+    ensures { OnOk result (out.new.items ≡ out.old.items ++ text.now) }
+{
+    out.extend_from_slice(text)?;
+    Ok(())
+}
+
+fn put_decimal(out: &mut Vec<u8>, number: u64) -> Result<(), NoMemory>
+    ensures { OnOk result (out.new.items ≡ out.old.items ++ decimal number) }
+{
+    match write!(out, "{number}") {
+        Ok(()) => Ok(()),
+        Err(_) => Err(NoMemory),
+    }
+}
+
+// As the 64 bits of two's complement, without zeros in front.
+fn put_hex_number(out: &mut Vec<u8>, number: i64) -> Result<(), NoMemory>
+    ensures { OnOk result (out.new.items ≡ out.old.items ++ hex_number number) }
+{
+    let bits = number.cast_unsigned();
+    match write!(out, "{bits:x}") {
+        Ok(()) => Ok(()),
+        Err(_) => Err(NoMemory),
+    }
+}
+
+/// Appends the line of an output. Where memory is refused, a part of it may stand there.
+pub fn put_output(out: &mut Vec<u8>, output: &Output) -> Result<(), NoMemory>
+    ensures { OnOk result (out.new.items ≡ out.old.items ++ output_line output.now) }
+{
+    match output {
+        Output::ToLeader(bytes) => {
+            put(out, b"L ")?;
+            put_hex(out, bytes.as_slice())?;
+        }
+        Output::ToClient(client, bytes) => {
+            put(out, b"C ")?;
+            put_decimal(out, *client)?;
+            put(out, b" ")?;
+            put_hex(out, bytes.as_slice())?;
+        }
+        Output::CloseLeader(fault) => {
+            put(out, b"L close F")?;
+            put_decimal(out, u64::from(fault.number()))?;
+            put(out, b" ")?;
+            put(out, fault_word(*fault))?;
+        }
+        Output::CloseClient(client) => {
+            put(out, b"C ")?;
+            put_decimal(out, *client)?;
+            put(out, b" close")?;
+        }
+    }
+    put(out, b"\n")
+}
+
+/// Appends the last line: the last zxid and the number of paths.
+pub fn put_end(out: &mut Vec<u8>, zxid: i64, paths: usize) -> Result<(), NoMemory>
+    ensures { OnOk result (out.new.items ≡ out.old.items ++ end_line zxid paths) }
+{
+    put(out, b"end zxid=0x")?;
+    put_hex_number(out, zxid)?;
+    put(out, b" paths=")?;
+    put_decimal(out, paths as u64)?;
+    put(out, b"\n")
+}

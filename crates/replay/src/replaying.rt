@@ -1,0 +1,216 @@
+//! A script, fed to an observer.
+
+ghost use Rattle.std.specs.Prelude.{◌≡◌, Some, Err, IfOk, IfSome, OnOk, map, if◌then◌else◌};
+ghost use Rattle.std.specs.List.{flat_map};
+ghost use Rattle.std.specs.Io.KnownBytes.{Appends};
+ghost use Rattle.observer_core.specs.Machine.{Machine as TheMachine};
+ghost use Rattle.observer_core.specs.Play.{primed_machine, new_machine};
+ghost use Rattle.replay.specs.Lines.{output_line};
+ghost use Rattle.replay.specs.Replay.{event_of, end_line_of, WritesFront, PrintsAll, PrintsFront, Ends, EndsWith};
+ghost use Rattle.replay.specs.declared.replaying.PrintError.TheVariants as print_errors;
+
+use crate::ending::Ending;
+use crate::print::{put_end, put_output};
+use observer_core::{Config, Engine, Event, Output};
+use replay_script::{Script, ScriptError, ScriptEvent, parse};
+use std::alloc::Global;
+use std::io::{ErrorKind, Read, Write};
+use values::{Bytes, NoMemory};
+
+/// Why a replay could not be printed to its end.
+#[derive(Clone, Copy, Debug, PartialEq, Eq)]
+pub enum PrintError {
+    /// The output could not be written.
+    Unwritable,
+    /// A growth was refused.
+    NoMemory,
+}
+
+impl From<NoMemory> for PrintError {
+    ghost from_gives = { λ _ e. e ≡ print_errors.NoMemory };
+
+    fn from(_e: NoMemory) -> PrintError {
+        PrintError::NoMemory
+    }
+}
+
+fn event_of(event: &ScriptEvent) -> Event<'_>
+    ensures { result ≡ event_of event.now }
+{
+    match event {
+        ScriptEvent::LeaderUp => Event::LeaderUp,
+        ScriptEvent::LeaderBytes(bytes) => Event::LeaderBytes(Bytes::new(bytes.as_slice())),
+        ScriptEvent::LeaderEnd => Event::LeaderEnd,
+        ScriptEvent::ClientUp(client) => Event::ClientUp(*client),
+        ScriptEvent::ClientBytes(client, bytes) => Event::ClientBytes(
+            *client,
+            Bytes::new(bytes.as_slice()),
+        ),
+        ScriptEvent::ClientEnd(client) => Event::ClientEnd(*client),
+        ScriptEvent::Expire(session) => Event::Expire(*session),
+        ScriptEvent::Checkpoint => Event::Checkpoint,
+    }
+}
+
+fn events_of(alloc: Global, script: &[ScriptEvent]) -> Result<Vec<Event<'_>>, NoMemory>
+    ensures { IfOk result (λ events. events.items ≡ map event_of script.now) }
+{
+    let mut events = Vec::with_capacity(alloc, script.len())?;
+    for event in script {
+        events.push(event_of(event))?;
+    }
+    Ok(events)
+}
+
+// The observer that a script sets up.
+fn engine_of(alloc: Global, primed: bool, config: Config) -> Result<Engine, NoMemory>
+    ensures { IfOk result
+        (λ e. e ≡ Some (if primed then primed_machine config else new_machine config)) }
+{
+    if primed {
+        Engine::primed(alloc, config)
+    } else {
+        Engine::new(alloc, config)
+    }
+}
+
+// Prints the line of an output. `line` is room for it.
+fn print_output<W: Write>(
+    line: &mut Vec<u8>,
+    output: &Output,
+    writer: &mut W,
+) -> Result<(), PrintError>
+    ensures ok { OnOk result
+        (Appends (W.contents writer.old) (W.contents writer.new) (output_line output.now)) }
+    ensures no_memory { result ≡ Err print_errors.NoMemory → writer.new ≡ writer.old }
+{
+    line.clear();
+    put_output(line, output)?;
+    match writer.write_all(line.as_slice()) {
+        Ok(()) => Ok(()),
+        Err(_) => Err(PrintError::Unwritable),
+    }
+}
+
+// Prints the lines of the outputs, in order.
+fn print_outputs<W: Write>(
+    line: &mut Vec<u8>,
+    outputs: &[Output],
+    writer: &mut W,
+) -> Result<(), PrintError>
+    ensures ok { let lines = flat_map output_line outputs.now in
+        OnOk result (Appends (W.contents writer.old) (W.contents writer.new) lines) }
+    ensures no_memory { result ≡ Err print_errors.NoMemory
+        → WritesFront (W.contents writer.old) (W.contents writer.new) outputs.now }
+{
+    for output in outputs {
+        print_output(line, output, writer)?;
+    }
+    Ok(())
+}
+
+// Prints the last line.
+fn print_end<W: Write>(
+    line: &mut Vec<u8>,
+    engine: &Engine,
+    writer: &mut W,
+) -> Result<(), PrintError>
+    ensures ok { OnOk result ((m : TheMachine) → engine.now ≡ Some m
+        → Appends (W.contents writer.old) (W.contents writer.new) (end_line_of m)) }
+    ensures no_memory { result ≡ Err print_errors.NoMemory → writer.new ≡ writer.old }
+{
+    line.clear();
+    put_end(line, engine.learner().last_zxid(), engine.tree().paths())?;
+    match writer.write_all(line.as_slice()) {
+        Ok(()) => Ok(()),
+        Err(_) => Err(PrintError::Unwritable),
+    }
+}
+
+// Feeds a script's events to its observer, and prints what goes out.
+fn play_script<W: Write>(alloc: Global, script: Script, writer: &mut W) -> Result<(), PrintError>
+    ensures ok { OnOk result (PrintsAll script (W.contents writer.old) (W.contents writer.new)) }
+    ensures no_memory { result ≡ Err print_errors.NoMemory
+        → PrintsFront script (W.contents writer.old) (W.contents writer.new) }
+{
+    let Script {
+        server_id,
+        epochs,
+        timeouts,
+        secret,
+        primed,
+        events,
+    } = script;
+    let config = Config {
+        server_id,
+        epochs,
+        timeouts,
+        secret,
+    };
+    let mut engine = engine_of(alloc, primed, config)?;
+    let events = events_of(alloc, events.as_slice())?;
+    let mut outputs = Vec::new(alloc);
+    let fed = engine.feed_inline(alloc, events.as_slice(), &mut outputs);
+    let mut line = Vec::new(alloc);
+    print_outputs(&mut line, outputs.as_slice(), writer)?;
+    match fed {
+        Ok(()) => print_end(&mut line, &engine, writer),
+        Err(_) => Err(PrintError::NoMemory),
+    }
+}
+
+/// Replays a text, and prints what goes out.
+pub fn replay_text<W: Write>(alloc: Global, text: &[u8], writer: &mut W) -> Ending
+    ensures { Ends result text.now (W.contents writer.old) (W.contents writer.new) }
+{
+    let script = match parse(alloc, text) {
+        Ok(script) => script,
+        Err(ScriptError::NoMemory) => return Ending::NoMemory,
+        Err(ScriptError::BadLine(number)) => return Ending::BadLine(number),
+    };
+    match play_script(alloc, script, writer) {
+        Ok(()) => Ending::Done,
+        Err(PrintError::NoMemory) => Ending::NoMemory,
+        Err(PrintError::Unwritable) => Ending::Failed,
+    }
+}
+
+/// Reads a script to its end, replays it, and prints what goes out. A script that is read in part is not replayed.
+pub fn replay<R: Read, W: Write>(alloc: Global, reader: &mut R, writer: &mut W) -> Ending
+    ensures { IfSome (R.remaining reader.old)
+        (λ text. Ends result text (W.contents writer.old) (W.contents writer.new)) }
+{
+    let mut text = Vec::new(alloc);
+    if let Err(error) = reader.read_to_end(&mut text) {
+        return if error.kind() == ErrorKind::OutOfMemory {
+            Ending::NoMemory
+        } else {
+            Ending::Failed
+        };
+    }
+    let ending = replay_text(alloc, text.as_slice(), writer);
+    match writer.flush() {
+        Ok(()) => ending,
+        Err(_) => Ending::Failed,
+    }
+}
+
+/// Replays a script that is read: prints what goes out, and tells standard error what went wrong. Answers the exit
+/// status.
+pub fn replay_on<R: Read, W: Write, E: Write>(
+    alloc: Global,
+    reader: &mut R,
+    writer: &mut W,
+    errors: &mut E,
+) -> u8
+    ensures ends { IfSome (R.remaining reader.old)
+        (λ text. EndsWith result text (W.contents writer.old) (W.contents writer.new)) }
+    ensures quiet { result ≡ 0 → errors.new ≡ errors.old }
+{
+    let ending = replay(alloc, reader, writer);
+    if ending != Ending::Done {
+        // Where standard error can't be written, the status tells it alone.
+        let _ = ending.tell(errors);
+    }
+    ending.status()
+}

@@ -1,6 +1,0 @@
-use Rattle.std.proofs.Common.{◌≡◌, map, take}
-use Rattle.replay_runner.specs.Replay.{event_of}
-use Rattle.replay_runner.proofs.replay.events_of.Given as goal
-
-abbrev pub invariant-loop-event : goal.invariant-loop-event
-invariant-loop-event l = l.events.items ≡ map event_of (take l.event-index l.script)

@@ -1,4 +1,0 @@
-pub mod Command
-pub mod Lines
-pub mod Outcome
-pub mod Replay

@@ -1,0 +1,71 @@
+-- Some lines and texts, and what they mean.
+use Rattle.std.specs.Prelude.{◌≡◌, ℕ, ℤ, pos, negsuc, false, List, [], ◌∷◌, ◌++◌, Some, None, Ok, Err, codes}
+use Rattle.settings.specs.Settings.{epoch_pair, timeout_pair, default_epochs, default_timeouts, default_secret}
+use Rattle.replay_script.specs.Line.{line_of}
+use Rattle.replay_script.specs.Script.{script_of}
+use Rattle.replay_script.specs.declared.event.ScriptEvent.{ScriptEvent}
+use Rattle.replay_script.specs.declared.event.ScriptEvent.TheVariants.{LeaderUp, LeaderBytes, ClientUp, ClientBytes, ClientEnd, Expire}
+use Rattle.replay_script.specs.declared.event.Setting.{Setting}
+use Rattle.replay_script.specs.declared.event.Setting.TheVariants.{Server, Epochs, Timeouts, Secret}
+use Rattle.replay_script.specs.declared.event.Line.TheVariants.{Blank, Header, Happening}
+use Rattle.replay_script.specs.declared.script.Script.{Script}
+
+-- ---- lines
+
+abbrev pub Sets : List ℕ → Setting → Type 0
+Sets text setting = line_of text ≡ Some (Header setting)
+
+abbrev pub Says : List ℕ → ScriptEvent → Type 0
+Says text event = line_of text ≡ Some (Happening event)
+
+abbrev pub IsBad : List ℕ → Type 0
+IsBad text = line_of text ≡ None
+
+pub record GoodLines : Type 0 where
+  pub empty : line_of [] ≡ Some Blank
+  pub server : Sets (codes "server 0255") (Server (pos 255))
+  pub epochs : Sets (codes "epochs 2147483647 0") (Epochs (epoch_pair (pos 2147483647) (pos 0)))
+  pub timeouts : Sets (codes "timeouts 7 7") (Timeouts (timeout_pair (pos 7) (pos 7)))
+  pub secret : Sets (codes "secret aB ") (Secret (171 ∷ []))
+  pub leader_up : Says (codes "leader up") LeaderUp
+  pub leader_bytes : Says (codes "leader  0 0Ff") (LeaderBytes (0 ∷ 255 ∷ []))
+  pub client_up : Says (codes "client 4294967295 up") (ClientUp 4294967295)
+  pub client_bytes : Says (codes "client 1 0a0B") (ClientBytes 1 (10 ∷ 11 ∷ []))
+  pub client_end : Says (codes "client 1 end") (ClientEnd 1)
+  pub expire : Says (codes "expire ff 00000000000001") (Expire (negsuc 72057594037927934))
+
+pub record BadLines : Type 0 where
+  pub server : IsBad (codes "server 256")
+  pub two_blanks : IsBad (codes "server  1")
+  pub sign : IsBad (codes "client +1 up")
+  pub large : IsBad (codes "client 4294967296 up")
+  pub bounds : IsBad (codes "timeouts 2 1")
+  pub blank_behind : IsBad (codes "primed ")
+  pub nothing : IsBad (codes "leader ")
+  pub odd : IsBad (codes "leader abc")
+  pub short : IsBad (codes "expire ff000000000000")
+  pub tab : IsBad (9 ∷ [])
+
+-- ---- texts
+
+abbrev pub ended : List ℕ → List ℕ
+ended line = line ++ 10 ∷ []
+
+-- the script of this server id and these events, with the defaults of all else
+abbrev pub script_of_server : ℤ → List ScriptEvent → Script
+script_of_server id events = record {
+  server_id = id;
+  epochs = default_epochs;
+  timeouts = default_timeouts;
+  secret = default_secret;
+  primed = false;
+  events = events;
+}
+
+pub record WholeTexts : Type 0 where
+  pub nothing : script_of [] ≡ Ok (script_of_server (pos 1) [])
+  pub one_event : script_of (ended (codes "server 3") ++ ended (codes "leader up")) ≡ Ok (script_of_server (pos 3) (LeaderUp ∷ []))
+  -- the first bad line is named: the third, where a setting stands twice
+  pub twice : script_of (ended (codes "primed") ++ ended [] ++ codes "primed") ≡ Err 3
+  -- and the second, where one stands behind an event
+  pub late : script_of (ended (codes "checkpoint") ++ ended (codes "server 3") ++ codes "what") ≡ Err 2

@@ -1,0 +1,59 @@
+//! Tests of scripts and of replays, over the public calls of `replay_script` and `replay`.
+//!
+//! The calls stand behind helper functions without clauses: a test looks at what a call answers when it runs, so its
+//! proof needs to know nothing of that.
+#![tactic(auto)]
+
+use observer_core::Output;
+use replay::{put_end, put_output, replay_on, source_of};
+use replay_script::{Script, ScriptError, parse, put_hex};
+use std::alloc::Global;
+use std::io::{Read, Write};
+use values::NoMemory;
+
+/// Reads a script.
+pub fn read(alloc: Global, text: &[u8]) -> Result<Script, ScriptError> {
+    parse(alloc, text)
+}
+
+/// Appends digits.
+pub fn put_digits(out: &mut Vec<u8>, bytes: &[u8]) -> Result<(), NoMemory> {
+    put_hex(out, bytes)
+}
+
+/// Replays a script.
+pub fn replayed<R: Read, W: Write, E: Write>(
+    alloc: Global,
+    reader: &mut R,
+    writer: &mut W,
+    errors: &mut E,
+) -> u8 {
+    replay_on(alloc, reader, writer, errors)
+}
+
+/// Appends the lines of outputs, and the end line.
+pub fn put_lines(
+    out: &mut Vec<u8>,
+    outputs: &[Output],
+    zxid: i64,
+    paths: usize,
+) -> Result<(), NoMemory> {
+    for output in outputs {
+        put_output(out, output)?;
+    }
+    put_end(out, zxid, paths)
+}
+
+/// What a command line names: a file, `-` for standard input, and nothing where it is none.
+pub fn named(words: &[String]) -> &str {
+    match source_of(words) {
+        None => "",
+        Some(replay::Source::Input) => "-",
+        Some(replay::Source::File(name)) => name.as_str(),
+    }
+}
+
+#[cfg(test)]
+mod replays;
+#[cfg(test)]
+mod scripts;

@@ -1,0 +1,145 @@
+use crate::{named, put_lines, replayed};
+use observer_core::Output;
+use replay::Ending;
+use std::io;
+use std::io::{ErrorKind, Read, Write};
+use std::test::*;
+use values::{Blob, Fault};
+
+const SCRIPT: &[u8] = b"server 3\nprimed\nclient 1 0000000000\nclient 1 ffffffff";
+
+// A reader that gives some bytes, and then fails.
+#[derive(Drop)]
+struct Torn {
+    bytes: &'static [u8],
+}
+
+impl Read for Torn {
+    fn read(&mut self, buf: &mut [u8]) -> io::Result<usize> {
+        if self.bytes.is_empty() {
+            return Err(io::Error::from(ErrorKind::BrokenPipe));
+        }
+        self.bytes.read(buf)
+    }
+}
+
+// A writer that takes nothing.
+#[derive(Drop)]
+struct Full;
+
+impl Write for Full {
+    fn write(&mut self, _buf: &[u8]) -> io::Result<usize> {
+        Err(io::Error::from(ErrorKind::BrokenPipe))
+    }
+
+    fn flush(&mut self) -> io::Result<()> {
+        Ok(())
+    }
+}
+
+// A writer whose bytes never arrive.
+#[derive(Drop)]
+struct Lost;
+
+impl Write for Lost {
+    fn write(&mut self, buf: &[u8]) -> io::Result<usize> {
+        Ok(buf.len())
+    }
+
+    fn flush(&mut self) -> io::Result<()> {
+        Err(io::Error::from(ErrorKind::BrokenPipe))
+    }
+}
+
+#[test]
+fn a_script_is_replayed(rt: HostRuntime) {
+    let mut out = Vec::new(rt.alloc());
+    let mut errors = Vec::new(rt.alloc());
+    let mut reader = SCRIPT;
+    assert_eq!(rt; replayed(rt.alloc(), &mut reader, &mut out, &mut errors), 0);
+    assert_eq!(rt;
+        out.as_slice(),
+        b"C 1 close\nend zxid=0x0 paths=3\n".as_slice()
+    );
+    assert!(rt; errors.is_empty());
+}
+
+#[test]
+fn a_read_fails_midway(rt: HostRuntime) {
+    let mut out = Vec::new(rt.alloc());
+    let mut errors = Vec::new(rt.alloc());
+    let mut reader = Torn { bytes: b"what\n" };
+    assert_eq!(rt; replayed(rt.alloc(), &mut reader, &mut out, &mut errors), 3);
+    assert!(rt; out.is_empty());
+    assert_eq!(rt; errors.as_slice(), b"cannot open\n".as_slice());
+}
+
+#[test]
+fn the_output_cannot_be_written(rt: HostRuntime) {
+    let mut errors = Vec::new(rt.alloc());
+    let mut reader = SCRIPT;
+    assert_eq!(rt;
+        replayed(rt.alloc(), &mut reader, &mut Full, &mut errors),
+        3
+    );
+    assert_eq!(rt; errors.as_slice(), b"cannot open\n".as_slice());
+    let mut reader = SCRIPT;
+    assert_eq!(rt;
+        replayed(rt.alloc(), &mut reader, &mut Lost, &mut errors),
+        3
+    );
+}
+
+#[test]
+fn errors_cannot_be_told(rt: HostRuntime) {
+    let mut out = Vec::new(rt.alloc());
+    let mut reader = b"what".as_slice();
+    assert_eq!(rt; replayed(rt.alloc(), &mut reader, &mut out, &mut Full), 1);
+}
+
+#[test]
+fn want_of_memory_is_told(rt: HostRuntime) -> Result<(), Fail> {
+    let mut errors = Vec::new(rt.alloc());
+    Ending::NoMemory.tell(&mut errors)?;
+    assert_eq!(rt; errors.as_slice(), b"no memory\n".as_slice());
+    assert_eq!(rt; Ending::NoMemory.status(), 4);
+    Ok(())
+}
+
+#[test]
+fn each_output_has_a_line(rt: HostRuntime) -> Result<(), Fail> {
+    let outputs = [
+        Output::ToLeader(Blob::new(rt.alloc(), &[0, 0xab])?),
+        Output::ToClient(18446744073709551615, Blob::new(rt.alloc(), &[])?),
+        Output::CloseLeader(Fault::OutOfOrder),
+        Output::CloseLeader(Fault::UnexpectedPacket),
+        Output::CloseClient(2),
+    ];
+    let mut out = Vec::new(rt.alloc());
+    put_lines(&mut out, &outputs, -1, 3)?;
+    let wanted =
+        b"L 00ab\nC 18446744073709551615 \nL close F7 OutOfOrder\nL close F12 UnexpectedPacket\nC 2 close\nend zxid=0xffffffffffffffff paths=3\n";
+    assert_eq!(rt; out.as_slice(), wanted.as_slice());
+    Ok(())
+}
+
+#[test]
+fn command_lines(rt: HostRuntime) -> Result<(), Fail> {
+    for (line, name) in [
+        ("", "-"),
+        ("replay -", "-"),
+        ("replay a", "a"),
+        ("replay", ""),
+        ("replay a b", ""),
+        ("audit a b", ""),
+        ("serve", ""),
+        ("repla -", ""),
+    ] {
+        let mut words = Vec::new(rt.alloc());
+        for word in line.split_whitespace() {
+            words.push(String::from_str(rt.alloc(), word)?)?;
+        }
+        assert_eq!(rt; named(words.as_slice()), name, "at {line}");
+    }
+    Ok(())
+}

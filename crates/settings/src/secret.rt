@@ -1,0 +1,52 @@
+//! What passwords are made of.
+
+ghost use Rattle.std.specs.Prelude.{◌≡◌, ℕ, List, IsTrue};
+ghost use Rattle.settings.specs.Settings.{is_secret, secret_of, default_secret};
+
+use std::alloc::Global;
+use std::marker::Model;
+use values::Blob;
+
+/// The most bytes of a secret.
+pub const SECRET_LIMIT: usize = 64;
+
+/// What the passwords of sessions are made of: at most 64 bytes.
+#[derive(Debug, Drop)]
+pub struct Secret {
+    bytes: Blob,
+}
+
+impl Model for Secret {
+    ghost Value = { List ℕ };
+
+    ghost view = { λ s. s.bytes };
+
+    ghost invariant = { λ s. IsTrue (is_secret s.bytes) };
+}
+
+impl Secret {
+    /// The secret of these bytes, if they are one.
+    pub fn new(bytes: Blob) -> Option<Secret>
+        ensures { result ≡ secret_of bytes }
+    {
+        if bytes.as_slice().len() > SECRET_LIMIT {
+            return None;
+        }
+        Some(Secret { bytes })
+    }
+
+    /// The empty one, which stands where nothing else is said.
+    pub fn empty(alloc: Global) -> Secret
+        ensures { result ≡ default_secret }
+    {
+        Secret {
+            bytes: Blob::from_vec(Vec::new(alloc)),
+        }
+    }
+
+    pub fn as_slice(&self) -> &[u8]
+        ensures { result.now ≡ self.now }
+    {
+        self.bytes.as_slice()
+    }
+}

@@ -1,0 +1,186 @@
+"""Proves and builds a program's crates, those that don't stand on each other side by side, and shows how far it is.
+
+Each crate is proved and built by `rt lib`, and the program itself by `rt run`, whose own run of it is dropped. What rt
+says of a crate stands in out/observer/CRATE.log, and its lines say how many functions are checked.
+"""
+import os
+import re
+import signal
+import subprocess
+import sys
+import time
+
+from common import KEPT, TOP, how_long, say
+
+# Between two lines that say how far it is, in seconds.
+PAUSE = 15
+COUNTED = re.compile(rb"(?:^checked \S+, (\d+) of (\d+)$)|(?:^so far: (\d+) of (\d+) functions checked)", re.MULTILINE)
+
+
+def folder_of(name):
+    return os.path.join(TOP, "crates", name)
+
+
+def below():
+    """Returns what crates.txt says: for each crate the crates of this repository that it stands on."""
+    found = {}
+    with open(os.path.join(TOP, "crates.txt"), encoding="utf-8") as it:
+        for line in it:
+            words, colon, libraries = line.partition("#")[0].partition(":")
+            if colon:
+                found[words.split()[0]] = libraries.split()
+    return {name: [it for it in found[name] if it in found] for name in found}
+
+
+def needed(program):
+    """Returns the crates that a program stands on and itself, each with what it stands on."""
+    all_crates, found, open_names = below(), {}, [program]
+    while open_names:
+        name = open_names.pop()
+        if name not in found:
+            found[name] = all_crates[name]
+            open_names += all_crates[name]
+    return found
+
+
+def functions_in(name):
+    """Returns how many functions a crate's sources have, which is about how many its check counts."""
+    count = 0
+    for at, _, files in os.walk(os.path.join(folder_of(name), "src")):
+        for file in files:
+            if file.endswith(".rt"):
+                with open(os.path.join(at, file), encoding="utf-8") as it:
+                    count += len(re.findall(r"^\s*(?:pub )?fn \w", it.read(), re.MULTILINE))
+    return count
+
+
+class Crate:
+    """A crate that is being built: its process, and what its log says."""
+
+    def __init__(self, name, is_program, jobs):
+        self.name, self.log = name, os.path.join(KEPT, name + ".log")
+        given = os.path.join(folder_of(name), "stdin")
+        words = ["rt", "run" if is_program else "lib"] + (["--jobs", str(jobs)] if jobs else [])
+        with open(given if os.path.isfile(given) else os.devnull, "rb") as stdin, open(self.log, "wb") as log:
+            out = subprocess.DEVNULL if is_program else log
+            self.ran = subprocess.Popen(
+                words, cwd=folder_of(name), stdin=stdin, stdout=out, stderr=log, start_new_session=True
+            )
+
+    def counted(self):
+        """Returns how many functions are checked and how many there are, by the last line that says so."""
+        with open(self.log, "rb") as it:
+            found = COUNTED.findall(it.read())
+        if not found:
+            return 0, 0
+        numbers = [int(it) for it in found[-1] if it]
+        return numbers[0], numbers[1]
+
+    def waits(self):
+        """Returns whether another rt works in this crate, so that this one waits for it."""
+        with open(self.log, "rb") as it:
+            return it.read().rstrip().split(b"\n")[-1].startswith(b"rt: waiting for another rt")
+
+    def stop(self):
+        """Ends what this crate's build started, which has a session of its own."""
+        if self.ran.poll() is None:
+            os.killpg(self.ran.pid, signal.SIGTERM)
+            self.ran.wait()
+
+
+class Build:
+    """What is built, what runs, and what waits."""
+
+    def __init__(self, program, before):
+        self.program, self.before = program, before
+        self.crates = needed(program)
+        self.weights = {name: functions_in(name) for name in self.crates}
+        self.done, self.running = set(), []
+        self.began = self.told = time.monotonic()
+        self.processors = len(os.sched_getaffinity(0)) if hasattr(os, "sched_getaffinity") else os.cpu_count() or 1
+
+    def ready(self):
+        """Returns the crates that can be started: all that they stand on is built. The largest comes first."""
+        begun = self.done | {it.name for it in self.running}
+        found = [name for name in self.crates if name not in begun and self.done.issuperset(self.crates[name])]
+        return sorted(found, key=lambda name: -self.weights[name])
+
+    def start(self):
+        """Starts crates while processors are free. One that is alone chooses its jobs by itself."""
+        ready = self.ready()[: max(self.processors - len(self.running), 0)]
+        at_once = len(ready) + len(self.running)
+        for name in ready:
+            jobs = None if at_once == 1 else max(self.processors // at_once, 1)
+            self.running.append(Crate(name, name == self.program, jobs))
+
+    def ended(self):
+        """Takes out what has ended. Returns the crate that failed, if one did."""
+        for crate in list(self.running):
+            status = crate.ran.poll()
+            if status is None:
+                continue
+            self.running.remove(crate)
+            if status:
+                return crate
+            self.done.add(crate.name)
+        return None
+
+    def fraction(self):
+        """Returns which part of all functions is checked."""
+        part = sum(self.weights[name] for name in self.done)
+        for crate in self.running:
+            checked, of = crate.counted()
+            part += self.weights[crate.name] * checked / of if of else 0
+        return part / max(sum(self.weights.values()), 1)
+
+    def rest(self):
+        """Returns about how long it still takes, in words."""
+        passed, part = time.monotonic() - self.began, self.fraction()
+        if self.before and self.before > passed:
+            return f"; about {how_long(self.before - passed)} more"
+        if part < 0.05:
+            return ""
+        return f"; about {how_long(passed / part * (1 - part))} more"
+
+    def tell(self):
+        """Says how far it is, where the last time is long enough ago."""
+        if time.monotonic() - self.told < PAUSE:
+            return
+        self.told = time.monotonic()
+        parts = []
+        for crate in self.running:
+            checked, of = crate.counted()
+            wait = ", which another rt works in," if crate.waits() else ""
+            parts.append(f"{crate.name} {checked} of {of} functions" if of else crate.name + wait)
+        say(f"{len(self.done)} of {len(self.crates)} crates done, now {', '.join(parts)}{self.rest()}")
+
+    def run(self):
+        """Builds all. Returns the crate that failed, if one did."""
+        try:
+            while len(self.done) < len(self.crates):
+                self.start()
+                failed = self.ended()
+                if failed:
+                    return failed
+                self.tell()
+                time.sleep(0.2)
+            return None
+        finally:
+            for crate in self.running:
+                crate.stop()
+
+
+def build(program, before):
+    """Proves and builds a program. Returns whether all went well, and says what went wrong."""
+    whole = Build(program, before)
+    count = sum(whole.weights.values())
+    long = how_long(before) if before else "10 minutes on four idle processors"
+    say(f"proving and building {len(whole.crates)} crates with {count} functions, which takes about {long}")
+    failed = whole.run()
+    if not failed:
+        return True
+    with open(failed.log, encoding="utf-8", errors="replace") as it:
+        for line in it.read().splitlines()[-20:]:
+            print("  " + line, file=sys.stderr)
+    say(f"the crate {failed.name} was not built (all that rt said: {os.path.relpath(failed.log, TOP)})")
+    return False
