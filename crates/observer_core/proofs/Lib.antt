@@ -1,6 +1,9 @@
-pub mod Replies
+pub mod NatMaps
 pub mod Streams
+pub mod Steps
+pub mod Delivering
+pub mod Serving
+pub mod Replies
 pub mod Playing
-pub mod Meeting
-pub mod Rows
 pub mod Logs
+pub mod Rows

@@ -1,147 +1,194 @@
 -- Play of lists joined, and of bytes cut.
-use Rattle.std.proofs.Common.{◌≡◌, ℕ, Bool, true, false, cond, eqb, List, [], ◌∷◌, ◌++◌, Option, Some, None, Result, Ok, Err, refl, sym, ap, ◌∙◌, append_assoc}
-use Rattle.std.specs.Prelude.{ℤ}
+use Rattle.std.proofs.Common.{◌≡◌, ℕ, Bool, true, false, cond, not, List, [], ◌∷◌, ◌++◌, Option, Some, None, Result, Ok, Err, refl, sym, ap, ◌∙◌, append_assoc}
+use Rattle.std.specs.Prelude.{is_some, ℤ}
+use Rattle.std.specs.Option.{unwrap_or}
 use Rattle.std.proofs.lemmas.List.{append-nil}
+use Rattle.std.specs.FinMap as finmap
+use mathlib.Core.Bool.{true≢false}
 use Rattle.values.specs.declared.fault.Fault.{Fault}
-use Rattle.jute.specs.Stream.{Unread, Place, Items, items, add, place_at, nothing, IsStream}
+use Rattle.jute.specs.Stream.{Unread, Place, Items, items, add, place_at}
 use Rattle.jute.proofs.Streaming.{comes_in_pieces}
 use Rattle.quorum_packet.specs.declared.packet.QuorumPacket.{QuorumPacket}
 use Rattle.quorum_packet.specs.declared.phase.Phase.{Phase}
 use Rattle.quorum_packet.specs.Packets.{packets}
-use Rattle.data_tree.specs.State.{State}
-use Rattle.observer_core.specs.declared.answer.Answer.{Answer}
-use Rattle.observer_core.specs.declared.machine.Replica.{Replica}
-use Rattle.observer_core.specs.declared.machine.Machine.{Machine}
+use Rattle.quorum_packet.proofs.PacketFormat.{packets_streamed}
+use Rattle.observer_core.specs.declared.request.Call.{Call}
+use Rattle.observer_core.specs.declared.request.CallBody.{CallBody}
+use Rattle.observer_core.specs.declared.request.CallBody.TheVariants.{Read, Unreadable, Unanswered}
+use Rattle.observer_core.specs.declared.request.Request.{Request}
+use Rattle.observer_core.specs.declared.request.Request.TheVariants.{GetData}
 use Rattle.observer_core.specs.declared.event.Event.{Event}
 use Rattle.observer_core.specs.declared.event.Event.TheVariants.{LeaderBytes, ClientBytes}
 use Rattle.observer_core.specs.declared.event.Output.{Output}
-use Rattle.observer_core.specs.Answer.{answer_to}
-use Rattle.observer_core.specs.Play.{Happened, behind, quiet, Delivered, received, unless_refused, deliver, delivered, after_leader, finished, leader_bytes, Served, told, closing, waits, sent, stays, answered, serve, served, frames, client_bytes, after_client, happens, play, first}
-use Rattle.quorum_packet.proofs.PacketFormat.{packets_streamed}
+use Rattle.observer_core.specs.declared.event.Output.TheVariants.{CloseClient}
+use Rattle.observer_core.specs.Machine.{Connection, Connections, World, Machine}
+use Rattle.observer_core.specs.Request.{call_in}
+use Rattle.observer_core.specs.Look.{look, refusal, BAD_ARGUMENTS}
+use Rattle.observer_core.specs.Reply.{reply}
+use Rattle.observer_core.specs.Play.{Happened, behind, quiet, happening, Delivery, deliver, is_refused, end_at, deliver_all, leave_leader, take_leader_bytes, close_client, send, answer, request, call, serve_as, serve, is_closed, keep, wait, wait_if_open, frames, serve_all, take_client_bytes, at_client, happen, play}
+use Rattle.observer_core.proofs.Steps.{behind_behind, passed_over, happening_on}
+use Rattle.observer_core.proofs.NatMaps.{get-inserted, get-removed, insert-insert, insert-same}
 use Rattle.observer_core.proofs.Streams.{frames_streamed}
 
-pub behind_behind : (x y : List Output) (h : Happened) → behind x (behind y h) ≡ behind (x ++ y) h
-behind_behind x y h = ap (λ (o : List Output). record { outputs = o; machine = h.machine }) (sym (append_assoc x y h.outputs))
+pub play_on : (m : Machine) (a b : List Event) → play m (a ++ b) ≡ behind (play m a).outputs (play (play m a).after b)
+play_on m a b = happening_on (λ (m : Machine). false) happen m a b
 
-pub play_on : (m : Machine) (a b : List Event) → play m (a ++ b) ≡ behind (play m a).outputs (play (play m a).machine b)
-play_on m [] b = refl
-play_on m (e ∷ a) b = ap (behind (happens m e).outputs) (play_on (happens m e).machine a b) ∙ behind_behind (happens m e).outputs (play (happens m e).machine a).outputs (play (play (happens m e).machine a).machine b)
-
--- ---- the leader's bytes
-
--- what further bytes bring to a stream that goes on
-abbrev delivered_on : Replica → Result (Place Phase) Fault → List ℕ → Delivered
-delivered_on r (Ok place) more = delivered (items packets (add place more)) r
-delivered_on r (Err e) more = record { replica = r; leader = Err e }
-
-abbrev then_delivered : Delivered → List ℕ → Delivered
-then_delivered d more = delivered_on d.replica d.leader more
-
-unread_on : (phase : Phase) (u : Unread) (r : Replica) (more : List ℕ) →
-    let left : Place Phase = record { phase = phase; unread = u } in delivered (items packets (add left more)) r ≡ then_delivered (deliver [] left r) more
-unread_on phase (Ok bytes) r more = refl
-unread_on phase (Err e) r more = refl
-
-deliver_joined : (ps : List QuorumPacket) (left : Place Phase) (r : Replica) (more : List ℕ)
-    → deliver (ps ++ (items packets (add left more)).found) (items packets (add left more)).left r ≡ then_delivered (deliver ps left r) more
-deliver_joined [] left r more = unread_on left.phase left.unread r more
-deliver_joined (p ∷ ps) left r more = by (received r p) (λ next. deliver_joined ps left next more)
-  where
-    by : (q : Result Replica Fault)
-        → ((next : Replica) → deliver (ps ++ (items packets (add left more)).found) (items packets (add left more)).left next ≡ then_delivered (deliver ps left next) more)
-        → unless_refused q r (deliver (ps ++ (items packets (add left more)).found) (items packets (add left more)).left) ≡ then_delivered (unless_refused q r (deliver ps left)) more
-    by (Ok next) others = others next
-    by (Err e) others = refl
-
-add_add : (phase : Phase) (u : Unread) (a b : List ℕ) → let place : Place Phase = record { phase = phase; unread = u } in add place (a ++ b) ≡ add (add place a) b
+add_add : {S : Type 0} (phase : S) (u : Unread) (a b : List ℕ) → let place : Place S = record { phase = phase; unread = u } in add place (a ++ b) ≡ add (add place a) b
 add_add phase (Ok bytes) a b = ap (place_at phase) (sym (append_assoc bytes a b))
 add_add phase (Err e) a b = refl
 
-delivered_cut : (place : Place Phase) (r : Replica) (a b : List ℕ) → delivered (items packets (add place (a ++ b))) r ≡ then_delivered (delivered (items packets (add place a)) r) b
-delivered_cut place r a b =
-    ap (λ (p : Place Phase). delivered (items packets p) r) (add_add place.phase place.unread a b)
-    ∙ ap (λ (i : Items Phase QuorumPacket). delivered i r) (comes_in_pieces packets packets_streamed (add place a) b)
-    ∙ deliver_joined (items packets (add place a)).found (items packets (add place a)).left r b
+some_is : (c k : Connection) → Some c ≡ Some k → c ≡ k
+some_is c k e = ap (λ (o : Option Connection). unwrap_or o c) e
+
+-- ---- the leader's bytes
+
+-- what the packets that came leave of the leader
+abbrev finish : Happened Delivery → Place Phase → Happened Machine
+finish h place = behind h.outputs (leave_leader h.after.world (end_at place h.after.fault))
 
 -- what further bytes of the leader bring
-abbrev then_leader : Happened → List ℕ → Happened
-then_leader h more = behind h.outputs (leader_bytes h.machine h.machine.leader more)
+abbrev then_leader : Happened Machine → List ℕ → Happened Machine
+then_leader h more = behind h.outputs (take_leader_bytes h.after.leader h.after.world more)
 
-finished_on : (m : Machine) (r : Replica) (leader : Result (Place Phase) Fault) (more : List ℕ) → finished m (delivered_on r leader more) ≡ then_leader (after_leader m r leader) more
-finished_on m r (Ok place) more = by (delivered (items packets (add place more)) r)
-  where
-    by : (d : Delivered) → finished m d ≡ behind [] (finished (record m { leader = Some place; replica = r }) d)
-    by d = elim d.leader as (λ l. after_leader m d.replica l ≡ after_leader (record m { leader = Some place; replica = r }) d.replica l) [ Ok p ↦ refl | Err e ↦ refl ]
-finished_on m r (Err e) more = ap (λ (o : List Output). record { outputs = o; machine = (after_leader m r (Err e)).machine }) (sym (append-nil (after_leader m r (Err e)).outputs))
+lost_then : (w : World) (e : Fault) (more : List ℕ) → leave_leader w (Err e) ≡ then_leader (leave_leader w (Err e)) more
+lost_then w e more = ap (λ (o : List Output). record { outputs = o; after = (leave_leader w (Err e)).after }) (sym (append-nil (leave_leader w (Err e)).outputs))
 
-leader_cut : (m : Machine) (leader : Option (Place Phase)) (a b : List ℕ) → m.leader ≡ leader → leader_bytes m leader (a ++ b) ≡ then_leader (leader_bytes m leader a) b
-leader_cut m None a b is = sym (ap (λ l. behind [] (leader_bytes m l b)) is)
-leader_cut m (Some place) a b is =
-    ap (finished m) (delivered_cut place m.replica a b)
-    ∙ finished_on m (delivered (items packets (add place a)) m.replica).replica (delivered (items packets (add place a)) m.replica).leader b
+finished_on : (fault : Option Fault) (w : World) (phase : Phase) (unread : Unread) (more : List ℕ) →
+    let left : Place Phase = record { phase = phase; unread = unread } in
+    let j = items packets (add left more) in
+    finish (happening is_refused deliver (record { world = w; fault = fault }) j.found) j.left ≡ then_leader (leave_leader w (end_at left fault)) more
+finished_on None w phase (Ok bytes) more = refl
+finished_on None w phase (Err e) more = lost_then w e more
+finished_on (Some e) w phase unread more =
+    let left : Place Phase = record { phase = phase; unread = unread } in
+    let j = items packets (add left more) in
+    ap (λ (h : Happened Delivery). finish h j.left) (passed_over is_refused deliver (record { world = w; fault = Some e }) j.found refl) ∙ lost_then w e more
 
--- ---- a client's bytes
-
--- what further bytes bring to a connection
-abbrev served_on : State → ℤ → Option (List ℕ) → List ℕ → Served
-served_on s zxid None more = record { outputs = []; rest = None }
-served_on s zxid (Some rest) more = served s zxid (items frames (place_at tt (rest ++ more)))
-
-abbrev then_served : State → ℤ → Served → List ℕ → Served
-then_served s zxid v more = told v.outputs (served_on s zxid v.rest more)
-
-told_told : (x y : List Output) (v : Served) → told x (told y v) ≡ told (x ++ y) v
-told_told x y v = ap (λ (o : List Output). record { outputs = o; rest = v.rest }) (sym (append_assoc x y v.outputs))
-
-told_nothing : (x : List Output) → record { outputs = x; rest = None } ≡ told x (record { outputs = []; rest = None })
-told_nothing x = ap (λ (o : List Output). record { outputs = o; rest = None }) (sym (append-nil x))
-
-waits_on : (u : Unread) (s : State) (zxid : ℤ) (more : List ℕ) →
-    let left : Place (Unit {0}) = record { phase = tt; unread = u } in served s zxid (items frames (add left more)) ≡ then_served s zxid (waits u) more
-waits_on (Ok bytes) s zxid more = refl
-waits_on (Err e) s zxid more = told_nothing closing.outputs
-
-serve_joined : (s : State) (zxid : ℤ) (fs : List (List ℕ)) (left : Place (Unit {0})) (more : List ℕ)
-    → serve s zxid (fs ++ (items frames (add left more)).found) (items frames (add left more)).left.unread ≡ then_served s zxid (serve s zxid fs left.unread) more
-serve_joined s zxid [] left more = waits_on left.unread s zxid more
-serve_joined s zxid (f ∷ fs) left more = by (answer_to s zxid f) (serve_joined s zxid fs left more)
-  where
-    by : (a : Answer) → serve s zxid (fs ++ (items frames (add left more)).found) (items frames (add left more)).left.unread ≡ then_served s zxid (serve s zxid fs left.unread) more
-        → answered a (serve s zxid (fs ++ (items frames (add left more)).found) (items frames (add left more)).left.unread) ≡ then_served s zxid (answered a (serve s zxid fs left.unread)) more
-    by a others = elim (stays a) as (λ b. cond b (told (sent a) (serve s zxid (fs ++ (items frames (add left more)).found) (items frames (add left more)).left.unread)) (record { outputs = sent a; rest = None }) ≡ then_served s zxid (cond b (told (sent a) (serve s zxid fs left.unread)) (record { outputs = sent a; rest = None })) more) [
-      | true ↦ ap (told (sent a)) others ∙ told_told (sent a) (serve s zxid fs left.unread).outputs (served_on s zxid (serve s zxid fs left.unread).rest more)
-      | false ↦ told_nothing (sent a)
-    ]
-
-client_cut : (r : Replica) (client : Option (List ℕ)) (a b : List ℕ) → client_bytes r client (a ++ b) ≡ told (client_bytes r client a).outputs (client_bytes r (client_bytes r client a).rest b)
-client_cut r None a b = refl
-client_cut r (Some rest) a b =
-    ap (λ (t : List ℕ). served r.tree r.learner.last_zxid (items frames (place_at tt t))) (sym (append_assoc rest a b))
-    ∙ ap (served r.tree r.learner.last_zxid) (comes_in_pieces frames frames_streamed (place_at tt (rest ++ a)) b)
-    ∙ serve_joined r.tree r.learner.last_zxid (items frames (place_at tt (rest ++ a))).found (items frames (place_at tt (rest ++ a))).left b
-    ∙ by (served r.tree r.learner.last_zxid (items frames (place_at tt (rest ++ a)))).rest
-  where
-    by : (o : Option (List ℕ)) → told (served r.tree r.learner.last_zxid (items frames (place_at tt (rest ++ a)))).outputs (served_on r.tree r.learner.last_zxid o b) ≡ told (served r.tree r.learner.last_zxid (items frames (place_at tt (rest ++ a)))).outputs (client_bytes r o b)
-    by None = refl
-    by (Some x) = refl
+leader_cut : (leader : Option (Place Phase)) (w : World) (a b : List ℕ) → take_leader_bytes leader w (a ++ b) ≡ then_leader (take_leader_bytes leader w a) b
+leader_cut None w a b = refl
+leader_cut (Some place) w a b =
+    let i = items packets (add place a) in
+    let j = items packets (add i.left b) in
+    let h = deliver_all w i.found in
+    ap (λ (p : Place Phase). finish (deliver_all w (items packets p).found) (items packets p).left) (add_add place.phase place.unread a b)
+    ∙ ap (λ (k : Items Phase QuorumPacket). finish (deliver_all w k.found) k.left) (comes_in_pieces packets packets_streamed (add place a) b)
+    ∙ ap (λ (g : Happened Delivery). finish g j.left) (happening_on is_refused deliver (record { world = w; fault = None }) i.found j.found)
+    ∙ sym (behind_behind h.outputs (happening is_refused deliver h.after j.found).outputs
+    (leave_leader (happening is_refused deliver h.after j.found).after.world (end_at j.left (happening is_refused deliver h.after j.found).after.fault)))
+    ∙ ap (behind h.outputs) (finished_on h.after.fault h.after.world i.left.phase i.left.unread b)
+    ∙ behind_behind h.outputs (leave_leader h.after.world (end_at i.left h.after.fault)).outputs
+    (take_leader_bytes (leave_leader h.after.world (end_at i.left h.after.fault)).after.leader (leave_leader h.after.world (end_at i.left h.after.fault)).after.world b)
 
 -- ---- both
 
 -- one event that does what two do, one behind the other
-two_events : (m : Machine) (x y z : Event) (events : List Event) → happens m x ≡ behind (happens m y).outputs (happens (happens m y).machine z) → play m (x ∷ events) ≡ play m (y ∷ z ∷ events)
+two_events : (m : Machine) (x y z : Event) (events : List Event) → happen m x ≡ behind (happen m y).outputs (happen (happen m y).after z) → play m (x ∷ events) ≡ play m (y ∷ z ∷ events)
 two_events m x y z events e =
-    ap (λ (h : Happened). behind h.outputs (play h.machine events)) e
-    ∙ sym (behind_behind (happens m y).outputs (happens (happens m y).machine z).outputs (play (happens (happens m y).machine z).machine events))
+    ap (λ (h : Happened Machine). behind h.outputs (play h.after events)) e
+    ∙ sym (behind_behind (happen m y).outputs (happen (happen m y).after z).outputs (play (happen (happen m y).after z).after events))
 
 pub leader_cut_anywhere : (m : Machine) (a b : List ℕ) (events : List Event) → play m (LeaderBytes (a ++ b) ∷ events) ≡ play m (LeaderBytes a ∷ LeaderBytes b ∷ events)
-leader_cut_anywhere m a b events = two_events m (LeaderBytes (a ++ b)) (LeaderBytes a) (LeaderBytes b) events (leader_cut m m.leader a b refl)
+leader_cut_anywhere m a b events = two_events m (LeaderBytes (a ++ b)) (LeaderBytes a) (LeaderBytes b) events (leader_cut m.leader m.world a b)
+
+-- ---- a client's bytes
+
+-- the connection, if it is open, has no bytes waiting
+abbrev IsTaken : ℕ → Connections → Type 0
+IsTaken n connections = (k : Connection) → finmap.get connections n ≡ Some k → k ≡ record { rest = [] }
+
+module _ (n : ℕ) where
+  closed_taken : (w : World) → IsTaken n (close_client n w).after.connections
+  closed_taken w k e = absurd (true≢false (ap is_some (sym e ∙ get-removed w.connections n)))
+
+  sent_taken : (w : World) (frame : Option (List ℕ)) → IsTaken n w.connections → IsTaken n (send n w frame).after.connections
+  sent_taken w None t = closed_taken w
+  sent_taken w (Some bytes) t = t
+
+  requested_taken : (w : World) (xid : ℤ) (r : Request) → IsTaken n w.connections → IsTaken n (request n w xid r).after.connections
+  requested_taken w xid (GetData r) t = by r.watch
+    where
+      by : (b : Bool) → IsTaken n (cond b (quiet w) (answer n w xid (look w.tree [] (GetData r)))).after.connections
+      by true = t
+      by false = sent_taken w (reply xid w.learner.last_zxid (look w.tree [] (GetData r))) t
+
+  called_taken : (w : World) (xid : ℤ) (b : CallBody) → IsTaken n w.connections → IsTaken n (call n w xid b).after.connections
+  called_taken w xid (Read r) t = requested_taken w xid r t
+  called_taken w xid Unreadable t = sent_taken w (reply xid w.learner.last_zxid (refusal BAD_ARGUMENTS)) t
+  called_taken w xid Unanswered t = t
+
+  served_taken : (w : World) (frame : List ℕ) → IsTaken n w.connections → IsTaken n (serve n w frame).after.connections
+  served_taken w frame t = by (call_in frame)
+    where
+      by : (c : Result Call Fault) → IsTaken n (serve_as n w c).after.connections
+      by (Ok c) = called_taken w c.xid c.body t
+      by (Err e) = closed_taken w
+
+  all_taken : (w : World) (fs : List (List ℕ)) → IsTaken n w.connections → IsTaken n (happening (is_closed n) (serve n) w fs).after.connections
+  all_taken w [] t = t
+  all_taken w (f ∷ fs) t = by (is_closed n w) (all_taken (serve n w f).after fs (served_taken w f t))
+    where
+      by : (b : Bool) → IsTaken n (happening (is_closed n) (serve n) (serve n w f).after fs).after.connections
+          → IsTaken n (cond b (quiet w) (behind (serve n w f).outputs (happening (is_closed n) (serve n) (serve n w f).after fs))).after.connections
+      by true others = t
+      by false others = others
+
+  -- what the frames that came leave of the connection
+  abbrev left_at : Happened World → Unread → Happened World
+  left_at h left = behind h.outputs (wait_if_open n h.after (finmap.get h.after.connections n) left)
+
+  -- what further bytes of the client bring
+  abbrev then_client : Happened World → List ℕ → Happened World
+  then_client h more = behind h.outputs (take_client_bytes n h.after (finmap.get h.after.connections n) more)
+
+  -- bytes are taken to hand again
+  kept_again : (w : World) (rest : List ℕ) → finmap.get w.connections n ≡ Some (record { rest = [] })
+      → keep n (keep n w (record { rest = [] }) rest) (record { rest = rest }) [] ≡ w
+  kept_again w rest there =
+      ap (λ (c : Connections). record w { connections = c })
+      (insert-insert w.connections n (record { rest = [] }) (record { rest = rest }) ∙ insert-same w.connections n (record { rest = [] }) there)
+
+  waited_on : (w : World) (k : Connection) (unread : Unread) (more : List ℕ) → finmap.get w.connections n ≡ Some k → k ≡ record { rest = [] } →
+      let left : Place (Unit {0}) = record { phase = tt; unread = unread } in
+      serve_all n w (items frames (add left more)) ≡ then_client (wait n w k unread) more
+  waited_on w k (Ok rest) more there fresh =
+      let empty : Connection = record { rest = [] } in
+      let kept = keep n w empty rest in
+      let found = items frames (place_at tt (rest ++ more)) in
+      sym (ap (λ (x : World). serve_all n x found) (kept_again w rest (there ∙ ap Some fresh)))
+      ∙ sym (ap (λ (o : Option Connection). take_client_bytes n kept o more) (get-inserted w.connections n (record { rest = rest })))
+      ∙ sym (ap (λ (c : Connection). then_client (wait n w c (Ok rest)) more) fresh)
+  waited_on w k (Err e) more there fresh =
+      ap (λ (o : Option Connection). wait_if_open n w o (Err e)) there
+      ∙ sym (ap (λ (o : Option Connection). behind (CloseClient n ∷ []) (take_client_bytes n (close_client n w).after o more)) (get-removed w.connections n))
+
+  served_on : (w : World) (o : Option Connection) (left : Place (Unit {0})) (more : List ℕ) → finmap.get w.connections n ≡ o → IsTaken n w.connections
+      → serve_all n w (items frames (add left more)) ≡ then_client (wait_if_open n w o left.unread) more
+  served_on w None left more there t =
+      let j = items frames (add left more) in
+      ap (λ (h : Happened World). left_at h j.left.unread) (passed_over (is_closed n) (serve n) w j.found (ap (λ (x : Option Connection). not (is_some x)) there))
+      ∙ ap (λ (x : Option Connection). wait_if_open n w x j.left.unread) there
+      ∙ sym (ap (λ (x : Option Connection). take_client_bytes n w x more) there)
+  served_on w (Some k) left more there t = waited_on w k left.unread more there (t k there)
+
+  client_cut : (w : World) (o : Option Connection) (a b : List ℕ) → finmap.get w.connections n ≡ o → take_client_bytes n w o (a ++ b) ≡ then_client (take_client_bytes n w o a) b
+  client_cut w None a b there = sym (ap (λ (x : Option Connection). take_client_bytes n w x b) there)
+  client_cut w (Some k) a b there =
+      let v = keep n w k [] in
+      let i = items frames (place_at tt (k.rest ++ a)) in
+      let j = items frames (add i.left b) in
+      let h = happening (is_closed n) (serve n) v i.found in
+      let g = happening (is_closed n) (serve n) h.after j.found in
+      let t : IsTaken n v.connections = λ (c : Connection) is. some_is c (record { rest = [] }) (sym is ∙ get-inserted w.connections n (record { rest = [] })) in
+      ap (λ (x : List ℕ). serve_all n v (items frames (place_at tt x))) (sym (append_assoc k.rest a b))
+      ∙ ap (serve_all n v) (comes_in_pieces frames frames_streamed (place_at tt (k.rest ++ a)) b)
+      ∙ ap (λ (x : Happened World). left_at x j.left.unread) (happening_on (is_closed n) (serve n) v i.found j.found)
+      ∙ sym (behind_behind h.outputs g.outputs (wait_if_open n g.after (finmap.get g.after.connections n) j.left.unread))
+      ∙ ap (behind h.outputs) (served_on h.after (finmap.get h.after.connections n) i.left b refl (all_taken v i.found t))
+      ∙ behind_behind h.outputs (wait_if_open n h.after (finmap.get h.after.connections n) i.left.unread).outputs
+      (take_client_bytes n (wait_if_open n h.after (finmap.get h.after.connections n) i.left.unread).after
+      (finmap.get (wait_if_open n h.after (finmap.get h.after.connections n) i.left.unread).after.connections n) b)
 
 pub client_cut_anywhere : (m : Machine) (n : ℕ) (a b : List ℕ) (events : List Event) → play m (ClientBytes n (a ++ b) ∷ events) ≡ play m (ClientBytes n a ∷ ClientBytes n b ∷ events)
-client_cut_anywhere m n a b events = two_events m (ClientBytes n (a ++ b)) (ClientBytes n a) (ClientBytes n b) events (by (eqb n first))
-  where
-    by : (t : Bool) →
-        cond t (after_client m (client_bytes m.replica m.client (a ++ b))) (quiet m)
-        ≡ behind (cond t (after_client m (client_bytes m.replica m.client a)) (quiet m)).outputs
-        (cond t (after_client (cond t (after_client m (client_bytes m.replica m.client a)) (quiet m)).machine (client_bytes (cond t (after_client m (client_bytes m.replica m.client a)) (quiet m)).machine.replica (cond t (after_client m (client_bytes m.replica m.client a)) (quiet m)).machine.client b)) (quiet (cond t (after_client m (client_bytes m.replica m.client a)) (quiet m)).machine))
-    by true = ap (after_client m) (client_cut m.replica m.client a b)
-    by false = refl
+client_cut_anywhere m n a b events =
+    two_events m (ClientBytes n (a ++ b)) (ClientBytes n a) (ClientBytes n b) events
+    (ap (at_client m.leader) (client_cut n m.world (finmap.get m.world.connections n) a b refl))

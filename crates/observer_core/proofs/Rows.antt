@@ -1,24 +1,22 @@
 -- The worked rows, step by step: what the bytes read as, the state behind each transaction, and the reply to each request.
-use Rattle.std.proofs.Common.{◌≡◌, ℕ, List, [], ◌∷◌, ◌++◌, length, Option, Some, None, Result, Ok, Err, Bool, true, false, cond, refl, sym, ap, ◌∙◌, arith, rules}
-use Rattle.std.specs.Prelude.{ℤ, pos, negsuc, codes}
+use Rattle.std.proofs.Common.{◌≡◌, ℕ, List, [], ◌∷◌, ◌++◌, map, not, Option, Some, None, Result, Ok, Bool, false, cond, refl, ap, ◌∙◌, arith, rules}
+use Rattle.std.specs.Prelude.{ℤ, pos, codes, is_some}
+use Rattle.std.specs.Cmp.{nat_cmp_total}
+use Rattle.observer_core.proofs.Steps.{goes_on}
 use Rattle.std.specs.FinMap as finmap
 use Rattle.std.specs.FinSet as set
-use Rattle.std.specs.Cmp.{IsTotalOrder}
 use Rattle.std.specs.Cmp.Lexicographic.{slice_cmp, nat_list_cmp_total}
-use Rattle.std.specs.Str.{IsUtf8, is_utf8}
+use Rattle.std.specs.Str.{IsUtf8}
 use lib.Utf8.{encode}
-use Rattle.std.proofs.lemmas.Str.{IsUtf8-from_ascii, is_utf8-from_IsUtf8}
+use Rattle.std.proofs.lemmas.Str.{is_utf8-from_IsUtf8}
 use Rattle.std.specs.Ordering.{nat_cmp}
 use Rattle.values.specs.declared.fault.Fault.{Fault}
 use Rattle.values.specs.declared.fault.Fault.TheVariants.{OutOfOrder}
-use Rattle.jute.specs.declared.owned.Acl.{Acl}
-use Rattle.jute.specs.declared.message.RequestHeader.{RequestHeader}
-use Rattle.jute.specs.declared.message.GetDataRequest.{GetDataRequest}
 use Rattle.jute.specs.Format.{length_at, buffer_at, vector_at, text_at, times, number_bytes}
 use Rattle.jute.specs.Frame.{frame_at}
 use Rattle.jute.specs.Owned.{id, acl}
 use Rattle.jute.specs.Records.{stat, request_header, reply_header, get_data_request, get_data_response}
-use Rattle.jute.specs.Stream.{items_within, items, Items, Place, place_at}
+use Rattle.jute.specs.Stream.{items_within, items, Items, place_at}
 use Rattle.quorum_packet.specs.declared.packet.QuorumPacket.{QuorumPacket}
 use Rattle.quorum_packet.specs.declared.phase.Phase.{Phase}
 use Rattle.quorum_packet.specs.declared.phase.Phase.TheVariants.{Packets}
@@ -32,23 +30,24 @@ use Rattle.txn_codec.specs.declared.txn.Operation.TheVariants as operations
 use Rattle.txn_codec.specs.declared.txn.Body.TheVariants as bodies
 use Rattle.txn_codec.specs.declared.txn.Txn.{Txn}
 use Rattle.txn_codec.specs.Spelling.{txn, whole}
-use Rattle.data_tree.specs.State.{State, Nodes}
+use Rattle.data_tree.specs.State.{State}
 use Rattle.data_tree.specs.Meaning.{mean, fresh, first_node, open_acl, after_changes, create_new, create_taken, create_under, set_data_at, of_effect, new_node, with_data}
 use Rattle.data_tree.specs.Stats.{shown_stat, java_int, length_of}
 use Rattle.data_tree.specs.declared.node.Node.{Node}
-use Rattle.observer_core.specs.declared.answer.Answer.{Answer}
-use Rattle.observer_core.specs.declared.answer.Answer.TheVariants.{Reply, Silence, Close}
-use Rattle.observer_core.specs.declared.answer.Refusal.{Refusal}
-use Rattle.observer_core.specs.Answer.{shown_to_all, header_text, reply_text, replied, get_data, requested, answer_to}
 use Rattle.observer_core.specs.declared.config.Config.{Config}
-use Rattle.observer_core.specs.declared.machine.Replica.{Replica}
-use Rattle.observer_core.specs.declared.machine.Machine.{Machine}
+use Rattle.observer_core.specs.declared.request.Call.{Call}
+use Rattle.observer_core.specs.declared.request.CallBody.TheVariants.{Read}
+use Rattle.observer_core.specs.declared.request.Request.TheVariants.{GetData}
 use Rattle.observer_core.specs.declared.event.Event.{Event}
-use Rattle.observer_core.specs.declared.event.Event.TheVariants.{LeaderBytes, ClientBytes}
-use Rattle.observer_core.specs.declared.event.Output.{Output}
+use Rattle.observer_core.specs.declared.event.Event.TheVariants.{ClientBytes}
 use Rattle.observer_core.specs.declared.event.Output.TheVariants.{ToClient, CloseLeader, CloseClient}
-use Rattle.observer_core.specs.Play.{Happened, behind, quiet, informed, applied, received, unless_refused, deliver, delivered, finished, leader_bytes, answered, waits, served, frames, after_client, happens, play, primed_machine}
+use Rattle.observer_core.specs.Machine.{Connection, Connections, World, Machine}
+use Rattle.observer_core.specs.Request.{call_in, call_behind, get_data_body}
+use Rattle.observer_core.specs.Look.{Look, look_at_node, shown_look, get_data_response_of}
+use Rattle.observer_core.specs.Reply.{reply}
+use Rattle.observer_core.specs.Play.{Happened, behind, quiet, happening, inform, apply, receive, deliver_as, deliver, is_refused, leave_leader, end_at, take_leader_bytes, send, answer, serve_as, serve, is_closed, wait_if_open, frames, serve_all, take_client_bytes, at_client, happen, play, new_machine, primed_machine}
 use Rattle.observer_core.specs.Rows.{WorkedRows, inform_of_create, inform_of_set_data, get_front, get_back, reply_of_create, reply_of_set_data, created, overwritten, asked}
+use Rattle.observer_core.proofs.NatMaps.{get-inserted, insert-insert, entries-empty}
 
 -- ---- texts
 
@@ -174,35 +173,36 @@ unfolding get_data_request text_at buffer_at length_at
 body_read = rw (is_utf8-from_IsUtf8 (codes "/a") path_is_text)
 
 -- the reply of a node, by how many children it has
-abbrev reply_by : ℤ → Node → ℕ → Answer
-reply_by zxid n children = replied (header_text (pos 1) zxid (pos 0) ++ get_data_response.written (record { bytes = n.bytes; stat = shown_stat n.stat (java_int children) (java_int (length_of n.bytes)) }))
+abbrev reply_by : ℤ → Node → ℕ → Option (List ℕ)
+reply_by zxid n children = reply (pos 1) zxid (shown_look (record { bytes = n.bytes; stat = shown_stat n.stat (java_int children) (java_int (length_of n.bytes)) }))
 
 no_children : set.len (set.empty {R = slice_cmp nat_cmp}) ≡ 0
 no_children = set.len-empty (slice_cmp nat_cmp)
 
-create_replied : reply_by (pos 4294967297) node 0 ≡ Reply reply_of_create
+create_replied : reply_by (pos 4294967297) node 0 ≡ Some reply_of_create
 unfolding reply_header get_data_response stat number_bytes
 create_replied = refl
 
-set_replied : reply_by (pos 4294967298) written_node 0 ≡ Reply reply_of_set_data
+set_replied : reply_by (pos 4294967298) written_node 0 ≡ Some reply_of_set_data
 unfolding reply_header get_data_response stat number_bytes
 set_replied = refl
 
-answered_by : (s : State) (zxid : ℤ) (n : Node) → finmap.get s.nodes (codes "/a") ≡ Some n → shown_to_all (Some n) ≡ Ok n → n.children ≡ set.empty
-    → answer_to s zxid get_frame ≡ reply_by zxid n 0
-answered_by s zxid n there shows childless =
-    ap (requested s zxid) header_read
-    ∙ ap (get_data s zxid (pos 1)) body_read
-    ∙ ap (λ (o : Option Node). replied (reply_text (pos 1) zxid (shown_to_all o))) there
-    ∙ ap (λ (r : Result Node Refusal). replied (reply_text (pos 1) zxid r)) shows
-    ∙ ap (λ (c : set.FinSet (slice_cmp nat_cmp)). reply_by zxid n (set.len c)) childless
-    ∙ ap (reply_by zxid n) no_children
+abbrev asking : Call
+asking = record { xid = pos 1; body = Read (GetData (record { path = Some (codes "/a"); watch = false })) }
 
-answered_create : answer_to made (pos 4294967297) get_frame ≡ Reply reply_of_create
-answered_create = answered_by made (pos 4294967297) node node_there refl refl ∙ create_replied
+call_read : call_in get_frame ≡ Ok asking
+call_read = ap call_behind header_read ∙ ap (λ r. Ok (record { xid = pos 1; body = get_data_body r })) body_read
 
-answered_set : answer_to written (pos 4294967298) get_frame ≡ Reply reply_of_set_data
-answered_set = answered_by written (pos 4294967298) written_node written_there refl refl ∙ set_replied
+-- a world whose tree shows the node is answered with it
+answered_by : (w : World) (n : Node) (frame : List ℕ) → finmap.get w.tree.nodes (codes "/a") ≡ Some n → look_at_node [] (Some n) ≡ shown_look (get_data_response_of n) → n.children ≡ set.empty
+    → reply_by w.learner.last_zxid n 0 ≡ Some frame → serve 1 w get_frame ≡ record { outputs = ToClient 1 frame ∷ []; after = w }
+answered_by w n frame there shows childless is =
+    ap (serve_as 1 w) call_read
+    ∙ ap (λ (o : Option Node). answer 1 w (pos 1) (look_at_node [] o)) there
+    ∙ ap (λ (l : Look). answer 1 w (pos 1) l) shows
+    ∙ ap (λ (c : set.FinSet (slice_cmp nat_cmp)). send 1 w (reply_by w.learner.last_zxid n (set.len c))) childless
+    ∙ ap (λ (k : ℕ). send 1 w (reply_by w.learner.last_zxid n k)) no_children
+    ∙ ap (send 1 w) is
 
 -- ---- events
 
@@ -210,30 +210,39 @@ answered_set = answered_by written (pos 4294967298) written_node written_there r
 abbrev pub ReadAgain : Type 0
 ReadAgain = (t : Txn) → txn.Fits t → whole txn (txn.written t) ≡ Ok t
 
--- a machine that follows a leader in epoch 1, with the first connection open
-abbrev following : Config → ℤ → List Txn → State → List ℕ → Machine
-following config zxid log s rest = record {
+abbrev at_first : List ℕ → Connections
+at_first rest = finmap.insert finmap.empty 1 (record { rest = rest })
+
+-- a world in epoch 1, with the first connection open
+abbrev world_at : Config → ℤ → List Txn → State → List ℕ → World
+world_at config zxid log s rest = record {
   config = config;
-  leader = Some (place_at Packets []);
-  replica = record {
-    learner = record { accepted_epoch = pos 1; current_epoch = pos 1; last_zxid = zxid; base = record { zxid = pos 0; tree = fresh }; log = log };
-    tree = s;
-  };
-  client = Some rest;
+  learner = record { accepted_epoch = pos 1; current_epoch = pos 1; last_zxid = zxid; base = record { zxid = pos 0; tree = fresh }; log = log };
+  tree = s;
+  connections = at_first rest;
 }
 
-informed_of : (again : ReadAgain) (r : Replica) (zxid : ℤ) (t : Txn) → txn.Fits t → received r (packet_of zxid (txn.written t)) ≡ applied r t
+-- a machine that follows a leader there
+abbrev following : Config → ℤ → List Txn → State → List ℕ → Machine
+following config zxid log s rest = record { leader = Some (place_at Packets []); world = world_at config zxid log s rest }
+
+informed_of : (again : ReadAgain) (w : World) (zxid : ℤ) (t : Txn) → txn.Fits t → receive w (packet_of zxid (txn.written t)) ≡ apply w t
 unfolding kind_of
-informed_of again r zxid t fits = ap (informed r) (again t fits)
+informed_of again w zxid t fits = ap (inform w) (again t fits)
+
+-- what one packet leaves
+abbrev one_delivered : World → Result (Happened World) Fault → Happened Machine
+one_delivered w r =
+    let h = deliver_as r w in
+    behind (h.outputs ++ []) (leave_leader h.after.world (end_at (place_at Packets []) h.after.fault))
 
 -- one INFORM comes
-inform_comes : (again : ReadAgain) (m : Machine) (bytes : List ℕ) (zxid : ℤ) (t : Txn) → txn.Fits t → m.leader ≡ Some (place_at Packets [])
+inform_comes : (again : ReadAgain) (w : World) (bytes : List ℕ) (zxid : ℤ) (t : Txn) → txn.Fits t
     → items packets (place_at Packets bytes) ≡ one_packet (packet_of zxid (txn.written t))
-    → happens m (LeaderBytes bytes) ≡ finished m (unless_refused (applied m.replica t) m.replica (deliver [] (place_at Packets [])))
-inform_comes again m bytes zxid t fits leads found =
-    ap (λ (l : Option (Place Phase)). leader_bytes m l bytes) leads
-    ∙ ap (λ (i : Items Phase QuorumPacket). finished m (delivered i m.replica)) found
-    ∙ ap (λ (q : Result Replica Fault). finished m (unless_refused q m.replica (deliver [] (place_at Packets [])))) (informed_of again m.replica zxid t fits)
+    → take_leader_bytes (Some (place_at Packets [])) w bytes ≡ one_delivered w (apply w t)
+inform_comes again w bytes zxid t fits found =
+    ap (λ (i : Items Phase QuorumPacket). let h = happening is_refused deliver (record { world = w; fault = None }) i.found in behind h.outputs (leave_leader h.after.world (end_at i.left h.after.fault))) found
+    ∙ ap (one_delivered w) (informed_of again w zxid t fits)
 
 abbrev after_create : Config → List ℕ → Machine
 after_create config rest = following config (pos 4294967297) (create_txn ∷ []) made rest
@@ -241,49 +250,91 @@ after_create config rest = following config (pos 4294967297) (create_txn ∷ [])
 abbrev after_set : Config → Machine
 after_set config = following config (pos 4294967298) (create_txn ∷ set_txn ∷ []) written []
 
-create_comes : (again : ReadAgain) (config : Config) (rest : List ℕ) → happens (following config (pos 0) [] fresh rest) created ≡ quiet (after_create config rest)
+create_comes : (again : ReadAgain) (config : Config) (rest : List ℕ) → happen (following config (pos 0) [] fresh rest) created ≡ quiet (after_create config rest)
 create_comes again config rest =
-    inform_comes again (following config (pos 0) [] fresh rest) inform_of_create (pos 4294967297) create_txn create_fits refl create_found
+    inform_comes again (world_at config (pos 0) [] fresh rest) inform_of_create (pos 4294967297) create_txn create_fits create_found
     ∙ ap (λ (s : State). quiet (following config (pos 4294967297) (create_txn ∷ []) s rest)) made-is
 
-set_comes : (again : ReadAgain) (config : Config) → happens (after_create config []) overwritten ≡ quiet (after_set config)
+set_comes : (again : ReadAgain) (config : Config) → happen (after_create config []) overwritten ≡ quiet (after_set config)
 set_comes again config =
-    inform_comes again (after_create config []) inform_of_set_data (pos 4294967298) set_txn set_fits refl set_found
+    inform_comes again (after_create config []).world inform_of_set_data (pos 4294967298) set_txn set_fits set_found
     ∙ ap (λ (s : State). quiet (following config (pos 4294967298) (create_txn ∷ set_txn ∷ []) s [])) written-is
 
 abbrev closed : Config → Machine
-closed config = record (after_create config []) { leader = None; client = None }
+closed config = record { leader = None; world = record (after_create config []).world { connections = finmap.empty } }
+
+abbrev refusing : Config → Happened Machine
+refusing config = record { outputs = CloseLeader OutOfOrder ∷ CloseClient 1 ∷ []; after = closed config }
+
+keys-first : finmap.keys (at_first []) ≡ 1 ∷ []
+keys-first = ap (λ (es : List (ℕ × Connection)). map (λ (e : ℕ × Connection). e.0) es)
+    (finmap.entries-insert nat_cmp_total finmap.empty 1 (record { rest = [] }) ∙ ap (finmap.put nat_cmp 1 (record { rest = [] })) (entries-empty Connection))
 
 -- its zxid isn't above the last one
-create_comes_again : (again : ReadAgain) (config : Config) → happens (after_create config []) created ≡ (record { outputs = CloseLeader OutOfOrder ∷ CloseClient 1 ∷ []; machine = closed config })
-create_comes_again again config = inform_comes again (after_create config []) inform_of_create (pos 4294967297) create_txn create_fits refl create_found
+create_comes_again : (again : ReadAgain) (config : Config) → happen (after_create config []) created ≡ refusing config
+create_comes_again again config =
+    inform_comes again (after_create config []).world inform_of_create (pos 4294967297) create_txn create_fits create_found
+    ∙ ap (λ (ks : List ℕ). record { outputs = CloseLeader OutOfOrder ∷ map (λ n. CloseClient n) ks; after = closed config }) keys-first
 
-abbrev replying : List ℕ → Machine → Happened
-replying reply m = record { outputs = ToClient 1 reply ∷ []; machine = m }
+abbrev replying : List ℕ → Machine → Happened Machine
+replying frame m = record { outputs = ToClient 1 frame ∷ []; after = m }
+
+-- what the first connection's bytes do, by the frames that they make
+abbrev at_frames : World → Items (Unit {0}) (List ℕ) → Happened Machine
+at_frames w i = at_client (Some (place_at Packets [])) (serve_all 1 w i)
+
+-- the bytes of the first connection are taken to hand
+in_hand : (config : Config) (zxid : ℤ) (log : List Txn) (s : State) (rest bytes : List ℕ)
+    → happen (following config zxid log s rest) (ClientBytes 1 bytes) ≡ at_frames (world_at config zxid log s []) (items frames (place_at tt (rest ++ bytes)))
+in_hand config zxid log s rest bytes =
+    let w = world_at config zxid log s rest in
+    ap (λ (o : Option Connection). at_client (Some (place_at Packets [])) (take_client_bytes 1 w o bytes)) (get-inserted finmap.empty 1 (record { rest = rest }))
+    ∙ ap (λ (c : Connections). at_frames (record w { connections = c }) (items frames (place_at tt (rest ++ bytes)))) (insert-insert finmap.empty 1 (record { rest = [] }) (record { rest = rest }))
+
+-- the bytes that are left wait
+left_waiting : (config : Config) (zxid : ℤ) (log : List Txn) (s : State) (rest : List ℕ)
+    → wait_if_open 1 (world_at config zxid log s []) (finmap.get (at_first []) 1) (Ok rest) ≡ quiet (world_at config zxid log s rest)
+left_waiting config zxid log s rest =
+    let w = world_at config zxid log s [] in
+    ap (λ (o : Option Connection). wait_if_open 1 w o (Ok rest)) (get-inserted finmap.empty 1 (record { rest = [] }))
+    ∙ ap (λ (c : Connections). quiet (record w { connections = c })) (insert-insert finmap.empty 1 (record { rest = rest }) (record { rest = [] }))
 
 -- the last byte of a request comes
-get_comes : (config : Config) (zxid : ℤ) (log : List Txn) (s : State) (rest bytes reply : List ℕ)
-    → items frames (place_at tt (rest ++ bytes)) ≡ one_frame get_frame → answer_to s zxid get_frame ≡ Reply reply
-    → happens (following config zxid log s rest) (ClientBytes 1 bytes) ≡ replying reply (following config zxid log s [])
-get_comes config zxid log s rest bytes reply found replies =
-    ap (λ (i : Items (Unit {0}) (List ℕ)). after_client (following config zxid log s rest) (served s zxid i)) found
-    ∙ ap (λ (a : Answer). after_client (following config zxid log s rest) (answered a (waits (Ok [])))) replies
+get_comes : (config : Config) (zxid : ℤ) (log : List Txn) (s : State) (rest bytes frame : List ℕ)
+    → items frames (place_at tt (rest ++ bytes)) ≡ one_frame get_frame
+    → serve 1 (world_at config zxid log s []) get_frame ≡ record { outputs = ToClient 1 frame ∷ []; after = world_at config zxid log s [] }
+    → happen (following config zxid log s rest) (ClientBytes 1 bytes) ≡ replying frame (following config zxid log s [])
+get_comes config zxid log s rest bytes frame found replies =
+    let w = world_at config zxid log s [] in
+    in_hand config zxid log s rest bytes
+    ∙ ap (at_frames w) found
+    ∙ ap (λ (h : Happened World). at_client (Some (place_at Packets [])) (behind h.outputs (wait_if_open 1 h.after (finmap.get h.after.connections 1) (Ok []))))
+    (goes_on (is_closed 1) (serve 1) w get_frame [] (ap (λ (o : Option Connection). not (is_some o)) (get-inserted finmap.empty 1 (record { rest = [] }))))
+    ∙ ap (λ (h : Happened World). at_client (Some (place_at Packets [])) (behind (h.outputs ++ []) (wait_if_open 1 h.after (finmap.get h.after.connections 1) (Ok [])))) replies
+    ∙ ap (λ (h : Happened World). at_client (Some (place_at Packets [])) (behind (ToClient 1 frame ∷ []) h)) (left_waiting config zxid log s [])
 
 -- a part of a request comes
-front_comes : (config : Config) → happens (following config (pos 0) [] fresh []) (ClientBytes 1 get_front) ≡ quiet (following config (pos 0) [] fresh get_front)
-front_comes config = ap (λ (i : Items (Unit {0}) (List ℕ)). after_client (following config (pos 0) [] fresh []) (served fresh (pos 0) i)) get_waits
+front_comes : (config : Config) → happen (following config (pos 0) [] fresh []) (ClientBytes 1 get_front) ≡ quiet (following config (pos 0) [] fresh get_front)
+front_comes config =
+    in_hand config (pos 0) [] fresh [] get_front
+    ∙ ap (at_frames (world_at config (pos 0) [] fresh [])) get_waits
+    ∙ ap (λ (h : Happened World). at_client (Some (place_at Packets [])) h) (left_waiting config (pos 0) [] fresh get_front)
 
 get_after_create : (config : Config) (rest bytes : List ℕ) → items frames (place_at tt (rest ++ bytes)) ≡ one_frame get_frame
-    → happens (after_create config rest) (ClientBytes 1 bytes) ≡ replying reply_of_create (after_create config [])
-get_after_create config rest bytes found = get_comes config (pos 4294967297) (create_txn ∷ []) made rest bytes reply_of_create found answered_create
+    → happen (after_create config rest) (ClientBytes 1 bytes) ≡ replying reply_of_create (after_create config [])
+get_after_create config rest bytes found =
+    get_comes config (pos 4294967297) (create_txn ∷ []) made rest bytes reply_of_create found
+    (answered_by (after_create config []).world node reply_of_create node_there refl refl create_replied)
 
-get_after_set : (config : Config) → happens (after_set config) asked ≡ replying reply_of_set_data (after_set config)
-get_after_set config = get_comes config (pos 4294967298) (create_txn ∷ set_txn ∷ []) written [] (get_front ++ get_back) reply_of_set_data get_found answered_set
+get_after_set : (config : Config) → happen (after_set config) asked ≡ replying reply_of_set_data (after_set config)
+get_after_set config =
+    get_comes config (pos 4294967298) (create_txn ∷ set_txn ∷ []) written [] (get_front ++ get_back) reply_of_set_data get_found
+    (answered_by (after_set config).world written_node reply_of_set_data written_there refl refl set_replied)
 
 -- ---- the rows
 
-step : (m : Machine) (e : Event) (events : List Event) (h : Happened) → happens m e ≡ h → play m (e ∷ events) ≡ behind h.outputs (play h.machine events)
-step m e events h is = ap (λ (g : Happened). behind g.outputs (play g.machine events)) is
+step : (m : Machine) (e : Event) (events : List Event) (h : Happened Machine) → happen m e ≡ h → play m (e ∷ events) ≡ behind h.outputs (play h.after events)
+step m e events h is = ap (λ (g : Happened Machine). behind g.outputs (play g.after events)) is
 
 create_get : (again : ReadAgain) (config : Config) (events : List Event)
     → play (primed_machine config) (created ∷ asked ∷ events) ≡ behind (ToClient 1 reply_of_create ∷ []) (play (after_create config []) events)
@@ -307,14 +358,22 @@ create_twice : (again : ReadAgain) (config : Config)
     → play (primed_machine config) (created ∷ created ∷ overwritten ∷ asked ∷ []) ≡ behind (CloseLeader OutOfOrder ∷ CloseClient 1 ∷ []) (play (closed config) (overwritten ∷ asked ∷ []))
 create_twice again config =
     step (primed_machine config) created (created ∷ overwritten ∷ asked ∷ []) (quiet (after_create config [])) (create_comes again config [])
-    ∙ step (after_create config []) created (overwritten ∷ asked ∷ []) (record { outputs = CloseLeader OutOfOrder ∷ CloseClient 1 ∷ []; machine = closed config }) (create_comes_again again config)
+    ∙ step (after_create config []) created (overwritten ∷ asked ∷ []) (refusing config) (create_comes_again again config)
+
+idle_is : (config : Config) → (play (new_machine config) (created ∷ asked ∷ [])).outputs ≡ []
+idle_is config = ap (λ (o : Option Connection). (at_client None (take_client_bytes 1 (new_machine config).world o (get_front ++ get_back))).outputs ++ []) (finmap.get-empty nat_cmp 1)
+
+closed_passes : (config : Config) → (behind (CloseLeader OutOfOrder ∷ CloseClient 1 ∷ []) (play (closed config) (overwritten ∷ asked ∷ []))).outputs ≡ CloseLeader OutOfOrder ∷ CloseClient 1 ∷ []
+closed_passes config =
+    ap (λ (o : Option Connection). (CloseLeader OutOfOrder ∷ CloseClient 1 ∷ []) ++ ((at_client None (take_client_bytes 1 (closed config).world o (get_front ++ get_back))).outputs ++ []))
+    (finmap.get-empty nat_cmp 1)
 
 pub rows_hold : ReadAgain → WorkedRows
 rows_hold again = record {
-  create_then_get = λ config. ap (λ (h : Happened). h.outputs) (create_get again config []);
-  set_then_get = λ config. ap (λ (h : Happened). h.outputs) (create_get again config (overwritten ∷ asked ∷ []) ∙ ap (behind (ToClient 1 reply_of_create ∷ [])) (set_get again config));
-  cut_request = λ config. ap (λ (h : Happened). h.outputs) (cut_get again config);
-  same_zxid_twice = λ config. ap (λ (h : Happened). h.outputs) (create_twice again config);
+  create_then_get = λ config. ap (λ (h : Happened Machine). h.outputs) (create_get again config []);
+  set_then_get = λ config. ap (λ (h : Happened Machine). h.outputs) (create_get again config (overwritten ∷ asked ∷ []) ∙ ap (behind (ToClient 1 reply_of_create ∷ [])) (set_get again config));
+  cut_request = λ config. ap (λ (h : Happened Machine). h.outputs) (cut_get again config);
+  same_zxid_twice = λ config. ap (λ (h : Happened Machine). h.outputs) (create_twice again config) ∙ closed_passes config;
   nothing = λ config. refl;
-  idle = λ config. refl;
+  idle = λ config. idle_is config;
 }

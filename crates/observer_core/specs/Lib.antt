@@ -1,5 +1,9 @@
-pub mod Answer
+pub mod Machine
+pub mod Request
+pub mod Look
+pub mod Reply
 pub mod Play
-pub mod Meets
-pub mod Rows
+pub mod Plays
+pub mod Inner
 pub mod Logs
+pub mod Rows

@@ -1,6 +1,6 @@
 -- What a machine does with a list of events: the outputs, and the machine that is left.
-use Rattle.std.specs.Prelude.{◌≡◌, ℕ, ℤ, pos, List, [], ◌∷◌, ◌++◌, length, Option, Some, None, Result, Ok, Err, Bool, true, false, ◌==◌, int_lt, if◌then◌else◌}
-use Rattle.std.specs.Ordering.{int_eq}
+use Rattle.std.specs.Prelude.{ℕ, ℤ, pos, List, [], ◌∷◌, ◌++◌, map, Option, Some, None, is_some, Result, Ok, Err, Bool, false, not, int_lt, if◌then◌else◌}
+use Rattle.std.specs.FinMap as finmap
 use Rattle.values.specs.declared.fault.Fault.{Fault}
 use Rattle.values.specs.declared.fault.Fault.TheVariants.{OutOfOrder}
 use Rattle.jute.specs.Frame.{frame}
@@ -9,144 +9,199 @@ use Rattle.quorum_packet.specs.declared.packet.QuorumPacket.{QuorumPacket}
 use Rattle.quorum_packet.specs.declared.phase.Phase.{Phase}
 use Rattle.quorum_packet.specs.declared.phase.Phase.TheVariants.{Packets}
 use Rattle.quorum_packet.specs.declared.kind.PacketKind.{PacketKind}
-use Rattle.quorum_packet.specs.declared.kind.PacketKind.TheVariants.{Inform}
+use Rattle.quorum_packet.specs.declared.kind.PacketKind.TheVariants as kinds
 use Rattle.quorum_packet.specs.Kinds.{kind_of}
 use Rattle.quorum_packet.specs.Packets.{packets}
 use Rattle.txn_codec.specs.Spelling.{txn, whole}
 use Rattle.txn_codec.specs.declared.txn.Txn.{Txn}
 use Rattle.data_tree.specs.State.{State}
-use Rattle.data_tree.specs.Meaning.{mean, fresh}
+use Rattle.data_tree.specs.Meaning.{Meant, mean, fresh}
+use Rattle.data_tree.specs.declared.outcome.Trigger.{Trigger}
 use Rattle.observer_core.specs.declared.config.Config.{Config}
-use Rattle.observer_core.specs.declared.machine.Learner.{Learner}
-use Rattle.observer_core.specs.declared.machine.Replica.{Replica}
-use Rattle.observer_core.specs.declared.machine.Machine.{Machine}
 use Rattle.observer_core.specs.declared.event.Event.{Event}
-use Rattle.observer_core.specs.declared.event.Event.TheVariants.{LeaderBytes, ClientBytes}
+use Rattle.observer_core.specs.declared.event.Event.TheVariants.{LeaderUp, LeaderBytes, LeaderEnd, ClientUp, ClientBytes, ClientEnd, Expire, Checkpoint}
 use Rattle.observer_core.specs.declared.event.Output.{Output}
 use Rattle.observer_core.specs.declared.event.Output.TheVariants.{ToClient, CloseLeader, CloseClient}
-use Rattle.observer_core.specs.declared.answer.Answer.{Answer}
-use Rattle.observer_core.specs.declared.answer.Answer.TheVariants.{Reply, Silence, Close}
-use Rattle.observer_core.specs.Answer.{answer_to}
+use Rattle.observer_core.specs.declared.request.Call.{Call}
+use Rattle.observer_core.specs.declared.request.CallBody.{CallBody}
+use Rattle.observer_core.specs.declared.request.CallBody.TheVariants.{Read, Unreadable, Unanswered}
+use Rattle.observer_core.specs.declared.request.Request.{Request}
+use Rattle.observer_core.specs.declared.request.Request.TheVariants.{GetData}
+use Rattle.observer_core.specs.Machine.{Learner, Connection, Connections, World, Machine}
+use Rattle.observer_core.specs.Request.{call_in}
+use Rattle.observer_core.specs.Look.{Look, look, refusal, BAD_ARGUMENTS}
+use Rattle.observer_core.specs.Reply.{reply}
 
-pub record Happened : Type 0 where
+-- ---- steps
+
+-- what goes out on the way, and the state that is left
+pub record Happened (S : Type 0) : Type 0 where
   pub outputs : List Output
-  pub machine : Machine
+  pub after : S
 
 -- the outputs so far, before those of what happens then
-abbrev pub behind : List Output → Happened → Happened
-behind so_far h = record { outputs = so_far ++ h.outputs; machine = h.machine }
+abbrev pub behind : {S : Type 0} → List Output → Happened S → Happened S
+behind so_far h = record { outputs = so_far ++ h.outputs; after = h.after }
 
-abbrev pub quiet : Machine → Happened
-quiet m = record { outputs = []; machine = m }
+abbrev pub quiet : {S : Type 0} → S → Happened S
+quiet s = record { outputs = []; after = s }
 
--- ---- the leader
+-- a step for each thing, one behind the other; from where a state is at its end on, all is passed over
+abbrev pub happening : {S A : Type 0} → (S → Bool) → (S → A → Happened S) → S → List A → Happened S
+happening is_end step s [] = quiet s
+happening is_end step s (a ∷ others) =
+    if is_end s then quiet s else behind (step s a).outputs (happening is_end step (step s a).after others)
+
+-- ---- the leader's packets
 
 -- the bytes that a packet carries; null reads as empty
-abbrev pub carried : Option (List ℕ) → List ℕ
-carried None = []
-carried (Some bytes) = bytes
+abbrev pub carried_bytes : Option (List ℕ) → List ℕ
+carried_bytes None = []
+carried_bytes (Some bytes) = bytes
 
--- A transaction that is applied has a zxid above the last one. It is meant on the tree, and stands at the end of the log.
-abbrev pub applied : Replica → Txn → Result Replica Fault
-applied r t =
-    if int_lt r.learner.last_zxid t.header.zxid
-    then Ok (record {
-      learner = record r.learner { last_zxid = t.header.zxid; log = r.learner.log ++ t ∷ [] };
-      tree = (mean r.tree t).state;
-    })
+-- No connection watches a node yet, so that the triggers of a transaction put nothing out.
+abbrev pub fire : World → List Trigger → Happened World
+fire w triggers = quiet w
+
+-- the transaction is the last one of the log
+abbrev pub with_logged : Learner → Txn → Learner
+with_logged learner t = record learner { last_zxid = t.header.zxid; log = learner.log ++ t ∷ [] }
+
+-- a transaction was meant on the tree
+abbrev pub with_meant : World → Txn → Meant → World
+with_meant w t meant = record w { learner = with_logged w.learner t; tree = meant.state }
+
+-- A transaction that is applied has a zxid above the last one. What it triggers is told at once.
+abbrev pub apply : World → Txn → Result (Happened World) Fault
+apply w t =
+    if int_lt w.learner.last_zxid t.header.zxid
+    then Ok (fire (with_meant w t (mean w.tree t)) (mean w.tree t).triggers)
     else Err OutOfOrder
 
-abbrev pub informed : Replica → Result Txn Fault → Result Replica Fault
-informed r (Ok t) = applied r t
-informed r (Err e) = Err e
+abbrev pub inform : World → Result Txn Fault → Result (Happened World) Fault
+inform w (Ok t) = apply w t
+inform w (Err e) = Err e
 
--- an INFORM is a transaction to apply; another packet isn't read yet
-abbrev pub received_as : Option PacketKind → Replica → Option (List ℕ) → Result Replica Fault
-received_as (Some Inform) r bytes = informed r (whole txn (carried bytes))
-received_as kind r bytes = Ok r
+-- An INFORM is a transaction to apply. No other packet is read yet: it is passed over.
+abbrev pub receive_as : Option PacketKind → World → Option (List ℕ) → Result (Happened World) Fault
+receive_as None w bytes = Ok (quiet w)
+receive_as (Some kinds.Request) w bytes = Ok (quiet w)
+receive_as (Some kinds.Proposal) w bytes = Ok (quiet w)
+receive_as (Some kinds.Ack) w bytes = Ok (quiet w)
+receive_as (Some kinds.Commit) w bytes = Ok (quiet w)
+receive_as (Some kinds.Ping) w bytes = Ok (quiet w)
+receive_as (Some kinds.Revalidate) w bytes = Ok (quiet w)
+receive_as (Some kinds.Sync) w bytes = Ok (quiet w)
+receive_as (Some kinds.Inform) w bytes = inform w (whole txn (carried_bytes bytes))
+receive_as (Some kinds.NewLeader) w bytes = Ok (quiet w)
+receive_as (Some kinds.FollowerInfo) w bytes = Ok (quiet w)
+receive_as (Some kinds.UpToDate) w bytes = Ok (quiet w)
+receive_as (Some kinds.Diff) w bytes = Ok (quiet w)
+receive_as (Some kinds.Trunc) w bytes = Ok (quiet w)
+receive_as (Some kinds.Snap) w bytes = Ok (quiet w)
+receive_as (Some kinds.ObserverInfo) w bytes = Ok (quiet w)
+receive_as (Some kinds.LeaderInfo) w bytes = Ok (quiet w)
+receive_as (Some kinds.AckEpoch) w bytes = Ok (quiet w)
 
-abbrev pub received : Replica → QuorumPacket → Result Replica Fault
-received r p = received_as (kind_of p.kind) r p.bytes
+-- what a packet does, or the fault for which it is refused
+abbrev pub receive : World → QuorumPacket → Result (Happened World) Fault
+receive w p = receive_as (kind_of p.kind) w p.bytes
 
--- where the leader's stream stands, or the fault that ended it
-pub record Delivered : Type 0 where
-  pub replica : Replica
-  pub leader : Result (Place Phase) Fault
+-- the world, and the fault of the packet that was refused
+pub record Delivery : Type 0 where
+  pub world : World
+  pub fault : Option Fault
 
-abbrev pub ended : Place Phase → Unread → Result (Place Phase) Fault
-ended place (Ok bytes) = Ok place
-ended place (Err e) = Err e
+-- a packet that is refused changes nothing, and ends the stream
+abbrev pub deliver_as : Result (Happened World) Fault → World → Happened Delivery
+deliver_as (Ok h) w = record { outputs = h.outputs; after = record { world = h.after; fault = None } }
+deliver_as (Err e) w = quiet (record { world = w; fault = Some e })
 
-abbrev pub unless_refused : Result Replica Fault → Replica → (Replica → Delivered) → Delivered
-unless_refused (Ok next) r others = others next
-unless_refused (Err e) r others = record { replica = r; leader = Err e }
+abbrev pub deliver : Delivery → QuorumPacket → Happened Delivery
+deliver d p = deliver_as (receive d.world p) d.world
 
--- the packets in order; the first that is refused ends the stream and changes nothing
-abbrev pub deliver : List QuorumPacket → Place Phase → Replica → Delivered
-deliver [] left r = record { replica = r; leader = ended left left.unread }
-deliver (p ∷ ps) left r = unless_refused (received r p) r (deliver ps left)
+abbrev pub is_refused : Delivery → Bool
+is_refused d = is_some d.fault
 
-abbrev pub delivered : Items Phase QuorumPacket → Replica → Delivered
-delivered found r = deliver found.found found.left r
+abbrev pub deliver_all : World → List QuorumPacket → Happened Delivery
+deliver_all w ps = happening is_refused deliver (record { world = w; fault = None }) ps
 
--- the one connection of a client, by its number
-abbrev pub first : ℕ
-first = 1
+-- the place behind the packets, unless the stream has a fault there
+abbrev pub stand_at : Place Phase → Unread → Result (Place Phase) Fault
+stand_at place (Ok bytes) = Ok place
+stand_at place (Err e) = Err e
 
-abbrev pub closings : Option (List ℕ) → List Output
-closings None = []
-closings (Some rest) = CloseClient first ∷ []
+abbrev pub end_at : Place Phase → Option Fault → Result (Place Phase) Fault
+end_at place None = stand_at place place.unread
+end_at place (Some e) = Err e
 
--- A fault closes the leader, and then the open connection. The rest of the leader's bytes is dropped.
-abbrev pub after_leader : Machine → Replica → Result (Place Phase) Fault → Happened
-after_leader m r (Ok place) = quiet (record m { leader = Some place; replica = r })
-after_leader m r (Err e) = record { outputs = CloseLeader e ∷ closings m.client; machine = record m { leader = None; replica = r; client = None } }
+-- each open connection is closed, in the order of their numbers
+abbrev pub closings : Connections → List Output
+closings connections = map (λ n. CloseClient n) (finmap.keys connections)
 
-abbrev pub finished : Machine → Delivered → Happened
-finished m d = after_leader m d.replica d.leader
+-- A fault closes the leader, and then the open connections. The rest of the leader's bytes is dropped.
+abbrev pub leave_leader : World → Result (Place Phase) Fault → Happened Machine
+leave_leader w (Ok place) = quiet (record { leader = Some place; world = w })
+leave_leader w (Err e) = record {
+  outputs = CloseLeader e ∷ closings w.connections;
+  after = record { leader = None; world = record w { connections = finmap.empty } };
+}
 
 -- without a leader its bytes are passed over
-abbrev pub leader_bytes : Machine → Option (Place Phase) → List ℕ → Happened
-leader_bytes m None bytes = quiet m
-leader_bytes m (Some place) bytes = finished m (delivered (items packets (add place bytes)) m.replica)
+abbrev pub take_leader_bytes : Option (Place Phase) → World → List ℕ → Happened Machine
+take_leader_bytes None w bytes = quiet (record { leader = None; world = w })
+take_leader_bytes (Some place) w bytes =
+    let found = items packets (add place bytes) in
+    let h = deliver_all w found.found in
+    behind h.outputs (leave_leader h.after.world (end_at found.left h.after.fault))
 
--- ---- the client
+-- ---- a client's frames
 
--- what a connection is told, and the bytes that it has left; none where it is closed
-pub record Served : Type 0 where
-  pub outputs : List Output
-  pub rest : Option (List ℕ)
+abbrev pub close_client : ℕ → World → Happened World
+close_client n w = record { outputs = CloseClient n ∷ []; after = record w { connections = finmap.remove w.connections n } }
 
-abbrev pub closing : Served
-closing = record { outputs = CloseClient first ∷ []; rest = None }
+-- a reply that has no frame isn't sent, and closes
+abbrev pub send : ℕ → World → Option (List ℕ) → Happened World
+send n w None = close_client n w
+send n w (Some bytes) = record { outputs = ToClient n bytes ∷ []; after = w }
 
-abbrev pub told : List Output → Served → Served
-told outputs s = record { outputs = outputs ++ s.outputs; rest = s.rest }
+abbrev pub answer : ℕ → World → ℤ → Look → Happened World
+answer n w xid seen = send n w (reply xid w.learner.last_zxid seen)
 
--- bytes that wait for more; a length out of its bounds closes
-abbrev pub waits : Unread → Served
-waits (Ok bytes) = record { outputs = []; rest = Some bytes }
-waits (Err e) = closing
+-- A getData that sets a watch isn't answered yet: it is passed over.
+abbrev pub request : ℕ → World → ℤ → Request → Happened World
+request n w xid (GetData r) = if r.watch then quiet w else answer n w xid (look w.tree [] (GetData r))
 
--- what an answer sends
-abbrev pub sent : Answer → List Output
-sent (Reply bytes) = ToClient first bytes ∷ []
-sent Silence = []
-sent Close = CloseClient first ∷ []
+-- A request of another type isn't answered yet: it is passed over.
+abbrev pub call : ℕ → World → ℤ → CallBody → Happened World
+call n w xid (Read r) = request n w xid r
+call n w xid Unreadable = answer n w xid (refusal BAD_ARGUMENTS)
+call n w xid Unanswered = quiet w
 
--- whether the connection stays open
-abbrev pub stays : Answer → Bool
-stays Close = false
-stays a = true
+-- a frame without a whole header closes
+abbrev pub serve_as : ℕ → World → Result Call Fault → Happened World
+serve_as n w (Ok c) = call n w c.xid c.body
+serve_as n w (Err e) = close_client n w
 
--- the frames behind one that closes are passed over
-abbrev pub answered : Answer → Served → Served
-answered a others = if stays a then told (sent a) others else record { outputs = sent a; rest = None }
+-- a frame is answered at the state as it is
+abbrev pub serve : ℕ → World → List ℕ → Happened World
+serve n w frame = serve_as n w (call_in frame)
 
--- each frame is answered at the state as it is, one behind the other
-abbrev pub serve : State → ℤ → List (List ℕ) → Unread → Served
-serve s zxid [] left = waits left
-serve s zxid (f ∷ fs) left = answered (answer_to s zxid f) (serve s zxid fs left)
+abbrev pub is_closed : ℕ → World → Bool
+is_closed n w = not (finmap.contains_key w.connections n)
+
+-- the connection with these bytes waiting
+abbrev pub keep : ℕ → World → Connection → List ℕ → World
+keep n w connection rest = record w { connections = finmap.insert w.connections n (record connection { rest = rest }) }
+
+-- the bytes behind the frames wait for more; a length out of its bounds closes
+abbrev pub wait : ℕ → World → Connection → Unread → Happened World
+wait n w connection (Ok rest) = quiet (keep n w connection rest)
+wait n w connection (Err e) = close_client n w
+
+abbrev pub wait_if_open : ℕ → World → Option Connection → Unread → Happened World
+wait_if_open n w None left = quiet w
+wait_if_open n w (Some connection) left = wait n w connection left
 
 -- the most bytes of a client's frame
 abbrev pub client_frame_limit : ℕ
@@ -156,47 +211,59 @@ client_frame_limit = 1048575
 abbrev pub frames : Phased (Unit {0}) (List ℕ)
 frames = only (frame client_frame_limit)
 
-abbrev pub served : State → ℤ → Items (Unit {0}) (List ℕ) → Served
-served s zxid found = serve s zxid found.found found.left.unread
+-- all frames that were found, as long as the connection is open, and then what is left of its bytes
+abbrev pub serve_all : ℕ → World → Items (Unit {0}) (List ℕ) → Happened World
+serve_all n w found =
+    let h = happening (is_closed n) (serve n) w found.found in
+    behind h.outputs (wait_if_open n h.after (finmap.get h.after.connections n) found.left.unread)
 
--- the bytes of a closed connection are passed over
-abbrev pub client_bytes : Replica → Option (List ℕ) → List ℕ → Served
-client_bytes r None bytes = record { outputs = []; rest = None }
-client_bytes r (Some rest) bytes = served r.tree r.learner.last_zxid (items frames (place_at tt (rest ++ bytes)))
-
-abbrev pub after_client : Machine → Served → Happened
-after_client m s = record { outputs = s.outputs; machine = record m { client = s.rest } }
+-- the bytes of a connection that isn't open are passed over
+abbrev pub take_client_bytes : ℕ → World → Option Connection → List ℕ → Happened World
+take_client_bytes n w None bytes = quiet w
+take_client_bytes n w (Some connection) bytes =
+    serve_all n (keep n w connection []) (items frames (place_at tt (connection.rest ++ bytes)))
 
 -- ---- events
 
--- the bytes of another connection than the first are passed over
-abbrev pub happens : Machine → Event → Happened
-happens m (LeaderBytes bytes) = leader_bytes m m.leader bytes
-happens m (ClientBytes connection bytes) = if connection == first then after_client m (client_bytes m.replica m.client bytes) else quiet m
-happens m _ = quiet m
+abbrev pub at_client : Option (Place Phase) → Happened World → Happened Machine
+at_client leader h = record { outputs = h.outputs; after = record { leader = leader; world = h.after } }
 
-abbrev pub play : Machine → List Event → Happened
-play m [] = quiet m
-play m (e ∷ events) = behind (happens m e).outputs (play (happens m e).machine events)
+-- A leader's or a client's coming and going, the end of a session and a checkpoint are passed over yet.
+abbrev pub happen : Machine → Event → Happened Machine
+happen m LeaderUp = quiet m
+happen m (LeaderBytes bytes) = take_leader_bytes m.leader m.world bytes
+happen m LeaderEnd = quiet m
+happen m (ClientUp n) = quiet m
+happen m (ClientBytes n bytes) = at_client m.leader (take_client_bytes n m.world (finmap.get m.world.connections n) bytes)
+happen m (ClientEnd n) = quiet m
+happen m (Expire session) = quiet m
+happen m Checkpoint = quiet m
+
+abbrev pub play : Machine → List Event → Happened Machine
+play m events = happening (λ m. false) happen m events
 
 -- ---- the machines at the start
 
--- the fresh tree at zxid 0, which is the base too
-abbrev pub started_machine : Config → ℤ → ℤ → Option (Place Phase) → Option (List ℕ) → Machine
-started_machine config accepted current leader client = record {
-  config = config;
+-- the tree at zxid 0, which is the base too
+abbrev pub started_machine : Config → ℤ → ℤ → State → Option (Place Phase) → Connections → Machine
+started_machine config accepted current tree leader connections = record {
   leader = leader;
-  replica = record {
-    learner = record { accepted_epoch = accepted; current_epoch = current; last_zxid = pos 0; base = record { zxid = pos 0; tree = fresh }; log = [] };
-    tree = fresh;
+  world = record {
+    config = config;
+    learner = record { accepted_epoch = accepted; current_epoch = current; last_zxid = pos 0; base = record { zxid = pos 0; tree = tree }; log = [] };
+    tree = tree;
+    connections = connections;
   };
-  client = client;
 }
 
 -- the configured epochs, without a leader and without a client
 abbrev pub new_machine : Config → Machine
-new_machine config = started_machine config config.epochs.accepted config.epochs.current None None
+new_machine config = started_machine config config.epochs.accepted config.epochs.current fresh None finmap.empty
 
--- following a leader in epoch 1, with the first connection open
+-- the one connection of a machine that follows a leader from the start
+abbrev pub first_connection : Connections
+first_connection = finmap.insert finmap.empty 1 (record { rest = [] })
+
+-- following a leader in epoch 1, with connection 1 open
 abbrev pub primed_machine : Config → Machine
-primed_machine config = started_machine config (pos 1) (pos 1) (Some (place_at Packets [])) (Some [])
+primed_machine config = started_machine config (pos 1) (pos 1) fresh (Some (place_at Packets [])) first_connection

@@ -2,19 +2,25 @@
 
 ghost use Rattle.std.specs.Prelude.{◌≡◌, Some, IfOk};
 ghost use Rattle.observer_core.specs.Play.{started_machine, new_machine, primed_machine};
-ghost use Rattle.observer_core.specs.Meets.{Plays};
-ghost use Rattle.observer_core.specs.declared.machine.Machine.{Machine as TheMachine};
+ghost use Rattle.data_tree.specs.Meaning.{fresh};
+ghost use Rattle.observer_core.specs.Machine.{Machine as TheMachine};
+ghost use Rattle.observer_core.specs.Plays.{Plays};
 
 use crate::config::Config;
+use crate::connections::Connections;
 use crate::event::{Event, Output};
-use crate::machine::{Base, Learner, Log, Machine, Replica};
+use crate::learner::{Base, Learner, Log};
+use crate::machine::{Machine, World};
 use crate::run::run;
 use data_tree::Tree;
 use quorum_packet::PacketFeed;
 use std::alloc::Global;
 use std::marker::Model;
 use thiserror::Error;
-use values::{ByteQueue, NoMemory};
+use values::NoMemory;
+
+// The connection that is open from the start where a leader is followed from the start.
+const FIRST: u64 = 1;
 
 /// Why an engine stopped.
 #[derive(Clone, Copy, Debug, PartialEq, Eq, Error)]
@@ -35,13 +41,13 @@ pub struct Engine {
 
 impl Model for Engine {
     ghost use Rattle.std.specs.Prelude.{Option, Some, None, if◌then◌else◌};
-    ghost use Rattle.observer_core.specs.declared.machine.Machine.{Machine as TheMachine};
+    ghost use Rattle.std.specs.Coded.{coded_option};
+    ghost use Rattle.observer_core.specs.Machine.{Machine as TheMachine};
     ghost use Rattle.observer_core.specs.contracts.machine.Machine as contracts;
-    ghost use Rattle.std.specs.Coded.{codes};
 
     ghost Value = { Option TheMachine };
 
-    ghost coded = { Prim.hlevel (codes, contracts.the_row.coded) };
+    ghost coded = { coded_option contracts.the_row.coded };
 
     ghost view = { λ e. if e.closed then None else Some e.machine };
 }
@@ -52,14 +58,15 @@ fn started(
     config: Config,
     epochs: (i32, i32),
     leader: Option<PacketFeed>,
-    client: Option<ByteQueue>,
+    connections: Connections,
 ) -> Result<Engine, NoMemory>
-    ensures { IfOk result (λ e. e ≡ Some (started_machine config epochs.0 epochs.1 leader client)) }
+    ensures { IfOk result (λ e. e ≡ Some (started_machine config epochs.0 epochs.1 fresh leader connections)) }
 {
     let (accepted_epoch, current_epoch) = epochs;
+    let tree = Tree::fresh(alloc)?;
     let base = Base {
         zxid: 0,
-        tree: Tree::fresh(alloc)?,
+        tree: tree.copy()?,
     };
     let learner = Learner {
         accepted_epoch,
@@ -68,14 +75,14 @@ fn started(
         base,
         log: Log::new(alloc),
     };
-    let tree = Tree::fresh(alloc)?;
+    let world = World {
+        config,
+        learner,
+        tree,
+        connections,
+    };
     Ok(Engine {
-        machine: Machine {
-            config,
-            leader,
-            replica: Replica { learner, tree },
-            client,
-        },
+        machine: Machine { leader, world },
         closed: false,
     })
 }
@@ -86,7 +93,7 @@ impl Engine {
         ensures { IfOk result (λ e. e ≡ Some (new_machine config)) }
     {
         let epochs = (config.epochs.accepted(), config.epochs.current());
-        started(alloc, config, epochs, None, None)
+        started(alloc, config, epochs, None, Connections::new(alloc))
     }
 
     /// An observer that follows a leader in epoch 1, with connection 1 open.
@@ -94,22 +101,23 @@ impl Engine {
         ensures { IfOk result (λ e. e ≡ Some (primed_machine config)) }
     {
         let leader = PacketFeed::new(alloc);
-        let client = ByteQueue::new(alloc);
-        started(alloc, config, (1, 1), Some(leader), Some(client))
+        let mut connections = Connections::new(alloc);
+        connections.open(alloc, FIRST)?;
+        started(alloc, config, (1, 1), Some(leader), connections)
     }
 
     /// The data tree. Of a closed engine it is only to be dropped.
     pub fn tree(&self) -> &Tree
-        ensures { (m : TheMachine) → self.now ≡ Some m → result.now ≡ m.replica.tree }
+        ensures { (m : TheMachine) → self.now ≡ Some m → result.now ≡ m.world.tree }
     {
-        &self.machine.replica.tree
+        &self.machine.world.tree
     }
 
     /// How far the leader was followed. Of a closed engine it is only to be dropped.
     pub fn learner(&self) -> &Learner
-        ensures { (m : TheMachine) → self.now ≡ Some m → result.now ≡ m.replica.learner }
+        ensures { (m : TheMachine) → self.now ≡ Some m → result.now ≡ m.world.learner }
     {
-        &self.machine.replica.learner
+        &self.machine.world.learner
     }
 
     /// Lets the events happen, one after the other, and appends what goes out.

@@ -1,16 +1,16 @@
 //! Laws of Play.
 
 ghost use Rattle.std.specs.Prelude.{◌≡◌, List, ℕ, ◌∷◌, ◌++◌};
-ghost use Rattle.observer_core.specs.declared.machine.Machine.{Machine};
+ghost use Rattle.observer_core.specs.Machine.{Machine};
 ghost use Rattle.observer_core.specs.declared.event.Event.{Event};
 ghost use Rattle.observer_core.specs.declared.event.Event.TheVariants.{LeaderBytes, ClientBytes};
 ghost use Rattle.observer_core.specs.Play.{play, behind};
-ghost use Rattle.observer_core.specs.Logs.{LogsAreFollowed};
+ghost use Rattle.observer_core.specs.Logs.{LogsAreFollowed, RefusalsChangeNothing};
 ghost use Rattle.observer_core.specs.Rows.{WorkedRows};
 
 /// Two lists of events, one behind the other.
 pub fn plays_on()
-    ensures { (m : Machine) (a b : List Event) → play m (a ++ b) ≡ behind (play m a).outputs (play (play m a).machine b) }
+    ensures { (m : Machine) (a b : List Event) → play m (a ++ b) ≡ behind (play m a).outputs (play (play m a).after b) }
 {}
 
 /// A piece of the leader's bytes, or of a client's, may be cut in two.
@@ -19,9 +19,15 @@ pub fn cut_anywhere()
     ensures client { (m : Machine) (n : ℕ) (a b : List ℕ) (events : List Event) → play m (ClientBytes n (a ++ b) ∷ events) ≡ play m (ClientBytes n a ∷ ClientBytes n b ∷ events) }
 {}
 
-/// The tree is what the log makes of the base, at the start and after every list of events, faults among them.
+/// The tree is what the log makes of the base, the last zxid is the log's, and the log's zxids rise: at the start and after
+/// every list of events, faults among them.
 pub fn logs_are_followed()
     ensures { LogsAreFollowed }
+{}
+
+/// A packet that is refused leaves the world as the packets before it left it.
+pub fn refusals_change_nothing()
+    ensures { RefusalsChangeNothing }
 {}
 
 /// The definitions, computed on rows of bytes that were worked out by hand.

@@ -7,8 +7,8 @@ use Rattle.observer_core.specs.declared.engine.Stop.{Stop}
 use Rattle.observer_core.specs.declared.engine.Stop.TheVariants as stops
 use Rattle.observer_core.specs.declared.event.Event.{Event}
 use Rattle.observer_core.specs.declared.event.Output.{Output}
-use Rattle.observer_core.specs.declared.machine.Machine.{Machine}
-use Rattle.observer_core.specs.Meets.{Plays}
+use Rattle.observer_core.specs.Machine.{Machine}
+use Rattle.observer_core.specs.Plays.{Plays}
 use Rattle.observer_core.specs.Play.{play}
 use Rattle.values.specs.Gains.{Gains}
 use Rattle.values.proofs.Gaining.{gains_all}
@@ -27,7 +27,7 @@ appends_both (Some x) (Some y) (Some z) xs ys p q = q ∙ ap (λ l. l ++ ys) p �
 -- the outputs of an engine that was fed are the first of all
 first_at : (fed : Result (Unit {0}) Stop) (m : Machine) (events : List Event) (outputs : List Output) (after : Option Machine) → Plays fed (Some m) events [] outputs after → Gains [] (play m events).outputs outputs
 first_at (Ok u) m events outputs after p = gains_all [] _ _ p.0
-first_at (Err stops.NoMemory) m events outputs after p = record { front = outputs; rest = p.0.0; gained = refl; of = p.0.1 }
+first_at (Err stops.NoMemory) m events outputs after p = p.0
 first_at (Err stops.Closed) m events outputs after p = absurd p
 
 pub fed_first : (script : Script) (fed : Result (Unit {0}) Stop) (engine : Option Machine) (events : List Event) (old outputs : List Output) (after : Option Machine) → engine ≡ Some (machine_of script) → events ≡ map event_of script.events → old ≡ [] → Plays fed engine events old outputs after → Gains [] (happened script).outputs outputs
@@ -38,7 +38,7 @@ fed_first script fed engine events old outputs after is_engine are_events none p
     (subst (λ o. Plays fed engine events o outputs after) none p)))
 
 -- where no memory was refused they are all, and the machine is the one that is left
-pub fed_all : (script : Script) (u : Unit {0}) (engine : Option Machine) (events : List Event) (old outputs : List Output) (after : Option Machine) → engine ≡ Some (machine_of script) → events ≡ map event_of script.events → old ≡ [] → Plays (Ok u) engine events old outputs after → (outputs ≡ (happened script).outputs) × (after ≡ Some (happened script).machine)
+pub fed_all : (script : Script) (u : Unit {0}) (engine : Option Machine) (events : List Event) (old outputs : List Output) (after : Option Machine) → engine ≡ Some (machine_of script) → events ≡ map event_of script.events → old ≡ [] → Plays (Ok u) engine events old outputs after → (outputs ≡ (happened script).outputs) × (after ≡ Some (happened script).after)
 fed_all script u engine events old outputs after is_engine are_events none p =
     let all : Plays (Ok u) (Some (machine_of script)) (map event_of script.events) [] outputs after =
     subst (λ e. Plays (Ok u) e (map event_of script.events) [] outputs after) is_engine
@@ -60,9 +60,9 @@ first_of_first w f = record {
 }
 
 -- the lines of all outputs, and the end line
-pub all_printed : (script : Script) (a b c : Option (List ℕ)) (outputs : List Output) → outputs ≡ (happened script).outputs → Appends a b (flat_map output_line outputs) → Appends b c (end_line_of (happened script).machine) → Appends a c (printed (happened script))
+pub all_printed : (script : Script) (a b c : Option (List ℕ)) (outputs : List Output) → outputs ≡ (happened script).outputs → Appends a b (flat_map output_line outputs) → Appends b c (end_line_of (happened script).after) → Appends a c (printed (happened script))
 all_printed script a b c outputs are_all lines end =
-    appends_both a b c (flat_map output_line (happened script).outputs) (end_line_of (happened script).machine)
+    appends_both a b c (flat_map output_line (happened script).outputs) (end_line_of (happened script).after)
     (subst (λ o. Appends a b (flat_map output_line o)) are_all lines) end
 
 keeps_both : (a b c : Option (List ℕ)) → Keeps a b → Keeps b c → Keeps a c

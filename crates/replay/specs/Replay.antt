@@ -7,7 +7,7 @@ use Rattle.observer_core.specs.declared.config.Config.{Config}
 use Rattle.observer_core.specs.declared.event.Event.{Event}
 use Rattle.observer_core.specs.declared.event.Event.TheVariants as events
 use Rattle.observer_core.specs.declared.event.Output.{Output}
-use Rattle.observer_core.specs.declared.machine.Machine.{Machine}
+use Rattle.observer_core.specs.Machine.{Machine}
 use Rattle.observer_core.specs.Play.{Happened, play, new_machine, primed_machine}
 use Rattle.values.specs.Gains.{Gains}
 use Rattle.replay_script.specs.Script.{script_of}
@@ -43,15 +43,15 @@ abbrev pub machine_of : Script → Machine
 machine_of script = if script.primed then primed_machine (config_of script) else new_machine (config_of script)
 
 -- what happens when the script's events come to the observer that its settings set up
-abbrev pub happened : Script → Happened
+abbrev pub happened : Script → Happened Machine
 happened script = play (machine_of script) (map event_of script.events)
 
 abbrev pub end_line_of : Machine → List ℕ
-end_line_of m = end_line m.replica.learner.last_zxid (finmap.len m.replica.tree.nodes)
+end_line_of m = end_line m.world.learner.last_zxid (finmap.len m.world.tree.nodes)
 
 -- a line for each output, and the end line
-abbrev pub printed : Happened → List ℕ
-printed all = flat_map output_line all.outputs ++ end_line_of all.machine
+abbrev pub printed : Happened Machine → List ℕ
+printed all = flat_map output_line all.outputs ++ end_line_of all.after
 
 -- the lines of the first outputs were written
 pub record WritesFront (old new : Option (List ℕ)) (outputs : List Output) : Type 0 where

@@ -3,7 +3,7 @@
 ghost use Rattle.std.specs.Prelude.{◌≡◌, Some, Err, IfOk, IfSome, OnOk, map, if◌then◌else◌};
 ghost use Rattle.std.specs.List.{flat_map};
 ghost use Rattle.std.specs.Io.KnownBytes.{Appends};
-ghost use Rattle.observer_core.specs.declared.machine.Machine.{Machine as TheMachine};
+ghost use Rattle.observer_core.specs.Machine.{Machine as TheMachine};
 ghost use Rattle.observer_core.specs.Play.{primed_machine, new_machine};
 ghost use Rattle.replay.specs.Lines.{output_line};
 ghost use Rattle.replay.specs.Replay.{event_of, end_line_of, WritesFront, PrintsAll, PrintsFront, Ends, EndsWith};

@@ -1,9 +1,10 @@
-use Rattle.std.proofs.Common.{◌≡◌, suc, ◌∷◌, List, drop, ap, sym, ◌∙◌}
+use Rattle.std.proofs.Common.{suc, ◌∷◌, List, drop, ap, sym, ◌∙◌}
 use Rattle.std.proofs.lemmas.Result.{err_from_is_err_and}
 use Rattle.std.proofs.Math.Seq.{drop-cons}
 use Rattle.observer_core.specs.declared.event.Event.{Event}
-use Rattle.observer_core.specs.Play.{play, behind}
-use Rattle.observer_core.proofs.Meeting.{stops}
+use Rattle.observer_core.specs.Machine.{Machine}
+use Rattle.observer_core.specs.Play.{happen, play}
+use Rattle.observer_core.proofs.Steps.{stops_in_step}
 use Rattle.observer_core.proofs.run.run.Goals as goal
 
 pub returns-in_err-happen : goal.returns-in_err-happen
@@ -12,5 +13,6 @@ returns-in_err-happen c =
     let l = c.loop-event in
     let others = drop (suc l.event-index) c.args.events.now in
     let is = drop-cons c.args.events.now l.event-index c.event-item.result c.loop-event-test.true ∙ ap (λ (e : Event). e ∷ others) (sym c.event-item.is) in
-    rw p.1 (stops l.machine (drop l.event-index c.args.events.now) c.event-item.result others l.outputs.items c.happen.new.outputs.items
-    (behind c.args.outputs.now.items (play c.args.machine.now c.args.events.now)) is l.invariant c.in_err-happen.ensures)
+    rw p.1 (stops_in_step c.args.outputs.now.items (play c.args.machine.now c.args.events.now) l.outputs.items c.happen.new.outputs.items
+    (play l.machine (drop l.event-index c.args.events.now)) (happen l.machine c.event-item.result) (λ (m : Machine). play m others)
+    (ap (λ (es : List Event). play l.machine es) is) c.in_err-happen.ensures l.invariant)

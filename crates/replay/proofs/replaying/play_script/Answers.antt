@@ -20,7 +20,7 @@ returns-in-Ok-clause-ok g c =
     let are_events = c.as_slice-2.ensures.value ∙ c.in_ok-events.ensures ∙ ap (map event_of) c.as_slice.ensures in
     let all = fed_all c.args.script c.in-Ok.field-0 _ _ _ _ _ c.in_ok-engine.ensures are_events c.new-outputs.ensures.items c.in-Ok.ensures in
     let lines = subst (λ o. Appends (g.W.Write.contents c.args.writer.now) (g.W.Write.contents c.print_outputs.new.writer) (flat_map output_line o)) c.as_slice-3.ensures.value c.in_ok-print_outputs.ensures.ok in
-    on_ok_weaker c.print_end.result (λ ends. all_printed c.args.script _ _ _ c.feed_inline-fed.new.outputs.items all.0 lines (ends (happened c.args.script).machine all.1)) c.print_end.ensures.ok
+    on_ok_weaker c.print_end.result (λ ends. all_printed c.args.script _ _ _ c.feed_inline-fed.new.outputs.items all.0 lines (ends (happened c.args.script).after all.1)) c.print_end.ensures.ok
 
 pub returns-in-Ok-clause-no_memory : goal.returns-in-Ok-clause-no_memory
 returns-in-Ok-clause-no_memory g c =

@@ -1,0 +1,13 @@
+use Rattle.std.proofs.Common.{◌≡◌}
+use Rattle.jute.specs.Stream.{items}
+use Rattle.quorum_packet.specs.Packets.{packets}
+use Rattle.quorum_packet.specs.Feed.{unread_len}
+use Rattle.observer_core.specs.Inner.{arrive}
+use Rattle.observer_core.proofs.leader.drain.Given as goal
+
+-- what is left to deliver leads to what was to be delivered
+abbrev pub invariant-loop-packet : goal.invariant-loop-packet
+invariant-loop-packet l = arrive l.world (items packets l.feed) ≡ arrive l.fn.world (items packets l.fn.feed)
+
+abbrev pub decreases-loop-packet : goal.decreases-loop-packet
+decreases-loop-packet l = unread_len l.feed.unread

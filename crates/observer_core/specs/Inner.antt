@@ -1,0 +1,67 @@
+-- What the private functions answer and leave. No public contract cites this.
+use Rattle.std.specs.Prelude.{◌≡◌, ℕ, List, [], Result, Ok, Err, Option, Some, None, length, drop, ◌<◌, ◌≤◌}
+use Rattle.std.specs.FinMap as finmap
+use Rattle.std.specs.Borrow.{Bor}
+use Rattle.values.specs.Gains.{Gains}
+use Rattle.values.specs.declared.fault.Fault.{Fault}
+use Rattle.values.specs.declared.fault.NoMemory.{NoMemory}
+use Rattle.values.specs.declared.fault.ReadError.{ReadError}
+use Rattle.values.specs.declared.fault.ReadError.TheVariants as errors
+use Rattle.jute.specs.Stream.{Place, Items, place_at, items, before, nothing}
+use Rattle.quorum_packet.specs.declared.phase.Phase.{Phase}
+use Rattle.quorum_packet.specs.declared.packet.QuorumPacket.{QuorumPacket}
+use Rattle.observer_core.specs.declared.event.Output.{Output}
+use Rattle.observer_core.specs.Machine.{Connection, Connections, World}
+use Rattle.observer_core.specs.Play.{Happened, behind, quiet, deliver_all, end_at, closings, frames}
+
+-- All of it happened; or memory was refused, and a front of the outputs was put out.
+abbrev pub Meets : {S : Type 0} → Result (Unit {0}) NoMemory → List Output → Happened S → List Output → S → Type 0
+Meets (Ok u) old whole new after = behind old whole ≡ record { outputs = new; after = after }
+Meets (Err e) old whole new after = Gains old whole.outputs new
+
+-- A packet was taken, which puts nothing out; or it was refused, and nothing was changed.
+abbrev pub Receives : Result (Unit {0}) ReadError → Result (Happened World) Fault → World → World → Type 0
+Receives (Ok u) meant old new = meant ≡ Ok (quiet new)
+Receives (Err errors.NoMemory) meant old new = Unit {0}
+Receives (Err (errors.Fault e)) meant old new = (meant ≡ Err e) × (new ≡ old)
+
+-- what the packets that were found put out, the world behind them, and where the stream stands then
+pub record Arrival : Type 0 where
+  pub outputs : List Output
+  pub world : World
+  pub leader : Result (Place Phase) Fault
+
+abbrev pub arrive : World → Items Phase QuorumPacket → Arrival
+arrive w found =
+    let h = deliver_all w found.found in
+    record { outputs = h.outputs; world = h.after.world; leader = end_at found.left h.after.fault }
+
+-- The packets were delivered, which puts nothing out, and the stream goes on, or ended with a fault.
+abbrev pub Delivers : Result (Option Fault) NoMemory → Arrival → Place Phase → World → Type 0
+Delivers (Ok None) whole leader world = whole ≡ record { outputs = []; world = world; leader = Ok leader }
+Delivers (Ok (Some e)) whole leader world = whole ≡ record { outputs = []; world = world; leader = Err e }
+Delivers (Err e) whole leader world = Unit {0}
+
+-- The first frame, with how many bytes it takes; or that none is whole; or that its length is out of its bounds.
+abbrev pub FirstFrame : Result (Option (Bor (List ℕ) × ℕ)) Fault → List ℕ → Type 0
+FirstFrame (Ok (Some f)) bytes =
+    (items frames (place_at tt bytes) ≡ before f.0.now (items frames (place_at tt (drop f.1 bytes)))) × (0 < f.1) × (f.1 ≤ length bytes)
+FirstFrame (Ok None) bytes = items frames (place_at tt bytes) ≡ nothing (place_at tt bytes)
+FirstFrame (Err e) bytes = items frames (place_at tt bytes) ≡ nothing (record { phase = tt; unread = Err e })
+
+-- all connections are closed
+abbrev pub cleared : Connections → Happened Connections
+cleared connections = record { outputs = closings connections; after = finmap.empty }
+
+abbrev pub disconnected : World → Happened World
+disconnected w = record { outputs = closings w.connections; after = record w { connections = finmap.empty } }
+
+-- the bytes that wait at an open connection
+abbrev pub rest_at : Option Connection → Option (List ℕ)
+rest_at None = None
+rest_at (Some connection) = Some connection.rest
+
+-- an open connection has other bytes waiting, and a closed one none
+abbrev pub with_rest : Connections → ℕ → Option Connection → List ℕ → Connections
+with_rest connections n None rest = connections
+with_rest connections n (Some connection) rest = finmap.insert connections n (record connection { rest = rest })
