@@ -12,7 +12,7 @@ use Rattle.data_tree.specs.Meaning.Change.{Put}
 use Rattle.data_tree.specs.Making.{update_node, update_found}
 use Rattle.data_tree.specs.Inner.Children.{with_added_child, with_raised_stat, stat_after_create, added_child, without_added_child}
 use Rattle.data_tree.specs.declared.node.Node.{Node}
-use Rattle.data_tree.specs.declared.node.StatPersisted.{StatPersisted}
+use Rattle.jute.specs.declared.stat.StatPersisted.{StatPersisted}
 use Rattle.data_tree.specs.declared.added_child.AddedChild.TheVariants.{Taken, Added}
 use Rattle.data_tree.proofs.NodeUpdates.{insert_same, added_child_taken, undone}
 

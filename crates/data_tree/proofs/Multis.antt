@@ -8,7 +8,8 @@ use Rattle.txn_codec.specs.declared.txn.TxnHeader.{TxnHeader}
 use Rattle.txn_codec.specs.declared.txn.Operation.{Operation}
 use Rattle.txn_codec.specs.declared.txn.Operation.TheVariants as op
 use Rattle.data_tree.specs.State.{State}
-use Rattle.data_tree.specs.Meaning.{of_parts, of_operation, deletes, first_error, error_of, has_error, errors_of_failed, error_in_failed, answer_of, RUNTIME_INCONSISTENCY}
+use Rattle.jute.specs.declared.codes.TheConstants.{RUNTIME_INCONSISTENCY}
+use Rattle.data_tree.specs.Meaning.{of_parts, of_operation, deletes, first_error, error_of, has_error, errors_of_failed, error_in_failed, answer_of}
 use Rattle.data_tree.specs.Refused.{IsAfterFront}
 use Rattle.data_tree.specs.declared.outcome.Trigger.{Trigger}
 use Rattle.data_tree.specs.declared.outcome.Outcome.{Outcome}

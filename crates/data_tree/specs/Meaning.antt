@@ -8,6 +8,8 @@ use Rattle.std.specs.FinMap as finmap
 use Rattle.std.specs.FinSet as set
 use Rattle.ephemerals.specs.Orders.{Bytes, Names, in_order}
 use Rattle.ephemerals.specs.Pairs.{paths_of, without_session}
+use Rattle.jute.specs.Codes.{open_acl}
+use Rattle.jute.specs.declared.codes.TheConstants.{NO_NODE, NODE_EXISTS, RUNTIME_INCONSISTENCY}
 use Rattle.jute.specs.declared.owned.Acl.{Acl}
 use Rattle.txn_codec.specs.Paths.{parent_of, name_of}
 use Rattle.txn_codec.specs.declared.txn.TxnHeader.{TxnHeader}
@@ -24,16 +26,6 @@ use Rattle.data_tree.specs.declared.node.Node.{Node}
 use Rattle.data_tree.specs.declared.outcome.Outcome.{Outcome}
 use Rattle.data_tree.specs.declared.outcome.Trigger.{Trigger}
 use Rattle.data_tree.specs.declared.outcome.Trigger.TheVariants.{Created, Deleted, DataChanged, ChildrenChanged}
-
-abbrev pub NO_NODE : ℤ
-NO_NODE = negsuc 100
-
-abbrev pub NODE_EXISTS : ℤ
-NODE_EXISTS = negsuc 109
-
--- the error of a part that stands after the first error part
-abbrev pub RUNTIME_INCONSISTENCY : ℤ
-RUNTIME_INCONSISTENCY = negsuc 1
 
 -- one change of one cell
 pub data Change : Type 0 where
@@ -64,10 +56,6 @@ pub record Effect : Type 0 where
 
 abbrev pub no_change : ℤ → Effect
 no_change error = record { err = error; changes = []; triggers = [] }
-
--- everyone may do everything
-abbrev pub open_acl : List Acl
-open_acl = record { perms = pos 31; id = record { scheme = codes "world"; id = codes "anyone" } } ∷ []
 
 -- null stands for the open list
 abbrev pub acl_or_open : Option (List Acl) → List Acl

@@ -5,7 +5,7 @@ use Rattle.std.specs.FinSet as set
 use Rattle.jute.specs.declared.stat.Stat.{Stat}
 use Rattle.ephemerals.specs.Orders.{Names}
 use Rattle.data_tree.specs.declared.node.Node.{Node}
-use Rattle.data_tree.specs.declared.node.StatPersisted.{StatPersisted}
+use Rattle.jute.specs.declared.stat.StatPersisted.{StatPersisted}
 
 -- a count as a Java int
 abbrev pub java_int : ℕ → ℤ

@@ -1,6 +1,6 @@
 //! What became of a new child's name.
 
-use crate::node::StatPersisted;
+use jute::StatPersisted;
 
 /// What became of a name that was to be added to a parent.
 #[derive(Drop)]

@@ -24,7 +24,7 @@ mod outcome;
 mod sessions;
 mod tree;
 
-pub use node::{Node, StatPersisted};
+pub use node::Node;
 pub use outcome::{Outcome, Trigger};
 pub use sessions::Timeouts;
 pub use tree::Tree;

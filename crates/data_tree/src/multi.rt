@@ -4,12 +4,10 @@ ghost use Rattle.std.specs.Prelude.{◌≡◌, IfOk};
 ghost use Rattle.data_tree.specs.Meaning.{first_error, error_of, has_error, errors_of_failed, failed_outcome};
 
 use crate::outcome::Outcome;
+use jute::codes::RUNTIME_INCONSISTENCY;
 use std::alloc::Global;
 use txn_codec::Operation;
 use values::{Listed, NoMemory};
-
-// The error of a part that stands after the first error part.
-const RUNTIME_INCONSISTENCY: i32 = -2;
 
 /// The first error that isn't 0, if any, and else 0.
 pub fn first_error(errors: &[i32]) -> i32

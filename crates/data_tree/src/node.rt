@@ -3,37 +3,15 @@
 ghost use Rattle.std.specs.Prelude.{◌≡◌, OnOk, OnErr, IfOk, not, int_lt, if◌then◌else◌, string_bytes};
 ghost use Rattle.std.specs.FinSet as set;
 ghost use Rattle.data_tree.specs.Inner.Children.{with_added_child, stat_after_create};
-ghost use Rattle.data_tree.specs.Meaning.{new_node, owner_of, next_cversion, acl_or_open, open_acl, with_data, with_acl, first_node};
+ghost use Rattle.data_tree.specs.Meaning.{new_node, owner_of, next_cversion, acl_or_open, with_data, with_acl, first_node};
 ghost use Rattle.data_tree.specs.Stats.{shown, shown_stat, java_int, length_of, shown_cversion};
 
 use ephemerals::TextSet;
-use jute::{Acl, Id, Stat};
+use jute::codes::open_list;
+use jute::{Acl, Stat, StatPersisted};
 use std::alloc::{AllocError, Global};
 use txn_codec::{Create, SetAcl, SetData, TxnHeader};
-use values::{Blob, Listed, NoMemory, Text};
-
-/// The numbers of a node that are kept (StatPersisted of zookeeper.jute).
-#[derive(Clone, Copy, Debug)]
-pub struct StatPersisted {
-    /// The zxid of the node's creation.
-    pub czxid: i64,
-    /// The zxid of the last change of the node's bytes.
-    pub mzxid: i64,
-    /// When the node was created, in milliseconds since 1970.
-    pub ctime: i64,
-    /// When the node's bytes were last changed, in milliseconds since 1970.
-    pub mtime: i64,
-    /// How often the node's bytes were changed.
-    pub version: i32,
-    /// How often a child was created.
-    pub cversion: i32,
-    /// How often the node's ACL was changed.
-    pub aversion: i32,
-    /// The session that owns an ephemeral node, and 0 for any other.
-    pub ephemeral_owner: i64,
-    /// The zxid of the last change of the node's children.
-    pub pzxid: i64,
-}
+use values::{Blob, Listed, NoMemory};
 
 /// A node: its bytes, or null; who may do what; its numbers; the names of its children.
 #[derive(Drop)]
@@ -104,27 +82,12 @@ pub(crate) fn owner(header: &TxnHeader, ephemeral: bool) -> i64
     if ephemeral { header.client_id } else { 0 }
 }
 
-// The list that grants everyone everything.
-fn open_acl(alloc: Global) -> Result<Listed<Acl>, NoMemory>
-    ensures { IfOk result (λ acl. acl ≡ open_acl) }
-{
-    let mut list = Vec::new(alloc);
-    list.push(Acl {
-        perms: 31,
-        id: Id {
-            scheme: Text::new(alloc, "world")?,
-            id: Text::new(alloc, "anyone")?,
-        },
-    })?;
-    Ok(Listed::from_vec(list))
-}
-
 // A copy of the list, or the open one for null.
 fn acl_or_open(alloc: Global, acl: &Option<Listed<Acl>>) -> Result<Listed<Acl>, NoMemory>
     ensures { IfOk result (λ list. list ≡ acl_or_open acl.now) }
 {
     match acl {
-        None => open_acl(alloc),
+        None => open_list(alloc),
         Some(list) => Ok(list.clone()?),
     }
 }
@@ -194,7 +157,7 @@ fn first_node(alloc: Global, children: TextSet) -> Result<Node, NoMemory>
 {
     Ok(Node {
         bytes: Some(Blob::new(alloc, &[])?),
-        acl: open_acl(alloc)?,
+        acl: open_list(alloc)?,
         stat: zero_stat(),
         children,
     })

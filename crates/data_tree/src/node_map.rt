@@ -14,8 +14,9 @@ ghost use Rattle.data_tree.specs.Whole.{has_node, has_parent, AreLinked, AreOwne
 ghost use Rattle.data_tree.specs.Inner.Children.{HasItsChildren};
 
 use crate::added_child::AddedChild;
-use crate::node::{Node, StatPersisted, stat_after_delete};
+use crate::node::{Node, stat_after_delete};
 use ephemerals::{Ephemerals, TextSet};
+use jute::StatPersisted;
 use std::alloc::{AllocError, Global};
 use std::collections::BTreeMap;
 use std::marker::Model;

@@ -20,16 +20,13 @@ use crate::outcome::{Outcome, Trigger, fire_created, fire_data_changed, fire_del
 use crate::sessions::Timeouts;
 use ephemerals::{Ephemerals, TextSet};
 use jute::Stat;
+use jute::codes::{NO_NODE, NODE_EXISTS};
 use std::alloc::Global;
 use std::marker::Model;
 use txn_codec::{
     Body, Create, Operation, Path, SetAcl, SetData, Txn, TxnHeader, name_of, parent_of,
 };
 use values::{Listed, NoMemory};
-
-const NO_NODE: i32 = -101;
-
-const NODE_EXISTS: i32 = -110;
 
 /// The nodes, the sessions' ephemerals, and the sessions' timeouts.
 #[derive(Drop)]

@@ -1,7 +1,7 @@
 //! A leader and a client that know what they say, and the engine that they say it to.
 
 ghost use Rattle.std.specs.Prelude.{◌≤◌, length};
-ghost use Rattle.txn_codec.specs.Writable.{IsWritableBody};
+ghost use Rattle.txn_codec.specs.Spelling.{body as body_format};
 
 use crate::choice::Choice;
 use crate::messages::{
@@ -74,7 +74,7 @@ impl Load {
 
     // The leader tells of a transaction.
     fn tell(&mut self, alloc: Global, body: Body) -> Result<()>
-        requires { IsWritableBody body }
+        requires { body_format.Writable body }
     {
         let zxid = self.zxid.checked_add(1).context("no zxid is left")?;
         let header = TxnHeader {

@@ -1,26 +1,21 @@
 //! The bytes of a leader's messages and of a client's requests.
 
 ghost use Rattle.std.specs.Prelude.{◌≤◌, length, IfOk};
-ghost use Rattle.txn_codec.specs.Writable.{IsWritableAcls, IsWritableBody};
+ghost use Rattle.txn_codec.specs.Spelling.{body as body_format};
 
 use anyhow::{Result, ensure};
-use jute::{Acl, GetDataRequest, Id, RequestHeader, WriteRecord, put_bytes};
+use jute::codes::{GET_DATA, open_list};
+use jute::{GetDataRequest, RequestHeader, WriteRecord, put_bytes};
 use quorum_packet::{PacketKind, QuorumPacket, write_packet};
 use std::alloc::Global;
 use txn_codec::{Body, Create, Operation, Path, SetData, Txn, encode_txn};
-use values::{Blob, Listed, NoMemory, Str, Text};
+use values::{Blob, NoMemory, Str};
 
 /// The most bytes of a path here.
 pub const PATH_LIMIT: usize = 64;
 
 // The most bytes of a transaction or a request that a message carries here.
 const CARRIED_LIMIT: usize = 1024;
-
-// The operation getData.
-const GET_DATA: i32 = 4;
-
-// All permissions.
-const ALL: i32 = 31;
 
 // What each node holds.
 const CONTENT: &[u8; 16] = b"0123456789abcdef";
@@ -49,32 +44,17 @@ pub fn child_path(alloc: Global, parent: u32, child: u32) -> Result<Path>
     short_path(alloc, text.as_str())
 }
 
-// Everyone may do anything.
-fn open_list(alloc: Global) -> Result<Option<Listed<Acl>>, NoMemory>
-    ensures { IfOk result IsWritableAcls }
-{
-    let scheme = Text::new(alloc, "world")?;
-    let id = Text::new(alloc, "anyone")?;
-    let entry = Acl {
-        perms: ALL,
-        id: Id { scheme, id },
-    };
-    let mut entries = Vec::new(alloc);
-    entries.push(entry)?;
-    Ok(Some(Listed::from_vec(entries)))
-}
-
 /// A node is made that everyone may change.
 pub fn create(alloc: Global, path: Path) -> Result<Body, NoMemory>
     requires { length path ≤ PATH_LIMIT }
-    ensures { IfOk result IsWritableBody }
+    ensures { IfOk result body_format.Writable }
 {
     let bytes = Blob::new(alloc, CONTENT)?;
     let acl = open_list(alloc)?;
     Ok(Body::Single(Operation::Create(Create {
         path,
         bytes: Some(bytes),
-        acl,
+        acl: Some(acl),
         ephemeral: false,
         parent_cversion: -1,
     })))
@@ -83,7 +63,7 @@ pub fn create(alloc: Global, path: Path) -> Result<Body, NoMemory>
 /// A node's data is replaced.
 pub fn set_data(alloc: Global, path: Path) -> Result<Body, NoMemory>
     requires { length path ≤ PATH_LIMIT }
-    ensures { IfOk result IsWritableBody }
+    ensures { IfOk result body_format.Writable }
 {
     let bytes = Blob::new(alloc, CONTENT)?;
     Ok(Body::Single(Operation::SetData(SetData {
@@ -95,7 +75,7 @@ pub fn set_data(alloc: Global, path: Path) -> Result<Body, NoMemory>
 
 /// Writes the packet by which a leader tells of a transaction. An error may leave a front of the packet.
 pub fn write_inform(alloc: Global, txn: &Txn, out: &mut Vec<u8>) -> Result<()>
-    requires { IsWritableBody txn.now.body }
+    requires { body_format.Writable txn.now.body }
 {
     let mut bytes = Vec::new(alloc);
     encode_txn(txn, &mut bytes)?;

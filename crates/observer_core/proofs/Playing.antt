@@ -7,7 +7,7 @@ use Rattle.std.specs.FinMap as finmap
 use mathlib.Core.Bool.{true≢false}
 use Rattle.values.specs.declared.fault.Fault.{Fault}
 use Rattle.jute.specs.Stream.{Unread, Place, Items, items, add, place_at}
-use Rattle.jute.proofs.Streaming.{comes_in_pieces}
+use Rattle.jute.proofs.Public.{comes_in_pieces}
 use Rattle.quorum_packet.specs.declared.packet.QuorumPacket.{QuorumPacket}
 use Rattle.quorum_packet.specs.declared.phase.Phase.{Phase}
 use Rattle.quorum_packet.specs.Packets.{packets}

@@ -1,9 +1,10 @@
 -- How long a reply is.
-use Rattle.std.proofs.Common.{◌≡◌, ℕ, ◌+◌, ◌<◌, ◌^◌, List, length, Option, Some, None, refl, ap, ◌∙◌, arith}
-use Rattle.std.specs.Prelude.{ℤ}
+use Rattle.std.proofs.Common.{◌≡◌, ℕ, ◌+◌, ◌<◌, ◌^◌, ◌++◌, List, length, Option, Some, None, Result, Ok, Err, refl, ap, ◌∙◌, arith, rules}
+use Rattle.std.specs.Prelude.{ℤ, OnOk}
+use Rattle.values.specs.Gains.{Puts}
 use Rattle.std.proofs.lemmas.List.{length-append, append-nil}
-use Rattle.jute.specs.Format.{number_bytes}
-use Rattle.jute.specs.Records.{stat, reply_header, get_data_response, IsWritableBuffer}
+use Rattle.jute.specs.Format.{number_bytes, buffer}
+use Rattle.jute.specs.Records.{stat, reply_header, get_data_response}
 use Rattle.jute.specs.declared.stat.Stat.{Stat}
 use Rattle.jute.specs.declared.message.GetDataResponse.{GetDataResponse}
 use Rattle.data_tree.specs.Stats.{length_of}
@@ -30,9 +31,19 @@ pub refused_length : (xid zxid error : ℤ) → length (reply_text xid zxid (loo
 refused_length xid zxid error = ap length (append-nil (header_text xid zxid error)) ∙ header_length xid zxid error
 
 -- what fits a frame has a length that fits an int
-pub writable : (xid zxid error : ℤ) (r : GetDataResponse) → length (reply_text xid zxid (look_of error (Some r))) < 2 ^ 31 → IsWritableBuffer r.bytes
+pub writable : (xid zxid error : ℤ) (r : GetDataResponse) → length (reply_text xid zxid (look_of error (Some r))) < 2 ^ 31 → buffer.Writable r.bytes
 writable xid zxid error r h = by r.bytes (omega (arith, h, shown_length xid zxid error r))
   where
-    by : (bytes : Option (List ℕ)) → length_of bytes < 2 ^ 31 → IsWritableBuffer bytes
+    by : (bytes : Option (List ℕ)) → length_of bytes < 2 ^ 31 → buffer.Writable bytes
     by None lt = tt
     by (Some bytes) lt = lt
+
+-- what is written is a response, too
+pub writable_response : (r : GetDataResponse) → buffer.Writable r.bytes → get_data_response.Writable r
+unfolding get_data_response stat
+writable_response r h = (h, search rules)
+
+-- what follows where all was put
+pub put_all : {U E P : Type 0} {old items new : List ℕ} (r : Result U E) → (new ≡ old ++ items → P) → Puts r old items new → OnOk r P
+put_all (Ok u) f p = f p
+put_all (Err e) f p = tt

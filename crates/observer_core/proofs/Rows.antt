@@ -12,7 +12,8 @@ use Rattle.std.proofs.lemmas.Str.{is_utf8-from_IsUtf8}
 use Rattle.std.specs.Ordering.{nat_cmp}
 use Rattle.values.specs.declared.fault.Fault.{Fault}
 use Rattle.values.specs.declared.fault.Fault.TheVariants.{OutOfOrder}
-use Rattle.jute.specs.Format.{length_at, buffer_at, vector_at, text_at, times, number_bytes}
+use Rattle.jute.specs.Format.{judged_at, buffer_at, vector_at, times, number_bytes}
+use Rattle.jute.specs.Codes.{open_acl}
 use Rattle.jute.specs.Frame.{frame_at}
 use Rattle.jute.specs.Owned.{id, acl}
 use Rattle.jute.specs.Records.{stat, request_header, reply_header, get_data_request, get_data_response}
@@ -31,7 +32,7 @@ use Rattle.txn_codec.specs.declared.txn.Body.TheVariants as bodies
 use Rattle.txn_codec.specs.declared.txn.Txn.{Txn}
 use Rattle.txn_codec.specs.Spelling.{txn, whole}
 use Rattle.data_tree.specs.State.{State}
-use Rattle.data_tree.specs.Meaning.{mean, fresh, first_node, open_acl, after_changes, create_new, create_taken, create_under, set_data_at, of_effect, new_node, with_data}
+use Rattle.data_tree.specs.Meaning.{mean, fresh, first_node, after_changes, create_new, create_taken, create_under, set_data_at, of_effect, new_node, with_data}
 use Rattle.data_tree.specs.Stats.{shown_stat, java_int, length_of}
 use Rattle.data_tree.specs.declared.node.Node.{Node}
 use Rattle.observer_core.specs.declared.config.Config.{Config}
@@ -138,11 +139,11 @@ abbrev one_packet : QuorumPacket → Items Phase QuorumPacket
 one_packet p = record { found = p ∷ []; left = place_at Packets [] }
 
 create_found : items packets (place_at Packets inform_of_create) ≡ one_packet (packet_of (pos 4294967297) (txn.written create_txn))
-unfolding items_within packet kind_of length_at buffer_at vector_at times number_bytes acl id
+unfolding items_within packet kind_of judged_at buffer_at vector_at times number_bytes acl id
 create_found = refl
 
 set_found : items packets (place_at Packets inform_of_set_data) ≡ one_packet (packet_of (pos 4294967298) (txn.written set_txn))
-unfolding items_within packet kind_of length_at buffer_at vector_at times number_bytes
+unfolding items_within packet kind_of judged_at buffer_at vector_at times number_bytes
 set_found = refl
 
 -- ---- the client's frames
@@ -157,11 +158,11 @@ abbrev get_body : List ℕ
 get_body = 0 ∷ 0 ∷ 0 ∷ 2 ∷ 47 ∷ 97 ∷ 0 ∷ []
 
 get_found : items frames (place_at tt (get_front ++ get_back)) ≡ one_frame get_frame
-unfolding items_within frame_at
+unfolding items_within frame_at judged_at
 get_found = refl
 
 get_waits : items frames (place_at tt get_front) ≡ (record { found = []; left = place_at tt get_front })
-unfolding items_within frame_at
+unfolding items_within frame_at judged_at
 get_waits = refl
 
 header_read : request_header.read get_frame ≡ Ok (record { xid = pos 1; kind = pos 4 }, get_body)
@@ -169,7 +170,7 @@ unfolding request_header
 header_read = refl
 
 body_read : get_data_request.read get_body ≡ Ok (record { path = Some (codes "/a"); watch = false }, [])
-unfolding get_data_request text_at buffer_at length_at
+unfolding get_data_request judged_at buffer_at
 body_read = rw (is_utf8-from_IsUtf8 (codes "/a") path_is_text)
 
 -- the reply of a node, by how many children it has

@@ -10,13 +10,12 @@ use Rattle.values.specs.declared.fault.Fault.TheVariants.{Short}
 use Rattle.jute.specs.Frame.{frame}
 use Rattle.jute.specs.Laws.{IsBytes}
 use Rattle.jute.specs.Stream.{items, place_at, before, nothing, Items, Unread}
-use Rattle.jute.proofs.Frames.{frame_lawful}
-use Rattle.jute.proofs.Streaming.{items_whole, items_short, items_refused, shorter_rest, refused_other}
+use Rattle.jute.proofs.Public.{items_whole, items_short, items_refused, shorter_rest, refused_other}
 use Rattle.observer_core.specs.Machine.{Connection, World}
 use Rattle.observer_core.specs.Play.{Happened, behind, quiet, happening, close_client, serve, serve_all, is_closed, wait_if_open, take_client_bytes, frames, client_frame_limit}
 use Rattle.observer_core.specs.Inner.{rest_at, with_rest}
 use Rattle.observer_core.proofs.Steps.{behind_behind, passed_over, goes_on}
-use Rattle.observer_core.proofs.Streams.{frames_streamed}
+use Rattle.observer_core.proofs.Streams.{client_frame_sound, frames_streamed}
 
 -- ---- frames
 
@@ -31,7 +30,7 @@ behind_text bytes text rest e =
 pub frame_whole : (bytes rest f : List ℕ) → IsBytes bytes → (frame client_frame_limit).read bytes ≡ Ok (f, rest)
     → (items frames (place_at tt bytes) ≡ before f (items frames (place_at tt (drop (length bytes - length rest) bytes)))) × (0 < length bytes - length rest) × (length bytes - length rest ≤ length bytes)
 frame_whole bytes rest f fits e =
-    let t = (frame_lawful client_frame_limit (omega arith)).takes bytes f rest fits e in (
+    let t = client_frame_sound.lawful.takes bytes f rest fits e in (
       items_whole frames frames_streamed tt bytes rest f e ∙ ap (λ (b : List ℕ). before f (items frames (place_at tt b))) (sym (behind_text bytes t.text rest t.parts)),
       omega (arith, shorter bytes rest f e),
       omega arith,

@@ -1,9 +1,13 @@
 -- The frames of a client may be read in pieces.
+use Rattle.std.proofs.Common.{arith}
+use Rattle.jute.specs.Laws.{Sound}
 use Rattle.jute.specs.Frame.{frame}
 use Rattle.jute.specs.Stream.{IsStream}
-use Rattle.jute.proofs.Frames.{frame_pieced, frame_eats}
-use Rattle.jute.proofs.Streaming.{only_streamed}
+use Rattle.jute.proofs.Public.{frame_sound, only_streamed}
 use Rattle.observer_core.specs.Play.{frames, client_frame_limit}
 
+pub client_frame_sound : Sound (frame client_frame_limit)
+client_frame_sound = frame_sound client_frame_limit (omega arith)
+
 pub frames_streamed : IsStream frames
-frames_streamed = only_streamed (frame client_frame_limit) (record { pieced = frame_pieced client_frame_limit; some = frame_eats client_frame_limit })
+frames_streamed = only_streamed (frame client_frame_limit) (record { pieced = client_frame_sound.pieced; some = client_frame_sound.some })

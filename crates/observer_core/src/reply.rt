@@ -34,6 +34,7 @@ fn reply_len(look: &Look<'_>) -> usize
 }
 
 // A header, and the body behind it.
+#[tactic(auto, unfolding(jute::specs::Records::reply_header))]
 fn put_reply(out: &mut Vec<u8>, xid: i32, zxid: i64, look: &Look<'_>) -> Result<(), NoMemory>
     requires { length (reply_text xid zxid look.now) < 2 ^ 31 }
     ensures { OnOk result (out.new.items ≡ out.old.items ++ reply_text xid zxid look.now) }

@@ -1,7 +1,8 @@
 //! Trees that are made node by node, and copied.
 
 use crate::path_of;
-use data_tree::{Node, StatPersisted, Tree};
+use data_tree::{Node, Tree};
+use jute::StatPersisted;
 use ephemerals::TextSet;
 use std::alloc::Global;
 use std::test::Fail;

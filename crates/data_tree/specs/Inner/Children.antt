@@ -10,7 +10,7 @@ use Rattle.data_tree.specs.Nodes.{Nodes}
 use Rattle.data_tree.specs.Meaning.{next_cversion}
 use Rattle.data_tree.specs.Whole.{has_node}
 use Rattle.data_tree.specs.declared.node.Node.{Node}
-use Rattle.data_tree.specs.declared.node.StatPersisted.{StatPersisted}
+use Rattle.jute.specs.declared.stat.StatPersisted.{StatPersisted}
 use Rattle.data_tree.specs.declared.added_child.AddedChild.{AddedChild}
 use Rattle.data_tree.specs.declared.added_child.AddedChild.TheVariants.{NoParent, Taken, Added}
 

@@ -2,7 +2,7 @@ use Rattle.std.proofs.Common.{◌≡◌, true, ap, sym, ◌∙◌, string_bytes,
 use Rattle.std.specs.FinSet as set
 use Rattle.std.proofs.lemmas.Map.Lookups.{exact_bytes}
 use Rattle.data_tree.specs.declared.node.Node.{Node}
-use Rattle.data_tree.specs.declared.node.StatPersisted.{StatPersisted}
+use Rattle.jute.specs.declared.stat.StatPersisted.{StatPersisted}
 use Rattle.ephemerals.proofs.Totals.{path_total}
 use Rattle.std.proofs.lemmas.Bool.{not-false}
 use Rattle.ephemerals.proofs.SetSteps.{insert-present}
