@@ -1,4 +1,13 @@
 //! The observer as a machine: events in, outputs out.
+//!
+//! An [`Engine`] is fed lists of [`Event`]s and appends what they cause as [`Output`]s. What that is, says specs/Play: it
+//! speaks of a machine (specs/Machine), which is a leader's stream and a world, and of steps. A packet is a step of the
+//! world, a frame of a client is one, and an event makes all that came whole with it. A packet may be refused; then the
+//! leader and all clients are closed, and nothing else changes. A read is a look at the tree (specs/Look), sent as a
+//! frame (specs/Reply). specs/Plays says what `feed_inline` answers, with want of memory in it.
+//!
+//! `leader` and `client` carry the two kinds of steps out, `run` the events. What their private functions promise each
+//! other stands in specs/Inner, and nobody outside needs it.
 #![tactic(auto)]
 
 mod client;
