@@ -1,10 +1,11 @@
 //! Transactions. A row tells its name, the bytes, and what is expected of them; bytes are hexadecimal.
 
 use crate::rows::{bytes_of, row_of};
+use jute::{ReadRecord, Reader, WriteRecord};
 use std::alloc::Global;
 use std::test::Fail;
 use txn_codec::{Body, Create, Operation, Txn, TxnHeader, TxnKind, decode_txn, encode_txn};
-use values::{Fault, NoMemory, ReadError};
+use values::Fault;
 
 // Session 7, its request 1, zxid 0x100000001, at 1000.
 const HEADER: &str = "00000000 00000007 00000001 00000001 00000001 00000000 000003e8";
@@ -107,6 +108,23 @@ fn first_fault_is_named(rt: HostRuntime) -> Result<(), Fail> {
 fn create_txn(alloc: Global) -> Result<Txn, Fail> {
     let body = bytes_of(alloc, CREATE)?;
     Ok(decode_txn(alloc, &behind_header(alloc, &body)?)?)
+}
+
+// What is written of the header that stands at the front.
+fn header_written_again(alloc: Global, bytes: &[u8]) -> Result<Vec<u8>, Fail> {
+    let mut reader = Reader::new(bytes);
+    let header = TxnHeader::read(alloc, &mut reader)?;
+    let mut out = Vec::new(alloc);
+    header.write(&mut out)?;
+    Ok(out)
+}
+
+#[test]
+fn header_is_read_and_written(rt: HostRuntime) -> Result<(), Fail> {
+    let bytes = bytes_of(rt.alloc(), HEADER)?;
+    let written = header_written_again(rt.alloc(), &bytes)?;
+    assert_eq!(rt; written.as_slice(), bytes.as_slice());
+    Ok(())
 }
 
 #[test]
