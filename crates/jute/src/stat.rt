@@ -142,13 +142,7 @@ impl WriteRecord for StatPersisted {
 }
 
 // Four longs, one behind the other.
-fn put_four_longs(
-    out: &mut Vec<u8>,
-    a: &i64,
-    b: &i64,
-    c: &i64,
-    d: &i64,
-) -> Result<(), NoMemory>
+fn put_four_longs(out: &mut Vec<u8>, a: &i64, b: &i64, c: &i64, d: &i64) -> Result<(), NoMemory>
     ensures { Puts result out.old.items (four_longs a.now b.now c.now d.now) out.new.items }
 {
     a.write(out)?;
