@@ -45,6 +45,7 @@ fn stat() -> Stat {
 }
 
 #[test]
+#[tactic(auto, unfolding(jute::specs::Records::reply_header, jute::specs::Records::get_data_response, jute::specs::Records::stat))]
 fn reply_is_read_and_written(rt: HostRuntime) -> Result<(), Fail> {
     let mut frames = Reader::new(REPLY.as_slice());
     let mut reader = Reader::new(read_frame(&mut frames, LIMIT)?);
@@ -72,6 +73,7 @@ fn reply_is_read_and_written(rt: HostRuntime) -> Result<(), Fail> {
 }
 
 #[test]
+#[tactic(auto, unfolding(jute::specs::Records::request_header, jute::specs::Records::get_data_request))]
 fn request_is_read_and_written(rt: HostRuntime) -> Result<(), Fail> {
     let mut frames = Reader::new(REQUEST.as_slice());
     let mut reader = Reader::new(read_frame(&mut frames, LIMIT)?);
@@ -118,6 +120,7 @@ fn acls_are_read(rt: HostRuntime) -> Result<(), Fail> {
 }
 
 #[test]
+#[tactic(auto, unfolding(jute::specs::Owned::acl, jute::specs::Owned::id))]
 fn acls_are_written(rt: HostRuntime) -> Result<(), Fail> {
     let alloc = rt.alloc();
     let acl = Acl {
@@ -135,6 +138,7 @@ fn acls_are_written(rt: HostRuntime) -> Result<(), Fail> {
 
 /// Null texts of an Id are read as empty, and written with the length 0.
 #[test]
+#[tactic(auto, unfolding(jute::specs::Owned::id))]
 fn null_texts_of_an_id(rt: HostRuntime) -> Result<(), Fail> {
     let alloc = rt.alloc();
     let mut reader = Reader::new(b"\xff\xff\xff\xff\xff\xff\xff\xff");

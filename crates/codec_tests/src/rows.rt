@@ -13,6 +13,7 @@ pub fn bytes_of(alloc: Global, words: &str) -> Result<Vec<u8>, Fail> {
 }
 
 /// What a row says.
+#[derive(Drop)]
 pub struct Row<'a> {
     pub name: &'a str,
     pub bytes: Vec<u8>,

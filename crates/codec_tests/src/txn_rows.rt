@@ -1,16 +1,18 @@
 //! Transactions. A row tells its name, the bytes, and what is expected of them; bytes are hexadecimal.
 
 use crate::rows::{bytes_of, row_of};
+use jute::{ReadRecord, Reader, WriteRecord};
 use std::alloc::Global;
 use std::test::Fail;
 use txn_codec::{Body, Create, Operation, Txn, TxnHeader, TxnKind, decode_txn, encode_txn};
-use values::{Fault, NoMemory, ReadError};
+use values::Fault;
 
 // Session 7, its request 1, zxid 0x100000001, at 1000.
 const HEADER: &str = "00000000 00000007 00000001 00000001 00000001 00000000 000003e8";
 
 // Session 7 makes /a with the data "hi", for world:anyone.
-const CREATE: &str = "00000001 00000002 2f610000 00026869 00000001 0000001f 00000005 776f726c 64000000 06616e79 6f6e6500 00000001";
+const CREATE: &str =
+    "00000001 00000002 2f610000 00026869 00000001 0000001f 00000005 776f726c 64000000 06616e79 6f6e6500 00000001";
 
 const WRITTEN: &str = "\
 a create | 00000001 00000002 2f610000 00026869 00000001 0000001f 00000005 776f726c 64000000 06616e79 6f6e6500 00000001 | the same
@@ -106,6 +108,23 @@ fn first_fault_is_named(rt: HostRuntime) -> Result<(), Fail> {
 fn create_txn(alloc: Global) -> Result<Txn, Fail> {
     let body = bytes_of(alloc, CREATE)?;
     Ok(decode_txn(alloc, &behind_header(alloc, &body)?)?)
+}
+
+// What is written of the header that stands at the front.
+fn header_written_again(alloc: Global, bytes: &[u8]) -> Result<Vec<u8>, Fail> {
+    let mut reader = Reader::new(bytes);
+    let header = TxnHeader::read(alloc, &mut reader)?;
+    let mut out = Vec::new(alloc);
+    header.write(&mut out)?;
+    Ok(out)
+}
+
+#[test]
+fn header_is_read_and_written(rt: HostRuntime) -> Result<(), Fail> {
+    let bytes = bytes_of(rt.alloc(), HEADER)?;
+    let written = header_written_again(rt.alloc(), &bytes)?;
+    assert_eq!(rt; written.as_slice(), bytes.as_slice());
+    Ok(())
 }
 
 #[test]

@@ -15,7 +15,8 @@ ghost use Rattle.quorum_packet.specs.declared.phase.Phase.{Phase};
 pub fn packet_stream()
     ensures packet { Sound packet }
     ensures pieces { ComesInPieces packets }
-    ensures found { (phase : Phase) (bytes : List ℕ) → IsBytes bytes → AreItems packets phase bytes (items packets (place_at phase bytes)) }
-    ensures alone { (phase : Phase) (bytes : List ℕ) (i : Items Phase QuorumPacket) → AreItems packets phase bytes i
-        → items packets (place_at phase bytes) ≡ i }
+    ensures found { (phase : Phase) (bytes : List ℕ) → IsBytes bytes
+        → AreItems packets phase bytes (items packets (place_at phase bytes)) }
+    ensures alone { (phase : Phase) (bytes : List ℕ) (i : Items Phase QuorumPacket)
+        → AreItems packets phase bytes i → items packets (place_at phase bytes) ≡ i }
 {}

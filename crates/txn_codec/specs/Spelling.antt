@@ -133,6 +133,10 @@ operation last kinds.Multi = refusal BadTxnType
 operation last kinds.CreateSession = refusal BadTxnType
 operation last kinds.CloseSession = refusal BadTxnType
 
+-- the format in which an operation is written behind its type
+abbrev pub format_of_operation : Operation → Format Operation
+format_of_operation o = operation int (operation_kind o)
+
 -- ---- parts of a multi (Txn of MultiTxn): a type, and a buffer that holds just the operation
 
 abbrev pub part : Format Operation
@@ -177,6 +181,10 @@ content kinds.SetAcl = case_of bodies.SetAcl as_set_acl set_acl
 content kinds.Multi = case_of bodies.Multi as_multi parts
 content kinds.CreateSession = case_of bodies.CreateSession as_session int
 content kinds.CloseSession = case_of (λ none. bodies.CloseSession) as_close empty
+
+-- the format in which a body is written behind its type
+abbrev pub format_of_body : Body → Format Body
+format_of_body b = content (body_kind b)
 
 abbrev pub body : Format Body
 body = tagged kind body_kind content

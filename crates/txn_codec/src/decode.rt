@@ -299,7 +299,8 @@ pub fn decode_txn(alloc: Global, bytes: &[u8]) -> Result<Txn, ReadError>
     // Which fault it is.
     ensures exact { GivesWhole (whole txn bytes.now) result }
     // A refusal comes only where the bytes spell no transaction ..
-    ensures none { IfErr result (λ e. IfFault e (λ fault. (t : TheTxn) → txn.Spells t bytes.now → ⊥)) }
+    ensures none { IfErr result (λ e. IfFault e (λ fault.
+        (t : TheTxn) → txn.Spells t bytes.now → ⊥)) }
     // .. and names the first field that is against the spelling, and no other fault.
     ensures named { IfErr result (λ e. IfFault e (λ fault. AgainstTxn fault bytes.now)) }
     // What is read is within the limits, so it may be written and is then read again.

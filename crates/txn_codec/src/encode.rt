@@ -2,10 +2,8 @@
 
 ghost use Rattle.std.specs.Prelude.{◌≡◌, ◌<◌, ◌^◌, length};
 ghost use Rattle.values.specs.Gains.{Puts};
-ghost use Rattle.jute.specs.Format.{int};
 ghost use Rattle.jute.specs.Sums.{held};
-ghost use Rattle.txn_codec.specs.Kinds.{operation_kind, body_kind};
-ghost use Rattle.txn_codec.specs.Spelling.{create as create_format, set_data as set_data_format, set_acl as set_acl_format, check as check_format, header as header_format, kind as kind_format, operation as operation_format, part as part_format, parts as parts_format, content as content_format, txn as txn_format};
+ghost use Rattle.txn_codec.specs.Spelling.{create as create_format, set_data as set_data_format, set_acl as set_acl_format, check as check_format, header as header_format, kind as kind_format, format_of_operation, part as part_format, parts as parts_format, format_of_body, txn as txn_format};
 
 use crate::kind::TxnKind;
 use crate::txn::{Body, Check, Create, Operation, SetAcl, SetData, Txn, TxnHeader};
@@ -95,9 +93,9 @@ impl WriteRecord for Check {
 // How many bytes stand behind an operation's type, or in a part's buffer.
 #[tactic(auto, unfolding(jute::specs::Format::number_bytes))]
 fn operation_len(operation: &Operation) -> usize
-    requires writable { (operation_format int (operation_kind operation.now)).Writable operation.now }
-    requires small { length ((operation_format int (operation_kind operation.now)).written operation.now) < 2 ^ 63 }
-    ensures { result ≡ length ((operation_format int (operation_kind operation.now)).written operation.now) }
+    requires writable { (format_of_operation operation.now).Writable operation.now }
+    requires small { length ((format_of_operation operation.now).written operation.now) < 2 ^ 63 }
+    ensures { result ≡ length ((format_of_operation operation.now).written operation.now) }
 {
     match operation {
         Operation::Create(create) => create.written_len(),
@@ -110,8 +108,9 @@ fn operation_len(operation: &Operation) -> usize
 
 // What stands behind an operation's type, or in a part's buffer.
 fn put_operation(out: &mut Vec<u8>, operation: &Operation) -> Result<(), NoMemory>
-    requires { (operation_format int (operation_kind operation.now)).Writable operation.now }
-    ensures { Puts result out.old.items ((operation_format int (operation_kind operation.now)).written operation.now) out.new.items }
+    requires { (format_of_operation operation.now).Writable operation.now }
+    ensures { Puts result out.old.items
+        ((format_of_operation operation.now).written operation.now) out.new.items }
 {
     match operation {
         Operation::Create(create) => create.write(out),
@@ -124,8 +123,9 @@ fn put_operation(out: &mut Vec<u8>, operation: &Operation) -> Result<(), NoMemor
 
 // A buffer that holds the operation.
 fn put_buffered(out: &mut Vec<u8>, operation: &Operation) -> Result<(), NoMemory>
-    requires { (held (operation_format int (operation_kind operation.now))).Writable operation.now }
-    ensures { Puts result out.old.items ((held (operation_format int (operation_kind operation.now))).written operation.now) out.new.items }
+    requires { (held (format_of_operation operation.now)).Writable operation.now }
+    ensures { Puts result out.old.items
+        ((held (format_of_operation operation.now)).written operation.now) out.new.items }
 {
     put_int(out, operation_len(operation) as i32)?;
     put_operation(out, operation)
@@ -156,9 +156,9 @@ impl WriteRecord for Operation {
 // How many bytes stand behind a transaction's type.
 #[tactic(auto, unfolding(jute::specs::Format::number_bytes))]
 fn content_len(body: &Body) -> usize
-    requires writable { (content_format (body_kind body.now)).Writable body.now }
-    requires small { length ((content_format (body_kind body.now)).written body.now) < 2 ^ 63 }
-    ensures { result ≡ length ((content_format (body_kind body.now)).written body.now) }
+    requires writable { (format_of_body body.now).Writable body.now }
+    requires small { length ((format_of_body body.now).written body.now) < 2 ^ 63 }
+    ensures { result ≡ length ((format_of_body body.now).written body.now) }
 {
     match body {
         Body::Single(operation) => operation_len(operation),
@@ -180,8 +180,8 @@ fn put_parts(out: &mut Vec<u8>, parts: &Listed<Operation>) -> Result<(), NoMemor
 
 // What stands behind a transaction's type.
 fn put_content(out: &mut Vec<u8>, body: &Body) -> Result<(), NoMemory>
-    requires { (content_format (body_kind body.now)).Writable body.now }
-    ensures { Puts result out.old.items ((content_format (body_kind body.now)).written body.now) out.new.items }
+    requires { (format_of_body body.now).Writable body.now }
+    ensures { Puts result out.old.items ((format_of_body body.now).written body.now) out.new.items }
 {
     match body {
         Body::Single(operation) => put_operation(out, operation),

@@ -25,6 +25,8 @@ pub fn transactions()
     ensures body { SoundAtEnd body }
     ensures txn { SoundAtEnd txn }
     ensures again { (t : TheTxn) → txn.Fits t → whole txn (txn.written t) ≡ Ok t }
-    ensures names { (bytes : List ℕ) (e : TheFault) → IsBytes bytes → whole txn bytes ≡ Err e → AgainstTxn e bytes }
-    ensures answers { (bytes : List ℕ) (e : TheFault) → IsBytes bytes → AgainstTxn e bytes → whole txn bytes ≡ Err e }
+    ensures names { (bytes : List ℕ) (e : TheFault) → IsBytes bytes
+        → whole txn bytes ≡ Err e → AgainstTxn e bytes }
+    ensures answers { (bytes : List ℕ) (e : TheFault) → IsBytes bytes
+        → AgainstTxn e bytes → whole txn bytes ≡ Err e }
 {}
