@@ -44,6 +44,6 @@ unfolding get_data_response stat
 writable_response r h = (h, search rules)
 
 -- what follows where all was put
-pub put_all : {U E P : Type 0} {old items new : List ℕ} (r : Result U E) → (new ≡ old ++ items → P) → Puts r old items new → OnOk r P
-put_all (Ok u) f p = f p
-put_all (Err e) f p = tt
+pub put_all : {U E P : Type 0} (r : Result U E) (old items new : List ℕ) → (new ≡ old ++ items → P) → Puts r old items new → OnOk r P
+put_all (Ok u) old items new f p = f p
+put_all (Err e) old items new f p = tt

@@ -1,5 +1,5 @@
 -- The worked rows, step by step: what the bytes read as, the state behind each transaction, and the reply to each request.
-use Rattle.std.proofs.Common.{◌≡◌, ℕ, List, [], ◌∷◌, ◌++◌, map, not, Option, Some, None, Result, Ok, Bool, false, cond, refl, ap, ◌∙◌, arith, rules}
+use Rattle.std.proofs.Common.{◌≡◌, ◌≤◌, ℕ, List, [], ◌∷◌, ◌++◌, length, map, not, Option, Some, None, Result, Ok, Bool, false, cond, refl, ap, ◌∙◌, arith, rules}
 use Rattle.std.specs.Prelude.{ℤ, pos, codes, is_some}
 use Rattle.std.specs.Cmp.{nat_cmp_total}
 use Rattle.observer_core.proofs.Steps.{goes_on}
@@ -12,7 +12,7 @@ use Rattle.std.proofs.lemmas.Str.{is_utf8-from_IsUtf8}
 use Rattle.std.specs.Ordering.{nat_cmp}
 use Rattle.values.specs.declared.fault.Fault.{Fault}
 use Rattle.values.specs.declared.fault.Fault.TheVariants.{OutOfOrder}
-use Rattle.jute.specs.Format.{judged_at, buffer_at, vector_at, times, number_bytes}
+use Rattle.jute.specs.Format.{judged_at, buffer_at, buffer_limit, vector_at, text, times, number_bytes}
 use Rattle.jute.specs.Codes.{open_acl}
 use Rattle.jute.specs.Frame.{frame_at}
 use Rattle.jute.specs.Owned.{id, acl}
@@ -84,13 +84,21 @@ set_body = record { path = codes "/a"; bytes = None; version = pos 1 }
 abbrev set_txn : Txn
 set_txn = record { header = set_header; body = bodies.Single (operations.SetData set_body) }
 
+text_fits : (t : List ℕ) → IsUtf8 t → length t ≤ buffer_limit → text.Fits (Some t)
+text_fits t is short = (rw (is_utf8-from_IsUtf8 t is) refl, short)
+
 create_fits : txn.Fits create_txn
 unfolding acl id
 create_fits =
-    (search rules, ((search rules, (path_is_text, omega arith)), (omega arith, ((omega arith, ((search rules, ((world_is_text, omega arith), (anyone_is_text, omega arith))), tt)), (tt, search rules)))))
+    let path = text_fits (codes "/a") path_is_text (omega arith) in
+    let world = text_fits (codes "world") world_is_text (omega arith) in
+    let anyone = text_fits (codes "anyone") anyone_is_text (omega arith) in
+    (search rules, ((refl, search rules), (refl, (refl, ((refl, path), (omega arith, ((omega arith, ((search rules, ((refl, world), (refl, anyone))), tt)), (tt, search rules))))))))
 
 set_fits : txn.Fits set_txn
-set_fits = (search rules, ((search rules, (path_is_text, omega arith)), (tt, search rules)))
+set_fits =
+    let path = text_fits (codes "/a") path_is_text (omega arith) in
+    (search rules, ((refl, search rules), (refl, (refl, ((refl, path), (tt, search rules))))))
 
 -- ---- the states
 

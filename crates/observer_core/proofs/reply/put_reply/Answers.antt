@@ -19,7 +19,7 @@ returns-in_ok-write-in-Some c =
     c.in_ok-write-in-Some.ensures
     ∙ (λ i. c.args.out.now.items ++ header_text (to_z-of_z w32 c.args.xid c.ranges.xid i) (to_z-of_z w64 c.args.zxid c.ranges.zxid i) (to_z-of_z w32 c.error.result (search rules) i))
     ∙ ap (λ (e : ℤ). c.args.out.now.items ++ header_text c.args.xid c.args.zxid e) (c.error.ensures ∙ ap (λ (l : Look). l.error) is) in
-    put_all c.write-in-Some-2.result
+    put_all c.write-in-Some-2.result c.write-in-Some.new.out.items body c.write-in-Some-2.new.out.items
     (λ put. put
     ∙ ap (λ (m : List ℕ). m ++ body) header
     ∙ append_assoc c.args.out.now.items (header_text c.args.xid c.args.zxid c.look.inside.error) body
