@@ -45,6 +45,7 @@ pub fn child_path(alloc: Global, parent: u32, child: u32) -> Result<Path>
 }
 
 /// A node is made that everyone may change.
+#[tactic(auto, unfolding(jute::specs::Owned::acl, jute::specs::Owned::id))]
 pub fn create(alloc: Global, path: Path) -> Result<Body, NoMemory>
     requires { length path ≤ PATH_LIMIT }
     ensures { IfOk result body_format.Writable }
@@ -74,6 +75,7 @@ pub fn set_data(alloc: Global, path: Path) -> Result<Body, NoMemory>
 }
 
 /// Writes the packet by which a leader tells of a transaction. An error may leave a front of the packet.
+#[tactic(auto, unfolding(quorum_packet::specs::Packet::packet))]
 pub fn write_inform(alloc: Global, txn: &Txn, out: &mut Vec<u8>) -> Result<()>
     requires { body_format.Writable txn.now.body }
 {
@@ -90,6 +92,7 @@ pub fn write_inform(alloc: Global, txn: &Txn, out: &mut Vec<u8>) -> Result<()>
 }
 
 /// Writes the frame by which a client asks for a node's data, without a watch. An error may leave a front of it.
+#[tactic(auto, unfolding(jute::specs::Records::request_header, jute::specs::Records::get_data_request))]
 pub fn write_get_data(alloc: Global, xid: i32, path: &Path, out: &mut Vec<u8>) -> Result<()>
     requires { length path.now ≤ PATH_LIMIT }
 {
