@@ -1,4 +1,16 @@
-//! The fields and records of Jute.
+//! The fields and records of Jute (zookeeper.jute of ZooKeeper 3.4): read from borrowed bytes, written behind a byte text.
+//!
+//! A `Reader` is a place in bytes; a read moves it behind what was read, and a refused one leaves it. A record reads by
+//! `ReadRecord` and writes by `WriteRecord`, which tells its length before it is written. What a record's bytes are stands
+//! in one value, its format (`specs/Format.antt`, `specs/Records.antt`), made by combinators of those of its fields; the law
+//! `law::formats` says once for each that reading and writing are that spelling, and which field a refusal names.
+//!
+//! ```text
+//! let mut reader = Reader::new(bytes);
+//! let header = RequestHeader::read(alloc, &mut reader)?;     // a fault: the first field that no spelling allows
+//! let request = GetDataRequest::read(alloc, &mut reader)?;   // borrowed from the bytes
+//! ReplyHeader { xid: header.xid, zxid, err: codes::NO_NODE }.write(&mut out)?;
+//! ```
 #![tactic(auto)]
 
 pub mod codes;

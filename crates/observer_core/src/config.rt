@@ -32,13 +32,11 @@ impl Config {
         max_timeout: i32,
         secret: Blob,
     ) -> Result<Config, BadConfig>
-        ensures accepted {
-            let epochs = epoch_pair accepted_epoch current_epoch in
+        ensures accepted { let epochs = epoch_pair accepted_epoch current_epoch in
             let timeouts = timeout_pair min_timeout max_timeout in
             IsOk result
             ↔ (IsTrue (is_server_id server_id) × IsTrue (are_epochs epochs)
-            × IsTrue (are_timeouts timeouts) × IsTrue (is_secret secret))
-        }
+            × IsTrue (are_timeouts timeouts) × IsTrue (is_secret secret)) }
         ensures server { IfOk result (λ c. c.server_id ≡ server_id) }
         ensures epochs { IfOk result (λ c. c.epochs ≡ epoch_pair accepted_epoch current_epoch) }
         ensures timeouts { IfOk result (λ c. c.timeouts ≡ timeout_pair min_timeout max_timeout) }

@@ -1,4 +1,14 @@
-//! Packets between a leader and its servers, and the stream of them.
+//! Packets between a leader and its servers (zookeeper.jute of ZooKeeper 3.4), and the stream of them.
+//!
+//! A `PacketFeed` takes the leader's bytes in whatever pieces they come, and gives the packets that are whole. The packets
+//! don't depend on the cutting. A fault ends the stream: it is answered from then on. The work is linear in the bytes,
+//! since of a packet that comes in pieces only what a piece brings is looked at.
+//!
+//! ```text
+//! feed.feed(piece)?;
+//! while let Some(packet) = feed.next(alloc)? { .. }
+//! feed.end()                                       // whether the stream may end here
+//! ```
 #![tactic(auto)]
 
 mod feed;

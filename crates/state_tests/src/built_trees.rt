@@ -2,8 +2,8 @@
 
 use crate::path_of;
 use data_tree::{Node, Tree};
-use jute::StatPersisted;
 use ephemerals::TextSet;
+use jute::StatPersisted;
 use std::alloc::Global;
 use std::test::Fail;
 use values::Listed;

@@ -1,4 +1,16 @@
-//! Transactions of ZooKeeper's log (zookeeper.jute), decoded and encoded.
+//! Transactions of ZooKeeper's log (zookeeper.jute of ZooKeeper 3.4), decoded and encoded.
+//!
+//! A transaction is a header and the body of its type; a multi's parts are operations, each in a buffer of its own. Its
+//! paths are checked: a `Path` begins with a slash, and no name in it is empty or has a NUL. `decode_txn` takes all the
+//! bytes that it is given, or names the first fault in their order; `specs/Spelling.antt` says which bytes spell what, in one
+//! table for operations and one for bodies.
+//!
+//! ```text
+//! let txn = decode_txn(alloc, bytes)?;
+//! txn.header.zxid
+//! match &txn.body { Body::Single(Operation::Create(create)) => create.path.parent(), .. }
+//! encode_txn(&txn, &mut out)?;
+//! ```
 #![tactic(auto)]
 
 mod decode;
