@@ -42,11 +42,6 @@ pub fn asked(bytes: &[u8]) -> Event<'_> {
     Event::ClientBytes(1, Bytes::new(bytes))
 }
 
-/// What goes to the first client.
-pub fn reply(alloc: Global, bytes: &[u8]) -> Result<Output, &'static str> {
-    Ok(Output::ToClient(1, blob(alloc, bytes)?))
-}
-
 /// What the engine puts out.
 pub fn feed(
     alloc: Global,

@@ -4,84 +4,13 @@ use observer_core::{
     cut_anywhere, logs_are_followed, plays_on, refusals_change_nothing, worked_rows,
 };
 use std::test::*;
-use values::Fault;
 
 // An INFORM of a create of /a with the data "hi", zxid 0x100000001.
 const CREATE: &[u8; 96] =
     b"\0\0\0\x08\0\0\0\x01\0\0\0\x01\0\0\0L\0\0\0\0\0\0\0\x07\0\0\0\x01\0\0\0\x01\0\0\0\x01\0\0\0\0\0\0\x03\xe8\0\0\0\x01\0\0\0\x02/a\0\0\0\x02hi\0\0\0\x01\0\0\0\x1f\0\0\0\x05world\0\0\0\x06anyone\0\0\0\0\x01\xff\xff\xff\xff";
 
-// An INFORM of a setData of /a to null at version 1, zxid 0x100000002.
-const SET: &[u8; 66] =
-    b"\0\0\0\x08\0\0\0\x01\0\0\0\x02\0\0\0.\0\0\0\0\0\0\0\x07\0\0\0\x02\0\0\0\x01\0\0\0\x02\0\0\0\0\0\0\x07\xd0\0\0\0\x05\0\0\0\x02/a\xff\xff\xff\xff\0\0\0\x01\xff\xff\xff\xff";
-
 // getData of /a, xid 1.
 const GET: [u8; 19] = *b"\0\0\0\x0f\0\0\0\x01\0\0\0\x04\0\0\0\x02/a\0";
-
-// The reply after the create.
-const CREATED: &[u8; 94] =
-    b"\0\0\0Z\0\0\0\x01\0\0\0\x01\0\0\0\x01\0\0\0\0\0\0\0\x02hi\0\0\0\x01\0\0\0\x01\0\0\0\x01\0\0\0\x01\0\0\0\0\0\0\x03\xe8\0\0\0\0\0\0\x03\xe8\0\0\0\0\0\0\0\0\0\0\0\0\0\0\0\0\0\0\0\0\0\0\0\x02\0\0\0\0\0\0\0\x01\0\0\0\x01";
-
-// The reply after the setData.
-const WRITTEN: &[u8; 92] =
-    b"\0\0\0X\0\0\0\x01\0\0\0\x01\0\0\0\x02\0\0\0\0\xff\xff\xff\xff\0\0\0\x01\0\0\0\x01\0\0\0\x01\0\0\0\x02\0\0\0\0\0\0\x03\xe8\0\0\0\0\0\0\x07\xd0\0\0\0\x01\0\0\0\0\0\0\0\0\0\0\0\0\0\0\0\0\0\0\0\0\0\0\0\0\0\0\0\x01\0\0\0\x01";
-
-// An INFORM of a multi that failed, zxid 0x100000002: a create of /m, an error of -101, a delete of /a.
-const FAILED: &[u8; 109] =
-    b"\0\0\0\x08\0\0\0\x01\0\0\0\x02\0\0\0Y\0\0\0\0\0\0\0\x07\0\0\0\x03\0\0\0\x01\0\0\0\x02\0\0\0\0\0\0\x0b\xb8\0\0\0\x0e\0\0\0\x03\0\0\0\x01\0\0\0\x13\0\0\0\x02/m\0\0\0\0\xff\xff\xff\xff\0\xff\xff\xff\xff\xff\xff\xff\xff\0\0\0\x04\xff\xff\xff\x9b\0\0\0\x02\0\0\0\x06\0\0\0\x02/a\xff\xff\xff\xff";
-
-// The reply after the create and the failed multi, whose zxid it names.
-const UNCHANGED: &[u8; 94] =
-    b"\0\0\0Z\0\0\0\x01\0\0\0\x01\0\0\0\x02\0\0\0\0\0\0\0\x02hi\0\0\0\x01\0\0\0\x01\0\0\0\x01\0\0\0\x01\0\0\0\0\0\0\x03\xe8\0\0\0\0\0\0\x03\xe8\0\0\0\0\0\0\0\0\0\0\0\0\0\0\0\0\0\0\0\0\0\0\0\x02\0\0\0\0\0\0\0\x01\0\0\0\x01";
-
-#[test]
-fn create_and_set_then_get(rt: HostRuntime) -> Result<(), Fail> {
-    let alloc = rt.alloc();
-    let mut engine = primed(alloc)?;
-    let events = [told(CREATE), asked(&GET), told(SET), asked(&GET)];
-    let outputs = feed(alloc, &mut engine, &events)?;
-    let wanted = [reply(alloc, CREATED)?, reply(alloc, WRITTEN)?];
-    assert_eq!(rt; outputs.as_slice(), wanted.as_slice());
-    assert_eq!(rt; end_of(&engine), (0x1_0000_0002, 4));
-    Ok(())
-}
-
-#[test]
-fn cut_request(rt: HostRuntime) -> Result<(), Fail> {
-    let alloc = rt.alloc();
-    let mut engine = primed(alloc)?;
-    let events = [asked(&GET[..10]), told(CREATE), asked(&GET[10..])];
-    let outputs = feed(alloc, &mut engine, &events)?;
-    let wanted = [reply(alloc, CREATED)?];
-    assert_eq!(rt; outputs.as_slice(), wanted.as_slice());
-    Ok(())
-}
-
-#[test]
-fn same_zxid_twice(rt: HostRuntime) -> Result<(), Fail> {
-    let alloc = rt.alloc();
-    let mut engine = primed(alloc)?;
-    let events = [told(CREATE), told(CREATE), told(SET), asked(&GET)];
-    let outputs = feed(alloc, &mut engine, &events)?;
-    let wanted = [
-        Output::CloseLeader(Fault::OutOfOrder),
-        Output::CloseClient(1),
-    ];
-    assert_eq!(rt; outputs.as_slice(), wanted.as_slice());
-    assert_eq!(rt; end_of(&engine), (0x1_0000_0001, 4));
-    Ok(())
-}
-
-#[test]
-fn failed_multi(rt: HostRuntime) -> Result<(), Fail> {
-    let alloc = rt.alloc();
-    let mut engine = primed(alloc)?;
-    let events = [told(CREATE), told(FAILED), asked(&GET)];
-    let outputs = feed(alloc, &mut engine, &events)?;
-    let wanted = [reply(alloc, UNCHANGED)?];
-    assert_eq!(rt; outputs.as_slice(), wanted.as_slice());
-    assert_eq!(rt; end_of(&engine), (0x1_0000_0002, 4));
-    Ok(())
-}
 
 #[test]
 fn nothing(rt: HostRuntime) -> Result<(), Fail> {
