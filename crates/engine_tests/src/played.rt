@@ -1,33 +1,18 @@
-//! Rows of bytes that were worked out by hand: what comes, and what goes.
+//! Engines that are made and fed nothing, the laws, and the bounds of the settings. What bytes do is shown by rows.
 use super::*;
 use observer_core::{
     cut_anywhere, logs_are_followed, plays_on, refusals_change_nothing, worked_rows,
 };
 use std::test::*;
 
-// An INFORM of a create of /a with the data "hi", zxid 0x100000001.
-const CREATE: &[u8; 96] =
-    b"\0\0\0\x08\0\0\0\x01\0\0\0\x01\0\0\0L\0\0\0\0\0\0\0\x07\0\0\0\x01\0\0\0\x01\0\0\0\x01\0\0\0\0\0\0\x03\xe8\0\0\0\x01\0\0\0\x02/a\0\0\0\x02hi\0\0\0\x01\0\0\0\x1f\0\0\0\x05world\0\0\0\x06anyone\0\0\0\0\x01\xff\xff\xff\xff";
-
-// getData of /a, xid 1.
-const GET: [u8; 19] = *b"\0\0\0\x0f\0\0\0\x01\0\0\0\x04\0\0\0\x02/a\0";
-
 #[test]
 fn nothing(rt: HostRuntime) -> Result<(), Fail> {
     let alloc = rt.alloc();
     let mut engine = primed(alloc)?;
     assert!(rt; feed(alloc, &mut engine, &[])?.is_empty());
+    assert_eq!(rt; end_of(&engine), (0, 3));
     let mut engine = idle(alloc)?;
-    let events = [
-        Event::LeaderUp,
-        told(CREATE),
-        Event::ClientUp(1),
-        asked(&GET),
-        Event::Expire(7),
-        Event::Checkpoint,
-        Event::ClientEnd(1),
-        Event::LeaderEnd,
-    ];
+    let events = [Event::LeaderUp, Event::Checkpoint, Event::LeaderEnd];
     assert!(rt; feed(alloc, &mut engine, &events)?.is_empty());
     assert_eq!(rt; end_of(&engine), (0, 3));
     Ok(())
