@@ -1,4 +1,4 @@
-"""Proves and builds a program's crates, those that don't stand on each other side by side, and shows how far it is.
+"""Proves and builds a program's crates one after the other, each on all processors, and shows how far it is.
 
 Each crate is proved and built by `rt lib`, and the program itself by `rt run`, whose own run of it is dropped. What rt
 says of a crate stands in out/observer/CRATE.log, and its lines say how many functions are checked.
@@ -60,7 +60,7 @@ class Crate:
     def __init__(self, name, is_program, jobs):
         self.name, self.log = name, os.path.join(KEPT, name + ".log")
         given = os.path.join(folder_of(name), "stdin")
-        words = ["rt", "run" if is_program else "lib"] + (["--jobs", str(jobs)] if jobs else [])
+        words = ["rt", "run" if is_program else "lib", "--jobs", str(jobs)]
         with open(given if os.path.isfile(given) else os.devnull, "rb") as stdin, open(self.log, "wb") as log:
             out = subprocess.DEVNULL if is_program else log
             self.ran = subprocess.Popen(
@@ -89,48 +89,34 @@ class Crate:
 
 
 class Build:
-    """What is built, what runs, and what waits."""
+    """What is built, what runs, and what waits. rt works in one crate and those below it at a time, so one runs at a time."""
 
     def __init__(self, program, before):
         self.program, self.before = program, before
         self.crates = needed(program)
         self.weights = {name: functions_in(name) for name in self.crates}
-        self.done, self.running = set(), []
+        self.done, self.now = set(), None
         self.began = self.told = time.monotonic()
-        self.processors = len(os.sched_getaffinity(0)) if hasattr(os, "sched_getaffinity") else os.cpu_count() or 1
-
-    def ready(self):
-        """Returns the crates that can be started: all that they stand on is built. The largest comes first."""
-        begun = self.done | {it.name for it in self.running}
-        found = [name for name in self.crates if name not in begun and self.done.issuperset(self.crates[name])]
-        return sorted(found, key=lambda name: -self.weights[name])
+        self.jobs = len(os.sched_getaffinity(0)) if hasattr(os, "sched_getaffinity") else os.cpu_count() or 1
 
     def start(self):
-        """Starts crates while processors are free. One that is alone chooses its jobs by itself."""
-        ready = self.ready()[: max(self.processors - len(self.running), 0)]
-        at_once = len(ready) + len(self.running)
-        for name in ready:
-            jobs = None if at_once == 1 else max(self.processors // at_once, 1)
-            self.running.append(Crate(name, name == self.program, jobs))
+        """Starts a crate that stands on nothing that isn't built."""
+        name = next(it for it in self.crates if it not in self.done and self.done.issuperset(self.crates[it]))
+        self.now = Crate(name, name == self.program, self.jobs)
 
-    def ended(self):
-        """Takes out what has ended. Returns the crate that failed, if one did."""
-        for crate in list(self.running):
-            status = crate.ran.poll()
-            if status is None:
-                continue
-            self.running.remove(crate)
-            if status:
-                return crate
-            self.done.add(crate.name)
-        return None
+    def failed(self):
+        """Returns whether the crate that runs has ended in a failure; where it has ended well, it is done."""
+        status = self.now.ran.poll()
+        if status == 0:
+            self.done.add(self.now.name)
+            self.now = None
+        return bool(status)
 
     def fraction(self):
         """Returns which part of all functions is checked."""
         part = sum(self.weights[name] for name in self.done)
-        for crate in self.running:
-            checked, of = crate.counted()
-            part += self.weights[crate.name] * checked / of if of else 0
+        checked, of = self.now.counted()
+        part += self.weights[self.now.name] * checked / of if of else 0
         return part / max(sum(self.weights.values()), 1)
 
     def rest(self):
@@ -147,27 +133,25 @@ class Build:
         if time.monotonic() - self.told < PAUSE:
             return
         self.told = time.monotonic()
-        parts = []
-        for crate in self.running:
-            checked, of = crate.counted()
-            wait = ", which another rt works in," if crate.waits() else ""
-            parts.append(f"{crate.name} {checked} of {of} functions" if of else crate.name + wait)
-        say(f"{len(self.done)} of {len(self.crates)} crates done, now {', '.join(parts)}{self.rest()}")
+        checked, of = self.now.counted()
+        part = f" {checked} of {of} functions" if of else ", which another rt works in" if self.now.waits() else ""
+        say(f"{len(self.done)} of {len(self.crates)} crates done, now {self.now.name}{part}{self.rest()}")
 
     def run(self):
         """Builds all. Returns the crate that failed, if one did."""
         try:
             while len(self.done) < len(self.crates):
-                self.start()
-                failed = self.ended()
-                if failed:
-                    return failed
-                self.tell()
-                time.sleep(0.2)
+                if self.now is None:
+                    self.start()
+                elif self.failed():
+                    return self.now
+                else:
+                    self.tell()
+                    time.sleep(0.2)
             return None
         finally:
-            for crate in self.running:
-                crate.stop()
+            if self.now is not None:
+                self.now.stop()
 
 
 def build(program, before):
