@@ -13,7 +13,7 @@ use Rattle.std.specs.FinSet as set
 use Rattle.txn_codec.specs.declared.txn.TxnHeader.{TxnHeader}
 use Rattle.txn_codec.specs.declared.txn.Create.{Create}
 use Rattle.std.proofs.lemmas.Bool.{not-false, not-true}
-use Rattle.ephemerals.proofs.SetSteps.{remove-insert, insert-present}
+use Rattle.values.proofs.SetSteps.{remove-insert, insert-present}
 use Rattle.data_tree.specs.Making.{with_name}
 use Rattle.data_tree.specs.Inner.Children.{without_name, lacks_name}
 use mathlib.Core.Bool.{true≢false}

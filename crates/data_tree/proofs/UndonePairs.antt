@@ -9,7 +9,7 @@ use Rattle.data_tree.specs.State.{State}
 use Rattle.data_tree.specs.Meaning.{after_changes, lost_pair}
 use Rattle.data_tree.specs.Meaning.Change.{Disown}
 use Rattle.ephemerals.proofs.Totals.{pair_total, pair_exact}
-use Rattle.ephemerals.proofs.SetSteps.{remove-insert, insert-present}
+use Rattle.values.proofs.SetSteps.{remove-insert, insert-present}
 
 pub undo_owned : (s : Pairs) (owner : ℤ) (path : Bytes) → (not (int_eq owner (pos 0)) && not (set.contains s (owner, path))) ≡ true → without_pair (with_pair s owner path) owner path ≡ s
 undo_owned s owner path = by (int_eq owner (pos 0)) (set.contains s (owner, path)) refl

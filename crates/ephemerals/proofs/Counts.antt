@@ -10,7 +10,7 @@ use Rattle.std.specs.FinSet as set
 use Rattle.ephemerals.specs.Orders.{Bytes, path_cmp, pair_cmp, Pairs}
 use Rattle.ephemerals.specs.Pairs.{paths_of, without_session}
 use Rattle.ephemerals.proofs.Totals.{path_total, pair_total, pair_exact}
-use Rattle.ephemerals.proofs.SetSteps.{insert-present}
+use Rattle.values.proofs.SetSteps.{insert-present}
 use Rattle.std.proofs.Math.Bool.{and-false}
 use Rattle.ephemerals.proofs.Ties.{tied_then, same_session}
 use Rattle.ephemerals.proofs.SessionPaths.{contains-owned, contains-without}

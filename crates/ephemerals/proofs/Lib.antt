@@ -2,8 +2,6 @@
 pub mod Totals
 -- When two pairs are equal. Public
 pub mod Ties
--- A key put into a set and taken out again. Public
-pub mod SetSteps
 -- What holds where a call was refused. Public
 pub mod Errors
 -- Texts, looked up by their bytes. Public

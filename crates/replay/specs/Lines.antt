@@ -2,26 +2,10 @@
 use Rattle.std.specs.Prelude.{ℕ, ℤ, List, [], ◌∷◌, ◌++◌, false, codes, decimal}
 use Rattle.std.specs.Int.{w64, cast_unsigned}
 use Rattle.std.specs.Fmt.{radix_digits}
-use Rattle.values.specs.Faults.{fault_number}
-use Rattle.values.specs.declared.fault.Fault.{Fault}
-use Rattle.values.specs.declared.fault.Fault.TheVariants.{Short, BadLength, BadText, BadPath, BadTxnType, TrailingBytes, OutOfOrder, CommitMismatch, CannotTruncate, BadImage, EpochTooSmall, UnexpectedPacket}
+use Rattle.values.specs.Faults.{fault_number, fault_word}
 use Rattle.observer_core.specs.declared.event.Output.{Output}
 use Rattle.observer_core.specs.declared.event.Output.TheVariants.{ToLeader, ToClient, CloseLeader, CloseClient}
-use Rattle.replay_script.specs.Hex.{digits}
-
-abbrev pub fault_word : Fault → List ℕ
-fault_word Short = codes "Short"
-fault_word BadLength = codes "BadLength"
-fault_word BadText = codes "BadText"
-fault_word BadPath = codes "BadPath"
-fault_word BadTxnType = codes "BadTxnType"
-fault_word TrailingBytes = codes "TrailingBytes"
-fault_word OutOfOrder = codes "OutOfOrder"
-fault_word CommitMismatch = codes "CommitMismatch"
-fault_word CannotTruncate = codes "CannotTruncate"
-fault_word BadImage = codes "BadImage"
-fault_word EpochTooSmall = codes "EpochTooSmall"
-fault_word UnexpectedPacket = codes "UnexpectedPacket"
+use Rattle.values.specs.Hex.{digits}
 
 abbrev pub line_end : List ℕ
 line_end = 10 ∷ []

@@ -1,31 +1,12 @@
 //! The lines that a replay prints.
 
 ghost use Rattle.std.specs.Prelude.{◌≡◌, ◌++◌, OnOk, decimal};
-ghost use Rattle.replay.specs.Lines.{fault_word, output_line, hex_number, end_line};
+ghost use Rattle.replay.specs.Lines.{output_line, hex_number, end_line};
 
 use observer_core::Output;
 use replay_script::put_hex;
 use std::io::Write;
-use values::{Fault, NoMemory};
-
-fn fault_word(fault: Fault) -> &'static [u8]
-    ensures { result.now ≡ fault_word fault }
-{
-    match fault {
-        Fault::Short => b"Short",
-        Fault::BadLength => b"BadLength",
-        Fault::BadText => b"BadText",
-        Fault::BadPath => b"BadPath",
-        Fault::BadTxnType => b"BadTxnType",
-        Fault::TrailingBytes => b"TrailingBytes",
-        Fault::OutOfOrder => b"OutOfOrder",
-        Fault::CommitMismatch => b"CommitMismatch",
-        Fault::CannotTruncate => b"CannotTruncate",
-        Fault::BadImage => b"BadImage",
-        Fault::EpochTooSmall => b"EpochTooSmall",
-        Fault::UnexpectedPacket => b"UnexpectedPacket",
-    }
-}
+use values::NoMemory;
 
 fn put(out: &mut Vec<u8>, text: &[u8]) -> Result<(), NoMemory>
     ensures { OnOk result (out.new.items ≡ out.old.items ++ text.now) }
@@ -73,7 +54,7 @@ pub fn put_output(out: &mut Vec<u8>, output: &Output) -> Result<(), NoMemory>
             put(out, b"L close F")?;
             put_decimal(out, u64::from(fault.number()))?;
             put(out, b" ")?;
-            put(out, fault_word(*fault))?;
+            put(out, fault.word().as_bytes())?;
         }
         Output::CloseClient(client) => {
             put(out, b"C ")?;

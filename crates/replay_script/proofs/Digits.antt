@@ -6,8 +6,8 @@ use Rattle.std.specs.Prelude.{not, ◌≢◌, IsErr}
 use Rattle.std.proofs.lemmas.Bool.Decides.{nat_tests}
 use Rattle.std.proofs.lemmas.List.{at_drop_more, take-append-drop}
 use Rattle.std.proofs.lemmas.Grind.{flat_map-append}
-use Rattle.replay_script.specs.Number.{◌>>=◌}
-use Rattle.replay_script.specs.Hex.{digit_of, bytes_of, without_blanks, digit, digits}
+use Rattle.values.specs.Maybe.{◌>>=◌}
+use Rattle.values.specs.Hex.{digit_of, bytes_of, without_blanks, digit, digits}
 use Rattle.values.specs.Gains.{Puts}
 
 -- the bytes that digits spell behind the value of one that waits for its second

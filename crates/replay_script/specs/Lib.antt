@@ -1,5 +1,4 @@
 pub mod Cut
-pub mod Hex
 pub mod Line
 pub mod Number
 pub mod Rows

@@ -6,8 +6,9 @@ use Rattle.std.specs.Str.{bytes_eq, is_utf8}
 use Rattle.byteorder.specs.Endian.{big_number}
 use Rattle.settings.specs.Settings as settings
 use Rattle.replay_script.specs.Cut.{cut_at}
-use Rattle.replay_script.specs.Number.{◌>>=◌, number_up_to, int_of, ints_of}
-use Rattle.replay_script.specs.Hex.{hex}
+use Rattle.values.specs.Maybe.{◌>>=◌}
+use Rattle.replay_script.specs.Number.{number_up_to, int_of, ints_of}
+use Rattle.values.specs.Hex.{hex}
 use Rattle.replay_script.specs.declared.event.ScriptEvent.{ScriptEvent}
 use Rattle.replay_script.specs.declared.event.ScriptEvent.TheVariants.{LeaderUp, LeaderBytes, LeaderEnd, ClientUp, ClientBytes, ClientEnd, Expire, Checkpoint}
 use Rattle.replay_script.specs.declared.event.Setting.{Setting}

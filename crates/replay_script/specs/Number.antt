@@ -1,12 +1,9 @@
--- Decimal numbers, and steps that may find nothing.
-use Rattle.std.specs.Prelude.{ℕ, ℤ, pos, ◌+◌, ◌-◌, ◌*◌, ◌^◌, List, [], ◌∷◌, Option, Some, None, nat_le, if◌then◌else◌, option_and_then}
+-- Decimal numbers.
+use Rattle.std.specs.Prelude.{ℕ, ℤ, pos, ◌+◌, ◌-◌, ◌*◌, ◌^◌, List, [], ◌∷◌, Option, Some, None, nat_le, if◌then◌else◌}
 use Rattle.std.specs.Char.{is_ascii_digit}
 use Rattle.std.specs.Option.{option_map}
+use Rattle.values.specs.Maybe.{◌>>=◌}
 use Rattle.replay_script.specs.Cut.{cut_at}
-
-infixl 10 ◌>>=◌
-abbrev pub ◌>>=◌ : {A B : Type 0} → Option A → (A → Option B) → Option B
-found >>= next = option_and_then next found
 
 -- the number that decimal digits spell behind those that spell n
 abbrev pub number_behind : ℕ → List ℕ → Option ℕ

@@ -1,7 +1,7 @@
 //! Bytes as hexadecimal digits.
 
 ghost use Rattle.std.specs.Prelude.{◌≡◌, ◌<◌, ◌+◌, ◌++◌, IfSome, IfOk, OnOk};
-ghost use Rattle.replay_script.specs.Hex.{digit_of, hex, digit, digits};
+ghost use Rattle.values.specs.Hex.{digit_of, hex, digit, digits};
 ghost use Rattle.values.specs.Gains.{Puts};
 
 use std::alloc::Global;

@@ -1,5 +1,5 @@
--- The numbers of the faults.
-use Rattle.std.specs.Prelude.{ℕ}
+-- The numbers of the faults, and their words.
+use Rattle.std.specs.Prelude.{ℕ, List, codes}
 use Rattle.values.specs.declared.fault.Fault.{Fault}
 use Rattle.values.specs.declared.fault.Fault.TheVariants.{Short, BadLength, BadText, BadPath, BadTxnType, TrailingBytes, OutOfOrder, CommitMismatch, CannotTruncate, BadImage, EpochTooSmall, UnexpectedPacket}
 
@@ -16,3 +16,17 @@ fault_number CannotTruncate = 9
 fault_number BadImage = 10
 fault_number EpochTooSmall = 11
 fault_number UnexpectedPacket = 12
+
+abbrev pub fault_word : Fault → List ℕ
+fault_word Short = codes "Short"
+fault_word BadLength = codes "BadLength"
+fault_word BadText = codes "BadText"
+fault_word BadPath = codes "BadPath"
+fault_word BadTxnType = codes "BadTxnType"
+fault_word TrailingBytes = codes "TrailingBytes"
+fault_word OutOfOrder = codes "OutOfOrder"
+fault_word CommitMismatch = codes "CommitMismatch"
+fault_word CannotTruncate = codes "CannotTruncate"
+fault_word BadImage = codes "BadImage"
+fault_word EpochTooSmall = codes "EpochTooSmall"
+fault_word UnexpectedPacket = codes "UnexpectedPacket"

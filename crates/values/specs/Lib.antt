@@ -1,2 +1,4 @@
 pub mod Faults
 pub mod Gains
+pub mod Hex
+pub mod Maybe

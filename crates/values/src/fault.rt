@@ -2,49 +2,38 @@
 
 ghost use Rattle.std.specs.Prelude.{◌≡◌};
 ghost use Rattle.values.specs.declared.fault.ReadError.TheVariants as errors;
-ghost use Rattle.values.specs.Faults.{fault_number};
+ghost use Rattle.values.specs.Faults.{fault_number, fault_word};
 
 use std::alloc::{AllocError, AllocFailed};
 use thiserror::Error;
 
 /// What is wrong with the leader's bytes, as `F1` to `F12` in this order.
 #[derive(Clone, Copy, Debug, PartialEq, Eq, Error)]
+#[error("{}", self.word())]
 pub enum Fault {
     /// The bytes end inside a field.
-    #[error("Short")]
     Short = 1,
     /// A length or count is below -1 or above its limit.
-    #[error("BadLength")]
     BadLength,
     /// A text that is not UTF-8.
-    #[error("BadText")]
     BadText,
     /// A path that is not one.
-    #[error("BadPath")]
     BadPath,
     /// A transaction, or a part of one, of a type that is not listed.
-    #[error("BadTxnType")]
     BadTxnType,
     /// Bytes stand behind a transaction's body or a part's body.
-    #[error("TrailingBytes")]
     TrailingBytes,
     /// A zxid that is not above the one before it.
-    #[error("OutOfOrder")]
     OutOfOrder,
     /// A commit that does not name the oldest open proposal.
-    #[error("CommitMismatch")]
     CommitMismatch,
     /// A truncation below the base.
-    #[error("CannotTruncate")]
     CannotTruncate,
     /// An image that does not hang together.
-    #[error("BadImage")]
     BadImage,
     /// A leader whose epoch is below the accepted one.
-    #[error("EpochTooSmall")]
     EpochTooSmall,
     /// Another packet than the one that is waited for.
-    #[error("UnexpectedPacket")]
     UnexpectedPacket,
 }
 
@@ -54,6 +43,26 @@ impl Fault {
         ensures { result ≡ fault_number self }
     {
         self as u8
+    }
+
+    /// The word by which the fault is named, which is its variant's.
+    pub fn word(self) -> &'static str
+        ensures { result.now ≡ fault_word self }
+    {
+        match self {
+            Fault::Short => "Short",
+            Fault::BadLength => "BadLength",
+            Fault::BadText => "BadText",
+            Fault::BadPath => "BadPath",
+            Fault::BadTxnType => "BadTxnType",
+            Fault::TrailingBytes => "TrailingBytes",
+            Fault::OutOfOrder => "OutOfOrder",
+            Fault::CommitMismatch => "CommitMismatch",
+            Fault::CannotTruncate => "CannotTruncate",
+            Fault::BadImage => "BadImage",
+            Fault::EpochTooSmall => "EpochTooSmall",
+            Fault::UnexpectedPacket => "UnexpectedPacket",
+        }
     }
 }
 

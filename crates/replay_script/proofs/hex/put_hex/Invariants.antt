@@ -1,5 +1,5 @@
 use Rattle.std.proofs.Common.{◌≡◌, ◌++◌, take}
-use Rattle.replay_script.specs.Hex.{digits}
+use Rattle.values.specs.Hex.{digits}
 use Rattle.replay_script.proofs.hex.put_hex.Given as goal
 
 abbrev pub invariant-loop-byte : goal.invariant-loop-byte

@@ -1,6 +1,6 @@
 use Rattle.std.proofs.Common.{◌≡◌, ◌+◌, None, drop, get_or, sym, ap, subst, ◌<◌, IfSome, ◌∙◌, arith}
-use Rattle.replay_script.specs.Number.{◌>>=◌}
-use Rattle.replay_script.specs.Hex.{bytes_of, without_blanks, at_least_one}
+use Rattle.values.specs.Maybe.{◌>>=◌}
+use Rattle.values.specs.Hex.{bytes_of, without_blanks, at_least_one}
 use Rattle.replay_script.proofs.Digits.{bytes_behind, bytes_behind_none, first_read, onto, second_read, without_blanks_kept}
 use Rattle.replay_script.proofs.hex.read_hex.Goals as goal
 use Rattle.replay_script.proofs.hex.read_hex.Goals.{in-None, in-Some-high+in_ok-push-in-Some-high}

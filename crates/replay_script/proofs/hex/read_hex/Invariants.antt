@@ -1,5 +1,5 @@
 use Rattle.std.proofs.Common.{◌≡◌, ◌<◌, drop, IfSome}
-use Rattle.replay_script.specs.Hex.{without_blanks, bytes_of}
+use Rattle.values.specs.Hex.{without_blanks, bytes_of}
 use Rattle.replay_script.proofs.Digits.{bytes_behind, onto}
 use Rattle.replay_script.proofs.hex.read_hex.Given as goal
 

@@ -5,7 +5,7 @@ use Rattle.data_tree.specs.declared.node.Node.{Node}
 use Rattle.jute.specs.declared.stat.StatPersisted.{StatPersisted}
 use Rattle.ephemerals.proofs.Totals.{path_total}
 use Rattle.std.proofs.lemmas.Bool.{not-false}
-use Rattle.ephemerals.proofs.SetSteps.{insert-present}
+use Rattle.values.proofs.SetSteps.{insert-present}
 use Rattle.data_tree.proofs.NodeUpdates.{added_child_taken}
 use Rattle.data_tree.proofs.node.Node.add_child.Goals as goal
 
