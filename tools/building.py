@@ -143,9 +143,9 @@ class Build:
             while len(self.done) < len(self.crates):
                 if self.now is None:
                     self.start()
-                elif self.failed():
+                if self.failed():
                     return self.now
-                else:
+                if self.now is not None:
                     self.tell()
                     time.sleep(0.2)
             return None
@@ -158,7 +158,7 @@ def build(program, before):
     """Proves and builds a program. Returns whether all went well, and says what went wrong."""
     whole = Build(program, before)
     count = sum(whole.weights.values())
-    long = how_long(before) if before else "10 minutes on four idle processors"
+    long = how_long(before) if before else "8 minutes on four idle processors"
     say(f"proving and building {len(whole.crates)} crates with {count} functions, which takes about {long}")
     failed = whole.run()
     if not failed:
