@@ -25,7 +25,8 @@ use Rattle.observer_core.specs.declared.request.Request.{Request}
 use Rattle.observer_core.specs.declared.request.Request.TheVariants.{GetData}
 use Rattle.observer_core.specs.Machine.{Connection, World, Machine}
 use Rattle.observer_core.specs.Request.{call_in}
-use Rattle.observer_core.specs.Look.{look, refusal, BAD_ARGUMENTS}
+use Rattle.observer_core.specs.Look.{look, refusal}
+use Rattle.jute.specs.declared.codes.TheConstants.{BAD_ARGUMENTS}
 use Rattle.observer_core.specs.Reply.{reply}
 use Rattle.observer_core.specs.Play.{Happened, behind, quiet, happening, carried_bytes, with_meant, fire, apply, inform, receive_as, receive, Delivery, deliver_as, deliver, is_refused, deliver_all, end_at, leave_leader, take_leader_bytes, send, answer, request, call, serve_as, serve, is_closed, keep, wait_if_open, frames, take_client_bytes, happen}
 use Rattle.observer_core.specs.Logs.{zxid_after, Rises, FollowsItsLog, LogsAreFollowed}

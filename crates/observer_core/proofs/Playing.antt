@@ -23,7 +23,8 @@ use Rattle.observer_core.specs.declared.event.Output.{Output}
 use Rattle.observer_core.specs.declared.event.Output.TheVariants.{CloseClient}
 use Rattle.observer_core.specs.Machine.{Connection, Connections, World, Machine}
 use Rattle.observer_core.specs.Request.{call_in}
-use Rattle.observer_core.specs.Look.{look, refusal, BAD_ARGUMENTS}
+use Rattle.observer_core.specs.Look.{look, refusal}
+use Rattle.jute.specs.declared.codes.TheConstants.{BAD_ARGUMENTS}
 use Rattle.observer_core.specs.Reply.{reply}
 use Rattle.observer_core.specs.Play.{Happened, behind, quiet, happening, Delivery, deliver, is_refused, end_at, deliver_all, leave_leader, take_leader_bytes, close_client, send, answer, request, call, serve_as, serve, is_closed, keep, wait, wait_if_open, frames, serve_all, take_client_bytes, at_client, happen, play}
 use Rattle.observer_core.proofs.Steps.{behind_behind, passed_over, happening_on}

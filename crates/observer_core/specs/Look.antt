@@ -8,6 +8,7 @@ use lib.Pointwise.{pointwise}
 use Rattle.jute.specs.declared.owned.Acl.{Acl}
 use Rattle.jute.specs.declared.owned.Id.{Id}
 use Rattle.jute.specs.declared.message.GetDataResponse.{GetDataResponse}
+use Rattle.jute.specs.declared.codes.TheConstants.{BAD_ARGUMENTS, NO_NODE, NO_AUTH, READ}
 use Rattle.jute.specs.Records.{get_data_response}
 use Rattle.data_tree.specs.State.{State}
 use Rattle.data_tree.specs.Stats.{shown}
@@ -36,9 +37,9 @@ is_same_id a b = is_same_text a.scheme b.scheme && is_same_text a.id b.id
 abbrev pub is_everybody : Id → Bool
 is_everybody id = is_same_text id.scheme (codes "world") && is_same_text id.id (codes "anyone")
 
--- the bit of READ
+-- it has the bit of READ
 abbrev pub lets_read : Acl → Bool
-lets_read acl = not (bit_and (cast_unsigned w32 acl.perms) 1 == 0)
+lets_read acl = not (bit_and (cast_unsigned w32 acl.perms) READ == 0)
 
 -- the entry has that bit, and stands for one of the ids or for everybody
 abbrev pub grants_read : List Id → Acl → Bool
@@ -49,15 +50,6 @@ abbrev pub may_read : List Id → List Acl → Bool
 may_read ids acls = length acls == 0 || list_any (grants_read ids) acls
 
 -- ---- errors
-
-abbrev pub BAD_ARGUMENTS : ℤ
-BAD_ARGUMENTS = negsuc 7
-
-abbrev pub NO_NODE : ℤ
-NO_NODE = negsuc 100
-
-abbrev pub NO_AUTH : ℤ
-NO_AUTH = negsuc 101
 
 -- an error has no body
 abbrev pub refusal : ℤ → Look

@@ -29,7 +29,8 @@ use Rattle.observer_core.specs.declared.request.Request.{Request}
 use Rattle.observer_core.specs.declared.request.Request.TheVariants.{GetData}
 use Rattle.observer_core.specs.Machine.{Learner, Connection, Connections, World, Machine}
 use Rattle.observer_core.specs.Request.{call_in}
-use Rattle.observer_core.specs.Look.{Look, look, refusal, BAD_ARGUMENTS}
+use Rattle.observer_core.specs.Look.{Look, look, refusal}
+use Rattle.jute.specs.declared.codes.TheConstants.{BAD_ARGUMENTS}
 use Rattle.observer_core.specs.Reply.{reply}
 
 -- ---- steps

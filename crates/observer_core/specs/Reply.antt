@@ -1,15 +1,17 @@
 -- How a look is sent: a frame with a header and a body (zookeeper.jute, ReplyHeader).
 use Rattle.std.specs.Prelude.{ℕ, ℤ, List, ◌++◌, length, Option, Some, None, ◌^◌, ◌-◌, nat_le, if◌then◌else◌}
 use Rattle.jute.specs.Frame.{framed}
+use Rattle.jute.specs.declared.message.ReplyHeader.{ReplyHeader}
 use Rattle.jute.specs.Records.{reply_header}
 use Rattle.observer_core.specs.Look.{Look}
 
--- a reply's header names the last zxid
-abbrev pub header_text : ℤ → ℤ → ℤ → List ℕ
-header_text xid zxid err = reply_header.written (record { xid = xid; zxid = zxid; err = err })
+-- a header, and what is shown behind it
+abbrev pub headed : ReplyHeader → Look → List ℕ
+headed header look = reply_header.written header ++ look.body
 
+-- a reply's header names the last zxid
 abbrev pub reply_text : ℤ → ℤ → Look → List ℕ
-reply_text xid zxid look = header_text xid zxid look.error ++ look.body
+reply_text xid zxid look = headed (record { xid = xid; zxid = zxid; err = look.error }) look
 
 abbrev pub frame_limit : ℕ
 frame_limit = 2 ^ 31 - 1

@@ -1,12 +1,12 @@
 //! What a read shows.
 
 ghost use Rattle.std.specs.Prelude.{◌≡◌};
-ghost use Rattle.observer_core.specs.Look.{refusal, shown_look, BAD_ARGUMENTS};
+ghost use Rattle.observer_core.specs.Look.{refusal, shown_look};
+ghost use Rattle.jute.specs.declared.codes.TheConstants.{BAD_ARGUMENTS};
 
 use jute::GetDataResponse;
+use jute::codes::BAD_ARGUMENTS;
 use std::marker::Model;
-
-const BAD_ARGUMENTS: i32 = -8;
 
 /// What a read shows: an error's number, or 0 and what the body of a reply is made of, borrowed from the tree.
 #[derive(Drop)]

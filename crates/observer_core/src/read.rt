@@ -8,15 +8,9 @@ ghost use Rattle.observer_core.specs.Look.{look, look_at_path, look_at_node, let
 use crate::look::Look;
 use crate::request::Request;
 use data_tree::{Node, Tree};
+use jute::codes::{NO_AUTH, NO_NODE, READ};
 use jute::{Acl, GetDataResponse, Id};
 use values::{Blob, Bytes, Str};
-
-// The permission to read a node.
-const READ: u32 = 1;
-
-const NO_NODE: i32 = -101;
-
-const NO_AUTH: i32 = -102;
 
 // Whether the permissions have the one to read.
 fn lets_read(acl: &Acl) -> bool

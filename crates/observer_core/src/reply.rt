@@ -1,8 +1,8 @@
 //! How a look is sent.
 
-ghost use Rattle.std.specs.Prelude.{◌≡◌, ◌<◌, ◌^◌, ◌++◌, length, ℤ, IfOk, OnOk};
+ghost use Rattle.std.specs.Prelude.{◌≡◌, ◌<◌, ◌≤◌, ◌^◌, ◌++◌, length, IfOk, IfSome, IfNone, OnOk};
 ghost use Rattle.data_tree.specs.Stats.{length_of};
-ghost use Rattle.observer_core.specs.Reply.{reply, reply_text};
+ghost use Rattle.observer_core.specs.Reply.{reply, headed};
 
 use crate::look::Look;
 use jute::{ReplyHeader, WriteRecord, put_int};
@@ -23,33 +23,31 @@ fn lent_len(bytes: &Option<Bytes<'_>>) -> usize
     }
 }
 
-// How many bytes a reply has behind its length.
-fn reply_len(look: &Look<'_>) -> usize
-    ensures { (xid zxid : ℤ) → result ≡ length (reply_text xid zxid look.now) }
+// How many bytes a reply has behind its length. None: the node's bytes alone are too many for a frame.
+#[tactic(auto, unfolding(jute::specs::Records::reply_header))]
+fn reply_len(header: &ReplyHeader, look: &Look<'_>) -> Option<usize>
+    ensures short { IfSome result (λ n. n ≡ length (headed header.now look.now)) }
+    ensures long { IfNone result (2 ^ 31 ≤ length look.now.body) }
 {
-    match &look.body {
-        Some(response) => 88 + lent_len(&response.bytes),
-        None => 16,
+    let Some(response) = &look.body else {
+        return Some(header.written_len());
+    };
+    if lent_len(&response.bytes) > FRAME_LIMIT {
+        return None;
     }
+    Some(header.written_len() + response.written_len())
 }
 
 // A header, and the body behind it.
 #[tactic(auto, unfolding(jute::specs::Records::reply_header))]
-fn put_reply(out: &mut Vec<u8>, xid: i32, zxid: i64, look: &Look<'_>) -> Result<(), NoMemory>
-    requires { length (reply_text xid zxid look.now) < 2 ^ 31 }
-    ensures { OnOk result (out.new.items ≡ out.old.items ++ reply_text xid zxid look.now) }
+fn put_reply(out: &mut Vec<u8>, header: &ReplyHeader, look: &Look<'_>) -> Result<(), NoMemory>
+    requires { length (headed header.now look.now) < 2 ^ 31 }
+    ensures { OnOk result (out.new.items ≡ out.old.items ++ headed header.now look.now) }
 {
-    let header = ReplyHeader {
-        xid,
-        zxid,
-        err: look.error(),
-    };
+    header.write(out)?;
     match &look.body {
-        None => header.write(out),
-        Some(response) => {
-            header.write(out)?;
-            response.write(out)
-        }
+        None => Ok(()),
+        Some(response) => response.write(out),
     }
 }
 
@@ -57,12 +55,19 @@ fn put_reply(out: &mut Vec<u8>, xid: i32, zxid: i64, look: &Look<'_>) -> Result<
 pub fn reply(alloc: Global, xid: i32, zxid: i64, look: &Look<'_>) -> Result<Option<Blob>, NoMemory>
     ensures { IfOk result (λ frame. frame ≡ reply xid zxid look.now) }
 {
-    let length = reply_len(look);
+    let header = ReplyHeader {
+        xid,
+        zxid,
+        err: look.error(),
+    };
+    let Some(length) = reply_len(&header, look) else {
+        return Ok(None);
+    };
     if length > FRAME_LIMIT {
         return Ok(None);
     }
     let mut out = Vec::with_capacity(alloc, 4 + length)?;
     put_int(&mut out, length as i32)?;
-    put_reply(&mut out, xid, zxid, look)?;
+    put_reply(&mut out, &header, look)?;
     Ok(Some(Blob::from_vec(out)))
 }

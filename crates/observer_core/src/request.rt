@@ -4,12 +4,10 @@ ghost use Rattle.jute.specs.Records.{get_data_request};
 ghost use Rattle.jute.specs.Reads.{GivesWhole};
 ghost use Rattle.observer_core.specs.Request.{call_in, body_of, get_data_body};
 
+use jute::codes::GET_DATA;
 use jute::{GetDataRequest, ReadRecord, Reader, RequestHeader};
 use std::alloc::Global;
 use values::ReadError;
-
-// The type of a getData.
-const GET_DATA: i32 = 4;
 
 /// A request that the tree answers.
 #[derive(Drop)]
