@@ -47,7 +47,7 @@ use Rattle.observer_core.specs.Request.{call_in, call_behind, get_data_body}
 use Rattle.observer_core.specs.Look.{Look, look_at_node, shown_look, get_data_response_of}
 use Rattle.observer_core.specs.Reply.{reply}
 use Rattle.observer_core.specs.Play.{Happened, behind, quiet, happening, inform, apply, receive, deliver_as, deliver, is_refused, leave_leader, end_at, take_leader_bytes, send, answer, serve_as, serve, is_closed, wait_if_open, frames, serve_all, take_client_bytes, at_client, happen, play, new_machine, primed_machine}
-use Rattle.observer_core.specs.Rows.{WorkedRows, inform_of_create, inform_of_set_data, get_front, get_back, reply_of_create, reply_of_set_data, created, overwritten, asked}
+use Rattle.observer_core.specs.Rows.{WorkedRows, spelled, inform_of_create, inform_of_set_data, get_front, get_back, reply_of_create, reply_of_set_data, created, overwritten, asked}
 use Rattle.observer_core.proofs.NatMaps.{get-inserted, insert-insert, entries-empty}
 
 -- ---- texts
@@ -160,10 +160,10 @@ abbrev one_frame : List ℕ → Items (Unit {0}) (List ℕ)
 one_frame f = record { found = f ∷ []; left = place_at tt [] }
 
 abbrev get_frame : List ℕ
-get_frame = 0 ∷ 0 ∷ 0 ∷ 1 ∷ 0 ∷ 0 ∷ 0 ∷ 4 ∷ 0 ∷ 0 ∷ 0 ∷ 2 ∷ 47 ∷ 97 ∷ 0 ∷ []
+get_frame = spelled (codes "00000001 00000004 00000002 2f61 00")
 
 abbrev get_body : List ℕ
-get_body = 0 ∷ 0 ∷ 0 ∷ 2 ∷ 47 ∷ 97 ∷ 0 ∷ []
+get_body = spelled (codes "00000002 2f61 00")
 
 get_found : items frames (place_at tt (get_front ++ get_back)) ≡ one_frame get_frame
 unfolding items_within frame_at judged_at

@@ -20,7 +20,9 @@ use values::{Blob, ByteQueue, Fault, NoMemory, ReadError};
 pub const CLIENT_FRAME_LIMIT: u32 = 1_048_575;
 
 fn close_client(number: u64, world: &mut World, outputs: &mut Vec<Output>) -> Result<(), NoMemory>
-    ensures { Meets result outputs.old.items (close_client number world.old) outputs.new.items world.new }
+    ensures { Meets result outputs.old.items
+        (close_client number world.old)
+        outputs.new.items world.new }
 {
     outputs.push(Output::CloseClient(number))?;
     world.connections.close(number);
@@ -34,7 +36,9 @@ fn send(
     frame: Option<Blob>,
     outputs: &mut Vec<Output>,
 ) -> Result<(), NoMemory>
-    ensures { Meets result outputs.old.items (send number world.old frame) outputs.new.items world.new }
+    ensures { Meets result outputs.old.items
+        (send number world.old frame)
+        outputs.new.items world.new }
 {
     match frame {
         None => close_client(number, world, outputs),
@@ -54,7 +58,9 @@ fn answer_request(
     asked: &Request<'_>,
     outputs: &mut Vec<Output>,
 ) -> Result<(), NoMemory>
-    ensures { Meets result outputs.old.items (request number world.old xid asked.now) outputs.new.items world.new }
+    ensures { Meets result outputs.old.items
+        (request number world.old xid asked.now)
+        outputs.new.items world.new }
 {
     match asked {
         Request::GetData(get_data) => {
@@ -81,7 +87,9 @@ fn answer_call(
     body: &CallBody<'_>,
     outputs: &mut Vec<Output>,
 ) -> Result<(), NoMemory>
-    ensures { Meets result outputs.old.items (call number world.old xid body.now) outputs.new.items world.new }
+    ensures { Meets result outputs.old.items
+        (call number world.old xid body.now)
+        outputs.new.items world.new }
 {
     match body {
         CallBody::Read(asked) => answer_request(alloc, number, world, xid, asked, outputs),
@@ -106,7 +114,9 @@ fn serve(
     frame: &[u8],
     outputs: &mut Vec<Output>,
 ) -> Result<(), NoMemory>
-    ensures { Meets result outputs.old.items (serve number world.old frame.now) outputs.new.items world.new }
+    ensures { Meets result outputs.old.items
+        (serve number world.old frame.now)
+        outputs.new.items world.new }
 {
     match read_call(alloc, frame) {
         Ok(call) => answer_call(alloc, number, world, call.xid, &call.body, outputs),
@@ -140,7 +150,9 @@ fn serve_all(
     mut waiting: ByteQueue,
     outputs: &mut Vec<Output>,
 ) -> Result<(), NoMemory>
-    ensures { Meets result outputs.old.items (serve_all number world.old (items frames (place_at tt waiting))) outputs.new.items world.new }
+    ensures { Meets result outputs.old.items
+        (serve_all number world.old (items frames (place_at tt waiting)))
+        outputs.new.items world.new }
 {
     'frame: while world.connections.is_open(number) {
         match first_frame(waiting.as_slice()) {
@@ -166,7 +178,9 @@ pub fn take_client_bytes(
     bytes: &[u8],
     outputs: &mut Vec<Output>,
 ) -> Result<(), NoMemory>
-    ensures { Meets result outputs.old.items (take_client_bytes number world.old (finmap.get world.old.connections number) bytes.now) outputs.new.items world.new }
+    ensures { Meets result outputs.old.items
+        (take_client_bytes number world.old (finmap.get world.old.connections number) bytes.now)
+        outputs.new.items world.new }
 {
     let none = ByteQueue::new(alloc);
     let Some(mut waiting) = world.connections.replace_rest(number, none) else {

@@ -60,7 +60,8 @@ fn started(
     leader: Option<PacketFeed>,
     connections: Connections,
 ) -> Result<Engine, NoMemory>
-    ensures { IfOk result (λ e. e ≡ Some (started_machine config epochs.0 epochs.1 fresh leader connections)) }
+    ensures { IfOk result
+        (λ e. e ≡ Some (started_machine config epochs.0 epochs.1 fresh leader connections)) }
 {
     let (accepted_epoch, current_epoch) = epochs;
     let tree = Tree::fresh(alloc)?;

@@ -10,13 +10,18 @@ ghost use Rattle.observer_core.specs.Rows.{WorkedRows};
 
 /// Two lists of events, one behind the other.
 pub fn plays_on()
-    ensures { (m : Machine) (a b : List Event) → play m (a ++ b) ≡ behind (play m a).outputs (play (play m a).after b) }
+    ensures { (m : Machine) (a b : List Event)
+        → play m (a ++ b) ≡ behind (play m a).outputs (play (play m a).after b) }
 {}
 
 /// A piece of the leader's bytes, or of a client's, may be cut in two.
 pub fn cut_anywhere()
-    ensures leader { (m : Machine) (a b : List ℕ) (events : List Event) → play m (LeaderBytes (a ++ b) ∷ events) ≡ play m (LeaderBytes a ∷ LeaderBytes b ∷ events) }
-    ensures client { (m : Machine) (n : ℕ) (a b : List ℕ) (events : List Event) → play m (ClientBytes n (a ++ b) ∷ events) ≡ play m (ClientBytes n a ∷ ClientBytes n b ∷ events) }
+    ensures leader { (m : Machine) (a b : List ℕ) (events : List Event)
+        → play m (LeaderBytes (a ++ b) ∷ events)
+        ≡ play m (LeaderBytes a ∷ LeaderBytes b ∷ events) }
+    ensures client { (m : Machine) (n : ℕ) (a b : List ℕ) (events : List Event)
+        → play m (ClientBytes n (a ++ b) ∷ events)
+        ≡ play m (ClientBytes n a ∷ ClientBytes n b ∷ events) }
 {}
 
 /// The tree is what the log makes of the base, the last zxid is the log's, and the log's zxids rise: at the start and after

@@ -39,7 +39,9 @@ fn carried_bytes(packet: &QuorumPacket) -> &[u8]
 
 // A transaction to apply.
 fn inform(alloc: Global, world: &mut World, packet: &QuorumPacket) -> Result<(), ReadError>
-    ensures { Receives result (inform world.old (whole txn (carried_bytes packet.now.bytes))) world.old world.new }
+    ensures { Receives result
+        (inform world.old (whole txn (carried_bytes packet.now.bytes)))
+        world.old world.new }
 {
     let txn = decode_txn(alloc, carried_bytes(packet))?;
     apply(alloc, world, txn)
@@ -93,7 +95,9 @@ fn drain(alloc: Global, feed: &mut PacketFeed, world: &mut World) -> Result<Opti
 
 // Closes all connections, in the order of their numbers.
 fn close_all(connections: &mut Connections, outputs: &mut Vec<Output>) -> Result<(), NoMemory>
-    ensures { Meets result outputs.old.items (cleared connections.old) outputs.new.items connections.new }
+    ensures { Meets result outputs.old.items
+        (cleared connections.old)
+        outputs.new.items connections.new }
 {
     while let Some(number) = connections.close_first() {
         outputs.push(Output::CloseClient(number))?;
@@ -114,7 +118,9 @@ pub fn take_leader_bytes(
     bytes: &[u8],
     outputs: &mut Vec<Output>,
 ) -> Result<(), NoMemory>
-    ensures { Meets result outputs.old.items (take_leader_bytes machine.old.leader machine.old.world bytes.now) outputs.new.items machine.new }
+    ensures { Meets result outputs.old.items
+        (take_leader_bytes machine.old.leader machine.old.world bytes.now)
+        outputs.new.items machine.new }
 {
     let Some(mut feed) = machine.leader.take() else {
         return Ok(());

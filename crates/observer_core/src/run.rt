@@ -16,7 +16,9 @@ fn happen(
     event: &Event<'_>,
     outputs: &mut Vec<Output>,
 ) -> Result<(), NoMemory>
-    ensures { Meets result outputs.old.items (happen machine.old event.now) outputs.new.items machine.new }
+    ensures { Meets result outputs.old.items
+        (happen machine.old event.now)
+        outputs.new.items machine.new }
 {
     match event {
         Event::LeaderBytes(bytes) => take_leader_bytes(alloc, machine, bytes.as_slice(), outputs),
@@ -45,7 +47,9 @@ pub fn run(
     events: &[Event<'_>],
     outputs: &mut Vec<Output>,
 ) -> Result<(), NoMemory>
-    ensures { Meets result outputs.old.items (play machine.old events.now) outputs.new.items machine.new }
+    ensures { Meets result outputs.old.items
+        (play machine.old events.now)
+        outputs.new.items machine.new }
 {
     for event in events {
         happen(alloc, machine, event, outputs)?;

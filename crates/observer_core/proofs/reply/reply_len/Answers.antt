@@ -11,7 +11,7 @@ pub returns-then-lent_len-gt-FRAME_LIMIT-clause-long : goal.returns-then-lent_le
 returns-then-lent_len-gt-FRAME_LIMIT-clause-long c =
     let is : c.args.look.now ≡ look_of c.look.inside.error (Some c.in-Some.response) = sym c.look.view_is ∙ ap (look_of c.look.inside.error) c.in-Some.is in
     let long : length c.args.look.now.body ≡ 72 + c.lent_len.result =
-      ap (λ (l : Look). length l.body) is ∙ response_length c.in-Some.response ∙ ap (λ n. 72 + n) (sym c.lent_len.ensures.length) in
+    ap (λ (l : Look). length l.body) is ∙ response_length c.in-Some.response ∙ ap (λ n. 72 + n) (sym c.lent_len.ensures.length) in
     omega (arith, long, c.if-lent_len-gt-FRAME_LIMIT.true)
 
 pub written_len-requires-2-clause-small : goal.written_len-requires-2-clause-small
