@@ -1,6 +1,6 @@
 //! The data tree.
 
-ghost use Rattle.std.specs.Prelude.{◌≡◌, ◌++◌, ◌↔◌, OnOk, OnErr, IfOk, IsTrue};
+ghost use Rattle.std.specs.Prelude.{◌≡◌, ◌++◌, [], ◌↔◌, OnOk, OnErr, IfOk, IsTrue};
 ghost use Rattle.std.specs.Option.{option_copied, option_map};
 ghost use Rattle.std.specs.FinMap as finmap;
 ghost use Rattle.data_tree.specs.Making.{with_placed_node};
@@ -9,6 +9,7 @@ ghost use Rattle.data_tree.specs.Whole.{IsWhole};
 ghost use Rattle.data_tree.specs.Meaning.{of_operation, of_set_acl, of_create_session, of_close_session, of_parts, of_multi, deletes, has_error, mean, answer_of, fresh};
 ghost use Rattle.data_tree.specs.Refused.{IsAfterFront};
 ghost use Rattle.data_tree.specs.Refused.{IsPartly, IsLeftBy};
+ghost use Rattle.data_tree.specs.Inner.Doing.{Does};
 ghost use Rattle.data_tree.specs.Stats.{shown, children_of};
 ghost use Rattle.ephemerals.specs.Orders.{in_order};
 
@@ -160,14 +161,8 @@ impl Tree {
         create: &Create,
         triggers: &mut Vec<Trigger>,
     ) -> Result<i32, NoMemory>
-        ensures state { OnOk result
-            (self.new ≡ (of_operation header.now (Operation.Create create.now) self.old).state) }
-        ensures error { IfOk result
-            (λ err. err ≡ (of_operation header.now (Operation.Create create.now) self.old).err) }
-        ensures fired { OnOk result
-            (triggers.new.items ≡ triggers.old.items ++
-            (of_operation header.now (Operation.Create create.now) self.old).triggers) }
-        ensures err { OnErr result (self.new ≡ self.old) }
+        ensures { Does (of_operation header.now (Operation.Create create.now) self.old) result
+            self.old self.new triggers.old.items triggers.new.items }
     {
         let parent = create.path.parent();
         let before = triggers.len();
@@ -200,14 +195,8 @@ impl Tree {
         path: &str,
         triggers: &mut Vec<Trigger>,
     ) -> Result<i32, NoMemory>
-        ensures state { OnOk result
-            (self.new ≡ (of_operation header.now (Operation.Delete path.now) self.old).state) }
-        ensures error { IfOk result
-            (λ err. err ≡ (of_operation header.now (Operation.Delete path.now) self.old).err) }
-        ensures fired { OnOk result
-            (triggers.new.items ≡ triggers.old.items ++
-            (of_operation header.now (Operation.Delete path.now) self.old).triggers) }
-        ensures err { OnErr result (self.new ≡ self.old) }
+        ensures { Does (of_operation header.now (Operation.Delete path.now) self.old) result
+            self.old self.new triggers.old.items triggers.new.items }
     {
         let before = triggers.len();
         fire_deleted(triggers, alloc, path, parent_of(path))?;
@@ -233,14 +222,8 @@ impl Tree {
         body: &SetData,
         triggers: &mut Vec<Trigger>,
     ) -> Result<i32, NoMemory>
-        ensures state { OnOk result
-            (self.new ≡ (of_operation header.now (Operation.SetData body.now) self.old).state) }
-        ensures error { IfOk result
-            (λ err. err ≡ (of_operation header.now (Operation.SetData body.now) self.old).err) }
-        ensures fired { OnOk result
-            (triggers.new.items ≡ triggers.old.items ++
-            (of_operation header.now (Operation.SetData body.now) self.old).triggers) }
-        ensures err { OnErr result (self.new ≡ self.old) }
+        ensures { Does (of_operation header.now (Operation.SetData body.now) self.old) result
+            self.old self.new triggers.old.items triggers.new.items }
     {
         let before = triggers.len();
         fire_data_changed(triggers, alloc, body.path.as_str())?;
@@ -252,9 +235,7 @@ impl Tree {
     }
 
     fn set_acl(&mut self, alloc: Global, body: &SetAcl) -> Result<i32, NoMemory>
-        ensures state { OnOk result (self.new ≡ (of_set_acl body.now self.old).state) }
-        ensures error { IfOk result (λ err. err ≡ (of_set_acl body.now self.old).err) }
-        ensures err { OnErr result (self.new ≡ self.old) }
+        ensures { Does (of_set_acl body.now self.old) result self.old self.new [] [] }
     {
         if !self.nodes.set_acl(alloc, body.path.as_str(), body)? {
             return Ok(NO_NODE);
@@ -278,14 +259,8 @@ impl Tree {
         operation: &Operation,
         triggers: &mut Vec<Trigger>,
     ) -> Result<i32, NoMemory>
-        ensures state { OnOk result
-            (self.new ≡ (of_operation header.now operation.now self.old).state) }
-        ensures error { IfOk result
-            (λ err. err ≡ (of_operation header.now operation.now self.old).err) }
-        ensures fired { OnOk result
-            (triggers.new.items ≡ triggers.old.items ++
-            (of_operation header.now operation.now self.old).triggers) }
-        ensures err { OnErr result (self.new ≡ self.old) }
+        ensures { Does (of_operation header.now operation.now self.old) result
+            self.old self.new triggers.old.items triggers.new.items }
     {
         match operation {
             Operation::Create(create) => self.create(alloc, header, create, triggers),
