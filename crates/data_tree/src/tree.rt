@@ -73,7 +73,8 @@ impl Tree {
         })
     }
 
-    /// A tree without a node and without a session, which takes no memory: where a tree that is read from an image begins.
+    /// A tree without a node and without a session, which takes no memory: where a tree that is read from an image
+    /// begins.
     pub fn empty(alloc: Global) -> Tree
         ensures { result ≡ empty_state }
     {
@@ -103,8 +104,8 @@ impl Tree {
         self.timeouts.set(session, timeout)
     }
 
-    /// Whether a node can be put at the path: at "/" where there is no node, and at any other path where it is new and its parent
-    /// is there.
+    /// Whether a node can be put at the path: at "/" where there is no node, and at any other path where it is new
+    /// and its parent is there.
     pub fn has_place(&self, path: &Path) -> bool
         ensures { result ≡ has_place self.now.nodes path.now }
     {
@@ -114,7 +115,8 @@ impl Tree {
         self.node(path.as_str()).is_none() && self.node(path.parent()).is_some()
     }
 
-    /// Adds a node at a path that has a place, its name in the parent and its owner's pair. Refused, it leaves the tree as it was.
+    /// Adds a node at a path that has a place, its name in the parent and its owner's pair. Refused, it leaves the
+    /// tree as it was.
     pub fn put_node(&mut self, alloc: Global, path: &Path, node: Node) -> Result<(), NoMemory>
         requires place { IsTrue (has_place self.old.nodes path.now) }
         ensures ok { OnOk result (self.new ≡ with_node self.old path.now node) }
@@ -332,8 +334,8 @@ impl Tree {
         self.delete_all(alloc, header, paths, triggers)
     }
 
-    /// Does a transaction. Refused for want of memory, a multi has done a front of its parts, a closeSession leaves a tree that is
-    /// only to be dropped, and any other leaves the tree as it was.
+    /// Does a transaction. Refused for want of memory, a multi has done a front of its parts, a closeSession leaves a
+    /// tree that is only to be dropped, and any other leaves the tree as it was.
     pub fn apply(&mut self, alloc: Global, txn: &Txn) -> Result<Outcome, NoMemory>
         ensures state { OnOk result (self.new ≡ (mean self.old txn.now).state) }
         ensures answer { IfOk result (λ o. o ≡ answer_of (mean self.old txn.now)) }
@@ -420,8 +422,8 @@ impl Tree {
         &self.ephemerals
     }
 
-    /// Whether the tree is whole: there is a root; each other node has a parent that lists its name; each name that a node lists has
-    /// a node; and the ephemerals are the owned nodes' paths, each with its owner.
+    /// Whether the tree is whole: there is a root; each other node has a parent that lists its name; each name that a
+    /// node lists has a node; and the ephemerals are the owned nodes' paths, each with its owner.
     pub fn is_whole(&self, alloc: Global) -> Result<bool, NoMemory>
         ensures { IfOk result (λ whole. IsTrue whole ↔ IsWhole self.now) }
     {
