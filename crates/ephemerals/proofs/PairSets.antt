@@ -1,14 +1,12 @@
 -- Sets of paths by session, read as a set of pairs.
-use Rattle.std.proofs.Common.{◌≡◌, ℤ, List, [], ◌∷◌, ◌++◌, Bool, true, false, cond, not, ◌||◌, ◌&&◌, Option, Some, None, IsSome, refl, sym, ap, subst, ◌∙◌, map, if◌then◌else◌, pos}
+use Rattle.std.proofs.Common.{◌≡◌, ℤ, List, [], ◌∷◌, ◌++◌, Bool, true, false, cond, not, ◌||◌, ◌&&◌, Option, Some, None, IsSome, refl, sym, ap, subst, ◌∙◌, map}
 use Rattle.std.proofs.Math.Bool.{and-false, or-false}
 use Rattle.std.specs.BTreeMap as tree
 use Rattle.std.specs.BTreeMap.{BTreeMap, is_at}
 use Rattle.std.specs.Map.{lookup, keys_of}
-use Rattle.std.specs.List.{list_any, filter}
-use Rattle.std.specs.Ordering.{eq_by_cmp, is_eq, int_cmp, int_eq, ordering_then}
+use Rattle.std.specs.List.{list_any}
+use Rattle.std.specs.Ordering.{eq_by_cmp, is_eq, int_cmp}
 use Rattle.std.specs.Cmp.{int_cmp_total, eq_by_cmp_equiv, tied_itself}
-use Rattle.std.specs.declared.cmp.Ordering.{Ordering}
-use Rattle.std.specs.declared.cmp.Ordering.TheVariants.{Less, Equal, Greater}
 use Rattle.std.specs.List.{IsDistinct}
 use Rattle.std.proofs.lemmas.Map.{NonePasses}
 use Rattle.std.proofs.lemmas.Map.Views.{tells_apart}
