@@ -1,27 +1,21 @@
 -- The nodes that a loop went over, each with its pair, and how many of them are owned.
-use Rattle.std.proofs.Common.{◌≡◌, ℕ, ℤ, pos, ◌+◌, ◌<◌, ◌^◌, List, [], ◌∷◌, ◌++◌, Bool, true, false, cond, not, ◌&&◌, ◌||◌, Some, None, IsTrue, refl, sym, ap, subst, ◌∙◌, ◌↔◌, length, string_bytes, append-nil, length-append, ◌≤◌, arith, if◌then◌else◌}
+use Rattle.std.proofs.Common.{◌≡◌, ℕ, ℤ, pos, ◌+◌, ◌<◌, ◌^◌, List, [], ◌∷◌, ◌++◌, true, false, not, ◌&&◌, Some, IsTrue, refl, sym, ap, subst, ◌∙◌, ◌↔◌, length, string_bytes, append-nil, length-append, ◌≤◌, arith, if◌then◌else◌}
 use mathlib.Core.Bool.{true≢false}
 use Rattle.std.specs.Map.{lookup, keys_of}
-use Rattle.std.specs.List.{list_any}
 use Rattle.std.specs.List.Sorted.{IsStrictlySortedBy}
-use Rattle.std.specs.Ordering.{eq_by_cmp, is_eq, int_eq, int_cmp, ordering_then}
-use Rattle.std.specs.Cmp.{tied_itself, int_cmp_total, eq_by_cmp_equiv}
+use Rattle.std.specs.Ordering.{is_eq, int_eq}
+use Rattle.std.specs.Cmp.{tied_itself, int_cmp_total}
 use Rattle.std.specs.String.{string_cmp}
 use Rattle.std.specs.declared.string.String.{String}
-use Rattle.std.specs.declared.cmp.Ordering.{Ordering}
-use Rattle.std.specs.declared.cmp.Ordering.TheVariants.{Less, Equal, Greater}
-use Rattle.std.proofs.lemmas.Map.Keys.{sorted_head, sorted_tail}
-use Rattle.std.proofs.lemmas.Map.Lookups.{exact_bytes, exact_signed}
-use Rattle.std.proofs.lemmas.Map.Views.{tells_apart}
 use Rattle.std.specs.FinMap as finmap
 use Rattle.std.specs.FinSet as set
-use Rattle.ephemerals.specs.Orders.{Bytes, Pairs, path_cmp, pair_cmp}
+use Rattle.ephemerals.specs.Orders.{Bytes, Pairs, pair_cmp}
 use Rattle.data_tree.specs.Nodes.{Nodes}
 use Rattle.data_tree.specs.Inner.NodesView.{nodes_of}
 use Rattle.data_tree.specs.Whole.{is_owner, AreOwned}
 use Rattle.data_tree.specs.declared.node.Node.{Node}
-use Rattle.ephemerals.proofs.Totals.{path_total, pair_total, pair_exact}
-use Rattle.data_tree.proofs.TextMaps.{get-seen, none_ahead}
+use Rattle.ephemerals.proofs.Totals.{pair_total, pair_exact}
+use Rattle.data_tree.proofs.TextMaps.{get-seen}
 use Rattle.ephemerals.proofs.TextKeys.{query}
 use Rattle.data_tree.proofs.Counting.{AreDistinct, AreIn, as_many, all_counted}
 use Rattle.ephemerals.proofs.Ties.{same_session}

@@ -1,29 +1,22 @@
 -- The owners of a map's nodes with their paths, as a list of pairs.
-use Rattle.std.proofs.Common.{◌≡◌, ℕ, ℤ, pos, ◌+◌, ◌<◌, ◌^◌, List, [], ◌∷◌, ◌++◌, Bool, true, false, cond, not, ◌&&◌, ◌||◌, Some, None, IsTrue, refl, sym, ap, subst, ◌∙◌, ◌↔◌, length, string_bytes, append-nil, length-append, ◌≤◌, arith, if◌then◌else◌}
-use mathlib.Core.Bool.{true≢false}
+use Rattle.std.proofs.Common.{◌≡◌, ℤ, pos, List, [], ◌∷◌, ◌++◌, Bool, true, false, cond, not, ◌&&◌, ◌||◌, Some, None, refl, sym, ap, ◌∙◌, string_bytes, if◌then◌else◌}
 use Rattle.std.specs.Map.{lookup, keys_of}
 use Rattle.std.specs.List.{list_any}
 use Rattle.std.specs.List.Sorted.{IsStrictlySortedBy}
-use Rattle.std.specs.Ordering.{eq_by_cmp, is_eq, int_eq, int_cmp, ordering_then}
-use Rattle.std.specs.Cmp.{tied_itself, int_cmp_total, eq_by_cmp_equiv}
+use Rattle.std.specs.Ordering.{eq_by_cmp, is_eq, int_eq, int_cmp}
+use Rattle.std.specs.Cmp.{tied_itself}
 use Rattle.std.specs.String.{string_cmp}
 use Rattle.std.specs.declared.string.String.{String}
-use Rattle.std.specs.declared.cmp.Ordering.{Ordering}
-use Rattle.std.specs.declared.cmp.Ordering.TheVariants.{Less, Equal, Greater}
 use Rattle.std.proofs.lemmas.Map.Keys.{sorted_head, sorted_tail}
 use Rattle.std.proofs.lemmas.Map.Lookups.{exact_bytes, exact_signed}
 use Rattle.std.proofs.lemmas.Map.Views.{tells_apart}
-use Rattle.std.specs.FinMap as finmap
-use Rattle.std.specs.FinSet as set
-use Rattle.ephemerals.specs.Orders.{Bytes, Pairs, path_cmp, pair_cmp}
-use Rattle.data_tree.specs.Nodes.{Nodes}
-use Rattle.data_tree.specs.Inner.NodesView.{nodes_of}
-use Rattle.data_tree.specs.Whole.{is_owner, AreOwned}
+use Rattle.ephemerals.specs.Orders.{Bytes, path_cmp, pair_cmp}
+use Rattle.data_tree.specs.Whole.{is_owner}
 use Rattle.data_tree.specs.declared.node.Node.{Node}
-use Rattle.ephemerals.proofs.Totals.{path_total, pair_total, pair_exact}
-use Rattle.data_tree.proofs.TextMaps.{get-seen, none_ahead}
+use Rattle.ephemerals.proofs.Totals.{path_total}
+use Rattle.data_tree.proofs.TextMaps.{none_ahead}
 use Rattle.ephemerals.proofs.TextKeys.{query}
-use Rattle.data_tree.proofs.Counting.{AreDistinct, AreIn, as_many, all_counted}
+use Rattle.data_tree.proofs.Counting.{AreDistinct}
 use Rattle.std.proofs.Math.Bool.{and-false, and-true, or-false}
 use Rattle.ephemerals.proofs.Ties.{tied_then, same_session}
 

@@ -1,5 +1,5 @@
 -- What a transaction does to the state, and what it answers (ZooKeeper Programmer's Guide).
-use Rattle.std.specs.Prelude.{ℤ, pos, negsuc, ◌+ℤ◌, List, [], ◌∷◌, ◌++◌, if◌then◌else◌, Bool, false, ◌||◌, Option, Some, None, is_some, map, int_lt, codes}
+use Rattle.std.specs.Prelude.{ℤ, pos, negsuc, ◌+ℤ◌, List, [], ◌∷◌, ◌++◌, if◌then◌else◌, Bool, Option, Some, None, is_some, map, int_lt, codes}
 use Rattle.std.specs.Int.{int_wrap, w32}
 use Rattle.std.specs.Option.{unwrap_or}
 use Rattle.std.specs.List.{list_any}

@@ -1,6 +1,5 @@
 -- The children of a node, one more or one less: what the program does to a parent.
 use Rattle.std.specs.Prelude.{◌≡◌, ℤ, Bool, true, false, not, if◌then◌else◌, Option, Some, None, int_lt}
-use Rattle.std.specs.FinMap as finmap
 use Rattle.std.specs.FinSet as set
 use Rattle.ephemerals.specs.Orders.{Bytes, Names}
 use Rattle.txn_codec.specs.Paths.{child_of}

@@ -1,4 +1,4 @@
-use Rattle.std.proofs.Common.{◌≡◌, ◌++◌, drop, pos}
+use Rattle.std.proofs.Common.{◌≡◌, ◌++◌, drop}
 use Rattle.data_tree.specs.Meaning.{errors_of_failed}
 use Rattle.data_tree.proofs.Multis.{errors_behind}
 use Rattle.data_tree.proofs.multi.failed_outcome.Given as goal
