@@ -17,7 +17,7 @@ use crate::added_child::AddedChild;
 use crate::multi::{failed_outcome, first_error, has_error};
 use crate::node::Node;
 use crate::node_map::NodeMap;
-use crate::outcome::{Outcome, Trigger, fire_created, fire_data_changed, fire_deleted};
+use crate::outcome::{Outcome, Trigger, fire_data_changed, fire_with_parent};
 use crate::sessions::Timeouts;
 use ephemerals::{Ephemerals, TextSet};
 use jute::Stat;
@@ -27,7 +27,7 @@ use std::marker::Model;
 use txn_codec::{
     Body, Create, Operation, Path, SetAcl, SetData, Txn, TxnHeader, name_of, parent_of,
 };
-use values::{Listed, NoMemory};
+use values::{Listed, NoMemory, Text};
 
 /// The nodes, the sessions' ephemerals, and the sessions' timeouts.
 #[derive(Drop)]
@@ -168,7 +168,8 @@ impl Tree {
     {
         let parent = create.path.parent();
         let before = triggers.len();
-        fire_created(triggers, alloc, create.path.as_str(), parent)?;
+        let created = Trigger::Created(Text::new(alloc, create.path.as_str())?);
+        fire_with_parent(triggers, alloc, created, parent)?;
         let node = Node::created(alloc, header, create)?;
         let name = String::from_str(alloc, create.path.name())?;
         match self.nodes.add_child(parent, name, header, create)? {
@@ -201,7 +202,8 @@ impl Tree {
             self.old self.new triggers.old.items triggers.new.items }
     {
         let before = triggers.len();
-        fire_deleted(triggers, alloc, path, parent_of(path))?;
+        let deleted = Trigger::Deleted(Text::new(alloc, path)?);
+        fire_with_parent(triggers, alloc, deleted, parent_of(path))?;
         let Some(node) = self.nodes.remove(path) else {
             triggers.truncate(before);
             return Ok(NO_NODE);
