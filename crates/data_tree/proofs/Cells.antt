@@ -19,7 +19,8 @@ use Rattle.ephemerals.proofs.Totals.{path_total, pair_total, pair_exact}
 -- states with the same cells and sessions are equal
 pub same_state : (s t : State) → s.sessions ≡ t.sessions → ((path : Bytes) → IsSameCell s t path) → s ≡ t
 same_state s t sessions cells =
-    let nodes : s.nodes ≡ t.nodes = finmap.same_map path_total exact_bytes s.nodes t.nodes (λ path. (cells path).node) in
+    let nodes : s.nodes ≡ t.nodes =
+    finmap.same_map path_total exact_bytes s.nodes t.nodes (λ path. (cells path).node) in
     let pairs : s.pairs ≡ t.pairs = set.same_set pair_total pair_exact s.pairs t.pairs (λ p. (cells p.1).owners p.0) in
     λ i. record { nodes = nodes i; pairs = pairs i; sessions = sessions i }
 
@@ -47,18 +48,63 @@ pair_apart : (v w : ℤ) (q p : Bytes) → eq_by_cmp path_cmp q p ≡ false → 
 pair_apart v w q p h = then_apart (int_cmp v w) (path_cmp q p) h
 
 -- a change leaves the cells at other paths
-pub after_change-frame : (s : State) (c : Change) (q : Bytes) → eq_by_cmp path_cmp q (path_of c) ≡ false → IsSameCell (after_change s c) s q
-after_change-frame s (Put p n) q h = record { node = finmap.get-insert path_total s.nodes p n q ∙ ap (λ b. cond b (Some n) (finmap.get s.nodes q)) h; owners = λ w. refl }
-after_change-frame s (Remove p) q h = record { node = finmap.get-remove path_total s.nodes p q ∙ ap (λ b. cond b None (finmap.get s.nodes q)) h; owners = λ w. refl }
-after_change-frame s (Own v p) q h = record { node = refl; owners = λ w. set.contains-insert pair_total s.pairs (v, p) (w, q) ∙ ap (λ b. b || set.contains s.pairs (w, q)) (pair_apart w v q p h) }
-after_change-frame s (Disown v p) q h = record { node = refl; owners = λ w. set.contains-remove pair_total s.pairs (v, p) (w, q) ∙ ap (λ b. not b && set.contains s.pairs (w, q)) (pair_apart w v q p h) }
+pub after_change-frame : (s : State) (c : Change) (q : Bytes) → eq_by_cmp path_cmp q (path_of c) ≡ false
+    → IsSameCell (after_change s c) s q
+after_change-frame s (Put p n) q h =
+    record {
+      node = finmap.get-insert path_total s.nodes p n q
+          ∙ ap (λ b. cond b (Some n) (finmap.get s.nodes q)) h;
+      owners = λ w. refl;
+    }
+after_change-frame s (Remove p) q h =
+    record {
+      node = finmap.get-remove path_total s.nodes p q
+          ∙ ap (λ b. cond b None (finmap.get s.nodes q)) h;
+      owners = λ w. refl;
+    }
+after_change-frame s (Own v p) q h =
+    record {
+      node = refl;
+      owners = λ w. set.contains-insert pair_total s.pairs (v, p) (w, q)
+          ∙ ap (λ b. b || set.contains s.pairs (w, q)) (pair_apart w v q p h);
+    }
+after_change-frame s (Disown v p) q h =
+    record {
+      node = refl;
+      owners = λ w. set.contains-remove pair_total s.pairs (v, p) (w, q)
+          ∙ ap (λ b. not b && set.contains s.pairs (w, q)) (pair_apart w v q p h);
+    }
 
 -- what a change leaves in a cell depends on that cell alone
-pub after_change-local : (s t : State) (c : Change) (q : Bytes) → IsSameCell s t q → IsSameCell (after_change s c) (after_change t c) q
-after_change-local s t (Put p n) q e = record { node = finmap.get-insert path_total s.nodes p n q ∙ ap (λ x. cond (eq_by_cmp path_cmp q p) (Some n) x) e.node ∙ sym (finmap.get-insert path_total t.nodes p n q); owners = e.owners }
-after_change-local s t (Remove p) q e = record { node = finmap.get-remove path_total s.nodes p q ∙ ap (λ x. cond (eq_by_cmp path_cmp q p) None x) e.node ∙ sym (finmap.get-remove path_total t.nodes p q); owners = e.owners }
-after_change-local s t (Own v p) q e = record { node = e.node; owners = λ w. set.contains-insert pair_total s.pairs (v, p) (w, q) ∙ ap (λ b. eq_by_cmp pair_cmp (w, q) (v, p) || b) (e.owners w) ∙ sym (set.contains-insert pair_total t.pairs (v, p) (w, q)) }
-after_change-local s t (Disown v p) q e = record { node = e.node; owners = λ w. set.contains-remove pair_total s.pairs (v, p) (w, q) ∙ ap (λ b. not (eq_by_cmp pair_cmp (w, q) (v, p)) && b) (e.owners w) ∙ sym (set.contains-remove pair_total t.pairs (v, p) (w, q)) }
+pub after_change-local : (s t : State) (c : Change) (q : Bytes) → IsSameCell s t q
+    → IsSameCell (after_change s c) (after_change t c) q
+after_change-local s t (Put p n) q e =
+    record {
+      node = finmap.get-insert path_total s.nodes p n q
+          ∙ ap (λ x. cond (eq_by_cmp path_cmp q p) (Some n) x) e.node
+          ∙ sym (finmap.get-insert path_total t.nodes p n q);
+      owners = e.owners;
+    }
+after_change-local s t (Remove p) q e =
+    record {
+      node = finmap.get-remove path_total s.nodes p q ∙ ap (λ x. cond (eq_by_cmp path_cmp q p) None x) e.node
+          ∙ sym (finmap.get-remove path_total t.nodes p q);
+      owners = e.owners;
+    }
+after_change-local s t (Own v p) q e =
+    record {
+      node = e.node;
+      owners = λ w. set.contains-insert pair_total s.pairs (v, p) (w, q)
+          ∙ ap (λ b. eq_by_cmp pair_cmp (w, q) (v, p) || b) (e.owners w)
+          ∙ sym (set.contains-insert pair_total t.pairs (v, p) (w, q));
+    }
+after_change-local s t (Disown v p) q e =
+    record {
+      node = e.node;
+      owners = λ w. set.contains-remove pair_total s.pairs (v, p) (w, q)
+          ∙ ap (λ b. not (eq_by_cmp pair_cmp (w, q) (v, p)) && b) (e.owners w)
+          ∙ sym (set.contains-remove pair_total t.pairs (v, p) (w, q));
+    }
 
 pub after_change-sessions : (s : State) (c : Change) → (after_change s c).sessions ≡ s.sessions
 after_change-sessions s (Put p n) = refl
@@ -70,19 +116,23 @@ after_change-sessions s (Disown v p) = refl
 abbrev pub AreWithin : List Bytes → List Change → Type 0
 AreWithin paths cs = AllByRecursion (λ c. touches paths (path_of c) ≡ true) cs
 
-apart_from_within : (paths : List Bytes) (q p : Bytes) → touches paths q ≡ false → touches paths p ≡ true → (b : Bool) → eq_by_cmp path_cmp q p ≡ b → b ≡ false
+apart_from_within : (paths : List Bytes) (q p : Bytes) → touches paths q ≡ false → touches paths p ≡ true → (b : Bool)
+    → eq_by_cmp path_cmp q p ≡ b → b ≡ false
 apart_from_within paths q p out within false e = refl
 apart_from_within paths q p out within true e = sym (ap (touches paths) (tells_apart exact_bytes q p e) ∙ within) ∙ out
 
-pub after_changes-frame : (paths : List Bytes) (s : State) (cs : List Change) → AreWithin paths cs → (q : Bytes) → touches paths q ≡ false → IsSameCell (after_changes s cs) s q
+pub after_changes-frame : (paths : List Bytes) (s : State) (cs : List Change) → AreWithin paths cs → (q : Bytes)
+    → touches paths q ≡ false → IsSameCell (after_changes s cs) s q
 after_changes-frame paths s [] within q out = same_cell_refl s q
 after_changes-frame paths s (c ∷ cs) within q out =
     let apart : eq_by_cmp path_cmp q (path_of c) ≡ false = apart_from_within paths q (path_of c) out within.0 _ refl in
     same_cell_trans (after_changes-frame paths (after_change s c) cs within.1 q out) (after_change-frame s c q apart)
 
-pub after_changes-local : (s t : State) (cs : List Change) (q : Bytes) → IsSameCell s t q → IsSameCell (after_changes s cs) (after_changes t cs) q
+pub after_changes-local : (s t : State) (cs : List Change) (q : Bytes) → IsSameCell s t q
+    → IsSameCell (after_changes s cs) (after_changes t cs) q
 after_changes-local s t [] q e = e
-after_changes-local s t (c ∷ cs) q e = after_changes-local (after_change s c) (after_change t c) cs q (after_change-local s t c q e)
+after_changes-local s t (c ∷ cs) q e =
+    after_changes-local (after_change s c) (after_change t c) cs q (after_change-local s t c q e)
 
 pub after_changes-sessions : (s : State) (cs : List Change) → (after_changes s cs).sessions ≡ s.sessions
 after_changes-sessions s [] = refl

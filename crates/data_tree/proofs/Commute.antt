@@ -27,53 +27,71 @@ use Rattle.data_tree.proofs.Cells.{AreWithin, same_state, same_cell_sym, same_ce
 
 -- ---- one operation
 
-within_gained : (ps : List Bytes) (owner : ℤ) (path : Bytes) (b : Bool) → touches ps path ≡ true → AreWithin ps (if b then [] else Own owner path ∷ [])
+within_gained : (ps : List Bytes) (owner : ℤ) (path : Bytes) (b : Bool) → touches ps path ≡ true
+    → AreWithin ps (if b then [] else Own owner path ∷ [])
 within_gained ps owner path true h = tt
 within_gained ps owner path false h = (h, tt)
 
-within_lost : (ps : List Bytes) (owner : ℤ) (path : Bytes) (b : Bool) → touches ps path ≡ true → AreWithin ps (if b then [] else Disown owner path ∷ [])
+within_lost : (ps : List Bytes) (owner : ℤ) (path : Bytes) (b : Bool) → touches ps path ≡ true
+    → AreWithin ps (if b then [] else Disown owner path ∷ [])
 within_lost ps owner path true h = tt
 within_lost ps owner path false h = (h, tt)
 
-within_taken : (ps : List Bytes) (path : Bytes) (node : Node) (b : Bool) → touches ps path ≡ true → AreWithin ps (if b then Put path node ∷ [] else [])
+within_taken : (ps : List Bytes) (path : Bytes) (node : Node) (b : Bool) → touches ps path ≡ true
+    → AreWithin ps (if b then Put path node ∷ [] else [])
 within_taken ps path node true h = (h, tt)
 within_taken ps path node false h = tt
 
-within_create : (h : TxnHeader) (c : Create) (parent : Option Node) → AreWithin (footprint_of (op.Create c)) (create_under h c parent).changes
+within_create : (h : TxnHeader) (c : Create) (parent : Option Node)
+    → AreWithin (footprint_of (op.Create c)) (create_under h c parent).changes
 within_create h c None = tt
 within_create h c (Some parent) =
     let ps = footprint_of (op.Create c) in
     let here : touches ps c.path ≡ true = touches_first c.path (parent_of c.path ∷ []) in
     let up : touches ps (parent_of c.path) ≡ true = touches_second (parent_of c.path) c.path [] in
-    elim (set.contains parent.children (name_of c.path)) as (λ b. AreWithin ps (if b then create_taken h c parent else create_new h c parent).changes) [
+    elim (set.contains parent.children (name_of c.path)) as
+    (λ b. AreWithin ps (if b then create_taken h c parent else create_new h c parent).changes) [
       | true ↦ within_taken ps (parent_of c.path) _ _ up
       | false ↦ (up, (here, within_gained ps (owner_of h c.ephemeral) c.path _ here))
     ]
 
-within_delete : (h : TxnHeader) (p : Bytes) (node parent : Option Node) → AreWithin (footprint_of (op.Delete p)) (delete_at h p node parent).changes
+within_delete : (h : TxnHeader) (p : Bytes) (node parent : Option Node)
+    → AreWithin (footprint_of (op.Delete p)) (delete_at h p node parent).changes
 within_delete h p None parent = tt
 within_delete h p (Some node) None = (touches_first p (parent_of p ∷ []), tt)
 within_delete h p (Some node) (Some parent) =
-    let here : touches (footprint_of (op.Delete p)) p ≡ true = touches_first p (parent_of p ∷ []) in
-    (here, (touches_second (parent_of p) p [], within_lost (footprint_of (op.Delete p)) node.stat.ephemeral_owner p (int_eq node.stat.ephemeral_owner (pos 0)) here))
+    let here : touches (footprint_of (op.Delete p)) p ≡ true = touches_first p (parent_of p ∷ []) in (
+      here,
+      (
+        touches_second (parent_of p) p [],
+        within_lost (footprint_of (op.Delete p)) node.stat.ephemeral_owner p
+            (int_eq node.stat.ephemeral_owner (pos 0)) here,
+      ),
+    )
 
-within_set_data : (h : TxnHeader) (b : SetData) (node : Option Node) → AreWithin (footprint_of (op.SetData b)) (set_data_at h b node).changes
+within_set_data : (h : TxnHeader) (b : SetData) (node : Option Node)
+    → AreWithin (footprint_of (op.SetData b)) (set_data_at h b node).changes
 within_set_data h b None = tt
 within_set_data h b (Some node) = (touches_first b.path [], tt)
 
 -- an operation changes cells of its footprint alone
-effect-within : (h : TxnHeader) (o : Operation) (nodes : Nodes) → AreWithin (footprint_of o) (effect_of h o nodes).changes
+effect-within : (h : TxnHeader) (o : Operation) (nodes : Nodes)
+    → AreWithin (footprint_of o) (effect_of h o nodes).changes
 effect-within h (op.Create c) nodes = within_create h c (finmap.get nodes (parent_of c.path))
-effect-within h (op.Delete p) nodes = within_delete h p (finmap.get nodes p) (finmap.get (finmap.remove nodes p) (parent_of p))
+effect-within h (op.Delete p) nodes =
+    within_delete h p (finmap.get nodes p) (finmap.get (finmap.remove nodes p) (parent_of p))
 effect-within h (op.SetData b) nodes = within_set_data h b (finmap.get nodes b.path)
 effect-within h (op.Check p) nodes = tt
 effect-within h (op.Error e) nodes = tt
 
 -- and reads these alone
-effect-local : (h : TxnHeader) (o : Operation) (s t : State) → AreSameAt (footprint_of o) s t → effect_of h o s.nodes ≡ effect_of h o t.nodes
-effect-local h (op.Create c) s t same = ap (create_under h c) (same (parent_of c.path) (touches_second (parent_of c.path) c.path [])).node
+effect-local : (h : TxnHeader) (o : Operation) (s t : State) → AreSameAt (footprint_of o) s t
+    → effect_of h o s.nodes ≡ effect_of h o t.nodes
+effect-local h (op.Create c) s t same =
+    ap (create_under h c) (same (parent_of c.path) (touches_second (parent_of c.path) c.path [])).node
 effect-local h (op.Delete p) s t same =
-    let parent : finmap.get (finmap.remove s.nodes p) (parent_of p) ≡ finmap.get (finmap.remove t.nodes p) (parent_of p) =
+    let parent : finmap.get (finmap.remove s.nodes p) (parent_of p)
+    ≡ finmap.get (finmap.remove t.nodes p) (parent_of p) =
     finmap.get-remove path_total s.nodes p (parent_of p)
     ∙ ap (cond (eq_by_cmp path_cmp (parent_of p) p) None) (same (parent_of p) (touches_second (parent_of p) p [])).node
     ∙ sym (finmap.get-remove path_total t.nodes p (parent_of p)) in
@@ -83,30 +101,39 @@ effect-local h (op.Check p) s t same = refl
 effect-local h (op.Error e) s t same = refl
 
 -- an effect that changes cells of its footprint alone and reads these alone
-effect-confined : (ps : List Bytes) (effect : State → Effect) → ((s : State) → AreWithin ps (effect s).changes) → ((s t : State) → AreSameAt ps s t → effect s ≡ effect t)
+effect-confined : (ps : List Bytes) (effect : State → Effect) → ((s : State) → AreWithin ps (effect s).changes)
+    → ((s t : State) → AreSameAt ps s t → effect s ≡ effect t)
     → IsConfinedTo ps (λ s. of_effect (effect s) s)
 effect-confined ps effect within local = record {
   state = record {
     frame = λ s q out. after_changes-frame ps s (effect s).changes (within s) q out;
-    local = λ s t same q at. subst (λ e. IsSameCell (after_changes s (effect s).changes) (after_changes t e.changes) q) (local s t same) (after_changes-local s t (effect s).changes q (same q at));
+    local = λ s t same q at. subst (λ e. IsSameCell (after_changes s (effect s).changes) (after_changes t e.changes) q)
+        (local s t same) (after_changes-local s t (effect s).changes q (same q at));
     sessions = λ s. after_changes-sessions s (effect s).changes;
   };
-  answer = λ s t same. ap (λ e. let a : Outcome = record { err = e.err; parts = []; triggers = e.triggers } in a) (local s t same);
+  answer =
+      λ s t same. ap (λ e. let a : Outcome = record { err = e.err; parts = []; triggers = e.triggers } in a)
+      (local s t same);
 }
 
 pub operation-confined : (h : TxnHeader) (o : Operation) → IsConfinedTo (footprint_of o) (of_operation h o)
-operation-confined h o = effect-confined (footprint_of o) (λ s. effect_of h o s.nodes) (λ s. effect-within h o s.nodes) (effect-local h o)
+operation-confined h o =
+    effect-confined (footprint_of o) (λ s. effect_of h o s.nodes) (λ s. effect-within h o s.nodes) (effect-local h o)
 
 within_set_acl : (b : SetAcl) (node : Option Node) → AreWithin (b.path ∷ []) (set_acl_at b node).changes
 within_set_acl b None = tt
 within_set_acl b (Some node) = (touches_first b.path [], tt)
 
 set_acl-confined : (b : SetAcl) → IsConfinedTo (b.path ∷ []) (of_set_acl b)
-set_acl-confined b = effect-confined (b.path ∷ []) (λ s. set_acl_at b (finmap.get s.nodes b.path)) (λ s. within_set_acl b (finmap.get s.nodes b.path)) (λ s t same. ap (set_acl_at b) (same b.path (touches_first b.path [])).node)
+set_acl-confined b =
+    effect-confined (b.path ∷ []) (λ s. set_acl_at b (finmap.get s.nodes b.path))
+    (λ s. within_set_acl b (finmap.get s.nodes b.path))
+    (λ s t same. ap (set_acl_at b) (same b.path (touches_first b.path [])).node)
 
 -- ---- any two confined steps
 
-same_at_after : (ps qs : List Bytes) (f : State → State) → IsConfined ps f → AreApart ps qs → (s : State) → AreSameAt qs (f s) s
+same_at_after : (ps qs : List Bytes) (f : State → State) → IsConfined ps f → AreApart ps qs → (s : State)
+    → AreSameAt qs (f s) s
 same_at_after ps qs f c apart s q at = by (touches ps q) refl
   where
     by : (b : Bool) → touches ps q ≡ b → IsSameCell (f s) s q
@@ -120,16 +147,24 @@ turned ps qs apart q at = by (touches ps q) refl
     by true e = absurd (true≢false (sym at ∙ apart q e))
     by false e = e
 
-commute_cell : (ps qs : List Bytes) (f g : State → State) → IsConfined ps f → IsConfined qs g → AreApart ps qs → (s : State) (q : Bytes) → IsSameCell (g (f s)) (f (g s)) q
+commute_cell : (ps qs : List Bytes) (f g : State → State) → IsConfined ps f → IsConfined qs g → AreApart ps qs
+    → (s : State) (q : Bytes) → IsSameCell (g (f s)) (f (g s)) q
 commute_cell ps qs f g cf cg apart s q = by (touches ps q) (touches qs q) refl refl
   where
     by : (a b : Bool) → touches ps q ≡ a → touches qs q ≡ b → IsSameCell (g (f s)) (f (g s)) q
     by true true e d = absurd (true≢false (sym d ∙ apart q e))
-    by true false e d = same_cell_trans (cg.frame (f s) q d) (cf.local s (g s) (λ p at. same_cell_sym (same_at_after qs ps g cg (turned ps qs apart) s p at)) q e)
-    by false true e d = same_cell_trans (cg.local (f s) s (same_at_after ps qs f cf apart s) q d) (same_cell_sym (cf.frame (g s) q e))
-    by false false e d = same_cell_trans (cg.frame (f s) q d) (same_cell_trans (cf.frame s q e) (same_cell_trans (same_cell_sym (cg.frame s q d)) (same_cell_sym (cf.frame (g s) q e))))
+    by true false e d =
+        same_cell_trans (cg.frame (f s) q d)
+        (cf.local s (g s) (λ p at. same_cell_sym (same_at_after qs ps g cg (turned ps qs apart) s p at)) q e)
+    by false true e d =
+        same_cell_trans (cg.local (f s) s (same_at_after ps qs f cf apart s) q d) (same_cell_sym (cf.frame (g s) q e))
+    by false false e d =
+        same_cell_trans (cg.frame (f s) q d)
+        (same_cell_trans (cf.frame s q e)
+        (same_cell_trans (same_cell_sym (cg.frame s q d)) (same_cell_sym (cf.frame (g s) q e))))
 
-pub confined_commute : (ps qs : List Bytes) (f g : State → Meant) → IsConfinedTo ps f → IsConfinedTo qs g → AreApart ps qs → (s : State) → DoCommute f g s
+pub confined_commute : (ps qs : List Bytes) (f g : State → Meant) → IsConfinedTo ps f → IsConfinedTo qs g
+    → AreApart ps qs → (s : State) → DoCommute f g s
 confined_commute ps qs f g cf cg apart s = record {
   state = same_state _ _
       (cg.state.sessions (f s).state ∙ cf.state.sessions s ∙ sym (cf.state.sessions (g s).state ∙ cg.state.sessions s))
@@ -150,7 +185,9 @@ or_false_second false b h = h
 
 touches-append : (ps qs : List Bytes) (q : Bytes) → touches (ps ++ qs) q ≡ (touches ps q || touches qs q)
 touches-append [] qs q = refl
-touches-append (p ∷ ps) qs q = ap (λ b. eq_by_cmp path_cmp q p || b) (touches-append ps qs q) ∙ or_assoc (eq_by_cmp path_cmp q p) (touches ps q) (touches qs q)
+touches-append (p ∷ ps) qs q =
+    ap (λ b. eq_by_cmp path_cmp q p || b) (touches-append ps qs q)
+    ∙ or_assoc (eq_by_cmp path_cmp q p) (touches ps q) (touches qs q)
   where
     or_assoc : (a b c : Bool) → (a || (b || c)) ≡ ((a || b) || c)
     or_assoc true b c = refl
@@ -165,7 +202,8 @@ or_at_second true b h = refl
 or_at_second false b h = h
 
 -- a step confined to ps is confined to more
-pub wider : (ps qs : List Bytes) (f : State → State) → ((q : Bytes) → touches ps q ≡ true → touches qs q ≡ true) → IsConfined ps f → (s t : State) → AreSameAt qs s t → AreSameAt qs (f s) (f t)
+pub wider : (ps qs : List Bytes) (f : State → State) → ((q : Bytes) → touches ps q ≡ true → touches qs q ≡ true)
+    → IsConfined ps f → (s t : State) → AreSameAt qs s t → AreSameAt qs (f s) (f t)
 wider ps qs f sub c s t same q at = by (touches ps q) refl
   where
     by : (b : Bool) → touches ps q ≡ b → IsSameCell (f s) (f t) q
@@ -179,7 +217,9 @@ joined first rest = record {
   triggers = first.triggers ++ rest.triggers;
 }
 
-joined_is : (h : TxnHeader) (o : Operation) (os : List Operation) (s : State) → answer_of (of_parts h (o ∷ os) s) ≡ joined (answer_of (of_operation h o s)) (answer_of (of_parts h os (of_operation h o s).state))
+joined_is : (h : TxnHeader) (o : Operation) (os : List Operation) (s : State)
+    → answer_of (of_parts h (o ∷ os) s)
+    ≡ joined (answer_of (of_operation h o s)) (answer_of (of_parts h os (of_operation h o s).state))
 unfolding joined
 joined_is h o os s = refl
 
@@ -193,23 +233,35 @@ parts-confined h (o ∷ os) =
     let qs = footprint_of_parts os in
     let first = operation-confined h o in
     let rest = parts-confined h os in
-    let in_first : (q : Bytes) → touches ps q ≡ true → touches (ps ++ qs) q ≡ true = λ q at. touches-append ps qs q ∙ or_at_first (touches ps q) (touches qs q) at in
-    let in_rest : (q : Bytes) → touches qs q ≡ true → touches (ps ++ qs) q ≡ true = λ q at. touches-append ps qs q ∙ or_at_second (touches ps q) (touches qs q) at in
-    let after_first : (s t : State) → AreSameAt (ps ++ qs) s t → AreSameAt (ps ++ qs) (of_operation h o s).state (of_operation h o t).state = wider ps (ps ++ qs) (λ s. (of_operation h o s).state) in_first first.state in
+    let in_first : (q : Bytes) → touches ps q ≡ true → touches (ps ++ qs) q ≡ true =
+    λ q at. touches-append ps qs q
+    ∙ or_at_first (touches ps q) (touches qs q) at in
+    let in_rest : (q : Bytes) → touches qs q ≡ true → touches (ps ++ qs) q ≡ true =
+    λ q at. touches-append ps qs q
+    ∙ or_at_second (touches ps q) (touches qs q) at in
+    let after_first : (s t : State) → AreSameAt (ps ++ qs) s t
+    → AreSameAt (ps ++ qs) (of_operation h o s).state (of_operation h o t).state =
+    wider ps (ps ++ qs) (λ s. (of_operation h o s).state) in_first first.state in
     record {
       state = record {
         frame = λ s q out.
             let none : (touches ps q || touches qs q) ≡ false = sym (touches-append ps qs q) ∙ out in
-            same_cell_trans (rest.state.frame (of_operation h o s).state q (or_false_second (touches ps q) (touches qs q) none)) (first.state.frame s q (or_false_first (touches ps q) (touches qs q) none));
-        local = λ s t same. wider qs (ps ++ qs) (λ u. (of_parts h os u).state) in_rest rest.state _ _ (after_first s t same);
+            same_cell_trans
+            (rest.state.frame (of_operation h o s).state q (or_false_second (touches ps q) (touches qs q) none))
+            (first.state.frame s q (or_false_first (touches ps q) (touches qs q) none));
+        local = λ s t same. wider qs (ps ++ qs) (λ u. (of_parts h os u).state) in_rest rest.state _ _
+            (after_first s t same);
         sessions = λ s. rest.state.sessions (of_operation h o s).state ∙ first.state.sessions s;
       };
       answer = λ s t same. joined_is h o os s
-          ∙ (λ i. joined (first.answer s t (λ q at. same q (in_first q at)) i) (rest.answer (of_operation h o s).state (of_operation h o t).state (λ q at. after_first s t same q (in_rest q at)) i))
+          ∙ (λ i. joined (first.answer s t (λ q at. same q (in_first q at)) i)
+          (rest.answer (of_operation h o s).state (of_operation h o t).state
+          (λ q at. after_first s t same q (in_rest q at)) i))
           ∙ sym (joined_is h o os t);
     }
 
-nothing-confined : (meant : State → Meant) → ((s : State) → (meant s).state ≡ s) → ((s t : State) → answer_of (meant s) ≡ answer_of (meant t)) → IsConfinedTo [] meant
+nothing-confined : (meant : State → Meant) → ((s : State) → (meant s).state ≡ s)
+    → ((s t : State) → answer_of (meant s) ≡ answer_of (meant t)) → IsConfinedTo [] meant
 nothing-confined meant stays same = record {
   state = record {
     frame = λ s q out. subst (λ u. IsSameCell u s q) (sym (stays s)) (same_cell_refl s q);
@@ -219,14 +271,16 @@ nothing-confined meant stays same = record {
   answer = λ s t at. same s t;
 }
 
-multi-confined : (h : TxnHeader) (os : List Operation) (b : Bool) → IsConfinedTo (if b then [] else footprint_of_parts os) (λ s. if b then of_failed os s else of_parts h os s)
+multi-confined : (h : TxnHeader) (os : List Operation) (b : Bool)
+    → IsConfinedTo (if b then [] else footprint_of_parts os) (λ s. if b then of_failed os s else of_parts h os s)
 multi-confined h os true = nothing-confined (of_failed os) (λ s. refl) (λ s t. refl)
 multi-confined h os false = parts-confined h os
 
 pub transactions_keep_to_their_footprints : TransactionsKeepToTheirFootprints
 transactions_keep_to_their_footprints t = by t.header t.body
   where
-    by : (h : TxnHeader) (b : Body) → (let t : Txn = record { header = h; body = b } in KeepsToCells t) → (let t : Txn = record { header = h; body = b } in IsConfinedTo (footprint t) (λ s. mean s t))
+    by : (h : TxnHeader) (b : Body) → (let t : Txn = record { header = h; body = b } in KeepsToCells t)
+        → (let t : Txn = record { header = h; body = b } in IsConfinedTo (footprint t) (λ s. mean s t))
     by h (body.Single operation) k = operation-confined h operation
     by h (body.SetAcl b) k = set_acl-confined b
     by h (body.Multi parts) k = multi-confined h parts (has_error parts)
@@ -235,4 +289,5 @@ transactions_keep_to_their_footprints t = by t.header t.body
 
 pub disjoint_transactions_commute : DisjointTransactionsCommute
 disjoint_transactions_commute a b s ka kb apart =
-    confined_commute (footprint a) (footprint b) (λ u. mean u a) (λ u. mean u b) (transactions_keep_to_their_footprints a ka) (transactions_keep_to_their_footprints b kb) apart s
+    confined_commute (footprint a) (footprint b) (λ u. mean u a) (λ u. mean u b)
+    (transactions_keep_to_their_footprints a ka) (transactions_keep_to_their_footprints b kb) apart s

@@ -1,33 +1,28 @@
 -- The nodes that a loop went over, each with its pair, and how many of them are owned.
-use Rattle.std.proofs.Common.{◌≡◌, ℕ, ℤ, pos, ◌+◌, ◌<◌, ◌^◌, List, [], ◌∷◌, ◌++◌, Bool, true, false, cond, not, ◌&&◌, ◌||◌, Some, None, IsTrue, refl, sym, ap, subst, ◌∙◌, ◌↔◌, length, string_bytes, append-nil, length-append, ◌≤◌, arith, if◌then◌else◌}
+use Rattle.std.proofs.Common.{◌≡◌, ℕ, ℤ, pos, ◌+◌, ◌<◌, ◌^◌, List, [], ◌∷◌, ◌++◌, true, false, not, ◌&&◌, Some, IsTrue, refl, sym, ap, subst, ◌∙◌, ◌↔◌, length, string_bytes, append-nil, length-append, ◌≤◌, arith, if◌then◌else◌}
 use mathlib.Core.Bool.{true≢false}
 use Rattle.std.specs.Map.{lookup, keys_of}
-use Rattle.std.specs.List.{list_any}
 use Rattle.std.specs.List.Sorted.{IsStrictlySortedBy}
-use Rattle.std.specs.Ordering.{eq_by_cmp, is_eq, int_eq, int_cmp, ordering_then}
-use Rattle.std.specs.Cmp.{tied_itself, int_cmp_total, eq_by_cmp_equiv}
+use Rattle.std.specs.Ordering.{is_eq, int_eq}
+use Rattle.std.specs.Cmp.{tied_itself, int_cmp_total}
 use Rattle.std.specs.String.{string_cmp}
 use Rattle.std.specs.declared.string.String.{String}
-use Rattle.std.specs.declared.cmp.Ordering.{Ordering}
-use Rattle.std.specs.declared.cmp.Ordering.TheVariants.{Less, Equal, Greater}
-use Rattle.std.proofs.lemmas.Map.Keys.{sorted_head, sorted_tail}
-use Rattle.std.proofs.lemmas.Map.Lookups.{exact_bytes, exact_signed}
-use Rattle.std.proofs.lemmas.Map.Views.{tells_apart}
 use Rattle.std.specs.FinMap as finmap
 use Rattle.std.specs.FinSet as set
-use Rattle.ephemerals.specs.Orders.{Bytes, Pairs, path_cmp, pair_cmp}
+use Rattle.ephemerals.specs.Orders.{Bytes, Pairs, pair_cmp}
 use Rattle.data_tree.specs.Nodes.{Nodes}
 use Rattle.data_tree.specs.Inner.NodesView.{nodes_of}
 use Rattle.data_tree.specs.Whole.{is_owner, AreOwned}
 use Rattle.data_tree.specs.declared.node.Node.{Node}
-use Rattle.ephemerals.proofs.Totals.{path_total, pair_total, pair_exact}
-use Rattle.data_tree.proofs.TextMaps.{get-seen, none_ahead}
+use Rattle.ephemerals.proofs.Totals.{pair_total, pair_exact}
+use Rattle.data_tree.proofs.TextMaps.{get-seen}
 use Rattle.ephemerals.proofs.TextKeys.{query}
 use Rattle.data_tree.proofs.Counting.{AreDistinct, AreIn, as_many, all_counted}
 use Rattle.ephemerals.proofs.Ties.{same_session}
 use Rattle.data_tree.proofs.OwnersOfNodes.{with_owner, owners, owners-any, owners-distinct, owners-push, found-at}
 
-both_in : (s : Pairs) (xs ys : List (ℤ × Bytes)) → AreIn {R = pair_cmp} s xs → AreIn {R = pair_cmp} s ys → AreIn {R = pair_cmp} s (xs ++ ys)
+both_in : (s : Pairs) (xs ys : List (ℤ × Bytes)) → AreIn {R = pair_cmp} s xs → AreIn {R = pair_cmp} s ys
+    → AreIn {R = pair_cmp} s (xs ++ ys)
 both_in s [] ys a b = b
 both_in s (x ∷ xs) ys a b = (a.0, both_in s xs ys a.1 b)
 
@@ -46,7 +41,8 @@ module _ {Z : Type 0} where
     pub counted : owned ≡ length (owners before)
     pub few : owned ≤ length before
 
-  pub counted-first : (es : List (String Z × Node)) → IsStrictlySortedBy string_cmp (keys_of es) → length es < 2 ^ 63 → (rest : List (String Z × Node)) → rest ≡ es
+  pub counted-first : (es : List (String Z × Node)) → IsStrictlySortedBy string_cmp (keys_of es) → length es < 2 ^ 63
+      → (rest : List (String Z × Node)) → rest ≡ es
       → (nodes : Nodes) → nodes_of es ≡ nodes → (pairs : Pairs) → AreCounted nodes pairs rest 0
   counted-first es sorted fits rest is nodes view pairs = record {
     before = [];
@@ -58,18 +54,24 @@ module _ {Z : Type 0} where
     few = omega arith;
   }
 
-  moved : (before : List (String Z × Node)) (e : String Z × Node) (rest : List (String Z × Node)) → before ++ e ∷ rest ≡ (before ++ e ∷ []) ++ rest
+  moved : (before : List (String Z × Node)) (e : String Z × Node) (rest : List (String Z × Node))
+      → before ++ e ∷ rest ≡ (before ++ e ∷ []) ++ rest
   moved [] e rest = refl
   moved (x ∷ before) e rest = ap (λ xs. x ∷ xs) (moved before e rest)
 
-  module _ (nodes : Nodes) (pairs : Pairs) (e : String Z × Node) (rest : List (String Z × Node)) (n : ℕ) (c : AreCounted nodes pairs (e ∷ rest) n) where
+  module _ (nodes : Nodes) (pairs : Pairs) (e : String Z × Node) (rest : List (String Z × Node)) (n : ℕ)
+      (c : AreCounted nodes pairs (e ∷ rest) n) where
     -- one more entry, of which the pair, if any, is listed
-    further : (ps : List (ℤ × Bytes)) → with_owner e [] ≡ ps → AreIn {R = pair_cmp} pairs ps → length ps ≤ 1 → AreCounted nodes pairs rest (n + length ps)
+    further : (ps : List (ℤ × Bytes)) → with_owner e [] ≡ ps → AreIn {R = pair_cmp} pairs ps → length ps ≤ 1
+        → AreCounted nodes pairs rest (n + length ps)
     further ps is here most =
-        let all_owners : owners (c.before ++ e ∷ []) ≡ owners c.before ++ ps = owners-push c.before e ∙ ap (λ xs. owners c.before ++ xs) is in
+        let all_owners : owners (c.before ++ e ∷ []) ≡ owners c.before ++ ps =
+        owners-push c.before e
+        ∙ ap (λ xs. owners c.before ++ xs) is in
         let counted : n ≡ length (owners c.before) = c.counted in
         let few : n ≤ length c.before = c.few in
-        let joined : length (owners c.before ++ ps) ≡ length (owners c.before) + length ps = length-append (owners c.before) ps in
+        let joined : length (owners c.before ++ ps) ≡ length (owners c.before) + length ps =
+        length-append (owners c.before) ps in
         let sum : n + length ps ≡ length (owners c.before ++ ps) = omega arith in
         let pushed : length (c.before ++ e ∷ []) ≡ length c.before + 1 = length-push c.before e in
         record {
@@ -77,7 +79,8 @@ module _ {Z : Type 0} where
           all = c.all ∙ ap nodes_of (moved c.before e rest);
           sorted = subst (λ xs. IsStrictlySortedBy string_cmp (keys_of xs)) (moved c.before e rest) c.sorted;
           fits = subst (λ (xs : List (String Z × Node)). length xs < 2 ^ 63) (moved c.before e rest) c.fits;
-          listed = subst (AreIn {R = pair_cmp} pairs) (sym all_owners) (both_in pairs (owners c.before) ps c.listed here);
+          listed =
+              subst (AreIn {R = pair_cmp} pairs) (sym all_owners) (both_in pairs (owners c.before) ps c.listed here);
           counted = sum ∙ ap length (sym all_owners);
           few = omega arith;
         }
@@ -86,20 +89,25 @@ module _ {Z : Type 0} where
     unowned zero =
         let same : n + 0 ≡ n = omega arith in
         subst (AreCounted nodes pairs rest) same
-        (further [] (ap (λ b. if b then [] else (e.1.stat.ephemeral_owner, string_bytes e.0) ∷ []) zero) tt (omega arith))
+        (further [] (ap (λ b. if b then [] else (e.1.stat.ephemeral_owner, string_bytes e.0) ∷ []) zero) tt
+        (omega arith))
 
-    pub one_more : int_eq e.1.stat.ephemeral_owner (pos 0) ≡ false → set.contains pairs (e.1.stat.ephemeral_owner, string_bytes e.0) ≡ true → AreCounted nodes pairs rest (n + 1)
+    pub one_more : int_eq e.1.stat.ephemeral_owner (pos 0) ≡ false
+        → set.contains pairs (e.1.stat.ephemeral_owner, string_bytes e.0) ≡ true → AreCounted nodes pairs rest (n + 1)
     one_more some here =
-        further ((e.1.stat.ephemeral_owner, string_bytes e.0) ∷ []) (ap (λ b. if b then [] else (e.1.stat.ephemeral_owner, string_bytes e.0) ∷ []) some) (here, tt) (omega arith)
+        further ((e.1.stat.ephemeral_owner, string_bytes e.0) ∷ [])
+        (ap (λ b. if b then [] else (e.1.stat.ephemeral_owner, string_bytes e.0) ∷ []) some) (here, tt) (omega arith)
 
     pub has_room : n + 1 < 2 ^ 63
     has_room =
         let few : n ≤ length c.before = c.few in
         let fits : length (c.before ++ e ∷ rest) < 2 ^ 63 = c.fits in
-        let sum : length (c.before ++ e ∷ rest) ≡ length c.before + length (e ∷ rest) = length-append c.before (e ∷ rest) in
+        let sum : length (c.before ++ e ∷ rest) ≡ length c.before + length (e ∷ rest) =
+        length-append c.before (e ∷ rest) in
         omega arith
 
-    pub not_owned : int_eq e.1.stat.ephemeral_owner (pos 0) ≡ false → set.contains pairs (e.1.stat.ephemeral_owner, string_bytes e.0) ≡ false → IsTrue false ↔ AreOwned nodes pairs
+    pub not_owned : int_eq e.1.stat.ephemeral_owner (pos 0) ≡ false
+        → set.contains pairs (e.1.stat.ephemeral_owner, string_bytes e.0) ≡ false → IsTrue false ↔ AreOwned nodes pairs
     not_owned some missing = (
       (λ t. absurd (true≢false (sym t))),
       (λ owned. absurd (true≢false
@@ -109,12 +117,17 @@ module _ {Z : Type 0} where
     )
       where
         here : finmap.get nodes (string_bytes e.0) ≡ Some e.1
-        here = ap (λ ns. finmap.get ns (string_bytes e.0)) c.all ∙ get-seen (c.before ++ e ∷ rest) (string_bytes e.0) ∙ found-at c.before e rest c.sorted
+        here = ap (λ ns. finmap.get ns (string_bytes e.0)) c.all
+            ∙ get-seen (c.before ++ e ∷ rest) (string_bytes e.0)
+            ∙ found-at c.before e rest c.sorted
 
         itself : int_eq e.1.stat.ephemeral_owner e.1.stat.ephemeral_owner ≡ true
-        itself = same_session e.1.stat.ephemeral_owner e.1.stat.ephemeral_owner ∙ ap is_eq (tied_itself int_cmp_total e.1.stat.ephemeral_owner)
+        itself =
+            same_session e.1.stat.ephemeral_owner e.1.stat.ephemeral_owner
+            ∙ ap is_eq (tied_itself int_cmp_total e.1.stat.ephemeral_owner)
 
-  pub all_owned : (nodes : Nodes) (pairs : Pairs) (n : ℕ) → AreCounted nodes pairs [] n → (n ≡ set.len pairs) ↔ AreOwned nodes pairs
+  pub all_owned : (nodes : Nodes) (pairs : Pairs) (n : ℕ) → AreCounted nodes pairs [] n
+      → (n ≡ set.len pairs) ↔ AreOwned nodes pairs
   all_owned nodes pairs n c = (
     (λ same session path.
         as_many pair_total pair_exact pairs (owners c.before) distinct c.listed (sym c.counted ∙ same) (session, path)
@@ -135,4 +148,7 @@ module _ {Z : Type 0} where
       distinct = owners-distinct c.before sorted
 
       found : (path : Bytes) → lookup (query path) c.before ≡ finmap.get nodes path
-      found path = sym (get-seen c.before path) ∙ ap (λ es. finmap.get (nodes_of es) path) (sym whole) ∙ ap (λ ns. finmap.get ns path) (sym c.all)
+      found path =
+          sym (get-seen c.before path)
+          ∙ ap (λ es. finmap.get (nodes_of es) path) (sym whole)
+          ∙ ap (λ ns. finmap.get ns path) (sym c.all)

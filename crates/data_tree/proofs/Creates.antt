@@ -1,60 +1,110 @@
 -- What a create leaves where the name is taken, and where it is refused.
-use Rattle.std.proofs.Common.{◌≡◌, [], ◌∷◌, Bool, true, false, Option, Some, None, refl, ap, ◌∙◌, if◌then◌else◌, int_lt}
+use Rattle.std.proofs.Common.{◌≡◌, List, [], ◌∷◌, Bool, true, false, Option, Some, None, refl, ap, ◌∙◌, if◌then◌else◌, int_lt}
 use Rattle.std.specs.FinMap as finmap
 use Rattle.std.specs.FinSet as set
 use Rattle.ephemerals.specs.Orders.{Bytes}
 use Rattle.txn_codec.specs.Paths.{parent_of, name_of}
 use Rattle.txn_codec.specs.declared.txn.TxnHeader.{TxnHeader}
 use Rattle.txn_codec.specs.declared.txn.Create.{Create}
+use Rattle.txn_codec.specs.declared.txn.Operation.TheVariants as op
+use Rattle.jute.specs.declared.codes.TheConstants.{NODE_EXISTS}
 use Rattle.data_tree.specs.State.{State, Nodes}
-use Rattle.data_tree.specs.Meaning.{after_changes, create_new, create_taken, create_under, next_cversion, with_children}
+use Rattle.data_tree.specs.Meaning.{after_changes, create_new, create_taken, create_under, of_effect, of_operation, next_cversion, with_children}
 use Rattle.data_tree.specs.Meaning.Change.{Put}
 use Rattle.data_tree.specs.Making.{update_node, update_found}
 use Rattle.data_tree.specs.Inner.Children.{with_added_child, with_raised_stat, stat_after_create, added_child, without_added_child}
+use Rattle.data_tree.specs.Inner.Doing.{IsDone}
 use Rattle.data_tree.specs.declared.node.Node.{Node}
+use Rattle.data_tree.specs.declared.outcome.Trigger.{Trigger}
 use Rattle.jute.specs.declared.stat.StatPersisted.{StatPersisted}
 use Rattle.data_tree.specs.declared.added_child.AddedChild.TheVariants.{Taken, Added}
+use Rattle.data_tree.proofs.Lists.{nothing_more}
 use Rattle.data_tree.proofs.NodeUpdates.{insert_same, added_child_taken, undone}
 
 -- a parent whose numbers rise at most
-with_raised_stat-is : (s : State) (h : TxnHeader) (c : Create) (path : Bytes) (parent : Node) → finmap.get s.nodes path ≡ Some parent
-    → (let t : State = record { nodes = finmap.insert s.nodes path (with_raised_stat h c parent); pairs = s.pairs; sessions = s.sessions } in t)
-    ≡ after_changes s (if int_lt parent.stat.cversion (next_cversion parent.stat.cversion c.parent_cversion) then Put path (with_children parent parent.children (next_cversion parent.stat.cversion c.parent_cversion) h.zxid) ∷ [] else [])
-with_raised_stat-is s h c path parent is = by (int_lt parent.stat.cversion (next_cversion parent.stat.cversion c.parent_cversion))
+with_raised_stat-is : (s : State) (h : TxnHeader) (c : Create) (path : Bytes) (parent : Node)
+    → finmap.get s.nodes path ≡ Some parent
+    → (let t : State =
+    record {
+      nodes = finmap.insert s.nodes path (with_raised_stat h c parent);
+      pairs = s.pairs;
+      sessions =
+          s.sessions;
+    } in t)
+    ≡ after_changes s
+    (if int_lt parent.stat.cversion (next_cversion parent.stat.cversion c.parent_cversion)
+    then Put path (with_children parent parent.children (next_cversion parent.stat.cversion c.parent_cversion) h.zxid)
+    ∷ [] else [])
+with_raised_stat-is s h c path parent is =
+    by (int_lt parent.stat.cversion (next_cversion parent.stat.cversion c.parent_cversion))
   where
-    by : (b : Bool) → (let t : State = record { nodes = finmap.insert s.nodes path (record parent { stat = if b then stat_after_create h c parent.stat else parent.stat }); pairs = s.pairs; sessions = s.sessions } in t)
-        ≡ after_changes s (if b then Put path (with_children parent parent.children (next_cversion parent.stat.cversion c.parent_cversion) h.zxid) ∷ [] else [])
+    by : (b : Bool)
+        → (let t : State =
+        record {
+          nodes =
+              finmap.insert s.nodes path
+              (record parent { stat = if b then stat_after_create h c parent.stat else parent.stat });
+          pairs = s.pairs;
+          sessions = s.sessions;
+        } in t)
+        ≡ after_changes s
+        (if b then Put path
+        (with_children parent parent.children (next_cversion parent.stat.cversion c.parent_cversion) h.zxid) ∷ []
+        else [])
     by true = refl
     by false = λ i. record { nodes = insert_same s.nodes path parent is i; pairs = s.pairs; sessions = s.sessions }
 
-pub taken-is : (s : State) (h : TxnHeader) (c : Create) (n : Nodes) → Taken ≡ added_child (finmap.get s.nodes (parent_of c.path)) (name_of c.path)
-    → n ≡ update_node s.nodes (parent_of c.path) (with_added_child h c (name_of c.path))
-    → (let t : State = record { nodes = n; pairs = s.pairs; sessions = s.sessions } in t) ≡ after_changes s (create_under h c (finmap.get s.nodes (parent_of c.path))).changes
-taken-is s h c n taken is = (λ i. record { nodes = is i; pairs = s.pairs; sessions = s.sessions }) ∙ by (finmap.get s.nodes (parent_of c.path)) refl taken
+pub taken-done : (s : State) (h : TxnHeader) (c : Create) (n : Nodes) (before after : List Trigger)
+    → Taken ≡ added_child (finmap.get s.nodes (parent_of c.path)) (name_of c.path)
+    → n ≡ update_node s.nodes (parent_of c.path) (with_added_child h c (name_of c.path)) → after ≡ before
+    → IsDone (of_operation h (op.Create c) s) NODE_EXISTS
+    (let t : State = record { nodes = n; pairs = s.pairs; sessions = s.sessions } in t) before after
+taken-done s h c n before after taken is same = by (finmap.get s.nodes (parent_of c.path)) refl taken is
   where
-    with_name : (parent : Node) (b : Bool) → finmap.get s.nodes (parent_of c.path) ≡ Some parent → set.contains parent.children (name_of c.path) ≡ b → Taken ≡ (if b then Taken else Added parent.stat)
-        → (let t : State = record { nodes = finmap.insert s.nodes (parent_of c.path) (with_added_child h c (name_of c.path) parent); pairs = s.pairs; sessions = s.sessions } in t)
-        ≡ after_changes s (if b then create_taken h c parent else create_new h c parent).changes
-    with_name parent true found e t = (λ i. record { nodes = finmap.insert s.nodes (parent_of c.path) (added_child_taken h c (name_of c.path) parent e i); pairs = s.pairs; sessions = s.sessions }) ∙ with_raised_stat-is s h c (parent_of c.path) parent found
-    with_name parent false found e t = cc
+    with_name : (parent : Node) (b : Bool) → finmap.get s.nodes (parent_of c.path) ≡ Some parent
+        → set.contains parent.children (name_of c.path) ≡ b → Taken ≡ (if b then Taken else Added parent.stat)
+        → n ≡ finmap.insert s.nodes (parent_of c.path) (with_added_child h c (name_of c.path) parent)
+        → IsDone (of_effect (if b then create_taken h c parent else create_new h c parent) s) NODE_EXISTS
+        (let t : State = record { nodes = n; pairs = s.pairs; sessions = s.sessions } in t) before after
+    with_name parent true found e t is = record {
+      state =
+          (λ i. record {
+            nodes =
+                (is ∙ ap (finmap.insert s.nodes (parent_of c.path)) (added_child_taken h c (name_of c.path) parent e))
+                i;
+            pairs = s.pairs;
+            sessions = s.sessions;
+          })
+          ∙ with_raised_stat-is s h c (parent_of c.path) parent found;
+      err = refl;
+      fired = same ∙ nothing_more before [] refl;
+    }
+    with_name parent false found e t is = record { state = cc; err = cc; fired = cc }
 
     by : (o : Option Node) → finmap.get s.nodes (parent_of c.path) ≡ o → Taken ≡ added_child o (name_of c.path)
-        → (let t : State = record { nodes = update_found s.nodes (parent_of c.path) (with_added_child h c (name_of c.path)) o; pairs = s.pairs; sessions = s.sessions } in t) ≡ after_changes s (create_under h c o).changes
-    by None e t = cc
-    by (Some parent) e t = with_name parent (set.contains parent.children (name_of c.path)) e refl t
+        → n ≡ update_found s.nodes (parent_of c.path) (with_added_child h c (name_of c.path)) o
+        → IsDone (of_effect (create_under h c o) s) NODE_EXISTS
+        (let t : State = record { nodes = n; pairs = s.pairs; sessions = s.sessions } in t) before after
+    by None e t is = record { state = cc; err = cc; fired = cc }
+    by (Some parent) e t is = with_name parent (set.contains parent.children (name_of c.path)) e refl t is
 
 -- a name that was added is taken out again
-pub undone_child : (m : Nodes) (path name : Bytes) (h : TxnHeader) (c : Create) (stat : StatPersisted) → Added stat ≡ added_child (finmap.get m path) name
+pub undone_child : (m : Nodes) (path name : Bytes) (h : TxnHeader) (c : Create) (stat : StatPersisted)
+    → Added stat ≡ added_child (finmap.get m path) name
     → update_node (update_node m path (with_added_child h c name)) path (without_added_child name stat) ≡ m
 undone_child m path name h c stat adopted = by (finmap.get m path) refl adopted
   where
-    with_name : (parent : Node) (b : Bool) → finmap.get m path ≡ Some parent → set.contains parent.children name ≡ b → Added stat ≡ (if b then Taken else Added parent.stat)
+    with_name : (parent : Node) (b : Bool) → finmap.get m path ≡ Some parent → set.contains parent.children name ≡ b
+        → Added stat ≡ (if b then Taken else Added parent.stat)
         → update_node (update_node m path (with_added_child h c name)) path (without_added_child name stat) ≡ m
     with_name parent true found e a = cc
     with_name parent false found e a =
         let same : stat ≡ parent.stat = cc in
-        ap (λ (t : StatPersisted). update_node (update_node m path (with_added_child h c name)) path (without_added_child name t)) same ∙ undone m path name h c parent found e
+        ap (λ (t : StatPersisted). update_node (update_node m path (with_added_child h c name)) path
+        (without_added_child name t)) same
+        ∙ undone m path name h c parent found e
 
-    by : (o : Option Node) → finmap.get m path ≡ o → Added stat ≡ added_child o name → update_node (update_node m path (with_added_child h c name)) path (without_added_child name stat) ≡ m
+    by : (o : Option Node) → finmap.get m path ≡ o → Added stat ≡ added_child o name
+        → update_node (update_node m path (with_added_child h c name)) path (without_added_child name stat) ≡ m
     by None e a = cc
     by (Some parent) e a = with_name parent (set.contains parent.children name) e refl a

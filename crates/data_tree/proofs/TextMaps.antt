@@ -22,7 +22,8 @@ use Rattle.ephemerals.proofs.Totals.{path_total}
 use Rattle.ephemerals.proofs.TextKeys.{query, same_test}
 
 -- what holds where a look-up finds something holds where it lent something
-pub on_some : {Y : Type 0} {P : Type 0} (r : Option (MutBor Y)) (x : Option Y) → option_copied_mut r ≡ x → (IsSome x → P) → OnSome r P
+pub on_some : {Y : Type 0} {P : Type 0} (r : Option (MutBor Y)) (x : Option Y) → option_copied_mut r ≡ x
+    → (IsSome x → P) → OnSome r P
 on_some None x e f = tt
 on_some (Some m) x e f = f (subst IsSome e refl)
 
@@ -37,26 +38,36 @@ module _ {X Z : Type 0} where
   pub get-seen : (es : List (String Z × X)) (q : Bytes) → finmap.get (seen es) q ≡ lookup (query q) es
   get-seen es q = finmap.get-from_entries path_total (by_bytes es) q ∙ find-by_bytes es q
 
-  get-updated : (bs : Bytes) (m n : BTreeMap (String Z) X) (w : Option X) → tree.UpdatesBy string_cmp (λ (k : String Z). slice_cmp nat_cmp bs (string_bytes k)) m n w
+  get-updated : (bs : Bytes) (m n : BTreeMap (String Z) X) (w : Option X)
+      → tree.UpdatesBy string_cmp (λ (k : String Z). slice_cmp nat_cmp bs (string_bytes k)) m n w
       → (q : Bytes) → finmap.get (seen n.entries) q ≡ cond (eq_by_cmp path_cmp q bs) w (finmap.get (seen m.entries) q)
   get-updated bs m n w u q =
       get-seen n.entries q ∙ btree_map_updates_text bs m n w u q
       ∙ ap (λ b. cond b w (lookup (query q) m.entries)) (same_test q bs)
       ∙ ap (cond (eq_by_cmp path_cmp q bs) w) (sym (get-seen m.entries q))
 
-  pub seen-insert : (bs : Bytes) (m n : BTreeMap (String Z) X) (v : X) → tree.UpdatesBy string_cmp (λ (k : String Z). slice_cmp nat_cmp bs (string_bytes k)) m n (Some v)
+  pub seen-insert : (bs : Bytes) (m n : BTreeMap (String Z) X) (v : X)
+      → tree.UpdatesBy string_cmp (λ (k : String Z). slice_cmp nat_cmp bs (string_bytes k)) m n (Some v)
       → seen n.entries ≡ finmap.insert (seen m.entries) bs v
-  seen-insert bs m n v u = finmap.same_map path_total exact_bytes _ _ (λ q. get-updated bs m n (Some v) u q ∙ sym (finmap.get-insert path_total (seen m.entries) bs v q))
+  seen-insert bs m n v u =
+      finmap.same_map path_total exact_bytes _ _
+      (λ q. get-updated bs m n (Some v) u q ∙ sym (finmap.get-insert path_total (seen m.entries) bs v q))
 
-  pub seen-remove : (bs : Bytes) (m n : BTreeMap (String Z) X) → tree.UpdatesBy string_cmp (λ (k : String Z). slice_cmp nat_cmp bs (string_bytes k)) m n None
+  pub seen-remove : (bs : Bytes) (m n : BTreeMap (String Z) X)
+      → tree.UpdatesBy string_cmp (λ (k : String Z). slice_cmp nat_cmp bs (string_bytes k)) m n None
       → seen n.entries ≡ finmap.remove (seen m.entries) bs
-  seen-remove bs m n u = finmap.same_map path_total exact_bytes _ _ (λ q. get-updated bs m n None u q ∙ sym (finmap.get-remove path_total (seen m.entries) bs q))
+  seen-remove bs m n u =
+      finmap.same_map path_total exact_bytes _ _
+      (λ q. get-updated bs m n None u q ∙ sym (finmap.get-remove path_total (seen m.entries) bs q))
 
-  pub none_ahead : (q : Bytes) (es : List (String Z × X)) → AllByRecursion (λ (y : String Z). slice_cmp nat_cmp q (string_bytes y) ≡ Less) (keys_of es) → lookup (query q) es ≡ None
+  pub none_ahead : (q : Bytes) (es : List (String Z × X))
+      → AllByRecursion (λ (y : String Z). slice_cmp nat_cmp q (string_bytes y) ≡ Less) (keys_of es)
+      → lookup (query q) es ≡ None
   none_ahead q [] h = refl
   none_ahead q (e ∷ es) h = ap (λ r. cond (is_eq r) (Some e.1) (lookup (query q) es)) h.0 ∙ none_ahead q es h.1
 
-  pub len-seen : (es : List (String Z × X)) → IsStrictlySortedBy string_cmp (keys_of es) → finmap.len (seen es) ≡ length es
+  pub len-seen : (es : List (String Z × X)) → IsStrictlySortedBy string_cmp (keys_of es)
+      → finmap.len (seen es) ≡ length es
   len-seen [] s = finmap.len-empty path_cmp X
   len-seen (e ∷ es) s =
       let rest : finmap.len (seen es) ≡ length es = len-seen es (sorted_tail string_cmp e.0 (keys_of es) s) in
@@ -67,7 +78,8 @@ module _ {X Z : Type 0} where
 
   -- entries that were cloned
   same_entries : {Y : Type 0} (xs : List (String Z × X)) (ys : List (String Y × X))
-      → AllZip (λ (x : String Z × X) (y : String Y × X). (string_bytes y.0 ≡ string_bytes x.0) × (y.1 ≡ x.1)) xs ys → by_bytes ys ≡ by_bytes xs
+      → AllZip (λ (x : String Z × X) (y : String Y × X). (string_bytes y.0 ≡ string_bytes x.0) × (y.1 ≡ x.1)) xs ys
+      → by_bytes ys ≡ by_bytes xs
   same_entries [] [] h = refl
   same_entries [] (y ∷ ys) h = absurd h
   same_entries (x ∷ xs) [] h = absurd h

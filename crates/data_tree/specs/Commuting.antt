@@ -1,4 +1,5 @@
--- Transactions keep to their footprints, so those on other cells commute, and groups of them leave what the whole batch leaves.
+-- Transactions keep to their footprints, so those on other cells commute, and groups of them leave what the whole
+-- batch leaves.
 use Rattle.std.specs.Prelude.{◌≡◌, ◌≢◌, ◌⊎◌, ◌==◌, ℕ, List, [], ◌∷◌, true, false, map, if◌then◌else◌}
 use Rattle.ephemerals.specs.Orders.{Bytes}
 use Rattle.txn_codec.specs.declared.txn.Txn.{Txn}
@@ -27,7 +28,8 @@ pub record DoCommute (f g : State → Meant) (s : State) : Type 0 where
   pub second : answer_of (g (f s).state) ≡ answer_of (g s)
 
 abbrev pub DisjointTransactionsCommute : Type 0
-DisjointTransactionsCommute = (a b : Txn) (s : State) → KeepsToCells a → KeepsToCells b → AreApart (footprint a) (footprint b) → DoCommute (λ u. mean u a) (λ u. mean u b) s
+DisjointTransactionsCommute = (a b : Txn) (s : State) → KeepsToCells a → KeepsToCells b
+    → AreApart (footprint a) (footprint b) → DoCommute (λ u. mean u a) (λ u. mean u b) s
 
 -- a transaction and the group that it was put into
 abbrev pub Tagged : Type 0
@@ -44,7 +46,9 @@ batch_of batch = map (λ (t : Tagged). t.1) batch
 -- each transaction keeps to its group's paths
 abbrev pub KeepsTo : (ℕ → List Bytes) → List Tagged → Type 0
 KeepsTo paths [] = Unit {0}
-KeepsTo paths (t ∷ ts) = (KeepsToCells t.1 × ((p : Bytes) → touches (footprint t.1) p ≡ true → touches (paths t.0) p ≡ true)) × KeepsTo paths ts
+KeepsTo paths (t ∷ ts) =
+    (KeepsToCells t.1 × ((p : Bytes) → touches (footprint t.1) p ≡ true → touches (paths t.0) p ≡ true))
+    × KeepsTo paths ts
 
 -- no two groups have a path in common
 abbrev pub AreDisjoint : (ℕ → List Bytes) → Type 0
@@ -55,7 +59,8 @@ AreDisjoint paths = (j k : ℕ) → j ≢ k → AreApart (paths j) (paths k)
 abbrev pub GroupsAreTheBatch : Type 0
 GroupsAreTheBatch =
     (paths : ℕ → List Bytes) (batch : List Tagged) → AreDisjoint paths → KeepsTo paths batch
-    → (s cells : State) (k : ℕ) → AreSameAt (paths k) cells s → AreSameAt (paths k) (after cells (of_group k batch)) (after s (batch_of batch))
+    → (s cells : State) (k : ℕ) → AreSameAt (paths k) cells s
+    → AreSameAt (paths k) (after cells (of_group k batch)) (after s (batch_of batch))
 
 -- and a state that has each group's cells, and the old cells elsewhere, is the state after the batch
 abbrev pub CellsPutBackAreTheBatch : Type 0

@@ -1,4 +1,5 @@
--- Which cells a transaction reads and writes. A cell at a path is the node there, if any, and the sessions that list the path.
+-- Which cells a transaction reads and writes. A cell at a path is the node there, if any, and the sessions that list
+-- the path.
 use Rattle.std.specs.Prelude.{◌≡◌, ℤ, List, [], ◌∷◌, ◌++◌, Bool, true, false, if◌then◌else◌}
 use Rattle.std.specs.List.{list_any}
 use Rattle.std.specs.Ordering.{eq_by_cmp}

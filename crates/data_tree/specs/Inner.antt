@@ -2,3 +2,4 @@
 pub mod Children
 pub mod NodesView
 pub mod NodeMapLends
+pub mod Doing

@@ -1,5 +1,5 @@
 -- How a tree is made of sessions and nodes, one by one.
-use Rattle.std.specs.Prelude.{ℤ, Bool, false, not, ◌&&◌, ◌==◌, Option, Some, None, if◌then◌else◌}
+use Rattle.std.specs.Prelude.{ℤ, Bool, not, ◌&&◌, ◌==◌, Option, Some, None, if◌then◌else◌}
 use Rattle.std.specs.FinMap as finmap
 use Rattle.std.specs.FinSet as set
 use Rattle.ephemerals.specs.Orders.{Bytes}
@@ -38,8 +38,10 @@ with_placed_node s path node = record {
 
 -- the node at the path, its name in the parent, if any, and its owner's pair
 abbrev pub with_node : State → Bytes → Node → State
-with_node s path node = with_placed_node (record s { nodes = update_node s.nodes (parent_of path) (with_name (name_of path)) }) path node
+with_node s path node =
+    with_placed_node (record s { nodes = update_node s.nodes (parent_of path) (with_name (name_of path)) }) path node
 
 -- "/" has a place where there is no node, and any other path where it is new and its parent is there
 abbrev pub has_place : Nodes → Bytes → Bool
-has_place nodes path = if is_root path then finmap.len nodes == 0 else not (has_node nodes path) && has_node nodes (parent_of path)
+has_place nodes path =
+    if is_root path then finmap.len nodes == 0 else not (has_node nodes path) && has_node nodes (parent_of path)

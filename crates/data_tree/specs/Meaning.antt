@@ -1,5 +1,5 @@
 -- What a transaction does to the state, and what it answers (ZooKeeper Programmer's Guide).
-use Rattle.std.specs.Prelude.{ℤ, pos, negsuc, ◌+ℤ◌, List, [], ◌∷◌, ◌++◌, if◌then◌else◌, Bool, false, ◌||◌, Option, Some, None, is_some, map, int_lt, codes}
+use Rattle.std.specs.Prelude.{ℤ, pos, negsuc, ◌+ℤ◌, List, [], ◌∷◌, ◌++◌, if◌then◌else◌, Bool, Option, Some, None, is_some, map, int_lt, codes}
 use Rattle.std.specs.Int.{int_wrap, w32}
 use Rattle.std.specs.Option.{unwrap_or}
 use Rattle.std.specs.List.{list_any}
@@ -68,7 +68,8 @@ next_cversion stored wanted = if int_eq wanted (negsuc 0) then int_wrap w32 (sto
 
 -- a parent whose children, stored cversion and pzxid are set
 abbrev pub with_children : Node → Names → ℤ → ℤ → Node
-with_children parent children cversion zxid = record parent { children = children; stat = record parent.stat { cversion = cversion; pzxid = zxid } }
+with_children parent children cversion zxid =
+    record parent { children = children; stat = record parent.stat { cversion = cversion; pzxid = zxid } }
 
 -- the session that an ephemeral node belongs to, and 0 for any other node
 abbrev pub owner_of : TxnHeader → Bool → ℤ
@@ -105,7 +106,9 @@ create_taken header create parent =
     let next = next_cversion parent.stat.cversion create.parent_cversion in
     record {
       err = NODE_EXISTS;
-      changes = if int_lt parent.stat.cversion next then Put (parent_of create.path) (with_children parent parent.children next header.zxid) ∷ [] else [];
+      changes =
+          if int_lt parent.stat.cversion next
+          then Put (parent_of create.path) (with_children parent parent.children next header.zxid) ∷ [] else [];
       triggers = [];
     }
 
@@ -115,7 +118,8 @@ create_new header create parent =
     record {
       err = pos 0;
       changes =
-          Put (parent_of create.path) (with_children parent (set.insert parent.children (name_of create.path)) next header.zxid)
+          Put (parent_of create.path)
+          (with_children parent (set.insert parent.children (name_of create.path)) next header.zxid)
           ∷ Put create.path (new_node header create)
           ∷ gained_pair (owner_of header create.ephemeral) create.path;
       triggers = Created create.path ∷ ChildrenChanged (parent_of create.path) ∷ [];
@@ -124,7 +128,8 @@ create_new header create parent =
 abbrev pub create_under : TxnHeader → Create → Option Node → Effect
 create_under header create None = no_change NO_NODE
 create_under header create (Some parent) =
-    if set.contains parent.children (name_of create.path) then create_taken header create parent else create_new header create parent
+    if set.contains parent.children (name_of create.path) then create_taken header create parent
+    else create_new header create parent
 
 -- the node that is removed, and its parent
 abbrev pub delete_at : TxnHeader → Bytes → Option Node → Option Node → Effect
@@ -134,22 +139,32 @@ delete_at header path (Some node) (Some parent) = record {
   err = pos 0;
   changes =
       Remove path
-      ∷ Put (parent_of path) (with_children parent (set.remove parent.children (name_of path)) parent.stat.cversion header.zxid)
+      ∷ Put (parent_of path)
+      (with_children parent (set.remove parent.children (name_of path)) parent.stat.cversion header.zxid)
       ∷ lost_pair node.stat.ephemeral_owner path;
   triggers = Deleted path ∷ ChildrenChanged (parent_of path) ∷ [];
 }
 
 abbrev pub with_data : TxnHeader → SetData → Node → Node
-with_data header body node = record node { bytes = body.bytes; stat = record node.stat { version = body.version; mzxid = header.zxid; mtime = header.time } }
+with_data header body node =
+    record node
+    { bytes = body.bytes; stat = record node.stat { version = body.version; mzxid = header.zxid; mtime = header.time } }
 
 abbrev pub set_data_at : TxnHeader → SetData → Option Node → Effect
 set_data_at header body None = no_change NO_NODE
-set_data_at header body (Some node) = record { err = pos 0; changes = Put body.path (with_data header body node) ∷ []; triggers = DataChanged body.path ∷ [] }
+set_data_at header body (Some node) =
+    record {
+      err = pos 0;
+      changes = Put body.path (with_data header body node) ∷ [];
+      triggers =
+          DataChanged body.path ∷ [];
+    }
 
 -- an operation reads the nodes at its path and at the parent, and no more
 abbrev pub effect_of : TxnHeader → Operation → Nodes → Effect
 effect_of header (op.Create body) nodes = create_under header body (finmap.get nodes (parent_of body.path))
-effect_of header (op.Delete path) nodes = delete_at header path (finmap.get nodes path) (finmap.get (finmap.remove nodes path) (parent_of path))
+effect_of header (op.Delete path) nodes =
+    delete_at header path (finmap.get nodes path) (finmap.get (finmap.remove nodes path) (parent_of path))
 effect_of header (op.SetData body) nodes = set_data_at header body (finmap.get nodes body.path)
 effect_of header (op.Check body) nodes = no_change (pos 0)
 effect_of header (op.Error error) nodes = no_change error
@@ -169,7 +184,8 @@ pub record Meant : Type 0 where
   pub triggers : List Trigger
 
 abbrev pub of_effect : Effect → State → Meant
-of_effect effect s = record { state = after_changes s effect.changes; err = effect.err; parts = []; triggers = effect.triggers }
+of_effect effect s =
+    record { state = after_changes s effect.changes; err = effect.err; parts = []; triggers = effect.triggers }
 
 abbrev pub of_operation : TxnHeader → Operation → State → Meant
 of_operation header operation s = of_effect (effect_of header operation s.nodes) s
@@ -204,11 +220,13 @@ errors_of_failed (o ∷ os) = if is_some (error_of o) then map error_in_failed (
 
 -- the answer of a multi with an error part
 abbrev pub failed_outcome : List Operation → Outcome
-failed_outcome parts = let errors = errors_of_failed parts in record { err = first_error errors; parts = errors; triggers = [] }
+failed_outcome parts = let errors =
+    errors_of_failed parts in record { err = first_error errors; parts = errors; triggers = [] }
 
 -- nothing is applied
 abbrev pub of_failed : List Operation → State → Meant
-of_failed parts s = let answer = failed_outcome parts in record { state = s; err = answer.err; parts = answer.parts; triggers = answer.triggers }
+of_failed parts s = let answer =
+    failed_outcome parts in record { state = s; err = answer.err; parts = answer.parts; triggers = answer.triggers }
 
 -- the parts in order; one that fails stops none after it
 abbrev pub of_parts : TxnHeader → List Operation → State → Meant
@@ -228,19 +246,29 @@ of_multi header parts s = if has_error parts then of_failed parts s else of_part
 
 -- the session's timeout is set
 abbrev pub of_create_session : TxnHeader → ℤ → State → Meant
-of_create_session header timeout s = record { state = record s { sessions = finmap.insert s.sessions header.client_id timeout }; err = pos 0; parts = []; triggers = [] }
+of_create_session header timeout s =
+    record {
+      state = record s { sessions = finmap.insert s.sessions header.client_id timeout };
+      err = pos 0;
+      parts =
+          [];
+      triggers = [];
+    }
 
 abbrev pub deletes : List Bytes → List Operation
 deletes paths = map op.Delete paths
 
 -- the state without the session and its pairs
 abbrev pub state_without_session : ℤ → State → State
-state_without_session session s = record { nodes = s.nodes; pairs = without_session session s.pairs; sessions = finmap.remove s.sessions session }
+state_without_session session s =
+    record { nodes = s.nodes; pairs = without_session session s.pairs; sessions = finmap.remove s.sessions session }
 
 -- the session's ephemerals are deleted in ascending bytes; an error is passed over
 abbrev pub of_close_session : TxnHeader → State → Meant
 of_close_session header s =
-    let deleted = of_parts header (deletes (in_order (paths_of header.client_id s.pairs))) (state_without_session header.client_id s) in
+    let deleted =
+    of_parts header (deletes (in_order (paths_of header.client_id s.pairs)))
+    (state_without_session header.client_id s) in
     record { state = deleted.state; err = pos 0; parts = []; triggers = deleted.triggers }
 
 abbrev pub mean_of : TxnHeader → Body → State → Meant

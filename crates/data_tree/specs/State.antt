@@ -18,5 +18,7 @@ pub record State : Type 0 where
 abbrev pub state_code : Coded Node → Coded State
 state_code node =
     code_by (Nodes × (Pairs × Sessions))
-    (coded× (finmap.code {R = path_cmp} (coded_list coded_ℕ) node) (coded× (set.code {R = pair_cmp} (coded× coded_ℤ (coded_list coded_ℕ))) (finmap.code {R = int_cmp} coded_ℤ coded_ℤ)))
+    (coded× (finmap.code {R = path_cmp} (coded_list coded_ℕ) node)
+    (coded× (set.code {R = pair_cmp} (coded× coded_ℤ (coded_list coded_ℕ)))
+    (finmap.code {R = int_cmp} coded_ℤ coded_ℤ)))
     (λ s. (s.nodes, (s.pairs, s.sessions))) (λ p. record { nodes = p.0; pairs = p.1.0; sessions = p.1.1 }) (λ _. refl)

@@ -3,7 +3,7 @@ use Rattle.std.specs.Prelude.{◌≡◌, ℤ, pos, not, ◌&&◌, Bool, true, fa
 use Rattle.std.specs.Ordering.{int_eq}
 use Rattle.std.specs.FinMap as finmap
 use Rattle.std.specs.FinSet as set
-use Rattle.ephemerals.specs.Orders.{Bytes, Names, Pairs}
+use Rattle.ephemerals.specs.Orders.{Bytes, Pairs}
 use Rattle.txn_codec.specs.Paths.{is_root, parent_of, name_of, child_of}
 use Rattle.data_tree.specs.State.{State, Nodes}
 use Rattle.data_tree.specs.declared.node.Node.{Node}

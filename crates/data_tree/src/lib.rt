@@ -1,10 +1,10 @@
 //! The data tree of ZooKeeper: what each transaction does to it, answers, and tells watchers.
 //!
 //! A `Tree` is a state in three parts: the nodes by path, which session owns which ephemeral node, and each session's
-//! timeout. It starts `fresh`, or `empty` where it is read from an image node by node. `apply` does one transaction, and is
-//! proved to be what `specs/Meaning.antt` says of it; `docs/TRANSACTIONS.md` tells that in a table. What allocates is done
-//! first: where memory is refused, the tree is as it was, but after a multi or a closeSession. The laws in `law` say which
-//! transactions can be done apart.
+//! timeout. It starts `fresh`, or `empty` where it is read from an image node by node. `apply` does one transaction,
+//! and is proved to be what `specs/Meaning.antt` says of it; `docs/TRANSACTIONS.md` tells that in a table. What
+//! allocates is done first: where memory is refused, the tree is as it was, but after a multi or a closeSession. The
+//! laws in `law` say which transactions can be done apart.
 //!
 //! ```text
 //! let mut tree = Tree::fresh(alloc)?;

@@ -266,8 +266,8 @@ impl NodeMap {
         Ok(true)
     }
 
-    /// Whether the pairs are the owned nodes' owners and paths. Where each of these is a pair, and they are as many as the pairs,
-    /// there is no other pair.
+    /// Whether the pairs are the owned nodes' owners and paths. Where each of these is a pair, and they are as many
+    /// as the pairs, there is no other pair.
     pub fn are_owned(&self, pairs: &Ephemerals) -> bool
         ensures { IsTrue result ↔ AreOwned self.now pairs.now }
     {

@@ -29,34 +29,18 @@ pub struct Outcome {
     pub triggers: Listed<Trigger>,
 }
 
-/// Adds what a create fires.
-pub fn fire_created(
+/// Adds what a create or a delete fires: at the path, and at its parent.
+pub fn fire_with_parent(
     triggers: &mut Vec<Trigger>,
     alloc: Global,
-    path: &str,
+    at_path: Trigger,
     parent: &str,
 ) -> Result<(), NoMemory>
     ensures { OnOk result
         (triggers.new.items ≡ triggers.old.items ++
-        (Trigger.Created path.now ∷ Trigger.ChildrenChanged parent.now ∷ [])) }
+        (at_path ∷ Trigger.ChildrenChanged parent.now ∷ [])) }
 {
-    triggers.push(Trigger::Created(Text::new(alloc, path)?))?;
-    triggers.push(Trigger::ChildrenChanged(Text::new(alloc, parent)?))?;
-    Ok(())
-}
-
-/// Adds what a delete fires.
-pub fn fire_deleted(
-    triggers: &mut Vec<Trigger>,
-    alloc: Global,
-    path: &str,
-    parent: &str,
-) -> Result<(), NoMemory>
-    ensures { OnOk result
-        (triggers.new.items ≡ triggers.old.items ++
-        (Trigger.Deleted path.now ∷ Trigger.ChildrenChanged parent.now ∷ [])) }
-{
-    triggers.push(Trigger::Deleted(Text::new(alloc, path)?))?;
+    triggers.push(at_path)?;
     triggers.push(Trigger::ChildrenChanged(Text::new(alloc, parent)?))?;
     Ok(())
 }

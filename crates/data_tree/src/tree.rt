@@ -1,6 +1,6 @@
 //! The data tree.
 
-ghost use Rattle.std.specs.Prelude.{◌≡◌, ◌++◌, ◌↔◌, OnOk, OnErr, IfOk, IsTrue};
+ghost use Rattle.std.specs.Prelude.{◌≡◌, ◌++◌, [], ◌↔◌, OnOk, OnErr, IfOk, IsTrue};
 ghost use Rattle.std.specs.Option.{option_copied, option_map};
 ghost use Rattle.std.specs.FinMap as finmap;
 ghost use Rattle.data_tree.specs.Making.{with_placed_node};
@@ -9,6 +9,7 @@ ghost use Rattle.data_tree.specs.Whole.{IsWhole};
 ghost use Rattle.data_tree.specs.Meaning.{of_operation, of_set_acl, of_create_session, of_close_session, of_parts, of_multi, deletes, has_error, mean, answer_of, fresh};
 ghost use Rattle.data_tree.specs.Refused.{IsAfterFront};
 ghost use Rattle.data_tree.specs.Refused.{IsPartly, IsLeftBy};
+ghost use Rattle.data_tree.specs.Inner.Doing.{Does};
 ghost use Rattle.data_tree.specs.Stats.{shown, children_of};
 ghost use Rattle.ephemerals.specs.Orders.{in_order};
 
@@ -16,7 +17,7 @@ use crate::added_child::AddedChild;
 use crate::multi::{failed_outcome, first_error, has_error};
 use crate::node::Node;
 use crate::node_map::NodeMap;
-use crate::outcome::{Outcome, Trigger, fire_created, fire_data_changed, fire_deleted};
+use crate::outcome::{Outcome, Trigger, fire_data_changed, fire_with_parent};
 use crate::sessions::Timeouts;
 use ephemerals::{Ephemerals, TextSet};
 use jute::Stat;
@@ -26,7 +27,7 @@ use std::marker::Model;
 use txn_codec::{
     Body, Create, Operation, Path, SetAcl, SetData, Txn, TxnHeader, name_of, parent_of,
 };
-use values::{Listed, NoMemory};
+use values::{Listed, NoMemory, Text};
 
 /// The nodes, the sessions' ephemerals, and the sessions' timeouts.
 #[derive(Drop)]
@@ -72,7 +73,8 @@ impl Tree {
         })
     }
 
-    /// A tree without a node and without a session, which takes no memory: where a tree that is read from an image begins.
+    /// A tree without a node and without a session, which takes no memory: where a tree that is read from an image
+    /// begins.
     pub fn empty(alloc: Global) -> Tree
         ensures { result ≡ empty_state }
     {
@@ -102,8 +104,8 @@ impl Tree {
         self.timeouts.set(session, timeout)
     }
 
-    /// Whether a node can be put at the path: at "/" where there is no node, and at any other path where it is new and its parent
-    /// is there.
+    /// Whether a node can be put at the path: at "/" where there is no node, and at any other path where it is new
+    /// and its parent is there.
     pub fn has_place(&self, path: &Path) -> bool
         ensures { result ≡ has_place self.now.nodes path.now }
     {
@@ -113,7 +115,8 @@ impl Tree {
         self.node(path.as_str()).is_none() && self.node(path.parent()).is_some()
     }
 
-    /// Adds a node at a path that has a place, its name in the parent and its owner's pair. Refused, it leaves the tree as it was.
+    /// Adds a node at a path that has a place, its name in the parent and its owner's pair. Refused, it leaves the
+    /// tree as it was.
     pub fn put_node(&mut self, alloc: Global, path: &Path, node: Node) -> Result<(), NoMemory>
         requires place { IsTrue (has_place self.old.nodes path.now) }
         ensures ok { OnOk result (self.new ≡ with_node self.old path.now node) }
@@ -160,18 +163,13 @@ impl Tree {
         create: &Create,
         triggers: &mut Vec<Trigger>,
     ) -> Result<i32, NoMemory>
-        ensures state { OnOk result
-            (self.new ≡ (of_operation header.now (Operation.Create create.now) self.old).state) }
-        ensures error { IfOk result
-            (λ err. err ≡ (of_operation header.now (Operation.Create create.now) self.old).err) }
-        ensures fired { OnOk result
-            (triggers.new.items ≡ triggers.old.items ++
-            (of_operation header.now (Operation.Create create.now) self.old).triggers) }
-        ensures err { OnErr result (self.new ≡ self.old) }
+        ensures { Does (of_operation header.now (Operation.Create create.now) self.old) result
+            self.old self.new triggers.old.items triggers.new.items }
     {
         let parent = create.path.parent();
         let before = triggers.len();
-        fire_created(triggers, alloc, create.path.as_str(), parent)?;
+        let created = Trigger::Created(Text::new(alloc, create.path.as_str())?);
+        fire_with_parent(triggers, alloc, created, parent)?;
         let node = Node::created(alloc, header, create)?;
         let name = String::from_str(alloc, create.path.name())?;
         match self.nodes.add_child(parent, name, header, create)? {
@@ -200,17 +198,12 @@ impl Tree {
         path: &str,
         triggers: &mut Vec<Trigger>,
     ) -> Result<i32, NoMemory>
-        ensures state { OnOk result
-            (self.new ≡ (of_operation header.now (Operation.Delete path.now) self.old).state) }
-        ensures error { IfOk result
-            (λ err. err ≡ (of_operation header.now (Operation.Delete path.now) self.old).err) }
-        ensures fired { OnOk result
-            (triggers.new.items ≡ triggers.old.items ++
-            (of_operation header.now (Operation.Delete path.now) self.old).triggers) }
-        ensures err { OnErr result (self.new ≡ self.old) }
+        ensures { Does (of_operation header.now (Operation.Delete path.now) self.old) result
+            self.old self.new triggers.old.items triggers.new.items }
     {
         let before = triggers.len();
-        fire_deleted(triggers, alloc, path, parent_of(path))?;
+        let deleted = Trigger::Deleted(Text::new(alloc, path)?);
+        fire_with_parent(triggers, alloc, deleted, parent_of(path))?;
         let Some(node) = self.nodes.remove(path) else {
             triggers.truncate(before);
             return Ok(NO_NODE);
@@ -233,14 +226,8 @@ impl Tree {
         body: &SetData,
         triggers: &mut Vec<Trigger>,
     ) -> Result<i32, NoMemory>
-        ensures state { OnOk result
-            (self.new ≡ (of_operation header.now (Operation.SetData body.now) self.old).state) }
-        ensures error { IfOk result
-            (λ err. err ≡ (of_operation header.now (Operation.SetData body.now) self.old).err) }
-        ensures fired { OnOk result
-            (triggers.new.items ≡ triggers.old.items ++
-            (of_operation header.now (Operation.SetData body.now) self.old).triggers) }
-        ensures err { OnErr result (self.new ≡ self.old) }
+        ensures { Does (of_operation header.now (Operation.SetData body.now) self.old) result
+            self.old self.new triggers.old.items triggers.new.items }
     {
         let before = triggers.len();
         fire_data_changed(triggers, alloc, body.path.as_str())?;
@@ -252,9 +239,7 @@ impl Tree {
     }
 
     fn set_acl(&mut self, alloc: Global, body: &SetAcl) -> Result<i32, NoMemory>
-        ensures state { OnOk result (self.new ≡ (of_set_acl body.now self.old).state) }
-        ensures error { IfOk result (λ err. err ≡ (of_set_acl body.now self.old).err) }
-        ensures err { OnErr result (self.new ≡ self.old) }
+        ensures { Does (of_set_acl body.now self.old) result self.old self.new [] [] }
     {
         if !self.nodes.set_acl(alloc, body.path.as_str(), body)? {
             return Ok(NO_NODE);
@@ -278,14 +263,8 @@ impl Tree {
         operation: &Operation,
         triggers: &mut Vec<Trigger>,
     ) -> Result<i32, NoMemory>
-        ensures state { OnOk result
-            (self.new ≡ (of_operation header.now operation.now self.old).state) }
-        ensures error { IfOk result
-            (λ err. err ≡ (of_operation header.now operation.now self.old).err) }
-        ensures fired { OnOk result
-            (triggers.new.items ≡ triggers.old.items ++
-            (of_operation header.now operation.now self.old).triggers) }
-        ensures err { OnErr result (self.new ≡ self.old) }
+        ensures { Does (of_operation header.now operation.now self.old) result
+            self.old self.new triggers.old.items triggers.new.items }
     {
         match operation {
             Operation::Create(create) => self.create(alloc, header, create, triggers),
@@ -357,8 +336,8 @@ impl Tree {
         self.delete_all(alloc, header, paths, triggers)
     }
 
-    /// Does a transaction. Refused for want of memory, a multi has done a front of its parts, a closeSession leaves a tree that is
-    /// only to be dropped, and any other leaves the tree as it was.
+    /// Does a transaction. Refused for want of memory, a multi has done a front of its parts, a closeSession leaves a
+    /// tree that is only to be dropped, and any other leaves the tree as it was.
     pub fn apply(&mut self, alloc: Global, txn: &Txn) -> Result<Outcome, NoMemory>
         ensures state { OnOk result (self.new ≡ (mean self.old txn.now).state) }
         ensures answer { IfOk result (λ o. o ≡ answer_of (mean self.old txn.now)) }
@@ -445,8 +424,8 @@ impl Tree {
         &self.ephemerals
     }
 
-    /// Whether the tree is whole: there is a root; each other node has a parent that lists its name; each name that a node lists has
-    /// a node; and the ephemerals are the owned nodes' paths, each with its owner.
+    /// Whether the tree is whole: there is a root; each other node has a parent that lists its name; each name that a
+    /// node lists has a node; and the ephemerals are the owned nodes' paths, each with its owner.
     pub fn is_whole(&self, alloc: Global) -> Result<bool, NoMemory>
         ensures { IfOk result (λ whole. IsTrue whole ↔ IsWhole self.now) }
     {

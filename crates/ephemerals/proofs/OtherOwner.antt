@@ -24,11 +24,15 @@ with_other_owner-same pairs k p = by (int_eq k (pos 0))
         or_not true b = refl
         or_not false b = refl
 
-    by : (b : Bool) → (if b then pairs else set.insert pairs (k, p)) ≡ (if b then (if b then pairs else set.remove pairs (k, p)) else set.insert (if b then pairs else set.remove pairs (k, p)) (k, p))
+    by : (b : Bool)
+        → (if b then pairs else set.insert pairs (k, p))
+        ≡ (if b then (if b then pairs else set.remove pairs (k, p))
+        else set.insert (if b then pairs else set.remove pairs (k, p)) (k, p))
     by true = refl
     by false = again
 
-pub with_other_owner-apart : (pairs : Pairs) (old new : ℤ) (p : Bytes) → int_eq old new ≡ false → without_pair (with_pair pairs new p) old p ≡ with_other_owner pairs p old new
+pub with_other_owner-apart : (pairs : Pairs) (old new : ℤ) (p : Bytes) → int_eq old new ≡ false
+    → without_pair (with_pair pairs new p) old p ≡ with_other_owner pairs p old new
 with_other_owner-apart pairs old new p apart = by (int_eq old (pos 0)) (int_eq new (pos 0))
   where
     swap : (t u b : Bool) → (t ≡ true → u ≡ true → ⊥) → (not t && (u || b)) ≡ (u || (not t && b))
@@ -39,8 +43,12 @@ with_other_owner-apart pairs old new p apart = by (int_eq old (pos 0)) (int_eq n
 
     clash : (q : ℤ × Bytes) → eq_by_cmp pair_cmp q (old, p) ≡ true → eq_by_cmp pair_cmp q (new, p) ≡ true → ⊥
     clash q a b =
-        let one : (old, p) ≡ (new, p) = sym (tells_apart pair_exact q (old, p) a) ∙ tells_apart pair_exact q (new, p) b in
-        true≢false (sym (same_session old old ∙ ap is_eq (tied_itself int_cmp_total old)) ∙ ap (λ (r : ℤ × Bytes). int_eq old r.0) one ∙ apart)
+        let one : (old, p) ≡ (new, p) =
+        sym (tells_apart pair_exact q (old, p) a)
+        ∙ tells_apart pair_exact q (new, p) b in
+        true≢false
+        (sym (same_session old old ∙ ap is_eq (tied_itself int_cmp_total old))
+        ∙ ap (λ (r : ℤ × Bytes). int_eq old r.0) one ∙ apart)
 
     both : set.remove (set.insert pairs (new, p)) (old, p) ≡ set.insert (set.remove pairs (old, p)) (new, p)
     both = set.same_set pair_total pair_exact _ _ (λ q.
@@ -50,8 +58,11 @@ with_other_owner-apart pairs old new p apart = by (int_eq old (pos 0)) (int_eq n
         ∙ ap (λ b. eq_by_cmp pair_cmp q (new, p) || b) (sym (set.contains-remove pair_total pairs (old, p) q))
         ∙ sym (set.contains-insert pair_total (set.remove pairs (old, p)) (new, p) q))
 
-    by : (a b : Bool) → (if a then (if b then pairs else set.insert pairs (new, p)) else set.remove (if b then pairs else set.insert pairs (new, p)) (old, p))
-        ≡ (if b then (if a then pairs else set.remove pairs (old, p)) else set.insert (if a then pairs else set.remove pairs (old, p)) (new, p))
+    by : (a b : Bool)
+        → (if a then (if b then pairs else set.insert pairs (new, p))
+        else set.remove (if b then pairs else set.insert pairs (new, p)) (old, p))
+        ≡ (if b then (if a then pairs else set.remove pairs (old, p))
+        else set.insert (if a then pairs else set.remove pairs (old, p)) (new, p))
     by true true = refl
     by true false = refl
     by false true = refl

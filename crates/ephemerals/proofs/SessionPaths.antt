@@ -10,23 +10,38 @@ use Rattle.ephemerals.proofs.Ties.{tied_then, same_session}
 
 -- the paths of one session
 any-owned : (k : ℤ) (q : Bytes) (ps : List (ℤ × Bytes))
-    → list_any (eq_by_cmp path_cmp q) (map (λ (p : ℤ × Bytes). p.1) (filter (λ (p : ℤ × Bytes). int_eq p.0 k) ps)) ≡ list_any (eq_by_cmp pair_cmp (k, q)) ps
+    → list_any (eq_by_cmp path_cmp q) (map (λ (p : ℤ × Bytes). p.1) (filter (λ (p : ℤ × Bytes). int_eq p.0 k) ps))
+    ≡ list_any (eq_by_cmp pair_cmp (k, q)) ps
 any-owned k q [] = refl
 any-owned k q (p ∷ ps) = by (any-owned k q ps) (int_eq p.0 k) refl
   where
-    by : list_any (eq_by_cmp path_cmp q) (map (λ (p : ℤ × Bytes). p.1) (filter (λ (p : ℤ × Bytes). int_eq p.0 k) ps)) ≡ list_any (eq_by_cmp pair_cmp (k, q)) ps
+    by : list_any (eq_by_cmp path_cmp q) (map (λ (p : ℤ × Bytes). p.1) (filter (λ (p : ℤ × Bytes). int_eq p.0 k) ps))
+        ≡ list_any (eq_by_cmp pair_cmp (k, q)) ps
         → (b : Bool) → int_eq p.0 k ≡ b
-        → list_any (eq_by_cmp path_cmp q) (map (λ (p : ℤ × Bytes). p.1) (cond b (p ∷ filter (λ (p : ℤ × Bytes). int_eq p.0 k) ps) (filter (λ (p : ℤ × Bytes). int_eq p.0 k) ps)))
+        → list_any (eq_by_cmp path_cmp q)
+        (map (λ (p : ℤ × Bytes). p.1)
+        (cond b (p ∷ filter (λ (p : ℤ × Bytes). int_eq p.0 k) ps) (filter (λ (p : ℤ × Bytes). int_eq p.0 k) ps)))
         ≡ list_any (eq_by_cmp pair_cmp (k, q)) (p ∷ ps)
-    by rest true e = (λ i. (sym (tied_then (int_cmp k p.0) (path_cmp q p.1) ∙ ap (λ b. b && eq_by_cmp path_cmp q p.1) (sym (same_session p.0 k) ∙ e)) i) || rest i)
-    by rest false e = rest ∙ ap (λ b. b || list_any (eq_by_cmp pair_cmp (k, q)) ps) (sym (tied_then (int_cmp k p.0) (path_cmp q p.1) ∙ ap (λ b. b && eq_by_cmp path_cmp q p.1) (sym (same_session p.0 k) ∙ e)))
+    by rest true e =
+        (λ i. (sym
+        (tied_then (int_cmp k p.0) (path_cmp q p.1)
+        ∙ ap (λ b. b && eq_by_cmp path_cmp q p.1) (sym (same_session p.0 k) ∙ e)) i) || rest i)
+    by rest false e =
+        rest
+        ∙ ap (λ b. b || list_any (eq_by_cmp pair_cmp (k, q)) ps)
+        (sym (tied_then (int_cmp k p.0) (path_cmp q p.1)
+        ∙ ap (λ b. b && eq_by_cmp path_cmp q p.1) (sym (same_session p.0 k) ∙ e)))
 
 pub contains-owned : (k : ℤ) (pairs : Pairs) (q : Bytes) → set.contains (paths_of k pairs) q ≡ set.contains pairs (k, q)
 contains-owned k pairs q =
-    set.contains-from_list path_total (map (λ (p : ℤ × Bytes). p.1) (filter (λ (p : ℤ × Bytes). int_eq p.0 k) (set.items pairs))) q
+    set.contains-from_list path_total
+    (map (λ (p : ℤ × Bytes). p.1) (filter (λ (p : ℤ × Bytes). int_eq p.0 k) (set.items pairs))) q
     ∙ any-owned k q (set.items pairs)
     ∙ sym (set.contains-items pairs (k, q))
 
 -- the pairs of the other sessions
-pub contains-without : (k : ℤ) (pairs : Pairs) (q : ℤ × Bytes) → set.contains (without_session k pairs) q ≡ (set.contains pairs q && not (int_eq q.0 k))
-contains-without k pairs q = set.contains-retain pairs (λ (p : ℤ × Bytes). not (int_eq p.0 k)) q (λ x tie. ap (λ (p : ℤ × Bytes). not (int_eq p.0 k)) (sym (pair_exact q x tie)))
+pub contains-without : (k : ℤ) (pairs : Pairs) (q : ℤ × Bytes)
+    → set.contains (without_session k pairs) q ≡ (set.contains pairs q && not (int_eq q.0 k))
+contains-without k pairs q =
+    set.contains-retain pairs (λ (p : ℤ × Bytes). not (int_eq p.0 k)) q
+    (λ x tie. ap (λ (p : ℤ × Bytes). not (int_eq p.0 k)) (sym (pair_exact q x tie)))

@@ -17,7 +17,8 @@ with_other_owner pairs path old new = with_pair (without_pair pairs old path) ne
 
 -- the paths that the session owns
 abbrev pub paths_of : ℤ → Pairs → Names
-paths_of session pairs = set.from_list (map (λ (p : ℤ × Bytes). p.1) (filter (λ (p : ℤ × Bytes). int_eq p.0 session) (set.items pairs)))
+paths_of session pairs =
+    set.from_list (map (λ (p : ℤ × Bytes). p.1) (filter (λ (p : ℤ × Bytes). int_eq p.0 session) (set.items pairs)))
 
 abbrev pub without_session : ℤ → Pairs → Pairs
 without_session session pairs = set.retain pairs (λ (p : ℤ × Bytes). not (int_eq p.0 session))

@@ -1,6 +1,5 @@
 -- The children of a node, one more or one less: what the program does to a parent.
 use Rattle.std.specs.Prelude.{◌≡◌, ℤ, Bool, true, false, not, if◌then◌else◌, Option, Some, None, int_lt}
-use Rattle.std.specs.FinMap as finmap
 use Rattle.std.specs.FinSet as set
 use Rattle.ephemerals.specs.Orders.{Bytes, Names}
 use Rattle.txn_codec.specs.Paths.{child_of}
@@ -16,7 +15,8 @@ use Rattle.data_tree.specs.declared.added_child.AddedChild.TheVariants.{NoParent
 
 -- a parent whose numbers a create has set
 abbrev pub stat_after_create : TxnHeader → Create → StatPersisted → StatPersisted
-stat_after_create header create stat = record stat { cversion = next_cversion stat.cversion create.parent_cversion; pzxid = header.zxid }
+stat_after_create header create stat =
+    record stat { cversion = next_cversion stat.cversion create.parent_cversion; pzxid = header.zxid }
 
 -- a parent that has the name already: its numbers rise, or nothing changes
 abbrev pub with_raised_stat : TxnHeader → Create → Node → Node
@@ -27,7 +27,9 @@ with_raised_stat header create parent =
 -- a parent that gains a name, or has it already
 abbrev pub with_added_child : TxnHeader → Create → Bytes → Node → Node
 with_added_child header create name parent =
-    if set.contains parent.children name then with_raised_stat header create parent else record parent { children = set.insert parent.children name; stat = stat_after_create header create parent.stat }
+    if set.contains parent.children name then with_raised_stat header create parent
+    else record parent
+    { children = set.insert parent.children name; stat = stat_after_create header create parent.stat }
 
 abbrev pub added_child : Option Node → Bytes → AddedChild
 added_child None name = NoParent
@@ -39,7 +41,8 @@ without_added_child name stat parent = record parent { children = set.remove par
 
 -- a parent without the name, whose child the transaction deleted
 abbrev pub without_child : Bytes → ℤ → Node → Node
-without_child name zxid parent = record parent { children = set.remove parent.children name; stat = record parent.stat { pzxid = zxid } }
+without_child name zxid parent =
+    record parent { children = set.remove parent.children name; stat = record parent.stat { pzxid = zxid } }
 
 -- a node that doesn't list the name
 abbrev pub without_name : Bytes → Node → Node
@@ -52,4 +55,5 @@ lacks_name (Some parent) name = not (set.contains parent.children name)
 
 -- each of the names has a node under the path
 abbrev pub HasItsChildren : Nodes → Bytes → Names → Type 0
-HasItsChildren nodes path names = (name : Bytes) → set.contains names name ≡ true → has_node nodes (child_of path name) ≡ true
+HasItsChildren nodes path names =
+    (name : Bytes) → set.contains names name ≡ true → has_node nodes (child_of path name) ≡ true

@@ -9,4 +9,5 @@ use Rattle.data_tree.specs.contracts.node.Node as node
 
 -- the last node behind r stands at the path
 abbrev pub LendsNode : MutBor Nodes → List ℕ → Option (MutBor Node) → Fml
-LendsNode m path r = LendsSo nodes.the_row node.the_row m r (λ n w. OnSome r (n ≡ finmap.insert m.now path w)) (λ n. n ≡ m.now)
+LendsNode m path r =
+    LendsSo nodes.the_row node.the_row m r (λ n w. OnSome r (n ≡ finmap.insert m.now path w)) (λ n. n ≡ m.now)

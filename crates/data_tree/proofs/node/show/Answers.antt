@@ -17,7 +17,9 @@ returns c =
     let fits_cversion : SFits w32 c.args.stat.cversion = search rules in
     let fits : SFits w32 c.shown_cversion.result = search rules in
     let cversion : c.shown_cversion.result ≡ shown_cversion c.args.stat.cversion c.args.children =
-    c.shown_cversion.ensures ∙ (λ i. shown_cversion (to_z-of_z w32 c.args.stat.cversion fits_cversion i) (to_z-of_z w32 c.args.children c.ranges.children i)) in
+    c.shown_cversion.ensures
+    ∙ (λ i. shown_cversion (to_z-of_z w32 c.args.stat.cversion fits_cversion i)
+    (to_z-of_z w32 c.args.children c.ranges.children i)) in
     λ i. record {
       czxid = to_z-of_z w64 c.args.stat.czxid fits_czxid i;
       mzxid = to_z-of_z w64 c.args.stat.mzxid fits_mzxid i;

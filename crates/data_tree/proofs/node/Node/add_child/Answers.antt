@@ -12,7 +12,17 @@ use Rattle.data_tree.proofs.node.Node.add_child.Goals as goal
 pub returns-clause-state : goal.returns-clause-state
 returns-clause-state c =
     let before : Node = c.args.self.now in
-    let taken : set.contains before.children (string_bytes c.args.name) ≡ true = not-false (set.contains before.children (string_bytes c.args.name)) (sym c.in_ok-added.ensures.added ∙ c.if-added.false) in
-    let same : c.insert.new.self ≡ before.children = c.in_ok-added.ensures.ok ∙ sym (insert-present path_total exact_bytes before.children (string_bytes c.args.name) taken) in
-    (λ i. record before { stat = (c.higher_stat-self.ensures ∙ ap (λ (a : StatPersisted). if int_lt before.stat.cversion a.cversion then a else before.stat) c.stat_after_create-after.ensures) i; children = same i })
+    let taken : set.contains before.children (string_bytes c.args.name) ≡ true =
+    not-false (set.contains before.children (string_bytes c.args.name))
+    (sym c.in_ok-added.ensures.added ∙ c.if-added.false) in
+    let same : c.insert.new.self ≡ before.children =
+    c.in_ok-added.ensures.ok
+    ∙ sym (insert-present path_total exact_bytes before.children (string_bytes c.args.name) taken) in
+    (λ i. record before {
+      stat =
+          (c.higher_stat-self.ensures
+          ∙ ap (λ (a : StatPersisted). if int_lt before.stat.cversion a.cversion then a else before.stat)
+          c.stat_after_create-after.ensures) i;
+      children = same i;
+    })
     ∙ sym (added_child_taken c.args.header.now c.args.create.now (string_bytes c.args.name) before taken)

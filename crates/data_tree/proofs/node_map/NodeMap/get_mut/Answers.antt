@@ -9,8 +9,11 @@ returns c = (
   (
     refl,
     λ w. on_some c.get_mut.result _ c.get_mut.ensures.value
-        (λ some. seen-insert c.args.path.now c.self.inside.map (c.get_mut.follows.lender w) w ((c.get_mut.follows.holds w).3 some) ∙ ap (λ m. finmap.insert m c.args.path.now w) c.self.view_is),
+        (λ some. seen-insert c.args.path.now c.self.inside.map (c.get_mut.follows.lender w) w
+        ((c.get_mut.follows.holds w).3 some) ∙ ap (λ m. finmap.insert m c.args.path.now w) c.self.view_is),
     ap (λ m. nodes_of m.entries) c.get_mut.follows.holds-at-none ∙ c.self.view_is,
   ),
-  c.get_mut.ensures.value ∙ sym (get-seen c.self.inside.map.entries c.args.path.now) ∙ ap (λ m. finmap.get m c.args.path.now) c.self.view_is,
+  c.get_mut.ensures.value
+      ∙ sym (get-seen c.self.inside.map.entries c.args.path.now)
+      ∙ ap (λ m. finmap.get m c.args.path.now) c.self.view_is,
 )

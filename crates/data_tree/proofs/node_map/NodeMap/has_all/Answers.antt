@@ -11,7 +11,10 @@ loop-name-init c = (
   tt,
   tt,
   subst
-      (λ ks. Decides (λ (k : String Global). has_node c.args.self.now (child_of c.args.path.now (string_bytes k)) ≡ true) (HasItsChildren c.args.self.now c.args.path.now c.args.names.now) ks)
+      (λ ks. Decides
+      (λ (k : String Global). has_node c.args.self.now (child_of c.args.path.now (string_bytes k)) ≡ true)
+      (HasItsChildren c.args.self.now c.args.path.now c.args.names.now) ks)
       (sym c.into_iter-name-iterator.ensures.into_iter_gives)
-      (all_texts (λ name. has_node c.args.self.now (child_of c.args.path.now name) ≡ true) c.args.names.now c.iter-name-items.result c.iter-name-items.ensures.members),
+      (all_texts (λ name. has_node c.args.self.now (child_of c.args.path.now name) ≡ true) c.args.names.now
+      c.iter-name-items.result c.iter-name-items.ensures.members),
 )

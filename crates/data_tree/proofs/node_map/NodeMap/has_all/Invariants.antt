@@ -9,4 +9,5 @@ abbrev pub invariant-loop-name : goal.invariant-loop-name
 invariant-loop-name l =
     (goal.iterator-loop-name).can_next l.name-iterator
     × (goal.iterator-loop-name).is_finite l.name-iterator
-    × Decides (λ (k : String Global). has_node l.self (child_of l.path (string_bytes k)) ≡ true) (HasItsChildren l.self l.path l.names) l.name-iterator
+    × Decides (λ (k : String Global). has_node l.self (child_of l.path (string_bytes k)) ≡ true)
+    (HasItsChildren l.self l.path l.names) l.name-iterator

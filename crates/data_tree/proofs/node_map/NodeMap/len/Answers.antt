@@ -4,4 +4,7 @@ use Rattle.data_tree.proofs.TextMaps.{len-seen}
 use Rattle.data_tree.proofs.node_map.NodeMap.len.Goals as goal
 
 pub returns : goal.returns
-returns c = c.len.ensures.len ∙ sym (len-seen c.self.inside.map.entries c.len.ensures.ordered) ∙ ap finmap.len c.self.view_is
+returns c =
+    c.len.ensures.len
+    ∙ sym (len-seen c.self.inside.map.entries c.len.ensures.ordered)
+    ∙ ap finmap.len c.self.view_is

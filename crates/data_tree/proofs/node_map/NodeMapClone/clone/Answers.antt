@@ -3,4 +3,8 @@ use Rattle.data_tree.proofs.TextMaps.{seen-clone}
 use Rattle.data_tree.proofs.node_map.NodeMapClone.clone.Goals as goal
 
 pub returns : goal.returns
-returns c = record { cases = seen-clone c.self.inside.map.entries c.in_ok-clone.field-0.entries c.in_ok-clone.ensures.cases ∙ c.self.view_is }
+returns c =
+    record {
+      cases = seen-clone c.self.inside.map.entries c.in_ok-clone.field-0.entries c.in_ok-clone.ensures.cases
+          ∙ c.self.view_is;
+    }

@@ -6,5 +6,7 @@ use Rattle.data_tree.proofs.sessions.Timeouts.set.Goals as goal
 
 pub returns-clause-ok : goal.returns-clause-ok
 returns-clause-ok c =
-    seen-insert (to_z w64 (of_z w64 c.args.session)) c.self.inside.map c.insert.new.self (to_z w32 (of_z w32 c.args.timeout)) c.in_ok-insert.ensures.updates
-    ∙ (λ i. finmap.insert (c.self.view_is i) (to_z-of_z w64 c.args.session c.ranges.session i) (to_z-of_z w32 c.args.timeout c.ranges.timeout i))
+    seen-insert (to_z w64 (of_z w64 c.args.session)) c.self.inside.map c.insert.new.self
+    (to_z w32 (of_z w32 c.args.timeout)) c.in_ok-insert.ensures.updates
+    ∙ (λ i. finmap.insert (c.self.view_is i) (to_z-of_z w64 c.args.session c.ranges.session i)
+    (to_z-of_z w32 c.args.timeout c.ranges.timeout i))

@@ -1,30 +1,50 @@
-use Rattle.std.proofs.Common.{◌≡◌, ap, sym, ◌∙◌, string_bytes}
+use Rattle.std.proofs.Common.{arith, ◌≡◌, ap, sym, ◌∙◌, string_bytes}
 use Rattle.std.specs.FinMap as finmap
+use Rattle.std.proofs.Math.Path.{subst}
+use Rattle.std.proofs.lemmas.Grind.{common_steps}
+use Rattle.jute.specs.declared.codes.TheConstants.{NODE_EXISTS}
+use Rattle.txn_codec.specs.declared.txn.Operation.TheVariants as op
+use Rattle.data_tree.specs.Inner.Doing.{IsDone}
 use Rattle.txn_codec.specs.Paths.{parent_of, name_of}
 use Rattle.data_tree.specs.State.{State}
-use Rattle.data_tree.specs.Meaning.{after_changes, create_under}
+use Rattle.data_tree.specs.Meaning.{of_operation}
 use Rattle.data_tree.specs.Making.{update_node}
 use Rattle.data_tree.specs.Inner.Children.{with_added_child, added_child, without_added_child}
-use Rattle.data_tree.proofs.Creates.{taken-is, undone_child}
+use Rattle.data_tree.proofs.Creates.{taken-done, undone_child}
 use Rattle.data_tree.proofs.tree.Tree.create.Goals as goal
 
-pub returns-in-Taken-clause-state : goal.returns-in-Taken-clause-state
-returns-in-Taken-clause-state c =
+pub returns-in-Taken : goal.returns-in-Taken
+returns-in-Taken c =
     let parent : c.parent-parent.result.now ≡ parent_of c.args.create.now.path = c.parent-parent.ensures in
-    let name : string_bytes c.in_ok-name.name ≡ name_of c.args.create.now.path = c.in_ok-name.ensures.ok ∙ c.name.ensures in
-    let before : State = record { nodes = c.self.inside.nodes; pairs = c.self.inside.ephemerals; sessions = c.self.inside.timeouts } in
-    taken-is before c.args.header.now c.args.create.now c.add_child.new.self
-    (sym c.in-Taken.is ∙ c.in_ok-add_child.ensures.outcome ∙ (λ i. added_child (finmap.get c.self.inside.nodes (parent i)) (name i)))
-    (c.in_ok-add_child.ensures.state ∙ (λ i. update_node c.self.inside.nodes (parent i) (with_added_child c.args.header.now c.args.create.now (name i))))
-    ∙ ap (λ (s : State). after_changes s (create_under c.args.header.now c.args.create.now (finmap.get s.nodes (parent_of c.args.create.now.path))).changes) c.self.view_is
+    let name : string_bytes c.in_ok-name.name ≡ name_of c.args.create.now.path =
+    c.in_ok-name.ensures.ok
+    ∙ c.name.ensures in
+    let before : State =
+    record { nodes = c.self.inside.nodes; pairs = c.self.inside.ephemerals; sessions = c.self.inside.timeouts } in
+    let front : c.truncate-in-Taken.new.self.items ≡ c.args.triggers.now.items = grind (arith, common_steps) in
+    subst (λ (s : State). IsDone (of_operation c.args.header.now (op.Create c.args.create.now) s) NODE_EXISTS
+    (let t : State =
+    record { nodes = c.add_child.new.self; pairs = c.self.inside.ephemerals; sessions = c.self.inside.timeouts } in t)
+    c.args.triggers.now.items c.truncate-in-Taken.new.self.items) c.self.view_is
+    (taken-done before c.args.header.now c.args.create.now c.add_child.new.self c.args.triggers.now.items
+    c.truncate-in-Taken.new.self.items
+    (sym c.in-Taken.is ∙ c.in_ok-add_child.ensures.outcome
+    ∙ (λ i. added_child (finmap.get c.self.inside.nodes (parent i)) (name i)))
+    (c.in_ok-add_child.ensures.state
+    ∙ (λ i. update_node c.self.inside.nodes (parent i) (with_added_child c.args.header.now c.args.create.now (name i))))
+    front)
 
-pub returns-in-Err-clause-err : goal.returns-in-Err-clause-err
-returns-in-Err-clause-err c =
-    let name : string_bytes c.in_ok-name.name ≡ name_of c.args.create.now.path = c.in_ok-name.ensures.ok ∙ c.name.ensures in
+pub returns-in-Err : goal.returns-in-Err
+returns-in-Err c =
+    let name : string_bytes c.in_ok-name.name ≡ name_of c.args.create.now.path =
+    c.in_ok-name.ensures.ok
+    ∙ c.name.ensures in
     let kept = c.self-in-Added.view_is ∙ c.in-Err.ensures.err in
     let nodes : c.undo_add_child.new.self ≡ c.self.inside.nodes =
     c.undo_add_child.ensures
-    ∙ (λ i. update_node ((ap (λ (s : State). s.nodes) kept ∙ c.in_ok-add_child.ensures.state) i) c.parent-parent.result.now (without_added_child ((c.name-in-Err.ensures ∙ sym name) i) c.in-Added.stat))
-    ∙ undone_child c.self.inside.nodes c.parent-parent.result.now (string_bytes c.in_ok-name.name) c.args.header.now c.args.create.now c.in-Added.stat
+    ∙ (λ i. update_node ((ap (λ (s : State). s.nodes) kept ∙ c.in_ok-add_child.ensures.state) i)
+    c.parent-parent.result.now (without_added_child ((c.name-in-Err.ensures ∙ sym name) i) c.in-Added.stat))
+    ∙ undone_child c.self.inside.nodes c.parent-parent.result.now (string_bytes c.in_ok-name.name) c.args.header.now
+    c.args.create.now c.in-Added.stat
     (sym c.in-Added.is ∙ c.in_ok-add_child.ensures.outcome) in
     (λ i. record { nodes = nodes i; pairs = (kept i).pairs; sessions = (kept i).sessions }) ∙ c.self.view_is

@@ -1,43 +1,76 @@
 use Rattle.std.proofs.Common.{rules, arith, List, [], ◌++◌, ◌≡◌, refl, is_some, w64, ap, ◌∙◌}
 use mir.Val.{SFits}
 use Rattle.std.specs.FinMap as finmap
+use Rattle.std.proofs.Math.Path.{subst}
+use Rattle.jute.specs.declared.codes.TheConstants.{NO_NODE}
+use Rattle.txn_codec.specs.declared.txn.Operation.TheVariants as op
+use Rattle.data_tree.specs.Inner.Doing.{IsDone}
 use Rattle.std.proofs.lemmas.Int.{to_z-of_z}
 use Rattle.std.proofs.lemmas.Grind.{common_steps}
 use Rattle.ephemerals.specs.Pairs.{without_pair}
 use Rattle.txn_codec.specs.Paths.{parent_of}
 use Rattle.data_tree.specs.State.{State}
-use Rattle.data_tree.specs.Meaning.{Effect, after_changes, delete_at}
+use Rattle.data_tree.specs.Meaning.{Effect, after_changes, delete_at, of_operation}
 use Rattle.data_tree.specs.Making.{update_node}
 use Rattle.data_tree.specs.Inner.Children.{without_child}
 use Rattle.data_tree.specs.declared.outcome.Trigger.{Trigger}
-use Rattle.data_tree.proofs.Deletes.{missing-is, orphan-effect, deleted-is}
+use Rattle.data_tree.proofs.Deletes.{missing-done, orphan-effect, deleted-is}
 use Rattle.data_tree.proofs.Lists.{nothing_more}
 use Rattle.data_tree.proofs.tree.Tree.delete.Goals as goal
 
-pub returns-in_default-clause-state : goal.returns-in_default-clause-state
-returns-in_default-clause-state c =
-    let before : State = record { nodes = c.self.inside.nodes; pairs = c.self.inside.ephemerals; sessions = c.self.inside.timeouts } in
-    missing-is before c.args.header.now c.args.path.now c.remove.new.self c.in_default.ensures.value c.in_default.ensures.removed
-    ∙ ap (λ (s : State). after_changes s (delete_at c.args.header.now c.args.path.now (finmap.get s.nodes c.args.path.now) (finmap.get (finmap.remove s.nodes c.args.path.now) (parent_of c.args.path.now))).changes) c.self.view_is
+pub returns-in_default : goal.returns-in_default
+returns-in_default c =
+    let before : State =
+    record { nodes = c.self.inside.nodes; pairs = c.self.inside.ephemerals; sessions = c.self.inside.timeouts } in
+    let front : c.truncate.new.self.items ≡ c.args.triggers.now.items = grind (arith, common_steps) in
+    subst (λ (s : State). IsDone (of_operation c.args.header.now (op.Delete c.args.path.now) s) NO_NODE
+    (let t : State =
+    record { nodes = c.remove.new.self; pairs = c.self.inside.ephemerals; sessions = c.self.inside.timeouts } in t)
+    c.args.triggers.now.items c.truncate.new.self.items) c.self.view_is
+    (missing-done before c.args.header.now c.args.path.now c.remove.new.self c.args.triggers.now.items
+    c.truncate.new.self.items c.in_default.ensures.value c.in_default.ensures.removed front)
 
-pub returns-then-not-remove_child-clause-fired : goal.returns-then-not-remove_child-clause-fired
-returns-then-not-remove_child-clause-fired c =
-    let before : State = record { nodes = c.self.inside.nodes; pairs = c.self.inside.ephemerals; sessions = c.self.inside.timeouts } in
+pub returns-then-not-remove_child : goal.returns-then-not-remove_child
+returns-then-not-remove_child c =
+    let before : State =
+    record { nodes = c.self.inside.nodes; pairs = c.self.inside.ephemerals; sessions = c.self.inside.timeouts } in
     let none : List Trigger = [] in
-    let nothing : none ≡ (delete_at c.args.header.now c.args.path.now (finmap.get c.args.self.now.nodes c.args.path.now) (finmap.get (finmap.remove c.args.self.now.nodes c.args.path.now) (parent_of c.args.path.now))).triggers =
+    let nothing : none
+    ≡ (delete_at c.args.header.now c.args.path.now (finmap.get c.args.self.now.nodes c.args.path.now)
+    (finmap.get (finmap.remove c.args.self.now.nodes c.args.path.now) (parent_of c.args.path.now))).triggers =
     ap (λ (e : Effect). e.triggers)
     (orphan-effect before c.args.header.now c.args.path.now c.in-Some.node c.in-Some.ensures.value
-    (c.if-not-remove_child.ensures.found ∙ (λ i. is_some (finmap.get (c.in-Some.ensures.removed i) (c.parent_of-2.ensures i)))))
-    ∙ ap (λ (s : State). (delete_at c.args.header.now c.args.path.now (finmap.get s.nodes c.args.path.now) (finmap.get (finmap.remove s.nodes c.args.path.now) (parent_of c.args.path.now))).triggers) c.self.view_is in
-    let front : c.truncate-then-not-remove_child.new.self.items ≡ c.args.triggers.now.items = grind (arith, common_steps) in
-    front ∙ nothing_more c.args.triggers.now.items none refl ∙ ap (λ (x : List Trigger). c.args.triggers.now.items ++ x) nothing
+    (c.if-not-remove_child.ensures.found
+    ∙ (λ i. is_some (finmap.get (c.in-Some.ensures.removed i) (c.parent_of-2.ensures i)))))
+    ∙ ap (λ (s : State).
+    (delete_at c.args.header.now c.args.path.now (finmap.get s.nodes c.args.path.now)
+    (finmap.get (finmap.remove s.nodes c.args.path.now) (parent_of c.args.path.now))).triggers) c.self.view_is in
+    let front : c.truncate-then-not-remove_child.new.self.items ≡ c.args.triggers.now.items =
+    grind (arith, common_steps) in
+    record {
+      state = search rules;
+      err = search rules;
+      fired = front ∙ nothing_more c.args.triggers.now.items none refl
+          ∙ ap (λ (x : List Trigger). c.args.triggers.now.items ++ x) nothing;
+    }
 
-pub returns-clause-state : goal.returns-clause-state
-returns-clause-state c =
-    let before : State = record { nodes = c.self.inside.nodes; pairs = c.self.inside.ephemerals; sessions = c.self.inside.timeouts } in
+pub returns : goal.returns
+returns c =
+    let before : State =
+    record { nodes = c.self.inside.nodes; pairs = c.self.inside.ephemerals; sessions = c.self.inside.timeouts } in
     let fits : SFits w64 c.in-Some.node.stat.ephemeral_owner = search rules in
-    deleted-is before c.args.header.now c.args.path.now c.in-Some.node c.remove_child.new.self c.remove-2.new.self c.in-Some.ensures.value
-    (c.if-not-remove_child.ensures.found ∙ (λ i. is_some (finmap.get (c.in-Some.ensures.removed i) (c.parent_of-2.ensures i))))
-    (c.if-not-remove_child.ensures.state ∙ (λ i. update_node (c.in-Some.ensures.removed i) (c.parent_of-2.ensures i) (without_child (c.name_of.ensures i) c.args.header.now.zxid)))
-    (c.remove-2.ensures ∙ (λ i. without_pair c.self.inside.ephemerals (to_z-of_z w64 c.in-Some.node.stat.ephemeral_owner fits i) c.args.path.now))
-    ∙ ap (λ (s : State). after_changes s (delete_at c.args.header.now c.args.path.now (finmap.get s.nodes c.args.path.now) (finmap.get (finmap.remove s.nodes c.args.path.now) (parent_of c.args.path.now))).changes) c.self.view_is
+    let state =
+    deleted-is before c.args.header.now c.args.path.now c.in-Some.node c.remove_child.new.self c.remove-2.new.self
+    c.in-Some.ensures.value
+    (c.if-not-remove_child.ensures.found
+    ∙ (λ i. is_some (finmap.get (c.in-Some.ensures.removed i) (c.parent_of-2.ensures i))))
+    (c.if-not-remove_child.ensures.state
+    ∙ (λ i. update_node (c.in-Some.ensures.removed i) (c.parent_of-2.ensures i)
+    (without_child (c.name_of.ensures i) c.args.header.now.zxid)))
+    (c.remove-2.ensures
+    ∙ (λ i. without_pair c.self.inside.ephemerals (to_z-of_z w64 c.in-Some.node.stat.ephemeral_owner fits i)
+    c.args.path.now))
+    ∙ ap (λ (s : State). after_changes s
+    (delete_at c.args.header.now c.args.path.now (finmap.get s.nodes c.args.path.now)
+    (finmap.get (finmap.remove s.nodes c.args.path.now) (parent_of c.args.path.now))).changes) c.self.view_is in
+    record { state = state; err = search rules; fired = search rules }

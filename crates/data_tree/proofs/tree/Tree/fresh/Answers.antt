@@ -4,7 +4,13 @@ use Rattle.data_tree.proofs.tree.Tree.fresh.Goals as goal
 
 pub returns : goal.returns
 returns c =
-    let one = c.in_ok-insert.ensures.ok ∙ (λ i. finmap.insert (c.new-nodes.ensures i) (c.in_ok-from_str.ensures.ok i) (c.in_ok-with_child.ensures i)) in
-    let two = c.in_ok-insert-2.ensures.ok ∙ (λ i. finmap.insert (one i) (c.in_ok-from_str-2.ensures.ok i) (c.in_ok-with_child-2.ensures i)) in
-    let three = c.in_ok-insert-3.ensures.ok ∙ (λ i. finmap.insert (two i) (c.in_ok-from_str-3.ensures.ok i) (c.in_ok-childless.ensures i)) in
+    let one =
+    c.in_ok-insert.ensures.ok
+    ∙ (λ i. finmap.insert (c.new-nodes.ensures i) (c.in_ok-from_str.ensures.ok i) (c.in_ok-with_child.ensures i)) in
+    let two =
+    c.in_ok-insert-2.ensures.ok
+    ∙ (λ i. finmap.insert (one i) (c.in_ok-from_str-2.ensures.ok i) (c.in_ok-with_child-2.ensures i)) in
+    let three =
+    c.in_ok-insert-3.ensures.ok
+    ∙ (λ i. finmap.insert (two i) (c.in_ok-from_str-3.ensures.ok i) (c.in_ok-childless.ensures i)) in
     λ i. record { nodes = three i; pairs = c.new.ensures i; sessions = c.new-2.ensures i }

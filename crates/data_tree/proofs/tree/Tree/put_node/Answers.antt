@@ -12,8 +12,11 @@ returns-then-listed-clause-err c =
     let kept = c.self-2.view_is ∙ c.in-Err.ensures.err in
     let nodes : c.remove_name.new.self ≡ c.self.inside.nodes =
     c.remove_name.ensures
-    ∙ (λ i. update_node ((ap (λ (s : State). s.nodes) kept ∙ c.in_ok-listed.ensures.state) i) ((c.parent-then-listed.ensures ∙ sym c.parent.ensures) i) (without_name ((c.name-then-listed.ensures ∙ sym name) i)))
-    ∙ undone_name c.self.inside.nodes c.parent.result.now (string_bytes c.in_ok-name.name) (sym c.in_ok-listed.ensures.gained ∙ c.if-listed.true) in
+    ∙ (λ i. update_node ((ap (λ (s : State). s.nodes) kept ∙ c.in_ok-listed.ensures.state) i)
+    ((c.parent-then-listed.ensures ∙ sym c.parent.ensures) i)
+    (without_name ((c.name-then-listed.ensures ∙ sym name) i)))
+    ∙ undone_name c.self.inside.nodes c.parent.result.now (string_bytes c.in_ok-name.name)
+    (sym c.in_ok-listed.ensures.gained ∙ c.if-listed.true) in
     (λ i. record { nodes = nodes i; pairs = (kept i).pairs; sessions = (kept i).sessions }) ∙ c.self.view_is
 
 pub returns-else-listed-clause-err : goal.returns-else-listed-clause-err
@@ -22,7 +25,8 @@ returns-else-listed-clause-err c =
     ∙ (λ i. record {
       nodes =
           (c.in_ok-listed.ensures.state
-          ∙ kept_name c.self.inside.nodes c.parent.result.now (string_bytes c.in_ok-name.name) (sym c.in_ok-listed.ensures.gained ∙ c.if-listed.false)) i;
+          ∙ kept_name c.self.inside.nodes c.parent.result.now (string_bytes c.in_ok-name.name)
+          (sym c.in_ok-listed.ensures.gained ∙ c.if-listed.false)) i;
       pairs = c.self.inside.ephemerals;
       sessions = c.self.inside.timeouts;
     })

@@ -5,4 +5,5 @@ use Rattle.ephemerals.specs.Inner.PairsView.{pairs_of}
 use Rattle.ephemerals.proofs.owners.Ephemerals.new.Goals as goal
 
 pub invariant_of-result : goal.invariant_of-result
-invariant_of-result c = (c.new.ensures.ordered, sym (ap (λ es. set.len (pairs_of es)) c.new.ensures.empty ∙ set.len-empty pair_cmp))
+invariant_of-result c =
+    (c.new.ensures.ordered, sym (ap (λ es. set.len (pairs_of es)) c.new.ensures.empty ∙ set.len-empty pair_cmp))

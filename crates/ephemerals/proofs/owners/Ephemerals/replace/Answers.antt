@@ -7,7 +7,10 @@ use Rattle.ephemerals.proofs.owners.Ephemerals.replace.Goals as goal
 
 pub returns-then-old-new-clause-ok : goal.returns-then-old-new-clause-ok
 returns-then-old-new-clause-ok c =
-    let same : c.args.old ≡ c.args.new = sym (to_z-of_z w64 c.args.old c.ranges.old) ∙ ap (to_z w64) c.if-old-new.true ∙ to_z-of_z w64 c.args.new c.ranges.new in
+    let same : c.args.old ≡ c.args.new =
+    sym (to_z-of_z w64 c.args.old c.ranges.old)
+    ∙ ap (to_z w64) c.if-old-new.true
+    ∙ to_z-of_z w64 c.args.new c.ranges.new in
     c.in_ok-add.ensures.ok
     ∙ (λ i. with_pair c.args.self.now (to_z-of_z w64 c.args.new c.ranges.new i) c.args.path.now)
     ∙ with_other_owner-same c.args.self.now c.args.new c.args.path.now
@@ -17,5 +20,7 @@ pub returns-clause-ok : goal.returns-clause-ok
 returns-clause-ok c =
     c.remove.ensures
     ∙ (λ i. without_pair (c.in_ok-add.ensures.ok i) (to_z-of_z w64 c.args.old c.ranges.old i) c.args.path.now)
-    ∙ (λ i. without_pair (with_pair c.args.self.now (to_z-of_z w64 c.args.new c.ranges.new i) c.args.path.now) c.args.old c.args.path.now)
-    ∙ with_other_owner-apart c.args.self.now c.args.old c.args.new c.args.path.now (apart_sessions c.args.old c.args.new (λ e. c.if-old-new.false (ap (of_z w64) e)))
+    ∙ (λ i. without_pair (with_pair c.args.self.now (to_z-of_z w64 c.args.new c.ranges.new i) c.args.path.now)
+    c.args.old c.args.path.now)
+    ∙ with_other_owner-apart c.args.self.now c.args.old c.args.new c.args.path.now
+    (apart_sessions c.args.old c.args.new (λ e. c.if-old-new.false (ap (of_z w64) e)))

@@ -4,4 +4,7 @@ use Rattle.ephemerals.proofs.TextSets.{contains-names}
 use Rattle.ephemerals.proofs.text_set.TextSet.contains.Goals as goal
 
 pub returns : goal.returns
-returns c = c.contains.ensures ∙ sym (contains-names c.self.inside.texts.keys c.args.text.now) ∙ ap (λ s. set.contains s c.args.text.now) c.self.view_is
+returns c =
+    c.contains.ensures
+    ∙ sym (contains-names c.self.inside.texts.keys c.args.text.now)
+    ∙ ap (λ s. set.contains s c.args.text.now) c.self.view_is

@@ -13,5 +13,6 @@ returns-clause-texts c =
 
 pub returns-clause-members : goal.returns-clause-members
 returns-clause-members c q =
-    ap (λ s. set.contains s q) (sym c.self.view_is ∙ ap (λ ks. set.from_list (map string_bytes ks)) (sym c.iter.ensures.rest))
+    ap (λ s. set.contains s q)
+    (sym c.self.view_is ∙ ap (λ ks. set.from_list (map string_bytes ks)) (sym c.iter.ensures.rest))
     ∙ set.contains-from_list path_total (map string_bytes c.iter.result) q

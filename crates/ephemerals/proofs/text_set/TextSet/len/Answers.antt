@@ -4,4 +4,7 @@ use Rattle.ephemerals.proofs.TextSets.{len-names}
 use Rattle.ephemerals.proofs.text_set.TextSet.len.Goals as goal
 
 pub returns : goal.returns
-returns c = c.len.ensures.len ∙ sym (len-names c.self.inside.texts.keys c.len.ensures.ordered) ∙ ap set.len c.self.view_is
+returns c =
+    c.len.ensures.len
+    ∙ sym (len-names c.self.inside.texts.keys c.len.ensures.ordered)
+    ∙ ap set.len c.self.view_is

@@ -6,8 +6,12 @@ use Rattle.ephemerals.proofs.text_set.TextSet.pop_first.Goals as goal
 
 pub returns-clause-first : goal.returns-clause-first
 returns-clause-first c =
-    let P : Names → Type 0 = λ s. IfSome c.pop_first.result (λ text. in_order s ≡ string_bytes text ∷ in_order (names_of c.pop_first.new.self.keys)) in
-    subst P c.self.view_is (popped_first c.pop_first.result c.self.inside.texts.keys c.pop_first.new.self.keys c.pop_first.ensures.removal c.pop_first.ensures.all_above c.pop_first.ensures.ordered)
+    let P : Names → Type 0 =
+    λ s. IfSome c.pop_first.result
+    (λ text. in_order s ≡ string_bytes text ∷ in_order (names_of c.pop_first.new.self.keys)) in
+    subst P c.self.view_is
+    (popped_first c.pop_first.result c.self.inside.texts.keys c.pop_first.new.self.keys c.pop_first.ensures.removal
+    c.pop_first.ensures.all_above c.pop_first.ensures.ordered)
 
 pub returns-clause-none : goal.returns-clause-none
 returns-clause-none c =
