@@ -1,8 +1,9 @@
 //! What of an unfinished packet wasn't looked at yet, so that no byte is looked at anew at each piece.
 
-ghost use Rattle.std.specs.Prelude.{◌≡◌, Err, IfOk, IfErr, OnOk};
+ghost use Rattle.std.specs.Prelude.{◌≡◌, Err, IfOk, IfErr, OnOk, drop};
+ghost use Rattle.jute.specs.Format.{name};
 ghost use Rattle.quorum_packet.specs.Packet.{packet};
-ghost use Rattle.quorum_packet.specs.Unseen.{AreUnseen, IsUnseen, AllSeen};
+ghost use Rattle.quorum_packet.specs.Unseen.{AreUnseen, IsUnseen, AllSeen, StopsAt, fields};
 
 use jute::{Reader, read_name};
 use values::Fault;
@@ -28,6 +29,7 @@ pub enum Unseen {
 fn look_at_fields(bytes: &[u8]) -> Result<Texts, Fault>
     ensures ok { IfOk result (AreUnseen bytes.now) }
     ensures err { IfErr result (λ e. packet.read bytes.now ≡ Err e) }
+    ensures stops { IfErr result (λ e. fields.read bytes.now ≡ Err e) }
 {
     let mut ahead = Reader::new(bytes);
     ahead.read_int()?;
@@ -46,6 +48,7 @@ fn look_at_texts(bytes: &[u8], texts: &mut Texts) -> Result<(), Fault>
     ensures kept { AreUnseen bytes.now texts.new }
     ensures seen { OnOk result (texts.new.count ≡ 0) }
     ensures err { IfErr result (λ e. packet.read bytes.now ≡ Err e) }
+    ensures stops { IfErr result (λ e. name.read (drop texts.new.start bytes.now) ≡ Err e) }
 {
     let mut ahead = Reader::new(&bytes[texts.start..]);
     while texts.count > 0 {
@@ -62,6 +65,7 @@ pub fn look(bytes: &[u8], unseen: &mut Unseen) -> Result<(), Fault>
     ensures kept { IsUnseen bytes.now unseen.new }
     ensures seen { OnOk result (AllSeen unseen.new) }
     ensures err { IfErr result (λ e. packet.read bytes.now ≡ Err e) }
+    ensures stops { IfErr result (StopsAt bytes.now unseen.new) }
 {
     let mut texts = match *unseen {
         Unseen::Fields => look_at_fields(bytes)?,
