@@ -17,20 +17,24 @@ use Rattle.txn_codec.specs.Spelling.{tested, path_by, path, child_path, last_at,
 
 -- ---- paths
 
-pub tested_is : (test : List ℕ → Bool) (t : Option (List ℕ)) (p : List ℕ) → tested test t ≡ Ok p → (test p ≡ true) × (t ≡ Some p)
+pub tested_is : (test : List ℕ → Bool) (t : Option (List ℕ)) (p : List ℕ) → tested test t ≡ Ok p
+    → (test p ≡ true) × (t ≡ Some p)
 tested_is test None p e = absurd cc
 tested_is test (Some q) p e =
     let g = guard_ended (test q) BadPath q p e in
     (subst (λ (x : List ℕ). test x ≡ true) g.1 g.0, ap (λ (x : List ℕ). Some x) g.1)
 
 pub path_sound : (test : List ℕ → Bool) → Sound (path_by test)
-path_sound test = judged_sound (tested test) (λ p. Some (Some p)) text (λ t p e. ap (λ (x : Option (List ℕ)). Some x) (sym (tested_is test t p e).1)) text_sound
+path_sound test = judged_sound (tested test) (λ p. Some (Some p)) text
+    (λ t p e. ap (λ (x : Option (List ℕ)). Some x) (sym (tested_is test t p e).1)) text_sound
 
 -- ---- a number that may be left out
 
-last_takes : (bytes : List ℕ) (z : ℤ) (rest : List ℕ) → IsBytes bytes → last_at bytes ≡ Ok (z, rest) → Takes int_or_end bytes z rest
+last_takes : (bytes : List ℕ) (z : ℤ) (rest : List ℕ) → IsBytes bytes → last_at bytes ≡ Ok (z, rest)
+    → Takes int_or_end bytes z rest
 last_takes [] z rest fits e =
-    let made : Takes int_or_end [] (negsuc 0) [] = record { text = []; parts = refl; spells = inr (refl, refl); rest_fits = fits } in
+    let made : Takes int_or_end [] (negsuc 0) [] =
+    record { text = []; parts = refl; spells = inr (refl, refl); rest_fits = fits } in
     subst (λ (y : ℤ × List ℕ). Takes int_or_end [] y.0 y.1) (ok_is (negsuc 0, []) (z, rest) e) made
 last_takes (b ∷ bytes) z rest fits e =
     let t = int_sound.lawful.takes (b ∷ bytes) z rest fits e in
@@ -73,19 +77,23 @@ code_step true z j k rest is more e =
 code_step false z j k rest is more e = more e
 
 -- the type that is found has the code
-code_found : (z : ℤ) (ks : List TxnKind) (k : TxnKind) → ok_or (find (λ j. int_eq z (code_of j)) ks) BadTxnType ≡ Ok k → z ≡ code_of k
+code_found : (z : ℤ) (ks : List TxnKind) (k : TxnKind) → ok_or (find (λ j. int_eq z (code_of j)) ks) BadTxnType ≡ Ok k
+    → z ≡ code_of k
 code_found z [] k e = absurd cc
 code_found z (j ∷ ks) k e =
-    code_step (int_eq z (code_of j)) z j k (find (λ i. int_eq z (code_of i)) ks) (Decides-int_eq z (code_of j)).0 (code_found z ks k) e
+    code_step (int_eq z (code_of j)) z j k (find (λ i. int_eq z (code_of i)) ks) (Decides-int_eq z (code_of j)).0
+    (code_found z ks k) e
 
 pub kind_sound : Sound kind
-kind_sound = judged_sound kind_of (λ k. Some (code_of k)) int (λ z k e. ap (λ (c : ℤ). Some c) (sym (code_found z types k e))) int_sound
+kind_sound = judged_sound kind_of (λ k. Some (code_of k)) int
+    (λ z k e. ap (λ (c : ℤ). Some c) (sym (code_found z types k e))) int_sound
 
 part_is : (k j : TxnKind) → part_type k ≡ Ok j → k ≡ j
 part_is k j e = (guard_ended (is_part k) BadTxnType k j e).1
 
 pub part_kind_sound : Sound part_kind
-part_kind_sound = judged_sound part_type (λ k. Some k) kind (λ k j e. ap (λ (x : TxnKind). Some x) (sym (part_is k j e))) kind_sound
+part_kind_sound =
+    judged_sound part_type (λ k. Some k) kind (λ k j e. ap (λ (x : TxnKind). Some x) (sym (part_is k j e))) kind_sound
 
 -- ---- records
 
@@ -109,13 +117,16 @@ create_at_end =
     (both_at_end boolean int_or_end boolean_sound last_at_end))))
 
 pub set_data_sound : Sound set_data
-set_data_sound = mapped_sound _ _ _ (λ v. refl) (λ s. refl) (both_sound path _ (path_sound is_path) (both_sound buffer int buffer_sound int_sound))
+set_data_sound = mapped_sound _ _ _ (λ v. refl) (λ s. refl)
+    (both_sound path _ (path_sound is_path) (both_sound buffer int buffer_sound int_sound))
 
 pub set_acl_sound : Sound set_acl
-set_acl_sound = mapped_sound _ _ _ (λ v. refl) (λ s. refl) (both_sound path _ (path_sound is_path) (both_sound (vector acl) int acls_sound int_sound))
+set_acl_sound = mapped_sound _ _ _ (λ v. refl) (λ s. refl)
+    (both_sound path _ (path_sound is_path) (both_sound (vector acl) int acls_sound int_sound))
 
 pub check_sound : Sound check
 check_sound = mapped_sound _ _ _ (λ v. refl) (λ c. refl) (both_sound path int (path_sound is_path) int_sound)
 
 pub header_sound : Sound header
-header_sound = mapped_sound _ _ _ (λ v. refl) (λ h. refl) (both_sound long _ long_sound (both_sound int _ int_sound (both_sound long long long_sound long_sound)))
+header_sound = mapped_sound _ _ _ (λ v. refl) (λ h. refl)
+    (both_sound long _ long_sound (both_sound int _ int_sound (both_sound long long long_sound long_sound)))
