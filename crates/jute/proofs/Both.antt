@@ -19,9 +19,13 @@ sound_at_end f s = record {
 
 -- ---- one behind another
 
-both_takes : {A B : Type 0} (f : Format A) (g : Format B) → TakesSpellings f → TakesSpellings g → TakesSpellings (both f g)
+both_takes : {A B : Type 0} (f : Format A) (g : Format B) → TakesSpellings f → TakesSpellings g
+    → TakesSpellings (both f g)
 both_takes {A} {B} f g tf tg bytes v rest fits e =
-    let a = bind_ok (f.read bytes) (λ (a : A × List ℕ). g.read a.1 >>= λ (b : B × List ℕ). Ok ((a.0, b.0), b.1)) (v, rest) e in
+    let a = bind_ok (f.read bytes) (λ (a : A × List ℕ). g.read a.1 >>= λ (b : B × List ℕ). Ok ((a.0, b.0), b.1)) (
+      v,
+      rest,
+    ) e in
     let b = bind_ok (g.read a.0.1) (λ (b : B × List ℕ). Ok ((a.0.0, b.0), b.1)) (v, rest) a.2 in
     let t0 = tf bytes a.0.0 a.0.1 fits a.1 in
     let t1 = tg a.0.1 b.0.0 b.0.1 t0.rest_fits b.1 in
@@ -38,23 +42,30 @@ both_lawful : {A B : Type 0} (f : Format A) (g : Format B) → Lawful f → Lawf
 both_lawful f g lf lg = record {
   takes = both_takes f g lf.takes lg.takes;
   again = λ v text rest s.
-      let regrouped : text ++ rest ≡ s.0 ++ (s.1 ++ rest) = ap (λ (t : List ℕ). t ++ rest) s.2 ∙ append_assoc s.0 s.1 rest in
+      let regrouped : text ++ rest ≡ s.0 ++ (s.1 ++ rest) = ap (λ (t : List ℕ). t ++ rest) s.2
+      ∙ append_assoc s.0 s.1 rest in
       ap (both f g).read regrouped ∙ rw (lf.again v.0 s.0 (s.1 ++ rest) s.3, lg.again v.1 s.1 rest s.4) refl;
   writes = λ v h. (f.written v.0, g.written v.1, refl, lf.writes v.0 h.0, lg.writes v.1 h.1);
 }
 
 both_pieced : {A B : Type 0} (f : Format A) (g : Format B) → Pieced f → Pieced g → Pieced (both f g)
 both_pieced {A} {B} f g p q = record {
-  stands = λ bytes more. then_stands (f.read bytes) (f.read (bytes ++ more)) more (λ (a : A × List ℕ). g.read a.1 >>= λ (b : B × List ℕ). Ok ((a.0, b.0), b.1)) (p.stands bytes more)
-      (λ a rest. then_stands (g.read rest) (g.read (rest ++ more)) more (λ (b : B × List ℕ). Ok ((a, b.0), b.1)) (q.stands rest more) (λ b last. refl));
-  leaves = λ bytes. then_leaves (f.read bytes) (length bytes) (λ (a : A × List ℕ). g.read a.1 >>= λ (b : B × List ℕ). Ok ((a.0, b.0), b.1)) (p.leaves bytes)
-      (λ a rest le. then_leaves (g.read rest) (length bytes) (λ (b : B × List ℕ). Ok ((a, b.0), b.1)) (within (g.read rest) (length rest) (length bytes) le (q.leaves rest)) (λ b last lt. lt));
+  stands = λ bytes more. then_stands (f.read bytes) (f.read (bytes ++ more)) more
+      (λ (a : A × List ℕ). g.read a.1 >>= λ (b : B × List ℕ). Ok ((a.0, b.0), b.1)) (p.stands bytes more)
+      (λ a rest. then_stands (g.read rest) (g.read (rest ++ more)) more (λ (b : B × List ℕ). Ok ((a, b.0), b.1))
+      (q.stands rest more) (λ b last. refl));
+  leaves = λ bytes. then_leaves (f.read bytes) (length bytes) (λ (a : A × List ℕ). g.read a.1 >>= λ (b : B × List ℕ). Ok
+      ((a.0, b.0), b.1)) (p.leaves bytes)
+      (λ a rest le. then_leaves (g.read rest) (length bytes) (λ (b : B × List ℕ). Ok ((a, b.0), b.1))
+      (within (g.read rest) (length rest) (length bytes) le (q.leaves rest)) (λ b last lt. lt));
 }
 
 both_eats : {A B : Type 0} (f : Format A) (g : Format B) → TakesSome f → Pieced g → TakesSome (both f g)
 both_eats {A} {B} f g e q = record {
-  eats = λ bytes. then_eats (f.read bytes) (length bytes) (λ (a : A × List ℕ). g.read a.1 >>= λ (b : B × List ℕ). Ok ((a.0, b.0), b.1)) (e.eats bytes)
-      (λ a rest. then_leaves (g.read rest) (length rest) (λ (b : B × List ℕ). Ok ((a, b.0), b.1)) (q.leaves rest) (λ b last lt. lt));
+  eats = λ bytes. then_eats (f.read bytes) (length bytes) (λ (a : A × List ℕ). g.read a.1 >>= λ (b : B × List ℕ). Ok
+      ((a.0, b.0), b.1)) (e.eats bytes)
+      (λ a rest. then_leaves (g.read rest) (length rest) (λ (b : B × List ℕ). Ok ((a, b.0), b.1)) (q.leaves rest)
+      (λ b last lt. lt));
 }
 
 both_named : {A B : Type 0} (f : Format A) (g : Format B) → Lawful f → Named f → Named g → Named (both f g)
@@ -65,7 +76,14 @@ both_named {A} {B} f g lf nf ng = record {
         | inr later ↦
             let t = lf.takes bytes later.0.0 later.0.1 fits later.1 in
             elim (bind_err (g.read later.0.1) (λ (b : B × List ℕ). Ok ((later.0.0, b.0), b.1)) e later.2) [
-              | inl second ↦ inr (later.0.0, t.text, later.0.1, t.parts, t.spells, ng.names later.0.1 e t.rest_fits second)
+              | inl second ↦ inr (
+                later.0.0,
+                t.text,
+                later.0.1,
+                t.parts,
+                t.spells,
+                ng.names later.0.1 e t.rest_fits second,
+              )
               | inr never ↦ absurd (not_refused ((later.0.0, never.0.0), never.0.1) e never.2)
             ]
       ];
@@ -81,7 +99,14 @@ both_sound f g a b = record {
   pieced = both_pieced f g a.pieced b.pieced;
   some = both_eats f g a.some b.pieced;
   named = both_named f g a.lawful a.named b.named;
-  shortest = λ v text s. omega (arith, a.shortest v.0 s.0 s.3, b.shortest v.1 s.1 s.4, ap length s.2, length-append s.0 s.1, length-append (f.written v.0) (g.written v.1));
+  shortest = λ v text s. omega (
+    arith,
+    a.shortest v.0 s.0 s.3,
+    b.shortest v.1 s.1 s.4,
+    ap length s.2,
+    length-append s.0 s.1,
+    length-append (f.written v.0) (g.written v.1),
+  );
   limited = λ v text s. (a.limited v.0 s.0 s.3, b.limited v.1 s.1 s.4);
   writable = λ v h. (a.writable v.0 h.0, b.writable v.1 h.1);
 }
@@ -98,21 +123,32 @@ both_at_end f g a b = record {
 
 -- ---- values of another type
 
-mapped_takes : {A B : Type 0} (to : A → B) (from : B → A) (f : Format A) → ((a : A) → from (to a) ≡ a) → TakesSpellings f → TakesSpellings (mapped to from f)
+mapped_takes : {A B : Type 0} (to : A → B) (from : B → A) (f : Format A) → ((a : A) → from (to a) ≡ a)
+    → TakesSpellings f → TakesSpellings (mapped to from f)
 mapped_takes {A} {B} to from f there tf bytes v rest fits e =
     let a = bind_ok (f.read bytes) (λ (a : A × List ℕ). Ok (to a.0, a.1)) (v, rest) e in
     let t = tf bytes a.0.0 a.0.1 fits a.1 in
-    let whole : Takes (mapped to from f) bytes (to a.0.0) a.0.1 = record { text = t.text; parts = t.parts; spells = subst (λ (x : A). f.Spells x t.text) (sym (there a.0.0)) t.spells; rest_fits = t.rest_fits } in
+    let whole : Takes (mapped to from f) bytes (to a.0.0) a.0.1 = record {
+      text = t.text;
+      parts = t.parts;
+      spells = subst (λ (x : A). f.Spells x t.text) (sym (there a.0.0)) t.spells;
+      rest_fits = t.rest_fits;
+    } in
     subst (λ (y : B × List ℕ). Takes (mapped to from f) bytes y.0 y.1) (ok_is (to a.0.0, a.0.1) (v, rest) a.2) whole
 
 mapped_pieced : {A B : Type 0} (to : A → B) (from : B → A) (f : Format A) → Pieced f → Pieced (mapped to from f)
 mapped_pieced {A} to from f p = record {
-  stands = λ bytes more. then_stands (f.read bytes) (f.read (bytes ++ more)) more (λ (a : A × List ℕ). Ok (to a.0, a.1)) (p.stands bytes more) (λ a rest. refl);
-  leaves = λ bytes. then_leaves (f.read bytes) (length bytes) (λ (a : A × List ℕ). Ok (to a.0, a.1)) (p.leaves bytes) (λ a rest le. le);
+  stands = λ bytes more. then_stands (f.read bytes) (f.read (bytes ++ more)) more (λ (a : A × List ℕ). Ok (to a.0, a.1))
+      (p.stands bytes more) (λ a rest. refl);
+  leaves = λ bytes. then_leaves (f.read bytes) (length bytes) (λ (a : A × List ℕ). Ok (to a.0, a.1)) (p.leaves bytes)
+      (λ a rest le. le);
 }
 
 mapped_eats : {A B : Type 0} (to : A → B) (from : B → A) (f : Format A) → TakesSome f → TakesSome (mapped to from f)
-mapped_eats {A} to from f e = record { eats = λ bytes. then_eats (f.read bytes) (length bytes) (λ (a : A × List ℕ). Ok (to a.0, a.1)) (e.eats bytes) (λ a rest. omega arith) }
+mapped_eats {A} to from f e = record {
+  eats = λ bytes. then_eats (f.read bytes) (length bytes)
+      (λ (a : A × List ℕ). Ok (to a.0, a.1)) (e.eats bytes) (λ a rest. omega arith);
+}
 
 mapped_named : {A B : Type 0} (to : A → B) (from : B → A) (f : Format A) → Named f → Named (mapped to from f)
 mapped_named {A} to from f nf = record {
@@ -124,7 +160,8 @@ mapped_named {A} to from f nf = record {
   answers = λ bytes e s. rw (nf.answers bytes e s) refl;
 }
 
-pub mapped_sound : {A B : Type 0} (to : A → B) (from : B → A) (f : Format A) → ((a : A) → from (to a) ≡ a) → ((b : B) → to (from b) ≡ b) → Sound f → Sound (mapped to from f)
+pub mapped_sound : {A B : Type 0} (to : A → B) (from : B → A) (f : Format A) → ((a : A) → from (to a) ≡ a)
+    → ((b : B) → to (from b) ≡ b) → Sound f → Sound (mapped to from f)
 mapped_sound to from f there back a = record {
   lawful = record {
     takes = mapped_takes to from f there a.lawful.takes;
@@ -139,7 +176,8 @@ mapped_sound to from f there back a = record {
   writable = λ v h. a.writable (from v) h;
 }
 
-pub mapped_at_end : {A B : Type 0} (to : A → B) (from : B → A) (f : Format A) → ((a : A) → from (to a) ≡ a) → ((b : B) → to (from b) ≡ b) → SoundAtEnd f → SoundAtEnd (mapped to from f)
+pub mapped_at_end : {A B : Type 0} (to : A → B) (from : B → A) (f : Format A) → ((a : A) → from (to a) ≡ a)
+    → ((b : B) → to (from b) ≡ b) → SoundAtEnd f → SoundAtEnd (mapped to from f)
 mapped_at_end to from f there back a = record {
   takes = mapped_takes to from f there a.takes;
   again = λ v text s. rw (a.again (from v) text s, back v) refl;

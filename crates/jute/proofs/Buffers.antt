@@ -43,10 +43,12 @@ count_found limit (negsuc zero) k e =
     subst (λ (k : Option ℕ). SpellsCount limit k null) none refl
 count_found limit (negsuc (suc n)) k e = absurd cc
 
-pub count_spelled : (limit : ℕ) (k : Option ℕ) (bytes : List ℕ) → (count limit).Spells k bytes → SpellsCount limit k bytes
+pub count_spelled : (limit : ℕ) (k : Option ℕ) (bytes : List ℕ) → (count limit).Spells k bytes
+    → SpellsCount limit k bytes
 count_spelled limit k bytes s = subst (λ (x : List ℕ). SpellsCount limit k x) (sym s.2.1) (count_found limit s.0 k s.1)
 
-pub count_spells : (limit : ℕ) → limit < 2 ^ 31 → (k : Option ℕ) (bytes : List ℕ) → SpellsCount limit k bytes → (count limit).Spells k bytes
+pub count_spells : (limit : ℕ) → limit < 2 ^ 31 → (k : Option ℕ) (bytes : List ℕ) → SpellsCount limit k bytes
+    → (count limit).Spells k bytes
 count_spells limit small None bytes s = (negsuc 0, refl, (record { sfits = omega arith }, s))
 count_spells limit small (Some n) bytes s =
     let le : n ≤ limit = s.0 in
@@ -54,40 +56,57 @@ count_spells limit small (Some n) bytes s =
 
 -- ---- buffers
 
-taken_takes : (k : Option ℕ) (bytes : List ℕ) (v : Option (List ℕ)) (rest front : List ℕ) → IsBytes bytes → SpellsCount buffer_limit k front → taken k bytes ≡ Ok (v, rest) → Takes buffer (front ++ bytes) v rest
+taken_takes : (k : Option ℕ) (bytes : List ℕ) (v : Option (List ℕ)) (rest front : List ℕ) → IsBytes bytes
+    → SpellsCount buffer_limit k front → taken k bytes ≡ Ok (v, rest) → Takes buffer (front ++ bytes) v rest
 taken_takes None bytes v rest front fits s e =
-    let whole : Takes buffer (front ++ bytes) None bytes = record { text = front; parts = refl; spells = s; rest_fits = fits } in
-    subst (λ (y : Option (List ℕ) × List ℕ). Takes buffer (front ++ bytes) y.0 y.1) (ok_is (None, bytes) (v, rest) e) whole
+    let whole : Takes buffer (front ++ bytes) None bytes =
+    record { text = front; parts = refl; spells = s; rest_fits = fits } in
+    subst (λ (y : Option (List ℕ) × List ℕ). Takes buffer (front ++ bytes) y.0 y.1)
+    (ok_is (None, bytes) (v, rest) e) whole
 taken_takes (Some n) bytes v rest front fits s e =
     let g = guard_ok (ltb (length bytes) n) Short (Some (take n bytes), drop n bytes) (v, rest) e in
     let long : n ≤ length bytes = ltb-false _ _ g.0 in
     let len : length (take n bytes) ≡ n = omega (arith, length-take n bytes) in
     let whole : Takes buffer (front ++ bytes) (Some (take n bytes)) (drop n bytes) = record {
       text = front ++ take n bytes;
-      parts = ap (λ (t : List ℕ). front ++ t) (sym (take-append-drop n bytes)) ∙ sym (append_assoc front (take n bytes) (drop n bytes));
+      parts = ap (λ (t : List ℕ). front ++ t) (sym (take-append-drop n bytes))
+          ∙ sym (append_assoc front (take n bytes) (drop n bytes));
       spells = (rw len s.0, rw (len, s.1) refl);
       rest_fits = IsBytes-drop n bytes fits;
     } in
     subst (λ (y : Option (List ℕ) × List ℕ). Takes buffer (front ++ bytes) y.0 y.1) g.1 whole
 
-pub buffer_takes : (bytes : List ℕ) (v : Option (List ℕ)) (rest : List ℕ) → IsBytes bytes → buffer_at bytes ≡ Ok (v, rest) → Takes buffer bytes v rest
+pub buffer_takes : (bytes : List ℕ) (v : Option (List ℕ)) (rest : List ℕ) → IsBytes bytes → buffer_at bytes ≡ Ok (
+  v,
+  rest,
+) → Takes buffer bytes v rest
 unfolding buffer_at
 buffer_takes bytes v rest fits e =
     let a = bind_ok ((count buffer_limit).read bytes) (λ (n : Option ℕ × List ℕ). taken n.0 n.1) (v, rest) e in
     let t = (count_sound buffer_limit).lawful.takes bytes a.0.0 a.0.1 fits a.1 in
-    subst (λ (b : List ℕ). Takes buffer b v rest) (sym t.parts) (taken_takes a.0.0 a.0.1 v rest t.text t.rest_fits (count_spelled buffer_limit a.0.0 t.text t.spells) a.2)
+    subst (λ (b : List ℕ). Takes buffer b v rest) (sym t.parts)
+    (taken_takes a.0.0 a.0.1 v rest t.text t.rest_fits (count_spelled buffer_limit a.0.0 t.text t.spells) a.2)
 
-count_again : (k : Option ℕ) (text rest : List ℕ) → SpellsCount buffer_limit k text → (count buffer_limit).read (text ++ rest) ≡ Ok (k, rest)
-count_again k text rest s = (count_sound buffer_limit).lawful.again k text rest (count_spells buffer_limit (omega arith) k text s)
+count_again : (k : Option ℕ) (text rest : List ℕ) → SpellsCount buffer_limit k text
+    → (count buffer_limit).read (text ++ rest) ≡ Ok (k, rest)
+count_again k text rest s =
+    (count_sound buffer_limit).lawful.again k text rest (count_spells buffer_limit (omega arith) k text s)
 
-buffer_again : (v : Option (List ℕ)) (text rest : List ℕ) → SpellsBuffer v text → buffer_at (text ++ rest) ≡ Ok (v, rest)
+buffer_again : (v : Option (List ℕ)) (text rest : List ℕ) → SpellsBuffer v text
+    → buffer_at (text ++ rest) ≡ Ok (v, rest)
 unfolding buffer_at
 buffer_again None text rest s = rw (count_again None text rest s) refl
 buffer_again (Some d) text rest s =
     let front = number_bytes w32 (pos (length d)) in
-    let regrouped : text ++ rest ≡ front ++ (d ++ rest) = ap (λ (t : List ℕ). t ++ rest) s.1 ∙ append_assoc front d rest in
+    let regrouped : text ++ rest ≡ front ++ (d ++ rest) = ap (λ (t : List ℕ). t ++ rest) s.1
+    ∙ append_assoc front d rest in
     let long : ltb (length (d ++ rest)) (length d) ≡ false = le-ltb _ _ (omega (arith, length-append d rest)) in
-    ap buffer_at regrouped ∙ rw (count_again (Some (length d)) front (d ++ rest) (s.0, refl), long, take_at d rest (length d) refl, drop_at d rest (length d) refl) refl
+    ap buffer_at regrouped ∙ rw (
+      count_again (Some (length d)) front (d ++ rest) (s.0, refl),
+      long,
+      take_at d rest (length d) refl,
+      drop_at d rest (length d) refl,
+    ) refl
 
 buffer_writes : (v : Option (List ℕ)) → FitsBuffer v → SpellsBuffer v (buffer_bytes v)
 buffer_writes None h = refl
@@ -95,7 +114,8 @@ buffer_writes (Some d) h = (h, refl)
 
 taken_stands : (k : Option ℕ) (bytes more : List ℕ) → Stands (taken k bytes) more (taken k (bytes ++ more))
 taken_stands None bytes more = refl
-taken_stands (Some n) bytes more = cut_stands n (λ (b : List ℕ). Some (take n b)) bytes more (λ le. ap (λ (b : List ℕ). Some b) (take-append-le n bytes more le))
+taken_stands (Some n) bytes more = cut_stands n (λ (b : List ℕ). Some (take n b)) bytes more
+    (λ le. ap (λ (b : List ℕ). Some b) (take-append-le n bytes more le))
 
 taken_leaves : (k : Option ℕ) (bytes : List ℕ) → Leaves (taken k bytes) (length bytes)
 taken_leaves None bytes = omega arith
@@ -104,14 +124,16 @@ taken_leaves (Some n) bytes = cut_leaves n (Some (take n bytes)) bytes
 buffer_stands : (bytes more : List ℕ) → Stands (buffer_at bytes) more (buffer_at (bytes ++ more))
 unfolding buffer_at
 buffer_stands bytes more =
-    then_stands ((count buffer_limit).read bytes) ((count buffer_limit).read (bytes ++ more)) more (λ (n : Option ℕ × List ℕ). taken n.0 n.1)
+    then_stands ((count buffer_limit).read bytes) ((count buffer_limit).read (bytes ++ more)) more
+    (λ (n : Option ℕ × List ℕ). taken n.0 n.1)
     ((count_sound buffer_limit).pieced.stands bytes more) (λ k rest. taken_stands k rest more)
 
 buffer_leaves : (bytes : List ℕ) → Leaves (buffer_at bytes) (length bytes)
 unfolding buffer_at
 buffer_leaves bytes =
     then_leaves ((count buffer_limit).read bytes) (length bytes) (λ (n : Option ℕ × List ℕ). taken n.0 n.1)
-    ((count_sound buffer_limit).pieced.leaves bytes) (λ k rest le. within (taken k rest) (length rest) (length bytes) le (taken_leaves k rest))
+    ((count_sound buffer_limit).pieced.leaves bytes) (λ k rest le. within (taken k rest) (length rest) (length bytes) le
+    (taken_leaves k rest))
 
 buffer_some : (bytes : List ℕ) → Eats (buffer_at bytes) (length bytes)
 unfolding buffer_at
@@ -142,7 +164,10 @@ buffer_named = record {
       ];
   answers = λ bytes e s. elim s [
     | inl first ↦ rw ((count_sound buffer_limit).named.answers bytes e first) refl
-    | inr b ↦ rw (behind_read (count buffer_limit) (count_sound buffer_limit).lawful LacksBytes bytes b.1, taken_refuses b.1.0 b.1.2 b.1.5) (ap (λ d. Err d) (sym b.0))
+    | inr b ↦ rw (
+      behind_read (count buffer_limit) (count_sound buffer_limit).lawful LacksBytes bytes b.1,
+      taken_refuses b.1.0 b.1.2 b.1.5,
+    ) (ap (λ d. Err d) (sym b.0))
   ];
 }
 

@@ -22,11 +22,13 @@ length_found limit (pos k) n e =
 length_found limit (negsuc k) n e = absurd cc
 
 frame_count_sound : (limit : ℕ) → Sound (frame_count limit)
-frame_count_sound limit = judged_sound (frame_length limit) (λ n. Some (pos n)) int (λ z n e. ap (λ x. Some x) (sym (length_found limit z n e).0)) int_sound
+frame_count_sound limit = judged_sound (frame_length limit) (λ n. Some (pos n)) int
+    (λ z n e. ap (λ x. Some x) (sym (length_found limit z n e).0)) int_sound
 
 -- ---- spellings
 
-frame_takes : (limit : ℕ) (bytes v rest : List ℕ) → IsBytes bytes → frame_at limit bytes ≡ Ok (v, rest) → Takes (frame limit) bytes v rest
+frame_takes : (limit : ℕ) (bytes v rest : List ℕ) → IsBytes bytes → frame_at limit bytes ≡ Ok (v, rest)
+    → Takes (frame limit) bytes v rest
 unfolding frame_at
 frame_takes limit bytes v rest fits e =
     let a = bind_ok ((frame_count limit).read bytes) (λ (n : ℕ × List ℕ). front_of n.0 n.1) (v, rest) e in
@@ -39,20 +41,27 @@ frame_takes limit bytes v rest fits e =
     let front : t.text ≡ number_bytes w32 (pos n) = t.spells.2.1 ∙ ap (number_bytes w32) found.0 in
     let whole : Takes (frame limit) bytes (take n a.0.1) (drop n a.0.1) = record {
       text = t.text ++ take n a.0.1;
-      parts = t.parts ∙ ap (λ (x : List ℕ). t.text ++ x) (sym (take-append-drop n a.0.1)) ∙ sym (append_assoc t.text (take n a.0.1) (drop n a.0.1));
+      parts = t.parts ∙ ap (λ (x : List ℕ). t.text ++ x) (sym (take-append-drop n a.0.1))
+          ∙ sym (append_assoc t.text (take n a.0.1) (drop n a.0.1));
       spells = (rw len found.1, rw (len, front) refl);
       rest_fits = IsBytes-drop n a.0.1 t.rest_fits;
     } in
     subst (λ (y : List ℕ × List ℕ). Takes (frame limit) bytes y.0 y.1) g.1 whole
 
-frame_again : (limit : ℕ) → limit < 2 ^ 31 → (v text rest : List ℕ) → (frame limit).Spells v text → frame_at limit (text ++ rest) ≡ Ok (v, rest)
+frame_again : (limit : ℕ) → limit < 2 ^ 31 → (v text rest : List ℕ) → (frame limit).Spells v text
+    → frame_at limit (text ++ rest) ≡ Ok (v, rest)
 unfolding frame_at
 frame_again limit small v text rest s =
     let n = length v in
     let le : n ≤ limit = s.0 in
     let front = number_bytes w32 (pos n) in
-    let regrouped : text ++ rest ≡ front ++ (v ++ rest) = ap (λ (t : List ℕ). t ++ rest) s.1 ∙ append_assoc front v rest in
-    let read = (frame_count_sound limit).lawful.again n front (v ++ rest) (pos n, rw (le-leb n limit le) refl, (record { sfits = omega arith }, refl)) in
+    let regrouped : text ++ rest ≡ front ++ (v ++ rest) = ap (λ (t : List ℕ). t ++ rest) s.1
+    ∙ append_assoc front v rest in
+    let read = (frame_count_sound limit).lawful.again n front (v ++ rest) (
+      pos n,
+      rw (le-leb n limit le) refl,
+      (record { sfits = omega arith }, refl),
+    ) in
     let long : ltb (length (v ++ rest)) n ≡ false = le-ltb _ _ (omega (arith, length-append v rest)) in
     ap (frame_at limit) regrouped ∙ rw (read, long, take_at v rest n refl, drop_at v rest n refl) refl
 
@@ -64,19 +73,22 @@ front_stands n rest more = cut_stands n (λ (x : List ℕ). take n x) rest more 
 frame_stands : (limit : ℕ) (bytes more : List ℕ) → Stands (frame_at limit bytes) more (frame_at limit (bytes ++ more))
 unfolding frame_at
 frame_stands limit bytes more =
-    then_stands ((frame_count limit).read bytes) ((frame_count limit).read (bytes ++ more)) more (λ (n : ℕ × List ℕ). front_of n.0 n.1)
+    then_stands ((frame_count limit).read bytes) ((frame_count limit).read (bytes ++ more)) more
+    (λ (n : ℕ × List ℕ). front_of n.0 n.1)
     ((frame_count_sound limit).pieced.stands bytes more) (λ n rest. front_stands n rest more)
 
 frame_leaves : (limit : ℕ) (bytes : List ℕ) → Leaves (frame_at limit bytes) (length bytes)
 unfolding frame_at
 frame_leaves limit bytes =
     then_leaves ((frame_count limit).read bytes) (length bytes) (λ (n : ℕ × List ℕ). front_of n.0 n.1)
-    ((frame_count_sound limit).pieced.leaves bytes) (λ n rest le. within (front_of n rest) (length rest) (length bytes) le (cut_leaves n (take n rest) rest))
+    ((frame_count_sound limit).pieced.leaves bytes) (λ n rest le. within (front_of n rest) (length rest) (length bytes)
+    le (cut_leaves n (take n rest) rest))
 
 frame_some : (limit : ℕ) (bytes : List ℕ) → Eats (frame_at limit bytes) (length bytes)
 unfolding frame_at
 frame_some limit bytes =
-    then_eats ((frame_count limit).read bytes) (length bytes) (λ (n : ℕ × List ℕ). front_of n.0 n.1) ((frame_count_sound limit).some.eats bytes)
+    then_eats ((frame_count limit).read bytes) (length bytes) (λ (n : ℕ × List ℕ). front_of n.0 n.1)
+    ((frame_count_sound limit).some.eats bytes)
     (λ n rest. cut_leaves n (take n rest) rest)
 
 -- ---- refusals
@@ -89,12 +101,19 @@ frame_named limit = record {
         | inl first ↦ inl ((frame_count_sound limit).named.names bytes e fits first)
         | inr later ↦
             let t = (frame_count_sound limit).lawful.takes bytes later.0.0 later.0.1 fits later.1 in
-            let g = guard_err (ltb (length later.0.1) later.0.0) Short e (take later.0.0 later.0.1, drop later.0.0 later.0.1) later.2 in
+            let g = guard_err (ltb (length later.0.1) later.0.0) Short e (
+              take later.0.0 later.0.1,
+              drop later.0.0 later.0.1,
+            ) later.2 in
             inr (sym g.1, (later.0.0, t.text, later.0.1, t.parts, t.spells, ltb-true _ _ g.0))
       ];
   answers = λ bytes e s. elim s [
     | inl first ↦ rw ((frame_count_sound limit).named.answers bytes e first) refl
-    | inr b ↦ rw (behind_read (frame_count limit) (frame_count_sound limit).lawful (λ n rest. length rest < n) bytes b.1, lt-ltb _ _ b.1.5) (ap (λ d. Err d) (sym b.0))
+    | inr b ↦ rw (
+      behind_read (frame_count limit) (frame_count_sound limit).lawful (λ n rest. length rest < n) bytes
+          b.1,
+      lt-ltb _ _ b.1.5,
+    ) (ap (λ d. Err d) (sym b.0))
   ];
 }
 

@@ -17,7 +17,8 @@ abbrev pub Returns : {A B : Type 0} → (A → Result B Fault) → (B → Option
 Returns {A = A} {B = B} to back f = (a : A) (v : B) → to a ≡ Ok v → IsBack to f a v (back v)
 
 -- the value that was read is given back
-returns_same : {A B : Type 0} (to : A → Result B Fault) (back : B → Option A) (f : Format A) → ((a : A) (v : B) → to a ≡ Ok v → back v ≡ Some a) → Returns to back f
+returns_same : {A B : Type 0} (to : A → Result B Fault) (back : B → Option A) (f : Format A)
+    → ((a : A) (v : B) → to a ≡ Ok v → back v ≡ Some a) → Returns to back f
 returns_same to back f same a v e = rw (same a v e) (e, λ h. h, omega arith)
 
 module _ {A B : Type 0} (to : A → Result B Fault) (f : Format A) where
@@ -29,39 +30,48 @@ module _ {A B : Type 0} (to : A → Result B Fault) (f : Format A) where
   back_shorter a v None i = absurd i
   back_shorter a v (Some b) i = i.2
 
-  back_writes : ((a : A) → f.Fits a → f.Spells a (f.written a)) → (v : B) (o : Option A) → OfBack o (λ a. (to a ≡ Ok v) × f.Fits a) → (a : A) × (to a ≡ Ok v) × f.Spells a (back_bytes f o)
+  back_writes : ((a : A) → f.Fits a → f.Spells a (f.written a)) → (v : B) (o : Option A)
+      → OfBack o (λ a. (to a ≡ Ok v) × f.Fits a) → (a : A) × (to a ≡ Ok v) × f.Spells a (back_bytes f o)
   back_writes w v None h = absurd h
   back_writes w v (Some a) h = (a, h.0, w a h.1)
 
-  back_writable : ((a : A) → f.Fits a → f.Writable a) → (v : B) (o : Option A) → OfBack o (λ a. (to a ≡ Ok v) × f.Fits a) → OfBack o f.Writable
+  back_writable : ((a : A) → f.Fits a → f.Writable a) → (v : B) (o : Option A)
+      → OfBack o (λ a. (to a ≡ Ok v) × f.Fits a) → OfBack o f.Writable
   back_writable w v None h = absurd h
   back_writable w v (Some a) h = w a h.1
 
 -- ---- laws
 
-pub judged_takes : {A B : Type 0} (to : A → Result B Fault) (back : B → Option A) (f : Format A) → TakesSpellings f → TakesSpellings (judged to back f)
+pub judged_takes : {A B : Type 0} (to : A → Result B Fault) (back : B → Option A) (f : Format A) → TakesSpellings f
+    → TakesSpellings (judged to back f)
 unfolding judged_at
 judged_takes {A} {B} to back f tf bytes v rest fits e =
     let a = bind_ok (f.read bytes) (λ (a : A × List ℕ). to a.0 >>= λ (v : B). Ok (v, a.1)) (v, rest) e in
     let b = bind_ok (to a.0.0) (λ (v : B). Ok (v, a.0.1)) (v, rest) a.2 in
     let t = tf bytes a.0.0 a.0.1 fits a.1 in
-    let whole : Takes (judged to back f) bytes b.0 a.0.1 = record { text = t.text; parts = t.parts; spells = (a.0.0, b.1, t.spells); rest_fits = t.rest_fits } in
+    let whole : Takes (judged to back f) bytes b.0 a.0.1 =
+    record { text = t.text; parts = t.parts; spells = (a.0.0, b.1, t.spells); rest_fits = t.rest_fits } in
     subst (λ (y : B × List ℕ). Takes (judged to back f) bytes y.0 y.1) (ok_is (b.0, a.0.1) (v, rest) b.2) whole
 
-pub judged_reads : {A B : Type 0} (to : A → Result B Fault) (f : Format A) (a : A) (v : B) (bytes rest : List ℕ) → f.read bytes ≡ Ok (a, rest) → to a ≡ Ok v → judged_at to f.read bytes ≡ Ok (v, rest)
+pub judged_reads : {A B : Type 0} (to : A → Result B Fault) (f : Format A) (a : A) (v : B) (bytes rest : List ℕ)
+    → f.read bytes ≡ Ok (a, rest) → to a ≡ Ok v → judged_at to f.read bytes ≡ Ok (v, rest)
 unfolding judged_at
 judged_reads to f a v bytes rest h k = rw (h, k) refl
 
-judged_refuses : {A B : Type 0} (to : A → Result B Fault) (f : Format A) (bytes : List ℕ) (e : Fault) → f.read bytes ≡ Err e → judged_at to f.read bytes ≡ Err e
+judged_refuses : {A B : Type 0} (to : A → Result B Fault) (f : Format A) (bytes : List ℕ) (e : Fault)
+    → f.read bytes ≡ Err e → judged_at to f.read bytes ≡ Err e
 unfolding judged_at
 judged_refuses to f bytes e h = rw h refl
 
-judged_refuses_value : {A B : Type 0} (to : A → Result B Fault) (f : Format A) (a : A) (bytes rest : List ℕ) (e : Fault) → f.read bytes ≡ Ok (a, rest) → to a ≡ Err e → judged_at to f.read bytes ≡ Err e
+judged_refuses_value : {A B : Type 0} (to : A → Result B Fault) (f : Format A) (a : A) (bytes rest : List ℕ) (e : Fault)
+    → f.read bytes ≡ Ok (a, rest) → to a ≡ Err e → judged_at to f.read bytes ≡ Err e
 unfolding judged_at
 judged_refuses_value to f a bytes rest e h k = rw (h, k) refl
 
-judged_names : {A B : Type 0} (to : A → Result B Fault) (back : B → Option A) (f : Format A) → TakesSpellings f → Named f
-    → (bytes : List ℕ) (e : Fault) → IsBytes bytes → judged_at to f.read bytes ≡ Err e → (judged to back f).against e bytes
+judged_names : {A B : Type 0} (to : A → Result B Fault) (back : B → Option A) (f : Format A)
+    → TakesSpellings f → Named f
+    → (bytes : List ℕ) (e : Fault) → IsBytes bytes → judged_at to f.read bytes ≡ Err e
+    → (judged to back f).against e bytes
 unfolding judged_at
 judged_names {A} {B} to back f tf nf bytes e fits h =
     elim (bind_err (f.read bytes) (λ (a : A × List ℕ). to a.0 >>= λ (v : B). Ok (v, a.1)) e h) [
@@ -74,7 +84,8 @@ judged_names {A} {B} to back f tf nf bytes e fits h =
           ]
     ]
 
-pub judged_named : {A B : Type 0} (to : A → Result B Fault) (back : B → Option A) (f : Format A) → Lawful f → Named f → Named (judged to back f)
+pub judged_named : {A B : Type 0} (to : A → Result B Fault) (back : B → Option A) (f : Format A) → Lawful f → Named f
+    → Named (judged to back f)
 judged_named to back f lf nf = record {
   names = λ bytes e fits h. judged_names to back f lf.takes nf bytes e fits h;
   answers = λ bytes e s. elim s [
@@ -83,21 +94,28 @@ judged_named to back f lf nf = record {
   ];
 }
 
-pub judged_pieced : {A B : Type 0} (to : A → Result B Fault) (back : B → Option A) (f : Format A) → Pieced f → Pieced (judged to back f)
+pub judged_pieced : {A B : Type 0} (to : A → Result B Fault) (back : B → Option A) (f : Format A) → Pieced f
+    → Pieced (judged to back f)
 unfolding judged_at
 judged_pieced {A} {B} to back f p = record {
-  stands = λ bytes more. then_stands (f.read bytes) (f.read (bytes ++ more)) more (λ (a : A × List ℕ). to a.0 >>= λ (v : B). Ok (v, a.1)) (p.stands bytes more) (λ a rest. plain_stands (to a) (λ v. v) rest more);
-  leaves = λ bytes. then_leaves (f.read bytes) (length bytes) (λ (a : A × List ℕ). to a.0 >>= λ (v : B). Ok (v, a.1)) (p.leaves bytes) (λ a rest le. plain_leaves (to a) (λ v. v) rest (length bytes) le);
+  stands = λ bytes more. then_stands (f.read bytes) (f.read (bytes ++ more)) more
+      (λ (a : A × List ℕ). to a.0 >>= λ (v : B). Ok (v, a.1)) (p.stands bytes more)
+      (λ a rest. plain_stands (to a) (λ v. v) rest more);
+  leaves = λ bytes. then_leaves (f.read bytes) (length bytes) (λ (a : A × List ℕ). to a.0 >>= λ (v : B). Ok (v, a.1))
+      (p.leaves bytes) (λ a rest le. plain_leaves (to a) (λ v. v) rest (length bytes) le);
 }
 
-pub judged_eats : {A B : Type 0} (to : A → Result B Fault) (back : B → Option A) (f : Format A) → TakesSome f → TakesSome (judged to back f)
+pub judged_eats : {A B : Type 0} (to : A → Result B Fault) (back : B → Option A) (f : Format A) → TakesSome f
+    → TakesSome (judged to back f)
 unfolding judged_at
 judged_eats {A} {B} to back f e = record {
-  eats = λ bytes. then_eats (f.read bytes) (length bytes) (λ (a : A × List ℕ). to a.0 >>= λ (v : B). Ok (v, a.1)) (e.eats bytes) (λ a rest. plain_leaves (to a) (λ v. v) rest (length rest) (omega arith));
+  eats = λ bytes. then_eats (f.read bytes) (length bytes) (λ (a : A × List ℕ). to a.0 >>= λ (v : B). Ok (v, a.1))
+      (e.eats bytes) (λ a rest. plain_leaves (to a) (λ v. v) rest (length rest) (omega arith));
 }
 
 -- with another value written than was read
-pub judged_back_sound : {A B : Type 0} (to : A → Result B Fault) (back : B → Option A) (f : Format A) → Returns to back f → Sound f → Sound (judged to back f)
+pub judged_back_sound : {A B : Type 0} (to : A → Result B Fault) (back : B → Option A) (f : Format A)
+    → Returns to back f → Sound f → Sound (judged to back f)
 judged_back_sound to back f returns s = record {
   lawful = record {
     takes = judged_takes to back f s.lawful.takes;
@@ -112,7 +130,8 @@ judged_back_sound to back f returns s = record {
   writable = λ v h. back_writable to f s.writable v (back v) h;
 }
 
-pub judged_sound : {A B : Type 0} (to : A → Result B Fault) (back : B → Option A) (f : Format A) → ((a : A) (v : B) → to a ≡ Ok v → back v ≡ Some a) → Sound f → Sound (judged to back f)
+pub judged_sound : {A B : Type 0} (to : A → Result B Fault) (back : B → Option A) (f : Format A)
+    → ((a : A) (v : B) → to a ≡ Ok v → back v ≡ Some a) → Sound f → Sound (judged to back f)
 judged_sound to back f same s = judged_back_sound to back f (returns_same to back f same) s
 
 -- ---- cases of sums
@@ -136,16 +155,21 @@ module _ {A B : Type 0} (to : A → B) (back : B → Option A) (f : Format A) (s
         | inr never ↦ absurd (not_refused (to never.0) e never.5)
       ];
     };
-    limited = λ v text h. back_fits (λ a. Ok (to a)) f h.0 v (back v) (returns_same (λ a. Ok (to a)) back f case_back h.0 v h.1) (s.limited h.0 text h.2);
+    limited = λ v text h. back_fits (λ a. Ok (to a)) f h.0 v (back v)
+        (returns_same (λ a. Ok (to a)) back f case_back h.0 v h.1) (s.limited h.0 text h.2);
     writable = λ v h. back_writable (λ a. Ok (to a)) f s.writable v (back v) h;
   }
 
 -- ---- null for an empty list
 
-module _ {A : Type 0} (f : Format (Option (List A))) (fits : f.Fits None → f.Fits (Some [])) (shorter : length (f.written (Some [])) ≤ length (f.written None)) where
-  null_returns : (a : Option (List A)) (v : List A) → (let r : Result (List A) Fault = Ok (or_empty a) in r ≡ Ok v) → IsBack (λ v. Ok (or_empty v)) f a v (Some (Some v))
-  null_returns None v e = subst (λ (v : List A). IsBack (λ v. Ok (or_empty v)) f None v (Some (Some v))) (ok_is [] v e) (refl, fits, shorter)
-  null_returns (Some vs) v e = subst (λ (v : List A). IsBack (λ v. Ok (or_empty v)) f (Some vs) v (Some (Some v))) (ok_is vs v e) (refl, λ h. h, omega arith)
+module _ {A : Type 0} (f : Format (Option (List A))) (fits : f.Fits None → f.Fits (Some []))
+    (shorter : length (f.written (Some [])) ≤ length (f.written None)) where
+  null_returns : (a : Option (List A)) (v : List A) → (let r : Result (List A) Fault = Ok (or_empty a) in r ≡ Ok v)
+      → IsBack (λ v. Ok (or_empty v)) f a v (Some (Some v))
+  null_returns None v e = subst (λ (v : List A). IsBack (λ v. Ok (or_empty v)) f None v (Some (Some v))) (ok_is [] v e)
+      (refl, fits, shorter)
+  null_returns (Some vs) v e = subst (λ (v : List A). IsBack (λ v. Ok (or_empty v)) f (Some vs) v (Some (Some v)))
+      (ok_is vs v e) (refl, λ h. h, omega arith)
 
   pub or_null_sound : Sound f → Sound (or_null f)
   or_null_sound s = judged_back_sound (λ v. Ok (or_empty v)) (λ vs. Some (Some vs)) f null_returns s

@@ -10,20 +10,25 @@ use Rattle.jute.specs.Format.{◌>>=◌, times}
 abbrev pub with_front : {A : Type 0} → List A → Result (List A × List ℕ) Fault → Result (List A × List ℕ) Fault
 with_front front r = r >>= λ x. Ok (front ++ x.0, x.1)
 
-regroup : {A : Type 0} (front : List A) (n : A) (r : Result (List A × List ℕ) Fault) → with_front front (r >>= λ others. Ok (n ∷ others.0, others.1)) ≡ with_front (front ++ n ∷ []) r
+regroup : {A : Type 0} (front : List A) (n : A) (r : Result (List A × List ℕ) Fault)
+    → with_front front (r >>= λ others. Ok (n ∷ others.0, others.1)) ≡ with_front (front ++ n ∷ []) r
 regroup {A} front n (Ok x) = ap (λ (ns : List A). Ok (ns, x.1)) (simp append_assoc)
 regroup front n (Err f) = refl
 
-module _ {A : Type 0} (r : List ℕ → Result (A × List ℕ) Fault) (front : List A) (count i : ℕ) (bytes : List ℕ) (total : Result (List A × List ℕ) Fault) where
+module _ {A : Type 0} (r : List ℕ → Result (A × List ℕ) Fault) (front : List A) (count i : ℕ) (bytes : List ℕ)
+    (total : Result (List A × List ℕ) Fault) where
   pub goes_on : (n : A) (after : List ℕ) → i < count → r bytes ≡ Ok (n, after)
-      → with_front front (times r (count - i) bytes) ≡ total → with_front (front ++ n ∷ []) (times r (count - (i + 1)) after) ≡ total
+      → with_front front (times r (count - i) bytes) ≡ total
+      → with_front (front ++ n ∷ []) (times r (count - (i + 1)) after) ≡ total
   unfolding times
   goes_on n after lt h so_far =
       let k : count - i ≡ suc (count - (i + 1)) = omega arith in
-      let one : with_front front (times r (count - i) bytes) ≡ with_front (front ++ n ∷ []) (times r (count - (i + 1)) after) = rw (k, h) (regroup front n (times r (count - (i + 1)) after)) in
+      let one : with_front front (times r (count - i) bytes) ≡ with_front (front ++ n ∷ [])
+      (times r (count - (i + 1)) after) = rw (k, h) (regroup front n (times r (count - (i + 1)) after)) in
       sym one ∙ so_far
 
-  pub stops : (e : Fault) → i < count → r bytes ≡ Err e → with_front front (times r (count - i) bytes) ≡ total → total ≡ Err e
+  pub stops : (e : Fault) → i < count → r bytes ≡ Err e → with_front front (times r (count - i) bytes) ≡ total
+      → total ≡ Err e
   unfolding times
   stops e lt h so_far =
       let k : count - i ≡ suc (count - (i + 1)) = omega arith in
@@ -34,9 +39,13 @@ module _ {A : Type 0} (r : List ℕ → Result (A × List ℕ) Fault) (front : L
   unfolding times
   is_done le so_far =
       let k : count - i ≡ 0 = omega arith in
-      let one : with_front front (times r (count - i) bytes) ≡ Ok (front, bytes) = rw k (ap (λ (ns : List A). Ok (ns, bytes)) (append-nil front)) in
+      let one : with_front front (times r (count - i) bytes) ≡ Ok (
+        front,
+        bytes,
+      ) = rw k (ap (λ (ns : List A). Ok (ns, bytes)) (append-nil front)) in
       sym so_far ∙ one
 
-  pub ends : (e : ReadError) → i < count → Failed e (r bytes) → with_front front (times r (count - i) bytes) ≡ total → Failed e total
+  pub ends : (e : ReadError) → i < count → Failed e (r bytes) → with_front front (times r (count - i) bytes) ≡ total
+      → Failed e total
   ends errors.NoMemory lt h so_far = tt
   ends (errors.Fault e) lt h so_far = stops e lt h so_far

@@ -22,9 +22,11 @@ use Rattle.jute.proofs.Steps.{IsBytes-drop, IsBytes-take, same_length, guard_ok,
 
 record IsWide (w : Width) : Type 0 where
   len : (n : ℕ) → length (big_bytes (byte_len w) n) ≡ byte_len w
-  back : (bytes : List ℕ) → length bytes ≡ byte_len w → IsBytes bytes → big_bytes (byte_len w) (big_number (byte_len w) bytes) ≡ bytes
+  back : (bytes : List ℕ) → length bytes ≡ byte_len w → IsBytes bytes
+      → big_bytes (byte_len w) (big_number (byte_len w) bytes) ≡ bytes
   below : (bytes : List ℕ) → IsBytes bytes → big_number (byte_len w) bytes < 2 ^ bits w
-  front : (bytes : List ℕ) → byte_len w ≤ length bytes → big_number (byte_len w) (take (byte_len w) bytes) ≡ big_number (byte_len w) bytes
+  front : (bytes : List ℕ) → byte_len w ≤ length bytes → big_number (byte_len w) (take (byte_len w) bytes) ≡ big_number
+      (byte_len w) bytes
   again : (n : ℕ) (rest : List ℕ) → n < 2 ^ bits w → big_number (byte_len w) (big_bytes (byte_len w) n ++ rest) ≡ n
   unsigned : (z : ℤ) → FitsSigned w z → cast_unsigned w z < 2 ^ bits w
 
@@ -55,9 +57,11 @@ number_lawful_at w wide = record {
       let n = big_number (byte_len w) bytes in
       let g = guard_ok (ltb (length bytes) (byte_len w)) Short (cast_signed w n, drop (byte_len w) bytes) (v, rest) e in
       let long : byte_len w ≤ length bytes = ltb-false _ _ g.0 in
-      let below : n < 2 ^ bits w = rw (← wide.front bytes long) (wide.below (take (byte_len w) bytes) (IsBytes-take (byte_len w) bytes fits)) in
+      let below : n < 2 ^ bits w =
+      rw (← wide.front bytes long) (wide.below (take (byte_len w) bytes) (IsBytes-take (byte_len w) bytes fits)) in
       let spelled : take (byte_len w) bytes ≡ number_bytes w (cast_signed w n) =
-      sym (wide.back (take (byte_len w) bytes) (omega (arith, length-take (byte_len w) bytes)) (IsBytes-take (byte_len w) bytes fits))
+      sym (wide.back (take (byte_len w) bytes) (omega (arith, length-take (byte_len w) bytes))
+      (IsBytes-take (byte_len w) bytes fits))
       ∙ ap (big_bytes (byte_len w)) (wide.front bytes long ∙ sym (of_z-to_z w n below)) in
       let whole : Takes (number w) bytes (cast_signed w n) (drop (byte_len w) bytes) = record {
         text = take (byte_len w) bytes;
@@ -69,8 +73,14 @@ number_lawful_at w wide = record {
   again = λ z text rest s.
       let text-is : text ++ rest ≡ number_bytes w z ++ rest = ap (λ (t : List ℕ). t ++ rest) s.1 in
       let len = wide.len (cast_unsigned w z) in
-      let long : ltb (length (number_bytes w z ++ rest)) (byte_len w) ≡ false = le-ltb _ _ (omega (arith, length-append (number_bytes w z) rest)) in
-      ap (number w).read text-is ∙ rw (long, wide.again (cast_unsigned w z) rest (wide.unsigned z s.0), to_z-of_z w z s.0, drop_at (number_bytes w z) rest (byte_len w) len) refl;
+      let long : ltb (length (number_bytes w z ++ rest)) (byte_len w) ≡ false =
+      le-ltb _ _ (omega (arith, length-append (number_bytes w z) rest)) in
+      ap (number w).read text-is ∙ rw (
+        long,
+        wide.again (cast_unsigned w z) rest (wide.unsigned z s.0),
+        to_z-of_z w z s.0,
+        drop_at (number_bytes w z) rest (byte_len w) len,
+      ) refl;
   writes = λ z h. (h, refl);
 }
 
@@ -86,7 +96,10 @@ number_pieced w = record {
 number_named : (w : Width) → Named (number w)
 number_named w = record {
   names = λ bytes e fits h.
-      let g = guard_err (ltb (length bytes) (byte_len w)) Short e (cast_signed w (big_number (byte_len w) bytes), drop (byte_len w) bytes) h in
+      let g = guard_err (ltb (length bytes) (byte_len w)) Short e (
+        cast_signed w (big_number (byte_len w) bytes),
+        drop (byte_len w) bytes,
+      ) h in
       (sym g.1, ltb-true _ _ g.0);
   answers = λ bytes e h. rw (lt-ltb _ _ h.1) (ap (λ d. Err d) (sym h.0));
 }
@@ -113,10 +126,21 @@ long_sound = number_sound w64 wide64 (omega arith)
 IsBytes-rest : (b : ℕ) (bytes : List ℕ) → IsBytes (b ∷ bytes) → IsBytes bytes
 IsBytes-rest b bytes h i = h (suc i)
 
-boolean_takes : (bytes : List ℕ) (v : Bool) (rest : List ℕ) → IsBytes bytes → boolean_at bytes ≡ Ok (v, rest) → Takes boolean bytes v rest
+boolean_takes : (bytes : List ℕ) (v : Bool) (rest : List ℕ) → IsBytes bytes → boolean_at bytes ≡ Ok (v, rest)
+    → Takes boolean bytes v rest
 boolean_takes [] v rest fits e = absurd cc
 boolean_takes (b ∷ bytes) v rest fits e =
-    let whole : Takes boolean (b ∷ bytes) (not (eqb b 0)) bytes = record { text = b ∷ []; parts = refl; spells = (b, fits 0, refl, refl); rest_fits = IsBytes-rest b bytes fits } in
+    let whole : Takes boolean (b ∷ bytes) (not (eqb b 0)) bytes = record {
+      text = b ∷ [];
+      parts = refl;
+      spells = (
+        b,
+        fits 0,
+        refl,
+        refl,
+      );
+      rest_fits = IsBytes-rest b bytes fits;
+    } in
     subst (λ (y : Bool × List ℕ). Takes boolean (b ∷ bytes) y.0 y.1) (ok_is (not (eqb b 0), bytes) (v, rest) e) whole
 
 boolean_writes : (v : Bool) → boolean.Spells v (boolean.written v)
@@ -148,7 +172,11 @@ boolean_sound = record {
   };
   pieced = record { stands = boolean_stands; leaves = boolean_leaves };
   some = record { eats = boolean_some };
-  named = record { names = λ bytes e fits h. boolean_refused bytes e h; answers = λ bytes e h. ap boolean_at h.1 ∙ ap (λ d. Err d) (sym h.0) };
+  named = record {
+    names = λ bytes e fits h. boolean_refused bytes e h;
+    answers = λ bytes e h. ap boolean_at h.1
+        ∙ ap (λ d. Err d) (sym h.0);
+  };
   shortest = λ v text s. omega (arith, ap length s.2);
   limited = λ v text s. tt;
   writable = λ v h. tt;

@@ -35,7 +35,8 @@ same_length x y e = omega (arith, ap length e)
 -- ---- what a step answered
 
 -- the value of a step that did not fail
-pub bind_ok : {A B F : Type 0} (r : Result A F) (f : A → Result B F) (y : B) → (r >>= f) ≡ Ok y → (x : A) × (r ≡ Ok x) × (f x ≡ Ok y)
+pub bind_ok : {A B F : Type 0} (r : Result A F) (f : A → Result B F) (y : B) → (r >>= f) ≡ Ok y
+    → (x : A) × (r ≡ Ok x) × (f x ≡ Ok y)
 bind_ok (Ok x) f y e = (x, refl, e)
 bind_ok (Err d) f y e = absurd cc
 
@@ -64,7 +65,8 @@ pub guard_refused : {A F : Type 0} (b : Bool) (d e : F) (x : A) → cond b (Ok x
 guard_refused true d e x h = absurd cc
 guard_refused false d e x h = (refl, cc)
 
-pub bind_err : {A B F : Type 0} (r : Result A F) (f : A → Result B F) (e : F) → (r >>= f) ≡ Err e → (r ≡ Err e) ⊎ ((x : A) × (r ≡ Ok x) × (f x ≡ Err e))
+pub bind_err : {A B F : Type 0} (r : Result A F) (f : A → Result B F) (e : F) → (r >>= f) ≡ Err e
+    → (r ≡ Err e) ⊎ ((x : A) × (r ≡ Ok x) × (f x ≡ Err e))
 bind_err (Ok x) f e h = inr (x, refl, h)
 bind_err (Err d) f e h = let same : d ≡ e = cc in inl (ap (λ d. Err d) same)
 
@@ -72,19 +74,23 @@ pub not_refused : {A : Type 0} (x : A) (e : Fault) → done x ≡ Err e → ⊥
 not_refused x e h = absurd cc
 
 -- behind a value that is spelled
-pub behind_read : {A : Type 0} (f : Format A) → Lawful f → (S : A → List ℕ → Type 0) (bytes : List ℕ) (b : Behind f S bytes) → f.read bytes ≡ Ok (b.0, b.2)
+pub behind_read : {A : Type 0} (f : Format A) → Lawful f
+    → (S : A → List ℕ → Type 0) (bytes : List ℕ) (b : Behind f S bytes) → f.read bytes ≡ Ok (b.0, b.2)
 behind_read f lf S bytes b = ap f.read b.3 ∙ lf.again b.0 b.1 b.2 b.4
 
 -- ---- more bytes
 
-pub then_stands : {A B : Type 0} (r after : Result (A × List ℕ) Fault) (more : List ℕ) (f : A × List ℕ → Result (B × List ℕ) Fault)
-    → Stands r more after → ((a : A) (rest : List ℕ) → Stands (f (a, rest)) more (f (a, rest ++ more))) → Stands (r >>= f) more (after >>= f)
+pub then_stands : {A B : Type 0} (r after : Result (A × List ℕ) Fault) (more : List ℕ) (f : A × List ℕ
+    → Result (B × List ℕ) Fault)
+    → Stands r more after → ((a : A) (rest : List ℕ) → Stands (f (a, rest)) more (f (a, rest ++ more)))
+    → Stands (r >>= f) more (after >>= f)
 then_stands (Ok x) after more f h k = rw h (k x.0 x.1)
 then_stands (Err e) after more f (inl s) k = inl s
 then_stands (Err e) after more f (inr s) k = inr (rw s refl)
 
 -- a step that reads nothing
-pub plain_stands : {B C : Type 0} (q : Result B Fault) (to : B → C) (rest more : List ℕ) → Stands (q >>= λ k. Ok (to k, rest)) more (q >>= λ k. Ok (to k, rest ++ more))
+pub plain_stands : {B C : Type 0} (q : Result B Fault) (to : B → C) (rest more : List ℕ)
+    → Stands (q >>= λ k. Ok (to k, rest)) more (q >>= λ k. Ok (to k, rest ++ more))
 plain_stands (Ok k) to rest more = refl
 plain_stands (Err e) to rest more = inr refl
 
@@ -93,7 +99,8 @@ pub then_leaves : {A B : Type 0} (r : Result (A × List ℕ) Fault) (n : ℕ) (f
 then_leaves (Ok x) n f h k = k x.0 x.1 h
 then_leaves (Err e) n f h k = tt
 
-pub plain_leaves : {B C : Type 0} (q : Result B Fault) (to : B → C) (rest : List ℕ) (n : ℕ) → length rest ≤ n → Leaves (q >>= λ k. Ok (to k, rest)) n
+pub plain_leaves : {B C : Type 0} (q : Result B Fault) (to : B → C) (rest : List ℕ) (n : ℕ) → length rest ≤ n
+    → Leaves (q >>= λ k. Ok (to k, rest)) n
 plain_leaves (Ok k) to rest n h = h
 plain_leaves (Err e) to rest n h = tt
 
@@ -102,8 +109,10 @@ within (Ok x) m n le h = omega (arith, h, le)
 within (Err e) m n le h = tt
 
 -- so many bytes, or too few of them
-pub cut_stands : {B : Type 0} (n : ℕ) (value : List ℕ → B) (bytes more : List ℕ) → (n ≤ length bytes → value (bytes ++ more) ≡ value bytes)
-    → Stands (cond (ltb (length bytes) n) (Err Short) (Ok (value bytes, drop n bytes))) more (cond (ltb (length (bytes ++ more)) n) (Err Short) (Ok (value (bytes ++ more), drop n (bytes ++ more))))
+pub cut_stands : {B : Type 0} (n : ℕ) (value : List ℕ → B) (bytes more : List ℕ)
+    → (n ≤ length bytes → value (bytes ++ more) ≡ value bytes)
+    → Stands (cond (ltb (length bytes) n) (Err Short) (Ok (value bytes, drop n bytes))) more
+    (cond (ltb (length (bytes ++ more)) n) (Err Short) (Ok (value (bytes ++ more), drop n (bytes ++ more))))
 cut_stands n value bytes more same =
     elim (cases_lt (length bytes) n) [
       | inl lt ↦ rw (lt-ltb _ _ lt) (inl refl)
@@ -112,14 +121,16 @@ cut_stands n value bytes more same =
           rw (le-ltb _ _ le, longer, same le, drop-append-le n bytes more le) refl
     ]
 
-pub cut_leaves : {B : Type 0} (n : ℕ) (value : B) (bytes : List ℕ) → Leaves (cond (ltb (length bytes) n) (Err Short) (Ok (value, drop n bytes))) (length bytes)
+pub cut_leaves : {B : Type 0} (n : ℕ) (value : B) (bytes : List ℕ)
+    → Leaves (cond (ltb (length bytes) n) (Err Short) (Ok (value, drop n bytes))) (length bytes)
 cut_leaves n value bytes =
     elim (cases_lt (length bytes) n) [
       | inl lt ↦ rw (lt-ltb _ _ lt) tt
       | inr le ↦ rw (le-ltb _ _ le) (omega (arith, length-drop n bytes))
     ]
 
-pub cut_eats : {B : Type 0} (n : ℕ) (value : B) (bytes : List ℕ) → 0 < n → Eats (cond (ltb (length bytes) n) (Err Short) (Ok (value, drop n bytes))) (length bytes)
+pub cut_eats : {B : Type 0} (n : ℕ) (value : B) (bytes : List ℕ) → 0 < n
+    → Eats (cond (ltb (length bytes) n) (Err Short) (Ok (value, drop n bytes))) (length bytes)
 cut_eats n value bytes some =
     elim (cases_lt (length bytes) n) [
       | inl lt ↦ rw (lt-ltb _ _ lt) tt

@@ -33,7 +33,8 @@ empty_at_end = record {
 
 pub refusal_sound : {A : Type 0} (d : Fault) → Sound (refusal {A = A} d)
 refusal_sound {A} d = record {
-  lawful = record { takes = λ bytes v rest fits e. absurd cc; again = λ v text rest s. absurd s; writes = λ v h. absurd h };
+  lawful =
+      record { takes = λ bytes v rest fits e. absurd cc; again = λ v text rest s. absurd s; writes = λ v h. absurd h };
   pieced = record { stands = λ bytes more. inr refl; leaves = λ bytes. tt };
   some = record { eats = λ bytes. tt };
   named = record { names = λ bytes e fits h. cc; answers = λ bytes e s. ap (λ x. Err x) (sym s) };
@@ -44,7 +45,8 @@ refusal_sound {A} d = record {
 
 -- ---- sums
 
-module _ {K B : Type 0} (tag : Format K) (tag_of : B → K) (f : K → Format B) (tells : (k : K) (v : B) (text : List ℕ) → (f k).Spells v text → tag_of v ≡ k) (tags : Sound tag) where
+module _ {K B : Type 0} (tag : Format K) (tag_of : B → K) (f : K → Format B) (tells : (k : K) (v : B) (text : List ℕ)
+    → (f k).Spells v text → tag_of v ≡ k) (tags : Sound tag) where
   tagged_takes : ((k : K) → TakesSpellings (f k)) → TakesSpellings (tagged tag tag_of f)
   unfolding tagged_at
   tagged_takes tf bytes v rest fits e =
@@ -55,7 +57,13 @@ module _ {K B : Type 0} (tag : Format K) (tag_of : B → K) (f : K → Format B)
       record {
         text = t0.text ++ t1.text;
         parts = t0.parts ∙ ap (λ (t : List ℕ). t0.text ++ t) t1.parts ∙ sym (append_assoc t0.text t1.text rest);
-        spells = (t0.text, t1.text, refl, subst (λ (k : K). tag.Spells k t0.text) same t0.spells, subst (λ (k : K). (f k).Spells v t1.text) same t1.spells);
+        spells = (
+          t0.text,
+          t1.text,
+          refl,
+          subst (λ (k : K). tag.Spells k t0.text) same t0.spells,
+          subst (λ (k : K). (f k).Spells v t1.text) same t1.spells,
+        );
         rest_fits = t1.rest_fits;
       }
 
@@ -67,7 +75,14 @@ module _ {K B : Type 0} (tag : Format K) (tag_of : B → K) (f : K → Format B)
           | inl first ↦ inl (tags.named.names bytes e fits first)
           | inr later ↦
               let t = tags.lawful.takes bytes later.0.0 later.0.1 fits later.1 in
-              inr (later.0.0, t.text, later.0.1, t.parts, t.spells, (nf later.0.0).names later.0.1 e t.rest_fits later.2)
+              inr (
+                later.0.0,
+                t.text,
+                later.0.1,
+                t.parts,
+                t.spells,
+                (nf later.0.0).names later.0.1 e t.rest_fits later.2,
+              )
         ];
     answers = λ bytes e s. elim s [
       | inl first ↦ rw (tags.named.answers bytes e first) refl
@@ -75,47 +90,78 @@ module _ {K B : Type 0} (tag : Format K) (tag_of : B → K) (f : K → Format B)
     ];
   }
 
-  tagged_again : ((k : K) → Sound (f k)) → (v : B) (text rest : List ℕ) → (tagged tag tag_of f).Spells v text → tagged_at tag.read (λ k. (f k).read) (text ++ rest) ≡ Ok (v, rest)
+  tagged_again : ((k : K) → Sound (f k)) → (v : B) (text rest : List ℕ) → (tagged tag tag_of f).Spells v text
+      → tagged_at tag.read (λ k. (f k).read) (text ++ rest) ≡ Ok (v, rest)
   unfolding tagged_at
   tagged_again sf v text rest s =
-      let regrouped : text ++ rest ≡ s.0 ++ (s.1 ++ rest) = ap (λ (t : List ℕ). t ++ rest) s.2 ∙ append_assoc s.0 s.1 rest in
-      rw (ap tag.read regrouped ∙ tags.lawful.again (tag_of v) s.0 (s.1 ++ rest) s.3) ((sf (tag_of v)).lawful.again v s.1 rest s.4)
+      let regrouped : text ++ rest ≡ s.0 ++ (s.1 ++ rest) = ap (λ (t : List ℕ). t ++ rest) s.2
+      ∙ append_assoc s.0 s.1 rest in
+      rw (ap tag.read regrouped ∙ tags.lawful.again (tag_of v) s.0 (s.1 ++ rest) s.3)
+      ((sf (tag_of v)).lawful.again v s.1 rest s.4)
 
   tagged_pieced : ((k : K) → Sound (f k)) → Pieced (tagged tag tag_of f)
   unfolding tagged_at
   tagged_pieced sf = record {
-    stands = λ bytes more. then_stands (tag.read bytes) (tag.read (bytes ++ more)) more (λ (k : K × List ℕ). (f k.0).read k.1) (tags.pieced.stands bytes more) (λ k rest. (sf k).pieced.stands rest more);
-    leaves = λ bytes. then_leaves (tag.read bytes) (length bytes) (λ (k : K × List ℕ). (f k.0).read k.1) (tags.pieced.leaves bytes) (λ k rest le. within ((f k).read rest) (length rest) (length bytes) le ((sf k).pieced.leaves rest));
+    stands = λ bytes more. then_stands (tag.read bytes) (tag.read (bytes ++ more)) more
+        (λ (k : K × List ℕ). (f k.0).read k.1) (tags.pieced.stands bytes more)
+        (λ k rest. (sf k).pieced.stands rest more);
+    leaves = λ bytes. then_leaves (tag.read bytes) (length bytes) (λ (k : K × List ℕ). (f k.0).read k.1)
+        (tags.pieced.leaves bytes) (λ k rest le. within ((f k).read rest) (length rest) (length bytes) le
+        ((sf k).pieced.leaves rest));
   }
 
   tagged_eats : ((k : K) → Sound (f k)) → TakesSome (tagged tag tag_of f)
   unfolding tagged_at
-  tagged_eats sf = record { eats = λ bytes. then_eats (tag.read bytes) (length bytes) (λ (k : K × List ℕ). (f k.0).read k.1) (tags.some.eats bytes) (λ k rest. (sf k).pieced.leaves rest) }
+  tagged_eats sf = record {
+    eats = λ bytes. then_eats (tag.read bytes) (length bytes)
+        (λ (k : K × List ℕ). (f k.0).read k.1) (tags.some.eats bytes) (λ k rest. (sf k).pieced.leaves rest);
+  }
 
   pub tagged_sound : ((k : K) → Sound (f k)) → Sound (tagged tag tag_of f)
   tagged_sound sf = record {
     lawful = record {
       takes = tagged_takes (λ k. (sf k).lawful.takes);
       again = tagged_again sf;
-      writes = λ v h. (tag.written (tag_of v), (f (tag_of v)).written v, refl, tags.lawful.writes (tag_of v) h.0, (sf (tag_of v)).lawful.writes v h.1);
+      writes = λ v h. (
+        tag.written (tag_of v),
+        (f (tag_of v)).written v,
+        refl,
+        tags.lawful.writes (tag_of v) h.0,
+        (sf (tag_of v)).lawful.writes v h.1,
+      );
     };
     pieced = tagged_pieced sf;
     some = tagged_eats sf;
     named = tagged_named (λ k. (sf k).named);
-    shortest = λ v text s. omega (arith, tags.shortest (tag_of v) s.0 s.3, (sf (tag_of v)).shortest v s.1 s.4, ap length s.2, length-append s.0 s.1, length-append (tag.written (tag_of v)) ((f (tag_of v)).written v));
+    shortest = λ v text s. omega (
+      arith,
+      tags.shortest (tag_of v) s.0 s.3,
+      (sf (tag_of v)).shortest v s.1 s.4,
+      ap length s.2,
+      length-append s.0 s.1,
+      length-append (tag.written (tag_of v)) ((f (tag_of v)).written v),
+    );
     limited = λ v text s. (tags.limited (tag_of v) s.0 s.3, (sf (tag_of v)).limited v s.1 s.4);
     writable = λ v h. (tags.writable (tag_of v) h.0, (sf (tag_of v)).writable v h.1);
   }
 
-  end_again : ((k : K) → SoundAtEnd (f k)) → (v : B) (text : List ℕ) → (tagged tag tag_of f).Spells v text → tagged_at tag.read (λ k. (f k).read) text ≡ Ok (v, [])
+  end_again : ((k : K) → SoundAtEnd (f k)) → (v : B) (text : List ℕ) → (tagged tag tag_of f).Spells v text
+      → tagged_at tag.read (λ k. (f k).read) text ≡ Ok (v, [])
   unfolding tagged_at
-  end_again sf v text s = rw (ap tag.read s.2 ∙ tags.lawful.again (tag_of v) s.0 s.1 s.3) ((sf (tag_of v)).again v s.1 s.4)
+  end_again sf v text s =
+      rw (ap tag.read s.2 ∙ tags.lawful.again (tag_of v) s.0 s.1 s.3) ((sf (tag_of v)).again v s.1 s.4)
 
   pub tagged_at_end : ((k : K) → SoundAtEnd (f k)) → SoundAtEnd (tagged tag tag_of f)
   tagged_at_end sf = record {
     takes = tagged_takes (λ k. (sf k).takes);
     again = end_again sf;
-    writes = λ v h. (tag.written (tag_of v), (f (tag_of v)).written v, refl, tags.lawful.writes (tag_of v) h.0, (sf (tag_of v)).writes v h.1);
+    writes = λ v h. (
+      tag.written (tag_of v),
+      (f (tag_of v)).written v,
+      refl,
+      tags.lawful.writes (tag_of v) h.0,
+      (sf (tag_of v)).writes v h.1,
+    );
     named = tagged_named (λ k. (sf k).named);
     limited = λ v text s. (tags.limited (tag_of v) s.0 s.3, (sf (tag_of v)).limited v s.1 s.4);
     writable = λ v h. (tags.writable (tag_of v) h.0, (sf (tag_of v)).writable v h.1);
@@ -123,7 +169,8 @@ module _ {K B : Type 0} (tag : Format K) (tag_of : B → K) (f : K → Format B)
 
 -- ---- all of a text
 
-pub whole_found : {A : Type 0} (f : Format A) → TakesSpellings f → (x : List ℕ) (v : A) → IsBytes x → whole f.read x ≡ Ok v → f.Spells v x
+pub whole_found : {A : Type 0} (f : Format A) → TakesSpellings f → (x : List ℕ) (v : A) → IsBytes x
+    → whole f.read x ≡ Ok v → f.Spells v x
 unfolding whole
 whole_found {A} f tf x v fits e =
     let a = bind_ok (f.read x) (λ (y : A × List ℕ). cond (eqb (length y.1) 0) (Ok y.0) (Err TrailingBytes)) v e in
@@ -141,11 +188,13 @@ left_over : (rest : List ℕ) → eqb (length rest) 0 ≡ false → rest ≢ []
 left_over [] h e = absurd cc
 left_over (b ∷ rest) h e = absurd cc
 
-over_is_left : {A : Type 0} (v : A) (rest : List ℕ) → rest ≢ [] → (let r : Result A Fault = cond (eqb (length rest) 0) (Ok v) (Err TrailingBytes) in r ≡ Err TrailingBytes)
+over_is_left : {A : Type 0} (v : A) (rest : List ℕ) → rest ≢ []
+    → (let r : Result A Fault = cond (eqb (length rest) 0) (Ok v) (Err TrailingBytes) in r ≡ Err TrailingBytes)
 over_is_left v [] h = absurd (h refl)
 over_is_left v (b ∷ rest) h = rw (ne_eqb (length (b ∷ rest)) 0 (λ e. h (nil_from_length (b ∷ rest) e))) refl
 
-pub whole_refused : {A : Type 0} (f : Format A) → Sound f → (x : List ℕ) (e : Fault) → IsBytes x → whole f.read x ≡ Err e → AgainstWhole f e x
+pub whole_refused : {A : Type 0} (f : Format A) → Sound f → (x : List ℕ) (e : Fault) → IsBytes x
+    → whole f.read x ≡ Err e → AgainstWhole f e x
 unfolding whole
 whole_refused {A} f s x e fits h =
     elim (bind_err (f.read x) (λ (y : A × List ℕ). cond (eqb (length y.1) 0) (Ok y.0) (Err TrailingBytes)) e h) [
@@ -156,11 +205,15 @@ whole_refused {A} f s x e fits h =
           inr (sym g.1, (later.0.0, t.text, later.0.1, t.parts, t.spells, left_over later.0.1 g.0))
     ]
 
-pub whole_refuses : {A : Type 0} (f : Format A) → Sound f → (x : List ℕ) (e : Fault) → AgainstWhole f e x → whole f.read x ≡ Err e
+pub whole_refuses : {A : Type 0} (f : Format A) → Sound f → (x : List ℕ) (e : Fault) → AgainstWhole f e x
+    → whole f.read x ≡ Err e
 unfolding whole
 whole_refuses f s x e h = elim h [
   | inl first ↦ rw (s.named.answers x e first) refl
-  | inr b ↦ rw (behind_read f s.lawful (λ v rest. rest ≢ []) x b.1, over_is_left b.1.0 b.1.2 b.1.5) (ap (λ d. Err d) (sym b.0))
+  | inr b ↦ rw (
+    behind_read f s.lawful (λ v rest. rest ≢ []) x b.1,
+    over_is_left b.1.0 b.1.2 b.1.5,
+  ) (ap (λ d. Err d) (sym b.0))
 ]
 
 -- ---- parts
@@ -173,7 +226,8 @@ module _ {A : Type 0} (f : Format A) (s : Sound f) where
   abbrev never_back : A → Option (Option (List ℕ))
   never_back v = None
 
-  held_spelled : (b : Option (List ℕ)) (text : List ℕ) (v : A) → IsBytes text → buffer.Spells b text → held_value f.read b ≡ Ok v → (x : List ℕ) × f.Spells v x × buffer.Spells (Some x) text
+  held_spelled : (b : Option (List ℕ)) (text : List ℕ) (v : A) → IsBytes text → buffer.Spells b text
+      → held_value f.read b ≡ Ok v → (x : List ℕ) × f.Spells v x × buffer.Spells (Some x) text
   held_spelled None text v fits h e = absurd cc
   held_spelled (Some x) text v fits h e =
       let bytes : IsBytes x = IsBytes-back (number_bytes w32 (pos (length x))) x (subst IsBytes h.1 fits) in
@@ -182,16 +236,25 @@ module _ {A : Type 0} (f : Format A) (s : Sound f) where
   held_takes : TakesSpellings (held f)
   held_takes bytes v rest fits e =
       let t = judged_takes (held_value f.read) never_back buffer buffer_sound.lawful.takes bytes v rest fits e in
-      record { text = t.text; parts = t.parts; spells = held_spelled t.spells.0 t.text v (IsBytes-front t.text rest (subst IsBytes t.parts fits)) t.spells.2 t.spells.1; rest_fits = t.rest_fits }
+      record {
+        text = t.text;
+        parts = t.parts;
+        spells = held_spelled t.spells.0 t.text v
+            (IsBytes-front t.text rest (subst IsBytes t.parts fits)) t.spells.2 t.spells.1;
+        rest_fits = t.rest_fits;
+      }
 
   held_again : (v : A) (text rest : List ℕ) → (held f).Spells v text → (held f).read (text ++ rest) ≡ Ok (v, rest)
   held_again v text rest h =
       let all : f.read h.0 ≡ Ok (v, []) = ap f.read (sym (append-nil h.0)) ∙ s.lawful.again v h.0 [] h.1 in
-      judged_reads (held_value f.read) buffer (Some h.0) v (text ++ rest) rest (buffer_sound.lawful.again (Some h.0) text rest h.2) (whole_again f h.0 v all)
+      judged_reads (held_value f.read) buffer (Some h.0) v (text ++ rest) rest
+      (buffer_sound.lawful.again (Some h.0) text rest h.2) (whole_again f h.0 v all)
 
-  held_refused : (b : Option (List ℕ)) (text : List ℕ) (e : Fault) → IsBytes text → buffer.Spells b text → held_value f.read b ≡ Err e → AgainstHeld f e b
+  held_refused : (b : Option (List ℕ)) (text : List ℕ) (e : Fault) → IsBytes text → buffer.Spells b text
+      → held_value f.read b ≡ Err e → AgainstHeld f e b
   held_refused None text e fits h k = cc
-  held_refused (Some x) text e fits h k = whole_refused f s x e (IsBytes-back (number_bytes w32 (pos (length x))) x (subst IsBytes h.1 fits)) k
+  held_refused (Some x) text e fits h k =
+      whole_refused f s x e (IsBytes-back (number_bytes w32 (pos (length x))) x (subst IsBytes h.1 fits)) k
 
   held_refuses : (b : Option (List ℕ)) (e : Fault) → AgainstHeld f e b → held_value f.read b ≡ Err e
   held_refuses None e h = ap (λ d. Err d) (sym h)
@@ -199,17 +262,23 @@ module _ {A : Type 0} (f : Format A) (s : Sound f) where
 
   held_named : Named (held f)
   held_named = record {
-    names = λ bytes e fits h. elim ((judged_named (held_value f.read) never_back buffer buffer_sound.lawful buffer_sound.named).names bytes e fits h) [
-      | inl first ↦ inl first
-      | inr b ↦ inr (b.0, b.1, b.2, b.3, b.4, held_refused b.0 b.1 e (IsBytes-front b.1 b.2 (subst IsBytes b.3 fits)) b.4 b.5)
-    ];
+    names =
+        λ bytes e fits h. elim ((judged_named (held_value f.read) never_back buffer buffer_sound.lawful
+        buffer_sound.named).names bytes e fits h) [
+          | inl first ↦ inl first
+          | inr b ↦
+              inr (b.0, b.1, b.2, b.3, b.4, held_refused b.0 b.1 e (IsBytes-front b.1 b.2 (subst IsBytes b.3 fits)) b.4 b.5)
+        ];
     answers = λ bytes e h. elim h [
-      | inl first ↦ (judged_named (held_value f.read) never_back buffer buffer_sound.lawful buffer_sound.named).answers bytes e (inl first)
-      | inr b ↦ (judged_named (held_value f.read) never_back buffer buffer_sound.lawful buffer_sound.named).answers bytes e (inr (b.0, b.1, b.2, b.3, b.4, held_refuses b.0 e b.5))
+      | inl first ↦ (judged_named (held_value f.read) never_back buffer buffer_sound.lawful buffer_sound.named).answers
+          bytes e (inl first)
+      | inr b ↦ (judged_named (held_value f.read) never_back buffer buffer_sound.lawful buffer_sound.named).answers
+          bytes e (inr (b.0, b.1, b.2, b.3, b.4, held_refuses b.0 e b.5))
     ];
   }
 
-  held_short : (v : A) (text : List ℕ) (x : List ℕ) → f.Spells v x → buffer.Spells (Some x) text → length (f.written v) ≤ buffer_limit
+  held_short : (v : A) (text : List ℕ) (x : List ℕ) → f.Spells v x → buffer.Spells (Some x) text
+      → length (f.written v) ≤ buffer_limit
   held_short v text x h k = let le : length x ≤ buffer_limit = k.0 in omega (arith, s.shortest v x h)
 
   pub held_sound : Sound (held f)
@@ -219,10 +288,19 @@ module _ {A : Type 0} (f : Format A) (s : Sound f) where
       again = held_again;
       writes = λ v h. (f.written v, s.lawful.writes v h.0, (h.1, refl));
     };
-    pieced = let p = judged_pieced (held_value f.read) never_back buffer buffer_sound.pieced in record { stands = p.stands; leaves = p.leaves };
+    pieced = let p = judged_pieced (held_value f.read) never_back buffer buffer_sound.pieced in record
+        { stands = p.stands; leaves = p.leaves };
     some = let p = judged_eats (held_value f.read) never_back buffer buffer_sound.some in record { eats = p.eats };
     named = held_named;
-    shortest = λ v text h. omega (arith, s.shortest v h.0 h.1, ap length h.2.1, length-append (number_bytes w32 (pos (length h.0))) h.0, length-append (number_bytes w32 (pos (length (f.written v)))) (f.written v), number_long (pos (length h.0)), number_long (pos (length (f.written v))));
+    shortest = λ v text h. omega (
+      arith,
+      s.shortest v h.0 h.1,
+      ap length h.2.1,
+      length-append (number_bytes w32 (pos (length h.0))) h.0,
+      length-append (number_bytes w32 (pos (length (f.written v)))) (f.written v),
+      number_long (pos (length h.0)),
+      number_long (pos (length (f.written v))),
+    );
     limited = λ v text h. (s.limited v h.0 h.1, held_short v text h.0 h.1 h.2);
     writable = λ v h. (s.writable v h.0, (let le : length (f.written v) ≤ buffer_limit = h.1 in omega arith));
   }

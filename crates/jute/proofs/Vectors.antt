@@ -17,7 +17,8 @@ use Rattle.jute.proofs.Buffers.{count_sound, SpellsCount, count_spelled, count_s
 counts : Sound (count count_limit)
 counts = count_sound count_limit
 
-count_again : (k : Option ℕ) (text rest : List ℕ) → SpellsCount count_limit k text → (count count_limit).read (text ++ rest) ≡ Ok (k, rest)
+count_again : (k : Option ℕ) (text rest : List ℕ) → SpellsCount count_limit k text
+    → (count count_limit).read (text ++ rest) ≡ Ok (k, rest)
 count_again k text rest s = counts.lawful.again k text rest (count_spells count_limit (omega arith) k text s)
 
 null_length : length (counted 0 []) ≤ length null
@@ -34,13 +35,18 @@ module _ {A : Type 0} (f : Format A) (sound : Sound f) where
     rest_fits : IsBytes rest
     count : length vs ≡ n
 
-  times_take : (n : ℕ) (bytes : List ℕ) (vs : List A) (rest : List ℕ) → IsBytes bytes → times f.read n bytes ≡ Ok (vs, rest) → TakesEach n bytes vs rest
+  times_take : (n : ℕ) (bytes : List ℕ) (vs : List A) (rest : List ℕ) → IsBytes bytes → times f.read n bytes ≡ Ok (
+    vs,
+    rest,
+  ) → TakesEach n bytes vs rest
   unfolding times
   times_take zero bytes vs rest fits e =
-      let whole : TakesEach 0 bytes [] bytes = record { text = []; parts = refl; spells = refl; rest_fits = fits; count = refl } in
+      let whole : TakesEach 0 bytes [] bytes =
+      record { text = []; parts = refl; spells = refl; rest_fits = fits; count = refl } in
       subst (λ (y : List A × List ℕ). TakesEach 0 bytes y.0 y.1) (ok_is ([], bytes) (vs, rest) e) whole
   times_take (suc n) bytes vs rest fits e =
-      let a = bind_ok (f.read bytes) (λ (v : A × List ℕ). times f.read n v.1 >>= λ (vs : List A × List ℕ). Ok (v.0 ∷ vs.0, vs.1)) (vs, rest) e in
+      let a = bind_ok (f.read bytes) (λ (v : A × List ℕ). times f.read n v.1 >>= λ (vs : List A × List ℕ). Ok
+      (v.0 ∷ vs.0, vs.1)) (vs, rest) e in
       let b = bind_ok (times f.read n a.0.1) (λ (vs : List A × List ℕ). Ok (a.0.0 ∷ vs.0, vs.1)) (vs, rest) a.2 in
       let t0 = sound.lawful.takes bytes a.0.0 a.0.1 fits a.1 in
       let t1 = times_take n a.0.1 b.0.0 b.0.1 t0.rest_fits b.1 in
@@ -51,23 +57,41 @@ module _ {A : Type 0} (f : Format A) (sound : Sound f) where
         rest_fits = t1.rest_fits;
         count = ap suc t1.count;
       } in
-      subst (λ (y : List A × List ℕ). TakesEach (suc n) bytes y.0 y.1) (ok_is (a.0.0 ∷ b.0.0, b.0.1) (vs, rest) b.2) whole
+      subst (λ (y : List A × List ℕ). TakesEach (suc n) bytes y.0 y.1) (ok_is (a.0.0 ∷ b.0.0, b.0.1) (
+        vs,
+        rest,
+      ) b.2) whole
 
-  times_again : (vs : List A) (text rest : List ℕ) → SpellsEach f.Spells vs text → times f.read (length vs) (text ++ rest) ≡ Ok (vs, rest)
+  times_again : (vs : List A) (text rest : List ℕ) → SpellsEach f.Spells vs text
+      → times f.read (length vs) (text ++ rest) ≡ Ok (vs, rest)
   unfolding times
   times_again [] text rest s = ap (λ (t : List ℕ). times f.read 0 (t ++ rest)) s
   times_again (v ∷ vs) text rest s =
-      let regrouped : text ++ rest ≡ s.0 ++ (s.1 ++ rest) = ap (λ (t : List ℕ). t ++ rest) s.2 ∙ append_assoc s.0 s.1 rest in
-      ap (times f.read (suc (length vs))) regrouped ∙ rw (sound.lawful.again v s.0 (s.1 ++ rest) s.3, times_again vs s.1 rest s.4) refl
+      let regrouped : text ++ rest ≡ s.0 ++ (s.1 ++ rest) = ap (λ (t : List ℕ). t ++ rest) s.2
+      ∙ append_assoc s.0 s.1 rest in
+      ap (times f.read (suc (length vs))) regrouped ∙ rw (
+        sound.lawful.again v s.0 (s.1 ++ rest) s.3,
+        times_again vs s.1 rest s.4,
+      ) refl
 
   each_writes : (vs : List A) → AllByRecursion f.Fits vs → SpellsEach f.Spells vs (flat_map f.written vs)
   each_writes [] h = refl
-  each_writes (v ∷ vs) h = (f.written v, flat_map f.written vs, flat_map-cons f.written v vs, sound.lawful.writes v h.0, each_writes vs h.1)
+  each_writes (v ∷ vs) h = (
+    f.written v,
+    flat_map f.written vs,
+    flat_map-cons f.written v vs,
+    sound.lawful.writes v h.0,
+    each_writes vs h.1,
+  )
 
-  items_take : (k : Option ℕ) (bytes : List ℕ) (v : Option (List A)) (rest front : List ℕ) → IsBytes bytes → SpellsCount count_limit k front → items_at f.read k bytes ≡ Ok (v, rest) → Takes (vector f) (front ++ bytes) v rest
+  items_take : (k : Option ℕ) (bytes : List ℕ) (v : Option (List A)) (rest front : List ℕ) → IsBytes bytes
+      → SpellsCount count_limit k front → items_at f.read k bytes ≡ Ok (v, rest)
+      → Takes (vector f) (front ++ bytes) v rest
   items_take None bytes v rest front fits s e =
-      let whole : Takes (vector f) (front ++ bytes) None bytes = record { text = front; parts = refl; spells = s; rest_fits = fits } in
-      subst (λ (y : Option (List A) × List ℕ). Takes (vector f) (front ++ bytes) y.0 y.1) (ok_is (None, bytes) (v, rest) e) whole
+      let whole : Takes (vector f) (front ++ bytes) None bytes =
+      record { text = front; parts = refl; spells = s; rest_fits = fits } in
+      subst (λ (y : Option (List A) × List ℕ). Takes (vector f) (front ++ bytes) y.0 y.1)
+      (ok_is (None, bytes) (v, rest) e) whole
   items_take (Some n) bytes v rest front fits s e =
       let a = bind_ok (times f.read n bytes) (λ (vs : List A × List ℕ). Ok (Some vs.0, vs.1)) (v, rest) e in
       let t = times_take n bytes a.0.0 a.0.1 fits a.1 in
@@ -77,21 +101,33 @@ module _ {A : Type 0} (f : Format A) (sound : Sound f) where
         spells = (rw t.count s.0, t.text, rw (t.count, s.1) refl, t.spells);
         rest_fits = t.rest_fits;
       } in
-      subst (λ (y : Option (List A) × List ℕ). Takes (vector f) (front ++ bytes) y.0 y.1) (ok_is (Some a.0.0, a.0.1) (v, rest) a.2) whole
+      subst (λ (y : Option (List A) × List ℕ). Takes (vector f) (front ++ bytes) y.0 y.1) (ok_is (Some a.0.0, a.0.1) (
+        v,
+        rest,
+      ) a.2) whole
 
-  vector_takes : (bytes : List ℕ) (v : Option (List A)) (rest : List ℕ) → IsBytes bytes → vector_at f.read bytes ≡ Ok (v, rest) → Takes (vector f) bytes v rest
+  vector_takes : (bytes : List ℕ) (v : Option (List A)) (rest : List ℕ) → IsBytes bytes
+      → vector_at f.read bytes ≡ Ok (v, rest) → Takes (vector f) bytes v rest
   unfolding vector_at
   vector_takes bytes v rest fits e =
-      let a = bind_ok ((count count_limit).read bytes) (λ (n : Option ℕ × List ℕ). items_at f.read n.0 n.1) (v, rest) e in
+      let a =
+      bind_ok ((count count_limit).read bytes) (λ (n : Option ℕ × List ℕ). items_at f.read n.0 n.1) (v, rest) e in
       let t = counts.lawful.takes bytes a.0.0 a.0.1 fits a.1 in
-      subst (λ (b : List ℕ). Takes (vector f) b v rest) (sym t.parts) (items_take a.0.0 a.0.1 v rest t.text t.rest_fits (count_spelled count_limit a.0.0 t.text t.spells) a.2)
+      subst (λ (b : List ℕ). Takes (vector f) b v rest) (sym t.parts)
+      (items_take a.0.0 a.0.1 v rest t.text t.rest_fits (count_spelled count_limit a.0.0 t.text t.spells) a.2)
 
-  vector_again : (v : Option (List A)) (text rest : List ℕ) → SpellsVector f.Spells v text → vector_at f.read (text ++ rest) ≡ Ok (v, rest)
+  vector_again : (v : Option (List A)) (text rest : List ℕ) → SpellsVector f.Spells v text
+      → vector_at f.read (text ++ rest) ≡ Ok (v, rest)
   unfolding vector_at
   vector_again None text rest s = rw (count_again None text rest s) refl
   vector_again (Some vs) text rest s =
-      let regrouped : text ++ rest ≡ number_bytes w32 (pos (length vs)) ++ (s.1 ++ rest) = ap (λ (t : List ℕ). t ++ rest) s.2 ∙ append_assoc (number_bytes w32 (pos (length vs))) s.1 rest in
-      ap (vector_at f.read) regrouped ∙ rw (count_again (Some (length vs)) (number_bytes w32 (pos (length vs))) (s.1 ++ rest) (s.0, refl), times_again vs s.1 rest s.3) refl
+      let regrouped : text ++ rest ≡ number_bytes w32 (pos (length vs)) ++ (s.1 ++ rest) =
+      ap (λ (t : List ℕ). t ++ rest) s.2 ∙ append_assoc (number_bytes w32 (pos (length vs))) s.1 rest in
+      ap (vector_at f.read) regrouped
+      ∙ rw (
+        count_again (Some (length vs)) (number_bytes w32 (pos (length vs))) (s.1 ++ rest) (s.0, refl),
+        times_again vs s.1 rest s.3,
+      ) refl
 
   vector_writes : (v : Option (List A)) → FitsVector f.Fits v → SpellsVector f.Spells v (vector_bytes f.written v)
   vector_writes None h = refl
@@ -103,56 +139,79 @@ module _ {A : Type 0} (f : Format A) (sound : Sound f) where
   unfolding times
   times_stands zero bytes more = refl
   times_stands (suc n) bytes more =
-      then_stands (f.read bytes) (f.read (bytes ++ more)) more (λ (v : A × List ℕ). times f.read n v.1 >>= λ (vs : List A × List ℕ). Ok (v.0 ∷ vs.0, vs.1)) (sound.pieced.stands bytes more)
-      (λ v rest. then_stands (times f.read n rest) (times f.read n (rest ++ more)) more (λ (vs : List A × List ℕ). Ok (v ∷ vs.0, vs.1)) (times_stands n rest more) (λ vs last. refl))
+      then_stands (f.read bytes) (f.read (bytes ++ more)) more
+      (λ (v : A × List ℕ). times f.read n v.1 >>= λ (vs : List A × List ℕ). Ok (v.0 ∷ vs.0, vs.1))
+      (sound.pieced.stands bytes more)
+      (λ v rest. then_stands (times f.read n rest) (times f.read n (rest ++ more)) more
+      (λ (vs : List A × List ℕ). Ok (v ∷ vs.0, vs.1)) (times_stands n rest more) (λ vs last. refl))
 
   times_leaves : (n : ℕ) (bytes : List ℕ) → Leaves (times f.read n bytes) (length bytes)
   unfolding times
   times_leaves zero bytes = omega arith
   times_leaves (suc n) bytes =
-      then_leaves (f.read bytes) (length bytes) (λ (v : A × List ℕ). times f.read n v.1 >>= λ (vs : List A × List ℕ). Ok (v.0 ∷ vs.0, vs.1)) (sound.pieced.leaves bytes)
-      (λ v rest le. then_leaves (times f.read n rest) (length bytes) (λ (vs : List A × List ℕ). Ok (v ∷ vs.0, vs.1)) (within (times f.read n rest) (length rest) (length bytes) le (times_leaves n rest)) (λ vs last lt. lt))
+      then_leaves (f.read bytes) (length bytes) (λ (v : A × List ℕ). times f.read n v.1 >>= λ (vs : List A × List ℕ). Ok
+      (v.0 ∷ vs.0, vs.1)) (sound.pieced.leaves bytes)
+      (λ v rest le. then_leaves (times f.read n rest) (length bytes) (λ (vs : List A × List ℕ). Ok (v ∷ vs.0, vs.1))
+      (within (times f.read n rest) (length rest) (length bytes) le (times_leaves n rest)) (λ vs last lt. lt))
 
-  items_stands : (k : Option ℕ) (bytes more : List ℕ) → Stands (items_at f.read k bytes) more (items_at f.read k (bytes ++ more))
+  items_stands : (k : Option ℕ) (bytes more : List ℕ)
+      → Stands (items_at f.read k bytes) more (items_at f.read k (bytes ++ more))
   items_stands None bytes more = refl
-  items_stands (Some n) bytes more = then_stands (times f.read n bytes) (times f.read n (bytes ++ more)) more (λ (vs : List A × List ℕ). Ok (Some vs.0, vs.1)) (times_stands n bytes more) (λ vs rest. refl)
+  items_stands (Some n) bytes more = then_stands (times f.read n bytes) (times f.read n (bytes ++ more)) more
+      (λ (vs : List A × List ℕ). Ok (Some vs.0, vs.1)) (times_stands n bytes more) (λ vs rest. refl)
 
   items_leaves : (k : Option ℕ) (bytes : List ℕ) → Leaves (items_at f.read k bytes) (length bytes)
   items_leaves None bytes = omega arith
-  items_leaves (Some n) bytes = then_leaves (times f.read n bytes) (length bytes) (λ (vs : List A × List ℕ). Ok (Some vs.0, vs.1)) (times_leaves n bytes) (λ vs rest le. le)
+  items_leaves (Some n) bytes = then_leaves (times f.read n bytes) (length bytes)
+      (λ (vs : List A × List ℕ). Ok (Some vs.0, vs.1)) (times_leaves n bytes) (λ vs rest le. le)
 
   vector_stands : (bytes more : List ℕ) → Stands (vector_at f.read bytes) more (vector_at f.read (bytes ++ more))
   unfolding vector_at
-  vector_stands bytes more = then_stands ((count count_limit).read bytes) ((count count_limit).read (bytes ++ more)) more (λ (n : Option ℕ × List ℕ). items_at f.read n.0 n.1) (counts.pieced.stands bytes more) (λ k rest. items_stands k rest more)
+  vector_stands bytes more = then_stands ((count count_limit).read bytes) ((count count_limit).read (bytes ++ more))
+      more (λ (n : Option ℕ × List ℕ). items_at f.read n.0 n.1) (counts.pieced.stands bytes more)
+      (λ k rest. items_stands k rest more)
 
   vector_leaves : (bytes : List ℕ) → Leaves (vector_at f.read bytes) (length bytes)
   unfolding vector_at
-  vector_leaves bytes = then_leaves ((count count_limit).read bytes) (length bytes) (λ (n : Option ℕ × List ℕ). items_at f.read n.0 n.1) (counts.pieced.leaves bytes) (λ k rest le. within (items_at f.read k rest) (length rest) (length bytes) le (items_leaves k rest))
+  vector_leaves bytes = then_leaves ((count count_limit).read bytes) (length bytes)
+      (λ (n : Option ℕ × List ℕ). items_at f.read n.0 n.1) (counts.pieced.leaves bytes)
+      (λ k rest le. within (items_at f.read k rest) (length rest) (length bytes) le (items_leaves k rest))
 
   vector_some : (bytes : List ℕ) → Eats (vector_at f.read bytes) (length bytes)
   unfolding vector_at
-  vector_some bytes = then_eats ((count count_limit).read bytes) (length bytes) (λ (n : Option ℕ × List ℕ). items_at f.read n.0 n.1) (counts.some.eats bytes) items_leaves
+  vector_some bytes = then_eats ((count count_limit).read bytes) (length bytes)
+      (λ (n : Option ℕ × List ℕ). items_at f.read n.0 n.1) (counts.some.eats bytes) items_leaves
 
   -- ---- refusals
 
-  item_refused : (n : ℕ) (bytes : List ℕ) (e : Fault) → IsBytes bytes → times f.read n bytes ≡ Err e → ItemRefused f e (Some n) bytes
+  item_refused : (n : ℕ) (bytes : List ℕ) (e : Fault) → IsBytes bytes → times f.read n bytes ≡ Err e
+      → ItemRefused f e (Some n) bytes
   unfolding times
   item_refused zero bytes e fits h = absurd (not_refused ([], bytes) e h)
   item_refused (suc n) bytes e fits h =
-      elim (bind_err (f.read bytes) (λ (v : A × List ℕ). times f.read n v.1 >>= λ (vs : List A × List ℕ). Ok (v.0 ∷ vs.0, vs.1)) e h) [
+      elim (bind_err (f.read bytes) (λ (v : A × List ℕ). times f.read n v.1 >>= λ (vs : List A × List ℕ). Ok
+      (v.0 ∷ vs.0, vs.1)) e h) [
         | inl first ↦ ([], [], bytes, refl, refl, omega arith, sound.named.names bytes e fits first)
         | inr later ↦
             let t = sound.lawful.takes bytes later.0.0 later.0.1 fits later.1 in
             elim (bind_err (times f.read n later.0.1) (λ (vs : List A × List ℕ). Ok (later.0.0 ∷ vs.0, vs.1)) e later.2) [
               | inl second ↦
                   let i = item_refused n later.0.1 e t.rest_fits second in
-                  let fewer : length i.0 < n = i.5 in
-                  (later.0.0 ∷ i.0, t.text ++ i.1, i.2, t.parts ∙ ap (λ (x : List ℕ). t.text ++ x) i.3 ∙ sym (append_assoc t.text i.1 i.2), (t.text, i.1, refl, t.spells, i.4), omega (arith, fewer), i.6)
+                  let fewer : length i.0 < n = i.5 in (
+                    later.0.0 ∷ i.0,
+                    t.text ++ i.1,
+                    i.2,
+                    t.parts ∙ ap (λ (x : List ℕ). t.text ++ x) i.3 ∙ sym (append_assoc t.text i.1 i.2),
+                    (t.text, i.1, refl, t.spells, i.4),
+                    omega (arith, fewer),
+                    i.6,
+                  )
               | inr never ↦ absurd (not_refused (later.0.0 ∷ never.0.0, never.0.1) e never.2)
             ]
       ]
 
-  items_refused : (k : Option ℕ) (rest : List ℕ) (e : Fault) → IsBytes rest → items_at f.read k rest ≡ Err e → ItemRefused f e k rest
+  items_refused : (k : Option ℕ) (rest : List ℕ) (e : Fault) → IsBytes rest → items_at f.read k rest ≡ Err e
+      → ItemRefused f e k rest
   items_refused None rest e fits h = absurd (not_refused (None, rest) e h)
   items_refused (Some n) rest e fits h =
       elim (bind_err (times f.read n rest) (λ (vs : List A × List ℕ). Ok (Some vs.0, vs.1)) e h) [
@@ -160,13 +219,18 @@ module _ {A : Type 0} (f : Format A) (sound : Sound f) where
         | inr never ↦ absurd (not_refused (Some never.0.0, never.0.1) e never.2)
       ]
 
-  times_refuse : (n : ℕ) (vs : List A) (x y : List ℕ) (e : Fault) → SpellsEach f.Spells vs x → length vs < n → f.against e y → times f.read n (x ++ y) ≡ Err e
+  times_refuse : (n : ℕ) (vs : List A) (x y : List ℕ) (e : Fault) → SpellsEach f.Spells vs x → length vs < n
+      → f.against e y → times f.read n (x ++ y) ≡ Err e
   unfolding times
   times_refuse zero vs x y e s lt g = absurd (omega (arith, lt))
-  times_refuse (suc n) [] x y e s lt g = ap (λ (t : List ℕ). times f.read (suc n) (t ++ y)) s ∙ rw (sound.named.answers y e g) refl
+  times_refuse (suc n) [] x y e s lt g = ap (λ (t : List ℕ). times f.read (suc n) (t ++ y)) s
+      ∙ rw (sound.named.answers y e g) refl
   times_refuse (suc n) (v ∷ vs) x y e s lt g =
       let regrouped : x ++ y ≡ s.0 ++ (s.1 ++ y) = ap (λ (t : List ℕ). t ++ y) s.2 ∙ append_assoc s.0 s.1 y in
-      ap (times f.read (suc n)) regrouped ∙ rw (sound.lawful.again v s.0 (s.1 ++ y) s.3, times_refuse n vs s.1 y e s.4 (omega (arith, lt)) g) refl
+      ap (times f.read (suc n)) regrouped ∙ rw (
+        sound.lawful.again v s.0 (s.1 ++ y) s.3,
+        times_refuse n vs s.1 y e s.4 (omega (arith, lt)) g,
+      ) refl
 
   items_refuse : (k : Option ℕ) (rest : List ℕ) (e : Fault) → ItemRefused f e k rest → items_at f.read k rest ≡ Err e
   items_refuse None rest e i = absurd i
@@ -180,11 +244,19 @@ module _ {A : Type 0} (f : Format A) (sound : Sound f) where
           | inl first ↦ inl (counts.named.names bytes e fits first)
           | inr later ↦
               let t = counts.lawful.takes bytes later.0.0 later.0.1 fits later.1 in
-              inr (later.0.0, t.text, later.0.1, t.parts, t.spells, items_refused later.0.0 later.0.1 e t.rest_fits later.2)
+              inr (
+                later.0.0,
+                t.text,
+                later.0.1,
+                t.parts,
+                t.spells,
+                items_refused later.0.0 later.0.1 e t.rest_fits later.2,
+              )
         ];
     answers = λ bytes e s. elim s [
       | inl first ↦ rw (counts.named.answers bytes e first) refl
-      | inr b ↦ rw (behind_read (count count_limit) counts.lawful (ItemRefused f e) bytes b) (items_refuse b.0 b.2 e b.5)
+      | inr b ↦
+          rw (behind_read (count count_limit) counts.lawful (ItemRefused f e) bytes b) (items_refuse b.0 b.2 e b.5)
     ];
   }
 
@@ -198,15 +270,30 @@ module _ {A : Type 0} (f : Format A) (sound : Sound f) where
   vector_fits None bytes s = tt
   vector_fits (Some vs) bytes s = (s.0, each_fits vs s.1 s.3)
 
-  each_shortest : (vs : List A) (bytes : List ℕ) → SpellsEach f.Spells vs bytes → length (flat_map f.written vs) ≤ length bytes
+  each_shortest : (vs : List A) (bytes : List ℕ) → SpellsEach f.Spells vs bytes
+      → length (flat_map f.written vs) ≤ length bytes
   each_shortest [] bytes s = omega arith
-  each_shortest (v ∷ vs) bytes s = omega (arith, sound.shortest v s.0 s.3, each_shortest vs s.1 s.4, ap length s.2, length-append s.0 s.1, length-append (f.written v) (flat_map f.written vs))
+  each_shortest (v ∷ vs) bytes s = omega (
+    arith,
+    sound.shortest v s.0 s.3,
+    each_shortest vs s.1 s.4,
+    ap length s.2,
+    length-append s.0 s.1,
+    length-append (f.written v) (flat_map f.written vs),
+  )
 
-  vector_shortest : (v : Option (List A)) (bytes : List ℕ) → SpellsVector f.Spells v bytes → length (vector_bytes f.written v) ≤ length bytes
+  vector_shortest : (v : Option (List A)) (bytes : List ℕ) → SpellsVector f.Spells v bytes
+      → length (vector_bytes f.written v) ≤ length bytes
   vector_shortest None bytes s = same_length bytes null s
   vector_shortest (Some vs) bytes s =
       let front = number_bytes w32 (pos (length vs)) in
-      omega (arith, each_shortest vs s.1 s.3, ap length s.2, length-append front s.1, length-append front (flat_map f.written vs))
+      omega (
+        arith,
+        each_shortest vs s.1 s.3,
+        ap length s.2,
+        length-append front s.1,
+        length-append front (flat_map f.written vs),
+      )
 
   each_writable : (vs : List A) → AllByRecursion f.Fits vs → AllByRecursion f.Writable vs
   each_writable [] h = tt

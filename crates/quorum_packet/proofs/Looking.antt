@@ -22,12 +22,15 @@ done_not : {A : Type 0} (x : A) (e : Fault) → done x ≡ Err e → ⊥
 done_not x e h = absurd cc
 
 -- a value that was read is read again, whatever comes behind
-stands_ok : {A : Type 0} (f : Format A) → Pieced f → (bytes rest more : List ℕ) (v : A) → f.read bytes ≡ Ok (v, rest) → f.read (bytes ++ more) ≡ Ok (v, rest ++ more)
-stands_ok {A} f p bytes rest more v h = subst (λ (r : Result (A × List ℕ) Fault). Stands r more (f.read (bytes ++ more))) h (p.stands bytes more)
+stands_ok : {A : Type 0} (f : Format A) → Pieced f → (bytes rest more : List ℕ) (v : A) → f.read bytes ≡ Ok (v, rest)
+    → f.read (bytes ++ more) ≡ Ok (v, rest ++ more)
+stands_ok {A} f p bytes rest more v h =
+    subst (λ (r : Result (A × List ℕ) Fault). Stands r more (f.read (bytes ++ more))) h (p.stands bytes more)
 
 -- ---- items, one behind another
 
-pub times_first : {A : Type 0} (f : Format A) (n : ℕ) (bytes : List ℕ) (e : Fault) → f.read bytes ≡ Err e → times f.read (suc n) bytes ≡ Err e
+pub times_first : {A : Type 0} (f : Format A) (n : ℕ) (bytes : List ℕ) (e : Fault) → f.read bytes ≡ Err e
+    → times f.read (suc n) bytes ≡ Err e
 unfolding times
 times_first f n bytes e h = rw h refl
 
@@ -48,11 +51,13 @@ module _ {A B : Type 0} (f : Format A) (to : A × A → B) (from : B → A × A)
   abbrev pairs : ℕ → List ℕ → Result (List B × List ℕ) Fault
   pairs n bytes = times (mapped to from (both f f)).read n bytes
 
-  second_refused : (n : ℕ) (bytes rest : List ℕ) (v : A) (e : Fault) → f.read bytes ≡ Ok (v, rest) → ((b : List ℕ) → halves (2 * n) b ≡ Err e → pairs n b ≡ Err e)
+  second_refused : (n : ℕ) (bytes rest : List ℕ) (v : A) (e : Fault) → f.read bytes ≡ Ok (v, rest)
+      → ((b : List ℕ) → halves (2 * n) b ≡ Err e → pairs n b ≡ Err e)
       → halves (suc (2 * n)) rest ≡ Err e → pairs (suc n) bytes ≡ Err e
   unfolding times
   second_refused n bytes rest v e h others k =
-      elim (bind_err (f.read rest) (λ (w : A × List ℕ). halves (2 * n) w.1 >>= λ (ws : List A × List ℕ). Ok (w.0 ∷ ws.0, ws.1)) e k) [
+      elim (bind_err (f.read rest) (λ (w : A × List ℕ). halves (2 * n) w.1 >>= λ (ws : List A × List ℕ). Ok
+      (w.0 ∷ ws.0, ws.1)) e k) [
         | inl refused ↦ rw (h, refused) refl
         | inr read ↦
             elim (bind_err (halves (2 * n) read.0.1) (λ (ws : List A × List ℕ). Ok (read.0.0 ∷ ws.0, ws.1)) e read.2) [
@@ -65,10 +70,14 @@ module _ {A B : Type 0} (f : Format A) (to : A × A → B) (from : B → A × A)
       → halves (suc (suc (2 * n))) bytes ≡ Err e → pairs (suc n) bytes ≡ Err e
   unfolding times
   first_refused n bytes e others h =
-      elim (bind_err (f.read bytes) (λ (v : A × List ℕ). halves (suc (2 * n)) v.1 >>= λ (vs : List A × List ℕ). Ok (v.0 ∷ vs.0, vs.1)) e h) [
+      elim (bind_err (f.read bytes) (λ (v : A × List ℕ). halves (suc (2 * n)) v.1 >>= λ (vs : List A × List ℕ). Ok
+      (v.0 ∷ vs.0, vs.1)) e h) [
         | inl refused ↦ rw refused refl
         | inr read ↦
-            elim (bind_err (halves (suc (2 * n)) read.0.1) (λ (vs : List A × List ℕ). Ok (read.0.0 ∷ vs.0, vs.1)) e read.2) [
+            elim (bind_err (halves (suc (2 * n)) read.0.1) (λ (vs : List A × List ℕ). Ok (
+              read.0.0 ∷ vs.0,
+              vs.1,
+            )) e read.2) [
               | inl refused ↦ second_refused n bytes read.0.1 read.0.0 e read.1 others refused
               | inr wrong ↦ absurd (done_not (read.0.0 ∷ wrong.0.0, wrong.0.1) e wrong.2)
             ]
@@ -81,23 +90,34 @@ module _ {A B : Type 0} (f : Format A) (to : A × A → B) (from : B → A × A)
       first_refused n bytes e (λ b. pairs_refused n b e) (rw twice at h)
 
 -- an id has two texts
-pub ids_refused : (n : ℕ) (bytes : List ℕ) (e : Fault) → times name.read (2 * n) bytes ≡ Err e → times id.read n bytes ≡ Err e
+pub ids_refused : (n : ℕ) (bytes : List ℕ) (e : Fault) → times name.read (2 * n) bytes ≡ Err e
+    → times id.read n bytes ≡ Err e
 unfolding id
-ids_refused n bytes e h = pairs_refused name (λ v. record { scheme = v.0; id = v.1 }) (λ r. (r.scheme, r.id)) n bytes e h
+ids_refused n bytes e h =
+    pairs_refused name (λ v. record { scheme = v.0; id = v.1 }) (λ r. (r.scheme, r.id)) n bytes e h
 
 -- ---- the packet's fields
 
 -- behind the count, a refusal of the ids is the packet's
-counted_refused : (ids : Option ℕ) (bytes : List ℕ) (e : Fault) → times name.read (2 * unwrap_or ids 0) bytes ≡ Err e → items_at id.read ids bytes ≡ Err e
+counted_refused : (ids : Option ℕ) (bytes : List ℕ) (e : Fault) → times name.read (2 * unwrap_or ids 0) bytes ≡ Err e
+    → items_at id.read ids bytes ≡ Err e
 counted_refused None bytes e h = absurd (no_times name bytes e h)
 counted_refused (Some n) bytes e h = rw (ids_refused n bytes e h) refl
 
-pub fields_refused : (bytes b1 b2 b3 b4 more : List ℕ) (kind zxid : ℤ) (carried : Option (List ℕ)) (ids : Option ℕ) (e : Fault)
-    → int.read bytes ≡ Ok (kind, b1) → long.read b1 ≡ Ok (zxid, b2) → buffer.read b2 ≡ Ok (carried, b3) → (count count_limit).read b3 ≡ Ok (ids, b4)
+pub fields_refused : (bytes b1 b2 b3 b4 more : List ℕ) (kind zxid : ℤ) (carried : Option (List ℕ))
+    (ids : Option ℕ) (e : Fault)
+    → int.read bytes ≡ Ok (kind, b1) → long.read b1 ≡ Ok (zxid, b2) → buffer.read b2 ≡ Ok (carried, b3)
+    → (count count_limit).read b3 ≡ Ok (ids, b4)
     → times name.read (2 * unwrap_or ids 0) (b4 ++ more) ≡ Err e → packet.read (bytes ++ more) ≡ Err e
 unfolding packet vector_at
 fields_refused bytes b1 b2 b3 b4 more kind zxid carried ids e h1 h2 h3 h4 k =
-    rw (stands_ok int int_sound.pieced bytes b1 more kind h1, stands_ok long long_sound.pieced b1 b2 more zxid h2, stands_ok buffer buffer_sound.pieced b2 b3 more carried h3, stands_ok (count count_limit) (count_sound count_limit).pieced b3 b4 more ids h4, counted_refused ids (b4 ++ more) e k) refl
+    rw (
+      stands_ok int int_sound.pieced bytes b1 more kind h1,
+      stands_ok long long_sound.pieced b1 b2 more zxid h2,
+      stands_ok buffer buffer_sound.pieced b2 b3 more carried h3,
+      stands_ok (count count_limit) (count_sound count_limit).pieced b3 b4 more ids h4,
+      counted_refused ids (b4 ++ more) e k,
+    ) refl
 
 -- ---- what wasn't looked at
 
@@ -105,7 +125,8 @@ fields_refused bytes b1 b2 b3 b4 more kind zxid carried ids e h1 h2 h3 h4 k =
 joined_fronts : (a x b y c : List ℕ) → a ≡ x ++ b → b ≡ y ++ c → a ≡ (x ++ y) ++ c
 joined_fronts a x b y c p q = p ∙ ap (λ (t : List ℕ). x ++ t) q ∙ sym (append_assoc x y c)
 
-drop_more : (bytes text rest more : List ℕ) → bytes ≡ text ++ rest → drop (length bytes - length rest) (bytes ++ more) ≡ rest ++ more
+drop_more : (bytes text rest more : List ℕ) → bytes ≡ text ++ rest
+    → drop (length bytes - length rest) (bytes ++ more) ≡ rest ++ more
 drop_more bytes text rest more e =
     let n : length bytes - length rest ≡ length text = omega (arith, ap length e, length-append text rest) in
     rw (n, e, append_assoc text rest more) (drop_at text (rest ++ more) (length text) refl)
@@ -123,7 +144,8 @@ abbrev texts_at : List ℕ → List ℕ → ℕ → Texts
 texts_at bytes rest count = record { start = length bytes - length rest; count = count }
 
 pub fields_unseen : (bytes b1 b2 b3 b4 : List ℕ) (kind zxid : ℤ) (carried : Option (List ℕ)) (ids : Option ℕ)
-    → IsBytes bytes → int.read bytes ≡ Ok (kind, b1) → long.read b1 ≡ Ok (zxid, b2) → buffer.read b2 ≡ Ok (carried, b3) → (count count_limit).read b3 ≡ Ok (ids, b4)
+    → IsBytes bytes → int.read bytes ≡ Ok (kind, b1) → long.read b1 ≡ Ok (zxid, b2) → buffer.read b2 ≡ Ok (carried, b3)
+    → (count count_limit).read b3 ≡ Ok (ids, b4)
     → (length b4 ≤ length bytes) × AreUnseen bytes (texts_at bytes b4 (2 * unwrap_or ids 0))
 fields_unseen bytes b1 b2 b3 b4 kind zxid carried ids fits h1 h2 h3 h4 =
     let t1 = int_sound.lawful.takes bytes kind b1 fits h1 in
@@ -137,16 +159,20 @@ fields_unseen bytes b1 b2 b3 b4 kind zxid carried ids fits h1 h2 h3 h4 =
       shorter bytes text b4 p4,
       record {
         within = omega arith;
-        refuses = λ more e k. fields_refused bytes b1 b2 b3 b4 more kind zxid carried ids e h1 h2 h3 h4 (rw (drop_more bytes text b4 more p4) at k);
+        refuses = λ more e k. fields_refused bytes b1 b2 b3 b4 more kind zxid carried ids e h1 h2 h3 h4
+            (rw (drop_more bytes text b4 more p4) at k);
       },
     )
 
 -- the texts of which the first stands at the front of the rest
-module _ (bytes ahead : List ℕ) (texts : Texts) (u : AreUnseen bytes texts) (some : 0 < texts.count) (is : ahead ≡ drop texts.start bytes) where
-  at_texts : (more : List ℕ) (e : Fault) → times name.read (suc (texts.count - 1)) (ahead ++ more) ≡ Err e → packet.read (bytes ++ more) ≡ Err e
+module _ (bytes ahead : List ℕ) (texts : Texts) (u : AreUnseen bytes texts) (some : 0 < texts.count)
+    (is : ahead ≡ drop texts.start bytes) where
+  at_texts : (more : List ℕ) (e : Fault) → times name.read (suc (texts.count - 1)) (ahead ++ more) ≡ Err e
+      → packet.read (bytes ++ more) ≡ Err e
   at_texts more e k =
       let count : suc (texts.count - 1) ≡ texts.count = omega (arith, some) in
-      let place : drop texts.start (bytes ++ more) ≡ ahead ++ more = drop-append-le texts.start bytes more u.within ∙ ap (λ (t : List ℕ). t ++ more) (sym is) in
+      let place : drop texts.start (bytes ++ more) ≡ ahead ++ more = drop-append-le texts.start bytes more u.within
+      ∙ ap (λ (t : List ℕ). t ++ more) (sym is) in
       u.refuses more e (rw place (subst (λ (n : ℕ). times name.read n (ahead ++ more) ≡ Err e) count k))
 
   pub text_refused : (e : Fault) → name.read ahead ≡ Err e → packet.read bytes ≡ Err e
@@ -155,16 +181,19 @@ module _ (bytes ahead : List ℕ) (texts : Texts) (u : AreUnseen bytes texts) (s
       subst (λ (t : List ℕ). packet.read t ≡ Err e) (append-nil bytes) k
 
   pub text_unseen : (rest v : List ℕ) → IsBytes bytes → name.read ahead ≡ Ok (v, rest)
-      → (length rest ≤ length bytes) × AreUnseen bytes (texts_at bytes rest (texts.count - 1)) × (rest ≡ drop (length bytes - length rest) bytes)
+      → (length rest ≤ length bytes) × AreUnseen bytes (texts_at bytes rest (texts.count - 1))
+      × (rest ≡ drop (length bytes - length rest) bytes)
   text_unseen rest v fits h =
       let t = name_sound.lawful.takes ahead v rest (subst IsBytes (sym is) (IsBytes-drop texts.start bytes fits)) h in
-      let front : bytes ≡ take texts.start bytes ++ ahead = sym (take-append-drop texts.start bytes) ∙ ap (λ (b : List ℕ). take texts.start bytes ++ b) (sym is) in
+      let front : bytes ≡ take texts.start bytes ++ ahead = sym (take-append-drop texts.start bytes)
+      ∙ ap (λ (b : List ℕ). take texts.start bytes ++ b) (sym is) in
       let whole = joined_fronts bytes (take texts.start bytes) ahead t.text rest front t.parts in
       let text = take texts.start bytes ++ t.text in (
         shorter bytes text rest whole,
         record {
           within = omega arith;
-          refuses = λ more e k. at_texts more e (times_next name name_sound.pieced (texts.count - 1) ahead rest more v e h (rw (drop_more bytes text rest more whole) at k));
+          refuses = λ more e k. at_texts more e (times_next name name_sound.pieced (texts.count - 1) ahead rest more v e
+              h (rw (drop_more bytes text rest more whole) at k));
         },
         sym (drop_front_of bytes text rest whole),
       )
@@ -173,7 +202,8 @@ module _ (bytes ahead : List ℕ) (texts : Texts) (u : AreUnseen bytes texts) (s
 texts_more : (bytes piece : List ℕ) (texts : Texts) → AreUnseen bytes texts → AreUnseen (bytes ++ piece) texts
 texts_more bytes piece texts h = record {
   within = omega (arith, h.within, length-append bytes piece);
-  refuses = λ more e k. rw (append_assoc bytes piece more) (h.refuses (piece ++ more) e (rw (append_assoc bytes piece more) at k));
+  refuses = λ more e k. rw (append_assoc bytes piece more)
+      (h.refuses (piece ++ more) e (rw (append_assoc bytes piece more) at k));
 }
 
 unseen_more : (bytes piece : List ℕ) (u : Option Unseen) → MayBeUnseen bytes u → MayBeUnseen (bytes ++ piece) u
@@ -182,7 +212,8 @@ unseen_more bytes piece (Some unseen.Fields) h = tt
 unseen_more bytes piece (Some (unseen.Texts texts)) h = texts_more bytes piece texts h
 
 -- the same where memory may have been refused for the piece
-pub unseen_after : {T E : Type 0} (r : Result T E) (old new piece : List ℕ) (u : Option Unseen) → OnOk r (new ≡ old ++ piece) → OnErr r (new ≡ old)
+pub unseen_after : {T E : Type 0} (r : Result T E) (old new piece : List ℕ) (u : Option Unseen)
+    → OnOk r (new ≡ old ++ piece) → OnErr r (new ≡ old)
     → MayBeUnseen old u → MayBeUnseen new u
 unseen_after (Ok x) old new piece u added same h = rw added (unseen_more old piece u h)
 unseen_after (Err e) old new piece u added same h = rw same h

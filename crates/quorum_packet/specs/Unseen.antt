@@ -1,7 +1,7 @@
 -- What of an unfinished packet wasn't looked at yet: all of it, or some texts of its authinfo, from a place on.
-use Rattle.std.specs.Prelude.{◌≡◌, ◌≤◌, ℕ, List, ◌++◌, length, drop, Option, Some, None, Err}
+use Rattle.std.specs.Prelude.{◌≡◌, ◌≤◌, ℕ, List, ◌++◌, length, drop, Option, Some, None, Err, ℤ}
 use Rattle.values.specs.declared.fault.Fault.{Fault}
-use Rattle.jute.specs.Format.{name, times}
+use Rattle.jute.specs.Format.{Format, int, long, buffer, name, count, count_limit, times, both}
 use Rattle.quorum_packet.specs.declared.unseen.Texts.{Texts}
 use Rattle.quorum_packet.specs.declared.unseen.Unseen.{Unseen}
 use Rattle.quorum_packet.specs.declared.unseen.Unseen.TheVariants as unseen
@@ -27,3 +27,12 @@ MayBeUnseen bytes (Some u) = IsUnseen bytes u
 abbrev pub AllSeen : Unseen → Type 0
 AllSeen unseen.Fields = ⊥
 AllSeen (unseen.Texts texts) = texts.count ≡ 0
+
+-- the fields before the texts: kind, zxid, bytes, and how many ids there are
+abbrev pub fields : Format (ℤ × (ℤ × (Option (List ℕ) × Option ℕ)))
+fields = both int (both long (both buffer (count count_limit)))
+
+-- Looking stopped for this fault where the first thing stands that wasn't looked at, so all that is whole was.
+abbrev pub StopsAt : List ℕ → Unseen → Fault → Type 0
+StopsAt bytes unseen.Fields e = fields.read bytes ≡ Err e
+StopsAt bytes (unseen.Texts texts) e = name.read (drop texts.start bytes) ≡ Err e

@@ -12,7 +12,7 @@ use crate::kind::PacketKind;
 use crate::packet::QuorumPacket;
 use crate::phase::Phase;
 use crate::skip::skip_packet;
-use crate::unseen::{Unseen, look};
+use crate::unseen::{Unseen, look_on};
 use jute::{ReadRecord, Reader};
 use std::alloc::Global;
 use std::marker::Model;
@@ -144,18 +144,6 @@ impl PacketFeed {
         }
     }
 
-    // Looks at what came of a packet that was met before. It answers the packet's refusal, if there is one.
-    fn look_on(&mut self) -> Result<(), Fault>
-        requires fine { is_err self.old.unread ≡ false }
-        ensures kept { self.new ≡ self.old }
-        ensures err { IfErr result (Refuses self.old) }
-    {
-        match &mut self.unseen {
-            None => Ok(()),
-            Some(unseen) => look(self.waiting.as_slice(), unseen),
-        }
-    }
-
     // The first packet, where packets stand next and no fault came.
     fn next_packet(&mut self, alloc: Global) -> Result<Option<QuorumPacket>, ReadError>
         requires packets { self.old.phase ≡ Packets }
@@ -163,7 +151,7 @@ impl PacketFeed {
         ensures first { First result self.old self.new }
         ensures writable { IfOk result (λ found. IfSome found packet_format.Writable) }
     {
-        if let Err(fault) = self.look_on() {
+        if let Err(fault) = look_on(self.waiting.as_slice(), &mut self.unseen) {
             return self.refuse(fault);
         }
         match read_front(alloc, self.waiting.as_slice()) {

@@ -24,41 +24,54 @@ abbrev pub onto : List ℕ → Option (List ℕ) → Option (List ℕ)
 onto front bytes = option_map (λ bs. front ++ bs) bytes
 
 -- a first digit waits
-pub bytes_behind_first : (high h : ℕ) (text : List ℕ) → digit_of high ≡ Some h → bytes_behind None (high ∷ text) ≡ bytes_behind (Some h) text
+pub bytes_behind_first : (high h : ℕ) (text : List ℕ) → digit_of high ≡ Some h
+    → bytes_behind None (high ∷ text) ≡ bytes_behind (Some h) text
 bytes_behind_first high h [] e = refl
-bytes_behind_first high h (low ∷ text) e = ap (λ d. d >>= (λ h. digit_of low >>= (λ l. bytes_of text >>= (λ bytes. Some ((h * 16 + l) ∷ bytes))))) e
+bytes_behind_first high h (low ∷ text) e =
+    ap (λ d. d >>= (λ h. digit_of low >>= (λ l. bytes_of text >>= (λ bytes. Some ((h * 16 + l) ∷ bytes))))) e
 
 -- a second one makes a byte
-pub bytes_behind_second : (front : List ℕ) (h low l : ℕ) (text : List ℕ) → digit_of low ≡ Some l → onto front (bytes_behind (Some h) (low ∷ text)) ≡ onto (front ++ (h * 16 + l) ∷ []) (bytes_behind None text)
+pub bytes_behind_second : (front : List ℕ) (h low l : ℕ) (text : List ℕ) → digit_of low ≡ Some l
+    → onto front (bytes_behind (Some h) (low ∷ text)) ≡ onto (front ++ (h * 16 + l) ∷ []) (bytes_behind None text)
 bytes_behind_second front h low l text e =
     ap (λ d. onto front (d >>= (λ l. bytes_of text >>= (λ bytes. Some ((h * 16 + l) ∷ bytes))))) e
-    ∙ elim (bytes_of text) as (λ bs. onto front (bs >>= (λ bytes. Some ((h * 16 + l) ∷ bytes))) ≡ onto (front ++ (h * 16 + l) ∷ []) bs) [
+    ∙ elim (bytes_of text) as (λ bs. onto front (bs >>= (λ bytes. Some ((h * 16 + l) ∷ bytes))) ≡ onto
+    (front ++ (h * 16 + l) ∷ []) bs) [
       | None ↦ refl
       | Some bs ↦ ap Some (sym (append_assoc front ((h * 16 + l) ∷ []) bs))
     ]
 
 -- nothing is spelled where one is no digit
-pub bytes_behind_none : (waiting : Option ℕ) (b : ℕ) (text : List ℕ) → digit_of b ≡ None → bytes_behind waiting (b ∷ text) ≡ None
+pub bytes_behind_none : (waiting : Option ℕ) (b : ℕ) (text : List ℕ) → digit_of b ≡ None
+    → bytes_behind waiting (b ∷ text) ≡ None
 bytes_behind_none None b [] e = refl
-bytes_behind_none None b (low ∷ text) e = ap (λ d. d >>= (λ h. digit_of low >>= (λ l. bytes_of text >>= (λ bytes. Some ((h * 16 + l) ∷ bytes))))) e
+bytes_behind_none None b (low ∷ text) e =
+    ap (λ d. d >>= (λ h. digit_of low >>= (λ l. bytes_of text >>= (λ bytes. Some ((h * 16 + l) ∷ bytes))))) e
 bytes_behind_none (Some h) b text e = ap (λ d. d >>= (λ l. bytes_of text >>= (λ bytes. Some ((h * 16 + l) ∷ bytes)))) e
 
 -- what is no blank stays
-pub without_blanks_kept : (text : List ℕ) (i : ℕ) → i < length text → get_or text i 0 ≢ 32 → without_blanks (drop i text) ≡ get_or text i 0 ∷ without_blanks (drop (i + 1) text)
+pub without_blanks_kept : (text : List ℕ) (i : ℕ) → i < length text → get_or text i 0 ≢ 32
+    → without_blanks (drop i text) ≡ get_or text i 0 ∷ without_blanks (drop (i + 1) text)
 without_blanks_kept text i h ne =
     let e : eqb (get_or text i 0) 32 ≡ false = grind (arith, nat_tests) in
     at_drop_more without_blanks text i 0 h
-    ∙ ap (λ blank. cond (not blank) (get_or text i 0 ∷ without_blanks (drop (i + 1) text)) (without_blanks (drop (i + 1) text))) e
+    ∙ ap (λ blank. cond (not blank) (get_or text i 0 ∷ without_blanks (drop (i + 1) text))
+    (without_blanks (drop (i + 1) text))) e
 
 -- a blank is passed over
-pub without_blanks_passed : (text : List ℕ) (i : ℕ) → i < length text → get_or text i 0 ≡ 32 → without_blanks (drop i text) ≡ without_blanks (drop (i + 1) text)
+pub without_blanks_passed : (text : List ℕ) (i : ℕ) → i < length text → get_or text i 0 ≡ 32
+    → without_blanks (drop i text) ≡ without_blanks (drop (i + 1) text)
 without_blanks_passed text i h eq =
     let e : eqb (get_or text i 0) 32 ≡ true = grind (arith, nat_tests) in
     at_drop_more without_blanks text i 0 h
-    ∙ ap (λ blank. cond (not blank) (get_or text i 0 ∷ without_blanks (drop (i + 1) text)) (without_blanks (drop (i + 1) text))) e
+    ∙ ap (λ blank. cond (not blank) (get_or text i 0 ∷ without_blanks (drop (i + 1) text))
+    (without_blanks (drop (i + 1) text))) e
 
 -- what is spelled behind `front` from place i on, where a first digit stands there
-pub first_read : (text front items : List ℕ) (i d : ℕ) (waits waits' : Option ℕ) (whole : Option (List ℕ)) → i < length text → get_or text i 0 ≢ 32 → digit_of (get_or text i 0) ≡ Some d → waits ≡ None → waits' ≡ Some d → items ≡ front → onto front (bytes_behind waits (without_blanks (drop i text))) ≡ whole → onto items (bytes_behind waits' (without_blanks (drop (i + 1) text))) ≡ whole
+pub first_read : (text front items : List ℕ) (i d : ℕ) (waits waits' : Option ℕ) (whole : Option (List ℕ))
+    → i < length text → get_or text i 0 ≢ 32 → digit_of (get_or text i 0) ≡ Some d → waits ≡ None → waits' ≡ Some d
+    → items ≡ front → onto front (bytes_behind waits (without_blanks (drop i text))) ≡ whole
+    → onto items (bytes_behind waits' (without_blanks (drop (i + 1) text))) ≡ whole
 first_read text front items i d waits waits' whole h ne digit none some same e =
     let rest = without_blanks (drop (i + 1) text) in
     ap (λ xs. onto xs (bytes_behind waits' rest)) same
@@ -69,7 +82,10 @@ first_read text front items i d waits waits' whole h ne digit none some same e =
     ∙ e
 
 -- and where a second one does
-pub second_read : (text front items : List ℕ) (i first d : ℕ) (waits waits' : Option ℕ) (whole : Option (List ℕ)) → i < length text → get_or text i 0 ≢ 32 → digit_of (get_or text i 0) ≡ Some d → waits ≡ Some first → waits' ≡ None → items ≡ front ++ (first * 16 + d) ∷ [] → onto front (bytes_behind waits (without_blanks (drop i text))) ≡ whole → onto items (bytes_behind waits' (without_blanks (drop (i + 1) text))) ≡ whole
+pub second_read : (text front items : List ℕ) (i first d : ℕ) (waits waits' : Option ℕ) (whole : Option (List ℕ))
+    → i < length text → get_or text i 0 ≢ 32 → digit_of (get_or text i 0) ≡ Some d → waits ≡ Some first → waits' ≡ None
+    → items ≡ front ++ (first * 16 + d) ∷ [] → onto front (bytes_behind waits (without_blanks (drop i text))) ≡ whole
+    → onto items (bytes_behind waits' (without_blanks (drop (i + 1) text))) ≡ whole
 second_read text front items i first d waits waits' whole h ne digit some none more e =
     let rest = without_blanks (drop (i + 1) text) in
     ap (λ xs. onto xs (bytes_behind waits' rest)) more
@@ -89,5 +105,6 @@ digits_so_far (Err d) old bytes new i err e = record {
   front = digits (take i bytes);
   rest = digits (drop i bytes);
   gained = e;
-  of = ap digits (sym (take-append-drop i bytes)) ∙ flat_map-append (λ b. digit (b / 16) ∷ digit (b % 16) ∷ []) (take i bytes) (drop i bytes);
+  of = ap digits (sym (take-append-drop i bytes)) ∙ flat_map-append (λ b. digit (b / 16) ∷ digit (b % 16) ∷ [])
+      (take i bytes) (drop i bytes);
 }

@@ -15,13 +15,15 @@ up_to-too_large limit n (b ∷ bs) h =
     ]
 
 -- so it is at the digit that makes it too large
-pub too_large_at : (limit n i : ℕ) (text : List ℕ) → i < length text → is_ascii_digit (get_or text i 0) ≡ true → limit < n * 10 + (get_or text i 0 - 48) → up_to limit (number_behind n (drop i text)) ≡ None
+pub too_large_at : (limit n i : ℕ) (text : List ℕ) → i < length text → is_ascii_digit (get_or text i 0) ≡ true
+    → limit < n * 10 + (get_or text i 0 - 48) → up_to limit (number_behind n (drop i text)) ≡ None
 too_large_at limit n i text h digit large =
     at_drop_more (λ t. up_to limit (number_behind n t)) text i 0 h
     ∙ ap (λ d. up_to limit (cond d (number_behind (n * 10 + (get_or text i 0 - 48)) (drop (i + 1) text)) None)) digit
     ∙ up_to-too_large limit (n * 10 + (get_or text i 0 - 48)) (drop (i + 1) text) large
 
 -- a text that is not empty spells what its digits spell
-pub none_spelled : (limit : ℕ) (text : List ℕ) → up_to limit (number_behind 0 text) ≡ None → number_up_to limit text ≡ None
+pub none_spelled : (limit : ℕ) (text : List ℕ) → up_to limit (number_behind 0 text) ≡ None
+    → number_up_to limit text ≡ None
 none_spelled limit [] h = refl
 none_spelled limit (b ∷ bs) h = h

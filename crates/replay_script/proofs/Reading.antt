@@ -21,7 +21,9 @@ abbrev pub lines_behind : Option (List ℕ) → List (List ℕ)
 lines_behind None = []
 lines_behind (Some text) = lines_of text
 
-cut_line : (text : List ℕ) (found : Bool) → nat_lt (position_or_len (λ b. b == 10) text) (length text) ≡ found → lines_of text ≡ before_first (λ b. b == 10) text ∷ lines_behind (option_map (λ i. drop (i + 1) text) (cond found (Some (position_or_len (λ b. b == 10) text)) None))
+cut_line : (text : List ℕ) (found : Bool) → nat_lt (position_or_len (λ b. b == 10) text) (length text) ≡ found
+    → lines_of text ≡ before_first (λ b. b == 10) text ∷ lines_behind
+    (option_map (λ i. drop (i + 1) text) (cond found (Some (position_or_len (λ b. b == 10) text)) None))
 cut_line text true e = slice_split_first (λ b. b == 10) text 0 (ltb-true _ _ e)
 cut_line text false e =
     let all : length text ≤ position_or_len (λ b. b == 10) text = ltb-false _ _ e in
@@ -33,7 +35,9 @@ pub lines_of_cut : (text : List ℕ) → lines_of text ≡ (cut_at 10 text).fron
 lines_of_cut text = cut_line text (nat_lt (position_or_len (λ b. b == 10) text) (length text)) refl
 
 -- what is read with the next line
-pub script_behind_cut : (count : ℕ) (kept : Kept) (text : List ℕ) → script_behind count kept (lines_of text) ≡ or_bad (count + 1) (with_text kept (cut_at 10 text).front) (λ more. script_behind (count + 1) more (lines_behind (cut_at 10 text).behind))
+pub script_behind_cut : (count : ℕ) (kept : Kept) (text : List ℕ)
+    → script_behind count kept (lines_of text) ≡ or_bad (count + 1) (with_text kept (cut_at 10 text).front)
+    (λ more. script_behind (count + 1) more (lines_behind (cut_at 10 text).behind))
 script_behind_cut count kept text = ap (script_behind count kept) (lines_of_cut text)
 
 -- what stands behind a cut is shorter
@@ -41,7 +45,9 @@ abbrev pub length_behind : Option (List ℕ) → ℕ
 length_behind None = 0
 length_behind (Some text) = length text + 1
 
-shorter : (text : List ℕ) (found : Bool) → nat_lt (position_or_len (λ b. b == 10) text) (length text) ≡ found → length_behind (option_map (λ i. drop (i + 1) text) (cond found (Some (position_or_len (λ b. b == 10) text)) None)) ≤ length text
+shorter : (text : List ℕ) (found : Bool) → nat_lt (position_or_len (λ b. b == 10) text) (length text) ≡ found
+    → length_behind (option_map (λ i. drop (i + 1) text)
+    (cond found (Some (position_or_len (λ b. b == 10) text)) None)) ≤ length text
 shorter text true e =
     let lt = ltb-true _ _ e in
     omega (arith, lt, length-drop (position_or_len (λ b. b == 10) text + 1) text)
@@ -51,14 +57,20 @@ pub length_behind_cut : (text : List ℕ) → length_behind (cut_at 10 text).beh
 length_behind_cut text = shorter text (nat_lt (position_or_len (λ b. b == 10) text) (length text)) refl
 
 -- one more line is read
-pub reads : (count : ℕ) (kept : Kept) (rest : Option (List ℕ)) (bytes : List ℕ) (cut : Cut) (front : List ℕ) (after : Option Kept) → rest ≡ Some bytes → cut ≡ cut_at 10 bytes → front ≡ cut.front → with_text kept front ≡ after → script_behind count kept (lines_behind rest) ≡ or_bad (count + 1) after (λ more. script_behind (count + 1) more (lines_behind cut.behind))
+pub reads : (count : ℕ) (kept : Kept) (rest : Option (List ℕ)) (bytes : List ℕ) (cut : Cut) (front : List ℕ)
+    (after : Option Kept) → rest ≡ Some bytes → cut ≡ cut_at 10 bytes → front ≡ cut.front → with_text kept front ≡ after
+    → script_behind count kept (lines_behind rest) ≡ or_bad (count + 1) after
+    (λ more. script_behind (count + 1) more (lines_behind cut.behind))
 reads count kept rest bytes cut front after is_some is_cut is_front is_after =
     ap (λ r. script_behind count kept (lines_behind r)) is_some
     ∙ script_behind_cut count kept bytes
-    ∙ ap (λ (c : Cut). or_bad (count + 1) (with_text kept c.front) (λ more. script_behind (count + 1) more (lines_behind c.behind))) (sym is_cut)
-    ∙ ap (λ t. or_bad (count + 1) (with_text kept t) (λ more. script_behind (count + 1) more (lines_behind cut.behind))) (sym is_front)
+    ∙ ap (λ (c : Cut). or_bad (count + 1) (with_text kept c.front)
+    (λ more. script_behind (count + 1) more (lines_behind c.behind))) (sym is_cut)
+    ∙ ap (λ t. or_bad (count + 1) (with_text kept t) (λ more. script_behind (count + 1) more (lines_behind cut.behind)))
+    (sym is_front)
     ∙ ap (λ o. or_bad (count + 1) o (λ more. script_behind (count + 1) more (lines_behind cut.behind))) is_after
 
 -- the number of a bad line is the one that is named
-pub named : (found : Result Script ℕ) (m n : ℕ) → ◌≡◌ {A = Result Script ScriptError} (Err (BadLine m)) (Err (BadLine n)) → found ≡ Err m → found ≡ Err n
+pub named : (found : Result Script ℕ) (m n : ℕ)
+    → ◌≡◌ {A = Result Script ScriptError} (Err (BadLine m)) (Err (BadLine n)) → found ≡ Err m → found ≡ Err n
 named found m n e h = cc

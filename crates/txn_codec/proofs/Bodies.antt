@@ -31,7 +31,8 @@ operation_sound kinds.CreateSession = refusal_sound BadTxnType
 operation_sound kinds.CloseSession = refusal_sound BadTxnType
 
 operation_at_end : (k : TxnKind) → SoundAtEnd (operation int_or_end k)
-operation_at_end kinds.Create = case_at_end operations.Create as_create (create_with int_or_end) (λ c. refl) create_at_end
+operation_at_end kinds.Create =
+    case_at_end operations.Create as_create (create_with int_or_end) (λ c. refl) create_at_end
 operation_at_end kinds.Delete = sound_at_end _ (operation_sound kinds.Delete)
 operation_at_end kinds.SetData = sound_at_end _ (operation_sound kinds.SetData)
 operation_at_end kinds.Check = sound_at_end _ (operation_sound kinds.Check)
@@ -42,7 +43,8 @@ operation_at_end kinds.CreateSession = sound_at_end _ (operation_sound kinds.Cre
 operation_at_end kinds.CloseSession = sound_at_end _ (operation_sound kinds.CloseSession)
 
 -- an operation that is spelled behind a type is of that type
-operation_tells : (last : Format ℤ) (k : TxnKind) (o : Operation) (text : List ℕ) → (operation last k).Spells o text → operation_kind o ≡ k
+operation_tells : (last : Format ℤ) (k : TxnKind) (o : Operation) (text : List ℕ) → (operation last k).Spells o text
+    → operation_kind o ≡ k
 operation_tells last kinds.Create o text s = ap operation_kind (sym (ok_is (operations.Create s.0) o s.1))
 operation_tells last kinds.Delete o text s = ap operation_kind (sym (ok_is (operations.Delete s.0) o s.1))
 operation_tells last kinds.SetData o text s = ap operation_kind (sym (ok_is (operations.SetData s.0) o s.1))
@@ -57,7 +59,8 @@ operation_tells last kinds.CloseSession o text s = absurd s
 
 pub part_sound : Sound part
 part_sound =
-    tagged_sound part_kind operation_kind (λ k. held (operation int k)) (λ k o text s. operation_tells int k o s.0 s.1) part_kind_sound
+    tagged_sound part_kind operation_kind (λ k. held (operation int k)) (λ k o text s. operation_tells int k o s.0 s.1)
+    part_kind_sound
     (λ k. held_sound (operation int k) (operation_sound k))
 
 pub parts_sound : Sound parts
@@ -66,17 +69,24 @@ parts_sound = null_vector_sound part part_sound
 -- ---- bodies
 
 content_at_end : (k : TxnKind) → SoundAtEnd (content k)
-content_at_end kinds.Create = case_at_end bodies.Single as_single (operation int_or_end kinds.Create) (λ o. refl) (operation_at_end kinds.Create)
-content_at_end kinds.Delete = case_at_end bodies.Single as_single (operation int_or_end kinds.Delete) (λ o. refl) (operation_at_end kinds.Delete)
-content_at_end kinds.SetData = case_at_end bodies.Single as_single (operation int_or_end kinds.SetData) (λ o. refl) (operation_at_end kinds.SetData)
-content_at_end kinds.Check = case_at_end bodies.Single as_single (operation int_or_end kinds.Check) (λ o. refl) (operation_at_end kinds.Check)
-content_at_end kinds.Error = case_at_end bodies.Single as_single (operation int_or_end kinds.Error) (λ o. refl) (operation_at_end kinds.Error)
+content_at_end kinds.Create =
+    case_at_end bodies.Single as_single (operation int_or_end kinds.Create) (λ o. refl) (operation_at_end kinds.Create)
+content_at_end kinds.Delete =
+    case_at_end bodies.Single as_single (operation int_or_end kinds.Delete) (λ o. refl) (operation_at_end kinds.Delete)
+content_at_end kinds.SetData = case_at_end bodies.Single as_single (operation int_or_end kinds.SetData) (λ o. refl)
+    (operation_at_end kinds.SetData)
+content_at_end kinds.Check =
+    case_at_end bodies.Single as_single (operation int_or_end kinds.Check) (λ o. refl) (operation_at_end kinds.Check)
+content_at_end kinds.Error =
+    case_at_end bodies.Single as_single (operation int_or_end kinds.Error) (λ o. refl) (operation_at_end kinds.Error)
 content_at_end kinds.SetAcl = sound_at_end _ (case_sound bodies.SetAcl as_set_acl set_acl (λ s. refl) set_acl_sound)
 content_at_end kinds.Multi = sound_at_end _ (case_sound bodies.Multi as_multi parts (λ ps. refl) parts_sound)
-content_at_end kinds.CreateSession = sound_at_end _ (case_sound bodies.CreateSession as_session int (λ z. refl) int_sound)
+content_at_end kinds.CreateSession =
+    sound_at_end _ (case_sound bodies.CreateSession as_session int (λ z. refl) int_sound)
 content_at_end kinds.CloseSession = case_at_end (λ none. bodies.CloseSession) as_close empty (λ none. refl) empty_at_end
 
-single_tells : (k : TxnKind) (o : Operation) (b : Body) (text : List ℕ) → bodies.Single o ≡ b → (operation int_or_end k).Spells o text → body_kind b ≡ k
+single_tells : (k : TxnKind) (o : Operation) (b : Body) (text : List ℕ) → bodies.Single o ≡ b
+    → (operation int_or_end k).Spells o text → body_kind b ≡ k
 single_tells k o b text is s = ap body_kind (sym is) ∙ operation_tells int_or_end k o text s
 
 -- a body that is spelled behind a type is of that type

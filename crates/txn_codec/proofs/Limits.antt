@@ -42,7 +42,8 @@ body_parents bodies.CloseSession h = tt
 
 -- ---- what the code says
 
-pub decoded_fits : (bytes : List ℕ) (r : Result Txn ReadError) → IfOk r (λ t. txn.Spells t bytes) → IfOk r (λ t. txn.Fits t)
+pub decoded_fits : (bytes : List ℕ) (r : Result Txn ReadError) → IfOk r (λ t. txn.Spells t bytes)
+    → IfOk r (λ t. txn.Fits t)
 decoded_fits bytes (Ok t) s = txn_at_end.limited t bytes s
 decoded_fits bytes (Err e) s = tt
 

@@ -43,7 +43,8 @@ step false true false b parts fine = refl
 step false false true b parts fine = ap (λ (v : Bool). fine && v) (sym (onto true b parts))
 step false false false b parts fine = ap (λ (v : Bool). fine && v) (sym (onto false b parts))
 
-goes_on_is : (after : Bool) (text : List ℕ) → goes_on after text ≡ (has_no_nul text && names_in after (slice_split is_slash text))
+goes_on_is : (after : Bool) (text : List ℕ)
+    → goes_on after text ≡ (has_no_nul text && names_in after (slice_split is_slash text))
 goes_on_is true [] = refl
 goes_on_is false [] = refl
 goes_on_is after (b ∷ text) =

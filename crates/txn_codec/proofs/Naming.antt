@@ -56,7 +56,8 @@ field_answers : (bytes : List ℕ) (e : Fault) → txn.against e bytes → whole
 unfolding whole_by
 field_answers bytes e h = rw (txn_at_end.named.answers bytes e h) refl
 
-trailing_answers : (r : Result Txn Fault) (bytes : List ℕ) → IsBytes bytes → whole txn bytes ≡ r → HasTrailing bytes → r ≡ Err TrailingBytes
+trailing_answers : (r : Result Txn Fault) (bytes : List ℕ) → IsBytes bytes → whole txn bytes ≡ r → HasTrailing bytes
+    → r ≡ Err TrailingBytes
 trailing_answers (Ok t) bytes fits h s = absurd (s.none t (whole_found txn txn_at_end.takes bytes t fits h))
 trailing_answers (Err e) bytes fits h s = elim (refusal_names bytes e fits h) [
   | inl first ↦ absurd (s.fine e first)
@@ -65,23 +66,28 @@ trailing_answers (Err e) bytes fits h s = elim (refusal_names bytes e fits h) [
 
 pub naming_answers : (bytes : List ℕ) (e : Fault) → IsBytes bytes → AgainstTxn e bytes → whole txn bytes ≡ Err e
 naming_answers bytes e fits (inl h) = field_answers bytes e h
-naming_answers bytes e fits (inr h) = trailing_answers (whole txn bytes) bytes fits refl h.1 ∙ ap (λ (d : Fault). Err d) (sym h.0)
+naming_answers bytes e fits (inr h) = trailing_answers (whole txn bytes) bytes fits refl h.1
+    ∙ ap (λ (d : Fault). Err d) (sym h.0)
 
 -- ---- what the code says
 
-pub decoded : (bytes : List ℕ) (r : Result Txn ReadError) → IsBytes bytes → GivesWhole (whole txn bytes) r → IfOk r (λ t. txn.Spells t bytes)
+pub decoded : (bytes : List ℕ) (r : Result Txn ReadError) → IsBytes bytes → GivesWhole (whole txn bytes) r
+    → IfOk r (λ t. txn.Spells t bytes)
 decoded bytes (Ok t) fits given = whole_found txn txn_at_end.takes bytes t fits given
 decoded bytes (Err e) fits given = tt
 
-pub decoded_only : (bytes : List ℕ) (r : Result Txn ReadError) (t : Txn) → GivesWhole (whole txn bytes) r → txn.Spells t bytes → GivesWhole (Ok t) r
+pub decoded_only : (bytes : List ℕ) (r : Result Txn ReadError) (t : Txn) → GivesWhole (whole txn bytes) r
+    → txn.Spells t bytes → GivesWhole (Ok t) r
 decoded_only bytes r t given s = subst (λ (x : Result Txn Fault). GivesWhole x r) (spelled_again bytes t s) given
 
-pub refused_is_named : (bytes : List ℕ) (r : Result Txn ReadError) → IsBytes bytes → GivesWhole (whole txn bytes) r → IfErr r (λ e. IfFault e (λ fault. AgainstTxn fault bytes))
+pub refused_is_named : (bytes : List ℕ) (r : Result Txn ReadError) → IsBytes bytes → GivesWhole (whole txn bytes) r
+    → IfErr r (λ e. IfFault e (λ fault. AgainstTxn fault bytes))
 refused_is_named bytes (Ok t) fits given = tt
 refused_is_named bytes (Err errors.NoMemory) fits given = tt
 refused_is_named bytes (Err (errors.Fault e)) fits given = refusal_names bytes e fits given
 
-pub refused_spells_none : (bytes : List ℕ) (r : Result Txn ReadError) → GivesWhole (whole txn bytes) r → IfErr r (λ e. IfFault e (λ fault. (t : Txn) → txn.Spells t bytes → ⊥))
+pub refused_spells_none : (bytes : List ℕ) (r : Result Txn ReadError) → GivesWhole (whole txn bytes) r
+    → IfErr r (λ e. IfFault e (λ fault. (t : Txn) → txn.Spells t bytes → ⊥))
 refused_spells_none bytes (Ok t) given = tt
 refused_spells_none bytes (Err errors.NoMemory) given = tt
 refused_spells_none bytes (Err (errors.Fault e)) given = refused_spells bytes e given

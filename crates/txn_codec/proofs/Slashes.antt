@@ -8,11 +8,13 @@ use Rattle.txn_codec.specs.Paths.{has_slash, before_last_slash, after_last_slash
 
 pub no_slash : (text : List ℕ) → ((i : ℕ) → i < length text → get_or text i 0 ≢ 47) → has_slash text ≡ false
 no_slash [] none = refl
-no_slash (b ∷ text) none = rw (ne_eqb b 47 (none 0 (omega arith)), no_slash text (λ i l. none (suc i) (omega arith))) refl
+no_slash (b ∷ text) none =
+    rw (ne_eqb b 47 (none 0 (omega arith)), no_slash text (λ i l. none (suc i) (omega arith))) refl
 
 slash_in : (front back : List ℕ) → has_slash (front ++ 47 ∷ back) ≡ true
 slash_in [] back = refl
-slash_in (b ∷ front) back = elim (eqb b 47) as (λ v. v || has_slash (front ++ 47 ∷ back) ≡ true) [ true ↦ refl | false ↦ slash_in front back ]
+slash_in (b ∷ front) back =
+    elim (eqb b 47) as (λ v. v || has_slash (front ++ 47 ∷ back) ≡ true) [ true ↦ refl | false ↦ slash_in front back ]
 
 pub all_after : (text : List ℕ) → has_slash text ≡ false → after_last_slash text ≡ text
 all_after [] none = refl
@@ -39,9 +41,11 @@ cut_after [] back none = all_after back none
 cut_after (b ∷ front) back none = rw (slash_in front back, or-true (eqb b 47), cut_after front back none) refl
 
 -- what `rsplit_once` says of its parts
-pub is_cut : (text : List ℕ) (i j : ℕ) → RFindsChar 47 text (Some (i, j)) → (text ≡ take i text ++ 47 ∷ drop j text) × (has_slash (drop j text) ≡ false)
+pub is_cut : (text : List ℕ) (i j : ℕ) → RFindsChar 47 text (Some (i, j)) → (text ≡ take i text ++ 47 ∷ drop j text)
+    × (has_slash (drop j text) ≡ false)
 is_cut text i j found = (
-  sym (take-append-drop i text) ∙ ap (λ (rest : List ℕ). take i text ++ rest) (drop_at_char 47 text i j found.1 (omega arith)),
+  sym (take-append-drop i text) ∙ ap (λ (rest : List ℕ). take i text ++ rest)
+      (drop_at_char 47 text i j found.1 (omega arith)),
   no_slash (drop j text) (λ k l. NoCharPasses-char 47 (drop j text) k found.0 (omega arith) l),
 )
 
@@ -49,7 +53,8 @@ pub or_root_some : (front : List ℕ) → length front ≢ 0 → front ≡ or_ro
 or_root_some [] some = absurd (some refl)
 or_root_some (b ∷ front) some = refl
 
-pub parent_of_cut : (text : List ℕ) (i j : ℕ) → RFindsChar 47 text (Some (i, j)) → parent_of text ≡ or_root (take i text)
+pub parent_of_cut : (text : List ℕ) (i j : ℕ) → RFindsChar 47 text (Some (i, j))
+    → parent_of text ≡ or_root (take i text)
 parent_of_cut text i j found =
     let cut = is_cut text i j found in
     ap parent_of cut.0 ∙ ap or_root (cut_before (take i text) (drop j text) cut.1)

@@ -1,6 +1,7 @@
 -- The fields and records of transactions are sound.
 use Rattle.std.proofs.Common.{◌≡◌, ℕ, Bool, true, false, cond, List, [], ◌∷◌, Option, Some, None, Result, Ok, Err, refl, sym, ap, subst, ◌∙◌, arith, inl, inr}
-use Rattle.std.specs.Prelude.{ℤ, pos, negsuc}
+use Rattle.std.specs.Prelude.{ℤ, negsuc, find}
+use Rattle.std.specs.Option.{ok_or}
 use Rattle.std.specs.Ordering.{int_eq}
 use Rattle.std.proofs.lemmas.Bool.Decides.{Decides-int_eq}
 use Rattle.values.specs.declared.fault.Fault.{Fault}
@@ -10,27 +11,30 @@ use Rattle.jute.specs.Laws.{IsBytes, Takes, Sound, SoundAtEnd}
 use Rattle.jute.specs.Owned.{acl}
 use Rattle.jute.proofs.Public.{ok_is, guard_ended, not_refused, sound_at_end, int_sound, long_sound, boolean_sound, buffer_sound, text_sound, acl_sound, both_sound, both_at_end, mapped_sound, mapped_at_end, judged_sound, vector_sound}
 use Rattle.txn_codec.specs.declared.kind.TxnKind.{TxnKind}
-use Rattle.txn_codec.specs.declared.kind.TxnKind.TheVariants as kinds
-use Rattle.txn_codec.specs.Kinds.{kind_of, code_of, is_part, part_type}
+use Rattle.txn_codec.specs.Kinds.{types, kind_of, code_of, is_part, part_type}
 use Rattle.txn_codec.specs.Paths.{is_path, is_child_path}
 use Rattle.txn_codec.specs.Spelling.{tested, path_by, path, child_path, last_at, int_or_end, kind, part_kind, create_with, create, set_data, set_acl, check, header}
 
 -- ---- paths
 
-pub tested_is : (test : List ℕ → Bool) (t : Option (List ℕ)) (p : List ℕ) → tested test t ≡ Ok p → (test p ≡ true) × (t ≡ Some p)
+pub tested_is : (test : List ℕ → Bool) (t : Option (List ℕ)) (p : List ℕ) → tested test t ≡ Ok p
+    → (test p ≡ true) × (t ≡ Some p)
 tested_is test None p e = absurd cc
 tested_is test (Some q) p e =
     let g = guard_ended (test q) BadPath q p e in
     (subst (λ (x : List ℕ). test x ≡ true) g.1 g.0, ap (λ (x : List ℕ). Some x) g.1)
 
 pub path_sound : (test : List ℕ → Bool) → Sound (path_by test)
-path_sound test = judged_sound (tested test) (λ p. Some (Some p)) text (λ t p e. ap (λ (x : Option (List ℕ)). Some x) (sym (tested_is test t p e).1)) text_sound
+path_sound test = judged_sound (tested test) (λ p. Some (Some p)) text
+    (λ t p e. ap (λ (x : Option (List ℕ)). Some x) (sym (tested_is test t p e).1)) text_sound
 
 -- ---- a number that may be left out
 
-last_takes : (bytes : List ℕ) (z : ℤ) (rest : List ℕ) → IsBytes bytes → last_at bytes ≡ Ok (z, rest) → Takes int_or_end bytes z rest
+last_takes : (bytes : List ℕ) (z : ℤ) (rest : List ℕ) → IsBytes bytes → last_at bytes ≡ Ok (z, rest)
+    → Takes int_or_end bytes z rest
 last_takes [] z rest fits e =
-    let made : Takes int_or_end [] (negsuc 0) [] = record { text = []; parts = refl; spells = inr (refl, refl); rest_fits = fits } in
+    let made : Takes int_or_end [] (negsuc 0) [] =
+    record { text = []; parts = refl; spells = inr (refl, refl); rest_fits = fits } in
     subst (λ (y : ℤ × List ℕ). Takes int_or_end [] y.0 y.1) (ok_is (negsuc 0, []) (z, rest) e) made
 last_takes (b ∷ bytes) z rest fits e =
     let t = int_sound.lawful.takes (b ∷ bytes) z rest fits e in
@@ -65,32 +69,31 @@ last_at_end = record {
 
 -- ---- types
 
-code_step : (b : Bool) (z c : ℤ) (k' : TxnKind) (rest : Result TxnKind Fault) (k : TxnKind) → (b ≡ true → z ≡ c) → code_of k' ≡ c → (rest ≡ Ok k → z ≡ code_of k) → cond b (Ok k') rest ≡ Ok k → z ≡ code_of k
-code_step true z c k' rest k sound is more e =
-    let same : k' ≡ k = cc in
-    sound refl ∙ sym is ∙ ap code_of same
-code_step false z c k' rest k sound is more e = more e
+code_step : (b : Bool) (z : ℤ) (j k : TxnKind) (rest : Option TxnKind) → (b ≡ true → z ≡ code_of j)
+    → (ok_or rest BadTxnType ≡ Ok k → z ≡ code_of k) → ok_or (cond b (Some j) rest) BadTxnType ≡ Ok k → z ≡ code_of k
+code_step true z j k rest is more e =
+    let same : j ≡ k = cc in
+    is refl ∙ ap code_of same
+code_step false z j k rest is more e = more e
 
-code_found : (z : ℤ) (k : TxnKind) → kind_of z ≡ Ok k → z ≡ code_of k
-code_found z k =
-    code_step (int_eq z (pos 1)) z (pos 1) kinds.Create _ k (Decides-int_eq z (pos 1)).0 refl
-    (code_step (int_eq z (pos 2)) z (pos 2) kinds.Delete _ k (Decides-int_eq z (pos 2)).0 refl
-    (code_step (int_eq z (pos 5)) z (pos 5) kinds.SetData _ k (Decides-int_eq z (pos 5)).0 refl
-    (code_step (int_eq z (pos 7)) z (pos 7) kinds.SetAcl _ k (Decides-int_eq z (pos 7)).0 refl
-    (code_step (int_eq z (pos 13)) z (pos 13) kinds.Check _ k (Decides-int_eq z (pos 13)).0 refl
-    (code_step (int_eq z (pos 14)) z (pos 14) kinds.Multi _ k (Decides-int_eq z (pos 14)).0 refl
-    (code_step (int_eq z (negsuc 9)) z (negsuc 9) kinds.CreateSession _ k (Decides-int_eq z (negsuc 9)).0 refl
-    (code_step (int_eq z (negsuc 10)) z (negsuc 10) kinds.CloseSession _ k (Decides-int_eq z (negsuc 10)).0 refl
-    (code_step (int_eq z (negsuc 0)) z (negsuc 0) kinds.Error _ k (Decides-int_eq z (negsuc 0)).0 refl (λ e. absurd cc)))))))))
+-- the type that is found has the code
+code_found : (z : ℤ) (ks : List TxnKind) (k : TxnKind) → ok_or (find (λ j. int_eq z (code_of j)) ks) BadTxnType ≡ Ok k
+    → z ≡ code_of k
+code_found z [] k e = absurd cc
+code_found z (j ∷ ks) k e =
+    code_step (int_eq z (code_of j)) z j k (find (λ i. int_eq z (code_of i)) ks) (Decides-int_eq z (code_of j)).0
+    (code_found z ks k) e
 
 pub kind_sound : Sound kind
-kind_sound = judged_sound kind_of (λ k. Some (code_of k)) int (λ z k e. ap (λ (c : ℤ). Some c) (sym (code_found z k e))) int_sound
+kind_sound = judged_sound kind_of (λ k. Some (code_of k)) int
+    (λ z k e. ap (λ (c : ℤ). Some c) (sym (code_found z types k e))) int_sound
 
 part_is : (k j : TxnKind) → part_type k ≡ Ok j → k ≡ j
 part_is k j e = (guard_ended (is_part k) BadTxnType k j e).1
 
 pub part_kind_sound : Sound part_kind
-part_kind_sound = judged_sound part_type (λ k. Some k) kind (λ k j e. ap (λ (x : TxnKind). Some x) (sym (part_is k j e))) kind_sound
+part_kind_sound =
+    judged_sound part_type (λ k. Some k) kind (λ k j e. ap (λ (x : TxnKind). Some x) (sym (part_is k j e))) kind_sound
 
 -- ---- records
 
@@ -114,13 +117,16 @@ create_at_end =
     (both_at_end boolean int_or_end boolean_sound last_at_end))))
 
 pub set_data_sound : Sound set_data
-set_data_sound = mapped_sound _ _ _ (λ v. refl) (λ s. refl) (both_sound path _ (path_sound is_path) (both_sound buffer int buffer_sound int_sound))
+set_data_sound = mapped_sound _ _ _ (λ v. refl) (λ s. refl)
+    (both_sound path _ (path_sound is_path) (both_sound buffer int buffer_sound int_sound))
 
 pub set_acl_sound : Sound set_acl
-set_acl_sound = mapped_sound _ _ _ (λ v. refl) (λ s. refl) (both_sound path _ (path_sound is_path) (both_sound (vector acl) int acls_sound int_sound))
+set_acl_sound = mapped_sound _ _ _ (λ v. refl) (λ s. refl)
+    (both_sound path _ (path_sound is_path) (both_sound (vector acl) int acls_sound int_sound))
 
 pub check_sound : Sound check
 check_sound = mapped_sound _ _ _ (λ v. refl) (λ c. refl) (both_sound path int (path_sound is_path) int_sound)
 
 pub header_sound : Sound header
-header_sound = mapped_sound _ _ _ (λ v. refl) (λ h. refl) (both_sound long _ long_sound (both_sound int _ int_sound (both_sound long long long_sound long_sound)))
+header_sound = mapped_sound _ _ _ (λ v. refl) (λ h. refl)
+    (both_sound long _ long_sound (both_sound int _ int_sound (both_sound long long long_sound long_sound)))

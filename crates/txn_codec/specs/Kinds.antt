@@ -1,5 +1,6 @@
 -- The codes of the types of transactions (the operation codes of ZooDefs.OpCode).
-use Rattle.std.specs.Prelude.{ℤ, pos, negsuc, Bool, true, false, Result, Ok, Err, if◌then◌else◌}
+use Rattle.std.specs.Prelude.{ℤ, pos, negsuc, Bool, true, false, List, [], ◌∷◌, Result, Ok, Err, find, if◌then◌else◌}
+use Rattle.std.specs.Option.{ok_or}
 use Rattle.std.specs.Ordering.{int_eq}
 use Rattle.values.specs.declared.fault.Fault.{Fault}
 use Rattle.values.specs.declared.fault.Fault.TheVariants.{BadTxnType}
@@ -21,18 +22,13 @@ code_of kinds.CreateSession = negsuc 9
 code_of kinds.CloseSession = negsuc 10
 code_of kinds.Error = negsuc 0
 
--- the type with that code, the first in this list; every other code is refused
+abbrev pub types : List TxnKind
+types = kinds.Create ∷ kinds.Delete ∷ kinds.SetData ∷ kinds.SetAcl ∷ kinds.Check ∷ kinds.Multi ∷ kinds.CreateSession
+    ∷ kinds.CloseSession ∷ kinds.Error ∷ []
+
+-- the type with that code; every other code is refused
 abbrev pub kind_of : ℤ → Result TxnKind Fault
-kind_of z = if int_eq z (pos 1) then Ok kinds.Create
-    else (if int_eq z (pos 2) then Ok kinds.Delete
-    else (if int_eq z (pos 5) then Ok kinds.SetData
-    else (if int_eq z (pos 7) then Ok kinds.SetAcl
-    else (if int_eq z (pos 13) then Ok kinds.Check
-    else (if int_eq z (pos 14) then Ok kinds.Multi
-    else (if int_eq z (negsuc 9) then Ok kinds.CreateSession
-    else (if int_eq z (negsuc 10) then Ok kinds.CloseSession
-    else (if int_eq z (negsuc 0) then Ok kinds.Error
-    else Err BadTxnType))))))))
+kind_of code = ok_or (find (λ k. int_eq code (code_of k)) types) BadTxnType
 
 abbrev pub operation_kind : Operation → TxnKind
 operation_kind (operations.Create c) = kinds.Create

@@ -11,10 +11,17 @@ gains_all old items new e = record { front = items; rest = []; gained = e; of = 
 
 -- a front of the first items is one of all
 pub gains_first : {A : Type 0} {old a new : List A} (b : List A) → Gains old a new → Gains old (a ++ b) new
-gains_first {a = a} b g = record { front = g.front; rest = g.rest ++ b; gained = g.gained; of = ap (λ (x : List _). x ++ b) g.of ∙ append_assoc g.front g.rest b }
+gains_first {a = a} b g = record {
+  front = g.front;
+  rest =
+      g.rest ++ b;
+  gained = g.gained;
+  of = ap (λ (x : List _). x ++ b) g.of ∙ append_assoc g.front g.rest b;
+}
 
 -- behind the first items, all of which were put
-pub gains_behind : {A : Type 0} {mid b new : List A} (old a : List A) → mid ≡ old ++ a → Gains mid b new → Gains old (a ++ b) new
+pub gains_behind : {A : Type 0} {mid b new : List A} (old a : List A) → mid ≡ old ++ a → Gains mid b new
+    → Gains old (a ++ b) new
 gains_behind {b = b} old a e g = record {
   front = a ++ g.front;
   rest = g.rest;
@@ -23,7 +30,8 @@ gains_behind {b = b} old a e g = record {
 }
 
 -- all the first items were put, and then the others or a front of them
-pub puts_behind : {A U E : Type 0} (old a mid b new : List A) (r : Result U E) → mid ≡ old ++ a → Puts r mid b new → Puts r old (a ++ b) new
+pub puts_behind : {A U E : Type 0} (old a mid b new : List A) (r : Result U E) → mid ≡ old ++ a → Puts r mid b new
+    → Puts r old (a ++ b) new
 puts_behind old a mid b new (Ok u) e h = h ∙ ap (λ (x : List _). x ++ b) e ∙ append_assoc old a b
 puts_behind old a mid b new (Err d) e h = gains_behind old a e h
 

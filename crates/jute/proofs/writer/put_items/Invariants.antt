@@ -3,4 +3,5 @@ use Rattle.std.specs.List.{flat_map}
 use Rattle.jute.proofs.writer.put_items.Given as goal
 
 abbrev pub invariant-loop-item : goal.invariant-loop-item
-invariant-loop-item g l = l.out.items ≡ l.fn.out.items ++ flat_map g.T.WriteRecord.format.written (take l.item-index l.items)
+invariant-loop-item g l =
+    l.out.items ≡ l.fn.out.items ++ flat_map g.T.WriteRecord.format.written (take l.item-index l.items)

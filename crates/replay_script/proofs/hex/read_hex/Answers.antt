@@ -11,8 +11,10 @@ returns-in_default c =
     let i = c.loop-byte.byte-index in
     let bytes = c.loop-byte.bytes.items in
     let kept = without_blanks_kept text i (omega arith) c.if-byte-eq32.false in
-    let none = bytes_behind_none c.loop-byte.high (get_or text i 0) (without_blanks (drop (i + 1) text)) (sym c.digit_of.ensures.value ∙ c.in_default.is) in
-    let all : bytes_of (without_blanks text) ≡ None = sym c.loop-byte.invariant.same ∙ ap (λ t. onto bytes (bytes_behind c.loop-byte.high t)) kept ∙ ap (onto bytes) none in
+    let none = bytes_behind_none c.loop-byte.high (get_or text i 0) (without_blanks (drop (i + 1) text))
+    (sym c.digit_of.ensures.value ∙ c.in_default.is) in
+    let all : bytes_of (without_blanks text) ≡ None = sym c.loop-byte.invariant.same
+    ∙ ap (λ t. onto bytes (bytes_behind c.loop-byte.high t)) kept ∙ ap (onto bytes) none in
     ap (λ bs. bs >>= at_least_one) (sym all)
 
 pub loop-byte-preserved : goal.loop-byte-preserved
@@ -27,11 +29,15 @@ loop-byte-preserved c =
       | in-None w ↦
           record {
             small = subst (λ h. IfSome h (λ d. d < 16)) (sym w.high-is) c.in-Some.ensures.small;
-            same = first_read text before now.bytes.items i digit c.loop-byte.high now.high _ (omega arith) c.if-byte-eq32.false spelled w.in-None.is w.high-is (ap (λ v. v.items) w.bytes-is) c.loop-byte.invariant.same;
+            same = first_read text before now.bytes.items i digit c.loop-byte.high now.high _ (omega arith)
+                c.if-byte-eq32.false spelled w.in-None.is w.high-is (ap (λ v. v.items) w.bytes-is)
+                c.loop-byte.invariant.same;
           }
       | in-Some-high+in_ok-push-in-Some-high w ↦
           record {
             small = subst (λ h. IfSome h (λ d. d < 16)) (sym w.high-is) tt;
-            same = second_read text before now.bytes.items i w.in-Some-high.first digit c.loop-byte.high now.high _ (omega arith) c.if-byte-eq32.false spelled w.in-Some-high.is w.high-is (ap (λ v. v.items) w.bytes-is ∙ w.in_ok-push-in-Some-high.ensures.items) c.loop-byte.invariant.same;
+            same = second_read text before now.bytes.items i w.in-Some-high.first digit c.loop-byte.high now.high _
+                (omega arith) c.if-byte-eq32.false spelled w.in-Some-high.is w.high-is (ap (λ v. v.items) w.bytes-is
+                ∙ w.in_ok-push-in-Some-high.ensures.items) c.loop-byte.invariant.same;
           }
     ]

@@ -7,5 +7,6 @@ abbrev pub invariant-loop-byte : goal.invariant-loop-byte
 invariant-loop-byte l =
     record {
       small : IfSome l.high (λ h. h < 16);
-      same : onto l.bytes.items (bytes_behind l.high (without_blanks (drop l.byte-index l.text))) ≡ bytes_of (without_blanks l.text);
+      same : onto l.bytes.items (bytes_behind l.high (without_blanks (drop l.byte-index l.text))) ≡ bytes_of
+          (without_blanks l.text);
     }

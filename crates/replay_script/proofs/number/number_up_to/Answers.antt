@@ -5,6 +5,7 @@ use Rattle.replay_script.proofs.number.number_up_to.Goals as goal
 
 pub returns-then-number-from : goal.returns-then-number-from
 returns-then-number-from c =
-    let e = too_large_at c.args.limit c.loop-byte.number c.loop-byte.byte-index c.args.text.now (omega arith) (search rules) (omega arith) in
+    let e = too_large_at c.args.limit c.loop-byte.number c.loop-byte.byte-index c.args.text.now (omega arith)
+    (search rules) (omega arith) in
     let none : up_to c.args.limit (number_behind 0 c.args.text.now) ≡ None = sym c.loop-byte.invariant.same ∙ e in
     sym (none_spelled c.args.limit c.args.text.now none)

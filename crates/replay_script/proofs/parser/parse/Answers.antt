@@ -15,15 +15,29 @@ loop-rest-init c =
 
 pub returns-then-not-branch-clause-bad_line : goal.returns-then-not-branch-clause-bad_line
 returns-then-not-branch-clause-bad_line c =
-    let read = reads c.loop-rest.number c.loop-rest.draft c.loop-rest.rest c.in-Some.bytes c.cut_at-lines.result c.as_slice-in-Some.result.now _ c.in-Some.is (c.cut_at-lines.ensures ∙ ap (cut_at 10) c.as_slice.ensures) c.as_slice-in-Some.ensures c.in_ok-take_line.ensures in
-    let bad = sym c.loop-rest.invariant.same ∙ read ∙ ap (λ b. or_bad (c.loop-rest.number + 1) (cond b (Some c.take_line.new.self) None) (λ more. script_behind (c.loop-rest.number + 1) more (lines_behind c.cut_at-lines.result.behind))) c.if-not-branch.true in
+    let read = reads c.loop-rest.number c.loop-rest.draft c.loop-rest.rest c.in-Some.bytes c.cut_at-lines.result
+    c.as_slice-in-Some.result.now _ c.in-Some.is (c.cut_at-lines.ensures ∙ ap (cut_at 10) c.as_slice.ensures)
+    c.as_slice-in-Some.ensures c.in_ok-take_line.ensures in
+    let bad = sym c.loop-rest.invariant.same ∙ read
+    ∙ ap (λ b. or_bad (c.loop-rest.number + 1) (cond b (Some c.take_line.new.self) None)
+    (λ more. script_behind (c.loop-rest.number + 1) more (lines_behind c.cut_at-lines.result.behind)))
+    c.if-not-branch.true in
     λ n e. named _ (c.loop-rest.number + 1) n e bad
 
 pub loop-rest-preserved : goal.loop-rest-preserved
 loop-rest-preserved c =
     let is_cut = c.cut_at-lines.ensures ∙ ap (cut_at 10) c.as_slice.ensures in
-    let read = reads c.loop-rest.number c.loop-rest.draft c.loop-rest.rest c.in-Some.bytes c.cut_at-lines.result c.as_slice-in-Some.result.now _ c.in-Some.is is_cut c.as_slice-in-Some.ensures c.in_ok-take_line.ensures in
+    let read = reads c.loop-rest.number c.loop-rest.draft c.loop-rest.rest c.in-Some.bytes c.cut_at-lines.result
+    c.as_slice-in-Some.result.now _ c.in-Some.is is_cut c.as_slice-in-Some.ensures c.in_ok-take_line.ensures in
     record {
-      counted = omega (arith, length_behind_cut c.in-Some.bytes, ap (λ k. length_behind k.behind) is_cut, ap length_behind c.in-Some.is);
-      same = sym (sym c.loop-rest.invariant.same ∙ read ∙ ap (λ b. or_bad (c.loop-rest.number + 1) (cond b (Some c.take_line.new.self) None) (λ more. script_behind (c.loop-rest.number + 1) more (lines_behind c.cut_at-lines.result.behind))) c.if-not-branch.false);
+      counted = omega (
+        arith,
+        length_behind_cut c.in-Some.bytes,
+        ap (λ k. length_behind k.behind) is_cut,
+        ap length_behind c.in-Some.is,
+      );
+      same = sym (sym c.loop-rest.invariant.same ∙ read
+          ∙ ap (λ b. or_bad (c.loop-rest.number + 1) (cond b (Some c.take_line.new.self) None)
+          (λ more. script_behind (c.loop-rest.number + 1) more (lines_behind c.cut_at-lines.result.behind)))
+          c.if-not-branch.false);
     }

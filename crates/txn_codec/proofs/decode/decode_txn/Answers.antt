@@ -4,7 +4,8 @@ use Rattle.txn_codec.proofs.Naming.{decoded, decoded_only, refused_is_named, ref
 use Rattle.txn_codec.proofs.decode.decode_txn.Goals as goal
 
 pub returns-clause-found : goal.returns-clause-found
-returns-clause-found c = decoded c.args.bytes.now c.read_whole.result (λ i. omega (arith, c.type_inv.bytes i)) c.read_whole.ensures
+returns-clause-found c =
+    decoded c.args.bytes.now c.read_whole.result (λ i. omega (arith, c.type_inv.bytes i)) c.read_whole.ensures
 
 pub returns-clause-only : goal.returns-clause-only
 returns-clause-only c = λ t s. decoded_only c.args.bytes.now c.read_whole.result t c.read_whole.ensures s
@@ -13,17 +14,21 @@ pub returns-clause-none : goal.returns-clause-none
 returns-clause-none c = refused_spells_none c.args.bytes.now c.read_whole.result c.read_whole.ensures
 
 pub returns-clause-named : goal.returns-clause-named
-returns-clause-named c = refused_is_named c.args.bytes.now c.read_whole.result (λ i. omega (arith, c.type_inv.bytes i)) c.read_whole.ensures
+returns-clause-named c = refused_is_named c.args.bytes.now c.read_whole.result (λ i. omega (arith, c.type_inv.bytes i))
+    c.read_whole.ensures
 
 pub returns-clause-fits : goal.returns-clause-fits
-returns-clause-fits c = decoded_fits c.args.bytes.now c.read_whole.result (decoded c.args.bytes.now c.read_whole.result (λ i. omega (arith, c.type_inv.bytes i)) c.read_whole.ensures)
+returns-clause-fits c = decoded_fits c.args.bytes.now c.read_whole.result
+    (decoded c.args.bytes.now c.read_whole.result (λ i. omega (arith, c.type_inv.bytes i)) c.read_whole.ensures)
 
 pub returns-clause-writable : goal.returns-clause-writable
 returns-clause-writable c =
-    let found = decoded c.args.bytes.now c.read_whole.result (λ i. omega (arith, c.type_inv.bytes i)) c.read_whole.ensures in
+    let found =
+    decoded c.args.bytes.now c.read_whole.result (λ i. omega (arith, c.type_inv.bytes i)) c.read_whole.ensures in
     decoded_writable c.read_whole.result (decoded_fits c.args.bytes.now c.read_whole.result found)
 
 pub returns-clause-parents : goal.returns-clause-parents
 returns-clause-parents c =
-    let found = decoded c.args.bytes.now c.read_whole.result (λ i. omega (arith, c.type_inv.bytes i)) c.read_whole.ensures in
+    let found =
+    decoded c.args.bytes.now c.read_whole.result (λ i. omega (arith, c.type_inv.bytes i)) c.read_whole.ensures in
     decoded_parents c.read_whole.result (decoded_fits c.args.bytes.now c.read_whole.result found)

@@ -4,7 +4,9 @@ use Rattle.txn_codec.proofs.Names.{goes_on, names_go_on}
 use Rattle.txn_codec.proofs.path.are_names.Goals as goal
 
 pub returns-then-byte-eq0 : goal.returns-then-byte-eq0
-returns-then-byte-eq0 c = let h : false ≡ goes_on true c.args.text.now = grind (arith, common_steps) in h ∙ names_go_on c.args.text.now
+returns-then-byte-eq0 c = let h : false ≡ goes_on true c.args.text.now = grind (arith, common_steps) in h
+    ∙ names_go_on c.args.text.now
 
 pub returns : goal.returns
-returns c = let h : not c.loop-byte.after_slash ≡ goes_on true c.args.text.now = grind (arith, common_steps) in h ∙ names_go_on c.args.text.now
+returns c = let h : not c.loop-byte.after_slash ≡ goes_on true c.args.text.now = grind (arith, common_steps) in h
+    ∙ names_go_on c.args.text.now

@@ -16,4 +16,5 @@ returns-then-is_empty c =
 pub returns-else-is_empty : goal.returns-else-is_empty
 returns-else-is_empty c =
     let found = c.in-Some.ensures.cases in
-    or_root_some c.in-Some.front.now (λ none. search rules) ∙ ap or_root found.3 ∙ sym (parent_of_cut c.args.path.now found.0 found.1 found.2)
+    or_root_some c.in-Some.front.now (λ none. search rules) ∙ ap or_root found.3
+    ∙ sym (parent_of_cut c.args.path.now found.0 found.1 found.2)

@@ -7,7 +7,8 @@ use Rattle.jute.proofs.Writing.{fails}
 use Rattle.jute.proofs.stat.StatPersistedWriteRecord.write.Goals as goal
 
 -- the fields in the groups in which they are written
-grouped : (s : StatPersisted) → four_longs s.czxid s.mzxid s.ctime s.mtime ++ (three_ints s.version s.cversion s.aversion
+grouped : (s : StatPersisted) → four_longs s.czxid s.mzxid s.ctime
+    s.mtime ++ (three_ints s.version s.cversion s.aversion
     ++ (long.written s.ephemeral_owner ++ long.written s.pzxid)) ≡ stat_persisted.written s
 unfolding stat_persisted
 grouped s = simp append_assoc
@@ -20,7 +21,8 @@ returns c =
     (puts_behind _ _ _ _ _ _ c.in_ok-write.ensures c.write-2.ensures)))
 
 pub returns-in_err-put_four_longs : goal.returns-in_err-put_four_longs
-returns-in_err-put_four_longs c = fails _ c.from_residual.ensures.0 (gains_same (grouped c.args.self.now) (gains_first _ c.in_err-put_four_longs.ensures))
+returns-in_err-put_four_longs c = fails _ c.from_residual.ensures.0
+    (gains_same (grouped c.args.self.now) (gains_first _ c.in_err-put_four_longs.ensures))
 
 pub returns-in_err-put_three_ints : goal.returns-in_err-put_three_ints
 returns-in_err-put_three_ints c =

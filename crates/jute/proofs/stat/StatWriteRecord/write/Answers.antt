@@ -8,7 +8,8 @@ use Rattle.jute.proofs.stat.StatWriteRecord.write.Goals as goal
 
 -- the fields in the groups in which they are written
 grouped : (s : Stat) → four_longs s.czxid s.mzxid s.ctime s.mtime ++ (three_ints s.version s.cversion s.aversion
-    ++ (long.written s.ephemeral_owner ++ (int.written s.data_length ++ (int.written s.num_children ++ long.written s.pzxid)))) ≡ stat.written s
+    ++ (long.written s.ephemeral_owner ++ (int.written s.data_length ++ (int.written s.num_children ++ long.written
+    s.pzxid)))) ≡ stat.written s
 unfolding stat
 grouped s = simp append_assoc
 
@@ -22,7 +23,8 @@ returns c =
     (puts_behind _ _ _ _ _ _ c.in_ok-write-3.ensures c.write-4.ensures)))))
 
 pub returns-in_err-put_four_longs : goal.returns-in_err-put_four_longs
-returns-in_err-put_four_longs c = fails _ c.from_residual.ensures.0 (gains_same (grouped c.args.self.now) (gains_first _ c.in_err-put_four_longs.ensures))
+returns-in_err-put_four_longs c = fails _ c.from_residual.ensures.0
+    (gains_same (grouped c.args.self.now) (gains_first _ c.in_err-put_four_longs.ensures))
 
 pub returns-in_err-put_three_ints : goal.returns-in_err-put_three_ints
 returns-in_err-put_three_ints c =
