@@ -37,11 +37,6 @@ fn refused_texts(rt: HostRuntime) {
     }
 }
 
-// Whether four bytes are refused as a count past the limit, and as a long.
-fn are_numbers_refused(reader: &mut Reader<'_>) -> bool {
-    reader.read_count() == Err(Fault::BadLength) && reader.read_long() == Err(Fault::Short)
-}
-
 // Why no frame is read.
 fn frame_fault(bytes: &[u8], limit: u32) -> Option<Fault> {
     read_frame(&mut Reader::new(bytes), limit).err()
@@ -50,7 +45,9 @@ fn frame_fault(bytes: &[u8], limit: u32) -> Option<Fault> {
 #[test]
 fn refused_numbers_and_frames(rt: HostRuntime) {
     let bytes = b"\x00\x10\x00\x01";
-    assert!(rt; are_numbers_refused(&mut Reader::new(bytes)));
+    let mut reader = Reader::new(bytes);
+    assert!(rt; reader.read_count() == Err(Fault::BadLength));
+    assert!(rt; reader.read_long() == Err(Fault::Short));
     assert_eq!(rt; frame_fault(bytes, LIMIT), Some(Fault::Short));
     assert_eq!(rt; frame_fault(bytes, 0x10_0000), Some(Fault::BadLength));
     assert_eq!(rt;
@@ -69,12 +66,6 @@ fn fields(alloc: Global) -> Result<Vec<u8>, NoMemory> {
     put_int(&mut out, -1)?;
     put_string(&mut out, "/a")?;
     Ok(out)
-}
-
-#[test]
-fn fields_are_written(rt: HostRuntime) -> Result<(), Fail> {
-    assert_eq!(rt; fields(rt.alloc())?.as_slice(), FIELDS.as_slice());
-    Ok(())
 }
 
 // Whether the int, the long and the boolean come.
@@ -100,7 +91,8 @@ fn next_name<'a>(reader: &mut Reader<'a>) -> Option<&'a str> {
 }
 
 #[test]
-fn fields_are_read(rt: HostRuntime) {
+fn fields_are_read_and_written(rt: HostRuntime) -> Result<(), Fail> {
+    assert_eq!(rt; fields(rt.alloc())?.as_slice(), FIELDS.as_slice());
     let mut reader = Reader::new(FIELDS);
     assert!(rt; are_numbers(&mut reader));
     assert!(rt; are_texts(&mut reader));
@@ -109,6 +101,7 @@ fn fields_are_read(rt: HostRuntime) {
     assert!(rt; other.read_count() == Ok(Some(5)));
     assert_eq!(rt; next_name(&mut other), Some("x"));
     assert_eq!(rt; next_name(&mut other), Some(""));
+    Ok(())
 }
 
 // A buffer and null, as they are written.

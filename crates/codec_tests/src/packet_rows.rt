@@ -172,16 +172,11 @@ fn written_again(alloc: Global, feed: &mut PacketFeed) -> Result<Vec<u8>, ReadEr
 }
 
 #[test]
-fn packet_is_read_and_written(rt: HostRuntime) -> Result<(), Fail> {
+fn packets_are_read_and_written(rt: HostRuntime) -> Result<(), Fail> {
     let mut feed = PacketFeed::new(rt.alloc());
     feed.feed(&PING)?;
     let written = written_again(rt.alloc(), &mut feed)?;
     assert_eq!(rt; written.as_slice(), PING_WRITTEN.as_slice());
-    Ok(())
-}
-
-#[test]
-fn packet_is_written(rt: HostRuntime) -> Result<(), Fail> {
     let ack = packet_bytes(rt.alloc(), PacketKind::AckEpoch, 0, b"\xff\xff\xff\xff")?;
     let expected =
         b"\x00\x00\x00\x12\x00\x00\x00\x00\x00\x00\x00\x00\x00\x00\x00\x04\xff\xff\xff\xff\xff\xff\xff\xff";

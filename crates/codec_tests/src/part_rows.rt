@@ -2,12 +2,13 @@
 
 ghost use Rattle.std.specs.Prelude.{◌<◌, ◌^◌, IfOk, length};
 
+use crate::record_rows::is_open;
 use jute::codes::open_list;
-use jute::{Acl, ReadRecord, Reader, WriteRecord};
+use jute::{ReadRecord, Reader, WriteRecord};
 use std::alloc::Global;
 use std::test::Fail;
 use txn_codec::{Check, Create, Path, SetAcl, SetData};
-use values::{Blob, Listed, NoMemory, ReadError};
+use values::{Blob, NoMemory, ReadError};
 
 // The version 4 of /a is compared.
 const CHECK: &[u8; 10] = b"\0\0\0\x02/a\0\0\0\x04";
@@ -34,25 +35,15 @@ fn a_path(alloc: Global) -> Result<Path, Fail>
     Ok(path)
 }
 
-// Whether it is the path /a.
-fn is_a(path: &Path) -> bool {
-    path.as_str() == "/a"
-}
-
 // Whether it is the data "x".
 fn is_x(alloc: Global, bytes: &Option<Blob>) -> Result<bool, NoMemory> {
     Ok(*bytes == Some(Blob::new(alloc, b"x")?))
 }
 
-// Whether it is the open list.
-fn is_open(alloc: Global, acl: &Option<Listed<Acl>>) -> Result<bool, NoMemory> {
-    Ok(*acl == Some(open_list(alloc)?))
-}
-
 fn is_check(alloc: Global, bytes: &[u8]) -> Result<bool, ReadError> {
     let mut reader = Reader::new(bytes);
     let check = Check::read(alloc, &mut reader)?;
-    Ok(is_a(&check.path) && check.version == 4 && reader.rest().is_empty())
+    Ok(check.path.as_str() == "/a" && check.version == 4 && reader.rest().is_empty())
 }
 
 fn check_written(alloc: Global) -> Result<Vec<u8>, Fail> {
@@ -65,17 +56,10 @@ fn check_written(alloc: Global) -> Result<Vec<u8>, Fail> {
     Ok(out)
 }
 
-#[test]
-fn check_is_read_and_written(rt: HostRuntime) -> Result<(), Fail> {
-    assert!(rt; is_check(rt.alloc(), CHECK)?);
-    assert_eq!(rt; check_written(rt.alloc())?.as_slice(), CHECK.as_slice());
-    Ok(())
-}
-
 fn is_set_data(alloc: Global, bytes: &[u8]) -> Result<bool, ReadError> {
     let mut reader = Reader::new(bytes);
     let set = SetData::read(alloc, &mut reader)?;
-    let is_set = is_a(&set.path) && set.version == 5 && reader.rest().is_empty();
+    let is_set = set.path.as_str() == "/a" && set.version == 5 && reader.rest().is_empty();
     Ok(is_set && is_x(alloc, &set.bytes)?)
 }
 
@@ -90,20 +74,10 @@ fn set_data_written(alloc: Global) -> Result<Vec<u8>, Fail> {
     Ok(out)
 }
 
-#[test]
-fn set_data_is_read_and_written(rt: HostRuntime) -> Result<(), Fail> {
-    assert!(rt; is_set_data(rt.alloc(), SET_DATA)?);
-    assert_eq!(rt;
-        set_data_written(rt.alloc())?.as_slice(),
-        SET_DATA.as_slice()
-    );
-    Ok(())
-}
-
 fn is_set_acl(alloc: Global, bytes: &[u8]) -> Result<bool, ReadError> {
     let mut reader = Reader::new(bytes);
     let set = SetAcl::read(alloc, &mut reader)?;
-    let is_set = is_a(&set.path) && set.version == 2 && reader.rest().is_empty();
+    let is_set = set.path.as_str() == "/a" && set.version == 2 && reader.rest().is_empty();
     Ok(is_set && is_open(alloc, &set.acl)?)
 }
 
@@ -119,18 +93,11 @@ fn set_acl_written(alloc: Global) -> Result<Vec<u8>, Fail> {
     Ok(out)
 }
 
-#[test]
-fn set_acl_is_read_and_written(rt: HostRuntime) -> Result<(), Fail> {
-    assert!(rt; is_set_acl(rt.alloc(), SET_ACL)?);
-    assert_eq!(rt; set_acl_written(rt.alloc())?.as_slice(), SET_ACL.as_slice());
-    Ok(())
-}
-
 fn is_create(alloc: Global, bytes: &[u8]) -> Result<bool, ReadError> {
     let mut reader = Reader::new(bytes);
     let create = Create::read(alloc, &mut reader)?;
     let is_of_session = create.ephemeral && create.parent_cversion == 3;
-    let is_whole = is_a(&create.path) && reader.rest().is_empty();
+    let is_whole = create.path.as_str() == "/a" && reader.rest().is_empty();
     let holds = is_x(alloc, &create.bytes)? && is_open(alloc, &create.acl)?;
     Ok(is_of_session && is_whole && holds)
 }
@@ -150,8 +117,22 @@ fn create_written(alloc: Global) -> Result<Vec<u8>, Fail> {
 }
 
 #[test]
-fn create_is_read_and_written(rt: HostRuntime) -> Result<(), Fail> {
+fn records_are_read(rt: HostRuntime) -> Result<(), Fail> {
+    assert!(rt; is_check(rt.alloc(), CHECK)?);
+    assert!(rt; is_set_data(rt.alloc(), SET_DATA)?);
+    assert!(rt; is_set_acl(rt.alloc(), SET_ACL)?);
     assert!(rt; is_create(rt.alloc(), CREATE)?);
+    Ok(())
+}
+
+#[test]
+fn records_are_written(rt: HostRuntime) -> Result<(), Fail> {
+    assert_eq!(rt; check_written(rt.alloc())?.as_slice(), CHECK.as_slice());
+    assert_eq!(rt;
+        set_data_written(rt.alloc())?.as_slice(),
+        SET_DATA.as_slice()
+    );
+    assert_eq!(rt; set_acl_written(rt.alloc())?.as_slice(), SET_ACL.as_slice());
     assert_eq!(rt; create_written(rt.alloc())?.as_slice(), CREATE.as_slice());
     Ok(())
 }

@@ -1,7 +1,5 @@
 //! The records of client frames, and lists of ACLs.
 
-ghost use Rattle.std.specs.Prelude.{◌≡◌, IfOk, []};
-
 use jute::codes::open_list;
 use jute::{
     Acl, GetDataRequest, GetDataResponse, Id, ReadRecord, Reader, ReplyHeader, RequestHeader, Stat,
@@ -142,27 +140,19 @@ fn request_is_read_and_written(rt: HostRuntime) -> Result<(), Fail> {
     Ok(())
 }
 
-// A header in a frame of its own.
+// A header in a frame of its own, and behind it two ints.
 #[tactic(auto, unfolding(jute::specs::Records::request_header, jute::specs::Format::number_bytes))]
-fn header_framed(alloc: Global) -> Result<Vec<u8>, NoMemory> {
+fn frame_and_items(alloc: Global) -> Result<Vec<u8>, NoMemory> {
     let mut out = Vec::new(alloc);
     put_frame(&mut out, &RequestHeader { xid: 1, kind: 4 })?;
-    Ok(out)
-}
-
-// Two ints, one behind the other.
-fn ints(alloc: Global) -> Result<Vec<u8>, NoMemory> {
-    let mut out = Vec::new(alloc);
     put_items(&mut out, &[5i32, -2])?;
     Ok(out)
 }
 
 #[test]
 fn frames_and_items_are_written(rt: HostRuntime) -> Result<(), Fail> {
-    let frame = b"\x00\x00\x00\x08\x00\x00\x00\x01\x00\x00\x00\x04";
-    assert_eq!(rt; header_framed(rt.alloc())?.as_slice(), frame.as_slice());
-    let items = b"\x00\x00\x00\x05\xff\xff\xff\xfe";
-    assert_eq!(rt; ints(rt.alloc())?.as_slice(), items.as_slice());
+    let bytes = b"\x00\x00\x00\x08\x00\x00\x00\x01\x00\x00\x00\x04\x00\x00\x00\x05\xff\xff\xff\xfe";
+    assert_eq!(rt; frame_and_items(rt.alloc())?.as_slice(), bytes.as_slice());
     Ok(())
 }
 
@@ -205,22 +195,19 @@ fn persisted_stat_is_read_and_written(rt: HostRuntime) -> Result<(), Fail> {
     Ok(())
 }
 
-fn open(alloc: Global) -> Result<Acl, NoMemory> {
-    Ok(Acl {
-        perms: 31,
-        id: Id {
-            scheme: Text::new(alloc, "world")?,
-            id: Text::new(alloc, "anyone")?,
-        },
-    })
-}
-
-// Whether the list has the open entry alone.
-fn is_open(alloc: Global, acls: &Listed<Acl>) -> Result<bool, NoMemory> {
+// Whether the list has one entry, which lets anyone do everything.
+pub fn is_open(alloc: Global, acls: &Option<Listed<Acl>>) -> Result<bool, NoMemory> {
+    let Some(acls) = acls else {
+        return Ok(false);
+    };
     if acls.is_empty() || acls.len() != 1 {
         return Ok(false);
     }
-    Ok(acls.as_slice()[0] == open(alloc)?)
+    let id = Id {
+        scheme: Text::new(alloc, "world")?,
+        id: Text::new(alloc, "anyone")?,
+    };
+    Ok(acls.as_slice()[0] == Acl { perms: 31, id })
 }
 
 // The next list.
@@ -231,23 +218,11 @@ fn next_acls(alloc: Global, reader: &mut Reader<'_>) -> Result<Option<Listed<Acl
 #[test]
 fn acls_are_read(rt: HostRuntime) -> Result<(), Fail> {
     let mut reader = Reader::new(&OPEN);
-    let acls = next_acls(rt.alloc(), &mut reader)?.ok_or("null")?;
+    assert!(rt; is_open(rt.alloc(), &next_acls(rt.alloc(), &mut reader)?)?);
     assert!(rt; reader.rest().is_empty());
-    assert!(rt; is_open(rt.alloc(), &acls)?);
-    Ok(())
-}
-
-#[test]
-fn null_list_is_read(rt: HostRuntime) -> Result<(), Fail> {
     let mut null = Reader::new(b"\xff\xff\xff\xff\x07");
     assert!(rt; next_acls(rt.alloc(), &mut null)?.is_none());
     assert_eq!(rt; null.rest(), b"\x07".as_slice());
-    Ok(())
-}
-
-#[test]
-fn open_list_lets_anyone_in(rt: HostRuntime) -> Result<(), Fail> {
-    assert!(rt; is_open(rt.alloc(), &open_list(rt.alloc())?)?);
     Ok(())
 }
 
@@ -265,25 +240,20 @@ fn acls_are_written(rt: HostRuntime) -> Result<(), Fail> {
     Ok(())
 }
 
-fn empty_id(alloc: Global) -> Result<Id, NoMemory>
-    ensures { IfOk result (λ i. (i.scheme ≡ []) × (i.id ≡ [])) }
-{
-    Ok(Id {
-        scheme: Text::new(alloc, "")?,
-        id: Text::new(alloc, "")?,
-    })
-}
-
 // Whether an id is read whose texts are empty.
 fn is_empty_id(alloc: Global, bytes: &[u8]) -> Result<bool, ReadError> {
     let id = Id::read(alloc, &mut Reader::new(bytes))?;
-    Ok(id == empty_id(alloc)?)
+    Ok(id.scheme.as_str() == "" && id.id.as_str() == "")
 }
 
 #[tactic(auto, unfolding(jute::specs::Owned::id))]
 fn empty_id_written(alloc: Global) -> Result<Vec<u8>, NoMemory> {
+    let id = Id {
+        scheme: Text::new(alloc, "")?,
+        id: Text::new(alloc, "")?,
+    };
     let mut out = Vec::new(alloc);
-    empty_id(alloc)?.write(&mut out)?;
+    id.write(&mut out)?;
     Ok(out)
 }
 

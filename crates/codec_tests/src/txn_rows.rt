@@ -142,17 +142,6 @@ fn header_is_read_and_written(rt: HostRuntime) -> Result<(), Fail> {
     Ok(())
 }
 
-// Whether the header is the one of every row.
-fn is_header(header: &TxnHeader) -> bool {
-    *header
-        == TxnHeader {
-            client_id: 7,
-            cxid: 1,
-            zxid: 0x1_0000_0001,
-            time: 1000,
-        }
-}
-
 // Whether the transaction makes /a with its data, and isn't of an ephemeral.
 fn makes_a(txn: &Txn) -> bool {
     let Body::Single(Operation::Create(create)) = &txn.body else {
@@ -173,7 +162,13 @@ fn bytes_in(txn: &Txn) -> Option<&[u8]> {
 fn create_has_its_fields(rt: HostRuntime) -> Result<(), Fail> {
     let bytes = create_bytes(rt.alloc())?;
     let txn = txn_of(rt.alloc(), &bytes)?;
-    assert!(rt; is_header(&txn.header));
+    let header = TxnHeader {
+        client_id: 7,
+        cxid: 1,
+        zxid: 0x1_0000_0001,
+        time: 1000,
+    };
+    assert_eq!(rt; txn.header, header);
     assert!(rt; makes_a(&txn));
     assert_eq!(rt; bytes_in(&txn), Some(b"hi".as_slice()));
     Ok(())
