@@ -7,6 +7,8 @@ mod field_rows;
 #[cfg(test)]
 mod packet_rows;
 #[cfg(test)]
+mod part_rows;
+#[cfg(test)]
 mod path_rows;
 #[cfg(test)]
 mod record_rows;

@@ -35,89 +35,128 @@ fn next_outline(
     }))
 }
 
+// Whether a packet comes at its last byte and no earlier, and the stream may end there alone.
+fn comes_at_its_end(
+    alloc: Global,
+    feed: &mut PacketFeed,
+    bytes: &[u8],
+    expected: (i32, i64, usize),
+) -> Result<bool, ReadError> {
+    for (i, byte) in bytes.iter().enumerate() {
+        feed.feed(&[*byte])?;
+        let is_whole = i + 1 == bytes.len();
+        if feed.end().is_ok() != is_whole {
+            return Ok(false);
+        }
+        if next_outline(alloc, feed)? != is_whole.then_some(expected) {
+            return Ok(false);
+        }
+    }
+    Ok(true)
+}
+
 #[test]
 fn packets_come_at_their_last_byte(rt: HostRuntime) -> Result<(), Fail> {
     let mut feed = PacketFeed::new(rt.alloc());
     let inform = with_data(rt.alloc(), PacketKind::Inform)?;
-    let rows = [
-        (inform.as_slice(), (8, 0x1_0000_0001, 4)),
-        (PING.as_slice(), (5, 0x1_0000_0002, 0)),
-    ];
-    for (bytes, expected) in rows {
-        for (i, byte) in bytes.iter().enumerate() {
-            feed.feed(&[*byte])?;
-            let is_whole = i + 1 == bytes.len();
-            assert_eq!(rt; feed.end().is_ok(), is_whole);
-            let found = next_outline(rt.alloc(), &mut feed)?;
-            assert_eq!(rt; found, is_whole.then_some(expected));
-        }
-    }
+    let first = (8, 0x1_0000_0001, 4);
+    assert!(rt; comes_at_its_end(rt.alloc(), &mut feed, &inform, first)?);
+    let second = (5, 0x1_0000_0002, 0);
+    assert!(rt; comes_at_its_end(rt.alloc(), &mut feed, &PING, second)?);
     assert!(rt; !feed.is_faulty());
     Ok(())
+}
+
+// Feeds a packet with data of four bytes.
+fn feed_kind(alloc: Global, feed: &mut PacketFeed, kind: PacketKind) -> Result<(), NoMemory> {
+    let bytes = with_data(alloc, kind)?;
+    feed.feed(&bytes)
+}
+
+// Why a stream may not end behind an UPTODATE and the bytes, none of which was taken; and whether
+// the feed is faulty, which only taking makes it.
+fn end_behind(alloc: Global, bytes: &[u8]) -> Result<(Option<Fault>, bool), NoMemory> {
+    let mut feed = PacketFeed::new(alloc);
+    feed_kind(alloc, &mut feed, PacketKind::UpToDate)?;
+    feed.feed(bytes)?;
+    Ok((feed.end().err(), feed.is_faulty()))
 }
 
 /// What is asked behind packets that weren't taken is what stands behind them.
 #[test]
 fn stream_may_end_behind_whole_packets(rt: HostRuntime) -> Result<(), Fail> {
-    let alloc = rt.alloc();
-    let up_to_date = with_data(alloc, PacketKind::UpToDate)?;
-    let snap = with_data(alloc, PacketKind::Snap)?;
-    let rows: [(&[u8], Result<(), Fault>); 5] = [
-        (b"", Ok(())),
-        (PING.as_slice(), Ok(())),
-        (b"\0\0\0", Err(Fault::Short)),
+    let rows: [(&[u8], Option<Fault>); 4] = [
+        (b"", None),
+        (&PING, None),
+        (b"\0\0\0", Some(Fault::Short)),
         (
             b"\0\0\0\x05\0\0\0\0\0\0\0\0\xff\xff\xff\xfe",
-            Err(Fault::BadLength),
+            Some(Fault::BadLength),
         ),
-        (snap.as_slice(), Err(Fault::Short)),
     ];
     for (bytes, expected) in rows {
-        let mut feed = PacketFeed::new(alloc);
-        feed.feed(&up_to_date)?;
-        feed.feed(bytes)?;
-        assert!(rt; feed.end() == expected, "{bytes:?}");
-        assert!(rt; !feed.is_faulty());
+        assert_eq!(rt;
+            end_behind(rt.alloc(), bytes)?,
+            (expected, false),
+            "{bytes:?}"
+        );
     }
+    let snap = with_data(rt.alloc(), PacketKind::Snap)?;
+    assert_eq!(rt; end_behind(rt.alloc(), &snap)?, (Some(Fault::Short), false));
     Ok(())
+}
+
+// Puts an UPTODATE, a SNAP and an INFORM behind each other.
+fn feed_image(alloc: Global, feed: &mut PacketFeed) -> Result<(), NoMemory> {
+    feed_kind(alloc, feed, PacketKind::UpToDate)?;
+    feed_kind(alloc, feed, PacketKind::Snap)?;
+    feed_kind(alloc, feed, PacketKind::Inform)
+}
+
+// Whether no packet comes and an image is owed, whatever is put behind.
+fn is_image_owed(alloc: Global, feed: &mut PacketFeed) -> Result<bool, ReadError> {
+    let found = next_outline(alloc, feed)?;
+    let is_owed = feed.end() == Err(Fault::Short);
+    feed_kind(alloc, feed, PacketKind::Inform)?;
+    Ok(found.is_none() && is_owed)
 }
 
 #[test]
 fn image_is_passed_over(rt: HostRuntime) -> Result<(), Fail> {
-    let alloc = rt.alloc();
-    let inform = with_data(alloc, PacketKind::Inform)?;
-    let mut feed = PacketFeed::new(alloc);
-    feed.feed(&with_data(alloc, PacketKind::UpToDate)?)?;
-    feed.feed(&with_data(alloc, PacketKind::Snap)?)?;
-    feed.feed(&inform)?;
-    let found = [
-        next_outline(alloc, &mut feed)?,
-        next_outline(alloc, &mut feed)?,
-    ];
-    let zxid = 0x1_0000_0001;
-    assert_eq!(rt; found, [Some((12, zxid, 4)), Some((15, zxid, 4))]);
+    let mut feed = PacketFeed::new(rt.alloc());
+    feed_image(rt.alloc(), &mut feed)?;
+    for kind in [12, 15] {
+        let found = next_outline(rt.alloc(), &mut feed)?;
+        assert_eq!(rt; found, Some((kind, 0x1_0000_0001, 4)));
+    }
     for _ in 0..2 {
-        assert!(rt; next_outline(alloc, &mut feed)?.is_none());
-        assert!(rt; feed.end() == Err(Fault::Short));
-        feed.feed(&inform)?;
+        assert!(rt; is_image_owed(rt.alloc(), &mut feed)?);
     }
     Ok(())
 }
 
+// Puts an UPTODATE behind, and in two pieces an INFORM whose data has the length -2.
+fn feed_bad_length(alloc: Global, feed: &mut PacketFeed) -> Result<(), NoMemory> {
+    feed_kind(alloc, feed, PacketKind::UpToDate)?;
+    feed.feed(b"\0\0\0\x08\0\0\0\x01\0\0\0\x01")?;
+    feed.feed(b"\xff\xff\xff\xfe")
+}
+
+// Whether the feed is refused for the length, whatever is put behind.
+fn is_length_bad(alloc: Global, feed: &mut PacketFeed) -> Result<bool, NoMemory> {
+    let refused = next_outline(alloc, feed) == Err(ReadError::Fault(Fault::BadLength));
+    let is_named = feed.end() == Err(Fault::BadLength);
+    feed_kind(alloc, feed, PacketKind::Inform)?;
+    Ok(refused && is_named)
+}
+
 #[test]
 fn fault_stays(rt: HostRuntime) -> Result<(), Fail> {
-    let alloc = rt.alloc();
-    let inform = with_data(alloc, PacketKind::Inform)?;
-    let mut feed = PacketFeed::new(alloc);
-    feed.feed(&with_data(alloc, PacketKind::UpToDate)?)?;
-    feed.feed(b"\0\0\0\x08\0\0\0\x01\0\0\0\x01")?;
-    feed.feed(b"\xff\xff\xff\xfe")?;
-    assert!(rt; next_outline(alloc, &mut feed)?.is_some());
+    let mut feed = PacketFeed::new(rt.alloc());
+    feed_bad_length(rt.alloc(), &mut feed)?;
+    assert!(rt; next_outline(rt.alloc(), &mut feed)?.is_some());
     for _ in 0..2 {
-        let refused = next_outline(alloc, &mut feed);
-        assert!(rt; refused == Err(ReadError::Fault(Fault::BadLength)));
-        assert!(rt; feed.end() == Err(Fault::BadLength));
-        feed.feed(&inform)?;
+        assert!(rt; is_length_bad(rt.alloc(), &mut feed)?);
     }
     assert!(rt; feed.is_faulty());
     Ok(())
@@ -133,16 +172,11 @@ fn written_again(alloc: Global, feed: &mut PacketFeed) -> Result<Vec<u8>, ReadEr
 }
 
 #[test]
-fn packet_is_read_and_written(rt: HostRuntime) -> Result<(), Fail> {
+fn packets_are_read_and_written(rt: HostRuntime) -> Result<(), Fail> {
     let mut feed = PacketFeed::new(rt.alloc());
     feed.feed(&PING)?;
     let written = written_again(rt.alloc(), &mut feed)?;
     assert_eq!(rt; written.as_slice(), PING_WRITTEN.as_slice());
-    Ok(())
-}
-
-#[test]
-fn packet_is_written(rt: HostRuntime) -> Result<(), Fail> {
     let ack = packet_bytes(rt.alloc(), PacketKind::AckEpoch, 0, b"\xff\xff\xff\xff")?;
     let expected =
         b"\x00\x00\x00\x12\x00\x00\x00\x00\x00\x00\x00\x00\x00\x00\x00\x04\xff\xff\xff\xff\xff\xff\xff\xff";

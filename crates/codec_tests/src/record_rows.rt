@@ -1,12 +1,13 @@
 //! The records of client frames, and lists of ACLs.
 
+use jute::codes::open_list;
 use jute::{
     Acl, GetDataRequest, GetDataResponse, Id, ReadRecord, Reader, ReplyHeader, RequestHeader, Stat,
-    WriteRecord, put_int, put_vector, read_frame, read_vector,
+    StatPersisted, WriteRecord, put_frame, put_int, put_items, put_vector, read_frame, read_vector,
 };
 use std::alloc::Global;
 use std::test::Fail;
-use values::{Bytes, Listed, NoMemory, Str, Text};
+use values::{Bytes, Listed, NoMemory, ReadError, Str, Text};
 
 /// The frame that answers getData: header, bytes and Stat of a node that was created with two.
 const REPLY: [u8; 94] = *b"\x00\x00\x00\x5a\
@@ -21,6 +22,12 @@ const REPLY: [u8; 94] = *b"\x00\x00\x00\x5a\
 /// The frame that asks for it.
 const REQUEST: [u8; 19] =
     *b"\x00\x00\x00\x0f\x00\x00\x00\x01\x00\x00\x00\x04\x00\x00\x00\x02/a\x00";
+
+/// A StatPersisted with the numbers 1 to 9.
+const PERSISTED: [u8; 60] = *b"\x00\x00\x00\x00\x00\x00\x00\x01\x00\x00\x00\x00\x00\x00\x00\x02\
+    \x00\x00\x00\x00\x00\x00\x00\x03\x00\x00\x00\x00\x00\x00\x00\x04\
+    \x00\x00\x00\x05\x00\x00\x00\x06\x00\x00\x00\x07\
+    \x00\x00\x00\x00\x00\x00\x00\x08\x00\x00\x00\x00\x00\x00\x00\x09";
 
 /// The list of one ACL that lets anyone do everything.
 const OPEN: [u8; 27] =
@@ -44,115 +51,220 @@ fn stat() -> Stat {
     }
 }
 
-#[test]
-#[tactic(auto, unfolding(jute::specs::Records::reply_header, jute::specs::Records::get_data_response, jute::specs::Records::stat))]
-fn reply_is_read_and_written(rt: HostRuntime) -> Result<(), Fail> {
-    let mut frames = Reader::new(REPLY.as_slice());
-    let mut reader = Reader::new(read_frame(&mut frames, LIMIT)?);
-    assert!(rt; frames.rest().is_empty());
-    let header = ReplyHeader::read(rt.alloc(), &mut reader)?;
-    let response = GetDataResponse::read(rt.alloc(), &mut reader)?;
-    assert!(rt; reader.rest().is_empty());
-    let expected_header = ReplyHeader {
+fn reply_header() -> ReplyHeader {
+    ReplyHeader {
         xid: 1,
         zxid: 0x1_0000_0001,
         err: 0,
-    };
-    let expected = GetDataResponse {
+    }
+}
+
+// The reply, behind its frame's length.
+#[tactic(auto, unfolding(jute::specs::Records::reply_header, jute::specs::Records::get_data_response, jute::specs::Records::stat))]
+fn reply_written(alloc: Global) -> Result<Vec<u8>, NoMemory> {
+    let response = GetDataResponse {
         bytes: Some(Bytes::new(b"hi")),
         stat: stat(),
     };
-    assert!(rt; header == expected_header);
-    assert!(rt; response == expected);
-    let mut out = Vec::new(rt.alloc());
+    let mut out = Vec::new(alloc);
     put_int(&mut out, 90)?;
-    expected_header.write(&mut out)?;
-    expected.write(&mut out)?;
-    assert_eq!(rt; out.as_slice(), REPLY.as_slice());
-    Ok(())
+    reply_header().write(&mut out)?;
+    response.write(&mut out)?;
+    Ok(out)
+}
+
+// The bytes of the one frame.
+fn framed(bytes: &[u8]) -> Option<&[u8]> {
+    let mut frames = Reader::new(bytes);
+    let found = read_frame(&mut frames, LIMIT).ok();
+    if frames.rest().is_empty() {
+        found
+    } else {
+        None
+    }
+}
+
+// Whether the reply is read, to its end.
+fn is_reply(alloc: Global, bytes: &[u8]) -> Result<bool, ReadError> {
+    let mut reader = Reader::new(bytes);
+    let header = ReplyHeader::read(alloc, &mut reader)?;
+    let response = GetDataResponse::read(alloc, &mut reader)?;
+    Ok(
+        header == reply_header()
+            && response.bytes == Some(Bytes::new(b"hi"))
+            && response.stat == stat()
+            && reader.rest().is_empty(),
+    )
 }
 
 #[test]
-#[tactic(auto, unfolding(jute::specs::Records::request_header, jute::specs::Records::get_data_request))]
-fn request_is_read_and_written(rt: HostRuntime) -> Result<(), Fail> {
-    let mut frames = Reader::new(REQUEST.as_slice());
-    let mut reader = Reader::new(read_frame(&mut frames, LIMIT)?);
-    let header = RequestHeader::read(rt.alloc(), &mut reader)?;
-    let request = GetDataRequest::read(rt.alloc(), &mut reader)?;
-    assert!(rt; reader.rest().is_empty());
-    let expected_header = RequestHeader { xid: 1, kind: 4 };
-    let expected = GetDataRequest {
-        path: Some(Str::new("/a")),
-        watch: false,
-    };
-    assert!(rt; header == expected_header);
-    assert!(rt; request == expected);
-    let mut out = Vec::new(rt.alloc());
-    put_int(&mut out, 15)?;
-    expected_header.write(&mut out)?;
-    expected.write(&mut out)?;
-    assert_eq!(rt; out.as_slice(), REQUEST.as_slice());
+fn reply_is_read_and_written(rt: HostRuntime) -> Result<(), Fail> {
+    let bytes = framed(&REPLY).ok_or("a frame")?;
+    assert!(rt; is_reply(rt.alloc(), bytes)?);
+    assert_eq!(rt; reply_written(rt.alloc())?.as_slice(), REPLY.as_slice());
     Ok(())
 }
 
-fn open(alloc: Global) -> Result<Acl, NoMemory> {
-    Ok(Acl {
-        perms: 31,
-        id: Id {
-            scheme: Text::new(alloc, "world")?,
-            id: Text::new(alloc, "anyone")?,
-        },
-    })
+// The request, behind its frame's length.
+#[tactic(auto, unfolding(jute::specs::Records::request_header, jute::specs::Records::get_data_request))]
+fn request_written(alloc: Global) -> Result<Vec<u8>, NoMemory> {
+    let request = GetDataRequest {
+        path: Some(Str::new("/a")),
+        watch: false,
+    };
+    let mut out = Vec::new(alloc);
+    put_int(&mut out, 15)?;
+    RequestHeader { xid: 1, kind: 4 }.write(&mut out)?;
+    request.write(&mut out)?;
+    Ok(out)
+}
+
+// Whether the request is read, to its end.
+fn is_request(alloc: Global, bytes: &[u8]) -> Result<bool, ReadError> {
+    let mut reader = Reader::new(bytes);
+    let header = RequestHeader::read(alloc, &mut reader)?;
+    let request = GetDataRequest::read(alloc, &mut reader)?;
+    Ok(
+        header == RequestHeader { xid: 1, kind: 4 }
+            && request.path == Some(Str::new("/a"))
+            && !request.watch
+            && reader.rest().is_empty(),
+    )
+}
+
+#[test]
+fn request_is_read_and_written(rt: HostRuntime) -> Result<(), Fail> {
+    let bytes = framed(&REQUEST).ok_or("a frame")?;
+    assert!(rt; is_request(rt.alloc(), bytes)?);
+    assert_eq!(rt; request_written(rt.alloc())?.as_slice(), REQUEST.as_slice());
+    Ok(())
+}
+
+// A header in a frame of its own, and behind it two ints.
+#[tactic(auto, unfolding(jute::specs::Records::request_header, jute::specs::Format::number_bytes))]
+fn frame_and_items(alloc: Global) -> Result<Vec<u8>, NoMemory> {
+    let mut out = Vec::new(alloc);
+    put_frame(&mut out, &RequestHeader { xid: 1, kind: 4 })?;
+    put_items(&mut out, &[5i32, -2])?;
+    Ok(out)
+}
+
+#[test]
+fn frames_and_items_are_written(rt: HostRuntime) -> Result<(), Fail> {
+    let bytes = b"\x00\x00\x00\x08\x00\x00\x00\x01\x00\x00\x00\x04\x00\x00\x00\x05\xff\xff\xff\xfe";
+    assert_eq!(rt; frame_and_items(rt.alloc())?.as_slice(), bytes.as_slice());
+    Ok(())
+}
+
+// Numbers that are all different.
+fn persisted() -> StatPersisted {
+    StatPersisted {
+        czxid: 1,
+        mzxid: 2,
+        ctime: 3,
+        mtime: 4,
+        version: 5,
+        cversion: 6,
+        aversion: 7,
+        ephemeral_owner: 8,
+        pzxid: 9,
+    }
+}
+
+#[tactic(auto, unfolding(jute::specs::Records::stat_persisted))]
+fn persisted_written(alloc: Global) -> Result<Vec<u8>, NoMemory> {
+    let mut out = Vec::new(alloc);
+    persisted().write(&mut out)?;
+    Ok(out)
+}
+
+// Whether the numbers are read, to their end.
+fn is_persisted(alloc: Global, bytes: &[u8]) -> Result<bool, ReadError> {
+    let mut reader = Reader::new(bytes);
+    let found = StatPersisted::read(alloc, &mut reader)?;
+    Ok(found == persisted() && reader.rest().is_empty())
+}
+
+#[test]
+fn persisted_stat_is_read_and_written(rt: HostRuntime) -> Result<(), Fail> {
+    assert!(rt; is_persisted(rt.alloc(), &PERSISTED)?);
+    assert_eq!(rt;
+        persisted_written(rt.alloc())?.as_slice(),
+        PERSISTED.as_slice()
+    );
+    Ok(())
+}
+
+// Whether the list has one entry, which lets anyone do everything.
+pub fn is_open(alloc: Global, acls: &Option<Listed<Acl>>) -> Result<bool, NoMemory> {
+    let Some(acls) = acls else {
+        return Ok(false);
+    };
+    if acls.is_empty() || acls.len() != 1 {
+        return Ok(false);
+    }
+    let id = Id {
+        scheme: Text::new(alloc, "world")?,
+        id: Text::new(alloc, "anyone")?,
+    };
+    Ok(acls.as_slice()[0] == Acl { perms: 31, id })
+}
+
+// The next list.
+fn next_acls(alloc: Global, reader: &mut Reader<'_>) -> Result<Option<Listed<Acl>>, ReadError> {
+    read_vector::<Acl>(alloc, reader)
 }
 
 #[test]
 fn acls_are_read(rt: HostRuntime) -> Result<(), Fail> {
-    let mut reader = Reader::new(OPEN.as_slice());
-    let acls = read_vector::<Acl>(rt.alloc(), &mut reader)?.ok_or("null")?;
+    let mut reader = Reader::new(&OPEN);
+    assert!(rt; is_open(rt.alloc(), &next_acls(rt.alloc(), &mut reader)?)?);
     assert!(rt; reader.rest().is_empty());
-    assert_eq!(rt; acls.len(), 1);
-    assert!(rt; !acls.is_empty());
-    assert!(rt; acls.as_slice()[0] == open(rt.alloc())?);
     let mut null = Reader::new(b"\xff\xff\xff\xff\x07");
-    assert!(rt; read_vector::<Acl>(rt.alloc(), &mut null)?.is_none());
+    assert!(rt; next_acls(rt.alloc(), &mut null)?.is_none());
     assert_eq!(rt; null.rest(), b"\x07".as_slice());
     Ok(())
 }
 
-#[test]
+// The list of the open entry.
 #[tactic(auto, unfolding(jute::specs::Owned::acl, jute::specs::Owned::id))]
+fn acls_written(alloc: Global) -> Result<Vec<u8>, NoMemory> {
+    let mut out = Vec::new(alloc);
+    put_vector(&mut out, &Some(open_list(alloc)?))?;
+    Ok(out)
+}
+
+#[test]
 fn acls_are_written(rt: HostRuntime) -> Result<(), Fail> {
-    let alloc = rt.alloc();
-    let acl = Acl {
-        perms: 31,
-        id: Id {
-            scheme: Text::new(alloc, "world")?,
-            id: Text::new(alloc, "anyone")?,
-        },
+    assert_eq!(rt; acls_written(rt.alloc())?.as_slice(), OPEN.as_slice());
+    Ok(())
+}
+
+// Whether an id is read whose texts are empty.
+fn is_empty_id(alloc: Global, bytes: &[u8]) -> Result<bool, ReadError> {
+    let id = Id::read(alloc, &mut Reader::new(bytes))?;
+    Ok(id.scheme.as_str() == "" && id.id.as_str() == "")
+}
+
+#[tactic(auto, unfolding(jute::specs::Owned::id))]
+fn empty_id_written(alloc: Global) -> Result<Vec<u8>, NoMemory> {
+    let id = Id {
+        scheme: Text::new(alloc, "")?,
+        id: Text::new(alloc, "")?,
     };
     let mut out = Vec::new(alloc);
-    put_vector(&mut out, &Some(Listed::from_vec(vec![in alloc; acl]?)))?;
-    assert_eq!(rt; out.as_slice(), OPEN.as_slice());
-    Ok(())
+    id.write(&mut out)?;
+    Ok(out)
 }
 
 /// Null texts of an Id are read as empty, and written with the length 0.
 #[test]
-#[tactic(auto, unfolding(jute::specs::Owned::id))]
 fn null_texts_of_an_id(rt: HostRuntime) -> Result<(), Fail> {
-    let alloc = rt.alloc();
-    let mut reader = Reader::new(b"\xff\xff\xff\xff\xff\xff\xff\xff");
-    let id = Id::read(alloc, &mut reader)?;
-    let empty = Id {
-        scheme: Text::new(alloc, "")?,
-        id: Text::new(alloc, "")?,
-    };
-    assert!(rt; id == empty);
-    let mut out = Vec::new(alloc);
-    empty.write(&mut out)?;
+    assert!(rt; is_empty_id(rt.alloc(), b"\xff\xff\xff\xff\xff\xff\xff\xff")?);
+    let written = b"\x00\x00\x00\x00\x00\x00\x00\x00";
     assert_eq!(rt;
-        out.as_slice(),
-        b"\x00\x00\x00\x00\x00\x00\x00\x00".as_slice()
+        empty_id_written(rt.alloc())?.as_slice(),
+        written.as_slice()
     );
     Ok(())
 }

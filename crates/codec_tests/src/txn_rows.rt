@@ -4,8 +4,8 @@ use crate::rows::{bytes_of, row_of};
 use jute::{ReadRecord, Reader, WriteRecord};
 use std::alloc::Global;
 use std::test::Fail;
-use txn_codec::{Body, Create, Operation, Txn, TxnHeader, TxnKind, decode_txn, encode_txn};
-use values::Fault;
+use txn_codec::{Body, Operation, Txn, TxnHeader, TxnKind, decode_txn, encode_txn};
+use values::{Fault, ReadError};
 
 // Session 7, its request 1, zxid 0x100000001, at 1000.
 const HEADER: &str = "00000000 00000007 00000001 00000001 00000001 00000000 000003e8";
@@ -66,48 +66,63 @@ fn behind_header(alloc: Global, body: &[u8]) -> Result<Vec<u8>, Fail> {
     Ok(bytes)
 }
 
-// What is written of the transaction whose body this is, behind the header.
-fn written_again(alloc: Global, body: &[u8]) -> Result<Vec<u8>, Fail> {
-    let txn = decode_txn(alloc, &behind_header(alloc, body)?)?;
+// What is written of the transaction that the bytes spell.
+fn written_again(alloc: Global, bytes: &[u8]) -> Result<Vec<u8>, Fail> {
+    let txn = decode_txn(alloc, bytes)?;
     let mut out = Vec::new(alloc);
     encode_txn(&txn, &mut out)?;
     Ok(out)
 }
 
+// Whether what is written of a row's transaction is what the row says.
+fn is_written_again(alloc: Global, line: &str) -> Result<bool, Fail> {
+    let row = row_of(alloc, line)?;
+    let body = row.bytes_or(alloc, "the same")?;
+    let written = written_again(alloc, &behind_header(alloc, &row.bytes)?)?;
+    Ok(written == behind_header(alloc, &body)?)
+}
+
 #[test]
 fn transactions_are_written_again(rt: HostRuntime) -> Result<(), Fail> {
     for line in WRITTEN.lines() {
-        let row = row_of(rt.alloc(), line)?;
-        let body = row.bytes_or(rt.alloc(), "the same")?;
-        let expected = behind_header(rt.alloc(), &body)?;
-        let written = written_again(rt.alloc(), &row.bytes)?;
-        assert_eq!(rt; written.as_slice(), expected.as_slice(), "{}", row.name);
+        assert!(rt; is_written_again(rt.alloc(), line)?, "{line}");
     }
     Ok(())
 }
 
-// The word of the fault for which the body is refused.
+// Why the bytes spell no transaction.
+fn refusal_of(alloc: Global, bytes: &[u8]) -> Option<ReadError> {
+    decode_txn(alloc, bytes).err()
+}
+
+// The word of the fault for which a row's body is refused.
 fn fault_of(alloc: Global, body: &[u8]) -> Result<String, Fail> {
-    match decode_txn(alloc, &behind_header(alloc, body)?) {
-        Ok(_) => Ok(String::from_str(alloc, "none")?),
-        Err(error) => Ok(format!(in alloc; "{error}")?),
-    }
+    let error = refusal_of(alloc, &behind_header(alloc, body)?).ok_or("a transaction")?;
+    Ok(format!(in alloc; "{error}")?)
+}
+
+// Whether a row's fault is the one that it says.
+fn is_named(alloc: Global, line: &str) -> Result<bool, Fail> {
+    let row = row_of(alloc, line)?;
+    Ok(fault_of(alloc, &row.bytes)?.as_str() == row.expected)
 }
 
 #[test]
 fn first_fault_is_named(rt: HostRuntime) -> Result<(), Fail> {
     for line in REFUSED.lines() {
-        let row = row_of(rt.alloc(), line)?;
-        let fault = fault_of(rt.alloc(), &row.bytes)?;
-        assert_eq!(rt; fault.as_str(), row.expected, "{}", row.name);
+        assert!(rt; is_named(rt.alloc(), line)?, "{line}");
     }
     Ok(())
 }
 
-// The transaction that makes /a.
-fn create_txn(alloc: Global) -> Result<Txn, Fail> {
-    let body = bytes_of(alloc, CREATE)?;
-    Ok(decode_txn(alloc, &behind_header(alloc, &body)?)?)
+// The bytes of the transaction that makes /a.
+fn create_bytes(alloc: Global) -> Result<Vec<u8>, Fail> {
+    behind_header(alloc, &bytes_of(alloc, CREATE)?)
+}
+
+// The transaction that the bytes spell.
+fn txn_of(alloc: Global, bytes: &[u8]) -> Result<Txn, Fail> {
+    Ok(decode_txn(alloc, bytes)?)
 }
 
 // What is written of the header that stands at the front.
@@ -127,9 +142,26 @@ fn header_is_read_and_written(rt: HostRuntime) -> Result<(), Fail> {
     Ok(())
 }
 
+// Whether the transaction makes /a with its data, and isn't of an ephemeral.
+fn makes_a(txn: &Txn) -> bool {
+    let Body::Single(Operation::Create(create)) = &txn.body else {
+        return false;
+    };
+    create.path.as_str() == "/a" && create.parent_cversion == 1 && !create.ephemeral
+}
+
+// The bytes that a create carries.
+fn bytes_in(txn: &Txn) -> Option<&[u8]> {
+    match &txn.body {
+        Body::Single(Operation::Create(create)) => create.bytes.as_ref().map(|b| b.as_slice()),
+        _ => None,
+    }
+}
+
 #[test]
 fn create_has_its_fields(rt: HostRuntime) -> Result<(), Fail> {
-    let txn = create_txn(rt.alloc())?;
+    let bytes = create_bytes(rt.alloc())?;
+    let txn = txn_of(rt.alloc(), &bytes)?;
     let header = TxnHeader {
         client_id: 7,
         cxid: 1,
@@ -137,18 +169,9 @@ fn create_has_its_fields(rt: HostRuntime) -> Result<(), Fail> {
         time: 1000,
     };
     assert_eq!(rt; txn.header, header);
-    let Body::Single(Operation::Create(create)) = &txn.body else {
-        return Err("a create".into());
-    };
-    assert_eq!(rt; create.path.as_str(), "/a");
-    assert_eq!(rt; bytes_in(create), Some(b"hi".as_slice()));
-    assert_eq!(rt; create.parent_cversion, 1);
-    assert!(rt; !create.ephemeral);
+    assert!(rt; makes_a(&txn));
+    assert_eq!(rt; bytes_in(&txn), Some(b"hi".as_slice()));
     Ok(())
-}
-
-fn bytes_in(create: &Create) -> Option<&[u8]> {
-    create.bytes.as_ref().map(|b| b.as_slice())
 }
 
 #[test]

@@ -1,64 +1,88 @@
 //! Values, faults and the queue of bytes.
 
+use std::alloc::Global;
 use std::test::Fail;
-use values::{Blob, ByteQueue, Bytes, Fault, Listed, ReadError, Text};
+use values::{Blob, ByteQueue, Bytes, Fault, Listed, NoMemory, ReadError, Text};
+
+// Whether bytes are kept, and are the same where they are moved in.
+fn are_bytes_kept(alloc: Global) -> Result<bool, Fail> {
+    let blob = Blob::new(alloc, b"hi")?;
+    let moved = Blob::from_vec(b"hi".to_vec(alloc)?);
+    Ok(blob.as_slice() == b"hi".as_slice() && blob == moved)
+}
+
+// Whether a text is kept, and isn't another.
+fn is_text_kept(alloc: Global) -> Result<bool, NoMemory> {
+    let text = Text::new(alloc, "/a")?;
+    let other = Text::new(alloc, "/b")?;
+    Ok(text.as_str() == "/a" && text != other)
+}
+
+// Whether a list gives back what it took, and isn't its front.
+fn is_list_kept(alloc: Global) -> Result<bool, Fail> {
+    let listed = Listed::from_vec([1u8, 2].to_vec(alloc)?);
+    let is_front = listed == Listed::from_vec([1u8].to_vec(alloc)?);
+    Ok(!is_front && listed.into_vec().as_slice() == [1u8, 2].as_slice())
+}
 
 #[test]
 fn values_hold_what_they_are_given(rt: HostRuntime) -> Result<(), Fail> {
-    let alloc = rt.alloc();
-    let blob = Blob::new(alloc, b"hi")?;
-    assert_eq!(rt; blob.as_slice(), b"hi".as_slice());
-    assert!(rt; blob == Blob::from_vec(b"hi".to_vec(alloc)?));
-    assert_eq!(rt; Bytes::new(b"hi").as_slice(), b"hi".as_slice());
-    let text = Text::new(alloc, "/a")?;
-    assert_eq!(rt; text.as_str(), "/a");
-    assert!(rt; text != Text::new(alloc, "/b")?);
-    let listed = Listed::from_vec([1u8, 2].to_vec(alloc)?);
-    assert!(rt; listed != Listed::from_vec([1u8].to_vec(alloc)?));
-    assert_eq!(rt; listed.into_vec().as_slice(), [1u8, 2].as_slice());
+    assert!(rt; Bytes::new(b"hi").as_slice() == b"hi".as_slice());
+    assert!(rt; are_bytes_kept(rt.alloc())?);
+    assert!(rt; is_text_kept(rt.alloc())?);
+    assert!(rt; is_list_kept(rt.alloc())?);
     Ok(())
+}
+
+// Each fault, by its number, with its word.
+fn faults() -> [(u8, Fault, &'static str); 12] {
+    [
+        (1, Fault::Short, "Short"),
+        (2, Fault::BadLength, "BadLength"),
+        (3, Fault::BadText, "BadText"),
+        (4, Fault::BadPath, "BadPath"),
+        (5, Fault::BadTxnType, "BadTxnType"),
+        (6, Fault::TrailingBytes, "TrailingBytes"),
+        (7, Fault::OutOfOrder, "OutOfOrder"),
+        (8, Fault::CommitMismatch, "CommitMismatch"),
+        (9, Fault::CannotTruncate, "CannotTruncate"),
+        (10, Fault::BadImage, "BadImage"),
+        (11, Fault::EpochTooSmall, "EpochTooSmall"),
+        (12, Fault::UnexpectedPacket, "UnexpectedPacket"),
+    ]
+}
+
+// The fault as it is shown, by itself and as the reason of a refusal.
+fn shown(alloc: Global, fault: Fault) -> Result<String, Fail> {
+    Ok(format!(in alloc; "{fault} {}", ReadError::from(fault))?)
 }
 
 #[test]
 fn faults_have_words_and_numbers(rt: HostRuntime) -> Result<(), Fail> {
-    let faults = [
-        (Fault::Short, "Short"),
-        (Fault::BadLength, "BadLength"),
-        (Fault::BadText, "BadText"),
-        (Fault::BadPath, "BadPath"),
-        (Fault::BadTxnType, "BadTxnType"),
-        (Fault::TrailingBytes, "TrailingBytes"),
-        (Fault::OutOfOrder, "OutOfOrder"),
-        (Fault::CommitMismatch, "CommitMismatch"),
-        (Fault::CannotTruncate, "CannotTruncate"),
-        (Fault::BadImage, "BadImage"),
-        (Fault::EpochTooSmall, "EpochTooSmall"),
-        (Fault::UnexpectedPacket, "UnexpectedPacket"),
-    ];
-    let mut number = 0u8;
-    for (fault, word) in faults.iter().copied() {
-        number = number.wrapping_add(1);
+    for (number, fault, word) in faults() {
         assert_eq!(rt; fault.number(), number);
-        let shown = format!(in rt.alloc(); "{fault}")?;
-        assert_eq!(rt; shown.as_str(), word);
-        let wrapped = format!(in rt.alloc(); "{}", ReadError::from(fault))?;
-        assert_eq!(rt; wrapped.as_str(), word);
+        let text = shown(rt.alloc(), fault)?;
+        assert_eq!(rt; text.as_str().split_once(' '), Some((word, word)));
     }
     Ok(())
+}
+
+// Puts the bytes behind those that wait, and says whether these wait now.
+fn wait_now(queue: &mut ByteQueue, piece: &[u8], all: &[u8]) -> Result<bool, NoMemory> {
+    queue.add(piece)?;
+    Ok(queue.as_slice() == all && queue.len() == all.len())
 }
 
 #[test]
 fn bytes_wait_in_their_order(rt: HostRuntime) -> Result<(), Fail> {
     let mut queue = ByteQueue::new(rt.alloc());
     assert!(rt; queue.is_empty());
-    queue.add(b"abc")?;
-    queue.add(b"defg")?;
-    assert!(rt; queue.len() == 7);
+    assert!(rt; wait_now(&mut queue, b"abc", b"abc")?);
+    assert!(rt; wait_now(&mut queue, b"defg", b"abcdefg")?);
     queue.drop_front(2);
     assert!(rt; queue.as_slice() == b"cdefg".as_slice());
     queue.drop_front(3);
-    queue.add(b"h")?;
-    assert!(rt; queue.as_slice() == b"fgh".as_slice());
+    assert!(rt; wait_now(&mut queue, b"h", b"fgh")?);
     queue.drop_front(3);
     assert!(rt; queue.is_empty());
     Ok(())

@@ -43,13 +43,34 @@ fn put(alloc: Global, tree: &mut Tree, text: &str, owner: i64) -> Result<bool, F
     Ok(true)
 }
 
-// Puts nodes with their owners, and says for each whether there was a place.
-fn put_all(alloc: Global, tree: &mut Tree, nodes: &[(&str, i64)]) -> Result<Vec<bool>, Fail> {
-    let mut places = Vec::new(alloc);
+// Session 9 lasts 5 seconds; then come nodes, and for each a sign whether there was a place.
+fn make(alloc: Global, tree: &mut Tree, nodes: &[(&str, i64)]) -> Result<String, Fail> {
+    tree.put_session(9, 5000)?;
+    let mut signs = String::new(alloc);
     for (text, owner) in nodes {
-        places.push(put(alloc, tree, text, *owner)?)?;
+        signs.push_str(if put(alloc, tree, text, *owner)? {
+            "+"
+        } else {
+            "-"
+        })?;
     }
-    Ok(places)
+    Ok(signs)
+}
+
+// Puts /a too early, the root, its children and what has no place any more.
+fn make_whole(alloc: Global, tree: &mut Tree) -> Result<String, Fail> {
+    make(
+        alloc,
+        tree,
+        &[
+            ("/a", 0),
+            ("/", 0),
+            ("/b", 0),
+            ("/a", 9),
+            ("/a", 0),
+            ("/", 0),
+        ],
+    )
 }
 
 // The names of the root's children, one after the other.
@@ -67,33 +88,27 @@ fn is_as_made(alloc: Global, tree: &Tree) -> Result<bool, Fail> {
     Ok(tree.is_whole(alloc)? && owns && tree.sessions().get(9) == Some(5000))
 }
 
-// A copy of the tree, whose session then loses its time.
-fn copied(tree: &mut Tree) -> Result<Tree, Fail> {
+// Whether a copy of the tree keeps what the tree then loses: the time of its session.
+fn is_copied(alloc: Global, tree: &mut Tree) -> Result<bool, Fail> {
     let copy = tree.copy()?;
     tree.put_session(9, 0)?;
-    Ok(copy)
+    Ok(is_as_made(alloc, &copy)? && names(alloc, &copy)?.as_str() == "ab")
 }
 
 #[test]
 fn a_tree_is_made_node_by_node(rt: HostRuntime) -> Result<(), Fail> {
-    let alloc = rt.alloc();
-    let mut tree = Tree::empty(alloc);
-    tree.put_session(9, 5000)?;
-    let nodes = [
-        ("/a", 0),
-        ("/", 0),
-        ("/b", 0),
-        ("/a", 9),
-        ("/a", 0),
-        ("/", 0),
-    ];
-    let places = put_all(alloc, &mut tree, &nodes)?;
-    assert_eq!(rt;
-        places.as_slice(),
-        [false, true, true, true, false, false].as_slice()
-    );
-    let copy = copied(&mut tree)?;
-    assert!(rt; is_as_made(alloc, &copy)? && !is_as_made(alloc, &tree)?);
-    assert_eq!(rt; names(alloc, &copy)?.as_str(), "ab");
+    let mut tree = Tree::empty(rt.alloc());
+    let signs = make_whole(rt.alloc(), &mut tree)?;
+    assert_eq!(rt; signs.as_str(), "-+++--");
+    assert!(rt; is_as_made(rt.alloc(), &tree)?);
+    Ok(())
+}
+
+#[test]
+fn a_copy_stands_alone(rt: HostRuntime) -> Result<(), Fail> {
+    let mut tree = Tree::empty(rt.alloc());
+    make_whole(rt.alloc(), &mut tree)?;
+    assert!(rt; is_copied(rt.alloc(), &mut tree)?);
+    assert!(rt; !is_as_made(rt.alloc(), &tree)?);
     Ok(())
 }

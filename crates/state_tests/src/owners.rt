@@ -29,40 +29,38 @@ fn text_of(alloc: Global, owners: &Ephemerals) -> Result<String, Fail> {
 }
 
 // Adds pairs, and says for each whether it was new.
-fn add_all(
-    alloc: Global,
-    owners: &mut Ephemerals,
-    pairs: &[(i64, &str)],
-) -> Result<Vec<bool>, Fail> {
-    let mut news = Vec::new(alloc);
+fn add_all(alloc: Global, owners: &mut Ephemerals, pairs: &[(i64, &str)]) -> Result<String, Fail> {
+    let mut signs = String::new(alloc);
     for (session, path) in pairs {
-        news.push(owners.add(alloc, *session, path)?)?;
+        signs.push_str(if owners.add(alloc, *session, path)? {
+            "+"
+        } else {
+            "-"
+        })?;
     }
-    Ok(news)
+    Ok(signs)
 }
 
-// A copy of the pairs, in which /a goes from session 9 to session 7.
-fn moved(alloc: Global, owners: &Ephemerals) -> Result<Ephemerals, Fail> {
+// Two paths of session 9, one of them twice, and one of nobody.
+fn fill(alloc: Global, owners: &mut Ephemerals) -> Result<String, Fail> {
+    add_all(alloc, owners, &[(9, "/b"), (9, "/a"), (9, "/b"), (0, "/c")])
+}
+
+// The paths of a copy of the pairs, in which /a goes from session 9 to session 7.
+fn moved(alloc: Global, owners: &Ephemerals) -> Result<String, Fail> {
     let mut copy = owners.clone()?;
     copy.replace(alloc, "/a", 9, 7)?;
     copy.replace(alloc, "/c", 0, 0)?;
-    Ok(copy)
+    text_of(alloc, &copy)
 }
 
 #[test]
 fn pairs_come_and_go(rt: HostRuntime) -> Result<(), Fail> {
-    let alloc = rt.alloc();
-    let mut owners = Ephemerals::new(alloc);
-    let news = add_all(
-        alloc,
-        &mut owners,
-        &[(9, "/b"), (9, "/a"), (9, "/b"), (0, "/c")],
-    )?;
-    assert_eq!(rt; news.as_slice(), [true, true, false, false].as_slice());
-    let copy = moved(alloc, &owners)?;
-    assert_eq!(rt; text_of(alloc, &copy)?.as_str(), "-;/a;/b;");
-    let taken = owners.take_session(alloc, 9);
-    assert_eq!(rt; taken.len(), 2);
-    assert_eq!(rt; text_of(alloc, &owners)?.as_str(), "-;-;-;");
+    let mut owners = Ephemerals::new(rt.alloc());
+    let signs = fill(rt.alloc(), &mut owners)?;
+    assert_eq!(rt; signs.as_str(), "++--");
+    assert_eq!(rt; moved(rt.alloc(), &owners)?.as_str(), "-;/a;/b;");
+    assert_eq!(rt; owners.take_session(rt.alloc(), 9).len(), 2);
+    assert_eq!(rt; text_of(rt.alloc(), &owners)?.as_str(), "-;-;-;");
     Ok(())
 }

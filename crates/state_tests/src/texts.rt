@@ -4,14 +4,14 @@ use ephemerals::TextSet;
 use std::alloc::Global;
 use std::test::Fail;
 
-// The set of the texts, and for each whether it was new.
-fn set_of(alloc: Global, texts: &[&str]) -> Result<(TextSet, Vec<bool>), Fail> {
-    let mut set = TextSet::new(alloc);
-    let mut news = Vec::new(alloc);
+// Inserts the texts, and says for each whether it was new.
+fn insert_all(alloc: Global, set: &mut TextSet, texts: &[&str]) -> Result<String, Fail> {
+    let mut signs = String::new(alloc);
     for text in texts {
-        news.push(set.insert(String::from_str(alloc, text)?)?)?;
+        let is_new = set.insert(String::from_str(alloc, text)?)?;
+        signs.push_str(if is_new { "+" } else { "-" })?;
     }
-    Ok((set, news))
+    Ok(signs)
 }
 
 // The texts one after another, as a loop over them sees them.
@@ -24,8 +24,7 @@ fn looped(alloc: Global, set: &TextSet) -> Result<String, Fail> {
 }
 
 // The texts one after another, as they are taken out.
-fn popped(alloc: Global, set: TextSet) -> Result<String, Fail> {
-    let mut set = set;
+fn popped(alloc: Global, set: &mut TextSet) -> Result<String, Fail> {
     let mut out = String::new(alloc);
     for _ in 0..set.len() {
         let text = set.pop_first().ok_or("no text")?;
@@ -43,11 +42,11 @@ fn copied(alloc: Global, set: &TextSet) -> Result<String, Fail> {
 
 #[test]
 fn texts_come_in_ascending_bytes(rt: HostRuntime) -> Result<(), Fail> {
-    let alloc = rt.alloc();
-    let (set, news) = set_of(alloc, &["b", "a/c", "a", "b"])?;
-    assert_eq!(rt; news.as_slice(), [true, true, true, false].as_slice());
-    assert_eq!(rt; copied(alloc, &set)?.as_str(), "a/cb");
-    assert_eq!(rt; looped(alloc, &set)?.as_str(), "aa/cb");
-    assert_eq!(rt; popped(alloc, set)?.as_str(), "aa/cb");
+    let mut set = TextSet::new(rt.alloc());
+    let signs = insert_all(rt.alloc(), &mut set, &["b", "a/c", "a", "b"])?;
+    assert_eq!(rt; signs.as_str(), "+++-");
+    assert_eq!(rt; copied(rt.alloc(), &set)?.as_str(), "a/cb");
+    assert_eq!(rt; looped(rt.alloc(), &set)?.as_str(), "aa/cb");
+    assert_eq!(rt; popped(rt.alloc(), &mut set)?.as_str(), "aa/cb");
     Ok(())
 }

@@ -3,7 +3,7 @@
 use data_tree::{Outcome, Tree, Trigger};
 use std::alloc::Global;
 use std::test::Fail;
-use txn_codec::decode_txn;
+use txn_codec::{Txn, decode_txn};
 
 // Session 9 makes the ephemeral /e.
 const CREATE_E: &[u8; 51] =
@@ -40,13 +40,19 @@ fn sign_of(trigger: &Trigger) -> (&'static str, &str) {
     }
 }
 
-// The error, the parts' errors, and what watchers are told.
-fn text_of(alloc: Global, outcome: &Outcome) -> Result<String, Fail> {
-    let mut text = format!(in alloc; "{}", outcome.err)?;
-    for part in outcome.parts.as_slice() {
+// The errors of the parts.
+fn errors_of(alloc: Global, parts: &[i32]) -> Result<String, Fail> {
+    let mut text = String::new(alloc);
+    for part in parts {
         text.push_str(format!(in alloc; " {part}")?.as_str())?;
     }
-    for trigger in outcome.triggers.as_slice() {
+    Ok(text)
+}
+
+// What watchers are told.
+fn signs_of(alloc: Global, triggers: &[Trigger]) -> Result<String, Fail> {
+    let mut text = String::new(alloc);
+    for trigger in triggers {
         let (sign, path) = sign_of(trigger);
         text.push_str(sign)?;
         text.push_str(path)?;
@@ -54,9 +60,21 @@ fn text_of(alloc: Global, outcome: &Outcome) -> Result<String, Fail> {
     Ok(text)
 }
 
+// The error, the parts' errors, and what watchers are told.
+fn text_of(alloc: Global, outcome: &Outcome) -> Result<String, Fail> {
+    let errors = errors_of(alloc, outcome.parts.as_slice())?;
+    let signs = signs_of(alloc, outcome.triggers.as_slice())?;
+    Ok(format!(in alloc; "{}{errors}{signs}", outcome.err)?)
+}
+
+// The transaction that the bytes spell.
+fn txn_of(alloc: Global, bytes: &[u8]) -> Result<Txn, Fail> {
+    Ok(decode_txn(alloc, bytes)?)
+}
+
 // What the transaction that the bytes spell answers.
 fn answer(alloc: Global, tree: &mut Tree, bytes: &[u8]) -> Result<String, Fail> {
-    let txn = decode_txn(alloc, bytes).ok().ok_or("a transaction")?;
+    let txn = txn_of(alloc, bytes)?;
     text_of(alloc, &tree.apply(alloc, &txn)?)
 }
 
