@@ -73,15 +73,15 @@ fn print_end(rt: &HostRuntime, engine: &Engine) -> Result<()> {
     Ok(())
 }
 
-fn print(rt: &HostRuntime, engine: &Engine, outputs: &[Output]) -> Result<()> {
-    print_outputs(rt, outputs)?;
+fn feed_and_print(rt: &HostRuntime, engine: &mut Engine) -> Result<()> {
+    let outputs = fed_both(rt.alloc(), engine)?;
+    print_outputs(rt, outputs.as_slice())?;
     print_end(rt, engine)
 }
 
 fn run(rt: &HostRuntime) -> Result<()> {
     let mut engine = started(rt.alloc())?;
-    let outputs = fed_both(rt.alloc(), &mut engine)?;
-    print(rt, &engine, outputs.as_slice())
+    feed_and_print(rt, &mut engine)
 }
 
 fn main(rt: HostRuntime) -> ExitCode {
