@@ -8,6 +8,14 @@
 //!
 //! `leader` and `client` carry the two kinds of steps out, `run` the events. What their private functions promise each
 //! other stands in specs/Inner, and nobody outside needs it.
+//!
+//! ```text
+//! let config = Config::new(3, 0, 0, 4000, 40_000, secret)?;  // server id, two epochs, two timeouts in milliseconds, secret
+//! let mut engine = Engine::primed(alloc, config)?;           // follows a leader, and connection 1 is open
+//! let events = [Event::LeaderBytes(Bytes::new(inform)), Event::ClientBytes(1, Bytes::new(frame))];
+//! engine.feed_inline(alloc, &events, &mut outputs)?;         // appends Output::ToClient(1, reply)
+//! engine.learner().last_zxid(), engine.tree().node("/a")     // what it knows by then
+//! ```
 #![tactic(auto)]
 
 mod client;

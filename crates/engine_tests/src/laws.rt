@@ -1,0 +1,25 @@
+//! The laws, each called once. A law that is called in a test would bring its statement, rows of bytes among it, into
+//! the test's proof.
+use observer_core::{
+    cut_anywhere, logs_are_followed, plays_on, refusals_change_nothing, worked_rows,
+};
+
+pub fn call_plays_on() {
+    plays_on();
+}
+
+pub fn call_cut_anywhere() {
+    cut_anywhere();
+}
+
+pub fn call_logs_are_followed() {
+    logs_are_followed();
+}
+
+pub fn call_refusals_change_nothing() {
+    refusals_change_nothing();
+}
+
+pub fn call_worked_rows() {
+    worked_rows();
+}
