@@ -156,8 +156,7 @@ set_data_at header body (Some node) =
     record {
       err = pos 0;
       changes = Put body.path (with_data header body node) ∷ [];
-      triggers =
-          DataChanged body.path ∷ [];
+      triggers = DataChanged body.path ∷ [];
     }
 
 -- an operation reads the nodes at its path and at the parent, and no more
@@ -220,13 +219,15 @@ errors_of_failed (o ∷ os) = if is_some (error_of o) then map error_in_failed (
 
 -- the answer of a multi with an error part
 abbrev pub failed_outcome : List Operation → Outcome
-failed_outcome parts = let errors =
-    errors_of_failed parts in record { err = first_error errors; parts = errors; triggers = [] }
+failed_outcome parts =
+    let errors = errors_of_failed parts in
+    record { err = first_error errors; parts = errors; triggers = [] }
 
 -- nothing is applied
 abbrev pub of_failed : List Operation → State → Meant
-of_failed parts s = let answer =
-    failed_outcome parts in record { state = s; err = answer.err; parts = answer.parts; triggers = answer.triggers }
+of_failed parts s =
+    let answer = failed_outcome parts in
+    record { state = s; err = answer.err; parts = answer.parts; triggers = answer.triggers }
 
 -- the parts in order; one that fails stops none after it
 abbrev pub of_parts : TxnHeader → List Operation → State → Meant
@@ -250,8 +251,7 @@ of_create_session header timeout s =
     record {
       state = record s { sessions = finmap.insert s.sessions header.client_id timeout };
       err = pos 0;
-      parts =
-          [];
+      parts = [];
       triggers = [];
     }
 
