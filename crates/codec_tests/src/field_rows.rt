@@ -14,6 +14,12 @@ const LIMIT: u32 = 4_194_304;
 const FIELDS: &[u8; 29] =
     b"\xff\xff\xff\xfe\x00\x00\x00\x01\x00\x00\x00\x01\x01\x00\x00\x00\x02hi\xff\xff\xff\xff\x00\x00\x00\x02/a";
 
+/// True, a count of 5, the name x and a null name.
+const OTHERS: &[u8; 14] = b"\x07\x00\x00\x00\x05\x00\x00\x00\x01x\xff\xff\xff\xff";
+
+/// A buffer, and null.
+const BLOBS: &[u8; 10] = b"\0\0\0\x02hi\xff\xff\xff\xff";
+
 // Why no text is read, if the place is left.
 fn text_fault(bytes: &[u8]) -> Option<Fault> {
     let mut reader = Reader::new(bytes);
@@ -38,22 +44,20 @@ fn refused_texts(rt: HostRuntime) {
 }
 
 // Why no frame is read.
-fn frame_fault(bytes: &[u8], limit: u32) -> Option<Fault> {
-    read_frame(&mut Reader::new(bytes), limit).err()
+fn frame_fault(reader: &mut Reader<'_>, limit: u32) -> Option<Fault> {
+    read_frame(reader, limit).err()
 }
 
+// A refusal leaves the place, so the next one reads the same bytes.
 #[test]
 fn refused_numbers_and_frames(rt: HostRuntime) {
-    let bytes = b"\x00\x10\x00\x01";
-    let mut reader = Reader::new(bytes);
+    let mut reader = Reader::new(b"\x00\x10\x00\x01");
     assert!(rt; reader.read_count() == Err(Fault::BadLength));
     assert!(rt; reader.read_long() == Err(Fault::Short));
-    assert_eq!(rt; frame_fault(bytes, LIMIT), Some(Fault::Short));
-    assert_eq!(rt; frame_fault(bytes, 0x10_0000), Some(Fault::BadLength));
-    assert_eq!(rt;
-        frame_fault(b"\xff\xff\xff\xff", LIMIT),
-        Some(Fault::BadLength)
-    );
+    assert!(rt; frame_fault(&mut reader, LIMIT) == Some(Fault::Short));
+    assert!(rt; frame_fault(&mut reader, 0x10_0000) == Some(Fault::BadLength));
+    let mut negative = Reader::new(b"\xff\xff\xff\xff");
+    assert!(rt; frame_fault(&mut negative, LIMIT) == Some(Fault::BadLength));
 }
 
 // The fields as they are written.
@@ -90,17 +94,22 @@ fn next_name<'a>(reader: &mut Reader<'a>) -> Option<&'a str> {
     }
 }
 
+// Whether the bytes are a boolean, a count and two names.
+fn are_others(bytes: &[u8]) -> bool {
+    let mut reader = Reader::new(bytes);
+    reader.read_bool() == Ok(true)
+        && reader.read_count() == Ok(Some(5))
+        && next_name(&mut reader) == Some("x")
+        && next_name(&mut reader) == Some("")
+}
+
 #[test]
 fn fields_are_read_and_written(rt: HostRuntime) -> Result<(), Fail> {
     assert_eq!(rt; fields(rt.alloc())?.as_slice(), FIELDS.as_slice());
     let mut reader = Reader::new(FIELDS);
     assert!(rt; are_numbers(&mut reader));
     assert!(rt; are_texts(&mut reader));
-    let mut other = Reader::new(b"\x07\x00\x00\x00\x05\x00\x00\x00\x01x\xff\xff\xff\xff");
-    assert!(rt; other.read_bool() == Ok(true));
-    assert!(rt; other.read_count() == Ok(Some(5)));
-    assert_eq!(rt; next_name(&mut other), Some("x"));
-    assert_eq!(rt; next_name(&mut other), Some(""));
+    assert!(rt; are_others(OTHERS));
     Ok(())
 }
 
@@ -112,22 +121,17 @@ fn blobs(alloc: Global) -> Result<Vec<u8>, NoMemory> {
     Ok(out)
 }
 
-// Whether the next is the buffer.
-fn is_blob(alloc: Global, reader: &mut Reader<'_>) -> Result<bool, ReadError> {
-    Ok(read_blob(alloc, reader)? == Some(Blob::new(alloc, b"hi")?))
-}
-
-// Whether the next is null.
-fn is_null(alloc: Global, reader: &mut Reader<'_>) -> Result<bool, ReadError> {
-    Ok(read_blob(alloc, reader)?.is_none())
+// Whether the bytes are those of the buffer and null.
+fn are_blobs(alloc: Global, bytes: &[u8]) -> Result<bool, ReadError> {
+    let mut reader = Reader::new(bytes);
+    let first = read_blob(alloc, &mut reader)?;
+    let second = read_blob(alloc, &mut reader)?;
+    Ok(second.is_none() && first == Some(Blob::new(alloc, b"hi")?))
 }
 
 #[test]
 fn blobs_are_written_and_read(rt: HostRuntime) -> Result<(), Fail> {
-    let bytes = b"\0\0\0\x02hi\xff\xff\xff\xff";
-    assert_eq!(rt; blobs(rt.alloc())?.as_slice(), bytes.as_slice());
-    let mut reader = Reader::new(bytes);
-    assert!(rt; is_blob(rt.alloc(), &mut reader)?);
-    assert!(rt; is_null(rt.alloc(), &mut reader)?);
+    assert_eq!(rt; blobs(rt.alloc())?.as_slice(), BLOBS.as_slice());
+    assert!(rt; are_blobs(rt.alloc(), BLOBS)?);
     Ok(())
 }

@@ -3,7 +3,7 @@
 use std::alloc::Global;
 use std::test::Fail;
 use txn_codec::{Path, child_of, name_of, parent_of};
-use values::{Fault, ReadError};
+use values::{Fault, NoMemory, ReadError};
 
 // Whether the text is a path, with this parent and name.
 fn is_parted(alloc: Global, text: &str, parent: &str, name: &str) -> Result<bool, ReadError> {
@@ -24,12 +24,16 @@ fn paths_have_parts(rt: HostRuntime) -> Result<(), Fail> {
     Ok(())
 }
 
+// Whether the path's child c has this path, and those are its parts.
+fn is_child(alloc: Global, path: &str, child: &str) -> Result<bool, NoMemory> {
+    let found = child_of(alloc, path, "c")?;
+    Ok(found.as_str() == child && parent_of(child) == path && name_of(child) == "c")
+}
+
 #[test]
 fn children_have_paths(rt: HostRuntime) -> Result<(), Fail> {
     for (path, child) in [("/", "/c"), ("/a/b", "/a/b/c")] {
-        assert_eq!(rt; child_of(rt.alloc(), path, "c")?.as_str(), child);
-        assert_eq!(rt; parent_of(child), path);
-        assert_eq!(rt; name_of(child), "c");
+        assert!(rt; is_child(rt.alloc(), path, child)?, "{path}");
     }
     Ok(())
 }

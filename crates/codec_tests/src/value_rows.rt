@@ -67,22 +67,18 @@ fn faults_have_words_and_numbers(rt: HostRuntime) -> Result<(), Fail> {
     Ok(())
 }
 
-// Puts the bytes behind those that wait, and says whether these wait now.
-fn wait_now(queue: &mut ByteQueue, piece: &[u8], all: &[u8]) -> Result<bool, NoMemory> {
-    queue.add(piece)?;
-    Ok(queue.as_slice() == all && queue.len() == all.len())
-}
-
 #[test]
 fn bytes_wait_in_their_order(rt: HostRuntime) -> Result<(), Fail> {
     let mut queue = ByteQueue::new(rt.alloc());
     assert!(rt; queue.is_empty());
-    assert!(rt; wait_now(&mut queue, b"abc", b"abc")?);
-    assert!(rt; wait_now(&mut queue, b"defg", b"abcdefg")?);
+    queue.add(b"abc")?;
+    queue.add(b"defg")?;
+    assert!(rt; queue.len() == 7);
     queue.drop_front(2);
     assert!(rt; queue.as_slice() == b"cdefg".as_slice());
     queue.drop_front(3);
-    assert!(rt; wait_now(&mut queue, b"h", b"fgh")?);
+    queue.add(b"h")?;
+    assert!(rt; queue.as_slice() == b"fgh".as_slice());
     queue.drop_front(3);
     assert!(rt; queue.is_empty());
     Ok(())
