@@ -1,5 +1,5 @@
-//! Tests of the crates that read and write bytes: `values`, `jute`, `txn_codec` and `quorum_packet`. They stand apart,
-//! since a crate with tests is proved twice.
+//! Tests of the crates that read and write bytes: `values`, `jute` and `quorum_packet`. They stand apart, since a crate
+//! with tests is proved twice.
 #![tactic(auto)]
 
 #[cfg(test)]
@@ -7,15 +7,7 @@ mod field_rows;
 #[cfg(test)]
 mod packet_rows;
 #[cfg(test)]
-mod part_rows;
-#[cfg(test)]
-mod path_rows;
-#[cfg(test)]
 mod record_rows;
-#[cfg(test)]
-mod rows;
-#[cfg(test)]
-mod txn_rows;
 #[cfg(test)]
 mod value_rows;
 

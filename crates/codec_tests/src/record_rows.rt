@@ -196,7 +196,7 @@ fn persisted_stat_is_read_and_written(rt: HostRuntime) -> Result<(), Fail> {
 }
 
 // Whether the list has one entry, which lets anyone do everything.
-pub fn is_open(alloc: Global, acls: &Option<Listed<Acl>>) -> Result<bool, NoMemory> {
+fn is_open(alloc: Global, acls: &Option<Listed<Acl>>) -> Result<bool, NoMemory> {
     let Some(acls) = acls else {
         return Ok(false);
     };

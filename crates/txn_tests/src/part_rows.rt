@@ -2,13 +2,12 @@
 
 ghost use Rattle.std.specs.Prelude.{◌<◌, ◌^◌, IfOk, length};
 
-use crate::record_rows::is_open;
 use jute::codes::open_list;
-use jute::{ReadRecord, Reader, WriteRecord};
+use jute::{Acl, ReadRecord, Reader, WriteRecord};
 use std::alloc::Global;
 use std::test::Fail;
 use txn_codec::{Check, Create, Path, SetAcl, SetData};
-use values::{Blob, NoMemory, ReadError};
+use values::{Blob, Listed, NoMemory, ReadError};
 
 // The version 4 of /a is compared.
 const CHECK: &[u8; 10] = b"\0\0\0\x02/a\0\0\0\x04";
@@ -38,6 +37,11 @@ fn a_path(alloc: Global) -> Result<Path, Fail>
 // Whether it is the data "x".
 fn is_x(alloc: Global, bytes: &Option<Blob>) -> Result<bool, NoMemory> {
     Ok(*bytes == Some(Blob::new(alloc, b"x")?))
+}
+
+// Whether it is the open list.
+fn is_open(alloc: Global, acls: &Option<Listed<Acl>>) -> Result<bool, NoMemory> {
+    Ok(*acls == Some(open_list(alloc)?))
 }
 
 fn is_check(alloc: Global, bytes: &[u8]) -> Result<bool, ReadError> {

@@ -1,5 +1,6 @@
 //! Paths.
 
+use crate::path_of;
 use std::alloc::Global;
 use std::test::Fail;
 use txn_codec::{Path, child_of, name_of, parent_of};
@@ -7,7 +8,7 @@ use values::{Fault, NoMemory, ReadError};
 
 // Whether the text is a path, with this parent and name.
 fn is_parted(alloc: Global, text: &str, parent: &str, name: &str) -> Result<bool, ReadError> {
-    let path = Path::new(alloc, text)?;
+    let path = path_of(alloc, text)?;
     Ok(path.as_str() == text && path.parent() == parent && path.name() == name)
 }
 
