@@ -97,6 +97,7 @@ impl TextSet {
         ensures first { IfSome result
             (λ text. in_order self.old ≡ string_bytes text ∷ in_order self.new) }
         ensures none { IfNone result (in_order self.old ≡ []) }
+        ensures kept { IfNone result (self.new ≡ self.old) }
     {
         self.texts.pop_first()
     }
