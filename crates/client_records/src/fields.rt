@@ -9,7 +9,10 @@ ghost use Rattle.jute.specs.Reads.{Gives};
 ghost use Rattle.values.specs.Gains.{Puts};
 ghost use Rattle.client_records.specs.Fields.{names};
 
-use jute::{ReadRecord, Reader, WriteRecord, put_bytes, put_int, put_items, put_string, read_name, read_vector};
+use jute::{
+    ReadRecord, Reader, WriteRecord, put_bytes, put_int, put_items, put_string, read_name,
+    read_vector,
+};
 use std::alloc::Global;
 use std::collections::btree_set::Iter;
 use std::marker::Model;
@@ -124,6 +127,7 @@ impl<'a> WriteRecord for Name<'a> {
 }
 
 /// Reads a vector of records, where null is read as empty.
+#[tactic(auto, unfolding(jute::specs::Format::judged_at))]
 pub fn read_list<'a, T: ReadRecord<'a>>(
     alloc: Global,
     reader: &mut Reader<'a>,

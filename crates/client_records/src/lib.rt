@@ -25,5 +25,6 @@ pub use event::WatcherEvent;
 pub use fields::{Name, put_list, put_names, read_list};
 pub use request::{AuthPacket, GetAclRequest, PathAndWatch, SetWatches};
 pub use response::{
-    Acls, ExistsResponse, GetAclResponse, GetChildren2Response, GetChildrenResponse, GetDataResponse,
+    Acls, ExistsResponse, GetAclResponse, GetChildren2Response, GetChildrenResponse,
+    GetDataResponse,
 };

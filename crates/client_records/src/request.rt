@@ -120,7 +120,7 @@ impl<'a> WriteRecord for SetWatches<'a> {
             + items_len(self.child_watches.as_slice())
     }
 
-    #[tactic(auto, unfolding(crate::specs::Requests::set_watches))]
+    #[tactic(auto, unfolding(crate::specs::Requests::set_watches), using(values::proofs::Gaining::puts_behind, values::proofs::Gaining::gains_behind, values::proofs::Gaining::gains_first))]
     fn write(&self, out: &mut Vec<u8>) -> Result<(), NoMemory> {
         self.relative_zxid.write(out)?;
         put_list(out, self.data_watches.as_slice())?;

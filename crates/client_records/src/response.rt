@@ -117,7 +117,7 @@ pub struct GetChildren2Response<'a> {
 impl<'a> ReadRecord<'a> for GetChildren2Response<'a> {
     ghost read_of = { get_children2_response.read };
 
-    #[tactic(auto, unfolding(crate::specs::Responses::get_children2_response))]
+    #[tactic(auto, unfolding(crate::specs::Responses::get_children2_response, jute::specs::Format::judged_at))]
     fn read(alloc: Global, reader: &mut Reader<'a>) -> Result<GetChildren2Response<'a>, ReadError> {
         let mut ahead = reader.ahead();
         let children = read_list(alloc, &mut ahead)?;
