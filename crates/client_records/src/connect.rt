@@ -10,7 +10,7 @@ use std::alloc::Global;
 use values::{Blob, Bytes, NoMemory, ReadError};
 
 /// The ConnectRequest of zookeeper.jute.
-#[derive(Debug, Drop, PartialEq, Eq)]
+#[derive(Drop, PartialEq)]
 pub struct ConnectRequest<'a> {
     pub protocol_version: i32,
     /// The greatest zxid that the client has seen.
@@ -60,7 +60,7 @@ impl<'a> WriteRecord for ConnectRequest<'a> {
 }
 
 /// The ConnectResponse of zookeeper.jute.
-#[derive(Debug, Drop, PartialEq, Eq)]
+#[derive(Drop, PartialEq)]
 pub struct ConnectResponse {
     pub protocol_version: i32,
     /// How long the session lasts without its client, in milliseconds.

@@ -1,4 +1,4 @@
-use Rattle.std.proofs.Common.{◌<◌, ◌^◌, length, string_bytes, subst}
+use Rattle.std.proofs.Common.{◌<◌, ◌^◌, length, string_bytes, sym, subst}
 use Rattle.std.proofs.lemmas.List.{length-map}
 use Rattle.jute.proofs.Writing.{fails}
 use Rattle.client_records.proofs.Names.{each_may, put_count, put_next, put_part}
@@ -6,9 +6,9 @@ use Rattle.client_records.proofs.fields.put_names.Goals as goal
 
 pub loop-text-init : goal.loop-text-init
 loop-text-init c =
-    let few : length c.args.texts < 2 ^ 31 = subst (λ n. n < 2 ^ 31) (length-map c.args.texts string_bytes) c.requires.writable.0 in
+    let few : length c.args.texts < 2 ^ 31 = subst (λ n. n < 2 ^ 31) (length-map c.args.texts string_bytes) c.requires.0 in
     rw c.into_iter-text-iterator.ensures.into_iter_gives
-    (tt, tt, each_may c.args.texts c.requires.writable.1, put_count c.args.out.now.items c.put_int.new.out.items c.args.count c.args.texts c.requires.counted few c.in_ok-put_int.ensures)
+    (tt, tt, each_may c.args.texts c.requires.1, put_count c.args.out.now.items c.put_int.new.out.items _ c.args.texts (sym c.len.ensures.value) few c.in_ok-put_int.ensures)
 
 pub loop-text-preserved : goal.loop-text-preserved
 loop-text-preserved c =
