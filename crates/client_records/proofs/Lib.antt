@@ -1,3 +1,5 @@
+-- how long lists are
+pub mod Sizes
 -- texts of a set that are written
 pub mod Names
 -- the records

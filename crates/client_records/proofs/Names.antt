@@ -1,6 +1,6 @@
 -- Texts of a set that are written one behind another.
 use Rattle.std.proofs.Common.{◌≡◌, ℕ, ◌<◌, ◌^◌, List, [], ◌∷◌, ◌++◌, length, map, All, String, Global, string_bytes, refl, sym, ap, ◌∙◌, append_assoc}
-use Rattle.std.proofs.Common.{w32, to_z, pos, subst}
+use Rattle.std.proofs.Common.{w32, to_z, pos}
 use Rattle.std.specs.List.{flat_map, AllByRecursion}
 use Rattle.std.proofs.lemmas.List.{append-nil}
 use Rattle.std.proofs.lemmas.List.Concat.{flat_map-cons}

@@ -2,7 +2,6 @@
 use Rattle.std.proofs.Common.{refl}
 use Rattle.jute.specs.Format.{name}
 use Rattle.jute.specs.Owned.{acl}
-use Rattle.jute.specs.Records.{stat}
 use Rattle.jute.specs.Laws.{Sound}
 use Rattle.jute.proofs.Public.{int_sound, long_sound, boolean_sound, buffer_sound, text_sound, name_sound, acl_sound, stat_sound, null_vector_sound, both_sound, mapped_sound}
 use Rattle.client_records.specs.Fields.{names}

@@ -1,8 +1,7 @@
 -- The records that stand in the frames to a client: the fields of zookeeper.jute in their order, nothing between.
-use Rattle.jute.specs.Format.{Format, int, long, buffer, text, vector, or_null, both, mapped}
-use Rattle.jute.specs.Owned.{acl}
+use Rattle.jute.specs.Format.{Format, int, long, buffer, text, both, mapped}
 use Rattle.jute.specs.Records.{stat}
-use Rattle.client_records.specs.Fields.{names}
+use Rattle.client_records.specs.Fields.{acls, names}
 use Rattle.client_records.specs.declared.connect.ConnectResponse.{ConnectResponse}
 use Rattle.client_records.specs.declared.event.WatcherEvent.{WatcherEvent}
 use Rattle.client_records.specs.declared.response.ExistsResponse.{ExistsResponse}
@@ -30,9 +29,8 @@ get_children_response = mapped (λ v. record { children = v }) (λ r. r.children
 unfoldable pub get_children2_response : Format GetChildren2Response
 get_children2_response = mapped (λ v. record { children = v.0; stat = v.1 }) (λ r. (r.children, r.stat)) (both names stat)
 
--- a null list is read as empty
 unfoldable pub get_acl_response : Format GetAclResponse
-get_acl_response = mapped (λ v. record { acl = v.0; stat = v.1 }) (λ r. (r.acl, r.stat)) (both (or_null (vector acl)) stat)
+get_acl_response = mapped (λ v. record { acl = v.0; stat = v.1 }) (λ r. (r.acl, r.stat)) (both acls stat)
 
 unfoldable pub watcher_event : Format WatcherEvent
 watcher_event = mapped (λ v. record { kind = v.0; state = v.1.0; path = v.1.1 }) (λ r. (r.kind, (r.state, r.path))) (both int (both int text))

@@ -17,12 +17,14 @@ mod connect;
 mod event;
 mod fields;
 pub mod law;
+mod lengths;
 mod request;
 mod response;
 
 pub use connect::{ConnectRequest, ConnectResponse};
 pub use event::WatcherEvent;
 pub use fields::{Name, put_list, put_names, read_list};
+pub use lengths::{acls_len, names_len};
 pub use request::{AuthPacket, GetAclRequest, PathAndWatch, SetWatches};
 pub use response::{
     Acls, ExistsResponse, GetAclResponse, GetChildren2Response, GetChildrenResponse,

@@ -1,4 +1,4 @@
-use Rattle.std.proofs.Common.{◌≡◌, map, string_bytes}
+use Rattle.std.proofs.Common.{map, string_bytes}
 use Rattle.std.specs.List.{AllByRecursion}
 use Rattle.client_records.specs.Fields.{names}
 use Rattle.client_records.proofs.Names.{Written, MayBeWritten}
