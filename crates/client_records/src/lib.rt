@@ -2,13 +2,15 @@
 //!
 //! Requests are read, and borrow their texts and bytes from the frame; responses and events are written, of what the tree
 //! holds. Each record's format stands in `specs/Requests.antt` or `specs/Responses.antt`, made by jute's combinators, and
-//! `law::records` says of each that reading and writing are that spelling. What is read of names that stand in a set is
-//! written by `put_names`, without a list of them between.
+//! `law::records` says of each that reading and writing are that spelling. Children's names stand in a set, and `put_names`
+//! writes them without a list between. What the tree holds has no bound, and a length in a frame has one: `names_len` and
+//! `acls_len` say whether a list may be written.
 //!
 //! ```text
-//! let request = PathAndWatch::read(alloc, &mut reader)?;        // exists, getData, getChildren, getChildren2
+//! let request = PathAndWatch::read(alloc, &mut reader)?;    // exists, getData, getChildren, getChildren2
 //! GetDataResponse { bytes, stat }.write(&mut out)?;
-//! put_names(&mut out, node.children.iter())?;              // the body of getChildren
+//! let Some(len) = names_len(names.iter(), limit) else { .. };
+//! put_names(&mut out, names.iter())?;                       // the body of getChildren
 //! ```
 #![tactic(auto)]
 
