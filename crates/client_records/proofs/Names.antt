@@ -16,9 +16,13 @@ use Rattle.values.proofs.Gaining.{gains_first, gains_behind, gains_same}
 abbrev pub MayBeWritten : String Global → Type 0
 MayBeWritten t = length (string_bytes t) < 2 ^ 31
 
-pub each_may : (texts : List (String Global)) → All name.Writable (map string_bytes texts) → AllByRecursion MayBeWritten texts
+pub each_may : (texts : List (String Global))
+    → All name.Writable (map string_bytes texts) → AllByRecursion MayBeWritten texts
 each_may [] h = tt
-each_may (t ∷ ts) h = (All-head name.Writable (string_bytes t) (map string_bytes ts) h, each_may ts (All-tail name.Writable (string_bytes t) (map string_bytes ts) h))
+each_may (t ∷ ts) h = (
+  All-head name.Writable (string_bytes t) (map string_bytes ts) h,
+  each_may ts (All-tail name.Writable (string_bytes t) (map string_bytes ts) h),
+)
 
 abbrev pub spelled : String Global → List ℕ
 spelled t = name.written (string_bytes t)
@@ -30,7 +34,10 @@ pub record Written (old all out : List ℕ) (left : List (String Global)) : Type
   pub rest : all ≡ front ++ flat_map spelled left
 
 -- the count was put
-pub put_count : (old out : List ℕ) (count : ℕ) (texts : List (String Global)) → length texts ≡ count → length texts < 2 ^ 31 → out ≡ old ++ number_bytes w32 (to_z w32 count) → Written old (names.written (map string_bytes texts)) out texts
+pub put_count : (old out : List ℕ) (count : ℕ) (texts : List (String Global)) → length texts ≡ count
+    → length texts < 2 ^ 31
+    → out ≡ old ++ number_bytes w32 (to_z w32 count)
+    → Written old (names.written (map string_bytes texts)) out texts
 put_count old out count texts same few e =
     let shown : to_z w32 count ≡ pos (length texts) = ap (to_z w32) (sym same) ∙ to_z_pos w32 (length texts) few in
     record {
@@ -40,17 +47,21 @@ put_count old out count texts same few e =
     }
 
 -- the next text was put
-pub put_next : {old all mid new : List ℕ} {t : String Global} {left : List (String Global)} → Written old all mid (t ∷ left) → new ≡ mid ++ spelled t → Written old all new left
+pub put_next : {old all mid new : List ℕ} {t : String Global} {left : List (String Global)}
+    → Written old all mid (t ∷ left) → new ≡ mid ++ spelled t → Written old all new left
 put_next {t = t} {left = left} w e = record {
   front = w.front ++ spelled t;
   put = e ∙ ap (λ (x : List ℕ). x ++ spelled t) w.put ∙ append_assoc _ w.front (spelled t);
-  rest = w.rest ∙ ap (λ (x : List ℕ). w.front ++ x) (flat_map-cons spelled t left) ∙ sym (append_assoc w.front (spelled t) (flat_map spelled left));
+  rest = w.rest ∙ ap (λ (x : List ℕ). w.front ++ x) (flat_map-cons spelled t left)
+      ∙ sym (append_assoc w.front (spelled t) (flat_map spelled left));
 }
 
 -- a front of the next text was put
-pub put_part : {old all mid new : List ℕ} {t : String Global} {left : List (String Global)} → Written old all mid (t ∷ left) → Gains mid (spelled t) new → Gains old all new
+pub put_part : {old all mid new : List ℕ} {t : String Global} {left : List (String Global)}
+    → Written old all mid (t ∷ left) → Gains mid (spelled t) new → Gains old all new
 put_part {old = old} {t = t} {left = left} w g =
-    let whole : w.front ++ (spelled t ++ flat_map spelled left) ≡ _ = ap (λ (x : List ℕ). w.front ++ x) (sym (flat_map-cons spelled t left)) ∙ sym w.rest in
+    let whole : w.front ++ (spelled t ++ flat_map spelled left) ≡ _ =
+    ap (λ (x : List ℕ). w.front ++ x) (sym (flat_map-cons spelled t left)) ∙ sym w.rest in
     gains_same whole (gains_behind old w.front w.put (gains_first _ g))
 
 -- no text is left

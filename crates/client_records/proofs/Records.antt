@@ -38,7 +38,8 @@ set_watches_sound =
 
 pub auth_packet_sound : Sound auth_packet
 unfolding auth_packet
-auth_packet_sound = mapped_sound _ _ _ (λ v. refl) (λ r. refl) (both_sound _ _ int_sound (both_sound _ _ text_sound buffer_sound))
+auth_packet_sound =
+    mapped_sound _ _ _ (λ v. refl) (λ r. refl) (both_sound _ _ int_sound (both_sound _ _ text_sound buffer_sound))
 
 pub connect_response_sound : Sound connect_response
 unfolding connect_response
@@ -66,8 +67,10 @@ get_children2_response_sound = mapped_sound _ _ _ (λ v. refl) (λ r. refl) (bot
 
 pub get_acl_response_sound : Sound get_acl_response
 unfolding get_acl_response
-get_acl_response_sound = mapped_sound _ _ _ (λ v. refl) (λ r. refl) (both_sound _ _ (null_vector_sound acl acl_sound) stat_sound)
+get_acl_response_sound =
+    mapped_sound _ _ _ (λ v. refl) (λ r. refl) (both_sound _ _ (null_vector_sound acl acl_sound) stat_sound)
 
 pub watcher_event_sound : Sound watcher_event
 unfolding watcher_event
-watcher_event_sound = mapped_sound _ _ _ (λ v. refl) (λ r. refl) (both_sound _ _ int_sound (both_sound _ _ int_sound text_sound))
+watcher_event_sound =
+    mapped_sound _ _ _ (λ v. refl) (λ r. refl) (both_sound _ _ int_sound (both_sound _ _ int_sound text_sound))

@@ -10,7 +10,13 @@ use Rattle.client_records.specs.declared.request.AuthPacket.{AuthPacket}
 unfoldable pub connect_request : Format ConnectRequest
 connect_request =
     mapped
-    (λ v. record { protocol_version = v.0; last_zxid_seen = v.1.0; time_out = v.1.1.0; session_id = v.1.1.1.0; passwd = v.1.1.1.1 })
+    (λ v. record {
+      protocol_version = v.0;
+      last_zxid_seen = v.1.0;
+      time_out = v.1.1.0;
+      session_id = v.1.1.1.0;
+      passwd = v.1.1.1.1;
+    })
     (λ r. (r.protocol_version, (r.last_zxid_seen, (r.time_out, (r.session_id, r.passwd)))))
     (both int (both long (both int (both long buffer))))
 
@@ -41,4 +47,8 @@ set_watches =
     (both long (both names (both names names)))
 
 unfoldable pub auth_packet : Format AuthPacket
-auth_packet = mapped (λ v. record { kind = v.0; scheme = v.1.0; auth = v.1.1 }) (λ r. (r.kind, (r.scheme, r.auth))) (both int (both text buffer))
+auth_packet =
+    mapped
+    (λ v. record { kind = v.0; scheme = v.1.0; auth = v.1.1 })
+    (λ r. (r.kind, (r.scheme, r.auth)))
+    (both int (both text buffer))

@@ -27,10 +27,15 @@ unfoldable pub get_children_response : Format GetChildrenResponse
 get_children_response = mapped (λ v. record { children = v }) (λ r. r.children) names
 
 unfoldable pub get_children2_response : Format GetChildren2Response
-get_children2_response = mapped (λ v. record { children = v.0; stat = v.1 }) (λ r. (r.children, r.stat)) (both names stat)
+get_children2_response =
+    mapped (λ v. record { children = v.0; stat = v.1 }) (λ r. (r.children, r.stat)) (both names stat)
 
 unfoldable pub get_acl_response : Format GetAclResponse
 get_acl_response = mapped (λ v. record { acl = v.0; stat = v.1 }) (λ r. (r.acl, r.stat)) (both acls stat)
 
 unfoldable pub watcher_event : Format WatcherEvent
-watcher_event = mapped (λ v. record { kind = v.0; state = v.1.0; path = v.1.1 }) (λ r. (r.kind, (r.state, r.path))) (both int (both int text))
+watcher_event =
+    mapped
+    (λ v. record { kind = v.0; state = v.1.0; path = v.1.1 })
+    (λ r. (r.kind, (r.state, r.path)))
+    (both int (both int text))

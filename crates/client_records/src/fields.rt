@@ -127,7 +127,8 @@ pub fn read_list<'a, T: ReadRecord<'a>>(
     alloc: Global,
     reader: &mut Reader<'a>,
 ) -> Result<Listed<T>, ReadError>
-    ensures { Gives (judged_at (λ v. Ok (or_empty v)) (vector_at T.read_of)) (λ v. v) result reader.old reader.new }
+    ensures { Gives (judged_at (λ v. Ok (or_empty v)) (vector_at T.read_of)) (λ v. v)
+        result reader.old reader.new }
 {
     match read_vector(alloc, reader)? {
         None => Ok(Listed::from_vec(Vec::new(alloc))),

@@ -4,12 +4,18 @@ use Rattle.client_records.proofs.Sizes.{next_name, list_len, names_writable, not
 use Rattle.client_records.proofs.lengths.names_len.Goals as goal
 
 pub returns-in_err-len-clause-len : goal.returns-in_err-len-clause-len
-returns-in_err-len-clause-len c = c.from_residual.ensures ∙ passes 4 _ (nothing_yet _ _) (list_len name (map string_bytes c.args.texts)) c.in_err-len.ensures
+returns-in_err-len-clause-len c =
+    c.from_residual.ensures
+    ∙ passes 4 _ (nothing_yet _ _) (list_len name (map string_bytes c.args.texts)) c.in_err-len.ensures
 
 pub loop-text-init : goal.loop-text-init
 loop-text-init c =
-    rw c.into_iter-text-iterator.ensures.into_iter_gives
-    (tt, tt, count_on 4 _ c.in_ok-len.len (nothing_yet _ _) (list_len name (map string_bytes c.args.texts)) c.in_ok-len.ensures)
+    rw c.into_iter-text-iterator.ensures.into_iter_gives (
+      tt,
+      tt,
+      count_on 4 _ c.in_ok-len.len (nothing_yet _ _)
+          (list_len name (map string_bytes c.args.texts)) c.in_ok-len.ensures,
+    )
 
 pub returns-in_err-len-2-clause-len : goal.returns-in_err-len-2-clause-len
 returns-in_err-len-2-clause-len c =

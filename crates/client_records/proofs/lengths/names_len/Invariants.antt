@@ -9,4 +9,5 @@ abbrev pub invariant-loop-text : goal.invariant-loop-text
 invariant-loop-text l =
     (goal.iterator-loop-text).can_next l.text-iterator
     × (goal.iterator-loop-text).is_finite l.text-iterator
-    × Counted l.limit l.len (length (flat_map name.written (map string_bytes l.text-iterator))) (length (names.written (map string_bytes l.fn.texts)))
+    × Counted l.limit l.len (length (flat_map name.written (map string_bytes l.text-iterator)))
+    (length (names.written (map string_bytes l.fn.texts)))
