@@ -1,0 +1,6 @@
+-- how long lists are
+pub mod Sizes
+-- texts of a set that are written
+pub mod Names
+-- the records
+pub mod Records

@@ -1,0 +1,114 @@
+-- How long lists of texts are when they are written, and that short ones may be written.
+use Rattle.std.proofs.Common.{◌≡◌, ℕ, ◌+◌, ◌<◌, ◌≤◌, ◌^◌, List, [], ◌∷◌, length, drop, get_or, ◌∙◌, arith, refl, sym, ap, inl, inr, nat_le, Some, None}
+use Rattle.std.specs.List.{flat_map, AllByRecursion}
+use Rattle.std.proofs.lemmas.List.{length-append, drop_more}
+use Rattle.std.proofs.lemmas.List.Elements.{All-from_recursion}
+use Rattle.std.proofs.lemmas.Option.{none-some, cond_some}
+use Rattle.std.proofs.lemmas.Bool.{lt-leb, le-leb}
+use Rattle.std.proofs.lemmas.Bool.Decides.{leb_tells}
+use Rattle.jute.specs.Format.{Format, name, number_bytes, vector, or_null}
+use Rattle.jute.specs.Owned.{acl, id}
+use Rattle.jute.specs.declared.owned.Acl.{Acl}
+use Rattle.client_records.specs.Fields.{acls, names, within}
+
+pub next_len : {A : Type 0} (f : Format A) (v : A) (vs : List A)
+    → length (flat_map f.written (v ∷ vs)) ≡ length (f.written v) + length (flat_map f.written vs)
+next_len f v vs = length-append (f.written v) (flat_map f.written vs)
+
+pub list_len : {A : Type 0} (f : Format A) (vs : List A)
+    → length ((or_null (vector f)).written vs) ≡ 4 + length (flat_map f.written vs)
+unfolding number_bytes
+list_len f vs = omega arith
+
+-- the items from one on
+pub next_item : {A : Type 0} (f : Format A) (items : List A) (i : ℕ) (item : A)
+    → i < length items → item ≡ get_or items i item
+    → length (flat_map f.written (drop i items))
+    ≡ length (f.written item) + length (flat_map f.written (drop (i + 1) items))
+next_item f items i item lt is =
+    ap (λ vs. length (flat_map f.written vs)) (drop_more items i item lt ∙ ap (λ v. v ∷ drop (i + 1) items) (sym is))
+    ∙ next_len f item (drop (i + 1) items)
+
+-- ---- lists whose items are written with a byte at least, and may be written where they are short
+
+module _ {A : Type 0} (f : Format A) (some : (v : A) → 1 ≤ length (f.written v))
+    (small : (v : A) → length (f.written v) < 2 ^ 31 → f.Writable v) where
+  each_count : (vs : List A) → length vs ≤ length (flat_map f.written vs)
+  each_count [] = omega arith
+  each_count (v ∷ vs) = omega (arith, each_count vs, some v, next_len f v vs)
+
+  each_small : (vs : List A) → length (flat_map f.written vs) < 2 ^ 31 → AllByRecursion f.Writable vs
+  each_small [] h = tt
+  each_small (v ∷ vs) h =
+      (small v (omega (arith, h, next_len f v vs)), each_small vs (omega (arith, h, next_len f v vs)))
+
+  list_writable : (vs : List A) → length ((or_null (vector f)).written vs) < 2 ^ 31 → (or_null (vector f)).Writable vs
+  list_writable vs h =
+      let few : length (flat_map f.written vs) < 2 ^ 31 = omega (arith, h, list_len f vs) in
+      (omega (arith, few, each_count vs), All-from_recursion f.Writable vs (each_small vs few))
+
+-- ---- texts
+
+pub name_len : (n : List ℕ) → length (name.written n) ≡ 4 + length n
+unfolding number_bytes
+name_len n = omega arith
+
+pub next_name : (n : List ℕ) (ns : List (List ℕ))
+    → length (flat_map name.written (n ∷ ns)) ≡ 4 + length n + length (flat_map name.written ns)
+next_name n ns = omega (arith, name_len n, next_len name n ns)
+
+pub names_writable : (ns : List (List ℕ)) → length (names.written ns) < 2 ^ 31 → names.Writable ns
+names_writable = list_writable name (λ n. omega (arith, name_len n)) (λ n h. omega (arith, h, name_len n))
+
+-- ---- ACLs
+
+pub acl_len : (a : Acl) → length (acl.written a) ≡ 12 + length a.id.scheme + length a.id.id
+unfolding acl id number_bytes
+acl_len a = omega (arith, length-append (name.written a.id.scheme) (name.written a.id.id))
+
+acl_small : (a : Acl) → length (acl.written a) < 2 ^ 31 → acl.Writable a
+unfolding acl id
+acl_small a h = (tt, (omega (arith, h, acl_len a), omega (arith, h, acl_len a)))
+
+pub acls_writable : (list : List Acl) → length (acls.written list) < 2 ^ 31 → acls.Writable list
+acls_writable = list_writable acl (λ a. omega (arith, acl_len a)) acl_small
+
+-- ---- sums within a limit
+
+pub within_some : (limit n r : ℕ) → Some r ≡ within limit n → (r ≡ n) × (n ≤ limit)
+within_some limit n r e = elim (leb_tells n limit) [
+  | inl in_it ↦ (sym (cond_some (nat_le n limit) n r (sym e)).1, in_it.1)
+  | inr over ↦ absurd (none-some r (sym (rw over.0 at e)))
+]
+
+pub within_none : (limit n m : ℕ) → None ≡ within limit n → n ≤ m → None ≡ within limit m
+within_none limit n m e le = elim (leb_tells n limit) [
+  | inl in_it ↦ absurd (none-some n (rw in_it.0 at e))
+  | inr over ↦ rw (lt-leb m limit (omega (arith, over.1, le))) refl
+]
+
+-- so much was counted, and so much is left of it all
+pub record Counted (limit len left all : ℕ) : Type 0 where
+  pub within : len ≤ limit
+  pub sum : len + left ≡ all
+
+pub nothing_yet : (limit all : ℕ) → Counted limit 0 all all
+nothing_yet limit all = record { within = omega arith; sum = omega arith }
+
+pub count_on : {limit len left all : ℕ} (more rest r : ℕ)
+    → Counted limit len left all → left ≡ more + rest → Some r ≡ within limit (len + more) → Counted limit r rest all
+count_on {limit} {len} {left} {all} more rest r c e g =
+    let w = within_some limit (len + more) r g in
+    record { within = omega (arith, w.0, w.1); sum = omega (arith, w.0, c.sum, e) }
+
+pub passes : {limit len left all : ℕ} (more rest : ℕ)
+    → Counted limit len left all → left ≡ more + rest → None ≡ within limit (len + more) → None ≡ within limit all
+passes {limit} {len} {left} {all} more rest c e g = within_none limit (len + more) all g (omega (arith, c.sum, e))
+
+pub all_counted : {limit len all : ℕ} → Counted limit len 0 all → Some len ≡ within limit all
+all_counted {limit} {len} {all} c =
+    let same : len ≡ all = omega (arith, c.sum) in
+    rw (le-leb all limit (omega (arith, c.within, same))) (ap Some same)
+
+pub stays_below : {limit len all : ℕ} → Counted limit len 0 all → limit < 2 ^ 31 → all < 2 ^ 31
+stays_below c small = omega (arith, c.within, c.sum, small)

@@ -1,0 +1,57 @@
+//! How long lists of the tree are when they are written. Their texts have no bound of their own, and a frame has one.
+
+ghost use Rattle.std.specs.Prelude.{◌≡◌, ◌+◌, ◌<◌, ◌≤◌, ◌^◌, length, map, IfSome, String, string_bytes};
+ghost use Rattle.jute.specs.Owned.{acl};
+ghost use Rattle.client_records.specs.Fields.{acls, names, within};
+
+use jute::Acl;
+use std::collections::btree_set::Iter;
+
+// The sum, where it is within the limit.
+fn grown(len: usize, more: usize, limit: usize) -> Option<usize>
+    requires { len ≤ limit }
+    ensures { result ≡ within limit (len + more) }
+{
+    if limit - len < more {
+        return None;
+    }
+    Some(len + more)
+}
+
+// The sum with an ACL's length, where it is within the limit.
+#[tactic(auto, unfolding(jute::specs::Owned::acl, jute::specs::Owned::id, jute::specs::Format::number_bytes))]
+fn grown_by_acl(len: usize, item: &Acl, limit: usize) -> Option<usize>
+    requires { len ≤ limit }
+    ensures { result ≡ within limit (len + length (acl.written item.now)) }
+{
+    let len = grown(len, 12, limit)?;
+    let len = grown(len, item.id.scheme.as_str().len(), limit)?;
+    grown(len, item.id.id.as_str().len(), limit)
+}
+
+/// How many bytes `put_names` writes, where they are within the limit. With a limit below 2^31 they
+/// may then be written.
+pub fn names_len(texts: Iter<'_, String>, limit: usize) -> Option<usize>
+    ensures len { result ≡ within limit (length (names.written (map string_bytes texts.entry))) }
+    ensures writable { limit < 2 ^ 31
+        → IfSome result (λ len. names.Writable (map string_bytes texts.entry)) }
+{
+    let mut len = grown(0, 4, limit)?;
+    for text in texts {
+        len = grown(len, 4 + text.as_str().len(), limit)?;
+    }
+    Some(len)
+}
+
+/// How many bytes a list of ACLs takes, where they are within the limit. With a limit below 2^31
+/// they may then be written.
+pub fn acls_len(items: &[Acl], limit: usize) -> Option<usize>
+    ensures len { result ≡ within limit (length (acls.written items.now)) }
+    ensures writable { limit < 2 ^ 31 → IfSome result (λ len. acls.Writable items.now) }
+{
+    let mut len = grown(0, 4, limit)?;
+    for item in items {
+        len = grown_by_acl(len, item, limit)?;
+    }
+    Some(len)
+}
