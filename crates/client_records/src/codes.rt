@@ -1,50 +1,5 @@
 //! The numbers that a client's frames have, beside those of `jute::codes`.
 
-/// The operation create.
-pub const CREATE: i32 = 1;
-
-/// The operation delete.
-pub const DELETE: i32 = 2;
-
-/// The operation exists.
-pub const EXISTS: i32 = 3;
-
-/// The operation setData.
-pub const SET_DATA: i32 = 5;
-
-/// The operation getACL.
-pub const GET_ACL: i32 = 6;
-
-/// The operation setACL.
-pub const SET_ACL: i32 = 7;
-
-/// The operation getChildren.
-pub const GET_CHILDREN: i32 = 8;
-
-/// The operation sync.
-pub const SYNC: i32 = 9;
-
-/// The operation ping.
-pub const PING: i32 = 11;
-
-/// The operation getChildren2.
-pub const GET_CHILDREN_2: i32 = 12;
-
-/// The operation check.
-pub const CHECK: i32 = 13;
-
-/// The operation multi.
-pub const MULTI: i32 = 14;
-
-/// The operation auth.
-pub const AUTH: i32 = 100;
-
-/// The operation setWatches.
-pub const SET_WATCHES: i32 = 101;
-
-/// The operation closeSession.
-pub const CLOSE_SESSION: i32 = -11;
-
 /// No error.
 pub const OK: i32 = 0;
 

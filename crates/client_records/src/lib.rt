@@ -18,6 +18,7 @@ pub mod codes;
 mod connect;
 mod event;
 mod fields;
+mod kind;
 pub mod law;
 mod lengths;
 mod request;
@@ -26,6 +27,7 @@ mod response;
 pub use connect::{ConnectRequest, ConnectResponse};
 pub use event::WatcherEvent;
 pub use fields::{Name, put_list, put_names, read_list};
+pub use kind::RequestKind;
 pub use lengths::{acls_len, names_len};
 pub use request::{AuthPacket, GetAclRequest, PathAndWatch, SetWatches};
 pub use response::{

@@ -3,7 +3,6 @@ pub mod Streams
 pub mod Steps
 pub mod Delivering
 pub mod Serving
-pub mod Replies
 pub mod Playing
 pub mod Logs
 pub mod Rows

@@ -20,14 +20,15 @@ use Rattle.observer_core.specs.declared.event.Event.{Event}
 use Rattle.observer_core.specs.declared.event.Event.TheVariants as event
 use Rattle.observer_core.specs.declared.request.Call.{Call}
 use Rattle.observer_core.specs.declared.request.CallBody.{CallBody}
-use Rattle.observer_core.specs.declared.request.CallBody.TheVariants.{Read, Unreadable, Unanswered}
-use Rattle.observer_core.specs.declared.request.Request.{Request}
-use Rattle.observer_core.specs.declared.request.Request.TheVariants.{GetData}
+use Rattle.observer_core.specs.declared.request.CallBody.TheVariants.{Read, Unreadable, Ping, Write, Unanswered, Unknown}
+use Rattle.read_processor.specs.declared.request.Request.{Request}
+use Rattle.read_processor.specs.declared.shown.Look.{Look}
 use Rattle.observer_core.specs.Machine.{Connection, World, Machine}
-use Rattle.observer_core.specs.Request.{call_in}
-use Rattle.observer_core.specs.Look.{look, refusal}
+use Rattle.observer_core.specs.Request.{sets_watch, call_in}
+use Rattle.read_processor.specs.Look.{look, without_body}
 use Rattle.jute.specs.declared.codes.TheConstants.{BAD_ARGUMENTS}
-use Rattle.observer_core.specs.Reply.{reply}
+use Rattle.client_records.specs.declared.codes.TheConstants.{OK, UNIMPLEMENTED, NOT_READ_ONLY, PING_XID}
+use Rattle.read_processor.specs.Reply.{reply}
 use Rattle.observer_core.specs.Play.{Happened, behind, quiet, happening, carried_bytes, with_meant, fire, apply, inform, receive_as, receive, Delivery, deliver_as, deliver, is_refused, deliver_all, end_at, leave_leader, take_leader_bytes, send, answer, request, call, serve_as, serve, is_closed, keep, wait_if_open, frames, take_client_bytes, happen}
 use Rattle.observer_core.specs.Logs.{zxid_after, Rises, FollowsItsLog, LogsAreFollowed}
 
@@ -112,17 +113,23 @@ send-same : (n : ℕ) (w : World) (frame : Option (List ℕ)) → SameLog w (sen
 send-same n w None = (refl, refl)
 send-same n w (Some bytes) = (refl, refl)
 
+answer-same : (n : ℕ) (w : World) (xid : ℤ) (seen : Look) → SameLog w (answer n w xid seen).after
+answer-same n w xid seen = send-same n w (reply xid w.learner.last_zxid seen)
+
 request-same : (n : ℕ) (w : World) (xid : ℤ) (r : Request) → SameLog w (request n w xid r).after
-request-same n w xid (GetData r) = by r.watch
+request-same n w xid r = by (sets_watch r)
   where
-    by : (b : Bool) → SameLog w (cond b (quiet w) (answer n w xid (look w.tree [] (GetData r)))).after
+    by : (b : Bool) → SameLog w (cond b (quiet w) (answer n w xid (look w.tree [] r))).after
     by true = (refl, refl)
-    by false = send-same n w (reply xid w.learner.last_zxid (look w.tree [] (GetData r)))
+    by false = answer-same n w xid (look w.tree [] r)
 
 call-same : (n : ℕ) (w : World) (xid : ℤ) (b : CallBody) → SameLog w (call n w xid b).after
 call-same n w xid (Read r) = request-same n w xid r
-call-same n w xid Unreadable = send-same n w (reply xid w.learner.last_zxid (refusal BAD_ARGUMENTS))
+call-same n w xid Unreadable = answer-same n w xid (without_body BAD_ARGUMENTS)
+call-same n w xid Ping = answer-same n w PING_XID (without_body OK)
+call-same n w xid Write = answer-same n w xid (without_body NOT_READ_ONLY)
 call-same n w xid Unanswered = (refl, refl)
+call-same n w xid Unknown = answer-same n w xid (without_body UNIMPLEMENTED)
 
 serve-same : (n : ℕ) (w : World) (frame : List ℕ) → SameLog w (serve n w frame).after
 serve-same n w frame = by (call_in frame)

@@ -14,18 +14,19 @@ use Rattle.quorum_packet.specs.Packets.{packets}
 use Rattle.quorum_packet.proofs.PacketFormat.{packets_streamed}
 use Rattle.observer_core.specs.declared.request.Call.{Call}
 use Rattle.observer_core.specs.declared.request.CallBody.{CallBody}
-use Rattle.observer_core.specs.declared.request.CallBody.TheVariants.{Read, Unreadable, Unanswered}
-use Rattle.observer_core.specs.declared.request.Request.{Request}
-use Rattle.observer_core.specs.declared.request.Request.TheVariants.{GetData}
+use Rattle.observer_core.specs.declared.request.CallBody.TheVariants.{Read, Unreadable, Ping, Write, Unanswered, Unknown}
+use Rattle.read_processor.specs.declared.request.Request.{Request}
+use Rattle.read_processor.specs.declared.shown.Look.{Look}
 use Rattle.observer_core.specs.declared.event.Event.{Event}
 use Rattle.observer_core.specs.declared.event.Event.TheVariants.{LeaderBytes, ClientBytes}
 use Rattle.observer_core.specs.declared.event.Output.{Output}
 use Rattle.observer_core.specs.declared.event.Output.TheVariants.{CloseClient}
 use Rattle.observer_core.specs.Machine.{Connection, Connections, World, Machine}
-use Rattle.observer_core.specs.Request.{call_in}
-use Rattle.observer_core.specs.Look.{look, refusal}
+use Rattle.observer_core.specs.Request.{sets_watch, call_in}
+use Rattle.read_processor.specs.Look.{look, without_body}
 use Rattle.jute.specs.declared.codes.TheConstants.{BAD_ARGUMENTS}
-use Rattle.observer_core.specs.Reply.{reply}
+use Rattle.client_records.specs.declared.codes.TheConstants.{OK, UNIMPLEMENTED, NOT_READ_ONLY, PING_XID}
+use Rattle.read_processor.specs.Reply.{reply}
 use Rattle.observer_core.specs.Play.{Happened, behind, quiet, happening, Delivery, deliver, is_refused, end_at, deliver_all, leave_leader, take_leader_bytes, close_client, send, answer, request, call, serve_as, serve, is_closed, keep, wait, wait_if_open, frames, serve_all, take_client_bytes, at_client, happen, play}
 use Rattle.observer_core.proofs.Steps.{behind_behind, passed_over, happening_on}
 use Rattle.observer_core.proofs.NatMaps.{get-inserted, get-removed, insert-insert, insert-same}
@@ -105,17 +106,23 @@ module _ (n : ℕ) where
   sent_taken w None t = closed_taken w
   sent_taken w (Some bytes) t = t
 
+  answered_taken : (w : World) (xid : ℤ) (seen : Look) → IsTaken n w.connections → IsTaken n (answer n w xid seen).after.connections
+  answered_taken w xid seen t = sent_taken w (reply xid w.learner.last_zxid seen) t
+
   requested_taken : (w : World) (xid : ℤ) (r : Request) → IsTaken n w.connections → IsTaken n (request n w xid r).after.connections
-  requested_taken w xid (GetData r) t = by r.watch
+  requested_taken w xid r t = by (sets_watch r)
     where
-      by : (b : Bool) → IsTaken n (cond b (quiet w) (answer n w xid (look w.tree [] (GetData r)))).after.connections
+      by : (b : Bool) → IsTaken n (cond b (quiet w) (answer n w xid (look w.tree [] r))).after.connections
       by true = t
-      by false = sent_taken w (reply xid w.learner.last_zxid (look w.tree [] (GetData r))) t
+      by false = answered_taken w xid (look w.tree [] r) t
 
   called_taken : (w : World) (xid : ℤ) (b : CallBody) → IsTaken n w.connections → IsTaken n (call n w xid b).after.connections
   called_taken w xid (Read r) t = requested_taken w xid r t
-  called_taken w xid Unreadable t = sent_taken w (reply xid w.learner.last_zxid (refusal BAD_ARGUMENTS)) t
+  called_taken w xid Unreadable t = answered_taken w xid (without_body BAD_ARGUMENTS) t
+  called_taken w xid Ping t = answered_taken w PING_XID (without_body OK) t
+  called_taken w xid Write t = answered_taken w xid (without_body NOT_READ_ONLY) t
   called_taken w xid Unanswered t = t
+  called_taken w xid Unknown t = closed_taken (answer n w xid (without_body UNIMPLEMENTED)).after
 
   served_taken : (w : World) (frame : List ℕ) → IsTaken n w.connections → IsTaken n (serve n w frame).after.connections
   served_taken w frame t = by (call_in frame)

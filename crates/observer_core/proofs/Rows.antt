@@ -16,7 +16,11 @@ use Rattle.jute.specs.Format.{judged_at, buffer_at, buffer_limit, vector_at, tex
 use Rattle.jute.specs.Codes.{open_acl}
 use Rattle.jute.specs.Frame.{frame_at}
 use Rattle.jute.specs.Owned.{id, acl}
-use Rattle.jute.specs.Records.{stat, request_header, reply_header, get_data_request, get_data_response}
+use Rattle.jute.specs.Records.{stat, request_header, reply_header}
+use Rattle.client_records.specs.declared.kind.RequestKind.TheVariants as kinds
+use Rattle.client_records.specs.Kinds.{kind_of as request_kind_of}
+use Rattle.client_records.specs.Requests.{path_and_watch}
+use Rattle.client_records.specs.Responses.{get_data_response}
 use Rattle.jute.specs.Stream.{items_within, items, Items, place_at}
 use Rattle.quorum_packet.specs.declared.packet.QuorumPacket.{QuorumPacket}
 use Rattle.quorum_packet.specs.declared.phase.Phase.{Phase}
@@ -38,14 +42,16 @@ use Rattle.data_tree.specs.declared.node.Node.{Node}
 use Rattle.observer_core.specs.declared.config.Config.{Config}
 use Rattle.observer_core.specs.declared.request.Call.{Call}
 use Rattle.observer_core.specs.declared.request.CallBody.TheVariants.{Read}
-use Rattle.observer_core.specs.declared.request.Request.TheVariants.{GetData}
+use Rattle.read_processor.specs.declared.request.Request.TheVariants.{GetData}
 use Rattle.observer_core.specs.declared.event.Event.{Event}
 use Rattle.observer_core.specs.declared.event.Event.TheVariants.{ClientBytes}
 use Rattle.observer_core.specs.declared.event.Output.TheVariants.{ToClient, CloseLeader, CloseClient}
 use Rattle.observer_core.specs.Machine.{Connection, Connections, World, Machine}
-use Rattle.observer_core.specs.Request.{call_in, call_behind, get_data_body}
-use Rattle.observer_core.specs.Look.{Look, look_at_node, shown_look, get_data_response_of}
-use Rattle.observer_core.specs.Reply.{reply}
+use Rattle.observer_core.specs.Request.{call_in, call_behind, body_of, read_as, front_in}
+use Rattle.read_processor.specs.declared.shown.Look.{Look}
+use Rattle.read_processor.specs.declared.request.Request.{Request}
+use Rattle.read_processor.specs.Look.{look_at_node, shown_look, body_of as shown_body}
+use Rattle.read_processor.specs.Reply.{reply}
 use Rattle.observer_core.specs.Play.{Happened, behind, quiet, happening, inform, apply, receive, deliver_as, deliver, is_refused, leave_leader, end_at, take_leader_bytes, send, answer, serve_as, serve, is_closed, wait_if_open, frames, serve_all, take_client_bytes, at_client, happen, play, new_machine, primed_machine}
 use Rattle.observer_core.specs.Rows.{WorkedRows, spelled, inform_of_create, inform_of_set_data, get_front, get_back, reply_of_create, reply_of_set_data, created, overwritten, asked}
 use Rattle.observer_core.proofs.NatMaps.{get-inserted, insert-insert, entries-empty}
@@ -177,13 +183,19 @@ header_read : request_header.read get_frame ≡ Ok (record { xid = pos 1; kind =
 unfolding request_header
 header_read = refl
 
-body_read : get_data_request.read get_body ≡ Ok (record { path = Some (codes "/a"); watch = false }, [])
-unfolding get_data_request judged_at buffer_at
+kind_read : request_kind_of (pos 4) ≡ Some kinds.GetData
+unfolding request_kind_of
+kind_read = refl
+
+body_read : path_and_watch.read get_body ≡ Ok (record { path = Some (codes "/a"); watch = false }, [])
+unfolding path_and_watch judged_at buffer_at
 body_read = rw (is_utf8-from_IsUtf8 (codes "/a") path_is_text)
 
 -- the reply of a node, by how many children it has
 abbrev reply_by : ℤ → Node → ℕ → Option (List ℕ)
-reply_by zxid n children = reply (pos 1) zxid (shown_look (record { bytes = n.bytes; stat = shown_stat n.stat (java_int children) (java_int (length_of n.bytes)) }))
+reply_by zxid n children =
+    let shown = shown_stat n.stat (java_int children) (java_int (length_of n.bytes)) in
+    reply (pos 1) zxid (shown_look (get_data_response.written (record { bytes = n.bytes; stat = shown })))
 
 no_children : set.len (set.empty {R = slice_cmp nat_cmp}) ≡ 0
 no_children = set.len-empty (slice_cmp nat_cmp)
@@ -196,18 +208,24 @@ set_replied : reply_by (pos 4294967298) written_node 0 ≡ Some reply_of_set_dat
 unfolding reply_header get_data_response stat number_bytes
 set_replied = refl
 
+abbrev wanted : Request
+wanted = GetData (record { path = Some (codes "/a"); watch = false })
+
 abbrev asking : Call
-asking = record { xid = pos 1; body = Read (GetData (record { path = Some (codes "/a"); watch = false })) }
+asking = record { xid = pos 1; body = Read wanted }
 
 call_read : call_in get_frame ≡ Ok asking
-call_read = ap call_behind header_read ∙ ap (λ r. Ok (record { xid = pos 1; body = get_data_body r })) body_read
+call_read =
+    ap call_behind header_read
+    ∙ ap (λ k. Ok (record { xid = pos 1; body = body_of k get_body })) kind_read
+    ∙ ap (λ r. Ok (record { xid = pos 1; body = read_as GetData (front_in r) })) body_read
 
 -- a world whose tree shows the node is answered with it
-answered_by : (w : World) (n : Node) (frame : List ℕ) → finmap.get w.tree.nodes (codes "/a") ≡ Some n → look_at_node [] (Some n) ≡ shown_look (get_data_response_of n) → n.children ≡ set.empty
+answered_by : (w : World) (n : Node) (frame : List ℕ) → finmap.get w.tree.nodes (codes "/a") ≡ Some n → look_at_node [] wanted (Some n) ≡ shown_look (shown_body wanted n) → n.children ≡ set.empty
     → reply_by w.learner.last_zxid n 0 ≡ Some frame → serve 1 w get_frame ≡ record { outputs = ToClient 1 frame ∷ []; after = w }
 answered_by w n frame there shows childless is =
     ap (serve_as 1 w) call_read
-    ∙ ap (λ (o : Option Node). answer 1 w (pos 1) (look_at_node [] o)) there
+    ∙ ap (λ (o : Option Node). answer 1 w (pos 1) (look_at_node [] wanted o)) there
     ∙ ap (λ (l : Look). answer 1 w (pos 1) l) shows
     ∙ ap (λ (c : set.FinSet (slice_cmp nat_cmp)). send 1 w (reply_by w.learner.last_zxid n (set.len c))) childless
     ∙ ap (λ (k : ℕ). send 1 w (reply_by w.learner.last_zxid n k)) no_children

@@ -1,7 +1,5 @@
 pub mod Machine
 pub mod Request
-pub mod Look
-pub mod Reply
 pub mod Play
 pub mod Plays
 pub mod Inner

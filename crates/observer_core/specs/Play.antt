@@ -24,14 +24,15 @@ use Rattle.observer_core.specs.declared.event.Output.{Output}
 use Rattle.observer_core.specs.declared.event.Output.TheVariants.{ToClient, CloseLeader, CloseClient}
 use Rattle.observer_core.specs.declared.request.Call.{Call}
 use Rattle.observer_core.specs.declared.request.CallBody.{CallBody}
-use Rattle.observer_core.specs.declared.request.CallBody.TheVariants.{Read, Unreadable, Unanswered}
-use Rattle.observer_core.specs.declared.request.Request.{Request}
-use Rattle.observer_core.specs.declared.request.Request.TheVariants.{GetData}
+use Rattle.observer_core.specs.declared.request.CallBody.TheVariants.{Read, Unreadable, Ping, Write, Unanswered, Unknown}
+use Rattle.read_processor.specs.declared.request.Request.{Request}
 use Rattle.observer_core.specs.Machine.{Learner, Connection, Connections, World, Machine}
-use Rattle.observer_core.specs.Request.{call_in}
-use Rattle.observer_core.specs.Look.{Look, look, refusal}
+use Rattle.observer_core.specs.Request.{sets_watch, call_in}
+use Rattle.read_processor.specs.declared.shown.Look.{Look}
+use Rattle.read_processor.specs.Look.{look, without_body}
 use Rattle.jute.specs.declared.codes.TheConstants.{BAD_ARGUMENTS}
-use Rattle.observer_core.specs.Reply.{reply}
+use Rattle.client_records.specs.declared.codes.TheConstants.{OK, UNIMPLEMENTED, NOT_READ_ONLY, PING_XID}
+use Rattle.read_processor.specs.Reply.{reply}
 
 -- ---- steps
 
@@ -169,15 +170,24 @@ send n w (Some bytes) = record { outputs = ToClient n bytes ∷ []; after = w }
 abbrev pub answer : ℕ → World → ℤ → Look → Happened World
 answer n w xid seen = send n w (reply xid w.learner.last_zxid seen)
 
--- A getData that sets a watch isn't answered yet: it is passed over.
+-- A read that sets a watch isn't answered yet: it is passed over.
 abbrev pub request : ℕ → World → ℤ → Request → Happened World
-request n w xid (GetData r) = if r.watch then quiet w else answer n w xid (look w.tree [] (GetData r))
+request n w xid r = if sets_watch r then quiet w else answer n w xid (look w.tree [] r)
 
--- A request of another type isn't answered yet: it is passed over.
+-- an answer, and then the connection is closed
+abbrev pub answer_last : ℕ → World → ℤ → Look → Happened World
+answer_last n w xid seen =
+    let h = answer n w xid seen in
+    behind h.outputs (close_client n h.after)
+
+-- A request that isn't answered yet is passed over.
 abbrev pub call : ℕ → World → ℤ → CallBody → Happened World
 call n w xid (Read r) = request n w xid r
-call n w xid Unreadable = answer n w xid (refusal BAD_ARGUMENTS)
+call n w xid Unreadable = answer n w xid (without_body BAD_ARGUMENTS)
+call n w xid Ping = answer n w PING_XID (without_body OK)
+call n w xid Write = answer n w xid (without_body NOT_READ_ONLY)
 call n w xid Unanswered = quiet w
+call n w xid Unknown = answer_last n w xid (without_body UNIMPLEMENTED)
 
 -- a frame without a whole header closes
 abbrev pub serve_as : ℕ → World → Result Call Fault → Happened World

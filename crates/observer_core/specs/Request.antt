@@ -1,27 +1,57 @@
 -- What a client's frame asks for (zookeeper.jute, RequestHeader): a header, and the body of a request of the header's type.
-use Rattle.std.specs.Prelude.{ℕ, ℤ, List, Result, Ok, Err, if◌then◌else◌}
-use Rattle.std.specs.Ordering.{int_eq}
+use Rattle.std.specs.Prelude.{ℕ, List, Option, Some, None, Result, Ok, Err, Bool, false}
 use Rattle.values.specs.declared.fault.Fault.{Fault}
 use Rattle.jute.specs.declared.message.RequestHeader.{RequestHeader}
-use Rattle.jute.specs.declared.message.GetDataRequest.{GetDataRequest}
-use Rattle.jute.specs.declared.codes.TheConstants.{GET_DATA}
-use Rattle.jute.specs.Records.{request_header, get_data_request}
+use Rattle.jute.specs.Records.{request_header}
+use Rattle.client_records.specs.declared.kind.RequestKind.{RequestKind}
+use Rattle.client_records.specs.declared.kind.RequestKind.TheVariants as kinds
+use Rattle.client_records.specs.Kinds.{kind_of}
+use Rattle.client_records.specs.Requests.{path_and_watch, get_acl_request}
+use Rattle.read_processor.specs.declared.request.Request.{Request}
+use Rattle.read_processor.specs.declared.request.Request.TheVariants.{Exists, GetData, GetAcl, GetChildren, GetChildren2}
 use Rattle.observer_core.specs.declared.request.Call.{Call}
 use Rattle.observer_core.specs.declared.request.CallBody.{CallBody}
-use Rattle.observer_core.specs.declared.request.CallBody.TheVariants.{Read, Unreadable, Unanswered}
-use Rattle.observer_core.specs.declared.request.Request.TheVariants.{GetData}
+use Rattle.observer_core.specs.declared.request.CallBody.TheVariants.{Read, Unreadable, Ping, Write, Unanswered, Unknown}
 
--- bytes behind the body are passed over
-abbrev pub get_data_body : Result (GetDataRequest × List ℕ) Fault → CallBody
-get_data_body (Ok x) = Read (GetData x.0)
-get_data_body (Err e) = Unreadable
+-- whether a watch is asked for
+abbrev pub sets_watch : Request → Bool
+sets_watch (Exists r) = r.watch
+sets_watch (GetData r) = r.watch
+sets_watch (GetAcl r) = false
+sets_watch (GetChildren r) = r.watch
+sets_watch (GetChildren2 r) = r.watch
 
--- no other type is answered yet, and its body isn't read
-abbrev pub body_of : ℤ → List ℕ → CallBody
-body_of kind bytes = if int_eq kind GET_DATA then get_data_body (get_data_request.read bytes) else Unanswered
+-- a record at the front, if it can be read there; bytes behind it are passed over
+abbrev pub front_in : {A : Type 0} → Result (A × List ℕ) Fault → Option A
+front_in (Ok x) = Some x.0
+front_in (Err e) = None
+
+abbrev pub read_as : {A : Type 0} → (A → Request) → Option A → CallBody
+read_as request None = Unreadable
+read_as request (Some record) = Read (request record)
+
+-- auth, setWatches and closeSession aren't answered yet; the body of a change isn't read
+abbrev pub body_of : Option RequestKind → List ℕ → CallBody
+body_of None bytes = Unknown
+body_of (Some kinds.Exists) bytes = read_as Exists (front_in (path_and_watch.read bytes))
+body_of (Some kinds.GetData) bytes = read_as GetData (front_in (path_and_watch.read bytes))
+body_of (Some kinds.GetAcl) bytes = read_as GetAcl (front_in (get_acl_request.read bytes))
+body_of (Some kinds.GetChildren) bytes = read_as GetChildren (front_in (path_and_watch.read bytes))
+body_of (Some kinds.GetChildren2) bytes = read_as GetChildren2 (front_in (path_and_watch.read bytes))
+body_of (Some kinds.Ping) bytes = Ping
+body_of (Some kinds.Create) bytes = Write
+body_of (Some kinds.Delete) bytes = Write
+body_of (Some kinds.SetData) bytes = Write
+body_of (Some kinds.SetAcl) bytes = Write
+body_of (Some kinds.Sync) bytes = Write
+body_of (Some kinds.Check) bytes = Write
+body_of (Some kinds.Multi) bytes = Write
+body_of (Some kinds.Auth) bytes = Unanswered
+body_of (Some kinds.SetWatches) bytes = Unanswered
+body_of (Some kinds.CloseSession) bytes = Unanswered
 
 abbrev pub call_behind : Result (RequestHeader × List ℕ) Fault → Result Call Fault
-call_behind (Ok x) = Ok (record { xid = x.0.xid; body = body_of x.0.kind x.1 })
+call_behind (Ok x) = Ok (record { xid = x.0.xid; body = body_of (kind_of x.0.kind) x.1 })
 call_behind (Err e) = Err e
 
 -- the call that a frame is, if it has a whole header

@@ -3,18 +3,19 @@
 ghost use Rattle.std.specs.Prelude.{◌≡◌};
 ghost use Rattle.std.specs.FinMap as finmap;
 ghost use Rattle.jute.specs.Stream.{items, place_at};
-ghost use Rattle.observer_core.specs.Play.{close_client, send, answer, request, call, serve, serve_all, frames, take_client_bytes};
+ghost use Rattle.read_processor.specs.Look.{without_body};
+ghost use Rattle.observer_core.specs.Play.{close_client, answer, request, call, serve, serve_all, frames, take_client_bytes};
 ghost use Rattle.observer_core.specs.Inner.{Meets, FirstFrame};
 
 use crate::event::Output;
-use crate::look::Look;
 use crate::machine::World;
-use crate::read::look;
-use crate::reply::reply;
-use crate::request::{CallBody, Request, read_call};
+use crate::request::{CallBody, read_call, sets_watch};
+use client_records::codes::{NOT_READ_ONLY, OK, PING_XID, UNIMPLEMENTED};
+use jute::codes::BAD_ARGUMENTS;
 use jute::{Reader, read_frame};
+use read_processor::{Look, Request, look};
 use std::alloc::Global;
-use values::{Blob, ByteQueue, Fault, NoMemory, ReadError};
+use values::{ByteQueue, Fault, NoMemory, ReadError};
 
 /// The most bytes of a client's frame.
 pub const CLIENT_FRAME_LIMIT: u32 = 1_048_575;
@@ -29,27 +30,45 @@ fn close_client(number: u64, world: &mut World, outputs: &mut Vec<Output>) -> Re
     Ok(())
 }
 
-// Sends a frame. Where there is none, the connection is closed.
-fn send(
+// Sends what is shown. What is too long for a frame isn't sent, and closes the connection.
+fn answer(
     number: u64,
     world: &mut World,
-    frame: Option<Blob>,
+    xid: i32,
+    seen: Look,
     outputs: &mut Vec<Output>,
 ) -> Result<(), NoMemory>
     ensures { Meets result outputs.old.items
-        (send number world.old frame)
+        (answer number world.old xid seen)
         outputs.new.items world.new }
 {
-    match frame {
+    match seen.into_frame(xid, world.learner.last_zxid()) {
         None => close_client(number, world, outputs),
-        Some(bytes) => {
-            outputs.push(Output::ToClient(number, bytes))?;
+        Some(frame) => {
+            outputs.push(Output::ToClient(number, frame))?;
             Ok(())
         }
     }
 }
 
-// Answers a request, or passes it over where it sets a watch.
+// Sends an error's number, or 0, without a body.
+fn answer_without_body(
+    alloc: Global,
+    number: u64,
+    world: &mut World,
+    xid: i32,
+    error: i32,
+    outputs: &mut Vec<Output>,
+) -> Result<(), NoMemory>
+    ensures { Meets result outputs.old.items
+        (answer number world.old xid (without_body error))
+        outputs.new.items world.new }
+{
+    let seen = Look::without_body(alloc, error)?;
+    answer(number, world, xid, seen, outputs)
+}
+
+// Answers a read, or passes it over where it sets a watch.
 fn answer_request(
     alloc: Global,
     number: u64,
@@ -62,20 +81,11 @@ fn answer_request(
         (request number world.old xid asked.now)
         outputs.new.items world.new }
 {
-    match asked {
-        Request::GetData(get_data) => {
-            if get_data.watch {
-                return Ok(());
-            }
-        }
+    if sets_watch(asked) {
+        return Ok(());
     }
-    let frame = reply(
-        alloc,
-        xid,
-        world.learner.last_zxid(),
-        &look(&world.tree, asked),
-    )?;
-    send(number, world, frame, outputs)
+    let seen = look(alloc, &world.tree, &[], asked)?;
+    answer(number, world, xid, seen, outputs)
 }
 
 // Answers a call, or passes over one of a type that isn't answered yet.
@@ -93,16 +103,14 @@ fn answer_call(
 {
     match body {
         CallBody::Read(asked) => answer_request(alloc, number, world, xid, asked, outputs),
-        CallBody::Unreadable => {
-            let frame = reply(
-                alloc,
-                xid,
-                world.learner.last_zxid(),
-                &Look::bad_arguments(),
-            )?;
-            send(number, world, frame, outputs)
-        }
+        CallBody::Unreadable => answer_without_body(alloc, number, world, xid, BAD_ARGUMENTS, outputs),
+        CallBody::Ping => answer_without_body(alloc, number, world, PING_XID, OK, outputs),
+        CallBody::Write => answer_without_body(alloc, number, world, xid, NOT_READ_ONLY, outputs),
         CallBody::Unanswered => Ok(()),
+        CallBody::Unknown => {
+            answer_without_body(alloc, number, world, xid, UNIMPLEMENTED, outputs)?;
+            close_client(number, world, outputs)
+        }
     }
 }
 

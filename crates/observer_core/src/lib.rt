@@ -3,8 +3,8 @@
 //! An [`Engine`] is fed lists of [`Event`]s and appends what they cause as [`Output`]s. What that is, says specs/Play: it
 //! speaks of a machine (specs/Machine), which is a leader's stream and a world, and of steps. A packet is a step of the
 //! world, a frame of a client is one, and an event makes all that came whole with it. A packet may be refused; then the
-//! leader and all clients are closed, and nothing else changes. A read is a look at the tree (specs/Look), sent as a
-//! frame (specs/Reply). specs/Plays says what `feed_inline` answers, with want of memory in it.
+//! leader and all clients are closed, and nothing else changes. What a read shows of the tree, and the frame in which it is
+//! sent, are `read_processor`'s. specs/Plays says what `feed_inline` answers, with want of memory in it.
 //!
 //! `leader` and `client` carry the two kinds of steps out, `run` the events. What their private functions promise each
 //! other stands in specs/Inner, and nobody outside needs it.
@@ -26,10 +26,7 @@ mod event;
 mod law;
 mod leader;
 mod learner;
-mod look;
 mod machine;
-mod read;
-mod reply;
 mod request;
 mod run;
 

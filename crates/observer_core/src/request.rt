@@ -1,19 +1,15 @@
 //! What a client's frame asks for.
 
-ghost use Rattle.jute.specs.Records.{get_data_request};
+ghost use Rattle.std.specs.Prelude.{◌≡◌, IfOk};
 ghost use Rattle.jute.specs.Reads.{GivesWhole};
-ghost use Rattle.observer_core.specs.Request.{call_in, body_of, get_data_body};
+ghost use Rattle.client_records.specs.Kinds.{kind_of};
+ghost use Rattle.observer_core.specs.Request.{sets_watch, front_in, body_of, call_in};
 
-use jute::codes::GET_DATA;
-use jute::{GetDataRequest, ReadRecord, Reader, RequestHeader};
+use client_records::RequestKind;
+use jute::{ReadRecord, Reader, RequestHeader};
+use read_processor::Request;
 use std::alloc::Global;
-use values::ReadError;
-
-/// A request that the tree answers.
-#[derive(Drop)]
-pub enum Request<'a> {
-    GetData(GetDataRequest<'a>),
-}
+use values::{NoMemory, ReadError};
 
 /// What stands behind a header.
 #[derive(Drop)]
@@ -21,8 +17,13 @@ pub enum CallBody<'a> {
     Read(Request<'a>),
     /// The body isn't one of the header's type.
     Unreadable,
+    Ping,
+    /// A change, or a sync, which no observer does by itself.
+    Write,
     /// A request of a type that isn't answered yet.
     Unanswered,
+    /// The header's type is none.
+    Unknown,
 }
 
 /// A frame of a client.
@@ -33,14 +34,62 @@ pub struct Call<'a> {
     pub body: CallBody<'a>,
 }
 
-// A getData's body.
-fn read_get_data<'a>(alloc: Global, reader: &mut Reader<'a>) -> Result<CallBody<'a>, ReadError>
-    ensures { GivesWhole (Ok (get_data_body (get_data_request.read reader.old))) result }
+/// Whether a request asks for a watch.
+pub fn sets_watch(request: &Request<'_>) -> bool
+    ensures { result ≡ sets_watch request.now }
 {
-    match GetDataRequest::read(alloc, reader) {
-        Ok(request) => Ok(CallBody::Read(Request::GetData(request))),
-        Err(ReadError::NoMemory) => Err(ReadError::NoMemory),
-        Err(ReadError::Fault(_)) => Ok(CallBody::Unreadable),
+    match request {
+        Request::Exists(asked)
+        | Request::GetData(asked)
+        | Request::GetChildren(asked)
+        | Request::GetChildren2(asked) => asked.watch,
+        Request::GetAcl(_) => false,
+    }
+}
+
+// The record at the front, if it can be read.
+fn front<'a, T: ReadRecord<'a>>(alloc: Global, reader: &mut Reader<'a>) -> Result<Option<T>, NoMemory>
+    ensures { IfOk result (λ found. found ≡ front_in (T.read_of reader.old)) }
+{
+    match T::read(alloc, reader) {
+        Ok(record) => Ok(Some(record)),
+        Err(ReadError::NoMemory) => Err(NoMemory),
+        Err(ReadError::Fault(_)) => Ok(None),
+    }
+}
+
+// The body of a request of that type.
+fn read_body<'a>(
+    alloc: Global,
+    kind: Option<RequestKind>,
+    reader: &mut Reader<'a>,
+) -> Result<CallBody<'a>, NoMemory>
+    ensures { IfOk result (λ body. body ≡ body_of kind reader.old) }
+{
+    let Some(kind) = kind else {
+        return Ok(CallBody::Unknown);
+    };
+    let request = match kind {
+        RequestKind::Exists => front(alloc, reader)?.map(Request::Exists),
+        RequestKind::GetData => front(alloc, reader)?.map(Request::GetData),
+        RequestKind::GetAcl => front(alloc, reader)?.map(Request::GetAcl),
+        RequestKind::GetChildren => front(alloc, reader)?.map(Request::GetChildren),
+        RequestKind::GetChildren2 => front(alloc, reader)?.map(Request::GetChildren2),
+        RequestKind::Ping => return Ok(CallBody::Ping),
+        RequestKind::Create
+        | RequestKind::Delete
+        | RequestKind::SetData
+        | RequestKind::SetAcl
+        | RequestKind::Sync
+        | RequestKind::Check
+        | RequestKind::Multi => return Ok(CallBody::Write),
+        RequestKind::Auth | RequestKind::SetWatches | RequestKind::CloseSession => {
+            return Ok(CallBody::Unanswered);
+        }
+    };
+    match request {
+        None => Ok(CallBody::Unreadable),
+        Some(request) => Ok(CallBody::Read(request)),
     }
 }
 
@@ -51,12 +100,6 @@ pub fn read_call<'a>(alloc: Global, frame: &'a [u8]) -> Result<Call<'a>, ReadErr
     let mut reader = Reader::new(frame);
     let header = RequestHeader::read(alloc, &mut reader)?;
     let xid = header.xid;
-    if header.kind != GET_DATA {
-        return Ok(Call {
-            xid,
-            body: CallBody::Unanswered,
-        });
-    }
-    let body = read_get_data(alloc, &mut reader)?;
+    let body = read_body(alloc, RequestKind::from_code(header.kind), &mut reader)?;
     Ok(Call { xid, body })
 }

@@ -1,0 +1,31 @@
+-- The codes of requests (the operation codes of ZooDefs.OpCode).
+use Rattle.std.specs.Prelude.{List, [], ◌∷◌, Option, ℤ, pos, negsuc, find}
+use Rattle.std.specs.Ordering.{int_eq}
+use Rattle.client_records.specs.declared.kind.RequestKind.{RequestKind}
+use Rattle.client_records.specs.declared.kind.RequestKind.TheVariants.{Create, Delete, Exists, GetData, SetData, GetAcl, SetAcl, GetChildren, Sync, Ping, GetChildren2, Check, Multi, Auth, SetWatches, CloseSession}
+
+abbrev pub code_of : RequestKind → ℤ
+code_of Create = pos 1
+code_of Delete = pos 2
+code_of Exists = pos 3
+code_of GetData = pos 4
+code_of SetData = pos 5
+code_of GetAcl = pos 6
+code_of SetAcl = pos 7
+code_of GetChildren = pos 8
+code_of Sync = pos 9
+code_of Ping = pos 11
+code_of GetChildren2 = pos 12
+code_of Check = pos 13
+code_of Multi = pos 14
+code_of Auth = pos 100
+code_of SetWatches = pos 101
+code_of CloseSession = negsuc 10
+
+abbrev pub kinds : List RequestKind
+kinds = Create ∷ Delete ∷ Exists ∷ GetData ∷ SetData ∷ GetAcl ∷ SetAcl ∷ GetChildren ∷ Sync
+    ∷ Ping ∷ GetChildren2 ∷ Check ∷ Multi ∷ Auth ∷ SetWatches ∷ CloseSession ∷ []
+
+-- the type with that code
+unfoldable pub kind_of : ℤ → Option RequestKind
+kind_of code = find (λ k. int_eq code (code_of k)) kinds
