@@ -1,8 +1,6 @@
 -- Texts of a set that are written one behind another.
-use Rattle.std.proofs.Common.{◌≡◌, ℕ, ◌<◌, ◌^◌, List, [], ◌∷◌, ◌++◌, length, map, All, String, Global, string_bytes, refl, sym, ap, ◌∙◌, append_assoc}
-use Rattle.std.proofs.Common.{w32, to_z, pos}
+use Rattle.std.proofs.Common.{◌≡◌, ℕ, ◌<◌, ◌^◌, List, [], ◌∷◌, ◌++◌, length, map, All, String, Global, string_bytes, refl, sym, ap, ◌∙◌, append_assoc, w32, to_z, pos}
 use Rattle.std.specs.List.{flat_map, AllByRecursion}
-use Rattle.std.proofs.lemmas.List.{append-nil}
 use Rattle.std.proofs.lemmas.List.Concat.{flat_map-cons}
 use Rattle.std.proofs.lemmas.List.{length-map}
 use Rattle.std.proofs.lemmas.List.Elements.{All-head, All-tail}
@@ -63,7 +61,3 @@ put_part {old = old} {t = t} {left = left} w g =
     let whole : w.front ++ (spelled t ++ flat_map spelled left) ≡ _ =
     ap (λ (x : List ℕ). w.front ++ x) (sym (flat_map-cons spelled t left)) ∙ sym w.rest in
     gains_same whole (gains_behind old w.front w.put (gains_first _ g))
-
--- no text is left
-pub put_all : {old all out : List ℕ} → Written old all out [] → out ≡ old ++ all
-put_all {old = old} w = w.put ∙ ap (λ (x : List ℕ). old ++ x) (sym (append-nil w.front) ∙ sym w.rest)

@@ -1,10 +1,10 @@
--- How long lists of texts are when they are written, and that short ones may be written.
+-- How long lists are when they are written, and that short ones may be written.
 use Rattle.std.proofs.Common.{◌≡◌, ℕ, ◌+◌, ◌<◌, ◌≤◌, ◌^◌, List, [], ◌∷◌, length, drop, get_or, ◌∙◌, arith, refl, sym, ap, inl, inr, nat_le, Some, None}
 use Rattle.std.specs.List.{flat_map, AllByRecursion}
 use Rattle.std.proofs.lemmas.List.{length-append, drop_more}
 use Rattle.std.proofs.lemmas.List.Elements.{All-from_recursion}
 use Rattle.std.proofs.lemmas.Option.{none-some, cond_some}
-use Rattle.std.proofs.lemmas.Bool.{lt-leb, le-leb}
+use Rattle.std.proofs.lemmas.Bool.{lt-leb}
 use Rattle.std.proofs.lemmas.Bool.Decides.{leb_tells}
 use Rattle.jute.specs.Format.{Format, name, number_bytes, vector, or_null}
 use Rattle.jute.specs.Owned.{acl, id}
@@ -89,26 +89,21 @@ within_none limit n m e le = elim (leb_tells n limit) [
 
 -- so much was counted, and so much is left of it all
 pub record Counted (limit len left all : ℕ) : Type 0 where
-  pub within : len ≤ limit
+  pub fits : len ≤ limit
   pub sum : len + left ≡ all
 
 pub nothing_yet : (limit all : ℕ) → Counted limit 0 all all
-nothing_yet limit all = record { within = omega arith; sum = omega arith }
+nothing_yet limit all = record { fits = omega arith; sum = omega arith }
 
 pub count_on : {limit len left all : ℕ} (more rest r : ℕ)
     → Counted limit len left all → left ≡ more + rest → Some r ≡ within limit (len + more) → Counted limit r rest all
 count_on {limit} {len} {left} {all} more rest r c e g =
     let w = within_some limit (len + more) r g in
-    record { within = omega (arith, w.0, w.1); sum = omega (arith, w.0, c.sum, e) }
+    record { fits = omega (arith, w.0, w.1); sum = omega (arith, w.0, c.sum, e) }
 
 pub passes : {limit len left all : ℕ} (more rest : ℕ)
     → Counted limit len left all → left ≡ more + rest → None ≡ within limit (len + more) → None ≡ within limit all
 passes {limit} {len} {left} {all} more rest c e g = within_none limit (len + more) all g (omega (arith, c.sum, e))
 
-pub all_counted : {limit len all : ℕ} → Counted limit len 0 all → Some len ≡ within limit all
-all_counted {limit} {len} {all} c =
-    let same : len ≡ all = omega (arith, c.sum) in
-    rw (le-leb all limit (omega (arith, c.within, same))) (ap Some same)
-
 pub stays_below : {limit len all : ℕ} → Counted limit len 0 all → limit < 2 ^ 31 → all < 2 ^ 31
-stays_below c small = omega (arith, c.within, c.sum, small)
+stays_below c small = omega (arith, c.fits, c.sum, small)
