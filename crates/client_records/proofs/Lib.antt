@@ -1,0 +1,2 @@
+-- the records
+pub mod Records

@@ -1,0 +1,38 @@
+-- The records that stand in the frames to a client: the fields of zookeeper.jute in their order, nothing between.
+use Rattle.jute.specs.Format.{Format, int, long, buffer, text, vector, or_null, both, mapped}
+use Rattle.jute.specs.Owned.{acl}
+use Rattle.jute.specs.Records.{stat}
+use Rattle.client_records.specs.Fields.{names}
+use Rattle.client_records.specs.declared.connect.ConnectResponse.{ConnectResponse}
+use Rattle.client_records.specs.declared.event.WatcherEvent.{WatcherEvent}
+use Rattle.client_records.specs.declared.response.ExistsResponse.{ExistsResponse}
+use Rattle.client_records.specs.declared.response.GetDataResponse.{GetDataResponse}
+use Rattle.client_records.specs.declared.response.GetChildrenResponse.{GetChildrenResponse}
+use Rattle.client_records.specs.declared.response.GetChildren2Response.{GetChildren2Response}
+use Rattle.client_records.specs.declared.response.GetAclResponse.{GetAclResponse}
+
+unfoldable pub connect_response : Format ConnectResponse
+connect_response =
+    mapped
+    (λ v. record { protocol_version = v.0; time_out = v.1.0; session_id = v.1.1.0; passwd = v.1.1.1 })
+    (λ r. (r.protocol_version, (r.time_out, (r.session_id, r.passwd))))
+    (both int (both int (both long buffer)))
+
+unfoldable pub exists_response : Format ExistsResponse
+exists_response = mapped (λ v. record { stat = v }) (λ r. r.stat) stat
+
+unfoldable pub get_data_response : Format GetDataResponse
+get_data_response = mapped (λ v. record { bytes = v.0; stat = v.1 }) (λ r. (r.bytes, r.stat)) (both buffer stat)
+
+unfoldable pub get_children_response : Format GetChildrenResponse
+get_children_response = mapped (λ v. record { children = v }) (λ r. r.children) names
+
+unfoldable pub get_children2_response : Format GetChildren2Response
+get_children2_response = mapped (λ v. record { children = v.0; stat = v.1 }) (λ r. (r.children, r.stat)) (both names stat)
+
+-- a null list is read as empty
+unfoldable pub get_acl_response : Format GetAclResponse
+get_acl_response = mapped (λ v. record { acl = v.0; stat = v.1 }) (λ r. (r.acl, r.stat)) (both (or_null (vector acl)) stat)
+
+unfoldable pub watcher_event : Format WatcherEvent
+watcher_event = mapped (λ v. record { kind = v.0; state = v.1.0; path = v.1.1 }) (λ r. (r.kind, (r.state, r.path))) (both int (both int text))

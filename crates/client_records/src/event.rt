@@ -1,0 +1,49 @@
+//! What a client is told that it didn't ask for.
+
+ghost use Rattle.client_records.specs.Responses.{watcher_event};
+
+use crate::fields::{put_text, text_len};
+use jute::{ReadRecord, Reader, WriteRecord};
+use std::alloc::Global;
+use values::{NoMemory, ReadError, Str};
+
+/// The WatcherEvent of zookeeper.jute.
+#[derive(Debug, Drop, PartialEq, Eq)]
+pub struct WatcherEvent<'a> {
+    /// What happened: a number from `NODE_CREATED` to `NODE_CHILDREN_CHANGED`.
+    pub kind: i32,
+    /// The state of the client, `SYNC_CONNECTED`.
+    pub state: i32,
+    /// The path that was watched; `None` is null.
+    pub path: Option<Str<'a>>,
+}
+
+impl<'a> ReadRecord<'a> for WatcherEvent<'a> {
+    ghost read_of = { watcher_event.read };
+
+    #[tactic(auto, unfolding(crate::specs::Responses::watcher_event))]
+    fn read(_alloc: Global, reader: &mut Reader<'a>) -> Result<WatcherEvent<'a>, ReadError> {
+        let mut ahead = reader.ahead();
+        let kind = ahead.read_int()?;
+        let state = ahead.read_int()?;
+        let path = ahead.read_string()?.map(Str::new);
+        *reader = ahead;
+        Ok(WatcherEvent { kind, state, path })
+    }
+}
+
+impl<'a> WriteRecord for WatcherEvent<'a> {
+    ghost format = { watcher_event };
+
+    #[tactic(auto, unfolding(crate::specs::Responses::watcher_event, jute::specs::Format::number_bytes))]
+    fn written_len(&self) -> usize {
+        8 + text_len(&self.path)
+    }
+
+    #[tactic(auto, unfolding(crate::specs::Responses::watcher_event))]
+    fn write(&self, out: &mut Vec<u8>) -> Result<(), NoMemory> {
+        self.kind.write(out)?;
+        self.state.write(out)?;
+        put_text(out, &self.path)
+    }
+}

@@ -1,0 +1,161 @@
+//! Fields of the records: texts and bytes that may be null, and lists.
+
+ghost use Rattle.std.specs.Prelude.{◌≡◌, ℕ, List, length, map, nat_eq, Ok, Some, String, string_bytes};
+ghost use Rattle.std.specs.Cmp.{partial_equiv_from_equiv};
+ghost use Rattle.std.specs.Cmp.Lexicographic.{pointwise, nat_list_eq_equiv};
+ghost use Rattle.std.specs.Map.Iter.{ShowsInOrder, deref};
+ghost use Rattle.jute.specs.Format.{buffer, name, vector, vector_at, judged_at, or_empty};
+ghost use Rattle.jute.specs.Reads.{Gives};
+ghost use Rattle.values.specs.Gains.{Puts};
+ghost use Rattle.client_records.specs.Fields.{names};
+
+use jute::{ReadRecord, Reader, WriteRecord, put_bytes, put_int, put_items, put_string, read_name, read_vector};
+use std::alloc::Global;
+use std::collections::btree_set::Iter;
+use std::marker::Model;
+use values::{Bytes, Listed, NoMemory, ReadError, Str};
+
+// How many bytes a ustring takes, or null.
+#[tactic(auto, unfolding(jute::specs::Format::number_bytes))]
+pub fn text_len(text: &Option<Str<'_>>) -> usize
+    requires { buffer.Writable text.now }
+    ensures { result ≡ length (buffer.written text.now) }
+{
+    match text {
+        None => 4,
+        Some(text) => 4 + text.as_str().len(),
+    }
+}
+
+// A ustring, or null.
+pub fn put_text(out: &mut Vec<u8>, text: &Option<Str<'_>>) -> Result<(), NoMemory>
+    requires { buffer.Writable text.now }
+    ensures { Puts result out.old.items (buffer.written text.now) out.new.items }
+{
+    match text {
+        None => put_int(out, -1),
+        Some(text) => put_string(out, text.as_str()),
+    }
+}
+
+// How many bytes a buffer takes, or null.
+#[tactic(auto, unfolding(jute::specs::Format::number_bytes))]
+pub fn buffer_len(bytes: &Option<Bytes<'_>>) -> usize
+    requires { buffer.Writable bytes.now }
+    ensures { result ≡ length (buffer.written bytes.now) }
+{
+    match bytes {
+        None => 4,
+        Some(bytes) => 4 + bytes.as_slice().len(),
+    }
+}
+
+// A buffer, or null.
+pub fn put_buffer(out: &mut Vec<u8>, bytes: &Option<Bytes<'_>>) -> Result<(), NoMemory>
+    requires { buffer.Writable bytes.now }
+    ensures { Puts result out.old.items (buffer.written bytes.now) out.new.items }
+{
+    match bytes {
+        None => put_int(out, -1),
+        Some(bytes) => put_bytes(out, bytes.as_slice()),
+    }
+}
+
+/// A borrowed text that stands in a list, as a name or a path. Null is read as empty.
+#[derive(Debug, Drop)]
+pub struct Name<'a> {
+    text: &'a str,
+}
+
+impl<'a> Model for Name<'a> {
+    ghost Value = { List ℕ };
+
+    ghost view = { λ n. n.text.now };
+}
+
+impl<'a> Name<'a> {
+    pub fn new(text: &'a str) -> Name<'a>
+        ensures { result ≡ text.now }
+    {
+        Name { text }
+    }
+
+    pub fn as_str(&self) -> &'a str
+        ensures { result.now ≡ self.now }
+    {
+        self.text
+    }
+}
+
+impl<'a> PartialEq for Name<'a> {
+    ghost eq = { λ a b. pointwise nat_eq a b };
+
+    ghost laws = { partial_equiv_from_equiv nat_list_eq_equiv };
+
+    fn eq(&self, other: &Name<'a>) -> bool {
+        self.as_str() == other.as_str()
+    }
+}
+
+impl<'a> Eq for Name<'a> {
+    ghost laws = { nat_list_eq_equiv };
+}
+
+impl<'a> ReadRecord<'a> for Name<'a> {
+    ghost read_of = { name.read };
+
+    fn read(_alloc: Global, reader: &mut Reader<'a>) -> Result<Name<'a>, ReadError> {
+        let text = read_name(reader)?.as_str();
+        Ok(Name { text })
+    }
+}
+
+impl<'a> WriteRecord for Name<'a> {
+    ghost format = { name };
+
+    #[tactic(auto, unfolding(jute::specs::Format::number_bytes))]
+    fn written_len(&self) -> usize {
+        4 + self.text.len()
+    }
+
+    fn write(&self, out: &mut Vec<u8>) -> Result<(), NoMemory> {
+        put_string(out, self.text)
+    }
+}
+
+/// Reads a vector of records, where null is read as empty.
+pub fn read_list<'a, T: ReadRecord<'a>>(
+    alloc: Global,
+    reader: &mut Reader<'a>,
+) -> Result<Listed<T>, ReadError>
+    ensures { Gives (judged_at (λ v. Ok (or_empty v)) (vector_at T.read_of)) (λ v. v) result reader.old reader.new }
+{
+    match read_vector(alloc, reader)? {
+        None => Ok(Listed::from_vec(Vec::new(alloc))),
+        Some(items) => Ok(items),
+    }
+}
+
+/// Writes a list as a vector: an int count, and the records one behind the other.
+pub fn put_list<T: WriteRecord>(out: &mut Vec<u8>, items: &[T]) -> Result<(), NoMemory>
+    requires { (vector T.format).Writable (Some items.now) }
+    ensures { Puts result out.old.items ((vector T.format).written (Some items.now)) out.new.items }
+{
+    put_int(out, items.len() as i32)?;
+    put_items(out, items)
+}
+
+/// Writes that many texts, in the order of the set that has them, as a vector of ustrings: an int
+/// count, and the texts one behind the other.
+pub fn put_names(out: &mut Vec<u8>, count: u32, texts: Iter<'_, String>) -> Result<(), NoMemory>
+    requires runs { ShowsInOrder (deref {X = String Global}) }
+    requires counted { length texts ≡ count }
+    requires writable { names.Writable (map string_bytes texts) }
+    ensures { Puts result out.old.items (names.written (map string_bytes texts.entry)) out.new.items }
+{
+    put_int(out, count as i32)?;
+    for text in texts {
+        put_string(out, text)?;
+    }
+    Ok(())
+}

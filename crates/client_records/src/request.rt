@@ -1,0 +1,171 @@
+//! What a client asks for, behind the header of its frame.
+
+ghost use Rattle.client_records.specs.Requests.{path_and_watch, get_acl_request, set_watches, auth_packet};
+
+use crate::fields::{Name, buffer_len, put_buffer, put_list, put_text, read_list, text_len};
+use jute::{ReadRecord, Reader, WriteRecord, items_len, put_bool};
+use std::alloc::Global;
+use values::{Bytes, Listed, NoMemory, ReadError, Str};
+
+/// The ExistsRequest, GetDataRequest, GetChildrenRequest and GetChildren2Request of zookeeper.jute, which have the same
+/// fields.
+#[derive(Debug, Drop, PartialEq, Eq)]
+pub struct PathAndWatch<'a> {
+    /// The path of the node; `None` is null.
+    pub path: Option<Str<'a>>,
+    /// Whether a watch is to be left at the path.
+    pub watch: bool,
+}
+
+impl<'a> ReadRecord<'a> for PathAndWatch<'a> {
+    ghost read_of = { path_and_watch.read };
+
+    #[tactic(auto, unfolding(crate::specs::Requests::path_and_watch))]
+    fn read(_alloc: Global, reader: &mut Reader<'a>) -> Result<PathAndWatch<'a>, ReadError> {
+        let mut ahead = reader.ahead();
+        let path = ahead.read_string()?.map(Str::new);
+        let watch = ahead.read_bool()?;
+        *reader = ahead;
+        Ok(PathAndWatch { path, watch })
+    }
+}
+
+impl<'a> WriteRecord for PathAndWatch<'a> {
+    ghost format = { path_and_watch };
+
+    #[tactic(auto, unfolding(crate::specs::Requests::path_and_watch))]
+    fn written_len(&self) -> usize {
+        text_len(&self.path) + 1
+    }
+
+    #[tactic(auto, unfolding(crate::specs::Requests::path_and_watch))]
+    fn write(&self, out: &mut Vec<u8>) -> Result<(), NoMemory> {
+        put_text(out, &self.path)?;
+        put_bool(out, self.watch)
+    }
+}
+
+/// The GetACLRequest of zookeeper.jute.
+#[derive(Debug, Drop, PartialEq, Eq)]
+pub struct GetAclRequest<'a> {
+    /// The path of the node; `None` is null.
+    pub path: Option<Str<'a>>,
+}
+
+impl<'a> ReadRecord<'a> for GetAclRequest<'a> {
+    ghost read_of = { get_acl_request.read };
+
+    #[tactic(auto, unfolding(crate::specs::Requests::get_acl_request))]
+    fn read(_alloc: Global, reader: &mut Reader<'a>) -> Result<GetAclRequest<'a>, ReadError> {
+        let path = reader.read_string()?.map(Str::new);
+        Ok(GetAclRequest { path })
+    }
+}
+
+impl<'a> WriteRecord for GetAclRequest<'a> {
+    ghost format = { get_acl_request };
+
+    #[tactic(auto, unfolding(crate::specs::Requests::get_acl_request))]
+    fn written_len(&self) -> usize {
+        text_len(&self.path)
+    }
+
+    #[tactic(auto, unfolding(crate::specs::Requests::get_acl_request))]
+    fn write(&self, out: &mut Vec<u8>) -> Result<(), NoMemory> {
+        put_text(out, &self.path)
+    }
+}
+
+/// The SetWatches of zookeeper.jute: what a client watched on an older connection. Null lists and
+/// null paths are read as empty.
+#[derive(Debug, Drop, PartialEq, Eq)]
+pub struct SetWatches<'a> {
+    /// The last zxid that the client was told of.
+    pub relative_zxid: i64,
+    /// Paths whose nodes it read.
+    pub data_watches: Listed<Name<'a>>,
+    /// Paths at which it found no node.
+    pub exist_watches: Listed<Name<'a>>,
+    /// Paths whose children it read.
+    pub child_watches: Listed<Name<'a>>,
+}
+
+impl<'a> ReadRecord<'a> for SetWatches<'a> {
+    ghost read_of = { set_watches.read };
+
+    #[tactic(auto, unfolding(crate::specs::Requests::set_watches))]
+    fn read(alloc: Global, reader: &mut Reader<'a>) -> Result<SetWatches<'a>, ReadError> {
+        let mut ahead = reader.ahead();
+        let relative_zxid = ahead.read_long()?;
+        let data_watches = read_list(alloc, &mut ahead)?;
+        let exist_watches = read_list(alloc, &mut ahead)?;
+        let child_watches = read_list(alloc, &mut ahead)?;
+        *reader = ahead;
+        Ok(SetWatches {
+            relative_zxid,
+            data_watches,
+            exist_watches,
+            child_watches,
+        })
+    }
+}
+
+impl<'a> WriteRecord for SetWatches<'a> {
+    ghost format = { set_watches };
+
+    #[tactic(auto, unfolding(crate::specs::Requests::set_watches, jute::specs::Format::number_bytes))]
+    fn written_len(&self) -> usize {
+        20 + items_len(self.data_watches.as_slice())
+            + items_len(self.exist_watches.as_slice())
+            + items_len(self.child_watches.as_slice())
+    }
+
+    #[tactic(auto, unfolding(crate::specs::Requests::set_watches))]
+    fn write(&self, out: &mut Vec<u8>) -> Result<(), NoMemory> {
+        self.relative_zxid.write(out)?;
+        put_list(out, self.data_watches.as_slice())?;
+        put_list(out, self.exist_watches.as_slice())?;
+        put_list(out, self.child_watches.as_slice())
+    }
+}
+
+/// The AuthPacket of zookeeper.jute: by what a client says who it is.
+#[derive(Debug, Drop, PartialEq, Eq)]
+pub struct AuthPacket<'a> {
+    /// A number that nothing reads, 0.
+    pub kind: i32,
+    /// How it says it, as `digest`; `None` is null.
+    pub scheme: Option<Str<'a>>,
+    /// What it says, as a user and a password in `digest`; `None` is null.
+    pub auth: Option<Bytes<'a>>,
+}
+
+impl<'a> ReadRecord<'a> for AuthPacket<'a> {
+    ghost read_of = { auth_packet.read };
+
+    #[tactic(auto, unfolding(crate::specs::Requests::auth_packet))]
+    fn read(_alloc: Global, reader: &mut Reader<'a>) -> Result<AuthPacket<'a>, ReadError> {
+        let mut ahead = reader.ahead();
+        let kind = ahead.read_int()?;
+        let scheme = ahead.read_string()?.map(Str::new);
+        let auth = ahead.read_buffer()?.map(Bytes::new);
+        *reader = ahead;
+        Ok(AuthPacket { kind, scheme, auth })
+    }
+}
+
+impl<'a> WriteRecord for AuthPacket<'a> {
+    ghost format = { auth_packet };
+
+    #[tactic(auto, unfolding(crate::specs::Requests::auth_packet, jute::specs::Format::number_bytes))]
+    fn written_len(&self) -> usize {
+        4 + text_len(&self.scheme) + buffer_len(&self.auth)
+    }
+
+    #[tactic(auto, unfolding(crate::specs::Requests::auth_packet))]
+    fn write(&self, out: &mut Vec<u8>) -> Result<(), NoMemory> {
+        self.kind.write(out)?;
+        put_text(out, &self.scheme)?;
+        put_buffer(out, &self.auth)
+    }
+}

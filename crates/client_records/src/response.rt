@@ -1,0 +1,195 @@
+//! What answers a client's reads, behind the header of its frame.
+
+ghost use Rattle.std.specs.Prelude.{◌≡◌};
+ghost use Rattle.client_records.specs.Responses.{exists_response, get_data_response, get_children_response, get_children2_response, get_acl_response};
+
+use crate::fields::{Name, buffer_len, put_buffer, put_list, read_list};
+use jute::{Acl, ReadRecord, Reader, Stat, WriteRecord, items_len};
+use std::alloc::Global;
+use std::marker::Model;
+use values::{Bytes, Listed, NoMemory, ReadError};
+
+/// The ExistsResponse of zookeeper.jute.
+#[derive(Clone, Copy, Debug, PartialEq, Eq)]
+pub struct ExistsResponse {
+    pub stat: Stat,
+}
+
+impl<'a> ReadRecord<'a> for ExistsResponse {
+    ghost read_of = { exists_response.read };
+
+    #[tactic(auto, unfolding(crate::specs::Responses::exists_response))]
+    fn read(alloc: Global, reader: &mut Reader<'a>) -> Result<ExistsResponse, ReadError> {
+        let stat = Stat::read(alloc, reader)?;
+        Ok(ExistsResponse { stat })
+    }
+}
+
+impl WriteRecord for ExistsResponse {
+    ghost format = { exists_response };
+
+    #[tactic(auto, unfolding(crate::specs::Responses::exists_response))]
+    fn written_len(&self) -> usize {
+        self.stat.written_len()
+    }
+
+    #[tactic(auto, unfolding(crate::specs::Responses::exists_response))]
+    fn write(&self, out: &mut Vec<u8>) -> Result<(), NoMemory> {
+        self.stat.write(out)
+    }
+}
+
+/// The GetDataResponse of zookeeper.jute.
+#[derive(Debug, Drop, PartialEq, Eq)]
+pub struct GetDataResponse<'a> {
+    /// The node's bytes; `None` is null.
+    pub bytes: Option<Bytes<'a>>,
+    pub stat: Stat,
+}
+
+impl<'a> ReadRecord<'a> for GetDataResponse<'a> {
+    ghost read_of = { get_data_response.read };
+
+    #[tactic(auto, unfolding(crate::specs::Responses::get_data_response))]
+    fn read(alloc: Global, reader: &mut Reader<'a>) -> Result<GetDataResponse<'a>, ReadError> {
+        let mut ahead = reader.ahead();
+        let bytes = ahead.read_buffer()?.map(Bytes::new);
+        let stat = Stat::read(alloc, &mut ahead)?;
+        *reader = ahead;
+        Ok(GetDataResponse { bytes, stat })
+    }
+}
+
+impl<'a> WriteRecord for GetDataResponse<'a> {
+    ghost format = { get_data_response };
+
+    #[tactic(auto, unfolding(crate::specs::Responses::get_data_response))]
+    fn written_len(&self) -> usize {
+        buffer_len(&self.bytes) + self.stat.written_len()
+    }
+
+    #[tactic(auto, unfolding(crate::specs::Responses::get_data_response))]
+    fn write(&self, out: &mut Vec<u8>) -> Result<(), NoMemory> {
+        put_buffer(out, &self.bytes)?;
+        self.stat.write(out)
+    }
+}
+
+/// The GetChildrenResponse of zookeeper.jute. `put_names` writes one of names that stand in a set.
+#[derive(Debug, Drop, PartialEq, Eq)]
+pub struct GetChildrenResponse<'a> {
+    /// The children's names. Null is read as no names.
+    pub children: Listed<Name<'a>>,
+}
+
+impl<'a> ReadRecord<'a> for GetChildrenResponse<'a> {
+    ghost read_of = { get_children_response.read };
+
+    #[tactic(auto, unfolding(crate::specs::Responses::get_children_response))]
+    fn read(alloc: Global, reader: &mut Reader<'a>) -> Result<GetChildrenResponse<'a>, ReadError> {
+        let children = read_list(alloc, reader)?;
+        Ok(GetChildrenResponse { children })
+    }
+}
+
+impl<'a> WriteRecord for GetChildrenResponse<'a> {
+    ghost format = { get_children_response };
+
+    #[tactic(auto, unfolding(crate::specs::Responses::get_children_response, jute::specs::Format::number_bytes))]
+    fn written_len(&self) -> usize {
+        4 + items_len(self.children.as_slice())
+    }
+
+    #[tactic(auto, unfolding(crate::specs::Responses::get_children_response))]
+    fn write(&self, out: &mut Vec<u8>) -> Result<(), NoMemory> {
+        put_list(out, self.children.as_slice())
+    }
+}
+
+/// The GetChildren2Response of zookeeper.jute. `put_names`, and then the Stat, write one of names that stand in a set.
+#[derive(Debug, Drop, PartialEq, Eq)]
+pub struct GetChildren2Response<'a> {
+    /// The children's names. Null is read as no names.
+    pub children: Listed<Name<'a>>,
+    pub stat: Stat,
+}
+
+impl<'a> ReadRecord<'a> for GetChildren2Response<'a> {
+    ghost read_of = { get_children2_response.read };
+
+    #[tactic(auto, unfolding(crate::specs::Responses::get_children2_response))]
+    fn read(alloc: Global, reader: &mut Reader<'a>) -> Result<GetChildren2Response<'a>, ReadError> {
+        let mut ahead = reader.ahead();
+        let children = read_list(alloc, &mut ahead)?;
+        let stat = Stat::read(alloc, &mut ahead)?;
+        *reader = ahead;
+        Ok(GetChildren2Response { children, stat })
+    }
+}
+
+impl<'a> WriteRecord for GetChildren2Response<'a> {
+    ghost format = { get_children2_response };
+
+    #[tactic(auto, unfolding(crate::specs::Responses::get_children2_response, jute::specs::Format::number_bytes))]
+    fn written_len(&self) -> usize {
+        4 + items_len(self.children.as_slice()) + self.stat.written_len()
+    }
+
+    #[tactic(auto, unfolding(crate::specs::Responses::get_children2_response))]
+    fn write(&self, out: &mut Vec<u8>) -> Result<(), NoMemory> {
+        put_list(out, self.children.as_slice())?;
+        self.stat.write(out)
+    }
+}
+
+/// A borrowed list of ACLs.
+#[derive(Drop)]
+pub struct Acls<'a> {
+    items: &'a [Acl],
+}
+
+impl<'a> Model for Acls<'a> {
+    ghost use Rattle.std.specs.Prelude.{List};
+    ghost use Rattle.jute.specs.declared.owned.Acl.{Acl};
+
+    ghost Value = { List Acl };
+
+    ghost view = { λ a. a.items.now };
+}
+
+impl<'a> Acls<'a> {
+    pub fn new(items: &'a [Acl]) -> Acls<'a>
+        ensures { result ≡ items.now }
+    {
+        Acls { items }
+    }
+
+    pub fn as_slice(&self) -> &'a [Acl]
+        ensures { result.now ≡ self.now }
+    {
+        self.items
+    }
+}
+
+/// The GetACLResponse of zookeeper.jute. It is only written.
+#[derive(Drop)]
+pub struct GetAclResponse<'a> {
+    /// Who may do what with the node.
+    pub acl: Acls<'a>,
+    pub stat: Stat,
+}
+
+impl<'a> WriteRecord for GetAclResponse<'a> {
+    ghost format = { get_acl_response };
+
+    #[tactic(auto, unfolding(crate::specs::Responses::get_acl_response, jute::specs::Format::number_bytes))]
+    fn written_len(&self) -> usize {
+        4 + items_len(self.acl.as_slice()) + self.stat.written_len()
+    }
+
+    #[tactic(auto, unfolding(crate::specs::Responses::get_acl_response))]
+    fn write(&self, out: &mut Vec<u8>) -> Result<(), NoMemory> {
+        put_list(out, self.acl.as_slice())?;
+        self.stat.write(out)
+    }
+}
