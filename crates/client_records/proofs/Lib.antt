@@ -1,2 +1,4 @@
+-- texts of a set that are written
+pub mod Names
 -- the records
 pub mod Records

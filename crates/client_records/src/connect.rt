@@ -10,7 +10,7 @@ use std::alloc::Global;
 use values::{Blob, Bytes, NoMemory, ReadError};
 
 /// The ConnectRequest of zookeeper.jute.
-#[derive(Debug, Drop, PartialEq, Eq)]
+#[derive(Drop, PartialEq)]
 pub struct ConnectRequest<'a> {
     pub protocol_version: i32,
     /// The greatest zxid that the client has seen.
@@ -49,7 +49,7 @@ impl<'a> WriteRecord for ConnectRequest<'a> {
         24 + buffer_len(&self.passwd)
     }
 
-    #[tactic(auto, unfolding(crate::specs::Requests::connect_request))]
+    #[tactic(auto, unfolding(crate::specs::Requests::connect_request), using(values::proofs::Gaining::puts_behind, values::proofs::Gaining::gains_behind, values::proofs::Gaining::gains_first))]
     fn write(&self, out: &mut Vec<u8>) -> Result<(), NoMemory> {
         self.protocol_version.write(out)?;
         self.last_zxid_seen.write(out)?;
@@ -60,7 +60,7 @@ impl<'a> WriteRecord for ConnectRequest<'a> {
 }
 
 /// The ConnectResponse of zookeeper.jute.
-#[derive(Debug, Drop, PartialEq, Eq)]
+#[derive(Drop, PartialEq)]
 pub struct ConnectResponse {
     pub protocol_version: i32,
     /// How long the session lasts without its client, in milliseconds.
@@ -96,7 +96,7 @@ impl WriteRecord for ConnectResponse {
         16 + blob_len(&self.passwd)
     }
 
-    #[tactic(auto, unfolding(crate::specs::Responses::connect_response))]
+    #[tactic(auto, unfolding(crate::specs::Responses::connect_response), using(values::proofs::Gaining::puts_behind, values::proofs::Gaining::gains_behind, values::proofs::Gaining::gains_first))]
     fn write(&self, out: &mut Vec<u8>) -> Result<(), NoMemory> {
         self.protocol_version.write(out)?;
         self.time_out.write(out)?;

@@ -8,7 +8,7 @@ use std::alloc::Global;
 use values::{NoMemory, ReadError, Str};
 
 /// The WatcherEvent of zookeeper.jute.
-#[derive(Debug, Drop, PartialEq, Eq)]
+#[derive(Drop, PartialEq)]
 pub struct WatcherEvent<'a> {
     /// What happened: a number from `NODE_CREATED` to `NODE_CHILDREN_CHANGED`.
     pub kind: i32,

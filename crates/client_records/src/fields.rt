@@ -3,13 +3,15 @@
 ghost use Rattle.std.specs.Prelude.{◌≡◌, ℕ, List, length, map, nat_eq, Ok, Some, String, string_bytes};
 ghost use Rattle.std.specs.Cmp.{partial_equiv_from_equiv};
 ghost use Rattle.std.specs.Cmp.Lexicographic.{pointwise, nat_list_eq_equiv};
-ghost use Rattle.std.specs.Map.Iter.{ShowsInOrder, deref};
 ghost use Rattle.jute.specs.Format.{buffer, name, vector, vector_at, judged_at, or_empty};
 ghost use Rattle.jute.specs.Reads.{Gives};
 ghost use Rattle.values.specs.Gains.{Puts};
 ghost use Rattle.client_records.specs.Fields.{names};
 
-use jute::{ReadRecord, Reader, WriteRecord, put_bytes, put_int, put_items, put_string, read_name, read_vector};
+use jute::{
+    ReadRecord, Reader, WriteRecord, put_bytes, put_int, put_items, put_string, read_name,
+    read_vector,
+};
 use std::alloc::Global;
 use std::collections::btree_set::Iter;
 use std::marker::Model;
@@ -62,7 +64,7 @@ pub fn put_buffer(out: &mut Vec<u8>, bytes: &Option<Bytes<'_>>) -> Result<(), No
 }
 
 /// A borrowed text that stands in a list, as a name or a path. Null is read as empty.
-#[derive(Debug, Drop)]
+#[derive(Drop)]
 pub struct Name<'a> {
     text: &'a str,
 }
@@ -97,10 +99,6 @@ impl<'a> PartialEq for Name<'a> {
     }
 }
 
-impl<'a> Eq for Name<'a> {
-    ghost laws = { nat_list_eq_equiv };
-}
-
 impl<'a> ReadRecord<'a> for Name<'a> {
     ghost read_of = { name.read };
 
@@ -124,6 +122,7 @@ impl<'a> WriteRecord for Name<'a> {
 }
 
 /// Reads a vector of records, where null is read as empty.
+#[tactic(auto, unfolding(jute::specs::Format::judged_at))]
 pub fn read_list<'a, T: ReadRecord<'a>>(
     alloc: Global,
     reader: &mut Reader<'a>,
@@ -145,15 +144,14 @@ pub fn put_list<T: WriteRecord>(out: &mut Vec<u8>, items: &[T]) -> Result<(), No
     put_items(out, items)
 }
 
-/// Writes that many texts, in the order of the set that has them, as a vector of ustrings: an int
-/// count, and the texts one behind the other.
-pub fn put_names(out: &mut Vec<u8>, count: u32, texts: Iter<'_, String>) -> Result<(), NoMemory>
-    requires runs { ShowsInOrder (deref {X = String Global}) }
-    requires counted { length texts ≡ count }
-    requires writable { names.Writable (map string_bytes texts) }
-    ensures { Puts result out.old.items (names.written (map string_bytes texts.entry)) out.new.items }
+/// Writes the texts of a set in its order, as a vector of ustrings: an int count, and the texts one
+/// behind the other.
+pub fn put_names(out: &mut Vec<u8>, texts: Iter<'_, String>) -> Result<(), NoMemory>
+    requires { names.Writable (map string_bytes texts) }
+    ensures { Puts result out.old.items
+        (names.written (map string_bytes texts.entry)) out.new.items }
 {
-    put_int(out, count as i32)?;
+    put_int(out, texts.len() as i32)?;
     for text in texts {
         put_string(out, text)?;
     }

@@ -8,7 +8,7 @@
 //! ```text
 //! let request = PathAndWatch::read(alloc, &mut reader)?;        // exists, getData, getChildren, getChildren2
 //! GetDataResponse { bytes, stat }.write(&mut out)?;
-//! put_names(&mut out, node.children.len() as u32, node.children.iter())?;     // the body of getChildren
+//! put_names(&mut out, node.children.iter())?;              // the body of getChildren
 //! ```
 #![tactic(auto)]
 
@@ -25,5 +25,6 @@ pub use event::WatcherEvent;
 pub use fields::{Name, put_list, put_names, read_list};
 pub use request::{AuthPacket, GetAclRequest, PathAndWatch, SetWatches};
 pub use response::{
-    Acls, ExistsResponse, GetAclResponse, GetChildren2Response, GetChildrenResponse, GetDataResponse,
+    Acls, ExistsResponse, GetAclResponse, GetChildren2Response, GetChildrenResponse,
+    GetDataResponse,
 };

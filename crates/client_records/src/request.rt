@@ -9,7 +9,7 @@ use values::{Bytes, Listed, NoMemory, ReadError, Str};
 
 /// The ExistsRequest, GetDataRequest, GetChildrenRequest and GetChildren2Request of zookeeper.jute, which have the same
 /// fields.
-#[derive(Debug, Drop, PartialEq, Eq)]
+#[derive(Drop, PartialEq)]
 pub struct PathAndWatch<'a> {
     /// The path of the node; `None` is null.
     pub path: Option<Str<'a>>,
@@ -46,7 +46,7 @@ impl<'a> WriteRecord for PathAndWatch<'a> {
 }
 
 /// The GetACLRequest of zookeeper.jute.
-#[derive(Debug, Drop, PartialEq, Eq)]
+#[derive(Drop, PartialEq)]
 pub struct GetAclRequest<'a> {
     /// The path of the node; `None` is null.
     pub path: Option<Str<'a>>,
@@ -78,7 +78,7 @@ impl<'a> WriteRecord for GetAclRequest<'a> {
 
 /// The SetWatches of zookeeper.jute: what a client watched on an older connection. Null lists and
 /// null paths are read as empty.
-#[derive(Debug, Drop, PartialEq, Eq)]
+#[derive(Drop, PartialEq)]
 pub struct SetWatches<'a> {
     /// The last zxid that the client was told of.
     pub relative_zxid: i64,
@@ -120,7 +120,7 @@ impl<'a> WriteRecord for SetWatches<'a> {
             + items_len(self.child_watches.as_slice())
     }
 
-    #[tactic(auto, unfolding(crate::specs::Requests::set_watches))]
+    #[tactic(auto, unfolding(crate::specs::Requests::set_watches), using(values::proofs::Gaining::puts_behind, values::proofs::Gaining::gains_behind, values::proofs::Gaining::gains_first))]
     fn write(&self, out: &mut Vec<u8>) -> Result<(), NoMemory> {
         self.relative_zxid.write(out)?;
         put_list(out, self.data_watches.as_slice())?;
@@ -130,7 +130,7 @@ impl<'a> WriteRecord for SetWatches<'a> {
 }
 
 /// The AuthPacket of zookeeper.jute: by what a client says who it is.
-#[derive(Debug, Drop, PartialEq, Eq)]
+#[derive(Drop, PartialEq)]
 pub struct AuthPacket<'a> {
     /// A number that nothing reads, 0.
     pub kind: i32,

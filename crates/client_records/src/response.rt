@@ -10,7 +10,7 @@ use std::marker::Model;
 use values::{Bytes, Listed, NoMemory, ReadError};
 
 /// The ExistsResponse of zookeeper.jute.
-#[derive(Clone, Copy, Debug, PartialEq, Eq)]
+#[derive(Drop, PartialEq)]
 pub struct ExistsResponse {
     pub stat: Stat,
 }
@@ -40,7 +40,7 @@ impl WriteRecord for ExistsResponse {
 }
 
 /// The GetDataResponse of zookeeper.jute.
-#[derive(Debug, Drop, PartialEq, Eq)]
+#[derive(Drop, PartialEq)]
 pub struct GetDataResponse<'a> {
     /// The node's bytes; `None` is null.
     pub bytes: Option<Bytes<'a>>,
@@ -76,7 +76,7 @@ impl<'a> WriteRecord for GetDataResponse<'a> {
 }
 
 /// The GetChildrenResponse of zookeeper.jute. `put_names` writes one of names that stand in a set.
-#[derive(Debug, Drop, PartialEq, Eq)]
+#[derive(Drop, PartialEq)]
 pub struct GetChildrenResponse<'a> {
     /// The children's names. Null is read as no names.
     pub children: Listed<Name<'a>>,
@@ -107,7 +107,7 @@ impl<'a> WriteRecord for GetChildrenResponse<'a> {
 }
 
 /// The GetChildren2Response of zookeeper.jute. `put_names`, and then the Stat, write one of names that stand in a set.
-#[derive(Debug, Drop, PartialEq, Eq)]
+#[derive(Drop, PartialEq)]
 pub struct GetChildren2Response<'a> {
     /// The children's names. Null is read as no names.
     pub children: Listed<Name<'a>>,
@@ -117,7 +117,7 @@ pub struct GetChildren2Response<'a> {
 impl<'a> ReadRecord<'a> for GetChildren2Response<'a> {
     ghost read_of = { get_children2_response.read };
 
-    #[tactic(auto, unfolding(crate::specs::Responses::get_children2_response))]
+    #[tactic(auto, unfolding(crate::specs::Responses::get_children2_response, jute::specs::Format::judged_at))]
     fn read(alloc: Global, reader: &mut Reader<'a>) -> Result<GetChildren2Response<'a>, ReadError> {
         let mut ahead = reader.ahead();
         let children = read_list(alloc, &mut ahead)?;

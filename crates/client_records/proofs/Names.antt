@@ -1,0 +1,58 @@
+-- Texts of a set that are written one behind another.
+use Rattle.std.proofs.Common.{◌≡◌, ℕ, ◌<◌, ◌^◌, List, [], ◌∷◌, ◌++◌, length, map, All, String, Global, string_bytes, refl, sym, ap, ◌∙◌, append_assoc}
+use Rattle.std.proofs.Common.{w32, to_z, pos, subst}
+use Rattle.std.specs.List.{flat_map, AllByRecursion}
+use Rattle.std.proofs.lemmas.List.{append-nil}
+use Rattle.std.proofs.lemmas.List.Concat.{flat_map-cons}
+use Rattle.std.proofs.lemmas.List.{length-map}
+use Rattle.std.proofs.lemmas.List.Elements.{All-head, All-tail}
+use Rattle.std.proofs.lemmas.List.Folds.{flat_map-map}
+use Rattle.std.proofs.lemmas.Int.{to_z_pos}
+use Rattle.jute.specs.Format.{name, number_bytes}
+use Rattle.client_records.specs.Fields.{names}
+use Rattle.values.specs.Gains.{Gains}
+use Rattle.values.proofs.Gaining.{gains_first, gains_behind, gains_same}
+
+abbrev pub MayBeWritten : String Global → Type 0
+MayBeWritten t = length (string_bytes t) < 2 ^ 31
+
+pub each_may : (texts : List (String Global)) → All name.Writable (map string_bytes texts) → AllByRecursion MayBeWritten texts
+each_may [] h = tt
+each_may (t ∷ ts) h = (All-head name.Writable (string_bytes t) (map string_bytes ts) h, each_may ts (All-tail name.Writable (string_bytes t) (map string_bytes ts) h))
+
+abbrev pub spelled : String Global → List ℕ
+spelled t = name.written (string_bytes t)
+
+-- a front of all was put behind the old bytes, and the texts that are left are the rest of it
+pub record Written (old all out : List ℕ) (left : List (String Global)) : Type 0 where
+  pub front : List ℕ
+  pub put : out ≡ old ++ front
+  pub rest : all ≡ front ++ flat_map spelled left
+
+-- the count was put
+pub put_count : (old out : List ℕ) (count : ℕ) (texts : List (String Global)) → length texts ≡ count → length texts < 2 ^ 31 → out ≡ old ++ number_bytes w32 (to_z w32 count) → Written old (names.written (map string_bytes texts)) out texts
+put_count old out count texts same few e =
+    let shown : to_z w32 count ≡ pos (length texts) = ap (to_z w32) (sym same) ∙ to_z_pos w32 (length texts) few in
+    record {
+      front = number_bytes w32 (pos (length texts));
+      put = e ∙ ap (λ z. old ++ number_bytes w32 z) shown;
+      rest = rw (length-map texts string_bytes, flat_map-map name.written string_bytes texts) refl;
+    }
+
+-- the next text was put
+pub put_next : {old all mid new : List ℕ} {t : String Global} {left : List (String Global)} → Written old all mid (t ∷ left) → new ≡ mid ++ spelled t → Written old all new left
+put_next {t = t} {left = left} w e = record {
+  front = w.front ++ spelled t;
+  put = e ∙ ap (λ (x : List ℕ). x ++ spelled t) w.put ∙ append_assoc _ w.front (spelled t);
+  rest = w.rest ∙ ap (λ (x : List ℕ). w.front ++ x) (flat_map-cons spelled t left) ∙ sym (append_assoc w.front (spelled t) (flat_map spelled left));
+}
+
+-- a front of the next text was put
+pub put_part : {old all mid new : List ℕ} {t : String Global} {left : List (String Global)} → Written old all mid (t ∷ left) → Gains mid (spelled t) new → Gains old all new
+put_part {old = old} {t = t} {left = left} w g =
+    let whole : w.front ++ (spelled t ++ flat_map spelled left) ≡ _ = ap (λ (x : List ℕ). w.front ++ x) (sym (flat_map-cons spelled t left)) ∙ sym w.rest in
+    gains_same whole (gains_behind old w.front w.put (gains_first _ g))
+
+-- no text is left
+pub put_all : {old all out : List ℕ} → Written old all out [] → out ≡ old ++ all
+put_all {old = old} w = w.put ∙ ap (λ (x : List ℕ). old ++ x) (sym (append-nil w.front) ∙ sym w.rest)

@@ -1,0 +1,196 @@
+//! What a client is answered and told.
+
+use crate::is_read;
+use client_records::{
+    Acls, ConnectResponse, ExistsResponse, GetAclResponse, GetChildren2Response,
+    GetChildrenResponse, GetDataResponse, Name, WatcherEvent,
+};
+use jute::{Acl, Id, Stat, WriteRecord};
+use std::alloc::Global;
+use std::test::Fail;
+use values::{Blob, Bytes, Listed, NoMemory, Str, Text};
+
+/// The Stat of the root of a fresh tree: its one child was made without a transaction.
+const ROOT: [u8; 68] = *b"\x00\x00\x00\x00\x00\x00\x00\x00\x00\x00\x00\x00\x00\x00\x00\x00\
+    \x00\x00\x00\x00\x00\x00\x00\x00\x00\x00\x00\x00\x00\x00\x00\x00\
+    \x00\x00\x00\x00\xff\xff\xff\xff\x00\x00\x00\x00\
+    \x00\x00\x00\x00\x00\x00\x00\x00\x00\x00\x00\x00\x00\x00\x00\x01\
+    \x00\x00\x00\x00\x00\x00\x00\x00";
+
+// What those bytes say.
+fn root() -> Stat {
+    Stat {
+        czxid: 0,
+        mzxid: 0,
+        ctime: 0,
+        mtime: 0,
+        version: 0,
+        cversion: -1,
+        aversion: 0,
+        ephemeral_owner: 0,
+        data_length: 0,
+        num_children: 1,
+        pzxid: 0,
+    }
+}
+
+// The front, the root's Stat, and a byte behind them.
+fn with_root(alloc: Global, front: &[u8]) -> Result<Vec<u8>, NoMemory> {
+    let mut bytes = Vec::from_slice(alloc, front)?;
+    bytes.extend_from_slice(ROOT.as_slice())?;
+    bytes.push(7)?;
+    Ok(bytes)
+}
+
+// Whether the bytes are those of `with_root` but for the last one.
+fn are_with_root(alloc: Global, bytes: &[u8], front: &[u8]) -> Result<bool, NoMemory> {
+    let mut bytes = Vec::from_slice(alloc, bytes)?;
+    bytes.push(7)?;
+    Ok(bytes.as_slice() == with_root(alloc, front)?.as_slice())
+}
+
+#[test]
+#[tactic(auto, unfolding(client_records::specs::Responses::connect_response))]
+fn connect_response(rt: HostRuntime) -> Result<(), Fail> {
+    let alloc = rt.alloc();
+    let bytes = b"\x00\x00\x00\x00\x00\x00\x27\x10\x03\x00\x00\x00\x00\x00\x00\x01\
+        \x00\x00\x00\x02pw\x00";
+    let expected = ConnectResponse {
+        protocol_version: 0,
+        time_out: 10_000,
+        session_id: 0x300_0000_0000_0001,
+        passwd: Some(Blob::new(alloc, b"pw")?),
+    };
+    assert!(rt; is_read(alloc, bytes, &expected)?);
+    let mut out = Vec::new(alloc);
+    expected.write(&mut out)?;
+    assert_eq!(rt; out.as_slice(), &bytes[..22]);
+    Ok(())
+}
+
+#[test]
+#[tactic(auto, unfolding(client_records::specs::Responses::exists_response, jute::specs::Records::stat))]
+fn exists_response(rt: HostRuntime) -> Result<(), Fail> {
+    let alloc = rt.alloc();
+    let bytes = with_root(alloc, b"")?;
+    let expected = ExistsResponse { stat: root() };
+    assert!(rt; is_read(alloc, bytes.as_slice(), &expected)?);
+    let mut out = Vec::new(alloc);
+    expected.write(&mut out)?;
+    assert!(rt; are_with_root(alloc, out.as_slice(), b"")?);
+    Ok(())
+}
+
+// Whether the bytes are read as the answer to getData that has these bytes.
+fn is_read_as<'a>(alloc: Global, bytes: &'a [u8], data: &'a [u8]) -> Result<bool, Fail> {
+    let expected = GetDataResponse {
+        bytes: Some(Bytes::new(data)),
+        stat: root(),
+    };
+    is_read(alloc, bytes, &expected)
+}
+
+#[test]
+#[tactic(auto, unfolding(client_records::specs::Responses::get_data_response, jute::specs::Records::stat))]
+fn get_data_response(rt: HostRuntime) -> Result<(), Fail> {
+    let alloc = rt.alloc();
+    let bytes = with_root(alloc, b"\x00\x00\x00\x02hi")?;
+    assert!(rt; is_read_as(alloc, bytes.as_slice(), b"hi")?);
+    let expected = GetDataResponse {
+        bytes: Some(Bytes::new(b"hi")),
+        stat: root(),
+    };
+    let mut out = Vec::new(alloc);
+    expected.write(&mut out)?;
+    assert!(rt; are_with_root(alloc, out.as_slice(), b"\x00\x00\x00\x02hi")?);
+    Ok(())
+}
+
+/// The names of two children, and a byte behind them.
+const CHILDREN: [u8; 23] = *b"\x00\x00\x00\x02\x00\x00\x00\x01a\x00\x00\x00\x09zookeeper\x07";
+
+#[test]
+#[tactic(auto, unfolding(client_records::specs::Responses::get_children_response))]
+fn get_children_response(rt: HostRuntime) -> Result<(), Fail> {
+    let alloc = rt.alloc();
+    let names = vec![in alloc; Name::new("a"), Name::new("zookeeper")]?;
+    let expected = GetChildrenResponse {
+        children: Listed::from_vec(names),
+    };
+    let mut out = Vec::new(alloc);
+    expected.write(&mut out)?;
+    assert_eq!(rt; out.as_slice(), &CHILDREN[..22]);
+    assert!(rt; is_read(alloc, CHILDREN.as_slice(), &expected)?);
+    Ok(())
+}
+
+// Whether the bytes are read as the answer to getChildren2 that lists these names.
+fn lists_them<'a>(
+    alloc: Global,
+    bytes: &'a [u8],
+    first: &'a str,
+    second: &'a str,
+) -> Result<bool, Fail> {
+    let names = vec![in alloc; Name::new(first), Name::new(second)]?;
+    let expected = GetChildren2Response {
+        children: Listed::from_vec(names),
+        stat: root(),
+    };
+    is_read(alloc, bytes, &expected)
+}
+
+#[test]
+#[tactic(auto, unfolding(client_records::specs::Responses::get_children2_response, jute::specs::Records::stat))]
+fn get_children2_response(rt: HostRuntime) -> Result<(), Fail> {
+    let alloc = rt.alloc();
+    let names = vec![in alloc; Name::new("a"), Name::new("zookeeper")]?;
+    let expected = GetChildren2Response {
+        children: Listed::from_vec(names),
+        stat: root(),
+    };
+    let mut out = Vec::new(alloc);
+    expected.write(&mut out)?;
+    assert!(rt; are_with_root(alloc, out.as_slice(), &CHILDREN[..22])?);
+    let bytes = with_root(alloc, &CHILDREN[..22])?;
+    assert!(rt; lists_them(alloc, bytes.as_slice(), "a", "zookeeper")?);
+    Ok(())
+}
+
+#[test]
+#[tactic(auto, unfolding(client_records::specs::Responses::get_acl_response, jute::specs::Records::stat, jute::specs::Owned::acl, jute::specs::Owned::id))]
+fn get_acl_response(rt: HostRuntime) -> Result<(), Fail> {
+    let alloc = rt.alloc();
+    let open = Acl {
+        perms: 31,
+        id: Id {
+            scheme: Text::new(alloc, "world")?,
+            id: Text::new(alloc, "anyone")?,
+        },
+    };
+    let list = vec![in alloc; open]?;
+    let response = GetAclResponse {
+        acl: Acls::new(list.as_slice()),
+        stat: root(),
+    };
+    let mut out = Vec::new(alloc);
+    response.write(&mut out)?;
+    let front = b"\x00\x00\x00\x01\x00\x00\x00\x1f\x00\x00\x00\x05world\x00\x00\x00\x06anyone";
+    assert!(rt; are_with_root(alloc, out.as_slice(), front)?);
+    Ok(())
+}
+
+#[test]
+#[tactic(auto, unfolding(client_records::specs::Responses::watcher_event))]
+fn watcher_event(rt: HostRuntime) -> Result<(), Fail> {
+    let bytes = b"\x00\x00\x00\x02\x00\x00\x00\x03\x00\x00\x00\x04/a/f\x07";
+    let expected = WatcherEvent {
+        kind: 2,
+        state: 3,
+        path: Some(Str::new("/a/f")),
+    };
+    assert!(rt; is_read(rt.alloc(), bytes, &expected)?);
+    let mut out = Vec::new(rt.alloc());
+    expected.write(&mut out)?;
+    assert_eq!(rt; out.as_slice(), &bytes[..16]);
+    Ok(())
+}
