@@ -1,0 +1,49 @@
+-- Counts of lists, up to what a frame holds.
+use Rattle.std.proofs.Common.{◌≡◌, ℕ, ◌+◌, ◌≤◌, ◌<◌, List, [], ◌∷◌, length, map, Option, Some, None, String, Global, string_bytes, sym, ap, subst, ◌∙◌, arith}
+use Rattle.std.specs.List.{flat_map}
+use Rattle.std.proofs.lemmas.List.{length-append}
+use Rattle.std.proofs.lemmas.List.Concat.{flat_map-cons}
+use Rattle.std.proofs.lemmas.List.Folds.{flat_map-map}
+use Rattle.jute.specs.Format.{name, counted, number_bytes}
+use Rattle.client_records.specs.Fields.{names}
+use Rattle.read_processor.specs.Limits.{body_limit}
+use Rattle.read_processor.specs.Inner.Counts.{Counts}
+
+-- a count stands in front of what is counted
+pub counted_length : (n : ℕ) (bytes : List ℕ) → length (counted n bytes) ≡ 4 + length bytes
+unfolding number_bytes
+counted_length n bytes = simp length-append (omega arith)
+
+-- nothing is counted of what is too long
+pub passed : (result : Option ℕ) (n : ℕ) → result ≡ None → body_limit < n → Counts result n
+passed result n is h = subst (λ (r : Option ℕ). Counts r n) (sym is) h
+
+abbrev pub spelled : String Global → List ℕ
+spelled t = name.written (string_bytes t)
+
+-- the bytes of the texts that are left, and so many more, are those of all
+pub record Left (count : ℕ) (left all : List (String Global)) : Type 0 where
+  pub sums : count + length (flat_map spelled left) ≡ length (names.written (map string_bytes all))
+  pub within : count ≤ body_limit
+
+pub all_left : (all : List (String Global)) → Left 4 all all
+all_left all = record {
+  sums = ap (λ (l : List ℕ). 4 + length l) (sym (flat_map-map name.written string_bytes all)) ∙ sym (counted_length (length (map string_bytes all)) (flat_map name.written (map string_bytes all)));
+  within = omega arith;
+}
+
+-- the next text is counted
+pub one_less : {count next : ℕ} {t : String Global} {left all : List (String Global)} → Left count (t ∷ left) all → (next ≡ count + length (spelled t)) × (count + length (spelled t) ≤ body_limit) → Left next left all
+one_less {t = t} {left = left} l n = record {
+  sums = omega (arith, l.sums, n.0, ap (λ (x : List ℕ). length x) (flat_map-cons spelled t left), length-append (spelled t) (flat_map spelled left));
+  within = omega (arith, n.0, n.1);
+}
+
+-- the next text is one too many
+pub too_many : {count : ℕ} {t : String Global} {left all : List (String Global)} → Left count (t ∷ left) all → body_limit < count + length (spelled t) → body_limit < length (names.written (map string_bytes all))
+too_many {t = t} {left = left} l h =
+    omega (arith, l.sums, h, ap (λ (x : List ℕ). length x) (flat_map-cons spelled t left), length-append (spelled t) (flat_map spelled left))
+
+-- no text is left
+pub none_left : {count : ℕ} {all : List (String Global)} → Left count [] all → Counts (Some count) (length (names.written (map string_bytes all)))
+none_left l = (omega (arith, l.sums), omega (arith, l.sums, l.within))

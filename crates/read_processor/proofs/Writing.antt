@@ -1,0 +1,93 @@
+-- Which responses may be written, and how long they are.
+use Rattle.std.proofs.Common.{◌≡◌, ℕ, ◌+◌, ◌≤◌, ◌<◌, ◌^◌, List, [], ◌∷◌, length, All, Option, Some, None, refl, ap, ◌∙◌, arith, rules}
+use Rattle.std.specs.List.{flat_map}
+use Rattle.std.proofs.lemmas.List.{length-append}
+use Rattle.std.proofs.lemmas.List.Concat.{flat_map-cons}
+use Rattle.std.proofs.lemmas.List.Elements.{All-nil, All-cons}
+use Rattle.jute.specs.Format.{Format, name, vector, buffer, number_bytes}
+use Rattle.jute.specs.Owned.{acl, id}
+use Rattle.jute.specs.Records.{stat}
+use Rattle.jute.specs.declared.owned.Acl.{Acl}
+use Rattle.jute.specs.declared.stat.Stat.{Stat}
+use Rattle.data_tree.specs.Stats.{length_of}
+use Rattle.client_records.specs.Fields.{names}
+use Rattle.client_records.specs.Responses.{get_data_response, get_acl_response}
+use Rattle.client_records.specs.declared.response.GetDataResponse.{GetDataResponse}
+use Rattle.client_records.specs.declared.response.GetAclResponse.{GetAclResponse}
+use Rattle.read_processor.specs.Limits.{body_limit}
+use Rattle.read_processor.proofs.Counting.{counted_length}
+
+-- ---- lists
+
+-- a format whose short bytes may be written, and that has no empty ones
+record Plain {A : Type 0} (F : Format A) : Type 0 where
+  some : (a : A) → 0 < length (F.written a)
+  writable : (a : A) → length (F.written a) < 2 ^ 31 → F.Writable a
+
+each : {A : Type 0} (F : Format A) → Plain F → (xs : List A) → length (flat_map F.written xs) < 2 ^ 31 → (length xs ≤ length (flat_map F.written xs)) × All F.Writable xs
+each F p [] lt = (omega arith, All-nil F.Writable)
+each F p (x ∷ xs) lt =
+    let whole : length (flat_map F.written (x ∷ xs)) ≡ length (F.written x) + length (flat_map F.written xs) = ap (λ (l : List ℕ). length l) (flat_map-cons F.written x xs) ∙ length-append (F.written x) (flat_map F.written xs) in
+    let rest = each F p xs (omega (arith, whole, lt)) in
+    (omega (arith, whole, rest.0, p.some x), All-cons F.Writable x xs (p.writable x (omega (arith, whole, lt))) rest.1)
+
+vector_writable : {A : Type 0} (F : Format A) → Plain F → (xs : List A) → length ((vector F).written (Some xs)) ≤ body_limit → (vector F).Writable (Some xs)
+vector_writable F p xs le =
+    let whole = counted_length (length xs) (flat_map F.written xs) in
+    let all = each F p xs (omega (arith, whole, le)) in
+    (omega (arith, whole, le, all.0), all.1)
+
+name_plain : Plain name
+unfolding number_bytes
+name_plain = record {
+  some = λ t. simp length-append (omega arith);
+  writable = λ t lt. omega (arith, counted_length (length t) t, lt);
+}
+
+acl_length : (a : Acl) → length (acl.written a) ≡ 4 + (length (name.written a.id.scheme) + length (name.written a.id.id))
+unfolding acl id number_bytes
+acl_length a = simp length-append (omega arith)
+
+acl_plain : Plain acl
+unfolding acl id
+acl_plain = record {
+  some = λ a. omega (arith, acl_length a);
+  writable = λ a lt. (tt, (name_plain.writable a.id.scheme (omega (arith, acl_length a, lt)), name_plain.writable a.id.id (omega (arith, acl_length a, lt))));
+}
+
+pub names_writable : (xs : List (List ℕ)) → length (names.written xs) ≤ body_limit → names.Writable xs
+names_writable xs le = vector_writable name name_plain xs le
+
+-- ---- responses
+
+pub stat_length : (s : Stat) → length (stat.written s) ≡ 68
+unfolding stat number_bytes
+stat_length s = refl
+
+pub stat_writable : (s : Stat) → stat.Writable s
+unfolding stat
+stat_writable s = search rules
+
+pub get_data_length : (r : GetDataResponse) → length (get_data_response.written r) ≡ 72 + length_of r.bytes
+unfolding get_data_response stat number_bytes
+get_data_length r = by r.bytes
+  where
+    by : (bytes : Option (List ℕ)) → length (get_data_response.written (record r { bytes = bytes })) ≡ 72 + length_of bytes
+    by None = refl
+    by (Some bytes) = simp length-append (omega arith)
+
+pub get_data_writable : (r : GetDataResponse) → length_of r.bytes ≤ body_limit → get_data_response.Writable r
+unfolding get_data_response
+get_data_writable r le = (by r.bytes le, stat_writable r.stat)
+  where
+    by : (bytes : Option (List ℕ)) → length_of bytes ≤ body_limit → buffer.Writable bytes
+    by None le = tt
+    by (Some bytes) le = omega (arith, le)
+
+pub get_acl_length : (r : GetAclResponse) → length (get_acl_response.written r) ≡ length ((vector acl).written (Some r.acl)) + 68
+unfolding get_acl_response
+get_acl_length r = length-append ((vector acl).written (Some r.acl)) (stat.written r.stat) ∙ ap (λ n. length ((vector acl).written (Some r.acl)) + n) (stat_length r.stat)
+
+pub get_acl_writable : (r : GetAclResponse) → length ((vector acl).written (Some r.acl)) ≤ body_limit → get_acl_response.Writable r
+unfolding get_acl_response
+get_acl_writable r le = (vector_writable acl acl_plain r.acl le, stat_writable r.stat)

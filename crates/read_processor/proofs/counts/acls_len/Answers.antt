@@ -1,0 +1,18 @@
+use Rattle.std.proofs.Common.{length, arith}
+use Rattle.std.specs.List.{flat_map}
+use Rattle.std.proofs.lemmas.List.{take_all}
+use Rattle.jute.specs.Owned.{acl}
+use Rattle.jute.proofs.Writing.{length_item}
+use Rattle.read_processor.proofs.Counting.{counted_length, passed}
+use Rattle.read_processor.proofs.counts.acls_len.Goals as goal
+
+pub returns-in_err-count : goal.returns-in_err-count
+returns-in_err-count c =
+    passed _ _ c.from_residual.ensures
+    (omega (arith, counted_length (length c.args.entries.now) (flat_map acl.written c.args.entries.now), c.loop-entry.invariant.0, c.in_err-count.ensures, length_item acl.written c.args.entries.now c.loop-entry.entry-index c.entry-item.result c.loop-entry-test.true c.entry-item.is))
+
+pub returns : goal.returns
+returns c =
+    let all = rw (take_all c.loop-entry.entry-index c.args.entries.now c.loop-entry-test.false) at c.loop-entry.invariant in
+    let whole = counted_length (length c.args.entries.now) (flat_map acl.written c.args.entries.now) in
+    (omega (arith, whole, all.0), omega (arith, whole, all.0, all.1))

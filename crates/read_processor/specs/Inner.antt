@@ -1,0 +1,2 @@
+-- What the contracts of private functions cite, and nobody else has to believe.
+pub mod Counts

@@ -1,0 +1,5 @@
+pub mod Inner
+pub mod Limits
+pub mod Look
+pub mod Permissions
+pub mod Reply

@@ -1,0 +1,69 @@
+-- What a read shows of a state, to a client that has shown these ids (ZooKeeper Programmer's Guide).
+use Rattle.std.specs.Prelude.{ℕ, ℤ, pos, List, [], ◌∷◌, Option, Some, None, Bool, true, false, not, ◌&&◌, ◌==◌, if◌then◌else◌, nat_eq}
+use Rattle.std.specs.List.{list_any, starts_with}
+use Rattle.std.specs.FinMap as finmap
+use Rattle.jute.specs.declared.owned.Id.{Id}
+use Rattle.jute.specs.declared.codes.TheConstants.{BAD_ARGUMENTS, NO_NODE, NO_AUTH}
+use Rattle.client_records.specs.Responses.{exists_response, get_data_response, get_acl_response, get_children_response, get_children2_response}
+use Rattle.ephemerals.specs.Orders.{in_order}
+use Rattle.data_tree.specs.State.{State}
+use Rattle.data_tree.specs.Stats.{shown}
+use Rattle.data_tree.specs.declared.node.Node.{Node}
+use Rattle.read_processor.specs.Permissions.{may_read}
+use Rattle.read_processor.specs.Limits.{fitting}
+use Rattle.read_processor.specs.declared.shown.Look.{Look}
+use Rattle.read_processor.specs.declared.request.Request.{Request}
+use Rattle.read_processor.specs.declared.request.Request.TheVariants.{Exists, GetData, GetAcl, GetChildren, GetChildren2}
+
+-- ---- what a request asks for
+
+abbrev pub path_of : Request → Option (List ℕ)
+path_of (Exists r) = r.path
+path_of (GetData r) = r.path
+path_of (GetAcl r) = r.path
+path_of (GetChildren r) = r.path
+path_of (GetChildren2 r) = r.path
+
+-- a path that may be asked for begins with a slash and has no NUL
+abbrev pub is_asked : List ℕ → Bool
+is_asked path = starts_with nat_eq path (47 ∷ []) && not (list_any (λ b. b == 0) path)
+
+-- exists and getACL ask for no permission
+abbrev pub wants_read : Request → Bool
+wants_read (Exists r) = false
+wants_read (GetData r) = true
+wants_read (GetAcl r) = false
+wants_read (GetChildren r) = true
+wants_read (GetChildren2 r) = true
+
+-- ---- the body of a reply
+
+-- what is shown of the node; children's names in ascending bytes
+abbrev pub body_of : Request → Node → List ℕ
+body_of (Exists r) node = exists_response.written (record { stat = shown node })
+body_of (GetData r) node = get_data_response.written (record { bytes = node.bytes; stat = shown node })
+body_of (GetAcl r) node = get_acl_response.written (record { acl = node.acl; stat = shown node })
+body_of (GetChildren r) node = get_children_response.written (record { children = in_order node.children })
+body_of (GetChildren2 r) node = get_children2_response.written (record { children = in_order node.children; stat = shown node })
+
+-- ---- the look
+
+-- an error has no body
+abbrev pub refusal : ℤ → Look
+refusal error = record { error = error; body = Some [] }
+
+abbrev pub shown_look : List ℕ → Look
+shown_look body = record { error = pos 0; body = fitting body }
+
+abbrev pub look_at_node : List Id → Request → Option Node → Look
+look_at_node ids request None = refusal NO_NODE
+look_at_node ids request (Some node) =
+    if wants_read request && not (may_read ids node.acl) then refusal NO_AUTH else shown_look (body_of request node)
+
+abbrev pub look_at_path : State → List Id → Request → Option (List ℕ) → Look
+look_at_path s ids request None = refusal BAD_ARGUMENTS
+look_at_path s ids request (Some path) =
+    if is_asked path then look_at_node ids request (finmap.get s.nodes path) else refusal BAD_ARGUMENTS
+
+abbrev pub look : State → List Id → Request → Look
+look s ids request = look_at_path s ids request (path_of request)

@@ -1,0 +1,119 @@
+//! What a reply to each request says of a node.
+
+ghost use Rattle.std.specs.Prelude.{◌≡◌, ◌<◌, ◌^◌, IfOk};
+ghost use Rattle.ephemerals.specs.Orders.{in_order};
+ghost use Rattle.data_tree.specs.Stats.{length_of, shown};
+ghost use Rattle.client_records.specs.Responses.{exists_response, get_data_response, get_acl_response, get_children_response, get_children2_response};
+ghost use Rattle.read_processor.specs.Limits.{fitting};
+ghost use Rattle.read_processor.specs.Look.{body_of};
+
+use crate::body::{BODY_LIMIT, Body};
+use crate::counts::{acls_len, names_len, with_bytes};
+use crate::request::Request;
+use client_records::{Acls, ExistsResponse, GetAclResponse, GetDataResponse};
+use data_tree::Node;
+use jute::WriteRecord;
+use std::alloc::Global;
+use values::{Blob, Bytes, NoMemory};
+
+// A node's bytes, borrowed.
+fn lent(bytes: &Option<Blob>) -> Option<Bytes<'_>>
+    ensures { result ≡ bytes.now }
+{
+    match bytes {
+        None => None,
+        Some(bytes) => Some(Bytes::new(bytes.as_slice())),
+    }
+}
+
+// How many bytes are lent; null has none.
+fn lent_len(bytes: &Option<Bytes<'_>>) -> usize
+    ensures length { result ≡ length_of bytes.now }
+    ensures small { result < 2 ^ 63 }
+{
+    match bytes {
+        None => 0,
+        Some(bytes) => bytes.as_slice().len(),
+    }
+}
+
+#[tactic(auto, unfolding(client_records::specs::Responses::exists_response, jute::specs::Records::stat, jute::specs::Format::number_bytes))]
+fn exists(alloc: Global, node: &Node) -> Result<Option<Body>, NoMemory>
+    ensures { IfOk result (λ body. body ≡ fitting (exists_response.written (record { stat = shown node.now }))) }
+{
+    Body::of(alloc, &ExistsResponse { stat: node.shown() })
+}
+
+fn get_data(alloc: Global, node: &Node) -> Result<Option<Body>, NoMemory>
+    ensures { IfOk result
+        (λ body. body ≡ fitting (get_data_response.written (record { bytes = node.now.bytes; stat = shown node.now }))) }
+{
+    let bytes = lent(&node.bytes);
+    if lent_len(&bytes) > BODY_LIMIT {
+        return Ok(None);
+    }
+    Body::of(
+        alloc,
+        &GetDataResponse {
+            bytes,
+            stat: node.shown(),
+        },
+    )
+}
+
+fn get_acl(alloc: Global, node: &Node) -> Result<Option<Body>, NoMemory>
+    ensures { IfOk result
+        (λ body. body ≡ fitting (get_acl_response.written (record { acl = node.now.acl; stat = shown node.now }))) }
+{
+    let entries = node.acl.as_slice();
+    let Some(_) = acls_len(entries) else {
+        return Ok(None);
+    };
+    Body::of(
+        alloc,
+        &GetAclResponse {
+            acl: Acls::new(entries),
+            stat: node.shown(),
+        },
+    )
+}
+
+fn get_children(alloc: Global, node: &Node) -> Result<Option<Body>, NoMemory>
+    ensures { IfOk result
+        (λ body. body ≡ fitting (get_children_response.written (record { children = in_order node.now.children }))) }
+{
+    let Some(size) = names_len(node.children.iter()) else {
+        return Ok(None);
+    };
+    let body = Body::of_names(alloc, size, node.children.iter())?;
+    Ok(Some(body))
+}
+
+fn get_children2(alloc: Global, node: &Node) -> Result<Option<Body>, NoMemory>
+    ensures { IfOk result
+        (λ body. body ≡ fitting (get_children2_response.written
+        (record { children = in_order node.now.children; stat = shown node.now }))) }
+{
+    let stat = node.shown();
+    let Some(names) = names_len(node.children.iter()) else {
+        return Ok(None);
+    };
+    let Some(size) = with_bytes(names, stat.written_len()) else {
+        return Ok(None);
+    };
+    let body = Body::of_names(alloc, size, node.children.iter())?;
+    Ok(Some(body.with_stat(&stat)?))
+}
+
+/// The body of the reply that shows the node.
+pub fn body_of(alloc: Global, request: &Request<'_>, node: &Node) -> Result<Option<Body>, NoMemory>
+    ensures { IfOk result (λ body. body ≡ fitting (body_of request.now node.now)) }
+{
+    match request {
+        Request::Exists(_) => exists(alloc, node),
+        Request::GetData(_) => get_data(alloc, node),
+        Request::GetAcl(_) => get_acl(alloc, node),
+        Request::GetChildren(_) => get_children(alloc, node),
+        Request::GetChildren2(_) => get_children2(alloc, node),
+    }
+}

@@ -1,0 +1,159 @@
+//! The body of a reply, behind room for what stands in front of it.
+
+ghost use Rattle.std.specs.Prelude.{◌≡◌, ◌≤◌, ◌<◌, ◌^◌, ◌++◌, [], length, map, drop, IfOk, String, string_bytes};
+ghost use Rattle.jute.specs.Format.{int, long};
+ghost use Rattle.jute.specs.Frame.{framed};
+ghost use Rattle.jute.specs.Records.{reply_header, stat};
+ghost use Rattle.client_records.specs.Fields.{names};
+ghost use Rattle.read_processor.specs.Limits.{body_limit, fitting};
+ghost use Rattle.read_processor.specs.Reply.{headed};
+
+use byteorder::{BigEndian, ByteOrder};
+use client_records::put_names;
+use jute::{ReplyHeader, Stat, WriteRecord};
+use std::alloc::Global;
+use std::collections::btree_set::Iter;
+use std::marker::Model;
+use values::{Blob, NoMemory};
+
+// The bytes of a frame's length and of a reply's header.
+const ROOM: usize = 20;
+
+// The most bytes of a body: what a frame holds behind the header.
+pub const BODY_LIMIT: usize = 2_147_483_631;
+
+/// The body of a reply. There is room in front for the frame's length and the header, so that the
+/// frame is made without a copy.
+#[derive(Drop)]
+pub struct Body {
+    bytes: Vec<u8>,
+}
+
+impl Model for Body {
+    ghost use Rattle.std.specs.Prelude.{◌+◌, ◌≤◌, List, ℕ, length, drop};
+    ghost use Rattle.read_processor.specs.Limits.{body_limit};
+
+    ghost Value = { List ℕ };
+
+    ghost view = { λ b. drop 20 b.bytes.items };
+
+    ghost invariant = { λ b. (20 ≤ length b.bytes.items) × (length b.bytes.items ≤ 20 + body_limit) };
+}
+
+// Writes an int over the bytes that stand in front.
+#[tactic(auto, unfolding(jute::specs::Format::number_bytes))]
+fn fill_int(bytes: &mut [u8], number: &i32)
+    requires { 4 ≤ length bytes.old }
+    ensures { bytes.new ≡ int.written number.now ++ drop 4 bytes.old }
+{
+    BigEndian::write_i32(bytes, *number);
+}
+
+// Writes a long over the bytes that stand in front.
+#[tactic(auto, unfolding(jute::specs::Format::number_bytes))]
+fn fill_long(bytes: &mut [u8], number: &i64)
+    requires { 8 ≤ length bytes.old }
+    ensures { bytes.new ≡ long.written number.now ++ drop 8 bytes.old }
+{
+    BigEndian::write_i64(bytes, *number);
+}
+
+// Writes the end of a header over the bytes that stand in front.
+#[tactic(auto, unfolding(jute::specs::Format::number_bytes))]
+fn fill_end(bytes: &mut [u8], header: &ReplyHeader)
+    requires { 12 ≤ length bytes.old }
+    ensures { bytes.new ≡ (long.written header.now.zxid ++ int.written header.now.err) ++ drop 12 bytes.old }
+{
+    fill_long(bytes, &header.zxid);
+    fill_int(&mut bytes[8..], &header.err);
+}
+
+// Writes a header over the bytes that stand in front.
+fn fill_header(bytes: &mut [u8], header: &ReplyHeader)
+    requires { 16 ≤ length bytes.old }
+    ensures { bytes.new ≡ reply_header.written header.now ++ drop 16 bytes.old }
+{
+    fill_int(bytes, &header.xid);
+    fill_end(&mut bytes[4..], header);
+}
+
+// Fills the room in front.
+fn fill(bytes: &mut [u8], size: i32, header: &ReplyHeader)
+    requires { 20 ≤ length bytes.old }
+    ensures { bytes.new ≡ (int.written size ++ reply_header.written header.now) ++ drop 20 bytes.old }
+{
+    fill_int(bytes, &size);
+    fill_header(&mut bytes[4..], header);
+}
+
+// Room, and as many bytes behind it in reserve.
+fn room(alloc: Global, more: usize) -> Result<Vec<u8>, NoMemory>
+    requires { more ≤ body_limit }
+    ensures { IfOk result (λ bytes. length bytes.items ≡ 20) }
+{
+    let mut bytes = Vec::with_capacity(alloc, ROOM + more)?;
+    bytes.extend_from_slice(&[0; ROOM])?;
+    Ok(bytes)
+}
+
+impl Body {
+    /// No bytes.
+    pub fn empty(alloc: Global) -> Result<Body, NoMemory>
+        ensures { IfOk result (λ body. body ≡ []) }
+    {
+        Ok(Body {
+            bytes: room(alloc, 0)?,
+        })
+    }
+
+    /// What a record's bytes are, if they aren't too many for a frame.
+    pub fn of<T: WriteRecord>(alloc: Global, response: &T) -> Result<Option<Body>, NoMemory>
+        requires writable { T.format.Writable response.now }
+        requires small { length (T.format.written response.now) < 2 ^ 63 }
+        ensures { IfOk result (λ body. body ≡ fitting (T.format.written response.now)) }
+    {
+        let length = response.written_len();
+        if length > BODY_LIMIT {
+            return Ok(None);
+        }
+        let mut bytes = room(alloc, length)?;
+        response.write(&mut bytes)?;
+        Ok(Some(Body { bytes }))
+    }
+
+    // The names of a set in its order, with so many bytes in reserve behind the room.
+    pub(crate) fn of_names(
+        alloc: Global,
+        size: usize,
+        texts: Iter<'_, String>,
+    ) -> Result<Body, NoMemory>
+        requires within { size ≤ body_limit }
+        requires whole { length (names.written (map string_bytes texts)) ≤ size }
+        ensures { IfOk result (λ body. body ≡ names.written (map string_bytes texts.entry)) }
+    {
+        let mut bytes = room(alloc, size)?;
+        put_names(&mut bytes, texts)?;
+        Ok(Body { bytes })
+    }
+
+    // A Stat behind what is there.
+    #[tactic(auto, unfolding(jute::specs::Format::number_bytes, jute::specs::Records::stat))]
+    pub(crate) fn with_stat(self, numbers: &Stat) -> Result<Body, NoMemory>
+        requires { length (self ++ stat.written numbers.now) ≤ body_limit }
+        ensures { IfOk result (λ body. body ≡ self ++ stat.written numbers.now) }
+    {
+        let mut bytes = self.bytes;
+        numbers.write(&mut bytes)?;
+        Ok(Body { bytes })
+    }
+
+    /// The frame of a reply with this header. It takes no memory.
+    pub fn into_frame(self, header: &ReplyHeader) -> Blob
+        ensures { result ≡ framed (headed header.now self) }
+    {
+        let mut bytes = self.bytes;
+        let size = (bytes.len() - 4) as i32;
+        fill(&mut bytes, size, header);
+        Blob::from_vec(bytes)
+    }
+}

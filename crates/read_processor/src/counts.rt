@@ -1,0 +1,67 @@
+//! How many bytes lists take, counted before they are written. A count never passes what a frame holds: a tree may hold lists
+//! whose sum no number fits.
+
+ghost use Rattle.std.specs.Prelude.{◌≤◌, ◌+◌, length, map, Some, String, string_bytes};
+ghost use Rattle.jute.specs.Format.{name, vector, or_null};
+ghost use Rattle.jute.specs.Owned.{acl};
+ghost use Rattle.client_records.specs.Fields.{names};
+ghost use Rattle.read_processor.specs.Limits.{body_limit};
+ghost use Rattle.read_processor.specs.Inner.Counts.{Counts};
+
+use crate::body::BODY_LIMIT;
+use jute::Acl;
+use std::collections::btree_set::Iter;
+
+// So many bytes more.
+pub fn with_bytes(count: usize, more: usize) -> Option<usize>
+    requires { count ≤ body_limit }
+    ensures { Counts result (count + more) }
+{
+    if more > BODY_LIMIT - count {
+        return None;
+    }
+    Some(count + more)
+}
+
+// A text more, behind its length.
+#[tactic(auto, unfolding(jute::specs::Format::number_bytes))]
+fn with_text(count: usize, text: &str) -> Option<usize>
+    requires { count ≤ body_limit }
+    ensures { Counts result (count + length (name.written text.now)) }
+{
+    let behind_length = with_bytes(count, 4)?;
+    with_bytes(behind_length, text.len())
+}
+
+// An entry of an access control list more.
+#[tactic(auto, unfolding(jute::specs::Format::number_bytes, jute::specs::Owned::acl, jute::specs::Owned::id))]
+fn with_acl(count: usize, entry: &Acl) -> Option<usize>
+    requires { count ≤ body_limit }
+    ensures { Counts result (count + length (acl.written entry.now)) }
+{
+    let behind_perms = with_bytes(count, 4)?;
+    let behind_scheme = with_text(behind_perms, entry.id.scheme.as_str())?;
+    with_text(behind_scheme, entry.id.id.as_str())
+}
+
+// An access control list, behind its count.
+pub fn acls_len(entries: &[Acl]) -> Option<usize>
+    ensures { Counts result (length ((vector acl).written (Some entries.now))) }
+{
+    let mut count = 4;
+    for entry in entries {
+        count = with_acl(count, entry)?;
+    }
+    Some(count)
+}
+
+// Names, behind their count.
+pub fn names_len(texts: Iter<'_, String>) -> Option<usize>
+    ensures { Counts result (length (names.written (map string_bytes texts.entry))) }
+{
+    let mut count = 4;
+    for text in texts {
+        count = with_text(count, text)?;
+    }
+    Some(count)
+}

@@ -1,0 +1,27 @@
+//! Reads of the tree, for clients.
+//!
+//! `look` shows what a request asks of the tree: an error's number, or 0 and the body of a reply. The body is made once, with
+//! room in front, and `Look::into_frame` fills in the length and the header there, so that nothing is copied but out of the tree.
+//! What is shown to whom says specs/Look; who may read a node, specs/Permissions; how a look is sent, specs/Reply.
+//!
+//! ```text
+//! let look = look(alloc, &tree, ids, &Request::GetData(asked))?;
+//! match look.into_frame(xid, last_zxid) {
+//!     Some(frame) => send(frame),
+//!     None => close(),                    // more bytes than a frame holds
+//! }
+//! ```
+#![tactic(auto)]
+
+mod bodies;
+mod body;
+mod counts;
+mod permissions;
+mod reads;
+mod request;
+mod shown;
+
+pub use body::Body;
+pub use reads::look;
+pub use request::Request;
+pub use shown::Look;

@@ -1,0 +1,56 @@
+//! Who may read a node.
+
+ghost use Rattle.std.specs.Prelude.{◌≡◌};
+ghost use Rattle.std.specs.List.{list_any};
+ghost use Rattle.read_processor.specs.Permissions.{lets_read, is_same_id, is_everybody, grants_read, may_read};
+
+use jute::codes::READ;
+use jute::{Acl, Id};
+
+// Whether the permissions have the one to read.
+fn lets_read(acl: &Acl) -> bool
+    ensures { result ≡ lets_read acl.now }
+{
+    acl.perms.cast_unsigned() & READ != 0
+}
+
+// Whether the id stands for everybody.
+fn is_everybody(id: &Id) -> bool
+    ensures { result ≡ is_everybody id.now }
+{
+    id.scheme.as_str() == "world" && id.id.as_str() == "anyone"
+}
+
+fn is_same_id(a: &Id, b: &Id) -> bool
+    ensures { result ≡ is_same_id a.now b.now }
+{
+    a.scheme.as_str() == b.scheme.as_str() && a.id.as_str() == b.id.as_str()
+}
+
+// Whether an id is one of these.
+fn is_shown(ids: &[Id], id: &Id) -> bool
+    ensures { result ≡ list_any (is_same_id id.now) ids.now }
+{
+    ids.iter().any(|shown| is_same_id(id, shown))
+}
+
+// Whether who has shown these ids may read by this entry.
+fn grants_read(ids: &[Id], acl: &Acl) -> bool
+    ensures { result ≡ grants_read ids.now acl.now }
+{
+    lets_read(acl) && (is_shown(ids, &acl.id) || is_everybody(&acl.id))
+}
+
+// Whether one of these entries lets them read.
+fn any_grants_read(ids: &[Id], acls: &[Acl]) -> bool
+    ensures { result ≡ list_any (grants_read ids.now) acls.now }
+{
+    acls.iter().any(|acl| grants_read(ids, acl))
+}
+
+/// Whether who has shown these ids may read a node with this list.
+pub fn may_read(ids: &[Id], acls: &[Acl]) -> bool
+    ensures { result ≡ may_read ids.now acls.now }
+{
+    acls.is_empty() || any_grants_read(ids, acls)
+}

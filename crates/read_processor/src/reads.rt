@@ -1,0 +1,90 @@
+//! Reads of the tree.
+
+ghost use Rattle.std.specs.Prelude.{◌≡◌, ◌&&◌, IfOk};
+ghost use Rattle.std.specs.Option.{option_copied};
+ghost use Rattle.read_processor.specs.Look.{look, look_at_path, look_at_node, wants_read, is_asked, path_of};
+
+use crate::bodies::body_of;
+use crate::permissions::may_read;
+use crate::request::Request;
+use crate::shown::Look;
+use data_tree::{Node, Tree};
+use jute::Id;
+use jute::codes::{BAD_ARGUMENTS, NO_AUTH, NO_NODE};
+use std::alloc::Global;
+use values::{NoMemory, Str};
+
+// Whether a path may be asked for.
+fn is_asked(path: &[u8]) -> bool
+    ensures { result ≡ is_asked path.now }
+{
+    path.starts_with(b"/") && !path.contains(&0)
+}
+
+// The path that a request asks for; `None` is null.
+fn path_of<'a, 'b>(request: &'b Request<'a>) -> &'b Option<Str<'a>>
+    ensures { result.now ≡ path_of request.now }
+{
+    match request {
+        Request::Exists(request) => &request.path,
+        Request::GetData(request) => &request.path,
+        Request::GetAcl(request) => &request.path,
+        Request::GetChildren(request) => &request.path,
+        Request::GetChildren2(request) => &request.path,
+    }
+}
+
+// Whether a request asks for the permission to read.
+fn wants_read(request: &Request<'_>) -> bool
+    ensures { result ≡ wants_read request.now }
+{
+    match request {
+        Request::GetData(_) | Request::GetChildren(_) | Request::GetChildren2(_) => true,
+        Request::Exists(_) | Request::GetAcl(_) => false,
+    }
+}
+
+fn look_at_node(
+    alloc: Global,
+    ids: &[Id],
+    request: &Request<'_>,
+    node: Option<&Node>,
+) -> Result<Look, NoMemory>
+    ensures { IfOk result
+        (λ shown. shown ≡ look_at_node ids.now request.now (option_copied node.entry)) }
+{
+    let Some(node) = node else {
+        return Look::refusal(alloc, NO_NODE);
+    };
+    if wants_read(request) && !may_read(ids, node.acl.as_slice()) {
+        return Look::refusal(alloc, NO_AUTH);
+    }
+    let body = body_of(alloc, request, node)?;
+    Ok(Look { error: 0, body })
+}
+
+fn look_at_path(
+    alloc: Global,
+    tree: &Tree,
+    ids: &[Id],
+    request: &Request<'_>,
+    path: &Option<Str<'_>>,
+) -> Result<Look, NoMemory>
+    ensures { IfOk result
+        (λ shown. shown ≡ look_at_path tree.now ids.now request.now path.now) }
+{
+    let Some(path) = path else {
+        return Look::refusal(alloc, BAD_ARGUMENTS);
+    };
+    if !is_asked(path.as_str().as_bytes()) {
+        return Look::refusal(alloc, BAD_ARGUMENTS);
+    }
+    look_at_node(alloc, ids, request, tree.node(path.as_str()))
+}
+
+/// What a read shows of the tree, to a client that has shown these ids.
+pub fn look(alloc: Global, tree: &Tree, ids: &[Id], request: &Request<'_>) -> Result<Look, NoMemory>
+    ensures { IfOk result (λ shown. shown ≡ look tree.now ids.now request.now) }
+{
+    look_at_path(alloc, tree, ids, request, path_of(request))
+}

@@ -1,0 +1,45 @@
+//! What a read shows.
+
+ghost use Rattle.std.specs.Prelude.{◌≡◌, IfOk};
+ghost use Rattle.read_processor.specs.Look.{refusal};
+ghost use Rattle.read_processor.specs.Reply.{reply};
+
+use crate::body::Body;
+use jute::ReplyHeader;
+use std::alloc::Global;
+use values::{Blob, NoMemory};
+
+/// What a read shows.
+#[derive(Drop)]
+pub struct Look {
+    /// An error's number, or 0.
+    pub error: i32,
+    /// The body of the reply; `None` where it is longer than a frame holds.
+    pub body: Option<Body>,
+}
+
+impl Look {
+    /// An error's, without a body.
+    pub fn refusal(alloc: Global, error: i32) -> Result<Look, NoMemory>
+        ensures { IfOk result (λ look. look ≡ refusal error) }
+    {
+        let body = Body::empty(alloc)?;
+        Ok(Look {
+            error,
+            body: Some(body),
+        })
+    }
+
+    /// The frame of the reply, if its body isn't too long for one. It takes no memory.
+    pub fn into_frame(self, xid: i32, zxid: i64) -> Option<Blob>
+        ensures { result ≡ reply xid zxid self }
+    {
+        let header = ReplyHeader {
+            xid,
+            zxid,
+            err: self.error,
+        };
+        let body = self.body?;
+        Some(body.into_frame(&header))
+    }
+}
