@@ -28,7 +28,7 @@ front_in (Err e) = None
 
 abbrev pub read_as : {A : Type 0} → (A → Request) → Option A → CallBody
 read_as request None = Unreadable
-read_as request (Some record) = Read (request record)
+read_as request (Some found) = Read (request found)
 
 -- auth, setWatches and closeSession aren't answered yet; the body of a change isn't read
 abbrev pub body_of : Option RequestKind → List ℕ → CallBody

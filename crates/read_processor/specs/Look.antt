@@ -48,22 +48,22 @@ body_of (GetChildren2 r) node = get_children2_response.written (record { childre
 
 -- ---- the look
 
--- an error has no body
-abbrev pub refusal : ℤ → Look
-refusal error = record { error = error; body = Some [] }
+-- an error's number, or 0, without a body
+abbrev pub without_body : ℤ → Look
+without_body error = record { error = error; body = Some [] }
 
 abbrev pub shown_look : List ℕ → Look
 shown_look body = record { error = pos 0; body = fitting body }
 
 abbrev pub look_at_node : List Id → Request → Option Node → Look
-look_at_node ids request None = refusal NO_NODE
+look_at_node ids request None = without_body NO_NODE
 look_at_node ids request (Some node) =
-    if wants_read request && not (may_read ids node.acl) then refusal NO_AUTH else shown_look (body_of request node)
+    if wants_read request && not (may_read ids node.acl) then without_body NO_AUTH else shown_look (body_of request node)
 
 abbrev pub look_at_path : State → List Id → Request → Option (List ℕ) → Look
-look_at_path s ids request None = refusal BAD_ARGUMENTS
+look_at_path s ids request None = without_body BAD_ARGUMENTS
 look_at_path s ids request (Some path) =
-    if is_asked path then look_at_node ids request (finmap.get s.nodes path) else refusal BAD_ARGUMENTS
+    if is_asked path then look_at_node ids request (finmap.get s.nodes path) else without_body BAD_ARGUMENTS
 
 abbrev pub look : State → List Id → Request → Look
 look s ids request = look_at_path s ids request (path_of request)

@@ -54,10 +54,10 @@ fn look_at_node(
         (λ shown. shown ≡ look_at_node ids.now request.now (option_copied node.entry)) }
 {
     let Some(node) = node else {
-        return Look::refusal(alloc, NO_NODE);
+        return Look::without_body(alloc, NO_NODE);
     };
     if wants_read(request) && !may_read(ids, node.acl.as_slice()) {
-        return Look::refusal(alloc, NO_AUTH);
+        return Look::without_body(alloc, NO_AUTH);
     }
     let body = body_of(alloc, request, node)?;
     Ok(Look { error: 0, body })
@@ -74,10 +74,10 @@ fn look_at_path(
         (λ shown. shown ≡ look_at_path tree.now ids.now request.now path.now) }
 {
     let Some(path) = path else {
-        return Look::refusal(alloc, BAD_ARGUMENTS);
+        return Look::without_body(alloc, BAD_ARGUMENTS);
     };
     if !is_asked(path.as_str().as_bytes()) {
-        return Look::refusal(alloc, BAD_ARGUMENTS);
+        return Look::without_body(alloc, BAD_ARGUMENTS);
     }
     look_at_node(alloc, ids, request, tree.node(path.as_str()))
 }

@@ -1,7 +1,7 @@
 //! What a read shows.
 
 ghost use Rattle.std.specs.Prelude.{◌≡◌, IfOk};
-ghost use Rattle.read_processor.specs.Look.{refusal};
+ghost use Rattle.read_processor.specs.Look.{without_body};
 ghost use Rattle.read_processor.specs.Reply.{reply};
 
 use crate::body::Body;
@@ -19,9 +19,9 @@ pub struct Look {
 }
 
 impl Look {
-    /// An error's, without a body.
-    pub fn refusal(alloc: Global, error: i32) -> Result<Look, NoMemory>
-        ensures { IfOk result (λ look. look ≡ refusal error) }
+    /// An error's number, or 0, without a body.
+    pub fn without_body(alloc: Global, error: i32) -> Result<Look, NoMemory>
+        ensures { IfOk result (λ look. look ≡ without_body error) }
     {
         let body = Body::empty(alloc)?;
         Ok(Look {
