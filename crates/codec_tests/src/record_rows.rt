@@ -2,12 +2,13 @@
 
 use jute::codes::open_list;
 use jute::{
-    Acl, GetDataRequest, GetDataResponse, Id, ReadRecord, Reader, ReplyHeader, RequestHeader, Stat,
-    StatPersisted, WriteRecord, put_frame, put_int, put_items, put_vector, read_frame, read_vector,
+    Acl, Id, ReadRecord, Reader, ReplyHeader, RequestHeader, Stat, StatPersisted, WriteRecord,
+    put_bool, put_bytes, put_frame, put_int, put_items, put_string, put_vector, read_frame,
+    read_vector,
 };
 use std::alloc::Global;
 use std::test::Fail;
-use values::{Bytes, Listed, NoMemory, ReadError, Str, Text};
+use values::{Listed, NoMemory, ReadError, Text};
 
 /// The frame that answers getData: header, bytes and Stat of a node that was created with two.
 const REPLY: [u8; 94] = *b"\x00\x00\x00\x5a\
@@ -60,16 +61,13 @@ fn reply_header() -> ReplyHeader {
 }
 
 // The reply, behind its frame's length.
-#[tactic(auto, unfolding(jute::specs::Records::reply_header, jute::specs::Records::get_data_response, jute::specs::Records::stat))]
+#[tactic(auto, unfolding(jute::specs::Records::reply_header, jute::specs::Records::stat))]
 fn reply_written(alloc: Global) -> Result<Vec<u8>, NoMemory> {
-    let response = GetDataResponse {
-        bytes: Some(Bytes::new(b"hi")),
-        stat: stat(),
-    };
     let mut out = Vec::new(alloc);
     put_int(&mut out, 90)?;
     reply_header().write(&mut out)?;
-    response.write(&mut out)?;
+    put_bytes(&mut out, b"hi")?;
+    stat().write(&mut out)?;
     Ok(out)
 }
 
@@ -88,11 +86,12 @@ fn framed(bytes: &[u8]) -> Option<&[u8]> {
 fn is_reply(alloc: Global, bytes: &[u8]) -> Result<bool, ReadError> {
     let mut reader = Reader::new(bytes);
     let header = ReplyHeader::read(alloc, &mut reader)?;
-    let response = GetDataResponse::read(alloc, &mut reader)?;
+    let bytes = reader.read_buffer()?;
+    let shown = Stat::read(alloc, &mut reader)?;
     Ok(
         header == reply_header()
-            && response.bytes == Some(Bytes::new(b"hi"))
-            && response.stat == stat()
+            && bytes == Some(b"hi")
+            && shown == stat()
             && reader.rest().is_empty(),
     )
 }
@@ -106,16 +105,13 @@ fn reply_is_read_and_written(rt: HostRuntime) -> Result<(), Fail> {
 }
 
 // The request, behind its frame's length.
-#[tactic(auto, unfolding(jute::specs::Records::request_header, jute::specs::Records::get_data_request))]
+#[tactic(auto, unfolding(jute::specs::Records::request_header))]
 fn request_written(alloc: Global) -> Result<Vec<u8>, NoMemory> {
-    let request = GetDataRequest {
-        path: Some(Str::new("/a")),
-        watch: false,
-    };
     let mut out = Vec::new(alloc);
     put_int(&mut out, 15)?;
     RequestHeader { xid: 1, kind: 4 }.write(&mut out)?;
-    request.write(&mut out)?;
+    put_string(&mut out, "/a")?;
+    put_bool(&mut out, false)?;
     Ok(out)
 }
 
@@ -123,11 +119,12 @@ fn request_written(alloc: Global) -> Result<Vec<u8>, NoMemory> {
 fn is_request(alloc: Global, bytes: &[u8]) -> Result<bool, ReadError> {
     let mut reader = Reader::new(bytes);
     let header = RequestHeader::read(alloc, &mut reader)?;
-    let request = GetDataRequest::read(alloc, &mut reader)?;
+    let path = reader.read_string()?;
+    let watch = reader.read_bool()?;
     Ok(
         header == RequestHeader { xid: 1, kind: 4 }
-            && request.path == Some(Str::new("/a"))
-            && !request.watch
+            && path == Some("/a")
+            && !watch
             && reader.rest().is_empty(),
     )
 }

@@ -4,7 +4,7 @@ ghost use Rattle.jute.specs.Format.{int, long, boolean, buffer, text, name, vect
 ghost use Rattle.jute.specs.Frame.{frame};
 ghost use Rattle.jute.specs.Laws.{IsBytes, Sound};
 ghost use Rattle.jute.specs.Owned.{id, acl};
-ghost use Rattle.jute.specs.Records.{stat, stat_persisted, request_header, reply_header, get_data_request, get_data_response};
+ghost use Rattle.jute.specs.Records.{stat, stat_persisted, request_header, reply_header};
 ghost use Rattle.jute.specs.Relation.{AreItems};
 ghost use Rattle.jute.specs.Stream.{Streamed, ComesInPieces, only, Items, items, place_at};
 ghost use Rattle.jute.specs.declared.owned.Acl.{Acl};
@@ -27,8 +27,6 @@ pub fn formats()
     ensures stat_persisted { Sound stat_persisted }
     ensures request_header { Sound request_header }
     ensures reply_header { Sound reply_header }
-    ensures get_data_request { Sound get_data_request }
-    ensures get_data_response { Sound get_data_response }
     ensures ids { Sound (vector id) }
     ensures acls { Sound (vector acl) }
     ensures frame { (limit : ℕ) → limit < 2 ^ 31 → Sound (frame limit) }

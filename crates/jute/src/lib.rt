@@ -8,7 +8,7 @@
 //! ```text
 //! let mut reader = Reader::new(bytes);
 //! let header = RequestHeader::read(alloc, &mut reader)?;     // a fault: the first field that no spelling allows
-//! let request = GetDataRequest::read(alloc, &mut reader)?;   // borrowed from the bytes
+//! let path = reader.read_string()?;                           // borrowed from the bytes
 //! ReplyHeader { xid: header.xid, zxid, err: codes::NO_NODE }.write(&mut out)?;
 //! ```
 #![tactic(auto)]
@@ -24,7 +24,7 @@ mod stat;
 mod writer;
 
 pub use frame::{put_frame, read_frame};
-pub use message::{GetDataRequest, GetDataResponse, ReplyHeader, RequestHeader};
+pub use message::{ReplyHeader, RequestHeader};
 pub use owned::{Acl, Id, blob_len, put_blob, read_blob};
 pub use reader::{BUFFER_LIMIT, COUNT_LIMIT, Reader};
 pub use record::{ReadRecord, read_name, read_vector};

@@ -4,8 +4,9 @@ ghost use Rattle.std.specs.Prelude.{◌≤◌, length, IfOk};
 ghost use Rattle.txn_codec.specs.Spelling.{body as body_format};
 
 use anyhow::{Result, ensure};
+use client_records::PathAndWatch;
 use jute::codes::{GET_DATA, open_list};
-use jute::{GetDataRequest, RequestHeader, WriteRecord, put_bytes};
+use jute::{RequestHeader, WriteRecord, put_bytes};
 use quorum_packet::{PacketKind, QuorumPacket, write_packet};
 use std::alloc::Global;
 use txn_codec::{Body, Create, Operation, Path, SetData, Txn, encode_txn};
@@ -92,7 +93,7 @@ pub fn write_inform(alloc: Global, txn: &Txn, out: &mut Vec<u8>) -> Result<()>
 }
 
 /// Writes the frame by which a client asks for a node's data, without a watch. An error may leave a front of it.
-#[tactic(auto, unfolding(jute::specs::Records::request_header, jute::specs::Records::get_data_request))]
+#[tactic(auto, unfolding(jute::specs::Records::request_header, client_records::specs::Requests::path_and_watch))]
 pub fn write_get_data(alloc: Global, xid: i32, path: &Path, out: &mut Vec<u8>) -> Result<()>
     requires { length path.now ≤ PATH_LIMIT }
 {
@@ -102,7 +103,7 @@ pub fn write_get_data(alloc: Global, xid: i32, path: &Path, out: &mut Vec<u8>) -
         kind: GET_DATA,
     };
     header.write(&mut frame)?;
-    let request = GetDataRequest {
+    let request = PathAndWatch {
         path: Some(Str::new(path.as_str())),
         watch: false,
     };
