@@ -103,7 +103,14 @@ fn answer_call(
 {
     match body {
         CallBody::Read(asked) => answer_request(alloc, number, world, xid, asked, outputs),
-        CallBody::Unreadable => answer_without_body(alloc, number, world, xid, BAD_ARGUMENTS, outputs),
+        CallBody::Unreadable => answer_without_body(
+            alloc,
+            number,
+            world,
+            xid,
+            BAD_ARGUMENTS,
+            outputs,
+        ),
         CallBody::Ping => answer_without_body(alloc, number, world, PING_XID, OK, outputs),
         CallBody::Write => answer_without_body(alloc, number, world, xid, NOT_READ_ONLY, outputs),
         CallBody::Unanswered => Ok(()),

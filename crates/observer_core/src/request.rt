@@ -48,7 +48,10 @@ pub fn sets_watch(request: &Request<'_>) -> bool
 }
 
 // The record at the front, if it can be read.
-fn front<'a, T: ReadRecord<'a>>(alloc: Global, reader: &mut Reader<'a>) -> Result<Option<T>, NoMemory>
+fn front<'a, T: ReadRecord<'a>>(
+    alloc: Global,
+    reader: &mut Reader<'a>,
+) -> Result<Option<T>, NoMemory>
     ensures { IfOk result (λ found. found ≡ front_in (T.read_of reader.old)) }
 {
     match T::read(alloc, reader) {

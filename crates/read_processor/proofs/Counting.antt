@@ -21,29 +21,42 @@ passed result n is h = subst (λ (r : Option ℕ). Counts r n) (sym is) h
 abbrev pub spelled : String Global → List ℕ
 spelled t = name.written (string_bytes t)
 
+-- what the texts of a set are written as, behind their count
+abbrev pub all_spelled : List (String Global) → List ℕ
+all_spelled all = names.written (map string_bytes all)
+
+one_more : (t : String Global) (left : List (String Global))
+    → length (flat_map spelled (t ∷ left)) ≡ length (spelled t) + length (flat_map spelled left)
+one_more t left =
+    ap (λ (l : List ℕ). length l) (flat_map-cons spelled t left) ∙ length-append (spelled t) (flat_map spelled left)
+
 -- the bytes of the texts that are left, and so many more, are those of all
 pub record Left (count : ℕ) (left all : List (String Global)) : Type 0 where
-  pub sums : count + length (flat_map spelled left) ≡ length (names.written (map string_bytes all))
+  pub sums : count + length (flat_map spelled left) ≡ length (all_spelled all)
   pub within : count ≤ body_limit
 
 pub all_left : (all : List (String Global)) → Left 4 all all
 all_left all = record {
-  sums = ap (λ (l : List ℕ). 4 + length l) (sym (flat_map-map name.written string_bytes all)) ∙ sym (counted_length (length (map string_bytes all)) (flat_map name.written (map string_bytes all)));
+  sums =
+      ap (λ (l : List ℕ). 4 + length l) (sym (flat_map-map name.written string_bytes all))
+      ∙ sym (counted_length (length (map string_bytes all)) (flat_map name.written (map string_bytes all)));
   within = omega arith;
 }
 
 -- the next text is counted
-pub one_less : {count next : ℕ} {t : String Global} {left all : List (String Global)} → Left count (t ∷ left) all → (next ≡ count + length (spelled t)) × (count + length (spelled t) ≤ body_limit) → Left next left all
+pub one_less : {count next : ℕ} {t : String Global} {left all : List (String Global)} → Left count (t ∷ left) all
+    → Counts (Some next) (count + length (spelled t)) → Left next left all
 one_less {t = t} {left = left} l n = record {
-  sums = omega (arith, l.sums, n.0, ap (λ (x : List ℕ). length x) (flat_map-cons spelled t left), length-append (spelled t) (flat_map spelled left));
+  sums = omega (arith, l.sums, n.0, one_more t left);
   within = omega (arith, n.0, n.1);
 }
 
 -- the next text is one too many
-pub too_many : {count : ℕ} {t : String Global} {left all : List (String Global)} → Left count (t ∷ left) all → body_limit < count + length (spelled t) → body_limit < length (names.written (map string_bytes all))
-too_many {t = t} {left = left} l h =
-    omega (arith, l.sums, h, ap (λ (x : List ℕ). length x) (flat_map-cons spelled t left), length-append (spelled t) (flat_map spelled left))
+pub too_many : {count : ℕ} {t : String Global} {left all : List (String Global)} → Left count (t ∷ left) all
+    → Counts None (count + length (spelled t)) → Counts None (length (all_spelled all))
+too_many {t = t} {left = left} l h = omega (arith, l.sums, h, one_more t left)
 
 -- no text is left
-pub none_left : {count : ℕ} {all : List (String Global)} → Left count [] all → Counts (Some count) (length (names.written (map string_bytes all)))
+pub none_left : {count : ℕ} {all : List (String Global)} → Left count [] all
+    → Counts (Some count) (length (all_spelled all))
 none_left l = (omega (arith, l.sums), omega (arith, l.sums, l.within))

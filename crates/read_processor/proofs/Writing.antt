@@ -24,14 +24,20 @@ record Plain {A : Type 0} (F : Format A) : Type 0 where
   some : (a : A) → 0 < length (F.written a)
   writable : (a : A) → length (F.written a) < 2 ^ 31 → F.Writable a
 
-each : {A : Type 0} (F : Format A) → Plain F → (xs : List A) → length (flat_map F.written xs) < 2 ^ 31 → (length xs ≤ length (flat_map F.written xs)) × All F.Writable xs
+each : {A : Type 0} (F : Format A) → Plain F → (xs : List A) → length (flat_map F.written xs) < 2 ^ 31
+    → (length xs ≤ length (flat_map F.written xs)) × All F.Writable xs
 each F p [] lt = (omega arith, All-nil F.Writable)
 each F p (x ∷ xs) lt =
-    let whole : length (flat_map F.written (x ∷ xs)) ≡ length (F.written x) + length (flat_map F.written xs) = ap (λ (l : List ℕ). length l) (flat_map-cons F.written x xs) ∙ length-append (F.written x) (flat_map F.written xs) in
-    let rest = each F p xs (omega (arith, whole, lt)) in
-    (omega (arith, whole, rest.0, p.some x), All-cons F.Writable x xs (p.writable x (omega (arith, whole, lt))) rest.1)
+    let whole : length (flat_map F.written (x ∷ xs)) ≡ length (F.written x) + length (flat_map F.written xs) =
+    ap (λ (l : List ℕ). length l) (flat_map-cons F.written x xs)
+    ∙ length-append (F.written x) (flat_map F.written xs) in
+    let rest = each F p xs (omega (arith, whole, lt)) in (
+      omega (arith, whole, rest.0, p.some x),
+      All-cons F.Writable x xs (p.writable x (omega (arith, whole, lt))) rest.1,
+    )
 
-vector_writable : {A : Type 0} (F : Format A) → Plain F → (xs : List A) → length ((vector F).written (Some xs)) ≤ body_limit → (vector F).Writable (Some xs)
+vector_writable : {A : Type 0} (F : Format A) → Plain F → (xs : List A)
+    → length ((vector F).written (Some xs)) ≤ body_limit → (vector F).Writable (Some xs)
 vector_writable F p xs le =
     let whole = counted_length (length xs) (flat_map F.written xs) in
     let all = each F p xs (omega (arith, whole, le)) in
@@ -44,7 +50,8 @@ name_plain = record {
   writable = λ t lt. omega (arith, counted_length (length t) t, lt);
 }
 
-acl_length : (a : Acl) → length (acl.written a) ≡ 4 + (length (name.written a.id.scheme) + length (name.written a.id.id))
+acl_length : (a : Acl)
+    → length (acl.written a) ≡ 4 + (length (name.written a.id.scheme) + length (name.written a.id.id))
 unfolding acl id number_bytes
 acl_length a = simp length-append (omega arith)
 
@@ -52,7 +59,13 @@ acl_plain : Plain acl
 unfolding acl id
 acl_plain = record {
   some = λ a. omega (arith, acl_length a);
-  writable = λ a lt. (tt, (name_plain.writable a.id.scheme (omega (arith, acl_length a, lt)), name_plain.writable a.id.id (omega (arith, acl_length a, lt))));
+  writable = λ a lt. (
+    tt,
+    (
+      name_plain.writable a.id.scheme (omega (arith, acl_length a, lt)),
+      name_plain.writable a.id.id (omega (arith, acl_length a, lt)),
+    ),
+  );
 }
 
 pub names_writable : (xs : List (List ℕ)) → length (names.written xs) ≤ body_limit → names.Writable xs
@@ -72,7 +85,8 @@ pub get_data_length : (r : GetDataResponse) → length (get_data_response.writte
 unfolding get_data_response stat number_bytes
 get_data_length r = by r.bytes
   where
-    by : (bytes : Option (List ℕ)) → length (get_data_response.written (record r { bytes = bytes })) ≡ 72 + length_of bytes
+    by : (bytes : Option (List ℕ))
+        → length (get_data_response.written (record r { bytes = bytes })) ≡ 72 + length_of bytes
     by None = refl
     by (Some bytes) = simp length-append (omega arith)
 
@@ -84,10 +98,14 @@ get_data_writable r le = (by r.bytes le, stat_writable r.stat)
     by None le = tt
     by (Some bytes) le = omega (arith, le)
 
-pub get_acl_length : (r : GetAclResponse) → length (get_acl_response.written r) ≡ length ((vector acl).written (Some r.acl)) + 68
-unfolding get_acl_response
-get_acl_length r = length-append ((vector acl).written (Some r.acl)) (stat.written r.stat) ∙ ap (λ n. length ((vector acl).written (Some r.acl)) + n) (stat_length r.stat)
+abbrev entries : GetAclResponse → List ℕ
+entries r = (vector acl).written (Some r.acl)
 
-pub get_acl_writable : (r : GetAclResponse) → length ((vector acl).written (Some r.acl)) ≤ body_limit → get_acl_response.Writable r
+pub get_acl_length : (r : GetAclResponse) → length (get_acl_response.written r) ≡ length (entries r) + 68
+unfolding get_acl_response
+get_acl_length r =
+    length-append (entries r) (stat.written r.stat) ∙ ap (λ n. length (entries r) + n) (stat_length r.stat)
+
+pub get_acl_writable : (r : GetAclResponse) → length (entries r) ≤ body_limit → get_acl_response.Writable r
 unfolding get_acl_response
 get_acl_writable r le = (vector_writable acl acl_plain r.acl le, stat_writable r.stat)

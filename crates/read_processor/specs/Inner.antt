@@ -1,2 +1,3 @@
 -- What the contracts of private functions cite, and nobody else has to believe.
 pub mod Counts
+pub mod Room

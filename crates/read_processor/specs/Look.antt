@@ -36,19 +36,35 @@ wants_read (GetAcl r) = false
 wants_read (GetChildren r) = true
 wants_read (GetChildren2 r) = true
 
--- ---- the body of a reply
+-- ---- what a reply's body shows of a node
 
--- what is shown of the node; children's names in ascending bytes
+abbrev pub exists_body : Node → List ℕ
+exists_body node = exists_response.written (record { stat = shown node })
+
+abbrev pub get_data_body : Node → List ℕ
+get_data_body node = get_data_response.written (record { bytes = node.bytes; stat = shown node })
+
+abbrev pub get_acl_body : Node → List ℕ
+get_acl_body node = get_acl_response.written (record { acl = node.acl; stat = shown node })
+
+-- children are named in ascending bytes
+abbrev pub get_children_body : Node → List ℕ
+get_children_body node = get_children_response.written (record { children = in_order node.children })
+
+abbrev pub get_children2_body : Node → List ℕ
+get_children2_body node =
+    get_children2_response.written (record { children = in_order node.children; stat = shown node })
+
 abbrev pub body_of : Request → Node → List ℕ
-body_of (Exists r) node = exists_response.written (record { stat = shown node })
-body_of (GetData r) node = get_data_response.written (record { bytes = node.bytes; stat = shown node })
-body_of (GetAcl r) node = get_acl_response.written (record { acl = node.acl; stat = shown node })
-body_of (GetChildren r) node = get_children_response.written (record { children = in_order node.children })
-body_of (GetChildren2 r) node = get_children2_response.written (record { children = in_order node.children; stat = shown node })
+body_of (Exists r) node = exists_body node
+body_of (GetData r) node = get_data_body node
+body_of (GetAcl r) node = get_acl_body node
+body_of (GetChildren r) node = get_children_body node
+body_of (GetChildren2 r) node = get_children2_body node
 
--- ---- the look
+-- ---- the look: an error, or 0 and a body
 
--- an error's number, or 0, without a body
+-- a number, and no body
 abbrev pub without_body : ℤ → Look
 without_body error = record { error = error; body = Some [] }
 
@@ -58,7 +74,9 @@ shown_look body = record { error = pos 0; body = fitting body }
 abbrev pub look_at_node : List Id → Request → Option Node → Look
 look_at_node ids request None = without_body NO_NODE
 look_at_node ids request (Some node) =
-    if wants_read request && not (may_read ids node.acl) then without_body NO_AUTH else shown_look (body_of request node)
+    if wants_read request && not (may_read ids node.acl)
+    then without_body NO_AUTH
+    else shown_look (body_of request node)
 
 abbrev pub look_at_path : State → List Id → Request → Option (List ℕ) → Look
 look_at_path s ids request None = without_body BAD_ARGUMENTS

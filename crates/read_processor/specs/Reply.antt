@@ -12,4 +12,5 @@ headed header body = reply_header.written header ++ body
 
 -- the header names the last zxid; there is no reply where the body is too long
 abbrev pub reply : ℤ → ℤ → Look → Option (List ℕ)
-reply xid zxid look = option_map (λ body. framed (headed (record { xid = xid; zxid = zxid; err = look.error }) body)) look.body
+reply xid zxid look =
+    option_map (λ body. framed (headed (record { xid = xid; zxid = zxid; err = look.error }) body)) look.body

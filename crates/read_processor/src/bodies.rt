@@ -1,11 +1,10 @@
-//! What a reply to each request says of a node.
+//! What the body of each reply shows of a node. Data, names and entries may be longer than a frame holds, so their
+//! lengths are tested before anything is written.
 
 ghost use Rattle.std.specs.Prelude.{◌≡◌, ◌<◌, ◌^◌, IfOk};
-ghost use Rattle.ephemerals.specs.Orders.{in_order};
-ghost use Rattle.data_tree.specs.Stats.{length_of, shown};
-ghost use Rattle.client_records.specs.Responses.{exists_response, get_data_response, get_acl_response, get_children_response, get_children2_response};
+ghost use Rattle.data_tree.specs.Stats.{length_of};
 ghost use Rattle.read_processor.specs.Limits.{fitting};
-ghost use Rattle.read_processor.specs.Look.{body_of};
+ghost use Rattle.read_processor.specs.Look.{exists_body, get_data_body, get_acl_body, get_children_body, get_children2_body, body_of};
 
 use crate::body::{BODY_LIMIT, Body};
 use crate::counts::{acls_len, names_len, with_bytes};
@@ -39,14 +38,13 @@ fn lent_len(bytes: &Option<Bytes<'_>>) -> usize
 
 #[tactic(auto, unfolding(client_records::specs::Responses::exists_response, jute::specs::Records::stat, jute::specs::Format::number_bytes))]
 fn exists(alloc: Global, node: &Node) -> Result<Option<Body>, NoMemory>
-    ensures { IfOk result (λ body. body ≡ fitting (exists_response.written (record { stat = shown node.now }))) }
+    ensures { IfOk result (λ body. body ≡ fitting (exists_body node.now)) }
 {
     Body::of(alloc, &ExistsResponse { stat: node.shown() })
 }
 
 fn get_data(alloc: Global, node: &Node) -> Result<Option<Body>, NoMemory>
-    ensures { IfOk result
-        (λ body. body ≡ fitting (get_data_response.written (record { bytes = node.now.bytes; stat = shown node.now }))) }
+    ensures { IfOk result (λ body. body ≡ fitting (get_data_body node.now)) }
 {
     let bytes = lent(&node.bytes);
     if lent_len(&bytes) > BODY_LIMIT {
@@ -62,8 +60,7 @@ fn get_data(alloc: Global, node: &Node) -> Result<Option<Body>, NoMemory>
 }
 
 fn get_acl(alloc: Global, node: &Node) -> Result<Option<Body>, NoMemory>
-    ensures { IfOk result
-        (λ body. body ≡ fitting (get_acl_response.written (record { acl = node.now.acl; stat = shown node.now }))) }
+    ensures { IfOk result (λ body. body ≡ fitting (get_acl_body node.now)) }
 {
     let entries = node.acl.as_slice();
     let Some(_) = acls_len(entries) else {
@@ -79,8 +76,7 @@ fn get_acl(alloc: Global, node: &Node) -> Result<Option<Body>, NoMemory>
 }
 
 fn get_children(alloc: Global, node: &Node) -> Result<Option<Body>, NoMemory>
-    ensures { IfOk result
-        (λ body. body ≡ fitting (get_children_response.written (record { children = in_order node.now.children }))) }
+    ensures { IfOk result (λ body. body ≡ fitting (get_children_body node.now)) }
 {
     let Some(size) = names_len(node.children.iter()) else {
         return Ok(None);
@@ -90,9 +86,7 @@ fn get_children(alloc: Global, node: &Node) -> Result<Option<Body>, NoMemory>
 }
 
 fn get_children2(alloc: Global, node: &Node) -> Result<Option<Body>, NoMemory>
-    ensures { IfOk result
-        (λ body. body ≡ fitting (get_children2_response.written
-        (record { children = in_order node.now.children; stat = shown node.now }))) }
+    ensures { IfOk result (λ body. body ≡ fitting (get_children2_body node.now)) }
 {
     let stat = node.shown();
     let Some(names) = names_len(node.children.iter()) else {

@@ -30,14 +30,14 @@ pub struct Body {
 }
 
 impl Model for Body {
-    ghost use Rattle.std.specs.Prelude.{◌+◌, ◌≤◌, List, ℕ, length, drop};
-    ghost use Rattle.read_processor.specs.Limits.{body_limit};
+    ghost use Rattle.std.specs.Prelude.{List, ℕ, drop};
+    ghost use Rattle.read_processor.specs.Inner.Room.{HasRoom};
 
     ghost Value = { List ℕ };
 
     ghost view = { λ b. drop 20 b.bytes.items };
 
-    ghost invariant = { λ b. (20 ≤ length b.bytes.items) × (length b.bytes.items ≤ 20 + body_limit) };
+    ghost invariant = { λ b. HasRoom b.bytes.items };
 }
 
 // Writes an int over the bytes that stand in front.
@@ -62,7 +62,8 @@ fn fill_long(bytes: &mut [u8], number: &i64)
 #[tactic(auto, unfolding(jute::specs::Format::number_bytes))]
 fn fill_end(bytes: &mut [u8], header: &ReplyHeader)
     requires { 12 ≤ length bytes.old }
-    ensures { bytes.new ≡ (long.written header.now.zxid ++ int.written header.now.err) ++ drop 12 bytes.old }
+    ensures { bytes.new ≡
+        (long.written header.now.zxid ++ int.written header.now.err) ++ drop 12 bytes.old }
 {
     fill_long(bytes, &header.zxid);
     fill_int(&mut bytes[8..], &header.err);
@@ -80,7 +81,8 @@ fn fill_header(bytes: &mut [u8], header: &ReplyHeader)
 // Fills the room in front.
 fn fill(bytes: &mut [u8], size: i32, header: &ReplyHeader)
     requires { 20 ≤ length bytes.old }
-    ensures { bytes.new ≡ (int.written size ++ reply_header.written header.now) ++ drop 20 bytes.old }
+    ensures { bytes.new ≡
+        (int.written size ++ reply_header.written header.now) ++ drop 20 bytes.old }
 {
     fill_int(bytes, &size);
     fill_header(&mut bytes[4..], header);

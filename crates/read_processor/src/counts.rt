@@ -1,5 +1,5 @@
-//! How many bytes lists take, counted before they are written. A count never passes what a frame holds: a tree may hold lists
-//! whose sum no number fits.
+//! How many bytes lists take, counted before they are written. A count ends where it passes what a frame holds, since a
+//! tree may hold more than any number counts.
 
 ghost use Rattle.std.specs.Prelude.{◌≤◌, ◌+◌, length, map, Some, String, string_bytes};
 ghost use Rattle.jute.specs.Format.{name, vector, or_null};

@@ -1,8 +1,9 @@
 //! Reads of the tree, for clients.
 //!
-//! `look` shows what a request asks of the tree: an error's number, or 0 and the body of a reply. The body is made once, with
-//! room in front, and `Look::into_frame` fills in the length and the header there, so that nothing is copied but out of the tree.
-//! What is shown to whom says specs/Look; who may read a node, specs/Permissions; how a look is sent, specs/Reply.
+//! `look` shows what a request asks of the tree: an error's number, or 0 and the body of a reply. The body is made
+//! once, with room in front, and `Look::into_frame` fills in the length and the header there: nothing is copied but
+//! out of the tree. specs/Look says what is shown to whom, specs/Permissions who may read a node, and specs/Reply how
+//! a look is sent.
 //!
 //! ```text
 //! let look = look(alloc, &tree, ids, &Request::GetData(asked))?;

@@ -1,7 +1,7 @@
 use Rattle.std.proofs.Common.{arith, sym}
 use Rattle.data_tree.specs.Stats.{shown}
-use Rattle.client_records.specs.Responses.{get_acl_response}
 use Rattle.client_records.specs.declared.response.GetAclResponse.{GetAclResponse}
+use Rattle.read_processor.specs.Look.{get_acl_body}
 use Rattle.read_processor.proofs.Filling.{too_long}
 use Rattle.read_processor.proofs.Writing.{get_acl_length, get_acl_writable}
 use Rattle.read_processor.proofs.bodies.get_acl.Goals as goal
@@ -9,7 +9,8 @@ use Rattle.read_processor.proofs.bodies.get_acl.Goals as goal
 pub returns-in_default : goal.returns-in_default
 returns-in_default c =
     let response : GetAclResponse = record { acl = c.args.node.now.acl; stat = shown c.args.node.now } in
-    sym (too_long (get_acl_response.written response) (omega (arith, get_acl_length response, rw c.as_slice-entries.ensures at c.in_default.ensures)))
+    let long = rw c.as_slice-entries.ensures at c.in_default.ensures in
+    sym (too_long (get_acl_body c.args.node.now) (omega (arith, get_acl_length response, long)))
 
 pub of-requires-clause-writable : goal.of-requires-clause-writable
 of-requires-clause-writable c =

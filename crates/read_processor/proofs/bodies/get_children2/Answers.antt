@@ -1,22 +1,27 @@
-use Rattle.std.proofs.Common.{◌≡◌, ◌<◌, ◌++◌, List, ℕ, Some, length, ap, sym, ◌∙◌, arith}
+use Rattle.std.proofs.Common.{◌≡◌, ◌++◌, List, ℕ, Some, length, ap, sym, ◌∙◌, arith}
 use Rattle.std.proofs.lemmas.List.{length-append}
 use Rattle.jute.specs.Records.{stat}
 use Rattle.ephemerals.specs.Orders.{in_order}
 use Rattle.data_tree.specs.Stats.{shown}
+use Rattle.data_tree.specs.declared.node.Node.{Node}
 use Rattle.client_records.specs.Fields.{names}
 use Rattle.client_records.specs.Responses.{get_children2_response}
-use Rattle.read_processor.specs.Limits.{body_limit}
 use Rattle.read_processor.proofs.Filling.{fits, too_long}
 use Rattle.read_processor.proofs.Writing.{stat_length, stat_writable}
 use Rattle.read_processor.proofs.bodies.get_children2.Goals as goal
 
+abbrev children : Node → List ℕ
+children node = names.written (in_order node.children)
+
+abbrev numbers : Node → List ℕ
+numbers node = stat.written (shown node)
+
 pub returns-in_default : goal.returns-in_default
 unfolding get_children2_response
 returns-in_default c =
-    let children = names.written (in_order c.args.node.now.children) in
-    let numbers = stat.written (shown c.args.node.now) in
-    let long : body_limit < length children = rw c.iter.ensures.texts at c.in_default.ensures in
-    sym (too_long (children ++ numbers) (omega (arith, long, length-append children numbers)))
+    let node = c.args.node.now in
+    let long = rw c.iter.ensures.texts at c.in_default.ensures in
+    sym (too_long (children node ++ numbers node) (omega (arith, long, length-append (children node) (numbers node))))
 
 pub written_len-requires-clause-writable : goal.written_len-requires-clause-writable
 written_len-requires-clause-writable c = stat_writable c.shown-stat.result
@@ -27,19 +32,22 @@ written_len-requires-clause-small c = omega (arith, stat_length c.shown-stat.res
 pub returns-in_default-with_bytes : goal.returns-in_default-with_bytes
 unfolding get_children2_response
 returns-in_default-with_bytes c =
-    let children = names.written (in_order c.args.node.now.children) in
-    let numbers = stat.written (shown c.args.node.now) in
+    let node = c.args.node.now in
     let front = rw c.iter.ensures.texts at c.in-Some.ensures in
-    let back : c.written_len.result ≡ length numbers = c.written_len.ensures ∙ ap (λ s. length (stat.written s)) c.shown-stat.ensures in
-    sym (too_long (children ++ numbers) (omega (arith, front.0, back, c.in_default-with_bytes.ensures, length-append children numbers)))
+    let back = rw c.shown-stat.ensures at c.written_len.ensures in
+    let whole = length-append (children node) (numbers node) in
+    let far = c.in_default-with_bytes.ensures in
+    sym (too_long (children node ++ numbers node) (omega (arith, front.0, back, far, whole)))
 
 pub returns : goal.returns
 unfolding get_children2_response
 returns c =
-    let children = names.written (in_order c.args.node.now.children) in
-    let numbers = stat.written (shown c.args.node.now) in
+    let node = c.args.node.now in
     let front = rw c.iter.ensures.texts at c.in-Some.ensures in
-    let back : c.written_len.result ≡ length numbers = c.written_len.ensures ∙ ap (λ s. length (stat.written s)) c.shown-stat.ensures in
-    let named : c.in_ok-body.body ≡ children = rw c.iter-2.ensures.texts at c.in_ok-body.ensures in
-    let is : c.in_ok-with_stat.field-0 ≡ children ++ numbers = rw (named, c.shown-stat.ensures) at c.in_ok-with_stat.ensures in
-    ap (λ (l : List ℕ). Some l) is ∙ sym (fits (children ++ numbers) (omega (arith, front.0, back, c.in-Some-with_bytes.ensures.1, length-append children numbers)))
+    let back = rw c.shown-stat.ensures at c.written_len.ensures in
+    let whole = length-append (children node) (numbers node) in
+    let named : c.in_ok-body.body ≡ children node = rw c.iter-2.ensures.texts at c.in_ok-body.ensures in
+    let is : c.in_ok-with_stat.field-0 ≡ children node ++ numbers node =
+    rw (named, c.shown-stat.ensures) at c.in_ok-with_stat.ensures in
+    ap (λ (l : List ℕ). Some l) is
+    ∙ sym (fits (children node ++ numbers node) (omega (arith, front.0, back, c.in-Some-with_bytes.ensures.1, whole)))

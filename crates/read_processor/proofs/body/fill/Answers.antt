@@ -9,4 +9,6 @@ pub returns : goal.returns
 unfolding number_bytes
 returns c =
     let size = to_z-of_z w32 c.args.size c.ranges.size in
-    filled 16 c.args.bytes.now c.fill_int.new.bytes c.fill_header.new.bytes (int.written c.args.size) (reply_header.written c.args.header.now) refl (omega (arith, c.requires)) (rw size at c.fill_int.ensures) c.fill_header.ensures
+    filled 16 c.args.bytes.now c.fill_int.new.bytes c.fill_header.new.bytes
+    (int.written c.args.size) (reply_header.written c.args.header.now) refl (omega (arith, c.requires))
+    (rw size at c.fill_int.ensures) c.fill_header.ensures

@@ -8,4 +8,6 @@ pub returns : goal.returns
 unfolding number_bytes reply_header
 returns c =
     let header = c.args.header.now in
-    filled 12 c.args.bytes.now c.fill_int.new.bytes c.fill_end.new.bytes (int.written header.xid) (long.written header.zxid ++ int.written header.err) refl (omega (arith, c.requires)) c.fill_int.ensures c.fill_end.ensures
+    filled 12 c.args.bytes.now c.fill_int.new.bytes c.fill_end.new.bytes
+    (int.written header.xid) (long.written header.zxid ++ int.written header.err) refl (omega (arith, c.requires))
+    c.fill_int.ensures c.fill_end.ensures

@@ -8,11 +8,16 @@ use Rattle.read_processor.proofs.counts.acls_len.Goals as goal
 
 pub returns-in_err-count : goal.returns-in_err-count
 returns-in_err-count c =
+    let entries = c.args.entries.now in
+    let entry = c.entry-item.result in
+    let whole = counted_length (length entries) (flat_map acl.written entries) in
+    let next = length_item acl.written entries c.loop-entry.entry-index entry c.loop-entry-test.true c.entry-item.is in
     passed _ _ c.from_residual.ensures
-    (omega (arith, counted_length (length c.args.entries.now) (flat_map acl.written c.args.entries.now), c.loop-entry.invariant.0, c.in_err-count.ensures, length_item acl.written c.args.entries.now c.loop-entry.entry-index c.entry-item.result c.loop-entry-test.true c.entry-item.is))
+    (omega (arith, whole, next, c.loop-entry.invariant.0, c.in_err-count.ensures))
 
 pub returns : goal.returns
 returns c =
-    let all = rw (take_all c.loop-entry.entry-index c.args.entries.now c.loop-entry-test.false) at c.loop-entry.invariant in
-    let whole = counted_length (length c.args.entries.now) (flat_map acl.written c.args.entries.now) in
+    let entries = c.args.entries.now in
+    let whole = counted_length (length entries) (flat_map acl.written entries) in
+    let all = rw (take_all c.loop-entry.entry-index entries c.loop-entry-test.false) at c.loop-entry.invariant in
     (omega (arith, whole, all.0), omega (arith, whole, all.0, all.1))

@@ -5,4 +5,5 @@ use Rattle.read_processor.specs.Limits.{body_limit}
 use Rattle.read_processor.proofs.counts.acls_len.Given as goal
 
 abbrev pub invariant-loop-entry : goal.invariant-loop-entry
-invariant-loop-entry l = (l.count ≡ 4 + length (flat_map acl.written (take l.entry-index l.entries))) × (l.count ≤ body_limit)
+invariant-loop-entry l =
+    (l.count ≡ 4 + length (flat_map acl.written (take l.entry-index l.entries))) × (l.count ≤ body_limit)

@@ -5,7 +5,10 @@ use Rattle.read_processor.proofs.Writing.{names_writable}
 use Rattle.read_processor.proofs.body.Body.of_names.Goals as goal
 
 pub put_names-requires : goal.put_names-requires
-put_names-requires c = names_writable (map string_bytes c.args.texts) (omega (arith, c.requires.within, c.requires.whole))
+put_names-requires c =
+    names_writable (map string_bytes c.args.texts) (omega (arith, c.requires.within, c.requires.whole))
 
 pub returns : goal.returns
-returns c = ap (drop 20) c.in_ok-put_names.ensures ∙ drop_at c.in_ok-bytes.bytes.items (names.written (map string_bytes c.args.texts)) 20 c.in_ok-bytes.ensures
+returns c =
+    let text = names.written (map string_bytes c.args.texts) in
+    ap (drop 20) c.in_ok-put_names.ensures ∙ drop_at c.in_ok-bytes.bytes.items text 20 c.in_ok-bytes.ensures

@@ -1,0 +1,7 @@
+-- Bytes with room in front.
+use Rattle.std.specs.Prelude.{ℕ, List, length, ◌+◌, ◌≤◌}
+use Rattle.read_processor.specs.Limits.{body_limit}
+
+-- room for a length and a header, and a body behind it that a frame holds
+abbrev pub HasRoom : List ℕ → Type 0
+HasRoom bytes = (20 ≤ length bytes) × (length bytes ≤ 20 + body_limit)
