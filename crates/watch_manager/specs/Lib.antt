@@ -1,0 +1,5 @@
+pub mod Pairs
+pub mod Watching
+pub mod Events
+pub mod Watches
+pub mod Inner
