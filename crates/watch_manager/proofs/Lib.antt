@@ -16,3 +16,5 @@ mod Found
 mod Tables
 -- What is left of a table without the watches on some paths
 mod Lefts
+-- Firing, evaluated on watches that are listed
+mod Evaluating

@@ -10,7 +10,7 @@ use Rattle.ephemerals.proofs.Ties.{tied_then}
 use Rattle.watch_manager.specs.Pairs.{Connections, Pairs, watch_cmp, same_path, same_connection, watchers, without_path, without_connection}
 use Rattle.watch_manager.proofs.Totals.{watch_exact}
 
-any-watcher : (path : Bytes) (c : ℕ) (ps : List (Bytes × ℕ))
+pub any-watcher : (path : Bytes) (c : ℕ) (ps : List (Bytes × ℕ))
     → list_any (eq_by_cmp nat_cmp c) (map (λ (p : Bytes × ℕ). p.1) (filter (λ (p : Bytes × ℕ). same_path path p.0) ps)) ≡ list_any (eq_by_cmp watch_cmp (path, c)) ps
 any-watcher path c [] = refl
 any-watcher path c (p ∷ ps) = by (same_path path p.0) ∙ (λ i. sym (tied_then (path_cmp path p.0) (nat_cmp c p.1)) i || any-watcher path c ps i)

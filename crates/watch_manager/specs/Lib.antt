@@ -2,4 +2,5 @@ pub mod Pairs
 pub mod Watching
 pub mod Events
 pub mod Watches
+pub mod Rows
 pub mod Inner

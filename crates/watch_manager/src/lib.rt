@@ -16,6 +16,7 @@ mod by_conn;
 mod by_path;
 mod conn_set;
 mod event;
+pub mod law;
 mod left;
 mod table;
 mod telling;
