@@ -19,14 +19,21 @@ module _ {X : Type 0} where
   pub get-seen : (m : BTreeMap ℕ X) (q : ℕ) → finmap.get (seen m.entries) q ≡ tree.get nat_cmp m q
   get-seen m q = finmap.get-from_entries nat_cmp_total m.entries q ∙ find-lookup m.entries q
 
-  get-updated : (k : ℕ) (m n : BTreeMap ℕ X) (w : Option X) → tree.UpdatesBy nat_cmp (nat_cmp k) m n w → (q : ℕ) → finmap.get (seen n.entries) q ≡ cond (eq_by_cmp nat_cmp q k) w (finmap.get (seen m.entries) q)
+  get-updated : (k : ℕ) (m n : BTreeMap ℕ X) (w : Option X) → tree.UpdatesBy nat_cmp (nat_cmp k) m n w → (q : ℕ)
+      → finmap.get (seen n.entries) q ≡ cond (eq_by_cmp nat_cmp q k) w (finmap.get (seen m.entries) q)
   get-updated k m n w u q =
       get-seen n q ∙ u.0 q
       ∙ ap (λ b. cond b w (tree.get nat_cmp m q)) ((eq_by_cmp_equiv nat_cmp_total).symm k q)
       ∙ ap (cond (eq_by_cmp nat_cmp q k) w) (sym (get-seen m q))
 
-  pub seen-insert : (k : ℕ) (m n : BTreeMap ℕ X) (v : X) → tree.UpdatesBy nat_cmp (nat_cmp k) m n (Some v) → seen n.entries ≡ finmap.insert (seen m.entries) k v
-  seen-insert k m n v u = finmap.same_map nat_cmp_total exact_unsigned _ _ (λ q. get-updated k m n (Some v) u q ∙ sym (finmap.get-insert nat_cmp_total (seen m.entries) k v q))
+  pub seen-insert : (k : ℕ) (m n : BTreeMap ℕ X) (v : X) → tree.UpdatesBy nat_cmp (nat_cmp k) m n (Some v)
+      → seen n.entries ≡ finmap.insert (seen m.entries) k v
+  seen-insert k m n v u =
+      finmap.same_map nat_cmp_total exact_unsigned _ _ (λ q. get-updated k m n (Some v) u q
+      ∙ sym (finmap.get-insert nat_cmp_total (seen m.entries) k v q))
 
-  pub seen-remove : (k : ℕ) (m n : BTreeMap ℕ X) → tree.UpdatesBy nat_cmp (nat_cmp k) m n None → seen n.entries ≡ finmap.remove (seen m.entries) k
-  seen-remove k m n u = finmap.same_map nat_cmp_total exact_unsigned _ _ (λ q. get-updated k m n None u q ∙ sym (finmap.get-remove nat_cmp_total (seen m.entries) k q))
+  pub seen-remove : (k : ℕ) (m n : BTreeMap ℕ X) → tree.UpdatesBy nat_cmp (nat_cmp k) m n None
+      → seen n.entries ≡ finmap.remove (seen m.entries) k
+  seen-remove k m n u =
+      finmap.same_map nat_cmp_total exact_unsigned _ _ (λ q. get-updated k m n None u q
+      ∙ sym (finmap.get-remove nat_cmp_total (seen m.entries) k q))

@@ -40,7 +40,8 @@ Rises (n ∷ ns) = AllByRecursion (λ m. nat_cmp n m ≡ Less) ns × Rises ns
 
 abbrev pub events_of : Listed → Listed → Trigger → List (ℕ × Event)
 events_of own child (Created path) = told NodeCreated path (at path own)
-events_of own child (Deleted path) = told NodeDeleted path (at path own) ++ told NodeDeleted path (others (at path own) (at path child))
+events_of own child (Deleted path) =
+    told NodeDeleted path (at path own) ++ told NodeDeleted path (others (at path own) (at path child))
 events_of own child (DataChanged path) = told NodeDataChanged path (at path own)
 events_of own child (ChildrenChanged path) = told NodeChildrenChanged path (at path child)
 
@@ -85,10 +86,13 @@ watchers-listed path ps = set.same_set nat_cmp_total exact_unsigned _ _ (λ c.
     ∙ sym (any-watcher path c ps)
     ∙ sym (set.contains-from_list nat_cmp_total (at path ps) c))
 
-in_number-at : (path : Bytes) (ps : Listed) → Rises (at path ps) → in_number (watchers path (set.from_list ps)) ≡ at path ps
-in_number-at path ps h = ap (λ s. in_number s) (watchers-listed path ps) ∙ items-sorted (at path ps) (sorted (at path ps) h)
+in_number-at : (path : Bytes) (ps : Listed) → Rises (at path ps)
+    → in_number (watchers path (set.from_list ps)) ≡ at path ps
+in_number-at path ps h =
+    ap (λ s. in_number s) (watchers-listed path ps) ∙ items-sorted (at path ps) (sorted (at path ps) h)
 
-any-others : (path : Bytes) (q : Bytes × ℕ) (ps : Listed) → list_any (eq_by_cmp watch_cmp q) (but path ps) ≡ (list_any (eq_by_cmp watch_cmp q) ps && not (same_path path q.0))
+any-others : (path : Bytes) (q : Bytes × ℕ) (ps : Listed)
+    → list_any (eq_by_cmp watch_cmp q) (but path ps) ≡ (list_any (eq_by_cmp watch_cmp q) ps && not (same_path path q.0))
 any-others path q [] = refl
 any-others path q (p ∷ ps) = by (any-others path q ps) (not (same_path path p.0)) refl (eq_by_cmp watch_cmp q p) refl
   where
@@ -104,12 +108,16 @@ any-others path q (p ∷ ps) = by (any-others path q ps) (not (same_path path p.
     same : eq_by_cmp watch_cmp q p ≡ true → not (same_path path q.0) ≡ not (same_path path p.0)
     same t = ap (λ (r : Bytes × ℕ). not (same_path path r.0)) (tells_apart watch_exact q p t)
 
-    by : list_any (eq_by_cmp watch_cmp q) (but path ps) ≡ (list_any (eq_by_cmp watch_cmp q) ps && not (same_path path q.0)) → (k : Bool) → not (same_path path p.0) ≡ k → (x : Bool) → eq_by_cmp watch_cmp q p ≡ x
-        → list_any (eq_by_cmp watch_cmp q) (cond k (p ∷ but path ps) (but path ps)) ≡ ((x || list_any (eq_by_cmp watch_cmp q) ps) && not (same_path path q.0))
+    by : list_any (eq_by_cmp watch_cmp q) (but path ps)
+        ≡ (list_any (eq_by_cmp watch_cmp q) ps && not (same_path path q.0)) → (k : Bool) → not (same_path path p.0) ≡ k
+        → (x : Bool) → eq_by_cmp watch_cmp q p ≡ x
+        → list_any (eq_by_cmp watch_cmp q) (cond k (p ∷ but path ps) (but path ps))
+        ≡ ((x || list_any (eq_by_cmp watch_cmp q) ps) && not (same_path path q.0))
     by rest true e x is =
         (λ i. is i || rest i)
         ∙ and_or x (list_any (eq_by_cmp watch_cmp q) ps) (not (same_path path q.0)) (λ t. same (is ∙ t) ∙ e)
-    by rest false e x is = rest ∙ or_and x (list_any (eq_by_cmp watch_cmp q) ps) (not (same_path path q.0)) (λ t. same (is ∙ t) ∙ e)
+    by rest false e x is =
+        rest ∙ or_and x (list_any (eq_by_cmp watch_cmp q) ps) (not (same_path path q.0)) (λ t. same (is ∙ t) ∙ e)
 
 without-listed : (path : Bytes) (ps : Listed) → without_path path (set.from_list ps) ≡ set.from_list (but path ps)
 without-listed path ps = set.same_set watch_total watch_exact _ _ (λ q.
@@ -119,25 +127,32 @@ without-listed path ps = set.same_set watch_total watch_exact _ _ (λ q.
     ∙ sym (set.contains-from_list watch_total (but path ps) q))
 
 each_but-at : (path : Bytes) (own child : Listed) → Rises (at path child)
-    → each_but (watchers path (set.from_list own)) (watchers path (set.from_list child)) ≡ others (at path own) (at path child)
+    → each_but (watchers path (set.from_list own)) (watchers path (set.from_list child))
+    ≡ others (at path own) (at path child)
 each_but-at path own child h = λ i. filter (λ (c : ℕ). not (has c i)) (in_number-at path child h i)
   where
     has : (c : ℕ) → set.contains (watchers path (set.from_list own)) c ≡ list_any (eq_by_cmp nat_cmp c) (at path own)
     has c = ap (λ s. set.contains s c) (watchers-listed path own) ∙ set.contains-from_list nat_cmp_total (at path own) c
 
-tells-listed : (own child : Listed) (t : Trigger) → InOrder own child t → tells (watches_on own child) t ≡ events_of own child t
+tells-listed : (own child : Listed) (t : Trigger) → InOrder own child t
+    → tells (watches_on own child) t ≡ events_of own child t
 tells-listed own child (Created path) h = ap (told NodeCreated path) (in_number-at path own h)
-tells-listed own child (Deleted path) h = λ i. told NodeDeleted path (in_number-at path own h.0 i) ++ told NodeDeleted path (each_but-at path own child h.1 i)
+tells-listed own child (Deleted path) h =
+    λ i. told NodeDeleted path (in_number-at path own h.0 i) ++ told NodeDeleted path (each_but-at path own child h.1 i)
 tells-listed own child (DataChanged path) h = ap (told NodeDataChanged path) (in_number-at path own h)
 tells-listed own child (ChildrenChanged path) h = ap (told NodeChildrenChanged path) (in_number-at path child h)
 
-after-listed : (own child : Listed) (t : Trigger) → after (watches_on own child) t ≡ watches_on (own_after own t) (child_after child t)
+after-listed : (own child : Listed) (t : Trigger)
+    → after (watches_on own child) t ≡ watches_on (own_after own t) (child_after child t)
 after-listed own child (Created path) = λ i. record { own = without-listed path own i; child = set.from_list child }
-after-listed own child (Deleted path) = λ i. record { own = without-listed path own i; child = without-listed path child i }
+after-listed own child (Deleted path) =
+    λ i. record { own = without-listed path own i; child = without-listed path child i }
 after-listed own child (DataChanged path) = λ i. record { own = without-listed path own i; child = set.from_list child }
-after-listed own child (ChildrenChanged path) = λ i. record { own = set.from_list own; child = without-listed path child i }
+after-listed own child (ChildrenChanged path) =
+    λ i. record { own = set.from_list own; child = without-listed path child i }
 
-pub evaluated : (own child : Listed) (ts : List Trigger) → AllInOrder own child ts → fire (watches_on own child) ts ≡ fire_listed own child ts
+pub evaluated : (own child : Listed) (ts : List Trigger) → AllInOrder own child ts
+    → fire (watches_on own child) ts ≡ fire_listed own child ts
 evaluated own child [] h = refl
 evaluated own child (t ∷ ts) h =
     let rest : fire (after (watches_on own child) t) ts ≡ fire_listed (own_after own t) (child_after child t) ts =

@@ -1,5 +1,5 @@
--- The orders of pairs are total
-mod Totals
+-- The order of watches is total, and ties only what is equal. Public
+pub mod Totals
 -- Pairs that are kept as a set for each key
 mod Grouped
 -- A map from numbers as a finite map
@@ -8,8 +8,8 @@ mod ConnMaps
 mod PathMaps
 -- A set of connections as a finite set of numbers
 mod ConnSets
--- Who watches a path
-mod Watchers
+-- Who watches a path, and what is left without a path or a connection. Public
+pub mod Watchers
 -- Who watches a path, as the map by path says
 mod Found
 -- A table by path and by connection

@@ -26,17 +26,24 @@ module _ {X Z : Type 0} where
   pub get-seen : (es : List (String Z × X)) (q : Bytes) → finmap.get (seen es) q ≡ lookup (query q) es
   get-seen es q = finmap.get-from_entries path_total (by_bytes es) q ∙ find-by_bytes es q
 
-  get-updated : (bs : Bytes) (m n : BTreeMap (String Z) X) (w : Option X) → tree.UpdatesBy string_cmp (λ (k : String Z). slice_cmp nat_cmp bs (string_bytes k)) m n w
+  get-updated : (bs : Bytes) (m n : BTreeMap (String Z) X) (w : Option X)
+      → tree.UpdatesBy string_cmp (λ (k : String Z). slice_cmp nat_cmp bs (string_bytes k)) m n w
       → (q : Bytes) → finmap.get (seen n.entries) q ≡ cond (eq_by_cmp path_cmp q bs) w (finmap.get (seen m.entries) q)
   get-updated bs m n w u q =
       get-seen n.entries q ∙ btree_map_updates_text bs m n w u q
       ∙ ap (λ b. cond b w (lookup (query q) m.entries)) (same_test q bs)
       ∙ ap (cond (eq_by_cmp path_cmp q bs) w) (sym (get-seen m.entries q))
 
-  pub seen-insert : (bs : Bytes) (m n : BTreeMap (String Z) X) (v : X) → tree.UpdatesBy string_cmp (λ (k : String Z). slice_cmp nat_cmp bs (string_bytes k)) m n (Some v)
+  pub seen-insert : (bs : Bytes) (m n : BTreeMap (String Z) X) (v : X)
+      → tree.UpdatesBy string_cmp (λ (k : String Z). slice_cmp nat_cmp bs (string_bytes k)) m n (Some v)
       → seen n.entries ≡ finmap.insert (seen m.entries) bs v
-  seen-insert bs m n v u = finmap.same_map path_total exact_bytes _ _ (λ q. get-updated bs m n (Some v) u q ∙ sym (finmap.get-insert path_total (seen m.entries) bs v q))
+  seen-insert bs m n v u =
+      finmap.same_map path_total exact_bytes _ _ (λ q. get-updated bs m n (Some v) u q
+      ∙ sym (finmap.get-insert path_total (seen m.entries) bs v q))
 
-  pub seen-remove : (bs : Bytes) (m n : BTreeMap (String Z) X) → tree.UpdatesBy string_cmp (λ (k : String Z). slice_cmp nat_cmp bs (string_bytes k)) m n None
+  pub seen-remove : (bs : Bytes) (m n : BTreeMap (String Z) X)
+      → tree.UpdatesBy string_cmp (λ (k : String Z). slice_cmp nat_cmp bs (string_bytes k)) m n None
       → seen n.entries ≡ finmap.remove (seen m.entries) bs
-  seen-remove bs m n u = finmap.same_map path_total exact_bytes _ _ (λ q. get-updated bs m n None u q ∙ sym (finmap.get-remove path_total (seen m.entries) bs q))
+  seen-remove bs m n u =
+      finmap.same_map path_total exact_bytes _ _ (λ q. get-updated bs m n None u q
+      ∙ sym (finmap.get-remove path_total (seen m.entries) bs q))

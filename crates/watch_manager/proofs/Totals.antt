@@ -9,7 +9,8 @@ use Rattle.watch_manager.specs.Pairs.{watch_cmp}
 use Rattle.watch_manager.specs.Inner.Grouped.{pair_cmp}
 
 pub watch_total : IsTotalOrder watch_cmp
-watch_total = then_total (on_total (λ (p : Bytes × ℕ). p.0) path_total) (on_total (λ (p : Bytes × ℕ). p.1) nat_cmp_total)
+watch_total =
+    then_total (on_total (λ (p : Bytes × ℕ). p.0) path_total) (on_total (λ (p : Bytes × ℕ). p.1) nat_cmp_total)
 
 pub watch_exact : CmpEqualImpliesEq watch_cmp
 watch_exact = exact_pairs path_cmp nat_cmp exact_bytes exact_unsigned

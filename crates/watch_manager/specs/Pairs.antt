@@ -30,7 +30,8 @@ same_connection a b = eq_by_cmp nat_cmp a b
 
 -- the connections that watch the path
 abbrev pub watchers : Bytes → Pairs → Connections
-watchers path pairs = set.from_list (map (λ (p : Bytes × ℕ). p.1) (filter (λ (p : Bytes × ℕ). same_path path p.0) (set.items pairs)))
+watchers path pairs =
+    set.from_list (map (λ (p : Bytes × ℕ). p.1) (filter (λ (p : Bytes × ℕ). same_path path p.0) (set.items pairs)))
 
 -- all watches but those on the path
 abbrev pub without_path : Bytes → Pairs → Pairs

@@ -22,7 +22,9 @@ each_but already conns = filter (λ (conn : ℕ). not (set.contains already conn
 -- what a change tells those who watch
 abbrev pub tells : Watching → Trigger → List (ℕ × Event)
 tells w (Created path) = told NodeCreated path (in_number (watchers path w.own))
-tells w (Deleted path) = told NodeDeleted path (in_number (watchers path w.own)) ++ told NodeDeleted path (each_but (watchers path w.own) (watchers path w.child))
+tells w (Deleted path) =
+    told NodeDeleted path (in_number (watchers path w.own))
+    ++ told NodeDeleted path (each_but (watchers path w.own) (watchers path w.child))
 tells w (DataChanged path) = told NodeDataChanged path (in_number (watchers path w.own))
 tells w (ChildrenChanged path) = told NodeChildrenChanged path (in_number (watchers path w.child))
 

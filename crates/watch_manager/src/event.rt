@@ -6,7 +6,7 @@ ghost use Rattle.watch_manager.specs.Events.{event_number};
 use values::Text;
 
 /// What happened at a watched path.
-#[derive(Clone, Copy, Debug)]
+#[derive(Clone, Copy)]
 pub enum EventKind {
     /// The node was made.
     NodeCreated,
@@ -33,7 +33,7 @@ impl EventKind {
 }
 
 /// What happened, and at which path.
-#[derive(Debug, Drop)]
+#[derive(Drop)]
 pub struct Event {
     pub kind: EventKind,
     pub path: Text,

@@ -11,8 +11,8 @@ use std::alloc::Global;
 use std::marker::Model;
 use values::NoMemory;
 
-/// The watches of a table that earlier changes have not used up. The table itself stays as it is, so that memory may still be
-/// refused.
+/// The watches of a table that earlier changes have not used up. The table itself stays as it is, so that memory may
+/// still be refused.
 #[derive(Drop)]
 pub struct Left<'a> {
     table: &'a Table,

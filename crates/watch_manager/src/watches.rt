@@ -14,8 +14,8 @@ use std::alloc::Global;
 use std::marker::Model;
 use values::NoMemory;
 
-/// Which connection watches which path: data watches and child watches. A watch is set at most once, and goes when it fires or
-/// when its connection goes.
+/// Which connection watches which path: data watches and child watches. A watch is set at most once, and goes when it
+/// fires or when its connection goes.
 #[derive(Drop)]
 pub struct Watches {
     // The data watches.
@@ -108,8 +108,8 @@ impl Watches {
         }
     }
 
-    /// What changes of the tree tell, one after the other, and to whom. Those watches are used up. All events are made before the
-    /// first watch goes: refused, this changes nothing.
+    /// What changes of the tree tell, one after the other, and to whom: each event with its connection. Those watches
+    /// are used up. All events are made before the first watch goes: refused, this changes nothing.
     pub fn fire(
         &mut self,
         alloc: Global,

@@ -16,7 +16,8 @@ abbrev pub all_pairs : {K V : Type 0} {S : V → V → Ordering} → List (K × 
 all_pairs [] = []
 all_pairs {K} {V} {S} (e ∷ es) = map (λ (v : V). (e.0, v)) (set.items e.1) ++ all_pairs es
 
-abbrev pub pairs_of : {K V : Type 0} {R : K → K → Ordering} {S : V → V → Ordering} → finmap.FinMap R (set.FinSet S) → set.FinSet (pair_cmp R S)
+abbrev pub pairs_of : {K V : Type 0} {R : K → K → Ordering} {S : V → V → Ordering} → finmap.FinMap R (set.FinSet S)
+    → set.FinSet (pair_cmp R S)
 pairs_of m = set.from_list (all_pairs (finmap.entries m))
 
 -- pairs of a connection and a path
@@ -35,7 +36,8 @@ path_pairs es = pairs_of (finmap.from_entries {R = path_cmp} (by_bytes es))
 
 -- the same watches, by path and by connection
 abbrev pub AgreeOn : Pairs → ConnPairs → Type 0
-AgreeOn by_path by_conn = (path : Bytes) (conn : ℕ) → set.contains by_path (path, conn) ≡ set.contains by_conn (conn, path)
+AgreeOn by_path by_conn =
+    (path : Bytes) (conn : ℕ) → set.contains by_path (path, conn) ≡ set.contains by_conn (conn, path)
 
 -- without the path at each of the connections
 abbrev pub without_conns : Bytes → List ℕ → ConnPairs → ConnPairs

@@ -7,4 +7,5 @@ abbrev pub invariant-loop-conn : goal.invariant-loop-conn
 invariant-loop-conn l =
     (goal.iterator-loop-conn).can_next l.conn-iterator
     × (goal.iterator-loop-conn).is_finite l.conn-iterator
-    × (l.events.items ++ told l.kind l.path l.conn-iterator ≡ l.fn.events.items ++ told l.kind l.path (in_number l.conns))
+    × (l.events.items ++ told l.kind l.path l.conn-iterator ≡ l.fn.events.items
+    ++ told l.kind l.path (in_number l.conns))

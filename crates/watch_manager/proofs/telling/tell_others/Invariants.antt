@@ -8,4 +8,5 @@ abbrev pub invariant-loop-conn : goal.invariant-loop-conn
 invariant-loop-conn l =
     (goal.iterator-loop-conn).can_next l.conn-iterator
     × (goal.iterator-loop-conn).is_finite l.conn-iterator
-    × (l.events.items ++ told l.kind l.path (filter (λ (c : ℕ). not (set.contains l.already c)) l.conn-iterator) ≡ l.fn.events.items ++ told l.kind l.path (each_but l.already l.conns))
+    × (l.events.items ++ told l.kind l.path (filter (λ (c : ℕ). not (set.contains l.already c)) l.conn-iterator)
+    ≡ l.fn.events.items ++ told l.kind l.path (each_but l.already l.conns))

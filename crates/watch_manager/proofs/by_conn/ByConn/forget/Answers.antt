@@ -9,7 +9,8 @@ use Rattle.watch_manager.proofs.by_conn.ByConn.forget.Goals as goal
 
 pub returns : goal.returns
 returns c =
-    forget nat_cmp_total path_total exact_unsigned exact_bytes (seen c.self.inside.map.entries) (seen c.remove.new.self.entries) c.args.conn
+    forget nat_cmp_total path_total exact_unsigned exact_bytes (seen c.self.inside.map.entries)
+    (seen c.remove.new.self.entries) c.args.conn
     (seen-remove c.args.conn c.self.inside.map c.remove.new.self c.remove.ensures.updates)
     (λ p. ap (λ s. set.contains s (c.args.conn, p)) c.self.view_is ∙ c.requires p)
     ∙ c.self.view_is

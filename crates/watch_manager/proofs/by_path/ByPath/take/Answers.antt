@@ -10,13 +10,17 @@ use Rattle.watch_manager.proofs.by_path.ByPath.take.Goals as goal
 
 pub returns-clause-conns : goal.returns-clause-conns
 returns-clause-conns c =
-    if_some c.self.inside.map.entries c.args.path.now c.args.self.now c.self.view_is c.remove.result (get-seen c.self.inside.map.entries c.args.path.now ∙ sym c.remove.ensures.value)
+    if_some c.self.inside.map.entries c.args.path.now c.args.self.now c.self.view_is c.remove.result
+    (get-seen c.self.inside.map.entries c.args.path.now ∙ sym c.remove.ensures.value)
 
 pub returns-clause-none : goal.returns-clause-none
 returns-clause-none c =
-    if_none c.self.inside.map.entries c.args.path.now c.args.self.now c.self.view_is c.remove.result (get-seen c.self.inside.map.entries c.args.path.now ∙ sym c.remove.ensures.value)
+    if_none c.self.inside.map.entries c.args.path.now c.args.self.now c.self.view_is c.remove.result
+    (get-seen c.self.inside.map.entries c.args.path.now ∙ sym c.remove.ensures.value)
 
 pub returns-clause-rest : goal.returns-clause-rest
 returns-clause-rest c =
-    taken path_total nat_cmp_total exact_bytes exact_unsigned (seen c.self.inside.map.entries) (seen c.remove.new.self.entries) c.args.path.now (seen-remove c.args.path.now c.self.inside.map c.remove.new.self c.remove.ensures.updates)
+    taken path_total nat_cmp_total exact_bytes exact_unsigned (seen c.self.inside.map.entries)
+    (seen c.remove.new.self.entries) c.args.path.now (seen-remove c.args.path.now c.self.inside.map
+    c.remove.new.self c.remove.ensures.updates)
     ∙ ap (λ s. without_path c.args.path.now s) c.self.view_is

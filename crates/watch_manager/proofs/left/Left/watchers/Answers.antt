@@ -13,11 +13,13 @@ pub returns-in-None : goal.returns-in-None
 returns-in-None c =
     c.self.invariant
     ∙ sym c.in-None.ensures.none
-    ∙ other_path c.self.inside.used c.self.inside.table.now c.args.path.now (sym c.contains.ensures ∙ c.if-contains.false)
+    ∙ other_path c.self.inside.used c.self.inside.table.now c.args.path.now
+    (sym c.contains.ensures ∙ c.if-contains.false)
     ∙ ap (λ s. watchers c.args.path.now s) c.self.view_is
 
 pub returns : goal.returns
 returns c =
     c.in-Some.ensures.some
-    ∙ other_path c.self.inside.used c.self.inside.table.now c.args.path.now (sym c.contains.ensures ∙ c.if-contains.false)
+    ∙ other_path c.self.inside.used c.self.inside.table.now c.args.path.now
+    (sym c.contains.ensures ∙ c.if-contains.false)
     ∙ ap (λ s. watchers c.args.path.now s) c.self.view_is
