@@ -18,11 +18,11 @@ and_or : (a b c : Bool) → ((a && b) || (a && c)) ≡ (a && (b || c))
 and_or true b c = refl
 and_or false b c = refl
 
-front_holds : (a b : Bool) → T (a && b) → T a
+pub front_holds : (a b : Bool) → T (a && b) → T a
 front_holds true b h = tt
 front_holds false b h = h
 
-rest_holds : (a b : Bool) → T (a && b) → T b
+pub rest_holds : (a b : Bool) → T (a && b) → T b
 rest_holds true b h = h
 rest_holds false b h = absurd h
 

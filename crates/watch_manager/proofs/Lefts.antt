@@ -1,5 +1,6 @@
 -- What is left of a table without the watches on some paths.
 use Rattle.std.proofs.Common.{◌≡◌, ℕ, Bool, true, false, not, ◌||◌, ◌&&◌, refl, sym, ap, ◌∙◌}
+use mathlib.Core.Bool.{and-true, and-false}
 use Rattle.std.specs.Ordering.{nat_cmp}
 use Rattle.std.specs.Cmp.{nat_cmp_total, eq_by_cmp_equiv}
 use Rattle.std.proofs.lemmas.Map.Lookups.{exact_unsigned}
@@ -17,19 +18,11 @@ contains-but_on used pairs q =
     set.contains-retain pairs (λ (p : Bytes × ℕ). not (set.contains used p.0)) q
     (λ x tie. ap (λ (p : Bytes × ℕ). not (set.contains used p.0)) (sym (watch_exact q x tie)))
 
-and_true : (b : Bool) → (b && true) ≡ b
-and_true true = refl
-and_true false = refl
-
-and_false : (b : Bool) → (b && false) ≡ false
-and_false true = refl
-and_false false = refl
-
 pub but_on-none : (used : Names) (pairs : Pairs) → used ≡ set.empty → but_on used pairs ≡ pairs
 but_on-none used pairs none = set.same_set watch_total watch_exact _ _ (λ q.
     contains-but_on used pairs q
     ∙ ap (λ b. set.contains pairs q && not b) (ap (λ s. set.contains s q.0) none ∙ set.contains-empty path_cmp q.0)
-    ∙ and_true (set.contains pairs q))
+    ∙ and-true (set.contains pairs q))
 
 contains-watchers_left : (used : Names) (pairs : Pairs) (path : Bytes) (c : ℕ)
     → set.contains (watchers path (but_on used pairs)) c
@@ -45,14 +38,14 @@ pub used_path : (used : Names) (pairs : Pairs) (path : Bytes) → set.contains u
 used_path used pairs path here = set.same_set nat_cmp_total exact_unsigned _ _ (λ c.
     set.contains-empty nat_cmp c
     ∙ sym (contains-watchers_left used pairs path c ∙ ap (λ b. set.contains (watchers path pairs) c && not b) here
-    ∙ and_false (set.contains (watchers path pairs) c)))
+    ∙ and-false (set.contains (watchers path pairs) c)))
 
 -- the others are watched as before
 pub other_path : (used : Names) (pairs : Pairs) (path : Bytes) → set.contains used path ≡ false
     → watchers path pairs ≡ watchers path (but_on used pairs)
 other_path used pairs path none = set.same_set nat_cmp_total exact_unsigned _ _ (λ c.
     sym (contains-watchers_left used pairs path c ∙ ap (λ b. set.contains (watchers path pairs) c && not b) none
-    ∙ and_true (set.contains (watchers path pairs) c)))
+    ∙ and-true (set.contains (watchers path pairs) c)))
 
 -- one more path
 pub but_on-insert : (used : Names) (pairs : Pairs) (path : Bytes)

@@ -18,3 +18,5 @@ mod Tables
 mod Lefts
 -- Firing, evaluated on watches that are listed
 mod Evaluating
+-- Who is told, and how often
+mod Told

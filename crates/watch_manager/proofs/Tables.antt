@@ -1,5 +1,6 @@
 -- A table by path and by connection.
 use Rattle.std.proofs.Common.{◌≡◌, ℕ, List, [], ◌∷◌, Bool, true, false, not, ◌||◌, ◌&&◌, refl, sym, ap, ◌∙◌}
+use mathlib.Core.Bool.{and-true, and-false}
 use Rattle.std.specs.List.{list_any}
 use Rattle.std.specs.Ordering.{eq_by_cmp, nat_cmp}
 use Rattle.std.specs.Cmp.{nat_cmp_total, eq_by_cmp_equiv}
@@ -89,15 +90,11 @@ contains-without_paths c (p ∷ ps) pairs q d =
 
 -- What is taken out at one key only where it is there.
 there : (t b c : Bool) → (t ≡ true → b ≡ c) → (b && not (t && c)) ≡ (b && not t)
-there true b c same = ap (λ x. x && not c) (same refl) ∙ by c ∙ sym (none b)
+there true b c same = ap (λ x. x && not c) (same refl) ∙ by c ∙ sym (and-false b)
   where
     by : (x : Bool) → (x && not x) ≡ false
     by true = refl
     by false = refl
-
-    none : (x : Bool) → (x && false) ≡ false
-    none true = refl
-    none false = refl
 there false b c same = refl
 
 -- the path is taken out at each connection that watches it
@@ -131,11 +128,7 @@ unwatched p pairs none =
         ap (λ x. set.contains pairs (x, d)) (sym (tells_apart exact_bytes p q e)) ∙ sym (contains-watchers p pairs d)
         ∙ ap (λ s. set.contains s d) none ∙ set.contains-empty nat_cmp d in
         out ∙ ap (λ b. b && false) (sym out)
-    by q d false e = and_true (set.contains pairs (q, d))
-      where
-        and_true : (b : Bool) → b ≡ (b && true)
-        and_true true = refl
-        and_true false = refl
+    by q d false e = sym (and-true (set.contains pairs (q, d)))
 
 -- the connection is taken out at each path that it watches
 pub are_dropped : (pairs : Pairs) (turn : ConnPairs) (c : ℕ) (paths : Names) → AgreeOn pairs turn
@@ -177,8 +170,4 @@ watches_nothing pairs turn c agree none =
         let out : set.contains pairs (q, d) ≡ false =
         ap (λ x. set.contains pairs (q, x)) (sym (tells_apart exact_unsigned c d e)) ∙ agree q c ∙ none q in
         out ∙ ap (λ b. b && false) (sym out)
-    by q d false e = and_true (set.contains pairs (q, d))
-      where
-        and_true : (b : Bool) → b ≡ (b && true)
-        and_true true = refl
-        and_true false = refl
+    by q d false e = sym (and-true (set.contains pairs (q, d)))
