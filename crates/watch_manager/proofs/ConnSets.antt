@@ -66,7 +66,7 @@ put_first n (m ∷ ms) h =
     ap (λ r. by_order r ((n, tt {0}) ∷ marked (m ∷ ms)) ((m, tt {0}) ∷ marked ms)
     ((m, tt {0}) ∷ finmap.put nat_cmp n (tt {0}) (marked ms))) h.0
 
-no_entries : {A : Type 0} (xs : List A) → length xs ≡ 0 → xs ≡ []
+pub no_entries : {A : Type 0} (xs : List A) → length xs ≡ 0 → xs ≡ []
 no_entries [] e = refl
 no_entries (x ∷ xs) e = absurd (omega arith)
 

@@ -18,5 +18,7 @@ mod Tables
 mod Lefts
 -- Firing, evaluated on watches that are listed
 mod Evaluating
+-- Where nobody is told, no watch is used up
+mod Silent
 -- Who is told, and how often
 mod Told

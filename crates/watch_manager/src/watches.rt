@@ -121,6 +121,10 @@ impl Watches {
         ensures err { OnErr result (self.new ≡ self.old) }
     {
         let events = self.tell_all(alloc, triggers)?;
+        // Where nobody is told, nobody watches.
+        if events.is_empty() {
+            return Ok(events);
+        }
         self.use_up_all(triggers);
         Ok(events)
     }
