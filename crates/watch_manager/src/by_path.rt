@@ -1,8 +1,7 @@
 //! For each path the connections that watch it.
 
-ghost use Rattle.std.specs.Prelude.{◌≡◌, ℕ, OnOk, OnErr, IfOk, IfSome, IfNone, IsTrue, not, true, false};
+ghost use Rattle.std.specs.Prelude.{◌≡◌, ℕ, OnOk, OnErr, IfOk, IfSome, IfNone, IsTrue, not, false};
 ghost use Rattle.std.specs.FinSet as set;
-ghost use Rattle.std.specs.Option.{option_copied};
 ghost use Rattle.watch_manager.specs.Pairs.{watchers, without_path};
 ghost use Rattle.watch_manager.specs.Inner.Grouped.{without_paths};
 ghost use Rattle.ephemerals.specs.Orders.{in_order};
