@@ -1,0 +1,38 @@
+-- Who watches a path, as the map by path says.
+use Rattle.std.proofs.Common.{◌≡◌, ℕ, List, ap, sym, ◌∙◌, Option, IfSome, IfNone, Some, None}
+use Rattle.std.specs.Cmp.{nat_cmp_total}
+use Rattle.std.proofs.lemmas.Map.Lookups.{exact_unsigned, exact_bytes}
+use Rattle.ephemerals.proofs.Totals.{path_total}
+use Rattle.std.specs.declared.string.String.{String}
+use Rattle.std.specs.FinMap as finmap
+use Rattle.std.specs.FinSet as set
+use Rattle.ephemerals.specs.Orders.{Bytes}
+use Rattle.watch_manager.specs.Pairs.{Connections, Pairs, watchers}
+use Rattle.watch_manager.specs.Inner.Grouped.{path_pairs}
+use Rattle.watch_manager.proofs.PathMaps.{seen}
+use Rattle.watch_manager.proofs.Grouped.{listed, contains-found}
+use Rattle.watch_manager.proofs.Watchers.{are_watchers, no_watcher}
+
+module _ {Z : Type 0} (es : List (String Z × Connections)) (path : Bytes) (pairs : Pairs) (is : path_pairs es ≡ pairs)
+  where
+    contains-at : (found : Option Connections) → finmap.get (seen es) path ≡ found → (c : ℕ)
+        → set.contains pairs (path, c) ≡ listed path_total nat_cmp_total exact_bytes exact_unsigned found c
+    contains-at found get c =
+        ap (λ s. set.contains s (path, c)) (sym is)
+        ∙ contains-found path_total nat_cmp_total exact_bytes exact_unsigned (seen es) path found get c
+
+    pub found-some : (conns : Connections) → finmap.get (seen es) path ≡ Some conns → conns ≡ watchers path pairs
+    found-some conns get = are_watchers path pairs conns (λ c. sym (contains-at (Some conns) get c))
+
+    pub found-none : finmap.get (seen es) path ≡ None → watchers path pairs ≡ set.empty
+    found-none get = no_watcher path pairs (contains-at None get)
+
+    pub if_some : (found : Option Connections) → finmap.get (seen es) path ≡ found
+        → IfSome found (λ conns. conns ≡ watchers path pairs)
+    if_some None get = tt
+    if_some (Some conns) get = found-some conns get
+
+    pub if_none : (found : Option Connections) → finmap.get (seen es) path ≡ found
+        → IfNone found (watchers path pairs ≡ set.empty)
+    if_none None get = found-none get
+    if_none (Some conns) get = tt

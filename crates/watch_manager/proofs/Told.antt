@@ -1,0 +1,225 @@
+-- Who is told, and how often.
+use Rattle.std.proofs.Common.{◌≡◌, ℕ, List, [], ◌∷◌, ◌++◌, Bool, true, false, cond, not, ◌||◌, ◌&&◌, T, refl, sym, ap, subst, ◌∙◌, map}
+use mathlib.Core.Bool.{true≢false}
+use Rattle.std.proofs.Math.Bool.{or-true}
+use Rattle.std.specs.declared.cmp.Ordering.{Ordering}
+use Rattle.std.specs.declared.cmp.Ordering.TheVariants.{Less, Equal, Greater}
+use Rattle.std.specs.List.{list_any, filter, AllByRecursion, IsDistinct}
+use Rattle.std.specs.List.Sorted.{IsStrictlySortedBy}
+use Rattle.std.specs.Ordering.{eq_by_cmp, is_eq, is_lt, nat_cmp}
+use Rattle.std.specs.Cmp.{nat_cmp_total, tied_itself}
+use Rattle.std.proofs.lemmas.Map.Views.{tells_apart}
+use Rattle.std.proofs.lemmas.Map.Lookups.{exact_unsigned}
+use Rattle.std.proofs.lemmas.Map.Keys.{IsDistinct-from_sorted}
+use Rattle.std.specs.FinMap as finmap
+use Rattle.std.specs.FinMap.Entries.{below_all, is_sorted}
+use Rattle.std.specs.FinSet as set
+use Rattle.ephemerals.specs.Orders.{Bytes}
+use Rattle.data_tree.specs.declared.outcome.Trigger.{Trigger}
+use Rattle.data_tree.specs.declared.outcome.Trigger.TheVariants.{Created, Deleted, DataChanged, ChildrenChanged}
+use Rattle.watch_manager.specs.Pairs.{Connections, Pairs, in_number, watchers, without_path, without_connection, same_connection}
+use Rattle.watch_manager.specs.Watching.{Watching, dropped}
+use Rattle.watch_manager.specs.Watches.{told, each_but, tells, after, fire}
+use Rattle.watch_manager.specs.Laws.{AllPass, WatchersPass}
+use Rattle.watch_manager.specs.declared.event.Event.{Event}
+use Rattle.watch_manager.specs.declared.event.EventKind.{EventKind}
+use Rattle.watch_manager.specs.declared.event.EventKind.TheVariants.{NodeDeleted}
+use Rattle.watch_manager.proofs.ConnSets.{any-ascending}
+use Rattle.watch_manager.proofs.Grouped.{front_holds, rest_holds}
+use Rattle.watch_manager.proofs.Watchers.{contains-watchers, contains-without_path, contains-without_connection}
+
+-- lists of which each element has a property
+all_append : {A : Type 0} (P : A → Type 0) (xs ys : List A) → AllByRecursion P xs → AllByRecursion P ys
+    → AllByRecursion P (xs ++ ys)
+all_append P [] ys h k = k
+all_append P (x ∷ xs) ys h k = (h.0, all_append P xs ys h.1 k)
+
+all_filter : {A : Type 0} (P : A → Type 0) (keep : A → Bool) (xs : List A) → AllByRecursion P xs
+    → AllByRecursion P (filter keep xs)
+all_filter P keep [] h = tt
+all_filter P keep (x ∷ xs) h =
+    let rest = all_filter P keep xs h.1 in
+    elim (keep x) as (λ b. AllByRecursion P (cond b (x ∷ filter keep xs) (filter keep xs)))
+    [ true ↦ (h.0, rest) | false ↦ rest ]
+
+all_kept : {A : Type 0} (keep : A → Bool) (xs : List A) → AllByRecursion (λ x. keep x ≡ true) (filter keep xs)
+all_kept keep [] = tt
+all_kept keep (x ∷ xs) =
+    let rest = all_kept keep xs in
+    elim (keep x) as (λ b. keep x ≡ b → AllByRecursion (λ y. keep y ≡ true)
+    (cond b (x ∷ filter keep xs) (filter keep xs))) [
+      | true ↦ λ e. (e, rest)
+      | false ↦ λ e. rest
+    ] refl
+
+all_mapped : {A : Type 0} (P Q : A → Type 0) (gives : (x : A) → P x → Q x) (xs : List A) → AllByRecursion P xs
+    → AllByRecursion Q xs
+all_mapped P Q gives [] h = tt
+all_mapped P Q gives (x ∷ xs) h = (gives x h.0, all_mapped P Q gives xs h.1)
+
+all_members : (test : ℕ → Bool) (ns : List ℕ) → ((q : ℕ) → list_any (eq_by_cmp nat_cmp q) ns ≡ true → test q ≡ true)
+    → AllByRecursion (λ q. test q ≡ true) ns
+all_members test [] h = tt
+all_members test (n ∷ ns) h = (
+  h n (ap (λ r. is_eq r || list_any (eq_by_cmp nat_cmp n) ns) (tied_itself nat_cmp_total n)),
+  all_members test ns (λ q t. h q (ap (λ b. eq_by_cmp nat_cmp q n || b) t ∙ or-true (eq_by_cmp nat_cmp q n))),
+)
+
+-- what all members of a set have, each of them has in the list
+in_number-all : (test : ℕ → Bool) (conns : Connections) → ((q : ℕ) → set.contains conns q ≡ true → test q ≡ true)
+    → AllByRecursion (λ q. test q ≡ true) (in_number conns)
+in_number-all test conns h =
+    all_members test (in_number conns) (λ q t. h q
+    (set.contains-items conns q ∙ sym (any-ascending nat_cmp_total (set.items conns) q) ∙ t))
+
+-- what a list of connections has, who is told has
+told-all : (test : ℕ → Bool) (kind : EventKind) (path : Bytes) (ns : List ℕ) → AllByRecursion (λ q. test q ≡ true) ns
+    → AllByRecursion (λ (e : ℕ × Event). test e.0 ≡ true) (told kind path ns)
+told-all test kind path [] h = tt
+told-all test kind path (n ∷ ns) h = (h.0, told-all test kind path ns h.1)
+
+watchers-all : (test : ℕ → Bool) (path : Bytes) (pairs : Pairs) → AllPass test pairs
+    → AllByRecursion (λ q. test q ≡ true) (in_number (watchers path pairs))
+watchers-all test path pairs h =
+    in_number-all test (watchers path pairs) (λ q t. h path q (sym (contains-watchers path pairs q) ∙ t))
+
+tells-all : (test : ℕ → Bool) (w : Watching) (t : Trigger) → WatchersPass test w
+    → AllByRecursion (λ (e : ℕ × Event). test e.0 ≡ true) (tells w t)
+tells-all test w (Created path) h = told-all test _ path _ (watchers-all test path w.own h.0)
+tells-all test w (Deleted path) h =
+    all_append (λ (e : ℕ × Event). test e.0 ≡ true) _ _ (told-all test _ path _ (watchers-all test path w.own h.0))
+    (told-all test _ path _ (all_filter (λ q. test q ≡ true) (λ (c : ℕ). not (set.contains (watchers path w.own) c))
+    (in_number (watchers path w.child)) (watchers-all test path w.child h.1)))
+tells-all test w (DataChanged path) h = told-all test _ path _ (watchers-all test path w.own h.0)
+tells-all test w (ChildrenChanged path) h = told-all test _ path _ (watchers-all test path w.child h.1)
+
+both_front : (a b : Bool) → (a && b) ≡ true → a ≡ true
+both_front true b e = refl
+both_front false b e = e
+
+without_path-all : (test : ℕ → Bool) (path : Bytes) (pairs : Pairs) → AllPass test pairs
+    → AllPass test (without_path path pairs)
+without_path-all test path pairs h p c t = h p c (both_front _ _ (sym (contains-without_path path pairs (p, c)) ∙ t))
+
+after-all : (test : ℕ → Bool) (w : Watching) (t : Trigger) → WatchersPass test w → WatchersPass test (after w t)
+after-all test w (Created path) h = (without_path-all test path w.own h.0, h.1)
+after-all test w (Deleted path) h = (without_path-all test path w.own h.0, without_path-all test path w.child h.1)
+after-all test w (DataChanged path) h = (without_path-all test path w.own h.0, h.1)
+after-all test w (ChildrenChanged path) h = (h.0, without_path-all test path w.child h.1)
+
+pub fire-all : (test : ℕ → Bool) (w : Watching) (ts : List Trigger) → WatchersPass test w
+    → AllByRecursion (λ (e : ℕ × Event). test e.0 ≡ true) (fire w ts).events × WatchersPass test (fire w ts).left
+fire-all test w [] h = (tt, h)
+fire-all test w (t ∷ ts) h =
+    let rest = fire-all test (after w t) ts (after-all test w t h) in
+    (all_append (λ (e : ℕ × Event). test e.0 ≡ true) _ _ (tells-all test w t h) rest.0, rest.1)
+
+without_connection-all : (test : ℕ → Bool) (conn : ℕ) (pairs : Pairs)
+    → AllPass (λ c. test c || same_connection conn c) pairs → AllPass test (without_connection conn pairs)
+without_connection-all test conn pairs h p c t =
+    by (set.contains pairs (p, c)) (same_connection conn c) (test c) (h p c)
+    (sym (contains-without_connection conn pairs (p, c)) ∙ t)
+  where
+    by : (here same passes : Bool) → (here ≡ true → (passes || same) ≡ true) → (here && not same) ≡ true → passes ≡ true
+    by true true passes h e = absurd (true≢false (sym e))
+    by true false true h e = refl
+    by true false false h e = h refl
+    by false same passes h e = absurd (true≢false (sym e))
+
+pub dropped-all : (test : ℕ → Bool) (w : Watching) (conn : ℕ) → WatchersPass (λ c. test c || same_connection conn c) w
+    → WatchersPass test (dropped conn w)
+dropped-all test w conn h = (without_connection-all test conn w.own h.0, without_connection-all test conn w.child h.1)
+
+-- a set's list has each connection once
+less : (r : Ordering) → T (is_lt r) → r ≡ Less
+less Less h = refl
+less Equal h = absurd h
+less Greater h = absurd h
+
+all_above : (n : ℕ) (es : List (ℕ × Unit {0})) → T (below_all nat_cmp n es)
+    → AllByRecursion (λ m. nat_cmp n m ≡ Less) (map (λ (e : ℕ × Unit {0}). e.0) es)
+all_above n [] h = tt
+all_above n (e ∷ es) h = (less _ (front_holds _ _ h), all_above n es (rest_holds _ _ h))
+
+sorted_keys : (es : List (ℕ × Unit {0})) → T (is_sorted nat_cmp es)
+    → IsStrictlySortedBy nat_cmp (map (λ (e : ℕ × Unit {0}). e.0) es)
+unfolding IsStrictlySortedBy
+sorted_keys [] h = tt
+sorted_keys (e ∷ es) h = (all_above e.0 es (front_holds _ _ h), sorted_keys es (rest_holds _ _ h))
+
+in_number-distinct : (conns : Connections) → IsDistinct same_connection (in_number conns)
+in_number-distinct conns =
+    let m = finmap.from_entries {R = nat_cmp} (map (λ (conn : ℕ). (conn, tt {0})) (set.items conns)) in
+    IsDistinct-from_sorted nat_cmp (in_number conns) (sorted_keys (finmap.entries m) (finmap.entries_sorted m))
+
+distinct_filter : (keep : ℕ → Bool) (ns : List ℕ) → IsDistinct same_connection ns
+    → IsDistinct same_connection (filter keep ns)
+unfolding IsDistinct
+distinct_filter keep [] h = tt
+distinct_filter keep (n ∷ ns) h =
+    let rest = distinct_filter keep ns h.1 in
+    elim (keep n) as (λ b. IsDistinct same_connection (cond b (n ∷ filter keep ns) (filter keep ns))) [
+      | true ↦ (all_filter (λ m. same_connection n m ≡ false) keep ns h.0, rest)
+      | false ↦ rest
+    ]
+
+distinct_append : (ns ms : List ℕ) → IsDistinct same_connection ns → IsDistinct same_connection ms
+    → AllByRecursion (λ n. AllByRecursion (λ m. same_connection n m ≡ false) ms) ns
+    → IsDistinct same_connection (ns ++ ms)
+unfolding IsDistinct
+distinct_append [] ms g h apart = h
+distinct_append (n ∷ ns) ms g h apart =
+    (all_append (λ m. same_connection n m ≡ false) ns ms g.0 apart.0, distinct_append ns ms g.1 h apart.1)
+
+told-connections : (kind : EventKind) (path : Bytes) (ns : List ℕ)
+    → map (λ (e : ℕ × Event). e.0) (told kind path ns) ≡ ns
+told-connections kind path [] = refl
+told-connections kind path (n ∷ ns) = ap (λ ms. n ∷ ms) (told-connections kind path ns)
+
+map-append : (xs ys : List (ℕ × Event)) → map (λ (e : ℕ × Event). e.0) (xs ++ ys) ≡ map (λ (e : ℕ × Event). e.0) xs
+    ++ map (λ (e : ℕ × Event). e.0) ys
+map-append [] ys = refl
+map-append (x ∷ xs) ys = ap (λ ns. x.0 ∷ ns) (map-append xs ys)
+
+-- who is passed over is none of those who were told
+apart_from : (already : Connections) (n : ℕ) (ms : List ℕ) → set.contains already n ≡ true
+    → AllByRecursion (λ m. not (set.contains already m) ≡ true) ms
+    → AllByRecursion (λ m. same_connection n m ≡ false) ms
+apart_from already n ms here =
+    all_mapped (λ m. not (set.contains already m) ≡ true) (λ m. same_connection n m ≡ false)
+    (λ m out. by m (same_connection n m) refl out) ms
+  where
+    by : (m : ℕ) (b : Bool) → same_connection n m ≡ b → not (set.contains already m) ≡ true
+        → same_connection n m ≡ false
+    by m true e out =
+        absurd (true≢false (sym out ∙ ap (λ x. not (set.contains already x)) (sym (tells_apart exact_unsigned n m e))
+        ∙ ap not here))
+    by m false e out = e
+
+parts-distinct : (already conns : Connections)
+    → IsDistinct same_connection (in_number already ++ each_but already conns)
+parts-distinct already conns =
+    distinct_append (in_number already) (each_but already conns) (in_number-distinct already)
+    (distinct_filter (λ (c : ℕ). not (set.contains already c)) (in_number conns) (in_number-distinct conns))
+    (all_mapped (λ n. set.contains already n ≡ true) (λ n. AllByRecursion (λ m. same_connection n m ≡ false)
+    (each_but already conns))
+    (λ n here. apart_from already n (each_but already conns) here
+    (all_kept (λ (c : ℕ). not (set.contains already c)) (in_number conns)))
+    (in_number already) (in_number-all (λ c. set.contains already c) already (λ q t. t)))
+
+part-distinct : (kind : EventKind) (path : Bytes) (conns : Connections)
+    → IsDistinct same_connection (map (λ (e : ℕ × Event). e.0) (told kind path (in_number conns)))
+part-distinct kind path conns =
+    subst (IsDistinct same_connection) (sym (told-connections kind path (in_number conns))) (in_number-distinct conns)
+
+pub told_once : (w : Watching) (t : Trigger) → IsDistinct same_connection (map (λ (e : ℕ × Event). e.0) (tells w t))
+told_once w (Created path) = part-distinct _ path (watchers path w.own)
+told_once w (Deleted path) =
+    subst (IsDistinct same_connection)
+    (sym (map-append (told NodeDeleted path (in_number (watchers path w.own)))
+    (told NodeDeleted path (each_but (watchers path w.own) (watchers path w.child)))
+    ∙ (λ i. told-connections NodeDeleted path (in_number (watchers path w.own)) i
+    ++ told-connections NodeDeleted path (each_but (watchers path w.own) (watchers path w.child)) i)))
+    (parts-distinct (watchers path w.own) (watchers path w.child))
+told_once w (DataChanged path) = part-distinct _ path (watchers path w.own)
+told_once w (ChildrenChanged path) = part-distinct _ path (watchers path w.child)

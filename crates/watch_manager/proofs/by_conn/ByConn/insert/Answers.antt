@@ -1,0 +1,55 @@
+use Rattle.std.proofs.Common.{◌≡◌, ℕ, ap, sym, ◌∙◌, subst, refl, Some, IsSome}
+use Rattle.std.specs.Cmp.{nat_cmp_total}
+use Rattle.std.proofs.lemmas.Map.Lookups.{exact_unsigned, exact_bytes}
+use Rattle.ephemerals.proofs.Totals.{path_total}
+use Rattle.std.specs.FinSet as set
+use Rattle.std.specs.BTreeMap as tree
+use Rattle.std.specs.BTreeMap.{BTreeMap, is_at}
+use Rattle.std.specs.Map.{set_value}
+use Rattle.std.specs.Ordering.{nat_cmp}
+use Rattle.std.proofs.lemmas.Map.Steps.{set_value_same}
+use Rattle.ephemerals.specs.Orders.{Names}
+use Rattle.ephemerals.proofs.Errors.{on_err}
+use Rattle.watch_manager.specs.Inner.Grouped.{conn_pairs}
+use Rattle.watch_manager.proofs.ConnMaps.{seen, get-seen, seen-insert}
+use Rattle.watch_manager.proofs.Grouped.{insert_through, insert_first}
+use Rattle.watch_manager.proofs.by_conn.ByConn.insert.Goals as goal
+
+-- the set of a connection that was written back as it was
+kept : (m n : BTreeMap ℕ Names) (k : ℕ) (old new : Names) → n.entries ≡ set_value (is_at (nat_cmp k)) m.entries new
+    → Some old ≡ tree.get nat_cmp m k → new ≡ old → conn_pairs n.entries ≡ conn_pairs m.entries
+kept m n k old new written found is =
+    ap (λ es. conn_pairs es) (written ∙ set_value_same _ m.entries new (sym found ∙ (λ i. Some (sym is i))))
+
+pub returns-in_err-insert-in-Some-clause-err : goal.returns-in_err-insert-in-Some-clause-err
+returns-in_err-insert-in-Some-clause-err c =
+    let holds = c.get_mut.follows.holds c.insert.new.self in
+    on_err c.from_residual-in_err-insert-in-Some.result
+    (kept c.self.inside.map (c.get_mut.follows.lender c.insert.new.self) c.args.conn c.in-Some.paths.now
+    c.insert.new.self holds.0 c.in-Some.ensures.value c.in_err-insert-in-Some.ensures.err
+    ∙ c.self.view_is)
+
+pub returns-in_ok-insert-in-Some-clause-ok : goal.returns-in_ok-insert-in-Some-clause-ok
+returns-in_ok-insert-in-Some-clause-ok c =
+    let n = c.get_mut.follows.lender c.insert.new.self in
+    insert_through nat_cmp_total path_total exact_unsigned exact_bytes (seen c.self.inside.map.entries) (seen n.entries)
+    c.args.conn c.args.path.now c.in-Some.paths.now c.insert.new.self
+    (seen-insert c.args.conn c.self.inside.map n c.insert.new.self
+    ((c.get_mut.follows.holds c.insert.new.self).3 (subst IsSome c.in-Some.ensures.value refl)))
+    (get-seen c.self.inside.map c.args.conn ∙ sym c.in-Some.ensures.value)
+    (c.in_ok-insert-in-Some.ensures.ok ∙ ap (λ p. set.insert c.in-Some.paths.now p) c.in_ok-path.ensures.ok)
+    ∙ ap (λ s. set.insert s (c.args.conn, c.args.path.now)) c.self.view_is
+
+pub returns-in_ok-insert-in-None-2-clause-ok : goal.returns-in_ok-insert-in-None-2-clause-ok
+returns-in_ok-insert-in-None-2-clause-ok c =
+    let m = c.get_mut.follows.lender-at-none in
+    let n = c.insert-in-None-2.new.self in
+    insert_first nat_cmp_total path_total exact_unsigned exact_bytes (seen m.entries) (seen n.entries) c.args.conn
+    c.args.path.now c.new-paths.result c.insert-in-None.new.self
+    (seen-insert c.args.conn m n c.insert-in-None.new.self c.in_ok-insert-in-None-2.ensures.updates)
+    (get-seen m c.args.conn ∙ ap (λ x. tree.get nat_cmp x c.args.conn) c.get_mut.follows.holds-at-none
+    ∙ sym c.in-None.ensures.value)
+    c.new-paths.ensures
+    (c.in_ok-insert-in-None.ensures.ok ∙ ap (λ p. set.insert c.new-paths.result p) c.in_ok-path.ensures.ok)
+    ∙ ap (λ x. set.insert (conn_pairs x.entries) (c.args.conn, c.args.path.now)) c.get_mut.follows.holds-at-none
+    ∙ ap (λ s. set.insert s (c.args.conn, c.args.path.now)) c.self.view_is

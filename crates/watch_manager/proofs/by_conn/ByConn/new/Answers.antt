@@ -1,0 +1,10 @@
+use Rattle.std.proofs.Common.{ap, ◌∙◌}
+use Rattle.std.specs.Cmp.{nat_cmp_total}
+use Rattle.std.proofs.lemmas.Map.Lookups.{exact_unsigned, exact_bytes}
+use Rattle.ephemerals.proofs.Totals.{path_total}
+use Rattle.watch_manager.specs.Inner.Grouped.{conn_pairs}
+use Rattle.watch_manager.proofs.Grouped.{no_pairs}
+use Rattle.watch_manager.proofs.by_conn.ByConn.new.Goals as goal
+
+pub returns : goal.returns
+returns c = ap (λ es. conn_pairs es) c.new.ensures.empty ∙ no_pairs nat_cmp_total path_total exact_unsigned exact_bytes

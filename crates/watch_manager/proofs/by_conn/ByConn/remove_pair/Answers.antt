@@ -1,0 +1,36 @@
+use Rattle.std.proofs.Common.{ap, sym, ◌∙◌, subst, refl, IsSome}
+use Rattle.std.specs.Cmp.{nat_cmp_total}
+use Rattle.std.proofs.lemmas.Map.Lookups.{exact_unsigned, exact_bytes}
+use Rattle.ephemerals.proofs.Totals.{path_total}
+use Rattle.std.specs.FinSet as set
+use Rattle.watch_manager.specs.Inner.Grouped.{conn_pairs}
+use Rattle.watch_manager.proofs.ConnMaps.{seen, get-seen, seen-insert}
+use Rattle.watch_manager.proofs.Grouped.{remove_through, remove_none, emptied}
+use Rattle.watch_manager.proofs.by_conn.ByConn.remove_pair.Goals as goal
+
+pub returns-clause-removed : goal.returns-clause-removed
+returns-clause-removed c =
+    let n = c.get_mut.follows.lender c.remove.new.self in
+    remove_through nat_cmp_total path_total exact_unsigned exact_bytes (seen c.self.inside.map.entries) (seen n.entries)
+    c.args.conn c.args.path.now c.in-Some.paths.now c.remove.new.self
+    (seen-insert c.args.conn c.self.inside.map n c.remove.new.self
+    ((c.get_mut.follows.holds c.remove.new.self).3 (subst IsSome c.in-Some.ensures.value refl)))
+    (get-seen c.self.inside.map c.args.conn ∙ sym c.in-Some.ensures.value)
+    c.remove.ensures.removed
+    ∙ ap (λ s. set.remove s (c.args.conn, c.args.path.now)) c.self.view_is
+
+pub returns-clause-emptied : goal.returns-clause-emptied
+returns-clause-emptied c left p =
+    let n = c.get_mut.follows.lender c.remove.new.self in
+    emptied nat_cmp_total path_total exact_unsigned exact_bytes (seen c.self.inside.map.entries) (seen n.entries)
+    c.args.conn c.remove.new.self
+    (seen-insert c.args.conn c.self.inside.map n c.remove.new.self
+    ((c.get_mut.follows.holds c.remove.new.self).3 (subst IsSome c.in-Some.ensures.value refl)))
+    (c.is_empty.ensures.0 left) p
+
+pub returns-in-None-clause-removed : goal.returns-in-None-clause-removed
+returns-in-None-clause-removed c =
+    ap (λ m. conn_pairs m.entries) c.get_mut.follows.holds-at-none
+    ∙ remove_none nat_cmp_total path_total exact_unsigned exact_bytes (seen c.self.inside.map.entries) c.args.conn
+    c.args.path.now (get-seen c.self.inside.map c.args.conn ∙ sym c.in-None.ensures.value)
+    ∙ ap (λ s. set.remove s (c.args.conn, c.args.path.now)) c.self.view_is

@@ -1,0 +1,41 @@
+use Rattle.std.proofs.Common.{◌≡◌, ℕ, false, ap, sym, ◌∙◌, Option, IfSome, IfNone, Some, None}
+use Rattle.std.specs.Cmp.{nat_cmp_total}
+use Rattle.std.proofs.lemmas.Map.Lookups.{exact_unsigned, exact_bytes}
+use Rattle.ephemerals.proofs.Totals.{path_total}
+use Rattle.std.specs.FinSet as set
+use Rattle.ephemerals.specs.Orders.{Names, Bytes}
+use Rattle.watch_manager.specs.Inner.Grouped.{ConnPairs, without_key}
+use Rattle.watch_manager.proofs.ConnMaps.{seen, get-seen, seen-remove}
+use Rattle.watch_manager.proofs.Grouped.{listed, contains-found, taken}
+use Rattle.watch_manager.proofs.by_conn.ByConn.take.Goals as goal
+
+some : (r : Option Names) (pairs : ConnPairs) (k : ℕ)
+    → ((p : Bytes) → set.contains pairs (k, p) ≡ listed nat_cmp_total path_total exact_unsigned exact_bytes r p)
+    → IfSome r (λ paths. (p : Bytes) → set.contains paths p ≡ set.contains pairs (k, p))
+some None pairs k is = tt
+some (Some paths) pairs k is = λ p. sym (is p)
+
+none : (r : Option Names) (pairs : ConnPairs) (k : ℕ)
+    → ((p : Bytes) → set.contains pairs (k, p) ≡ listed nat_cmp_total path_total exact_unsigned exact_bytes r p)
+    → IfNone r ((p : Bytes) → set.contains pairs (k, p) ≡ false)
+none None pairs k is = is
+none (Some paths) pairs k is = tt
+
+pub returns-clause-paths : goal.returns-clause-paths
+returns-clause-paths c = some c.remove.result c.args.self.now c.args.conn (λ p.
+    ap (λ s. set.contains s (c.args.conn, p)) (sym c.self.view_is)
+    ∙ contains-found nat_cmp_total path_total exact_unsigned exact_bytes (seen c.self.inside.map.entries) c.args.conn
+    c.remove.result (get-seen c.self.inside.map c.args.conn ∙ sym c.remove.ensures.value) p)
+
+pub returns-clause-none : goal.returns-clause-none
+returns-clause-none c = none c.remove.result c.args.self.now c.args.conn (λ p.
+    ap (λ s. set.contains s (c.args.conn, p)) (sym c.self.view_is)
+    ∙ contains-found nat_cmp_total path_total exact_unsigned exact_bytes (seen c.self.inside.map.entries) c.args.conn
+    c.remove.result (get-seen c.self.inside.map c.args.conn ∙ sym c.remove.ensures.value) p)
+
+pub returns-clause-rest : goal.returns-clause-rest
+returns-clause-rest c =
+    taken nat_cmp_total path_total exact_unsigned exact_bytes (seen c.self.inside.map.entries)
+    (seen c.remove.new.self.entries) c.args.conn (seen-remove c.args.conn c.self.inside.map c.remove.new.self
+    c.remove.ensures.updates)
+    ∙ ap (λ s. without_key c.args.conn s) c.self.view_is

@@ -1,0 +1,75 @@
+use Rattle.std.proofs.Common.{◌≡◌, ap, sym, not, ◌∙◌, subst, refl, Some, None, IsSome, string_bytes}
+use Rattle.std.specs.Cmp.{nat_cmp_total}
+use Rattle.std.proofs.lemmas.Map.Lookups.{exact_unsigned, exact_bytes}
+use Rattle.ephemerals.proofs.Totals.{path_total}
+use Rattle.std.specs.FinMap as finmap
+use Rattle.std.specs.FinSet as set
+use Rattle.std.specs.BTreeMap.{BTreeMap}
+use Rattle.std.specs.Map.{set_value, lookup}
+use Rattle.std.specs.declared.string.String.{String}
+use Rattle.std.proofs.lemmas.Map.Steps.{set_value_same}
+use Rattle.ephemerals.specs.Orders.{Bytes}
+use Rattle.ephemerals.proofs.Errors.{on_err}
+use Rattle.ephemerals.proofs.TextKeys.{query}
+use Rattle.watch_manager.specs.Pairs.{Connections}
+use Rattle.watch_manager.specs.Inner.Grouped.{path_pairs}
+use Rattle.watch_manager.proofs.PathMaps.{seen, get-seen, seen-insert}
+use Rattle.watch_manager.proofs.Grouped.{insert_through, insert_first, contains-found}
+use Rattle.watch_manager.proofs.by_path.ByPath.insert.Goals as goal
+
+-- the set of a path that was written back as it was
+kept : {Z : Type 0} (m n : BTreeMap (String Z) Connections) (path : Bytes) (old new : Connections)
+    → n.entries ≡ set_value (query path) m.entries new → Some old ≡ lookup (query path) m.entries → new ≡ old
+    → path_pairs n.entries ≡ path_pairs m.entries
+kept m n path old new written found is =
+    ap (λ es. path_pairs es) (written ∙ set_value_same _ m.entries new (sym found ∙ (λ i. Some (sym is i))))
+
+pub returns-in_err-insert-in-Some-clause-err : goal.returns-in_err-insert-in-Some-clause-err
+returns-in_err-insert-in-Some-clause-err c =
+    let holds = c.get_mut.follows.holds c.insert.new.self in
+    on_err c.from_residual.result
+    (kept c.self.inside.map (c.get_mut.follows.lender c.insert.new.self) c.args.path.now c.in-Some.conns.now
+    c.insert.new.self holds.0 c.in-Some.ensures.value c.in_err-insert-in-Some.ensures.err
+    ∙ c.self.view_is)
+
+pub returns-in_ok-insert-in-Some-clause-ok : goal.returns-in_ok-insert-in-Some-clause-ok
+returns-in_ok-insert-in-Some-clause-ok c =
+    let n = c.get_mut.follows.lender c.insert.new.self in
+    insert_through path_total nat_cmp_total exact_bytes exact_unsigned (seen c.self.inside.map.entries) (seen n.entries)
+    c.args.path.now c.args.conn c.in-Some.conns.now c.insert.new.self
+    (seen-insert c.args.path.now c.self.inside.map n c.insert.new.self
+    ((c.get_mut.follows.holds c.insert.new.self).3 (subst IsSome c.in-Some.ensures.value refl)))
+    (get-seen c.self.inside.map.entries c.args.path.now ∙ sym c.in-Some.ensures.value)
+    c.in_ok-insert-in-Some.ensures.ok
+    ∙ ap (λ s. set.insert s (c.args.path.now, c.args.conn)) c.self.view_is
+
+pub returns-in_ok-insert-in-Some-clause-added : goal.returns-in_ok-insert-in-Some-clause-added
+returns-in_ok-insert-in-Some-clause-added c =
+    c.in_ok-insert-in-Some.ensures.added
+    ∙ ap not (sym (contains-found path_total nat_cmp_total exact_bytes exact_unsigned (seen c.self.inside.map.entries)
+    c.args.path.now (Some c.in-Some.conns.now) (get-seen c.self.inside.map.entries c.args.path.now
+    ∙ sym c.in-Some.ensures.value) c.args.conn)
+    ∙ ap (λ s. set.contains s (c.args.path.now, c.args.conn)) c.self.view_is)
+
+pub returns-in_ok-insert-in-None-2-clause-ok : goal.returns-in_ok-insert-in-None-2-clause-ok
+returns-in_ok-insert-in-None-2-clause-ok c =
+    let m = c.get_mut.follows.lender-at-none in
+    let n = c.insert-in-None-2.new.self in
+    let new = c.insert-in-None.new.self in
+    insert_first path_total nat_cmp_total exact_bytes exact_unsigned (seen m.entries) (seen n.entries) c.args.path.now
+    c.args.conn c.new-conns.result new
+    (seen-insert (string_bytes c.in_ok-from_str-in-None.field-0) m n new c.in_ok-insert-in-None-2.ensures.updates
+    ∙ ap (λ p. finmap.insert (seen m.entries) p new) c.in_ok-from_str-in-None.ensures.ok)
+    (get-seen m.entries c.args.path.now ∙ ap (λ x. lookup (query c.args.path.now) x.entries)
+    c.get_mut.follows.holds-at-none ∙ sym c.in-None.ensures.value)
+    c.new-conns.ensures
+    c.in_ok-insert-in-None.ensures.ok
+    ∙ ap (λ x. set.insert (path_pairs x.entries) (c.args.path.now, c.args.conn)) c.get_mut.follows.holds-at-none
+    ∙ ap (λ s. set.insert s (c.args.path.now, c.args.conn)) c.self.view_is
+
+pub returns-in_ok-insert-in-None-2-clause-added : goal.returns-in_ok-insert-in-None-2-clause-added
+returns-in_ok-insert-in-None-2-clause-added c =
+    ap not (sym (contains-found path_total nat_cmp_total exact_bytes exact_unsigned (seen c.self.inside.map.entries)
+    c.args.path.now None (get-seen c.self.inside.map.entries c.args.path.now ∙ sym c.in-None.ensures.value)
+    c.args.conn)
+    ∙ ap (λ s. set.contains s (c.args.path.now, c.args.conn)) c.self.view_is)

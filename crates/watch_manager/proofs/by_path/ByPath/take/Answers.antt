@@ -1,0 +1,26 @@
+use Rattle.std.proofs.Common.{ap, sym, ◌∙◌}
+use Rattle.std.specs.Cmp.{nat_cmp_total}
+use Rattle.std.proofs.lemmas.Map.Lookups.{exact_unsigned, exact_bytes}
+use Rattle.ephemerals.proofs.Totals.{path_total}
+use Rattle.watch_manager.specs.Pairs.{without_path}
+use Rattle.watch_manager.proofs.PathMaps.{seen, get-seen, seen-remove}
+use Rattle.watch_manager.proofs.Grouped.{taken}
+use Rattle.watch_manager.proofs.Found.{if_some, if_none}
+use Rattle.watch_manager.proofs.by_path.ByPath.take.Goals as goal
+
+pub returns-clause-conns : goal.returns-clause-conns
+returns-clause-conns c =
+    if_some c.self.inside.map.entries c.args.path.now c.args.self.now c.self.view_is c.remove.result
+    (get-seen c.self.inside.map.entries c.args.path.now ∙ sym c.remove.ensures.value)
+
+pub returns-clause-none : goal.returns-clause-none
+returns-clause-none c =
+    if_none c.self.inside.map.entries c.args.path.now c.args.self.now c.self.view_is c.remove.result
+    (get-seen c.self.inside.map.entries c.args.path.now ∙ sym c.remove.ensures.value)
+
+pub returns-clause-rest : goal.returns-clause-rest
+returns-clause-rest c =
+    taken path_total nat_cmp_total exact_bytes exact_unsigned (seen c.self.inside.map.entries)
+    (seen c.remove.new.self.entries) c.args.path.now (seen-remove c.args.path.now c.self.inside.map
+    c.remove.new.self c.remove.ensures.updates)
+    ∙ ap (λ s. without_path c.args.path.now s) c.self.view_is

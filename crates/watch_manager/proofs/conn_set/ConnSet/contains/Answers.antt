@@ -1,0 +1,8 @@
+use Rattle.std.proofs.Common.{ap, sym, ◌∙◌}
+use Rattle.std.specs.FinSet as set
+use Rattle.watch_manager.proofs.ConnSets.{contains-keys}
+use Rattle.watch_manager.proofs.conn_set.ConnSet.contains.Goals as goal
+
+pub returns : goal.returns
+returns c = c.contains.ensures ∙ sym (contains-keys c.self.inside.conns.keys c.args.conn)
+    ∙ ap (λ s. set.contains s c.args.conn) c.self.view_is

@@ -1,0 +1,11 @@
+use Rattle.watch_manager.proofs.Told.{told_once, fire-all, dropped-all}
+use Rattle.watch_manager.proofs.law.firing.Goals as goal
+
+pub returns-clause-once : goal.returns-clause-once
+returns-clause-once c = told_once
+
+pub returns-clause-watchers : goal.returns-clause-watchers
+returns-clause-watchers c = fire-all
+
+pub returns-clause-dropped : goal.returns-clause-dropped
+returns-clause-dropped c = dropped-all

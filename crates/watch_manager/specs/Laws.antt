@@ -1,0 +1,38 @@
+-- What holds of each firing, whatever is watched and whatever changes.
+use Rattle.std.specs.Prelude.{◌≡◌, ℕ, List, Bool, true, ◌||◌, map}
+use Rattle.std.specs.List.{AllByRecursion, IsDistinct}
+use Rattle.std.specs.FinSet as set
+use Rattle.ephemerals.specs.Orders.{Bytes}
+use Rattle.data_tree.specs.declared.outcome.Trigger.{Trigger}
+use Rattle.watch_manager.specs.Pairs.{Pairs, same_connection}
+use Rattle.watch_manager.specs.Watching.{Watching, dropped}
+use Rattle.watch_manager.specs.Watches.{tells, fire}
+use Rattle.watch_manager.specs.declared.event.Event.{Event}
+
+-- a change tells a connection at most once
+abbrev pub ToldOnce : Type 0
+ToldOnce =
+    (w : Watching) (trigger : Trigger)
+    → IsDistinct same_connection (map (λ (e : ℕ × Event). e.0) (tells w trigger))
+
+-- each connection in the table passes the test
+abbrev pub AllPass : (ℕ → Bool) → Pairs → Type 0
+AllPass test pairs = (path : Bytes) (conn : ℕ) → set.contains pairs (path, conn) ≡ true → test conn ≡ true
+
+-- each connection that watches something does
+abbrev pub WatchersPass : (ℕ → Bool) → Watching → Type 0
+WatchersPass test w = AllPass test w.own × AllPass test w.child
+
+-- only those are told who watch something, and nobody watches anew: the test that all watchers pass is passed by those
+-- who are told
+abbrev pub OnlyWatchersAreTold : Type 0
+OnlyWatchersAreTold =
+    (test : ℕ → Bool) (w : Watching) (triggers : List Trigger) → WatchersPass test w
+    → AllByRecursion (λ (e : ℕ × Event). test e.0 ≡ true) (fire w triggers).events
+    × WatchersPass test (fire w triggers).left
+
+-- a connection that was dropped watches nothing, and nobody watches anew
+abbrev pub DroppedWatchesNothing : Type 0
+DroppedWatchesNothing =
+    (test : ℕ → Bool) (w : Watching) (conn : ℕ) → WatchersPass (λ c. test c || same_connection conn c) w
+    → WatchersPass test (dropped conn w)

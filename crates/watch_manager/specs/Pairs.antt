@@ -1,0 +1,42 @@
+-- Watches as pairs of a path and the connection that is told.
+use Rattle.std.specs.Prelude.{ℕ, List, Bool, not, map}
+use Rattle.std.specs.List.{filter}
+use Rattle.std.specs.declared.cmp.Ordering.{Ordering}
+use Rattle.std.specs.Ordering.{nat_cmp, eq_by_cmp, then_cmp, on}
+use Rattle.std.specs.FinMap as finmap
+use Rattle.std.specs.FinSet as set
+use Rattle.ephemerals.specs.Orders.{Bytes, path_cmp}
+
+-- connections by their numbers
+abbrev pub Connections : Type 0
+Connections = set.FinSet nat_cmp
+
+-- in ascending number
+abbrev pub in_number : Connections → List ℕ
+in_number conns = finmap.keys (finmap.from_entries {R = nat_cmp} (map (λ (conn : ℕ). (conn, tt {0})) (set.items conns)))
+
+-- ascending path, then ascending connection
+abbrev pub watch_cmp : Bytes × ℕ → Bytes × ℕ → Ordering
+watch_cmp = then_cmp (on (λ (p : Bytes × ℕ). p.0) path_cmp) (on (λ (p : Bytes × ℕ). p.1) nat_cmp)
+
+abbrev pub Pairs : Type 0
+Pairs = set.FinSet watch_cmp
+
+abbrev pub same_path : Bytes → Bytes → Bool
+same_path a b = eq_by_cmp path_cmp a b
+
+abbrev pub same_connection : ℕ → ℕ → Bool
+same_connection a b = eq_by_cmp nat_cmp a b
+
+-- the connections that watch the path
+abbrev pub watchers : Bytes → Pairs → Connections
+watchers path pairs =
+    set.from_list (map (λ (p : Bytes × ℕ). p.1) (filter (λ (p : Bytes × ℕ). same_path path p.0) (set.items pairs)))
+
+-- all watches but those on the path
+abbrev pub without_path : Bytes → Pairs → Pairs
+without_path path pairs = set.retain pairs (λ (p : Bytes × ℕ). not (same_path path p.0))
+
+-- all watches but those of the connection
+abbrev pub without_connection : ℕ → Pairs → Pairs
+without_connection conn pairs = set.retain pairs (λ (p : Bytes × ℕ). not (same_connection conn p.1))

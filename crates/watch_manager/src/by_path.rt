@@ -1,0 +1,123 @@
+//! For each path the connections that watch it.
+
+ghost use Rattle.std.specs.Prelude.{◌≡◌, ℕ, OnOk, OnErr, IfOk, IfSome, IfNone, IsTrue, not, false};
+ghost use Rattle.std.specs.FinSet as set;
+ghost use Rattle.watch_manager.specs.Pairs.{watchers, without_path};
+ghost use Rattle.watch_manager.specs.Inner.Grouped.{without_paths};
+ghost use Rattle.ephemerals.specs.Orders.{in_order};
+
+use crate::conn_set::ConnSet;
+use ephemerals::TextSet;
+use std::alloc::Global;
+use std::collections::BTreeMap;
+use std::marker::Model;
+use values::NoMemory;
+
+/// Pairs of a path and a connection, kept as a set of connections for each path.
+#[derive(Drop)]
+pub struct ByPath {
+    map: BTreeMap<String, ConnSet>,
+}
+
+impl Model for ByPath {
+    ghost use Rattle.watch_manager.specs.Pairs.{Pairs};
+    ghost use Rattle.watch_manager.specs.Inner.Grouped.{path_pairs};
+    ghost use Rattle.std.specs.FinSet as set;
+    ghost use Rattle.std.specs.Coded.{coded_ℕ, coded_list, coded×};
+
+    ghost Value = { Pairs };
+
+    ghost coded = { set.code (coded× (coded_list coded_ℕ) coded_ℕ) };
+
+    ghost view = { λ b. path_pairs b.map.entries };
+}
+
+impl ByPath {
+    /// No pair, which takes no memory.
+    pub fn new(alloc: Global) -> ByPath
+        ensures { result ≡ set.empty }
+    {
+        ByPath {
+            map: BTreeMap::new(alloc),
+        }
+    }
+
+    /// The connections that watch the path, where there is a set of them.
+    pub fn of(&self, path: &str) -> Option<&ConnSet>
+        ensures some { IfSome result (λ conns. conns.now ≡ watchers path.now self.now) }
+        ensures none { IfNone result (watchers path.now self.now ≡ set.empty) }
+    {
+        match self.map.get(path) {
+            None => return None,
+            Some(conns) => Some(conns),
+        }
+    }
+
+    /// Adds a pair, and says whether it is new.
+    pub fn insert(&mut self, alloc: Global, path: &str, conn: u64) -> Result<bool, NoMemory>
+        ensures ok { OnOk result (self.new ≡ set.insert self.old (path.now, conn)) }
+        ensures added { IfOk result
+            (λ added. added ≡ not (set.contains self.old (path.now, conn))) }
+        ensures err { OnErr result (self.new ≡ self.old) }
+    {
+        match self.map.get_mut(path) {
+            Some(conns) => Ok(conns.insert(conn)?),
+            None => {
+                let mut conns = ConnSet::new(alloc);
+                conns.insert(conn)?;
+                self.map.insert(String::from_str(alloc, path)?, conns)?;
+                Ok(true)
+            }
+        }
+    }
+
+    // Takes a pair out, and says whether the path has a set that is empty now.
+    fn remove_pair(&mut self, path: &str, conn: u64) -> bool
+        ensures removed { self.new ≡ set.remove self.old (path.now, conn) }
+        ensures emptied { IsTrue result →
+            (c : ℕ) → set.contains self.new (path.now, c) ≡ false }
+    {
+        match self.map.get_mut(path) {
+            None => return false,
+            Some(conns) => {
+                conns.remove(conn);
+                conns.is_empty()
+            }
+        }
+    }
+
+    // Frees the set of a path that nobody watches.
+    fn forget(&mut self, path: &str)
+        requires { (c : ℕ) → set.contains self.old (path.now, c) ≡ false }
+        ensures { self.new ≡ self.old }
+    {
+        self.map.remove(path);
+    }
+
+    /// Takes a pair out.
+    pub fn remove(&mut self, path: &str, conn: u64)
+        ensures { self.new ≡ set.remove self.old (path.now, conn) }
+    {
+        if self.remove_pair(path, conn) {
+            self.forget(path);
+        }
+    }
+
+    /// Takes out the connection at each of the paths.
+    pub fn remove_all(&mut self, paths: &TextSet, conn: u64)
+        ensures { self.new ≡ without_paths conn (in_order paths.now) self.old }
+    {
+        for path in paths.iter() {
+            self.remove(path.as_str(), conn);
+        }
+    }
+
+    /// Takes out all pairs of a path, and answers its connections where there is a set of them.
+    pub fn take(&mut self, path: &str) -> Option<ConnSet>
+        ensures conns { IfSome result (λ conns. conns ≡ watchers path.now self.old) }
+        ensures none { IfNone result (watchers path.now self.old ≡ set.empty) }
+        ensures rest { self.new ≡ without_path path.now self.old }
+    {
+        self.map.remove(path)
+    }
+}

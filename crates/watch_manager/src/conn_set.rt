@@ -1,0 +1,79 @@
+//! Sets of connections.
+
+ghost use Rattle.std.specs.Prelude.{◌≡◌, ◌↔◌, ℕ, OnOk, OnErr, IfOk, IsTrue, not};
+ghost use Rattle.std.specs.Map.Iter.{ShowsInOrder, deref};
+ghost use Rattle.std.specs.FinSet as set;
+ghost use Rattle.watch_manager.specs.Pairs.{in_number};
+
+use std::alloc::Global;
+use std::collections::BTreeSet;
+use std::collections::btree_set::Iter;
+use std::marker::Model;
+use values::NoMemory;
+
+/// A set of connections, in ascending number.
+#[derive(Drop)]
+pub struct ConnSet {
+    conns: BTreeSet<u64>,
+}
+
+impl Model for ConnSet {
+    ghost use Rattle.watch_manager.specs.Pairs.{Connections};
+    ghost use Rattle.std.specs.FinSet as set;
+    ghost use Rattle.std.specs.Coded.{coded_ℕ};
+
+    ghost Value = { Connections };
+
+    ghost coded = { set.code coded_ℕ };
+
+    ghost view = { λ s. set.from_list s.conns.keys };
+}
+
+impl ConnSet {
+    /// No connection, which takes no memory.
+    pub fn new(alloc: Global) -> ConnSet
+        ensures { result ≡ set.empty }
+    {
+        ConnSet {
+            conns: BTreeSet::new(alloc),
+        }
+    }
+
+    /// Whether there is no connection.
+    pub fn is_empty(&self) -> bool
+        ensures { IsTrue result ↔ (self.now ≡ set.empty) }
+    {
+        self.conns.is_empty()
+    }
+
+    /// Whether the connection is there.
+    pub fn contains(&self, conn: u64) -> bool
+        ensures { result ≡ set.contains self.now conn }
+    {
+        self.conns.contains(&conn)
+    }
+
+    /// Adds a connection, and says whether it is new.
+    pub fn insert(&mut self, conn: u64) -> Result<bool, NoMemory>
+        ensures ok { OnOk result (self.new ≡ set.insert self.old conn) }
+        ensures added { IfOk result (λ added. added ≡ not (set.contains self.old conn)) }
+        ensures err { OnErr result (self.new ≡ self.old) }
+    {
+        Ok(self.conns.insert(conn)?)
+    }
+
+    /// Takes a connection out.
+    pub fn remove(&mut self, conn: u64)
+        ensures { self.new ≡ set.remove self.old conn }
+    {
+        self.conns.remove(&conn);
+    }
+
+    /// The connections in ascending number.
+    pub fn iter(&self) -> Iter<'_, u64>
+        ensures conns { result ≡ in_number self.now }
+        ensures runs { ShowsInOrder (deref {X = ℕ}) }
+    {
+        self.conns.iter()
+    }
+}

@@ -1,0 +1,75 @@
+//! What is left of a table while changes are told.
+
+ghost use Rattle.std.specs.Prelude.{◌≡◌, OnOk};
+ghost use Rattle.std.specs.FinSet as set;
+ghost use Rattle.watch_manager.specs.Pairs.{watchers, without_path};
+
+use crate::conn_set::ConnSet;
+use crate::table::Table;
+use ephemerals::TextSet;
+use std::alloc::Global;
+use std::marker::Model;
+use values::NoMemory;
+
+/// The watches of a table that earlier changes have not used up. The table itself stays as it is, so that memory may
+/// still be refused.
+#[derive(Drop)]
+pub struct Left<'a> {
+    table: &'a Table,
+    // The paths whose watches are used up.
+    used: TextSet,
+    nobody: ConnSet,
+}
+
+impl<'a> Model for Left<'a> {
+    ghost use Rattle.std.specs.Prelude.{◌≡◌};
+    ghost use Rattle.watch_manager.specs.Pairs.{Pairs};
+    ghost use Rattle.watch_manager.specs.Inner.Telling.{but_on};
+    ghost use Rattle.std.specs.FinSet as set;
+    ghost use Rattle.std.specs.Coded.{coded_ℕ, coded_list, coded×};
+
+    ghost Value = { Pairs };
+
+    ghost coded = { set.code (coded× (coded_list coded_ℕ) coded_ℕ) };
+
+    ghost view = { λ l. but_on l.used l.table.now };
+
+    ghost invariant = { λ l. l.nobody ≡ set.empty };
+}
+
+impl<'a> Left<'a> {
+    /// The whole table.
+    pub fn new(alloc: Global, table: &'a Table) -> Left<'a>
+        ensures { result ≡ table.now }
+    {
+        Left {
+            table,
+            used: TextSet::new(alloc),
+            nobody: ConnSet::new(alloc),
+        }
+    }
+
+    /// The connections that still watch the path.
+    pub fn watchers(&self, path: &str) -> &ConnSet
+        ensures { result.now ≡ watchers path.now self.now }
+    {
+        if self.used.contains(path) {
+            return &self.nobody;
+        }
+        match self.table.watchers(path) {
+            None => return &self.nobody,
+            Some(conns) => conns,
+        }
+    }
+
+    /// Uses up the watches on a path.
+    pub fn use_up(&mut self, alloc: Global, path: &str) -> Result<(), NoMemory>
+        ensures { OnOk result (self.new ≡ without_path path.now self.old) }
+    {
+        if self.watchers(path).is_empty() {
+            return Ok(());
+        }
+        self.used.insert(String::from_str(alloc, path)?)?;
+        Ok(())
+    }
+}

@@ -1,0 +1,92 @@
+//! One table of watches.
+
+ghost use Rattle.std.specs.Prelude.{◌≡◌, OnOk, OnErr, IfSome, IfNone};
+ghost use Rattle.std.specs.FinSet as set;
+ghost use Rattle.watch_manager.specs.Pairs.{watchers, without_path, without_connection};
+
+use crate::by_conn::ByConn;
+use crate::by_path::ByPath;
+use crate::conn_set::ConnSet;
+use std::alloc::Global;
+use std::marker::Model;
+use values::NoMemory;
+
+/// Pairs of a path and a connection, kept by path and by connection: what fires is found by its path, and what goes with
+/// a connection by the connection.
+#[derive(Drop)]
+pub struct Table {
+    by_path: ByPath,
+    by_conn: ByConn,
+}
+
+impl Model for Table {
+    ghost use Rattle.watch_manager.specs.Pairs.{Pairs};
+    ghost use Rattle.watch_manager.specs.Inner.Grouped.{AgreeOn};
+    ghost use Rattle.std.specs.FinSet as set;
+    ghost use Rattle.std.specs.Coded.{coded_ℕ, coded_list, coded×};
+
+    ghost Value = { Pairs };
+
+    ghost coded = { set.code (coded× (coded_list coded_ℕ) coded_ℕ) };
+
+    ghost view = { λ t. t.by_path };
+
+    ghost invariant = { λ t. AgreeOn t.by_path t.by_conn };
+}
+
+impl Table {
+    /// No watch, which takes no memory.
+    pub fn new(alloc: Global) -> Table
+        ensures { result ≡ set.empty }
+    {
+        Table {
+            by_path: ByPath::new(alloc),
+            by_conn: ByConn::new(alloc),
+        }
+    }
+
+    /// The connections that watch the path, where there is a set of them.
+    pub fn watchers(&self, path: &str) -> Option<&ConnSet>
+        ensures some { IfSome result (λ conns. conns.now ≡ watchers path.now self.now) }
+        ensures none { IfNone result (watchers path.now self.now ≡ set.empty) }
+    {
+        self.by_path.of(path)
+    }
+
+    /// Sets a watch, which may be set already.
+    pub fn set(&mut self, alloc: Global, conn: u64, path: &str) -> Result<(), NoMemory>
+        ensures ok { OnOk result (self.new ≡ set.insert self.old (path.now, conn)) }
+        ensures err { OnErr result (self.new ≡ self.old) }
+    {
+        if !self.by_path.insert(alloc, path, conn)? {
+            return Ok(());
+        }
+        match self.by_conn.insert(alloc, conn, path) {
+            Ok(()) => return Ok(()),
+            Err(refused) => {
+                self.by_path.remove(path, conn);
+                Err(refused)
+            }
+        }
+    }
+
+    /// Takes out the watches on a path, which takes no memory.
+    pub fn use_up(&mut self, path: &str)
+        ensures { self.new ≡ without_path path.now self.old }
+    {
+        match self.by_path.take(path) {
+            None => return,
+            Some(conns) => self.by_conn.remove_all(&conns, path),
+        }
+    }
+
+    /// Takes out the watches of a connection, which takes no memory.
+    pub fn drop_conn(&mut self, conn: u64)
+        ensures { self.new ≡ without_connection conn self.old }
+    {
+        match self.by_conn.take(conn) {
+            None => return,
+            Some(paths) => self.by_path.remove_all(&paths, conn),
+        }
+    }
+}

@@ -1,0 +1,115 @@
+//! Whom a change tells what.
+
+ghost use Rattle.std.specs.Prelude.{◌≡◌, ◌++◌, OnOk};
+ghost use Rattle.watch_manager.specs.Watches.{told, each_but, tells, after};
+ghost use Rattle.watch_manager.specs.Pairs.{in_number, watchers, without_path};
+ghost use Rattle.watch_manager.specs.Inner.Telling.{watching};
+
+use crate::conn_set::ConnSet;
+use crate::event::{Event, EventKind};
+use crate::left::Left;
+use data_tree::Trigger;
+use std::alloc::Global;
+use values::{NoMemory, Text};
+
+// Tells each of the connections.
+fn tell_each(
+    events: &mut Vec<(u64, Event)>,
+    alloc: Global,
+    kind: EventKind,
+    path: &str,
+    conns: &ConnSet,
+) -> Result<(), NoMemory>
+    ensures { OnOk result
+        (events.new.items ≡ events.old.items ++ told kind path.now (in_number conns.now)) }
+{
+    for conn in conns.iter() {
+        let path = Text::new(alloc, path)?;
+        events.push((*conn, Event { kind, path }))?;
+    }
+    Ok(())
+}
+
+// Tells each of the connections, but those that were told already.
+fn tell_others(
+    events: &mut Vec<(u64, Event)>,
+    alloc: Global,
+    kind: EventKind,
+    path: &str,
+    already: &ConnSet,
+    conns: &ConnSet,
+) -> Result<(), NoMemory>
+    ensures { OnOk result (events.new.items ≡
+        events.old.items ++ told kind path.now (each_but already.now conns.now)) }
+{
+    for conn in conns.iter() {
+        if !already.contains(*conn) {
+            let path = Text::new(alloc, path)?;
+            events.push((*conn, Event { kind, path }))?;
+        }
+    }
+    Ok(())
+}
+
+// Tells those who watch the path in one table, whose watches that uses up.
+fn tell_table(
+    events: &mut Vec<(u64, Event)>,
+    alloc: Global,
+    kind: EventKind,
+    path: &str,
+    table: &mut Left<'_>,
+) -> Result<(), NoMemory>
+    ensures events { OnOk result (events.new.items ≡
+        events.old.items ++ told kind path.now (in_number (watchers path.now table.old))) }
+    ensures left { OnOk result (table.new ≡ without_path path.now table.old) }
+{
+    tell_each(events, alloc, kind, path, table.watchers(path))?;
+    table.use_up(alloc, path)
+}
+
+/// Adds what a change tells, with the watches that are left in each table, and uses up those watches there.
+pub fn tell(
+    events: &mut Vec<(u64, Event)>,
+    alloc: Global,
+    trigger: &Trigger,
+    own: &mut Left<'_>,
+    child: &mut Left<'_>,
+) -> Result<(), NoMemory>
+    ensures events { OnOk result (events.new.items ≡
+        events.old.items ++ tells (watching own.old child.old) trigger.now) }
+    ensures left { OnOk result
+        (watching own.new child.new ≡ after (watching own.old child.old) trigger.now) }
+{
+    match trigger {
+        Trigger::Created(path) => {
+            tell_table(events, alloc, EventKind::NodeCreated, path.as_str(), own)
+        }
+        Trigger::DataChanged(path) => {
+            tell_table(
+                events,
+                alloc,
+                EventKind::NodeDataChanged,
+                path.as_str(),
+                own,
+            )
+        }
+        Trigger::ChildrenChanged(path) => {
+            tell_table(
+                events,
+                alloc,
+                EventKind::NodeChildrenChanged,
+                path.as_str(),
+                child,
+            )
+        }
+        Trigger::Deleted(path) => {
+            let path = path.as_str();
+            let kind = EventKind::NodeDeleted;
+            let already = own.watchers(path);
+            tell_each(events, alloc, kind, path, already)?;
+            tell_others(events, alloc, kind, path, already, child.watchers(path))?;
+            own.use_up(alloc, path)?;
+            child.use_up(alloc, path)
+        }
+    }
+}

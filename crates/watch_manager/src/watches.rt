@@ -1,0 +1,131 @@
+//! The watches of all connections.
+
+ghost use Rattle.std.specs.Prelude.{◌≡◌, OnOk, OnErr, IfOk};
+ghost use Rattle.std.specs.FinSet as set;
+ghost use Rattle.watch_manager.specs.Watching.{no_watch, dropped};
+ghost use Rattle.watch_manager.specs.Watches.{fire, after};
+
+use crate::event::Event;
+use crate::left::Left;
+use crate::table::Table;
+use crate::telling::tell;
+use data_tree::Trigger;
+use std::alloc::Global;
+use std::marker::Model;
+use values::NoMemory;
+
+/// Which connection watches which path: data watches and child watches. A watch is set at most once, and goes when it
+/// fires or when its connection goes.
+#[derive(Drop)]
+pub struct Watches {
+    // The data watches.
+    own: Table,
+    child: Table,
+}
+
+impl Model for Watches {
+    ghost use Rattle.watch_manager.specs.Watching.{Watching, watching_code};
+
+    ghost Value = { Watching };
+
+    ghost coded = { watching_code };
+
+    ghost view = { λ w. record { own = w.own; child = w.child } };
+}
+
+impl Watches {
+    /// No watch, which takes no memory.
+    pub fn new(alloc: Global) -> Watches
+        ensures { result ≡ no_watch }
+    {
+        Watches {
+            own: Table::new(alloc),
+            child: Table::new(alloc),
+        }
+    }
+
+    /// Sets a data watch, which may be set already. Any text may be watched, also one that is no path.
+    pub fn set_data(&mut self, alloc: Global, conn: u64, path: &str) -> Result<(), NoMemory>
+        ensures ok { OnOk result
+            (self.new ≡ record self.old { own = set.insert self.old.own (path.now, conn) }) }
+        ensures err { OnErr result (self.new ≡ self.old) }
+    {
+        self.own.set(alloc, conn, path)
+    }
+
+    /// Sets a child watch, which may be set already. Any text may be watched, also one that is no path.
+    pub fn set_child(&mut self, alloc: Global, conn: u64, path: &str) -> Result<(), NoMemory>
+        ensures ok { OnOk result
+            (self.new ≡ record self.old { child = set.insert self.old.child (path.now, conn) }) }
+        ensures err { OnErr result (self.new ≡ self.old) }
+    {
+        self.child.set(alloc, conn, path)
+    }
+
+    /// Drops all watches of a connection, which takes no memory.
+    pub fn drop_conn(&mut self, conn: u64)
+        ensures { self.new ≡ dropped conn self.old }
+    {
+        self.own.drop_conn(conn);
+        self.child.drop_conn(conn);
+    }
+
+    // What the changes tell, one after the other.
+    fn tell_all(&self, alloc: Global, triggers: &[Trigger]) -> Result<Vec<(u64, Event)>, NoMemory>
+        ensures { IfOk result
+            (λ events. events.items ≡ (fire self.now triggers.now).events) }
+    {
+        let mut own = Left::new(alloc, &self.own);
+        let mut child = Left::new(alloc, &self.child);
+        let mut events = Vec::new(alloc);
+        for trigger in triggers {
+            tell(&mut events, alloc, trigger, &mut own, &mut child)?;
+        }
+        Ok(events)
+    }
+
+    // Uses up what a change tells.
+    fn use_up(&mut self, trigger: &Trigger)
+        ensures { self.new ≡ after self.old trigger.now }
+    {
+        match trigger {
+            Trigger::Created(path) => self.own.use_up(path.as_str()),
+            Trigger::DataChanged(path) => self.own.use_up(path.as_str()),
+            Trigger::ChildrenChanged(path) => self.child.use_up(path.as_str()),
+            Trigger::Deleted(path) => {
+                self.own.use_up(path.as_str());
+                self.child.use_up(path.as_str());
+            }
+        }
+    }
+
+    // Uses up what the changes tell.
+    fn use_up_all(&mut self, triggers: &[Trigger])
+        ensures { self.new ≡ (fire self.old triggers.now).left }
+    {
+        for trigger in triggers {
+            self.use_up(trigger);
+        }
+    }
+
+    /// What changes of the tree tell, one after the other, and to whom: each event with its connection. Those watches
+    /// are used up. All events are made before the first watch goes: refused, this changes nothing.
+    pub fn fire(
+        &mut self,
+        alloc: Global,
+        triggers: &[Trigger],
+    ) -> Result<Vec<(u64, Event)>, NoMemory>
+        ensures events { IfOk result
+            (λ events. events.items ≡ (fire self.old triggers.now).events) }
+        ensures left { OnOk result (self.new ≡ (fire self.old triggers.now).left) }
+        ensures err { OnErr result (self.new ≡ self.old) }
+    {
+        let events = self.tell_all(alloc, triggers)?;
+        // Where nobody is told, nobody watches.
+        if events.is_empty() {
+            return Ok(events);
+        }
+        self.use_up_all(triggers);
+        Ok(events)
+    }
+}

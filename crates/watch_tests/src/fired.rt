@@ -1,0 +1,124 @@
+//! Who is told what, and which watches that uses up.
+
+use crate::trigger_of;
+use std::alloc::Global;
+use std::test::Fail;
+use watch_manager::Watches;
+
+// Sets watches: "d" in the data table, anything else in the child table, by connection and path.
+fn watching(alloc: Global, watches: &[(char, u64, &str)]) -> Result<Watches, Fail> {
+    let mut all = Watches::new(alloc);
+    for (table, conn, path) in watches {
+        if *table == 'd' {
+            all.set_data(alloc, *conn, path)?;
+        } else {
+            all.set_child(alloc, *conn, path)?;
+        }
+    }
+    Ok(all)
+}
+
+// What the changes tell, as connection, number of the event and path.
+fn told(alloc: Global, watches: &mut Watches, changes: &[(char, &str)]) -> Result<String, Fail> {
+    let mut triggers = Vec::new(alloc);
+    for (sign, path) in changes {
+        triggers.push(trigger_of(alloc, *sign, path)?)?;
+    }
+    let mut text = String::new(alloc);
+    for (conn, event) in watches.fire(alloc, &triggers)? {
+        let number = event.kind.number();
+        text.push_str(format!(in alloc; "{conn}:{number} ")?.as_str())?;
+        text.push_str(event.path.as_str())?;
+        text.push_str("; ")?;
+    }
+    Ok(text)
+}
+
+// Drops a connection.
+fn drop_conn(watches: &mut Watches, conn: u64) {
+    watches.drop_conn(conn);
+}
+
+#[test]
+fn a_delete_tells_each_connection_once(rt: HostRuntime) -> Result<(), Fail> {
+    let alloc = rt.alloc();
+    let mut watches = watching(
+        alloc,
+        &[
+            ('d', 1, "/a"),
+            ('c', 1, "/a"),
+            ('c', 2, "/a"),
+            ('c', 2, "/"),
+        ],
+    )?;
+    let told_first = told(alloc, &mut watches, &[('-', "/a"), ('~', "/")])?;
+    assert_eq!(rt; told_first.as_str(), "1:2 /a; 2:2 /a; 2:4 /; ");
+    let again = [('+', "/a"), ('~', "/"), ('-', "/a"), ('~', "/")];
+    assert_eq!(rt; told(alloc, &mut watches, &again)?.as_str(), "");
+    Ok(())
+}
+
+#[test]
+fn a_session_ends(rt: HostRuntime) -> Result<(), Fail> {
+    let alloc = rt.alloc();
+    let mut watches = watching(alloc, &[('c', 1, "/a"), ('c', 1, "/b"), ('d', 1, "/a/f")])?;
+    let deletes = [
+        ('-', "/a/e"),
+        ('~', "/a"),
+        ('-', "/a/f"),
+        ('~', "/a"),
+        ('-', "/b/g"),
+        ('~', "/b"),
+    ];
+    let wanted = "1:4 /a; 1:2 /a/f; 1:4 /b; ";
+    assert_eq!(rt; told(alloc, &mut watches, &deletes)?.as_str(), wanted);
+    Ok(())
+}
+
+#[test]
+fn connections_ascend_and_watches_are_set_again(rt: HostRuntime) -> Result<(), Fail> {
+    let alloc = rt.alloc();
+    let mut watches = watching(
+        alloc,
+        &[
+            ('d', 18446744073709551615, "/q"),
+            ('d', 7, "/q"),
+            ('d', 0, "/q"),
+            ('d', 7, "/q"),
+        ],
+    )?;
+    let wanted = "0:1 /q; 7:1 /q; 18446744073709551615:1 /q; ";
+    assert_eq!(rt;
+        told(alloc, &mut watches, &[('+', "/q"), ('=', "/q")])?.as_str(),
+        wanted
+    );
+    watches.set_data(alloc, 7, "/q")?;
+    assert_eq!(rt;
+        told(alloc, &mut watches, &[('=', "/q"), ('=', "/q")])?.as_str(),
+        "7:3 /q; "
+    );
+    Ok(())
+}
+
+#[test]
+fn a_connection_takes_its_own_watches_with_it(rt: HostRuntime) -> Result<(), Fail> {
+    let alloc = rt.alloc();
+    let mut watches = watching(
+        alloc,
+        &[
+            ('d', 1, "/a"),
+            ('c', 1, "/a"),
+            ('d', 2, "/a"),
+            ('d', 1, "/a/"),
+            ('c', 2, "/b"),
+        ],
+    )?;
+    drop_conn(&mut watches, 1);
+    drop_conn(&mut watches, 3);
+    let changes = [('=', "/a"), ('~', "/a"), ('=', "/a/"), ('~', "/b")];
+    assert_eq!(rt;
+        told(alloc, &mut watches, &changes)?.as_str(),
+        "2:3 /a; 2:4 /b; "
+    );
+    Ok(())
+}
