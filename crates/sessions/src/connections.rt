@@ -3,7 +3,7 @@
 ghost use Rattle.std.specs.Prelude.{◌≡◌, [], OnOk, OnErr};
 ghost use Rattle.std.specs.Option.{option_copied};
 ghost use Rattle.std.specs.FinMap as finmap;
-ghost use Rattle.sessions.specs.Sessions.{session_in, with_id};
+ghost use Rattle.sessions.specs.Sessions.{with_id};
 ghost use Rattle.sessions.specs.Inner.{shown};
 
 use jute::Id;
@@ -110,14 +110,11 @@ impl Connections {
         }
     }
 
-    /// Takes the connection out, and answers its session, if it had one.
-    pub fn close(&mut self, number: u64) -> Option<i64>
-        ensures session { result ≡ session_in (finmap.get self.old number) }
+    /// Takes the connection out, and answers it, if it had a session.
+    pub fn close(&mut self, number: u64) -> Option<Connection>
+        ensures was { result ≡ finmap.get self.old number }
         ensures removed { self.new ≡ finmap.remove self.old number }
     {
-        match self.map.remove(&number) {
-            None => return None,
-            Some(connection) => Some(connection.session()),
-        }
+        self.map.remove(&number)
     }
 }

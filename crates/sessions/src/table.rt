@@ -276,8 +276,8 @@ impl Sessions {
     {
         match self.connections.close(connection) {
             None => return,
-            Some(session) => {
-                self.guests.replace(session, None);
+            Some(connection) => {
+                self.guests.replace(connection.session(), None);
             }
         }
     }

@@ -1,0 +1,25 @@
+-- Two counters of a server name two sessions.
+use Rattle.std.proofs.Common.{◌≡◌, ℕ, ◌+◌, ◌*◌, ◌^◌, ◌<◌, ◌≤◌, ℤ, pos, negsuc, sym, ap, ◌∙◌, arith, w64}
+use Rattle.std.specs.Prelude.{IsTrue, unsigned_abs, int_le, nat_le}
+use Rattle.std.specs.Int.{cast_signed, cast_unsigned}
+use Rattle.std.proofs.lemmas.Int.{of_z-to_z}
+use Rattle.settings.specs.Settings.{is_server_id}
+use Rattle.sessions.specs.Credentials.{session_id_of, session_number}
+
+pub server_below : (server_id : ℤ) → IsTrue (is_server_id server_id) → unsigned_abs server_id < 256
+server_below (pos n) h = grind arith
+server_below (negsuc n) h = grind arith
+
+pub number_below : (server_id : ℤ) (counter : ℕ) → IsTrue (is_server_id server_id) → counter < 2 ^ 56 → session_number server_id counter < 2 ^ 64
+number_below server_id counter h below = let server : unsigned_abs server_id < 256 = server_below server_id h in omega arith
+
+same_counter : (high i j : ℕ) → high * 2 ^ 56 + i ≡ high * 2 ^ 56 + j → i ≡ j
+same_counter high i j e = omega arith
+
+pub counters_apart : (server_id : ℤ) (i j : ℕ) → IsTrue (is_server_id server_id) → i < 2 ^ 56 → j < 2 ^ 56 → session_id_of server_id i ≡ session_id_of server_id j → i ≡ j
+unfolding session_id_of
+counters_apart server_id i j h low_i low_j e =
+    same_counter (unsigned_abs server_id) i j (
+    sym (of_z-to_z w64 (session_number server_id i) (number_below server_id i h low_i))
+    ∙ ap (cast_unsigned w64) e
+    ∙ of_z-to_z w64 (session_number server_id j) (number_below server_id j h low_j))
