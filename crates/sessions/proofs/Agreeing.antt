@@ -1,17 +1,19 @@
 -- What keeps sessions and connections in agreement.
 use Rattle.std.proofs.Common.{◌≡◌, ◌⊎◌, inl, inr, ℕ, ◌+◌, ◌^◌, ◌<◌, ◌≤◌, ℤ, false, List, [], ◌∷◌, ◌++◌, length, Option, Some, None, refl, sym, ap, subst, ◌∙◌, arith, length-append}
-use Rattle.std.specs.Prelude.{IsTrue}
+use Rattle.std.specs.Prelude.{IsTrue, is_some}
 use Rattle.std.specs.Ordering.{eq_by_cmp, nat_cmp, int_cmp}
 use Rattle.std.specs.Cmp.{nat_cmp_total, int_cmp_total}
 use Rattle.std.proofs.lemmas.Map.Lookups.{exact_unsigned, exact_signed}
 use Rattle.std.specs.FinMap as finmap
+use mathlib.Core.Bool.{true≢false}
 use Rattle.settings.specs.Settings.{is_server_id}
 use Rattle.jute.specs.declared.owned.Id.{Id}
+use Rattle.sessions.specs.declared.request.SessionRequest.{SessionRequest}
 use Rattle.sessions.specs.Credentials.{session_id_of}
 use Rattle.sessions.specs.State.{Terms, Connection, Guests, Connections, State}
-use Rattle.sessions.specs.Sessions.{no_sessions, close_as, close_one, ended, joined, with_id, ids_limit}
+use Rattle.sessions.specs.Sessions.{no_sessions, connection_in, close, close_as, close_one, Expires, expire, expire_as, ended, Connects, welcome, accepted, rejoin, joined, with_id, ids_limit}
 use Rattle.sessions.specs.Agreement.{IsOpenedBy, Agrees, SessionsAreApart}
-use Rattle.sessions.proofs.Maps.{none-some, some-some, apart, other, same_or_other, inserted, inserted_elsewhere, removed, removed_elsewhere, at_inserted, at_removed}
+use Rattle.sessions.proofs.Maps.{none-some, some-some, apart, other, same_or_other, inserted, inserted_elsewhere, removed, removed_elsewhere, at_inserted, at_removed, remove_absent, remove_inserted, insert_inserted, remove_past_insert}
 use Rattle.sessions.proofs.Numbers.{counters_apart}
 
 -- a connection that has this session
@@ -73,6 +75,23 @@ closed s n c a here = record {
     from session o (inl b) = subst (λ x. IsOpenedBy s.terms.server_id s.counter x) (sym b.0) (a.opened c.session (Some n) (a.guests n c here))
     from session o (inr b) = a.opened session o b.1
 
+-- a connection that has no session is taken out in vain
+pub unclosed : (s : State) (n : ℕ) → finmap.get s.connections n ≡ None → record s { connections = finmap.remove s.connections n } ≡ close s n
+unclosed s n none =
+    (λ i. record s { connections = remove_absent nat_cmp_total exact_unsigned s.connections n none i })
+    ∙ ap (close_as s n) (sym none)
+
+-- the connection of a guest session closes
+pub closing : (s : State) (session : ℤ) (n : ℕ) → Agrees s → finmap.get s.guests session ≡ Some (Some n)
+    → close s n ≡ record s { guests = finmap.insert s.guests session None; connections = finmap.remove s.connections n }
+closing s session n a has = ap (close_as s n) (a.connections session n has).1
+
+closing_agrees : (s : State) (session : ℤ) (n : ℕ) → Agrees s → finmap.get s.guests session ≡ Some (Some n)
+    → Agrees (record s { guests = finmap.insert s.guests session None; connections = finmap.remove s.connections n })
+closing_agrees s session n a has =
+    let at = a.connections session n has in
+    closed s n (record { session = session; ids = at.0 }) a at.1
+
 -- ---- a session that no connection has ends
 
 abbrev pub IsFree : State → ℤ → Type 0
@@ -90,6 +109,30 @@ ends s session a free = record {
       opened = λ t o e. a.opened t o (at_removed int_cmp_total exact_signed s.guests session t o e).1;
       ids = a.ids;
     }
+
+-- what is no session ends in vain
+pub expires_nothing : (s : State) (session : ℤ) → finmap.get s.guests session ≡ None
+    → expire s session ≡ record { closed = None; after = record s { guests = finmap.remove s.guests session } }
+expires_nothing s session none =
+    ap (expire_as s session) none
+    ∙ (λ i. record { closed = None; after = record s { guests = sym (remove_absent int_cmp_total exact_signed s.guests session none) i } })
+
+-- a guest session ends, and its connection closes
+pub ends_closing : (s : State) (session : ℤ) (n : ℕ) → Agrees s → finmap.get s.guests session ≡ Some (Some n)
+    → Agrees (record s { guests = finmap.remove s.guests session; connections = finmap.remove s.connections n })
+ends_closing s session n a has =
+    subst (λ (guests : Guests). Agrees (record s { guests = guests; connections = finmap.remove s.connections n }))
+    (remove_inserted int_cmp_total exact_signed s.guests session None)
+    (ends (record s { guests = finmap.insert s.guests session None; connections = finmap.remove s.connections n }) session (closing_agrees s session n a has)
+    (λ m e. none-some m (some-some (sym (inserted int_cmp_total exact_signed s.guests session None) ∙ e))))
+
+pub expires_closing : (s : State) (session : ℤ) (n : ℕ) → Agrees s → finmap.get s.guests session ≡ Some (Some n)
+    → expire s session ≡ record { closed = Some n; after = record s { guests = finmap.remove s.guests session; connections = finmap.remove s.connections n } }
+expires_closing s session n a has =
+    ap (expire_as s session) has
+    ∙ ap (λ (x : State). record { closed = Some n; after = ended x session }) (closing s session n a has)
+    ∙ ap (λ (guests : Guests). record { closed = Some n; after = record s { guests = guests; connections = finmap.remove s.connections n } })
+    (remove_inserted int_cmp_total exact_signed s.guests session None)
 
 -- ---- a connection without a session gets one that no connection has
 
@@ -134,6 +177,73 @@ joins s n session a none free opened = record {
     few : (m : ℕ) (d : Connection) → AtConnection s.connections n new m d → length d.ids ≤ ids_limit
     few m d (inl b) = subst (λ (x : Connection). length x.ids ≤ ids_limit) b.1 (omega arith)
     few m d (inr b) = a.ids m d b.1
+
+-- ---- a session is given back
+
+-- two connections, since one has a session and the other has none
+older_apart : (s : State) (session : ℤ) (n older : ℕ) → Agrees s → finmap.get s.connections n ≡ None → finmap.get s.guests session ≡ Some (Some older) → older ≡ n → ⊥
+older_apart s session n older a none has same =
+    let at = a.connections session older has in
+    none-some (record { session = session; ids = at.0 }) (sym none ∙ sym (ap (finmap.get s.connections) same) ∙ at.1)
+
+-- where an older connection has it
+pub rejoins_older : (s : State) (n : ℕ) (request : SessionRequest) (older : ℕ) → Agrees s → finmap.get s.connections n ≡ None → finmap.get s.guests request.session_id ≡ Some (Some older)
+    → rejoin s n request ≡ record {
+        connected = record { response = welcome s.terms request.session_id request.time_out; older = Some older };
+        after = record s {
+            guests = finmap.insert s.guests request.session_id (Some n);
+            connections = finmap.remove (finmap.insert s.connections n (record { session = request.session_id; ids = [] })) older;
+          };
+      }
+rejoins_older s n request older a none has =
+    let id = request.session_id in
+    ap (λ (o : Option ℕ). accepted (close_one s o) n id request.time_out o) (ap connection_in has)
+    ∙ ap (λ (x : State). accepted x n id request.time_out (Some older)) (closing s id older a has)
+    ∙ (λ i. record {
+        connected = record { response = welcome s.terms id request.time_out; older = Some older };
+        after = record s {
+            guests = insert_inserted int_cmp_total exact_signed s.guests id (Some n) None i;
+            connections = sym (remove_past_insert nat_cmp_total exact_unsigned s.connections n (record { session = id; ids = [] }) older
+                (other nat_cmp_total exact_unsigned older n (older_apart s id n older a none has))) i;
+          };
+      })
+
+pub joins_older : (s : State) (n : ℕ) (session : ℤ) (older : ℕ) → Agrees s → finmap.get s.connections n ≡ None → finmap.get s.guests session ≡ Some (Some older)
+    → Agrees (record s {
+        guests = finmap.insert s.guests session (Some n);
+        connections = finmap.remove (finmap.insert s.connections n (record { session = session; ids = [] })) older;
+      })
+joins_older s n session older a none has =
+    subst (λ (x : Guests × Connections). Agrees (record s { guests = x.0; connections = x.1 }))
+    (λ i. (insert_inserted int_cmp_total exact_signed s.guests session (Some n) None i,
+    sym (remove_past_insert nat_cmp_total exact_unsigned s.connections n (record { session = session; ids = [] }) older
+    (other nat_cmp_total exact_unsigned older n (older_apart s session n older a none has))) i))
+    (joins (record s { guests = finmap.insert s.guests session None; connections = finmap.remove s.connections older }) n session
+    (closing_agrees s session older a has)
+    (removed_elsewhere nat_cmp_total exact_unsigned s.connections older n (other nat_cmp_total exact_unsigned n older (λ same. older_apart s session n older a none has (sym same))) ∙ none)
+    (λ m e. none-some m (some-some (sym (inserted int_cmp_total exact_signed s.guests session None) ∙ e)))
+    (a.opened session (Some older) has))
+
+-- where no connection has it
+pub rejoins_free : (s : State) (n : ℕ) (request : SessionRequest) → finmap.get s.guests request.session_id ≡ Some None
+    → rejoin s n request ≡ record {
+        connected = record { response = welcome s.terms request.session_id request.time_out; older = None };
+        after = joined s n request.session_id;
+      }
+rejoins_free s n request has =
+    ap (λ (o : Option ℕ). accepted (close_one s o) n request.session_id request.time_out o) (ap connection_in has)
+
+pub joins_free : (s : State) (n : ℕ) (session : ℤ) → Agrees s → finmap.get s.connections n ≡ None → finmap.get s.guests session ≡ Some None → Agrees (joined s n session)
+joins_free s n session a none has = joins s n session a none (λ m e. none-some m (some-some (sym has ∙ e))) (a.opened session None has)
+
+pub has_older : (r : Option (Option ℕ)) (n : ℕ) → connection_in r ≡ Some n → r ≡ Some (Some n)
+has_older None n e = absurd (none-some n e)
+has_older (Some o) n e = ap Some e
+
+pub has_none : (r : Option (Option ℕ)) → IsTrue (is_some r) → ((n : ℕ) → connection_in r ≡ Some n → ⊥) → r ≡ Some None
+has_none None known not = absurd (true≢false (sym known))
+has_none (Some None) known not = refl
+has_none (Some (Some n)) known not = absurd (not n refl)
 
 -- ---- an id is shown
 

@@ -111,10 +111,17 @@ impl Connections {
     }
 
     /// Takes the connection out, and answers it, if it had a session.
-    pub fn close(&mut self, number: u64) -> Option<Connection>
+    pub fn take(&mut self, number: u64) -> Option<Connection>
         ensures was { result ≡ finmap.get self.old number }
         ensures removed { self.new ≡ finmap.remove self.old number }
     {
         self.map.remove(&number)
+    }
+
+    /// Drops the connection.
+    pub fn close(&mut self, number: u64)
+        ensures { self.new ≡ finmap.remove self.old number }
+    {
+        self.take(number);
     }
 }

@@ -274,7 +274,7 @@ impl Sessions {
     pub fn close(&mut self, connection: u64)
         ensures { self.new ≡ close self.old connection }
     {
-        match self.connections.close(connection) {
+        match self.connections.take(connection) {
             None => return,
             Some(connection) => {
                 self.guests.replace(connection.session(), None);

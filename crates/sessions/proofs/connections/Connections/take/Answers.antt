@@ -3,7 +3,7 @@ use Rattle.std.specs.FinMap as finmap
 use Rattle.std.specs.Cmp.{nat_cmp_total}
 use Rattle.std.proofs.lemmas.Map.Lookups.{exact_unsigned}
 use Rattle.sessions.proofs.Maps.{get-seen, seen-remove}
-use Rattle.sessions.proofs.connections.Connections.close.Goals as goal
+use Rattle.sessions.proofs.connections.Connections.take.Goals as goal
 
 pub returns-clause-was : goal.returns-clause-was
 returns-clause-was c = c.remove.ensures.value ∙ sym (get-seen nat_cmp_total exact_unsigned c.self.inside.map c.args.number) ∙ ap (λ m. finmap.get m c.args.number) c.self.view_is
