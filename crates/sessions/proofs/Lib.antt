@@ -4,3 +4,5 @@ pub mod Maps
 pub mod Numbers
 -- What keeps sessions and connections in agreement
 pub mod Agreeing
+-- What "digest" and bytes show
+pub mod Texts

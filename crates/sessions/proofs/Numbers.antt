@@ -1,7 +1,7 @@
 -- Two counters of a server name two sessions.
-use Rattle.std.proofs.Common.{◌≡◌, ℕ, ◌+◌, ◌*◌, ◌^◌, ◌<◌, ◌≤◌, ℤ, pos, negsuc, sym, ap, ◌∙◌, arith, w64}
-use Rattle.std.specs.Prelude.{IsTrue, unsigned_abs, int_le, nat_le}
-use Rattle.std.specs.Int.{cast_signed, cast_unsigned}
+use Rattle.std.proofs.Common.{◌≡◌, ℕ, ◌+◌, ◌*◌, ◌^◌, ◌<◌, ℤ, pos, negsuc, sym, ap, ◌∙◌, arith, w64}
+use Rattle.std.specs.Prelude.{IsTrue, unsigned_abs}
+use Rattle.std.specs.Int.{cast_unsigned}
 use Rattle.std.proofs.lemmas.Int.{of_z-to_z}
 use Rattle.settings.specs.Settings.{is_server_id}
 use Rattle.sessions.specs.Credentials.{session_id_of, session_number}

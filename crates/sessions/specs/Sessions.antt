@@ -1,5 +1,5 @@
 -- What connecting, showing an id, closing and ending do to the sessions that an observer knows.
-use Rattle.std.specs.Prelude.{ℕ, suc, ◌+◌, ◌-◌, ◌^◌, ◌==◌, ◌&&◌, nat_lt, ℤ, pos, int_lt, List, [], ◌∷◌, ◌++◌, length, replicate, codes, Option, None, Some, Bool, true, false, if◌then◌else◌}
+use Rattle.std.specs.Prelude.{ℕ, ◌+◌, ◌-◌, ◌^◌, ◌==◌, ◌&&◌, nat_lt, ℤ, pos, int_lt, List, [], ◌∷◌, ◌++◌, length, replicate, codes, Option, None, Some, Bool, true, false, if◌then◌else◌}
 use Rattle.std.specs.Ordering.{int_eq}
 use Rattle.std.specs.List.{list_any}
 use Rattle.std.specs.Str.{bytes_eq, is_utf8}
@@ -10,7 +10,7 @@ use Rattle.sessions.specs.declared.request.SessionRequest.{SessionRequest}
 use Rattle.sessions.specs.declared.request.SessionResponse.{SessionResponse}
 use Rattle.sessions.specs.declared.request.Connected.{Connected}
 use Rattle.sessions.specs.Credentials.{session_id_of, password_of, digest_id}
-use Rattle.sessions.specs.State.{Terms, Connection, Guests, Connections, State}
+use Rattle.sessions.specs.State.{Terms, Connection, State}
 
 -- before any connection
 abbrev pub no_sessions : Terms → State
@@ -99,9 +99,9 @@ refused s = record { connected = record { response = refusal; older = None }; af
 -- the connection has the session from now on, and has shown no id
 abbrev pub joined : State → ℕ → ℤ → State
 joined s n session = record s {
-      guests = finmap.insert s.guests session (Some n);
-      connections = finmap.insert s.connections n (record { session = session; ids = [] });
-    }
+  guests = finmap.insert s.guests session (Some n);
+  connections = finmap.insert s.connections n (record { session = session; ids = [] });
+}
 
 abbrev pub accepted : State → ℕ → ℤ → ℤ → Option ℕ → Connects
 accepted s n session time_out older =

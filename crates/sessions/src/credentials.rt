@@ -3,14 +3,13 @@
 ghost use Rattle.std.specs.Prelude.{◌≡◌, ◌<◌, ◌^◌, IfOk};
 ghost use Rattle.sessions.specs.Credentials.{session_id_of, password_of, user_of, digest_id};
 
+use crate::request::PASSWORD_LEN;
 use base64::engine::general_purpose::STANDARD;
 use jute::Id;
 use settings::{Secret, ServerId};
 use sha1::Sha1;
 use std::alloc::Global;
 use values::{NoMemory, Text};
-
-use crate::request::PASSWORD_LEN;
 
 /// How many sessions one server may name: the counter stands below its number.
 pub const COUNTERS: u64 = 0x0100_0000_0000_0000;

@@ -7,16 +7,15 @@ ghost use Rattle.sessions.specs.State.{Terms};
 ghost use Rattle.sessions.specs.Sessions.{no_sessions, session_of, ids_of, close, expire, clamped, welcome, is_valid, open_new, rejoin, connect, refusal, show, digest_text, auth};
 ghost use Rattle.sessions.specs.Agreement.{Agrees};
 
+use crate::connections::Connections;
+use crate::credentials::{COUNTERS, digest_id, password, session_id};
+use crate::guests::Guests;
+use crate::request::{Connected, PASSWORD_LEN, SessionRequest, SessionResponse};
 use jute::Id;
 use settings::{Secret, ServerId, TimeoutBounds};
 use std::alloc::Global;
 use std::marker::Model;
 use values::NoMemory;
-
-use crate::connections::Connections;
-use crate::credentials::{COUNTERS, digest_id, password, session_id};
-use crate::guests::Guests;
-use crate::request::{Connected, PASSWORD_LEN, SessionRequest, SessionResponse};
 
 /// The most ids that a connection may show.
 pub const IDS_LIMIT: usize = 1024;
@@ -146,7 +145,12 @@ impl Sessions {
     }
 
     // Opens a new session.
-    fn open_new(&mut self, alloc: Global, connection: u64, time_out: i32) -> Result<Connected, NoMemory>
+    fn open_new(
+        &mut self,
+        alloc: Global,
+        connection: u64,
+        time_out: i32,
+    ) -> Result<Connected, NoMemory>
         requires { finmap.get self.old.connections connection ≡ None }
         ensures ok { IfOk result (λ connected. open_new self.old connection time_out
             ≡ record { connected = connected; after = self.new }) }

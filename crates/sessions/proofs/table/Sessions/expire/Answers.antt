@@ -3,7 +3,6 @@ use Rattle.std.specs.FinMap as finmap
 use Rattle.std.specs.Cmp.{int_cmp_total}
 use Rattle.std.proofs.lemmas.Map.Lookups.{exact_signed}
 use Rattle.std.proofs.lemmas.Int.{to_z-of_z}
-use Rattle.sessions.specs.Sessions.{expire}
 use Rattle.sessions.proofs.Maps.{remove_absent, none-some, some-some}
 use Rattle.sessions.proofs.Agreeing.{ends, ends_closing, expires_nothing, expires_closing}
 use Rattle.sessions.proofs.table.Sessions.expire.Goals as goal
