@@ -1,6 +1,6 @@
 //! Sessions, and who has them.
 
-ghost use Rattle.std.specs.Prelude.{◌≡◌, OnErr, IfOk, IsTrue, None};
+ghost use Rattle.std.specs.Prelude.{◌≡◌, OnErr, IfOk, IfNone, IsTrue, None};
 ghost use Rattle.std.specs.Option.{option_copied};
 ghost use Rattle.std.specs.FinMap as finmap;
 ghost use Rattle.sessions.specs.State.{Terms};
@@ -115,6 +115,7 @@ impl Sessions {
     /// The connection's session, if it has one.
     pub fn session(&self, connection: u64) -> Option<i64>
         ensures session { result ≡ session_of self.now connection }
+        ensures none { IfNone result (finmap.get self.now.connections connection ≡ None) }
         ensures agrees { Agrees self.now }
     {
         match self.connections.get(connection) {
