@@ -13,8 +13,13 @@ fn opened(alloc: Global) -> Result<Sessions, Fail> {
         session_id: 0,
         password: None,
     };
-    sessions.connect(alloc, 1, &request)?;
-    Ok(sessions)
+    match sessions.session(1) {
+        Some(_) => Ok(sessions),
+        None => {
+            sessions.connect(alloc, 1, &request)?;
+            Ok(sessions)
+        }
+    }
 }
 
 // The ids that connection 1 has shown, one after another.

@@ -6,3 +6,9 @@ pub mod Numbers
 pub mod Agreeing
 -- What "digest" and bytes show
 pub mod Texts
+-- Cases of definitions
+pub mod Cases
+-- Agreement after each step
+pub mod Kept
+-- What a step leaves of other connections
+pub mod Others

@@ -1,11 +1,13 @@
 -- How sessions and connections hang together.
-use Rattle.std.specs.Prelude.{◌≡◌, ℕ, ◌<◌, ◌≤◌, ◌^◌, ℤ, List, length, Option, Some, IsTrue}
+use Rattle.std.specs.Prelude.{◌≡◌, ◌≢◌, ℕ, ◌<◌, ◌≤◌, ◌^◌, ℤ, pos, List, length, Option, None, Some, IsTrue, if◌then◌else◌}
+use Rattle.std.specs.Ordering.{int_eq}
 use Rattle.std.specs.FinMap as finmap
 use Rattle.settings.specs.Settings.{is_server_id}
 use Rattle.jute.specs.declared.owned.Id.{Id}
 use Rattle.sessions.specs.Credentials.{session_id_of}
-use Rattle.sessions.specs.State.{Connection, State}
-use Rattle.sessions.specs.Sessions.{ids_limit}
+use Rattle.sessions.specs.declared.request.SessionRequest.{SessionRequest}
+use Rattle.sessions.specs.State.{Terms, Connection, State}
+use Rattle.sessions.specs.Sessions.{ids_limit, no_sessions, session_of, connect, auth, close, expire}
 
 -- the session was opened by this server with one of its counters so far
 pub record IsOpenedBy (server_id : ℤ) (counter : ℕ) (session : ℤ) : Type 0 where
@@ -32,3 +34,30 @@ pub record Agrees (s : State) : Type 0 where
 abbrev pub SessionsAreApart : Type 0
 SessionsAreApart = (s : State) → Agrees s → (m n : ℕ) (c d : Connection)
     → finmap.get s.connections m ≡ Some c → finmap.get s.connections n ≡ Some d → c.session ≡ d.session → m ≡ n
+
+-- ---- laws
+
+-- at the start sessions and connections agree, and they do after each step
+pub record AgreementIsKept : Type 0 where
+  pub starts : (terms : Terms) → IsTrue (is_server_id terms.server_id) → Agrees (no_sessions terms)
+  pub connects : (s : State) (n : ℕ) (request : SessionRequest) → Agrees s → finmap.get s.connections n ≡ None → Agrees (connect s n request).after
+  pub auths : (s : State) (n : ℕ) (scheme bytes : Option (List ℕ)) → Agrees s → Agrees (auth s n scheme bytes).after
+  pub closes : (s : State) (n : ℕ) → Agrees s → Agrees (close s n)
+  pub expires : (s : State) (session : ℤ) → Agrees s → Agrees (expire s session).after
+
+-- a step of one connection leaves the session and the ids of every other, save of the connection that it answers as closed
+pub record OthersStay : Type 0 where
+  pub connects : (s : State) (n : ℕ) (request : SessionRequest) (m : ℕ) → m ≢ n → (connect s n request).connected.older ≢ Some m
+      → finmap.get (connect s n request).after.connections m ≡ finmap.get s.connections m
+  pub auths : (s : State) (n : ℕ) (scheme bytes : Option (List ℕ)) (m : ℕ) → m ≢ n → finmap.get (auth s n scheme bytes).after.connections m ≡ finmap.get s.connections m
+  pub closes : (s : State) (n m : ℕ) → m ≢ n → finmap.get (close s n).connections m ≡ finmap.get s.connections m
+  pub expires : (s : State) (session : ℤ) (m : ℕ) → (expire s session).closed ≢ Some m → finmap.get (expire s session).after.connections m ≡ finmap.get s.connections m
+
+-- the session of this id, where 0 is none's
+abbrev pub named : ℤ → Option ℤ
+named session = if int_eq session (pos 0) then None else Some session
+
+-- no session is 0, so the answer's session tells whether the connection has one now
+abbrev pub AnswersTell : Type 0
+AnswersTell = (s : State) (n : ℕ) (request : SessionRequest) → Agrees s → finmap.get s.connections n ≡ None
+    → session_of (connect s n request).after n ≡ named (connect s n request).connected.response.session_id

@@ -1,9 +1,16 @@
 //! Laws of sessions. Each is the contract of a function that does nothing.
 
-ghost use Rattle.sessions.specs.Agreement.{SessionsAreApart};
+ghost use Rattle.sessions.specs.Agreement.{SessionsAreApart, AgreementIsKept, OthersStay, AnswersTell};
 
-/// Where sessions and connections agree, which they do in each `Sessions` (`Sessions::session` says it), no two connections
-/// have one session.
-pub fn sessions_are_apart()
-    ensures { SessionsAreApart }
+/// Sessions and connections agree from the start on; where they do, no two connections have one session, and an answer to a
+/// connect tells whether the connection has a session now.
+pub fn sessions_and_connections_agree()
+    ensures kept { AgreementIsKept }
+    ensures apart { SessionsAreApart }
+    ensures told { AnswersTell }
+{}
+
+/// A step of one connection leaves the session and the ids of every other one, save of the one that it answers as closed.
+pub fn others_stay()
+    ensures { OthersStay }
 {}

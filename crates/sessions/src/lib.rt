@@ -26,6 +26,6 @@ mod law;
 mod request;
 mod table;
 
-pub use law::sessions_are_apart;
+pub use law::{others_stay, sessions_and_connections_agree};
 pub use request::{Connected, PASSWORD_LEN, SessionRequest, SessionResponse};
 pub use table::{IDS_LIMIT, Sessions};

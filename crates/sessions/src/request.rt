@@ -6,7 +6,7 @@ use values::Bytes;
 pub const PASSWORD_LEN: usize = 16;
 
 /// What a client asks for as it connects: the fields of a ConnectRequest that tell which session it wants.
-#[derive(Debug, Drop)]
+#[derive(Drop)]
 pub struct SessionRequest<'a> {
     /// In milliseconds.
     pub time_out: i32,
@@ -16,9 +16,9 @@ pub struct SessionRequest<'a> {
     pub password: Option<Bytes<'a>>,
 }
 
-/// What a client is answered: the fields of a ConnectResponse. All are zeros where it is refused, and so is no field of
-/// one that is accepted.
-#[derive(Clone, Copy, Debug)]
+/// What a client is answered: the fields of a ConnectResponse. All are zeros where it is refused, and then the caller
+/// closes the connection; no session is 0.
+#[derive(Clone, Copy)]
 pub struct SessionResponse {
     /// In milliseconds.
     pub time_out: i32,
@@ -27,7 +27,7 @@ pub struct SessionResponse {
 }
 
 /// The answer, and the older connection of the session, which has no session any more and is to be closed before it.
-#[derive(Clone, Copy, Debug)]
+#[derive(Clone, Copy)]
 pub struct Connected {
     pub response: SessionResponse,
     pub older: Option<u64>,
