@@ -1,10 +1,10 @@
 //! Sessions, and who has them.
 
-ghost use Rattle.std.specs.Prelude.{◌≡◌, OnErr, IfOk, IfNone, IsTrue, None};
+ghost use Rattle.std.specs.Prelude.{◌≡◌, OnErr, IfOk, IfNone, IsTrue, None, nat_lt, length};
 ghost use Rattle.std.specs.Option.{option_copied};
 ghost use Rattle.std.specs.FinMap as finmap;
 ghost use Rattle.sessions.specs.State.{Terms};
-ghost use Rattle.sessions.specs.Sessions.{no_sessions, session_of, ids_of, close, expire, clamped, welcome, is_valid, open_new, rejoin, connect, refusal, show, digest_text, auth};
+ghost use Rattle.sessions.specs.Sessions.{no_sessions, session_of, ids_of, close, expire, clamped, welcome, is_valid, open_new, rejoin, connect, refusal, show, digest_text, auth, ids_limit};
 ghost use Rattle.sessions.specs.Agreement.{Agrees};
 
 use crate::connections::Connections;
@@ -89,6 +89,13 @@ fn digest_text<'a>(scheme: Option<&str>, bytes: Option<&'a [u8]>) -> Option<&'a 
         Err(_) => return None,
         Ok(text) => Some(text),
     }
+}
+
+// Whether one id more may be shown beside these.
+fn has_room(ids: &[Id]) -> bool
+    ensures { result ≡ nat_lt (length ids.now) ids_limit }
+{
+    ids.len() < IDS_LIMIT
 }
 
 impl Sessions {
@@ -249,7 +256,7 @@ impl Sessions {
         if shown.ids().contains(&id) {
             return Ok(true);
         }
-        if shown.ids().len() >= IDS_LIMIT {
+        if !has_room(shown.ids()) {
             return Ok(false);
         }
         self.connections.show(connection, id)?;
