@@ -72,24 +72,32 @@ fn two_sessions(alloc: Global) -> Result<Sessions, Fail> {
     Ok(sessions)
 }
 
+// What two connections of a server are answered, and who has sessions then.
+fn first_two(alloc: Global, server_id: i32) -> Result<String, Fail> {
+    let mut sessions = sessions_of(alloc, server_id)?;
+    let first = open(alloc, &mut sessions, 1)?;
+    let second = open(alloc, &mut sessions, 2)?;
+    let seats = seats(alloc, &sessions)?;
+    Ok(format!(in alloc; "{first}; {second}; {seats}")?)
+}
+
 #[test]
 fn new_sessions_count_up(rt: HostRuntime) -> Result<(), Fail> {
     let alloc = rt.alloc();
-    let mut sessions = sessions_of(alloc, 3)?;
-    assert_eq!(rt;
-        open(alloc, &mut sessions, 1)?.as_str(),
-        "10000 0300000000000001 9ac2a1548d95bd052e02843fc87606f6 -",
-    );
-    assert_eq!(rt;
-        open(alloc, &mut sessions, 2)?.as_str(),
-        "10000 0300000000000002 02e2a86c10104a0091022fc3f8030f6a -",
-    );
-    assert_eq!(rt; seats(alloc, &sessions)?.as_str(), "010200");
-    let mut high = sessions_of(alloc, 200)?;
-    assert_eq!(rt;
-        open(alloc, &mut high, 1)?.as_str(),
-        "10000 c800000000000001 9e03e5eed98fb3e3bb143d98810ae35a -",
-    );
+    for (server_id, expected) in [
+        (
+            3,
+            "10000 0300000000000001 9ac2a1548d95bd052e02843fc87606f6 -; \
+                10000 0300000000000002 02e2a86c10104a0091022fc3f8030f6a -; 010200",
+        ),
+        (
+            200,
+            "10000 c800000000000001 9e03e5eed98fb3e3bb143d98810ae35a -; \
+                10000 c800000000000002 650d62e3a8083a79fbdc159f70dcbd93 -; 010200",
+        ),
+    ] {
+        assert_eq!(rt; first_two(alloc, server_id)?.as_str(), expected);
+    }
     Ok(())
 }
 
@@ -141,17 +149,25 @@ fn third(alloc: Global, session_id: i64, password: Option<&[u8]>) -> Result<Stri
 fn a_session_wants_its_own_password(rt: HostRuntime) -> Result<(), Fail> {
     let alloc = rt.alloc();
     let refused = "0 0000000000000000 00000000000000000000000000000000 - 010200";
-    assert_eq!(rt; third(alloc, 5, Some(&[0; 16]))?.as_str(), refused);
-    assert_eq!(rt; third(alloc, FIRST, Some(&[0; 16]))?.as_str(), refused);
-    assert_eq!(rt;
-        third(alloc, SECOND, Some(FIRST_PASSWORD))?.as_str(),
-        refused
-    );
-    assert_eq!(rt;
-        third(alloc, FIRST, Some(&FIRST_PASSWORD[..15]))?.as_str(),
-        refused
-    );
-    assert_eq!(rt; third(alloc, FIRST, None)?.as_str(), refused);
+    let given: [(i64, Option<&[u8]>); 5] = [
+        (5, Some(&[0; 16])),
+        (FIRST, Some(&[0; 16])),
+        (SECOND, Some(FIRST_PASSWORD)),
+        (
+            FIRST,
+            Some(b"\x9a\xc2\xa1\x54\x8d\x95\xbd\x05\x2e\x02\x84\x3f\xc8\x76\x06"),
+        ),
+        (FIRST, None),
+    ];
+    for (session_id, password) in given {
+        assert_eq!(rt; third(alloc, session_id, password)?.as_str(), refused);
+    }
+    Ok(())
+}
+
+#[test]
+fn an_older_connection_gives_way(rt: HostRuntime) -> Result<(), Fail> {
+    let alloc = rt.alloc();
     assert_eq!(rt;
         third(alloc, FIRST, Some(FIRST_PASSWORD))?.as_str(),
         "10000 0300000000000001 9ac2a1548d95bd052e02843fc87606f6 1 000201",

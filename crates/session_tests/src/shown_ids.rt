@@ -66,14 +66,15 @@ fn a_digest_id_is_shown_once(rt: HostRuntime) -> Result<(), Fail> {
 fn what_is_no_digest_id_is_refused(rt: HostRuntime) -> Result<(), Fail> {
     let alloc = rt.alloc();
     let refused = "false digest super:xQJmxLMiHGwaqBvst5y6rkB6HQs=;";
-    let admin: Option<&[u8]> = Some(b"super:admin");
-    assert_eq!(rt; shown(alloc, None, admin)?.as_str(), refused);
-    assert_eq!(rt; shown(alloc, Some("world"), admin)?.as_str(), refused);
-    assert_eq!(rt; shown(alloc, Some("digest"), None)?.as_str(), refused);
-    assert_eq!(rt;
-        shown(alloc, Some("digest"), Some(b"a:\xff"))?.as_str(),
-        refused
-    );
+    let given: [(Option<&str>, Option<&[u8]>); 4] = [
+        (None, Some(b"super:admin")),
+        (Some("world"), Some(b"super:admin")),
+        (Some("digest"), None),
+        (Some("digest"), Some(b"a:\xff")),
+    ];
+    for (scheme, bytes) in given {
+        assert_eq!(rt; shown(alloc, scheme, bytes)?.as_str(), refused);
+    }
     Ok(())
 }
 
