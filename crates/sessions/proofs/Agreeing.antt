@@ -18,7 +18,8 @@ use Rattle.sessions.proofs.Numbers.{counters_apart}
 
 -- a connection that has this session
 abbrev pub Has : ℤ → Connections → ℕ → Type 0
-Has session connections n = (ids : List Id) × (finmap.get connections n ≡ Some (record { session = session; ids = ids }))
+Has session connections n = (ids : List Id)
+    × (finmap.get connections n ≡ Some (record { session = session; ids = ids }))
 
 abbrev pub AtGuest : Guests → ℤ → Option ℕ → ℤ → Option ℕ → Type 0
 AtGuest guests key new session o =
@@ -48,21 +49,26 @@ sessions_are_apart s a m n c d at_m at_n same =
 
 -- ---- a connection closes
 
-pub closed : (s : State) (n : ℕ) (c : Connection) → Agrees s → finmap.get s.connections n ≡ Some c → Agrees (close_as s n (Some c))
+pub closed : (s : State) (n : ℕ) (c : Connection) → Agrees s → finmap.get s.connections n ≡ Some c
+    → Agrees (close_as s n (Some c))
 closed s n c a here = record {
   server_id = a.server_id;
   counter = a.counter;
   guests = λ m d e.
       let was = at_removed nat_cmp_total exact_unsigned s.connections n m d e in
       inserted_elsewhere int_cmp_total exact_signed s.guests c.session None d.session
-      (other int_cmp_total exact_signed d.session c.session (λ same. apart nat_cmp_total exact_unsigned m n was.0 (sessions_are_apart s a m n d c was.1 here same)))
+      (other int_cmp_total exact_signed d.session c.session
+      (λ same. apart nat_cmp_total exact_unsigned m n was.0 (sessions_are_apart s a m n d c was.1 here same)))
       ∙ a.guests m d was.1;
-  connections = λ session m e. still session m (at_inserted int_cmp_total exact_signed s.guests c.session None session (Some m) e);
+  connections =
+      λ session m e. still session m (at_inserted int_cmp_total exact_signed s.guests c.session None session
+      (Some m) e);
   opened = λ session o e. from session o (at_inserted int_cmp_total exact_signed s.guests c.session None session o e);
   ids = λ m d e. a.ids m d (at_removed nat_cmp_total exact_unsigned s.connections n m d e).1;
 }
   where
-    still : (session : ℤ) (m : ℕ) → AtGuest s.guests c.session None session (Some m) → Has session (finmap.remove s.connections n) m
+    still : (session : ℤ) (m : ℕ) → AtGuest s.guests c.session None session (Some m)
+        → Has session (finmap.remove s.connections n) m
     still session m (inl b) = absurd (none-some m b.1)
     still session m (inr b) =
         let old = a.connections session m b.1 in (
@@ -73,12 +79,16 @@ closed s n c a here = record {
               ∙ old.1,
         )
 
-    from : (session : ℤ) (o : Option ℕ) → AtGuest s.guests c.session None session o → IsOpenedBy s.terms.server_id s.counter session
-    from session o (inl b) = subst (λ x. IsOpenedBy s.terms.server_id s.counter x) (sym b.0) (a.opened c.session (Some n) (a.guests n c here))
+    from : (session : ℤ) (o : Option ℕ) → AtGuest s.guests c.session None session o
+        → IsOpenedBy s.terms.server_id s.counter session
+    from session o (inl b) =
+        subst (λ x. IsOpenedBy s.terms.server_id s.counter x) (sym b.0)
+        (a.opened c.session (Some n) (a.guests n c here))
     from session o (inr b) = a.opened session o b.1
 
 -- a connection that has no session is taken out in vain
-pub unclosed : (s : State) (n : ℕ) → finmap.get s.connections n ≡ None → record s { connections = finmap.remove s.connections n } ≡ close s n
+pub unclosed : (s : State) (n : ℕ) → finmap.get s.connections n ≡ None
+    → record s { connections = finmap.remove s.connections n } ≡ close s n
 unclosed s n none =
     (λ i. record s { connections = remove_absent nat_cmp_total exact_unsigned s.connections n none i })
     ∙ ap (close_as s n) (sym none)
@@ -105,7 +115,8 @@ ends s session a free = record {
   counter = a.counter;
   guests = λ m d e.
       removed_elsewhere int_cmp_total exact_signed s.guests session d.session
-      (other int_cmp_total exact_signed d.session session (λ same. free m (sym (ap (finmap.get s.guests) same) ∙ a.guests m d e)))
+      (other int_cmp_total exact_signed d.session session
+      (λ same. free m (sym (ap (finmap.get s.guests) same) ∙ a.guests m d e)))
       ∙ a.guests m d e;
   connections = λ t m e. a.connections t m (at_removed int_cmp_total exact_signed s.guests session t (Some m) e).1;
   opened = λ t o e. a.opened t o (at_removed int_cmp_total exact_signed s.guests session t o e).1;
@@ -117,7 +128,11 @@ pub expires_nothing : (s : State) (session : ℤ) → finmap.get s.guests sessio
     → expire s session ≡ record { closed = None; after = record s { guests = finmap.remove s.guests session } }
 expires_nothing s session none =
     ap (expire_as s session) none
-    ∙ (λ i. record { closed = None; after = record s { guests = sym (remove_absent int_cmp_total exact_signed s.guests session none) i } })
+    ∙ (λ i. record {
+      closed = None;
+      after = record s
+          { guests = sym (remove_absent int_cmp_total exact_signed s.guests session none) i };
+    })
 
 -- a guest session ends, and its connection closes
 pub ends_closing : (s : State) (session : ℤ) (n : ℕ) → Agrees s → finmap.get s.guests session ≡ Some (Some n)
@@ -125,20 +140,31 @@ pub ends_closing : (s : State) (session : ℤ) (n : ℕ) → Agrees s → finmap
 ends_closing s session n a has =
     subst (λ (guests : Guests). Agrees (record s { guests = guests; connections = finmap.remove s.connections n }))
     (remove_inserted int_cmp_total exact_signed s.guests session None)
-    (ends (record s { guests = finmap.insert s.guests session None; connections = finmap.remove s.connections n }) session (closing_agrees s session n a has)
+    (ends (record s
+    { guests = finmap.insert s.guests session None; connections = finmap.remove s.connections n }) session
+    (closing_agrees s session n a has)
     (λ m e. none-some m (some-some (sym (inserted int_cmp_total exact_signed s.guests session None) ∙ e))))
 
 pub expires_closing : (s : State) (session : ℤ) (n : ℕ) → Agrees s → finmap.get s.guests session ≡ Some (Some n)
-    → expire s session ≡ record { closed = Some n; after = record s { guests = finmap.remove s.guests session; connections = finmap.remove s.connections n } }
+    → expire s session ≡ record {
+      closed = Some n;
+      after = record s
+          { guests = finmap.remove s.guests session; connections = finmap.remove s.connections n };
+    }
 expires_closing s session n a has =
     ap (expire_as s session) has
     ∙ ap (λ (x : State). record { closed = Some n; after = ended x session }) (closing s session n a has)
-    ∙ ap (λ (guests : Guests). record { closed = Some n; after = record s { guests = guests; connections = finmap.remove s.connections n } })
+    ∙ ap (λ (guests : Guests). record {
+      closed = Some n;
+      after = record s
+          { guests = guests; connections = finmap.remove s.connections n };
+    })
     (remove_inserted int_cmp_total exact_signed s.guests session None)
 
 -- ---- a connection without a session gets one that no connection has
 
-pub joins : (s : State) (n : ℕ) (session : ℤ) → Agrees s → finmap.get s.connections n ≡ None → IsFree s session → IsOpenedBy s.terms.server_id s.counter session → Agrees (joined s n session)
+pub joins : (s : State) (n : ℕ) (session : ℤ) → Agrees s → finmap.get s.connections n ≡ None → IsFree s session
+    → IsOpenedBy s.terms.server_id s.counter session → Agrees (joined s n session)
 joins s n session a none free opened = record {
   server_id = a.server_id;
   counter = a.counter;
@@ -151,14 +177,16 @@ joins s n session a none free opened = record {
     new : Connection
     new = record { session = session; ids = [] }
 
-    has : (m : ℕ) (d : Connection) → AtConnection s.connections n new m d → finmap.get (finmap.insert s.guests session (Some n)) d.session ≡ Some (Some m)
+    has : (m : ℕ) (d : Connection) → AtConnection s.connections n new m d
+        → finmap.get (finmap.insert s.guests session (Some n)) d.session ≡ Some (Some m)
     has m d (inl b) =
         (λ i. finmap.get (finmap.insert s.guests session (Some n)) ((sym b.1 i).session))
         ∙ inserted int_cmp_total exact_signed s.guests session (Some n)
         ∙ ap (λ x. Some (Some x)) (sym b.0)
     has m d (inr b) =
         inserted_elsewhere int_cmp_total exact_signed s.guests session (Some n) d.session
-        (other int_cmp_total exact_signed d.session session (λ same. free m (sym (ap (finmap.get s.guests) same) ∙ a.guests m d b.1)))
+        (other int_cmp_total exact_signed d.session session
+        (λ same. free m (sym (ap (finmap.get s.guests) same) ∙ a.guests m d b.1)))
         ∙ a.guests m d b.1
 
     of : (t : ℤ) (m : ℕ) → AtGuest s.guests session (Some n) t (Some m) → Has t (finmap.insert s.connections n new) m
@@ -172,7 +200,9 @@ joins s n session a none free opened = record {
         let old = a.connections t m b.1 in (
           old.0,
           inserted_elsewhere nat_cmp_total exact_unsigned s.connections n new m
-              (other nat_cmp_total exact_unsigned m n (λ same. none-some (record { session = t; ids = old.0 }) (sym none ∙ sym (ap (finmap.get s.connections) same) ∙ old.1)))
+              (other nat_cmp_total exact_unsigned m n
+              (λ same. none-some (record { session = t; ids = old.0 })
+              (sym none ∙ sym (ap (finmap.get s.connections) same) ∙ old.1)))
               ∙ old.1,
         )
 
@@ -187,18 +217,21 @@ joins s n session a none free opened = record {
 -- ---- a session is given back
 
 -- two connections, since one has a session and the other has none
-older_apart : (s : State) (session : ℤ) (n older : ℕ) → Agrees s → finmap.get s.connections n ≡ None → finmap.get s.guests session ≡ Some (Some older) → older ≡ n → ⊥
+older_apart : (s : State) (session : ℤ) (n older : ℕ) → Agrees s → finmap.get s.connections n ≡ None
+    → finmap.get s.guests session ≡ Some (Some older) → older ≡ n → ⊥
 older_apart s session n older a none has same =
     let at = a.connections session older has in
     none-some (record { session = session; ids = at.0 }) (sym none ∙ sym (ap (finmap.get s.connections) same) ∙ at.1)
 
 -- where an older connection has it
-pub rejoins_older : (s : State) (n : ℕ) (request : SessionRequest) (older : ℕ) → Agrees s → finmap.get s.connections n ≡ None → finmap.get s.guests request.session_id ≡ Some (Some older)
+pub rejoins_older : (s : State) (n : ℕ) (request : SessionRequest) (older : ℕ) → Agrees s
+    → finmap.get s.connections n ≡ None → finmap.get s.guests request.session_id ≡ Some (Some older)
     → rejoin s n request ≡ record {
       connected = record { response = welcome s.terms request.session_id request.time_out; older = Some older };
       after = record s {
         guests = finmap.insert s.guests request.session_id (Some n);
-        connections = finmap.remove (finmap.insert s.connections n (record { session = request.session_id; ids = [] })) older;
+        connections =
+            finmap.remove (finmap.insert s.connections n (record { session = request.session_id; ids = [] })) older;
       };
     }
 rejoins_older s n request older a none has =
@@ -209,12 +242,15 @@ rejoins_older s n request older a none has =
       connected = record { response = welcome s.terms id request.time_out; older = Some older };
       after = record s {
         guests = insert_inserted int_cmp_total exact_signed s.guests id (Some n) None i;
-        connections = sym (remove_past_insert nat_cmp_total exact_unsigned s.connections n (record { session = id; ids = [] }) older
+        connections =
+            sym (remove_past_insert nat_cmp_total exact_unsigned s.connections n
+            (record { session = id; ids = [] }) older
             (other nat_cmp_total exact_unsigned older n (older_apart s id n older a none has))) i;
       };
     })
 
-pub joins_older : (s : State) (n : ℕ) (session : ℤ) (older : ℕ) → Agrees s → finmap.get s.connections n ≡ None → finmap.get s.guests session ≡ Some (Some older)
+pub joins_older : (s : State) (n : ℕ) (session : ℤ) (older : ℕ) → Agrees s → finmap.get s.connections n ≡ None
+    → finmap.get s.guests session ≡ Some (Some older)
     → Agrees (record s {
       guests = finmap.insert s.guests session (Some n);
       connections = finmap.remove (finmap.insert s.connections n (record { session = session; ids = [] })) older;
@@ -223,12 +259,16 @@ joins_older s n session older a none has =
     subst (λ (x : Guests × Connections). Agrees (record s { guests = x.0; connections = x.1 }))
     (λ i. (
       insert_inserted int_cmp_total exact_signed s.guests session (Some n) None i,
-      sym (remove_past_insert nat_cmp_total exact_unsigned s.connections n (record { session = session; ids = [] }) older
+      sym (remove_past_insert nat_cmp_total exact_unsigned s.connections n
+          (record { session = session; ids = [] }) older
           (other nat_cmp_total exact_unsigned older n (older_apart s session n older a none has))) i,
     ))
-    (joins (record s { guests = finmap.insert s.guests session None; connections = finmap.remove s.connections older }) n session
+    (joins (record s
+    { guests = finmap.insert s.guests session None; connections = finmap.remove s.connections older }) n session
     (closing_agrees s session older a has)
-    (removed_elsewhere nat_cmp_total exact_unsigned s.connections older n (other nat_cmp_total exact_unsigned n older (λ same. older_apart s session n older a none has (sym same))) ∙ none)
+    (removed_elsewhere nat_cmp_total exact_unsigned s.connections older n
+    (other nat_cmp_total exact_unsigned n older (λ same. older_apart s session n older a none has (sym same)))
+    ∙ none)
     (λ m e. none-some m (some-some (sym (inserted int_cmp_total exact_signed s.guests session None) ∙ e)))
     (a.opened session (Some older) has))
 
@@ -241,8 +281,10 @@ pub rejoins_free : (s : State) (n : ℕ) (request : SessionRequest) → finmap.g
 rejoins_free s n request has =
     ap (λ (o : Option ℕ). accepted (close_one s o) n request.session_id request.time_out o) (ap connection_in has)
 
-pub joins_free : (s : State) (n : ℕ) (session : ℤ) → Agrees s → finmap.get s.connections n ≡ None → finmap.get s.guests session ≡ Some None → Agrees (joined s n session)
-joins_free s n session a none has = joins s n session a none (λ m e. none-some m (some-some (sym has ∙ e))) (a.opened session None has)
+pub joins_free : (s : State) (n : ℕ) (session : ℤ) → Agrees s → finmap.get s.connections n ≡ None
+    → finmap.get s.guests session ≡ Some None → Agrees (joined s n session)
+joins_free s n session a none has =
+    joins s n session a none (λ m e. none-some m (some-some (sym has ∙ e))) (a.opened session None has)
 
 pub has_older : (r : Option (Option ℕ)) (n : ℕ) → connection_in r ≡ Some n → r ≡ Some (Some n)
 has_older None n e = absurd (none-some n e)
@@ -255,7 +297,8 @@ has_none (Some (Some n)) known not = absurd (not n refl)
 
 -- ---- an id is shown
 
-pub shows : (s : State) (n : ℕ) (c : Connection) (id : Id) → Agrees s → finmap.get s.connections n ≡ Some c → length c.ids < ids_limit
+pub shows : (s : State) (n : ℕ) (c : Connection) (id : Id) → Agrees s → finmap.get s.connections n ≡ Some c
+    → length c.ids < ids_limit
     → Agrees (record s { connections = finmap.insert s.connections n (with_id c id) })
 shows s n c id a here below = record {
   server_id = a.server_id;
@@ -266,7 +309,8 @@ shows s n c id a here below = record {
   ids = λ m d e. few m d (at_inserted nat_cmp_total exact_unsigned s.connections n (with_id c id) m d e);
 }
   where
-    has : (m : ℕ) (d : Connection) → AtConnection s.connections n (with_id c id) m d → finmap.get s.guests d.session ≡ Some (Some m)
+    has : (m : ℕ) (d : Connection) → AtConnection s.connections n (with_id c id) m d
+        → finmap.get s.guests d.session ≡ Some (Some m)
     has m d (inl b) =
         (λ i. finmap.get s.guests ((sym b.1 i).session)) ∙ a.guests n c here ∙ ap (λ x. Some (Some x)) (sym b.0)
     has m d (inr b) = a.guests m d b.1
@@ -274,10 +318,13 @@ shows s n c id a here below = record {
     same_or : (t : ℤ) (m : ℕ) → finmap.get s.guests t ≡ Some (Some m) → (m ≡ n) ⊎ (eq_by_cmp nat_cmp m n ≡ false)
     same_or t m e = same_or_other nat_cmp_total exact_unsigned m n
 
-    of : (t : ℤ) (m : ℕ) → finmap.get s.guests t ≡ Some (Some m) → (m ≡ n) ⊎ (eq_by_cmp nat_cmp m n ≡ false) → Has t (finmap.insert s.connections n (with_id c id)) m
+    of : (t : ℤ) (m : ℕ) → finmap.get s.guests t ≡ Some (Some m) → (m ≡ n) ⊎ (eq_by_cmp nat_cmp m n ≡ false)
+        → Has t (finmap.insert s.connections n (with_id c id)) m
     of t m e (inl same) =
         let old = a.connections t m e in
-        let session : c.session ≡ t = ap (λ (x : Connection). x.session) (some-some (sym here ∙ sym (ap (finmap.get s.connections) same) ∙ old.1)) in (
+        let session : c.session ≡ t =
+        ap (λ (x : Connection). x.session) (some-some
+        (sym here ∙ sym (ap (finmap.get s.connections) same) ∙ old.1)) in (
           c.ids ++ id ∷ [],
           ap (finmap.get (finmap.insert s.connections n (with_id c id))) same
               ∙ inserted nat_cmp_total exact_unsigned s.connections n (with_id c id)
@@ -288,13 +335,17 @@ shows s n c id a here below = record {
         (old.0, inserted_elsewhere nat_cmp_total exact_unsigned s.connections n (with_id c id) m f ∙ old.1)
 
     few : (m : ℕ) (d : Connection) → AtConnection s.connections n (with_id c id) m d → length d.ids ≤ ids_limit
-    few m d (inl b) = subst (λ (x : Connection). length x.ids ≤ ids_limit) b.1 (let e : length (c.ids ++ id ∷ []) ≡ length c.ids + 1 = length-append c.ids (id ∷ []) in omega arith)
+    few m d (inl b) =
+        subst (λ (x : Connection). length x.ids ≤ ids_limit) b.1
+        (let e : length (c.ids ++ id ∷ []) ≡ length c.ids + 1 = length-append c.ids (id ∷ []) in omega arith)
     few m d (inr b) = a.ids m d b.1
 
 -- ---- the next counter
 
-raised : (server_id : ℤ) (counter : ℕ) (session : ℤ) → IsOpenedBy server_id counter session → IsOpenedBy server_id (counter + 1) session
-raised server_id counter session o = record { own = o.own; first = o.first; last = (let h = o.last in omega arith); is = o.is }
+raised : (server_id : ℤ) (counter : ℕ) (session : ℤ) → IsOpenedBy server_id counter session
+    → IsOpenedBy server_id (counter + 1) session
+raised server_id counter session o =
+    record { own = o.own; first = o.first; last = (let h = o.last in omega arith); is = o.is }
 
 pub counts : (s : State) → Agrees s → s.counter + 1 < 2 ^ 56 → Agrees (record s { counter = s.counter + 1 })
 counts s a below = record {
@@ -310,15 +361,18 @@ pub next : (server_id : ℤ) (counter : ℕ) → IsOpenedBy server_id (counter +
 next server_id counter = record { own = counter + 1; first = omega arith; last = omega arith; is = refl }
 
 -- no session has that counter yet
-pub fresh : (s : State) → Agrees s → s.counter + 1 < 2 ^ 56 → finmap.get s.guests (session_id_of s.terms.server_id (s.counter + 1)) ≡ None
+pub fresh : (s : State) → Agrees s → s.counter + 1 < 2 ^ 56
+    → finmap.get s.guests (session_id_of s.terms.server_id (s.counter + 1)) ≡ None
 fresh s a below = by (finmap.get s.guests (session_id_of s.terms.server_id (s.counter + 1))) refl
   where
     old : IsOpenedBy s.terms.server_id s.counter (session_id_of s.terms.server_id (s.counter + 1)) → ⊥
     old h =
         let last = h.last in
-        let same : s.counter + 1 ≡ h.own = counters_apart s.terms.server_id (s.counter + 1) h.own a.server_id below (omega arith) h.is in
+        let same : s.counter + 1 ≡ h.own =
+        counters_apart s.terms.server_id (s.counter + 1) h.own a.server_id below (omega arith) h.is in
         omega arith
 
-    by : (r : Option (Option ℕ)) → finmap.get s.guests (session_id_of s.terms.server_id (s.counter + 1)) ≡ r → finmap.get s.guests (session_id_of s.terms.server_id (s.counter + 1)) ≡ None
+    by : (r : Option (Option ℕ)) → finmap.get s.guests (session_id_of s.terms.server_id (s.counter + 1)) ≡ r
+        → finmap.get s.guests (session_id_of s.terms.server_id (s.counter + 1)) ≡ None
     by None e = e
     by (Some o) e = absurd (old (a.opened (session_id_of s.terms.server_id (s.counter + 1)) o e))

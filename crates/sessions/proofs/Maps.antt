@@ -50,30 +50,38 @@ module _ {K X : Type 0} {R : K → K → Ordering} (o : IsTotalOrder R) (exact :
   pub get-seen : (m : BTreeMap K X) (q : K) → finmap.get (seen m.entries) q ≡ tree.get R m q
   get-seen m q = finmap.get-from_entries o m.entries q ∙ find-lookup m.entries q
 
-  get-updated : (k : K) (m n : BTreeMap K X) (w : Option X) → tree.UpdatesBy R (R k) m n w → (q : K) → finmap.get (seen n.entries) q ≡ cond (eq_by_cmp R q k) w (finmap.get (seen m.entries) q)
+  get-updated : (k : K) (m n : BTreeMap K X) (w : Option X) → tree.UpdatesBy R (R k) m n w → (q : K)
+      → finmap.get (seen n.entries) q ≡ cond (eq_by_cmp R q k) w (finmap.get (seen m.entries) q)
   get-updated k m n w u q =
       get-seen n q ∙ u.0 q
       ∙ ap (λ b. cond b w (tree.get R m q)) ((eq_by_cmp_equiv o).symm k q)
       ∙ ap (cond (eq_by_cmp R q k) w) (sym (get-seen m q))
 
-  pub seen-insert : (k : K) (m n : BTreeMap K X) (v : X) → tree.UpdatesBy R (R k) m n (Some v) → seen n.entries ≡ finmap.insert (seen m.entries) k v
-  seen-insert k m n v u = finmap.same_map o exact _ _ (λ q. get-updated k m n (Some v) u q ∙ sym (finmap.get-insert o (seen m.entries) k v q))
+  pub seen-insert : (k : K) (m n : BTreeMap K X) (v : X) → tree.UpdatesBy R (R k) m n (Some v)
+      → seen n.entries ≡ finmap.insert (seen m.entries) k v
+  seen-insert k m n v u =
+      finmap.same_map o exact _ _ (λ q. get-updated k m n (Some v) u q
+      ∙ sym (finmap.get-insert o (seen m.entries) k v q))
 
-  pub seen-remove : (k : K) (m n : BTreeMap K X) → tree.UpdatesBy R (R k) m n None → seen n.entries ≡ finmap.remove (seen m.entries) k
-  seen-remove k m n u = finmap.same_map o exact _ _ (λ q. get-updated k m n None u q ∙ sym (finmap.get-remove o (seen m.entries) k q))
+  pub seen-remove : (k : K) (m n : BTreeMap K X) → tree.UpdatesBy R (R k) m n None
+      → seen n.entries ≡ finmap.remove (seen m.entries) k
+  seen-remove k m n u =
+      finmap.same_map o exact _ _ (λ q. get-updated k m n None u q ∙ sym (finmap.get-remove o (seen m.entries) k q))
 
   -- ---- at the key itself, and elsewhere
 
   pub inserted : (m : finmap.FinMap R X) (k : K) (v : X) → finmap.get (finmap.insert m k v) k ≡ Some v
   inserted m k v = finmap.get-insert o m k v k ∙ ap (λ b. cond b (Some v) (finmap.get m k)) (same_key o exact k)
 
-  pub inserted_elsewhere : (m : finmap.FinMap R X) (k : K) (v : X) (q : K) → eq_by_cmp R q k ≡ false → finmap.get (finmap.insert m k v) q ≡ finmap.get m q
+  pub inserted_elsewhere : (m : finmap.FinMap R X) (k : K) (v : X) (q : K) → eq_by_cmp R q k ≡ false
+      → finmap.get (finmap.insert m k v) q ≡ finmap.get m q
   inserted_elsewhere m k v q e = finmap.get-insert o m k v q ∙ ap (λ b. cond b (Some v) (finmap.get m q)) e
 
   pub removed : (m : finmap.FinMap R X) (k : K) → finmap.get (finmap.remove m k) k ≡ None
   removed m k = finmap.get-remove o m k k ∙ ap (λ b. cond b None (finmap.get m k)) (same_key o exact k)
 
-  pub removed_elsewhere : (m : finmap.FinMap R X) (k q : K) → eq_by_cmp R q k ≡ false → finmap.get (finmap.remove m k) q ≡ finmap.get m q
+  pub removed_elsewhere : (m : finmap.FinMap R X) (k q : K) → eq_by_cmp R q k ≡ false
+      → finmap.get (finmap.remove m k) q ≡ finmap.get m q
   removed_elsewhere m k q e = finmap.get-remove o m k q ∙ ap (λ b. cond b None (finmap.get m q)) e
 
   -- ---- two changes
@@ -92,39 +100,56 @@ module _ {K X : Type 0} {R : K → K → Ordering} (o : IsTotalOrder R) (exact :
       by q (inl e) = ap (finmap.get (finmap.remove m k)) e ∙ removed m k ∙ sym none ∙ sym (ap (finmap.get m) e)
       by q (inr e) = removed_elsewhere m k q e
 
-  pub remove_inserted : (m : finmap.FinMap R X) (k : K) (v : X) → finmap.remove (finmap.insert m k v) k ≡ finmap.remove m k
+  pub remove_inserted : (m : finmap.FinMap R X) (k : K) (v : X)
+      → finmap.remove (finmap.insert m k v) k ≡ finmap.remove m k
   remove_inserted m k v = finmap.same_map o exact _ _ (λ q. by q (same_or_other o exact q k))
     where
-      by : (q : K) → (q ≡ k) ⊎ (eq_by_cmp R q k ≡ false) → finmap.get (finmap.remove (finmap.insert m k v) k) q ≡ finmap.get (finmap.remove m k) q
-      by q (inl e) = ap (finmap.get (finmap.remove (finmap.insert m k v) k)) e ∙ removed (finmap.insert m k v) k ∙ sym (removed m k) ∙ sym (ap (finmap.get (finmap.remove m k)) e)
-      by q (inr e) = removed_elsewhere (finmap.insert m k v) k q e ∙ inserted_elsewhere m k v q e ∙ sym (removed_elsewhere m k q e)
+      by : (q : K) → (q ≡ k) ⊎ (eq_by_cmp R q k ≡ false)
+          → finmap.get (finmap.remove (finmap.insert m k v) k) q ≡ finmap.get (finmap.remove m k) q
+      by q (inl e) = ap (finmap.get (finmap.remove (finmap.insert m k v) k)) e ∙ removed (finmap.insert m k v) k
+          ∙ sym (removed m k) ∙ sym (ap (finmap.get (finmap.remove m k)) e)
+      by q (inr e) = removed_elsewhere (finmap.insert m k v) k q e ∙ inserted_elsewhere m k v q e
+          ∙ sym (removed_elsewhere m k q e)
 
-  pub insert_inserted : (m : finmap.FinMap R X) (k : K) (v w : X) → finmap.insert (finmap.insert m k w) k v ≡ finmap.insert m k v
+  pub insert_inserted : (m : finmap.FinMap R X) (k : K) (v w : X)
+      → finmap.insert (finmap.insert m k w) k v ≡ finmap.insert m k v
   insert_inserted m k v w = finmap.same_map o exact _ _ (λ q. by q (same_or_other o exact q k))
     where
-      by : (q : K) → (q ≡ k) ⊎ (eq_by_cmp R q k ≡ false) → finmap.get (finmap.insert (finmap.insert m k w) k v) q ≡ finmap.get (finmap.insert m k v) q
-      by q (inl e) = ap (finmap.get (finmap.insert (finmap.insert m k w) k v)) e ∙ inserted (finmap.insert m k w) k v ∙ sym (inserted m k v) ∙ sym (ap (finmap.get (finmap.insert m k v)) e)
-      by q (inr e) = inserted_elsewhere (finmap.insert m k w) k v q e ∙ inserted_elsewhere m k w q e ∙ sym (inserted_elsewhere m k v q e)
+      by : (q : K) → (q ≡ k) ⊎ (eq_by_cmp R q k ≡ false)
+          → finmap.get (finmap.insert (finmap.insert m k w) k v) q ≡ finmap.get (finmap.insert m k v) q
+      by q (inl e) = ap (finmap.get (finmap.insert (finmap.insert m k w) k v)) e ∙ inserted (finmap.insert m k w) k v
+          ∙ sym (inserted m k v) ∙ sym (ap (finmap.get (finmap.insert m k v)) e)
+      by q (inr e) = inserted_elsewhere (finmap.insert m k w) k v q e ∙ inserted_elsewhere m k w q e
+          ∙ sym (inserted_elsewhere m k v q e)
 
   -- changes at two keys
-  pub remove_past_insert : (m : finmap.FinMap R X) (k : K) (v : X) (j : K) → eq_by_cmp R j k ≡ false → finmap.remove (finmap.insert m k v) j ≡ finmap.insert (finmap.remove m j) k v
+  pub remove_past_insert : (m : finmap.FinMap R X) (k : K) (v : X) (j : K) → eq_by_cmp R j k ≡ false
+      → finmap.remove (finmap.insert m k v) j ≡ finmap.insert (finmap.remove m j) k v
   remove_past_insert m k v j apart = finmap.same_map o exact _ _ (λ q. by q (same_or_other o exact q j))
     where
-      else_at : (q : K) → eq_by_cmp R q j ≡ false → (q ≡ k) ⊎ (eq_by_cmp R q k ≡ false) → finmap.get (finmap.insert m k v) q ≡ finmap.get (finmap.insert (finmap.remove m j) k v) q
-      else_at q f (inl e) = ap (finmap.get (finmap.insert m k v)) e ∙ inserted m k v ∙ sym (inserted (finmap.remove m j) k v) ∙ sym (ap (finmap.get (finmap.insert (finmap.remove m j) k v)) e)
-      else_at q f (inr e) = inserted_elsewhere m k v q e ∙ sym (removed_elsewhere m j q f) ∙ sym (inserted_elsewhere (finmap.remove m j) k v q e)
+      else_at : (q : K) → eq_by_cmp R q j ≡ false → (q ≡ k) ⊎ (eq_by_cmp R q k ≡ false)
+          → finmap.get (finmap.insert m k v) q ≡ finmap.get (finmap.insert (finmap.remove m j) k v) q
+      else_at q f (inl e) = ap (finmap.get (finmap.insert m k v)) e ∙ inserted m k v
+          ∙ sym (inserted (finmap.remove m j) k v) ∙ sym (ap (finmap.get (finmap.insert (finmap.remove m j) k v)) e)
+      else_at q f (inr e) = inserted_elsewhere m k v q e ∙ sym (removed_elsewhere m j q f)
+          ∙ sym (inserted_elsewhere (finmap.remove m j) k v q e)
 
-      by : (q : K) → (q ≡ j) ⊎ (eq_by_cmp R q j ≡ false) → finmap.get (finmap.remove (finmap.insert m k v) j) q ≡ finmap.get (finmap.insert (finmap.remove m j) k v) q
-      by q (inl e) = ap (finmap.get (finmap.remove (finmap.insert m k v) j)) e ∙ removed (finmap.insert m k v) j ∙ sym (removed m j) ∙ sym (inserted_elsewhere (finmap.remove m j) k v j apart) ∙ sym (ap (finmap.get (finmap.insert (finmap.remove m j) k v)) e)
+      by : (q : K) → (q ≡ j) ⊎ (eq_by_cmp R q j ≡ false)
+          → finmap.get (finmap.remove (finmap.insert m k v) j) q ≡ finmap.get (finmap.insert (finmap.remove m j) k v) q
+      by q (inl e) = ap (finmap.get (finmap.remove (finmap.insert m k v) j)) e ∙ removed (finmap.insert m k v) j
+          ∙ sym (removed m j) ∙ sym (inserted_elsewhere (finmap.remove m j) k v j apart)
+          ∙ sym (ap (finmap.get (finmap.insert (finmap.remove m j) k v)) e)
       by q (inr e) = removed_elsewhere (finmap.insert m k v) j q e ∙ else_at q e (same_or_other o exact q k)
 
   -- ---- what a value at a key tells of the map before the change
 
-  pub at_inserted : (m : finmap.FinMap R X) (k : K) (v : X) (q : K) (x : X) → finmap.get (finmap.insert m k v) q ≡ Some x
+  pub at_inserted : (m : finmap.FinMap R X) (k : K) (v : X) (q : K) (x : X)
+      → finmap.get (finmap.insert m k v) q ≡ Some x
       → ((q ≡ k) × (v ≡ x)) ⊎ ((eq_by_cmp R q k ≡ false) × (finmap.get m q ≡ Some x))
   at_inserted m k v q x e = by (same_or_other o exact q k)
     where
-      by : (q ≡ k) ⊎ (eq_by_cmp R q k ≡ false) → ((q ≡ k) × (v ≡ x)) ⊎ ((eq_by_cmp R q k ≡ false) × (finmap.get m q ≡ Some x))
+      by : (q ≡ k) ⊎ (eq_by_cmp R q k ≡ false) → ((q ≡ k) × (v ≡ x))
+          ⊎ ((eq_by_cmp R q k ≡ false) × (finmap.get m q ≡ Some x))
       by (inl s) = inl (s, some-some (sym (inserted m k v) ∙ sym (ap (finmap.get (finmap.insert m k v)) s) ∙ e))
       by (inr f) = inr (f, sym (inserted_elsewhere m k v q f) ∙ e)
 

@@ -23,7 +23,11 @@ not_text_at bytes false e h = refl
 
 -- bytes that are no text show nothing
 pub shows_nothing : (scheme bytes : List ℕ) → (IsUtf8 bytes → ⊥) → None ≡ digest_text (Some scheme) (Some bytes)
-shows_nothing scheme bytes h = at_none (bytes_eq scheme (codes "digest")) (is_utf8 bytes) bytes (not_text_at bytes (is_utf8 bytes) refl h)
+shows_nothing scheme bytes h =
+    at_none (bytes_eq scheme (codes "digest")) (is_utf8 bytes) bytes (not_text_at bytes (is_utf8 bytes) refl h)
 
-pub shows_text : (scheme bytes : List ℕ) → false ≡ not (bytes_eq scheme (codes "digest")) → IsUtf8 bytes → Some bytes ≡ digest_text (Some scheme) (Some bytes)
-shows_text scheme bytes same h = at_some (bytes_eq scheme (codes "digest")) (is_utf8 bytes) bytes (is_not (bytes_eq scheme (codes "digest")) same) (is_utf8-from_IsUtf8 bytes h)
+pub shows_text : (scheme bytes : List ℕ) → false ≡ not (bytes_eq scheme (codes "digest")) → IsUtf8 bytes
+    → Some bytes ≡ digest_text (Some scheme) (Some bytes)
+shows_text scheme bytes same h =
+    at_some (bytes_eq scheme (codes "digest")) (is_utf8 bytes) bytes (is_not (bytes_eq scheme (codes "digest")) same)
+    (is_utf8-from_IsUtf8 bytes h)

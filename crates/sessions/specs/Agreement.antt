@@ -21,12 +21,14 @@ pub record Agrees (s : State) : Type 0 where
   pub server_id : IsTrue (is_server_id s.terms.server_id)
   pub counter : s.counter < 2 ^ 56
   -- each connection's session is a guest session, and that session's connection is this one
-  pub guests : (n : ℕ) (c : Connection) → finmap.get s.connections n ≡ Some c → finmap.get s.guests c.session ≡ Some (Some n)
+  pub guests : (n : ℕ) (c : Connection) → finmap.get s.connections n ≡ Some c
+      → finmap.get s.guests c.session ≡ Some (Some n)
   -- a guest session's connection has that session
   pub connections : (session : ℤ) (n : ℕ) → finmap.get s.guests session ≡ Some (Some n)
       → (ids : List Id) × (finmap.get s.connections n ≡ Some (record { session = session; ids = ids }))
   -- each guest session was opened here
-  pub opened : (session : ℤ) (o : Option ℕ) → finmap.get s.guests session ≡ Some o → IsOpenedBy s.terms.server_id s.counter session
+  pub opened : (session : ℤ) (o : Option ℕ) → finmap.get s.guests session ≡ Some o
+      → IsOpenedBy s.terms.server_id s.counter session
   -- no connection has shown too many ids
   pub ids : (n : ℕ) (c : Connection) → finmap.get s.connections n ≡ Some c → length c.ids ≤ ids_limit
 
@@ -40,18 +42,22 @@ SessionsAreApart = (s : State) → Agrees s → (m n : ℕ) (c d : Connection)
 -- at the start sessions and connections agree, and they do after each step
 pub record AgreementIsKept : Type 0 where
   pub starts : (terms : Terms) → IsTrue (is_server_id terms.server_id) → Agrees (no_sessions terms)
-  pub connects : (s : State) (n : ℕ) (request : SessionRequest) → Agrees s → finmap.get s.connections n ≡ None → Agrees (connect s n request).after
+  pub connects : (s : State) (n : ℕ) (request : SessionRequest) → Agrees s → finmap.get s.connections n ≡ None
+      → Agrees (connect s n request).after
   pub auths : (s : State) (n : ℕ) (scheme bytes : Option (List ℕ)) → Agrees s → Agrees (auth s n scheme bytes).after
   pub closes : (s : State) (n : ℕ) → Agrees s → Agrees (close s n)
   pub expires : (s : State) (session : ℤ) → Agrees s → Agrees (expire s session).after
 
--- a step of one connection leaves the session and the ids of every other, save of the connection that it answers as closed
+-- a step of one connection leaves the session and the ids of every other, save of one that it answers as closed
 pub record OthersStay : Type 0 where
-  pub connects : (s : State) (n : ℕ) (request : SessionRequest) (m : ℕ) → m ≢ n → (connect s n request).connected.older ≢ Some m
+  pub connects : (s : State) (n : ℕ) (request : SessionRequest) (m : ℕ) → m ≢ n
+      → (connect s n request).connected.older ≢ Some m
       → finmap.get (connect s n request).after.connections m ≡ finmap.get s.connections m
-  pub auths : (s : State) (n : ℕ) (scheme bytes : Option (List ℕ)) (m : ℕ) → m ≢ n → finmap.get (auth s n scheme bytes).after.connections m ≡ finmap.get s.connections m
+  pub auths : (s : State) (n : ℕ) (scheme bytes : Option (List ℕ)) (m : ℕ) → m ≢ n
+      → finmap.get (auth s n scheme bytes).after.connections m ≡ finmap.get s.connections m
   pub closes : (s : State) (n m : ℕ) → m ≢ n → finmap.get (close s n).connections m ≡ finmap.get s.connections m
-  pub expires : (s : State) (session : ℤ) (m : ℕ) → (expire s session).closed ≢ Some m → finmap.get (expire s session).after.connections m ≡ finmap.get s.connections m
+  pub expires : (s : State) (session : ℤ) (m : ℕ) → (expire s session).closed ≢ Some m
+      → finmap.get (expire s session).after.connections m ≡ finmap.get s.connections m
 
 -- the session of this id, where 0 is none's
 abbrev pub named : ℤ → Option ℤ

@@ -10,11 +10,11 @@ use Rattle.sessions.specs.declared.request.SessionRequest.{SessionRequest}
 use Rattle.sessions.specs.declared.request.SessionResponse.{SessionResponse}
 use Rattle.sessions.specs.declared.request.Connected.{Connected}
 use Rattle.sessions.specs.Credentials.{session_id_of, password_of, digest_id}
-use Rattle.sessions.specs.State.{Terms, Connection, State}
+use Rattle.sessions.specs.State.{Terms, Connection, State, state_of}
 
 -- before any connection
 abbrev pub no_sessions : Terms → State
-no_sessions terms = record { terms = terms; counter = 0; guests = finmap.empty; connections = finmap.empty }
+no_sessions terms = state_of terms 0 finmap.empty finmap.empty
 
 -- ---- what is asked
 
@@ -87,7 +87,11 @@ clamped bounds time_out =
 
 abbrev pub welcome : Terms → ℤ → ℤ → SessionResponse
 welcome terms session time_out =
-    record { time_out = clamped terms.timeouts time_out; session_id = session; password = password_of terms.secret session }
+    record {
+      time_out = clamped terms.timeouts time_out;
+      session_id = session;
+      password = password_of terms.secret session;
+    }
 
 -- a refusal is all zeros, and the caller closes the connection
 abbrev pub refusal : SessionResponse
@@ -96,16 +100,24 @@ refusal = record { time_out = pos 0; session_id = pos 0; password = replicate 16
 abbrev pub refused : State → Connects
 refused s = record { connected = record { response = refusal; older = None }; after = s }
 
--- the connection has the session from now on, and has shown no id
+-- a connection that has shown no id yet
+abbrev pub new_connection : ℤ → Connection
+new_connection session = record { session = session; ids = [] }
+
+-- the connection has the session from now on
 abbrev pub joined : State → ℕ → ℤ → State
 joined s n session = record s {
   guests = finmap.insert s.guests session (Some n);
-  connections = finmap.insert s.connections n (record { session = session; ids = [] });
+  connections = finmap.insert s.connections n (new_connection session);
 }
 
 abbrev pub accepted : State → ℕ → ℤ → ℤ → Option ℕ → Connects
 accepted s n session time_out older =
-    record { connected = record { response = welcome s.terms session time_out; older = older }; after = joined s n session }
+    record {
+      connected = record
+          { response = welcome s.terms session time_out; older = older };
+      after = joined s n session;
+    }
 
 abbrev pub greatest_counter : ℕ
 greatest_counter = 2 ^ 56 - 1
@@ -125,7 +137,8 @@ is_password own (Some given) = bytes_eq given own
 -- a guest session, with its own password
 abbrev pub is_valid : State → SessionRequest → Bool
 is_valid s request =
-    finmap.contains_key s.guests request.session_id && is_password (password_of s.terms.secret request.session_id) request.password
+    finmap.contains_key s.guests request.session_id && is_password
+    (password_of s.terms.secret request.session_id) request.password
 
 -- an older connection of the session is closed first
 abbrev pub rejoin : State → ℕ → SessionRequest → Connects
@@ -161,7 +174,8 @@ abbrev pub show_in : State → ℕ → Id → Option Connection → Shows
 show_in s n id None = record { is_accepted = false; after = s }
 show_in s n id (Some c) =
     if list_any (λ shown. is_same_id shown id) c.ids then record { is_accepted = true; after = s }
-    else if nat_lt (length c.ids) ids_limit then record { is_accepted = true; after = record s { connections = finmap.insert s.connections n (with_id c id) } }
+    else if nat_lt (length c.ids) ids_limit then record
+    { is_accepted = true; after = record s { connections = finmap.insert s.connections n (with_id c id) } }
     else record { is_accepted = false; after = s }
 
 abbrev pub show : State → ℕ → Id → Shows

@@ -32,23 +32,35 @@ pub record State : Type 0 where
   pub guests : Guests
   pub connections : Connections
 
+abbrev pub terms_of : ℤ → TimeoutPair → List ℕ → Terms
+terms_of server_id timeouts secret = record { server_id = server_id; timeouts = timeouts; secret = secret }
+
+abbrev pub state_of : Terms → ℕ → Guests → Connections → State
+state_of terms counter guests connections =
+    record { terms = terms; counter = counter; guests = guests; connections = connections }
+
 -- ---- codes
 
 abbrev pub timeouts_code : Coded TimeoutPair
-timeouts_code = code_by (ℤ × ℤ) (coded× coded_ℤ coded_ℤ) (λ t. (t.least, t.greatest)) (λ p. record { least = p.0; greatest = p.1 }) (λ _. refl)
+timeouts_code =
+    code_by (ℤ × ℤ) (coded× coded_ℤ coded_ℤ) (λ t. (t.least, t.greatest))
+    (λ p. record { least = p.0; greatest = p.1 }) (λ _. refl)
 
 abbrev pub terms_code : Coded Terms
 terms_code =
     code_by (ℤ × (TimeoutPair × List ℕ)) (coded× coded_ℤ (coded× timeouts_code (coded_list coded_ℕ)))
-    (λ t. (t.server_id, (t.timeouts, t.secret))) (λ p. record { server_id = p.0; timeouts = p.1.0; secret = p.1.1 }) (λ _. refl)
+    (λ t. (t.server_id, (t.timeouts, t.secret))) (λ p. record { server_id = p.0; timeouts = p.1.0; secret = p.1.1 })
+    (λ _. refl)
 
 abbrev pub id_code : Coded Id
 id_code =
-    code_by (List ℕ × List ℕ) (coded× (coded_list coded_ℕ) (coded_list coded_ℕ)) (λ i. (i.scheme, i.id)) (λ p. record { scheme = p.0; id = p.1 }) (λ _. refl)
+    code_by (List ℕ × List ℕ) (coded× (coded_list coded_ℕ) (coded_list coded_ℕ)) (λ i. (i.scheme, i.id))
+    (λ p. record { scheme = p.0; id = p.1 }) (λ _. refl)
 
 abbrev pub connection_code : Coded Connection
 connection_code =
-    code_by (ℤ × List Id) (coded× coded_ℤ (coded_list id_code)) (λ c. (c.session, c.ids)) (λ p. record { session = p.0; ids = p.1 }) (λ _. refl)
+    code_by (ℤ × List Id) (coded× coded_ℤ (coded_list id_code)) (λ c. (c.session, c.ids))
+    (λ p. record { session = p.0; ids = p.1 }) (λ _. refl)
 
 abbrev pub guests_code : Coded Guests
 guests_code = finmap.code {R = int_cmp} coded_ℤ (coded_option coded_ℕ)
@@ -58,5 +70,7 @@ connections_code = finmap.code {R = nat_cmp} coded_ℕ connection_code
 
 abbrev pub state_code : Coded State
 state_code =
-    code_by (Terms × (ℕ × (Guests × Connections))) (coded× terms_code (coded× coded_ℕ (coded× guests_code connections_code)))
-    (λ s. (s.terms, (s.counter, (s.guests, s.connections)))) (λ p. record { terms = p.0; counter = p.1.0; guests = p.1.1.0; connections = p.1.1.1 }) (λ _. refl)
+    code_by (Terms × (ℕ × (Guests × Connections)))
+    (coded× terms_code (coded× coded_ℕ (coded× guests_code connections_code)))
+    (λ s. (s.terms, (s.counter, (s.guests, s.connections))))
+    (λ p. record { terms = p.0; counter = p.1.0; guests = p.1.1.0; connections = p.1.1.1 }) (λ _. refl)

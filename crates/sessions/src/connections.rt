@@ -1,9 +1,9 @@
 //! The connections that have a session.
 
-ghost use Rattle.std.specs.Prelude.{◌≡◌, [], OnOk, OnErr};
+ghost use Rattle.std.specs.Prelude.{◌≡◌, OnOk, OnErr};
 ghost use Rattle.std.specs.Option.{option_copied};
 ghost use Rattle.std.specs.FinMap as finmap;
-ghost use Rattle.sessions.specs.Sessions.{with_id};
+ghost use Rattle.sessions.specs.Sessions.{new_connection, with_id};
 ghost use Rattle.sessions.specs.Inner.{shown};
 
 use jute::Id;
@@ -81,7 +81,7 @@ impl Connections {
 
     /// Gives the connection the session; it has shown no id.
     pub fn add(&mut self, alloc: Global, number: u64, session: i64) -> Result<(), NoMemory>
-        ensures ok { OnOk result (self.new ≡ finmap.insert self.old number (record { session = session; ids = [] })) }
+        ensures ok { OnOk result (self.new ≡ finmap.insert self.old number (new_connection session)) }
         ensures err { OnErr result (self.new ≡ self.old) }
     {
         let connection = Connection {
@@ -101,7 +101,8 @@ impl Connections {
 
     /// Shows an id at a connection that has a session.
     pub fn show(&mut self, number: u64, id: Id) -> Result<(), NoMemory>
-        ensures ok { OnOk result (self.new ≡ shown self.old number id (finmap.get self.old number)) }
+        ensures ok { let connection = finmap.get self.old number in
+            OnOk result (self.new ≡ shown self.old number id connection) }
         ensures err { OnErr result (self.new ≡ self.old) }
     {
         match self.map.get_mut(&number) {

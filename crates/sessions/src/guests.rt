@@ -56,7 +56,8 @@ impl Guests {
     /// Gives a session that is known another connection, or none, and answers the connection that had it.
     pub fn replace(&mut self, session: i64, connection: Option<u64>) -> Option<u64>
         ensures older { result ≡ connection_in (finmap.get self.old session) }
-        ensures new { self.new ≡ replaced self.old session connection (finmap.get self.old session) }
+        ensures new { let known = finmap.get self.old session in
+            self.new ≡ replaced self.old session connection known }
     {
         match self.map.get_mut(&session) {
             None => return None,

@@ -3,7 +3,7 @@
 ghost use Rattle.std.specs.Prelude.{◌≡◌, OnErr, IfOk, IfNone, IsTrue, None, nat_lt, length};
 ghost use Rattle.std.specs.Option.{option_copied};
 ghost use Rattle.std.specs.FinMap as finmap;
-ghost use Rattle.sessions.specs.State.{Terms};
+ghost use Rattle.sessions.specs.State.{terms_of};
 ghost use Rattle.sessions.specs.Sessions.{no_sessions, session_of, ids_of, close, expire, clamped, welcome, is_valid, open_new, rejoin, connect, refusal, show, digest_text, auth, ids_limit};
 ghost use Rattle.sessions.specs.Agreement.{Agrees};
 
@@ -33,16 +33,17 @@ pub struct Sessions {
 }
 
 impl Model for Sessions {
-    ghost use Rattle.sessions.specs.State.{State, Terms, state_code};
+    ghost use Rattle.sessions.specs.State.{State, terms_of, state_of, state_code};
     ghost use Rattle.sessions.specs.Agreement.{Agrees};
 
     ghost Value = { State };
 
     ghost coded = { state_code };
 
-    ghost view = { λ s. record { terms = record { server_id = s.server_id; timeouts = s.timeouts; secret = s.secret }; counter = s.counter; guests = s.guests; connections = s.connections } };
+    ghost view = { λ s. state_of (terms_of s.server_id s.timeouts s.secret) s.counter s.guests s.connections };
 
-    ghost invariant = { λ s. Agrees (record { terms = record { server_id = s.server_id; timeouts = s.timeouts; secret = s.secret }; counter = s.counter; guests = s.guests; connections = s.connections }) };
+    ghost invariant = { λ s. Agrees (state_of (terms_of s.server_id s.timeouts s.secret)
+        s.counter s.guests s.connections) };
 }
 
 // A timeout within the bounds, in milliseconds.
@@ -74,7 +75,8 @@ fn refused() -> Connected
 
 // The text that is shown by the scheme "digest".
 fn digest_text<'a>(scheme: Option<&str>, bytes: Option<&'a [u8]>) -> Option<&'a str>
-    ensures { option_copied result ≡ digest_text (option_copied scheme.entry) (option_copied bytes.entry) }
+    ensures { let given = option_copied scheme.entry in
+        option_copied result ≡ digest_text given (option_copied bytes.entry) }
 {
     let Some(scheme) = scheme else {
         return None;
@@ -106,7 +108,7 @@ impl Sessions {
         timeouts: TimeoutBounds,
         secret: Secret,
     ) -> Sessions
-        ensures { result ≡ no_sessions (record { server_id = server_id; timeouts = timeouts; secret = secret }) }
+        ensures { result ≡ no_sessions (terms_of server_id timeouts secret) }
     {
         let _number = server_id.number();
         Sessions {
@@ -272,7 +274,9 @@ impl Sessions {
         scheme: Option<&str>,
         bytes: Option<&[u8]>,
     ) -> Result<bool, NoMemory>
-        ensures ok { IfOk result (λ is_accepted. auth self.old connection (option_copied scheme.entry) (option_copied bytes.entry)
+        ensures ok { let given = option_copied scheme.entry in
+            let text = option_copied bytes.entry in
+            IfOk result (λ is_accepted. auth self.old connection given text
             ≡ record { is_accepted = is_accepted; after = self.new }) }
         ensures err { OnErr result (self.new ≡ self.old) }
     {

@@ -11,5 +11,7 @@ use Rattle.sessions.proofs.connections.Connections.add.Goals as goal
 pub returns-clause-ok : goal.returns-clause-ok
 returns-clause-ok c =
     let shown : ℤ → List Id → Connection = λ session ids. record { session = session; ids = ids } in
-    seen-insert nat_cmp_total exact_unsigned c.args.number c.self.inside.map c.insert.new.self (shown (to_z w64 (of_z w64 c.args.session)) c.new.result.items) c.in_ok-insert.ensures.updates
-    ∙ (λ i. finmap.insert (c.self.view_is i) c.args.number (shown (to_z-of_z w64 c.args.session c.ranges.session i) (c.new.ensures.items i)))
+    seen-insert nat_cmp_total exact_unsigned c.args.number c.self.inside.map c.insert.new.self
+    (shown (to_z w64 (of_z w64 c.args.session)) c.new.result.items) c.in_ok-insert.ensures.updates
+    ∙ (λ i. finmap.insert (c.self.view_is i) c.args.number
+    (shown (to_z-of_z w64 c.args.session c.ranges.session i) (c.new.ensures.items i)))

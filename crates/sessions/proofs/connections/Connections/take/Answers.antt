@@ -6,7 +6,9 @@ use Rattle.sessions.proofs.Maps.{get-seen, seen-remove}
 use Rattle.sessions.proofs.connections.Connections.take.Goals as goal
 
 pub returns-clause-was : goal.returns-clause-was
-returns-clause-was c = c.remove.ensures.value ∙ sym (get-seen nat_cmp_total exact_unsigned c.self.inside.map c.args.number) ∙ ap (λ m. finmap.get m c.args.number) c.self.view_is
+returns-clause-was c = c.remove.ensures.value
+    ∙ sym (get-seen nat_cmp_total exact_unsigned c.self.inside.map c.args.number)
+    ∙ ap (λ m. finmap.get m c.args.number) c.self.view_is
 
 pub returns-clause-removed : goal.returns-clause-removed
 returns-clause-removed c =

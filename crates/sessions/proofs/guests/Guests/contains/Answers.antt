@@ -10,5 +10,6 @@ use Rattle.sessions.proofs.guests.Guests.contains.Goals as goal
 pub returns : goal.returns
 returns c =
     c.contains_key.ensures
-    ∙ (λ i. is_some (sym (get-seen int_cmp_total exact_signed c.self.inside.map (to_z w64 (of_z w64 c.args.session))) i))
+    ∙ (λ i. is_some (sym
+    (get-seen int_cmp_total exact_signed c.self.inside.map (to_z w64 (of_z w64 c.args.session))) i))
     ∙ (λ i. is_some (finmap.get (c.self.view_is i) (to_z-of_z w64 c.args.session c.ranges.session i)))

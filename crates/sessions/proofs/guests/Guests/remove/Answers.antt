@@ -14,5 +14,6 @@ returns-clause-was c =
 
 pub returns-clause-removed : goal.returns-clause-removed
 returns-clause-removed c =
-    seen-remove int_cmp_total exact_signed (to_z w64 (of_z w64 c.args.session)) c.self.inside.map c.remove.new.self c.remove.ensures.updates
+    seen-remove int_cmp_total exact_signed (to_z w64
+    (of_z w64 c.args.session)) c.self.inside.map c.remove.new.self c.remove.ensures.updates
     ∙ (λ i. finmap.remove (c.self.view_is i) (to_z-of_z w64 c.args.session c.ranges.session i))

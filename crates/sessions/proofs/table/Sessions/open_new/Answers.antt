@@ -12,7 +12,8 @@ use Rattle.sessions.proofs.table.Sessions.open_new.Goals as goal
 
 pub invariant_of-self-in-Err : goal.invariant_of-self-in-Err
 invariant_of-self-in-Err c =
-    let free : finmap.get c.self.inside.connections c.args.connection ≡ None = ap (λ (s : State). finmap.get s.connections c.args.connection) c.self.view_is ∙ c.requires in
+    let free : finmap.get c.self.inside.connections c.args.connection ≡ None =
+    ap (λ (s : State). finmap.get s.connections c.args.connection) c.self.view_is ∙ c.requires in
     rw (
       c.in-Err.ensures.err,
       c.close.ensures ∙ ap (λ m. finmap.remove m c.args.connection) c.in_ok-add.ensures.ok
@@ -22,7 +23,8 @@ invariant_of-self-in-Err c =
 
 pub returns-in-Err-clause-err : goal.returns-in-Err-clause-err
 returns-in-Err-clause-err c =
-    let free : finmap.get c.self.inside.connections c.args.connection ≡ None = ap (λ (s : State). finmap.get s.connections c.args.connection) c.self.view_is ∙ c.requires in
+    let free : finmap.get c.self.inside.connections c.args.connection ≡ None =
+    ap (λ (s : State). finmap.get s.connections c.args.connection) c.self.view_is ∙ c.requires in
     rw (
       c.in-Err.ensures.err,
       c.close.ensures ∙ ap (λ m. finmap.remove m c.args.connection) c.in_ok-add.ensures.ok
@@ -32,10 +34,14 @@ returns-in-Err-clause-err c =
 
 pub invariant_of-self-in-Ok : goal.invariant_of-self-in-Ok
 invariant_of-self-in-Ok c =
-    let free : finmap.get c.self.inside.connections c.args.connection ≡ None = ap (λ (s : State). finmap.get s.connections c.args.connection) c.self.view_is ∙ c.requires in
+    let free : finmap.get c.self.inside.connections c.args.connection ≡ None =
+    ap (λ (s : State). finmap.get s.connections c.args.connection) c.self.view_is ∙ c.requires in
     let fits : SFits w64 c.session_id-session.result = search rules in
-    let id : to_z w64 (of_z w64 c.session_id-session.result) ≡ session_id_of c.self.inside.server_id (c.self.inside.counter + 1) = to_z-of_z w64 c.session_id-session.result fits ∙ c.session_id-session.ensures in
+    let id : to_z w64 (of_z w64 c.session_id-session.result) ≡ session_id_of c.self.inside.server_id
+    (c.self.inside.counter + 1) = to_z-of_z w64 c.session_id-session.result fits ∙ c.session_id-session.ensures in
     let below : c.self.inside.counter + 1 < 2 ^ 56 = grind (arith, c.self.invariant.counter, c.if-self.false) in
     rw (c.in-Ok.ensures.ok, c.in_ok-add.ensures.ok, id)
-    (joins _ c.args.connection (session_id_of c.self.inside.server_id (c.self.inside.counter + 1)) (counts _ c.self.invariant below) free
-    (λ m e. none-some (Some m) (sym (fresh _ c.self.invariant below) ∙ e)) (next c.self.inside.server_id c.self.inside.counter))
+    (joins _ c.args.connection (session_id_of c.self.inside.server_id (c.self.inside.counter + 1))
+    (counts _ c.self.invariant below) free
+    (λ m e. none-some (Some m) (sym (fresh _ c.self.invariant below) ∙ e))
+    (next c.self.inside.server_id c.self.inside.counter))
