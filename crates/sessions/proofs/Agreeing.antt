@@ -342,7 +342,7 @@ shows s n c id a here below = record {
 
 -- ---- the next counter
 
-raised : (server_id : ℤ) (counter : ℕ) (session : ℤ) → IsOpenedBy server_id counter session
+pub raised : (server_id : ℤ) (counter : ℕ) (session : ℤ) → IsOpenedBy server_id counter session
     → IsOpenedBy server_id (counter + 1) session
 raised server_id counter session o =
     record { own = o.own; first = o.first; last = (let h = o.last in omega arith); is = o.is }

@@ -52,7 +52,7 @@ shows_by s n (Some text) a = shows_in s n (digest_id text) (finmap.get s.connect
 -- ---- connect
 
 -- the next counter is one, too
-below : (s : State) → Agrees s → (s.counter == greatest_counter) ≡ false → s.counter + 1 < 2 ^ 56
+pub below : (s : State) → Agrees s → (s.counter == greatest_counter) ≡ false → s.counter + 1 < 2 ^ 56
 below s a e = let small : s.counter < 2 ^ 56 = a.counter in let other : s.counter ≡ greatest_counter → ⊥ =
     eqb-false s.counter greatest_counter e in at_most s.counter small other
   where

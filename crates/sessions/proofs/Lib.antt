@@ -12,3 +12,5 @@ pub mod Cases
 pub mod Kept
 -- What a step leaves of other connections
 pub mod Others
+-- What stays of a session that has ended
+pub mod Ended

@@ -1,5 +1,5 @@
 -- How sessions and connections hang together.
-use Rattle.std.specs.Prelude.{◌≡◌, ◌≢◌, ℕ, ◌<◌, ◌≤◌, ◌^◌, ℤ, pos, List, length, Option, None, Some, IsTrue, if◌then◌else◌}
+use Rattle.std.specs.Prelude.{◌≡◌, ◌≢◌, ℕ, ◌<◌, ◌≤◌, ◌^◌, ℤ, pos, List, length, Option, None, Some, IsTrue, false, if◌then◌else◌}
 use Rattle.std.specs.Ordering.{int_eq}
 use Rattle.std.specs.FinMap as finmap
 use Rattle.settings.specs.Settings.{is_server_id}
@@ -7,7 +7,7 @@ use Rattle.jute.specs.declared.owned.Id.{Id}
 use Rattle.sessions.specs.Credentials.{session_id_of}
 use Rattle.sessions.specs.declared.request.SessionRequest.{SessionRequest}
 use Rattle.sessions.specs.State.{Terms, Connection, State}
-use Rattle.sessions.specs.Sessions.{ids_limit, no_sessions, session_of, connect, auth, close, expire}
+use Rattle.sessions.specs.Sessions.{ids_limit, no_sessions, session_of, is_valid, connect, auth, close, expire}
 
 -- the session was opened by this server with one of its counters so far
 pub record IsOpenedBy (server_id : ℤ) (counter : ℕ) (session : ℤ) : Type 0 where
@@ -67,3 +67,20 @@ named session = if int_eq session (pos 0) then None else Some session
 abbrev pub AnswersTell : Type 0
 AnswersTell = (s : State) (n : ℕ) (request : SessionRequest) → Agrees s → finmap.get s.connections n ≡ None
     → session_of (connect s n request).after n ≡ named (connect s n request).connected.response.session_id
+
+-- a session of this server that has ended
+pub record IsEnded (s : State) (session : ℤ) : Type 0 where
+  pub opened : IsOpenedBy s.terms.server_id s.counter session
+  pub none : finmap.get s.guests session ≡ None
+
+-- A session that has ended is valid for nobody, whatever comes.
+pub record EndedIsEnded : Type 0 where
+  pub ends : (s : State) (session : ℤ) (o : Option ℕ) → Agrees s → finmap.get s.guests session ≡ Some o
+      → IsEnded (expire s session).after session
+  pub refused : (s : State) (request : SessionRequest) → IsEnded s request.session_id → is_valid s request ≡ false
+  pub connects : (s : State) (n : ℕ) (request : SessionRequest) (session : ℤ) → Agrees s
+      → finmap.get s.connections n ≡ None → IsEnded s session → IsEnded (connect s n request).after session
+  pub auths : (s : State) (n : ℕ) (scheme bytes : Option (List ℕ)) (session : ℤ) → IsEnded s session
+      → IsEnded (auth s n scheme bytes).after session
+  pub closes : (s : State) (n : ℕ) (session : ℤ) → Agrees s → IsEnded s session → IsEnded (close s n) session
+  pub expires : (s : State) (one session : ℤ) → Agrees s → IsEnded s session → IsEnded (expire s one).after session

@@ -26,6 +26,6 @@ mod law;
 mod request;
 mod table;
 
-pub use law::{others_stay, sessions_and_connections_agree};
+pub use law::{ended_sessions_stay_ended, others_stay, sessions_and_connections_agree};
 pub use request::{Connected, PASSWORD_LEN, SessionRequest, SessionResponse};
 pub use table::{IDS_LIMIT, Sessions};
