@@ -20,8 +20,8 @@ fn text_of(alloc: Global, connected: &Connected) -> Result<String, Fail> {
     let id = hex::encode(alloc, &response.session_id.to_be_bytes())?;
     let password = hex::encode(alloc, &response.password)?;
     match connected.older {
-        None => Ok(format!(in alloc; "{time_out} {id} {password} -")?),
-        Some(older) => Ok(format!(in alloc; "{time_out} {id} {password} {older}")?),
+        None => Ok(format!(in alloc; "{time_out} {id} {password} -;")?),
+        Some(older) => Ok(format!(in alloc; "{time_out} {id} {password} {older};")?),
     }
 }
 
@@ -75,10 +75,10 @@ fn two_sessions(alloc: Global) -> Result<Sessions, Fail> {
 // What two connections of a server are answered, and who has sessions then.
 fn first_two(alloc: Global, server_id: i32) -> Result<String, Fail> {
     let mut sessions = sessions_of(alloc, server_id)?;
-    let first = open(alloc, &mut sessions, 1)?;
-    let second = open(alloc, &mut sessions, 2)?;
-    let seats = seats(alloc, &sessions)?;
-    Ok(format!(in alloc; "{first}; {second}; {seats}")?)
+    let mut text = open(alloc, &mut sessions, 1)?;
+    text.push_str(open(alloc, &mut sessions, 2)?.as_str())?;
+    text.push_str(seats(alloc, &sessions)?.as_str())?;
+    Ok(text)
 }
 
 #[test]
@@ -87,13 +87,13 @@ fn new_sessions_count_up(rt: HostRuntime) -> Result<(), Fail> {
     for (server_id, expected) in [
         (
             3,
-            "10000 0300000000000001 9ac2a1548d95bd052e02843fc87606f6 -; \
-                10000 0300000000000002 02e2a86c10104a0091022fc3f8030f6a -; 010200",
+            "10000 0300000000000001 9ac2a1548d95bd052e02843fc87606f6 -;\
+                10000 0300000000000002 02e2a86c10104a0091022fc3f8030f6a -;010200",
         ),
         (
             200,
-            "10000 c800000000000001 9e03e5eed98fb3e3bb143d98810ae35a -; \
-                10000 c800000000000002 650d62e3a8083a79fbdc159f70dcbd93 -; 010200",
+            "10000 c800000000000001 9e03e5eed98fb3e3bb143d98810ae35a -;\
+                10000 c800000000000002 650d62e3a8083a79fbdc159f70dcbd93 -;010200",
         ),
     ] {
         assert_eq!(rt; first_two(alloc, server_id)?.as_str(), expected);
@@ -113,23 +113,23 @@ fn timeouts_stay_within_their_bounds(rt: HostRuntime) -> Result<(), Fail> {
     for (time_out, expected) in [
         (
             100,
-            "4000 0300000000000001 9ac2a1548d95bd052e02843fc87606f6 -",
+            "4000 0300000000000001 9ac2a1548d95bd052e02843fc87606f6 -;",
         ),
         (
             -1,
-            "4000 0300000000000001 9ac2a1548d95bd052e02843fc87606f6 -",
+            "4000 0300000000000001 9ac2a1548d95bd052e02843fc87606f6 -;",
         ),
         (
             4000,
-            "4000 0300000000000001 9ac2a1548d95bd052e02843fc87606f6 -",
+            "4000 0300000000000001 9ac2a1548d95bd052e02843fc87606f6 -;",
         ),
         (
             40_000,
-            "40000 0300000000000001 9ac2a1548d95bd052e02843fc87606f6 -",
+            "40000 0300000000000001 9ac2a1548d95bd052e02843fc87606f6 -;",
         ),
         (
             i32::MAX,
-            "40000 0300000000000001 9ac2a1548d95bd052e02843fc87606f6 -",
+            "40000 0300000000000001 9ac2a1548d95bd052e02843fc87606f6 -;",
         ),
     ] {
         assert_eq!(rt; timed(alloc, time_out)?.as_str(), expected);
@@ -140,15 +140,15 @@ fn timeouts_stay_within_their_bounds(rt: HostRuntime) -> Result<(), Fail> {
 // What connection 3 is answered that asks for a session, beside two on connections 1 and 2, and who has sessions then.
 fn third(alloc: Global, session_id: i64, password: Option<&[u8]>) -> Result<String, Fail> {
     let mut sessions = two_sessions(alloc)?;
-    let answer = connect(alloc, &mut sessions, 3, 10_000, session_id, password)?;
-    let seats = seats(alloc, &sessions)?;
-    Ok(format!(in alloc; "{answer} {seats}")?)
+    let mut text = connect(alloc, &mut sessions, 3, 10_000, session_id, password)?;
+    text.push_str(seats(alloc, &sessions)?.as_str())?;
+    Ok(text)
 }
 
 #[test]
 fn a_session_wants_its_own_password(rt: HostRuntime) -> Result<(), Fail> {
     let alloc = rt.alloc();
-    let refused = "0 0000000000000000 00000000000000000000000000000000 - 010200";
+    let refused = "0 0000000000000000 00000000000000000000000000000000 -;010200";
     let given: [(i64, Option<&[u8]>); 5] = [
         (5, Some(&[0; 16])),
         (FIRST, Some(&[0; 16])),
@@ -170,34 +170,77 @@ fn an_older_connection_gives_way(rt: HostRuntime) -> Result<(), Fail> {
     let alloc = rt.alloc();
     assert_eq!(rt;
         third(alloc, FIRST, Some(FIRST_PASSWORD))?.as_str(),
-        "10000 0300000000000001 9ac2a1548d95bd052e02843fc87606f6 1 000201",
+        "10000 0300000000000001 9ac2a1548d95bd052e02843fc87606f6 1;000201",
     );
     Ok(())
 }
 
-// Connection 1 closes, and its session is asked for by connection 3; then it ends, and is asked for again.
-fn closed_and_ended(alloc: Global) -> Result<String, Fail> {
+// Closes a connection.
+fn close(sessions: &mut Sessions, connection: u64) {
+    sessions.close(connection);
+}
+
+// Ends a session, and answers its connection; 0 where there is none.
+fn expire(sessions: &mut Sessions, session: i64) -> u64 {
+    sessions.expire(session).unwrap_or(0)
+}
+
+// What connection 3 is answered that asks for the first session.
+fn ask_for_first(alloc: Global, sessions: &mut Sessions) -> Result<String, Fail> {
+    connect(alloc, sessions, 3, 10_000, FIRST, Some(FIRST_PASSWORD))
+}
+
+// Connection 1 closes, and connection 3 asks for its session.
+fn closed(alloc: Global) -> Result<String, Fail> {
     let mut sessions = two_sessions(alloc)?;
-    sessions.close(1);
-    sessions.close(1);
-    let again = connect(alloc, &mut sessions, 3, 10_000, FIRST, Some(FIRST_PASSWORD))?;
-    let nobody = sessions.expire(5).is_none();
-    let ended = sessions.expire(FIRST).unwrap_or(0);
-    let twice = sessions.expire(FIRST).is_none();
-    let refused = connect(alloc, &mut sessions, 3, 10_000, FIRST, Some(FIRST_PASSWORD))?;
-    let next = open(alloc, &mut sessions, 1)?;
-    let seats = seats(alloc, &sessions)?;
-    Ok(format!(in alloc; "{again}; {nobody} {ended} {twice}; {refused}; {next}; {seats}")?)
+    close(&mut sessions, 1);
+    close(&mut sessions, 1);
+    ask_for_first(alloc, &mut sessions)
+}
+
+// The connections that are closed as a session ends that there isn't, then the first one, and then the first one again.
+fn ended(alloc: Global) -> Result<[u64; 3], Fail> {
+    let mut sessions = two_sessions(alloc)?;
+    let nobody = expire(&mut sessions, 5);
+    let first = expire(&mut sessions, FIRST);
+    Ok([nobody, first, expire(&mut sessions, FIRST)])
+}
+
+// The first session ends, and connection 3 asks for it.
+fn asked_after_its_end(alloc: Global) -> Result<String, Fail> {
+    let mut sessions = two_sessions(alloc)?;
+    expire(&mut sessions, FIRST);
+    ask_for_first(alloc, &mut sessions)
+}
+
+// The first session ends, and connection 1 opens another.
+fn opened_after_an_end(alloc: Global) -> Result<String, Fail> {
+    let mut sessions = two_sessions(alloc)?;
+    expire(&mut sessions, FIRST);
+    open(alloc, &mut sessions, 1)
 }
 
 #[test]
-fn a_session_outlives_its_connection_until_it_ends(rt: HostRuntime) -> Result<(), Fail> {
+fn a_session_outlives_its_connection(rt: HostRuntime) -> Result<(), Fail> {
     let alloc = rt.alloc();
     assert_eq!(rt;
-        closed_and_ended(alloc)?.as_str(),
-        "10000 0300000000000001 9ac2a1548d95bd052e02843fc87606f6 -; true 3 true; \
-            0 0000000000000000 00000000000000000000000000000000 -; \
-            10000 0300000000000003 cc476282f369d07105b62a2b1c74380e -; 030200",
+        closed(alloc)?.as_str(),
+        "10000 0300000000000001 9ac2a1548d95bd052e02843fc87606f6 -;",
+    );
+    Ok(())
+}
+
+#[test]
+fn an_ended_session_is_nobodys(rt: HostRuntime) -> Result<(), Fail> {
+    let alloc = rt.alloc();
+    assert_eq!(rt; ended(alloc)?, [0, 1, 0]);
+    assert_eq!(rt;
+        asked_after_its_end(alloc)?.as_str(),
+        "0 0000000000000000 00000000000000000000000000000000 -;",
+    );
+    assert_eq!(rt;
+        opened_after_an_end(alloc)?.as_str(),
+        "10000 0300000000000003 cc476282f369d07105b62a2b1c74380e -;",
     );
     Ok(())
 }

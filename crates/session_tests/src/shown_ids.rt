@@ -34,13 +34,37 @@ fn ids(alloc: Global, sessions: &Sessions) -> Result<String, Fail> {
     Ok(text)
 }
 
-// Whether what connection 1 shows is accepted, and the ids that it has shown then, beside that of super:admin.
-fn shown(alloc: Global, scheme: Option<&str>, bytes: Option<&[u8]>) -> Result<String, Fail> {
+// Whether what connection 1 shows is accepted.
+fn auth(
+    alloc: Global,
+    sessions: &mut Sessions,
+    scheme: Option<&str>,
+    bytes: Option<&[u8]>,
+) -> Result<bool, Fail> {
+    Ok(sessions.auth(alloc, 1, scheme, bytes)?)
+}
+
+// Shows a digest id at connection 1.
+fn show(alloc: Global, sessions: &mut Sessions, text: &str) -> Result<bool, Fail> {
+    auth(alloc, sessions, Some("digest"), Some(text.as_bytes()))
+}
+
+// Connection 1 of server 3, which has shown super:admin.
+fn admin(alloc: Global) -> Result<Sessions, Fail> {
     let mut sessions = opened(alloc)?;
-    sessions.auth(alloc, 1, Some("digest"), Some(b"super:admin"))?;
-    let is_accepted = sessions.auth(alloc, 1, scheme, bytes)?;
-    let ids = ids(alloc, &sessions)?;
-    Ok(format!(in alloc; "{is_accepted} {ids}")?)
+    show(alloc, &mut sessions, "super:admin")?;
+    Ok(sessions)
+}
+
+// The ids that connection 1 has shown beside super:admin, and whether the last of them was accepted.
+fn shown(alloc: Global, scheme: Option<&str>, bytes: Option<&[u8]>) -> Result<String, Fail> {
+    let mut sessions = admin(alloc)?;
+    let is_accepted = auth(alloc, &mut sessions, scheme, bytes)?;
+    let mut text = ids(alloc, &sessions)?;
+    if !is_accepted {
+        text.push_str("refused")?;
+    }
+    Ok(text)
 }
 
 #[test]
@@ -54,10 +78,7 @@ fn a_digest_id_is_shown_once(rt: HostRuntime) -> Result<(), Fail> {
         ("a:b:c", "digest a:cLzgnoJ6mP5qz3w+mwvPE2vDgu0=;"),
     ] {
         let text = shown(alloc, digest, Some(bytes.as_bytes()))?;
-        assert_eq!(rt;
-            text.as_str(),
-            format!(in alloc; "true {first}{more}")?.as_str()
-        );
+        assert_eq!(rt; text.as_str(), format!(in alloc; "{first}{more}")?.as_str());
     }
     Ok(())
 }
@@ -65,7 +86,7 @@ fn a_digest_id_is_shown_once(rt: HostRuntime) -> Result<(), Fail> {
 #[test]
 fn what_is_no_digest_id_is_refused(rt: HostRuntime) -> Result<(), Fail> {
     let alloc = rt.alloc();
-    let refused = "false digest super:xQJmxLMiHGwaqBvst5y6rkB6HQs=;";
+    let refused = "digest super:xQJmxLMiHGwaqBvst5y6rkB6HQs=;refused";
     let given: [(Option<&str>, Option<&[u8]>); 4] = [
         (None, Some(b"super:admin")),
         (Some("world"), Some(b"super:admin")),
@@ -83,15 +104,12 @@ fn users(alloc: Global, count: u32) -> Result<(u32, bool), Fail> {
     let mut sessions = opened(alloc)?;
     let mut accepted: u32 = 0;
     for number in 0..count {
-        let user = format!(in alloc; "{number}:")?;
-        if sessions.auth(alloc, 1, Some("digest"), Some(user.as_bytes()))? {
+        let user = number.to_string(alloc)?;
+        if show(alloc, &mut sessions, user.as_str())? {
             accepted = accepted.saturating_add(1);
         }
     }
-    Ok((
-        accepted,
-        sessions.auth(alloc, 1, Some("digest"), Some(b"0:"))?,
-    ))
+    Ok((accepted, show(alloc, &mut sessions, "0")?))
 }
 
 #[test]
@@ -101,12 +119,16 @@ fn a_connection_shows_1024_ids(rt: HostRuntime) -> Result<(), Fail> {
     Ok(())
 }
 
+// Closes connection 1.
+fn close(sessions: &mut Sessions) {
+    sessions.close(1);
+}
+
 // A connection closes, and another of its number shows nothing; without a session none is shown.
 fn closed(alloc: Global) -> Result<(bool, bool), Fail> {
-    let mut sessions = opened(alloc)?;
-    sessions.auth(alloc, 1, Some("digest"), Some(b"super:admin"))?;
-    sessions.close(1);
-    let is_accepted = sessions.auth(alloc, 1, Some("digest"), Some(b"super:admin"))?;
+    let mut sessions = admin(alloc)?;
+    close(&mut sessions);
+    let is_accepted = show(alloc, &mut sessions, "super:admin")?;
     Ok((is_accepted, sessions.ids(1).is_empty()))
 }
 
