@@ -1,5 +1,5 @@
 -- A session that has ended is valid for nobody, whatever comes.
-use Rattle.std.proofs.Common.{◌≡◌, ◌⊎◌, inl, inr, ℕ, ◌+◌, ◌^◌, ◌<◌, ◌≤◌, ◌==◌, ℤ, pos, Bool, true, false, ◌&&◌, List, length, Option, Some, None, refl, sym, ap, subst, ◌∙◌, arith}
+use Rattle.std.proofs.Common.{◌≡◌, ◌⊎◌, inl, inr, ℕ, ◌+◌, ◌^◌, ◌<◌, ◌≤◌, ◌==◌, ℤ, pos, true, false, ◌&&◌, List, length, Option, Some, None, refl, sym, ap, subst, ◌∙◌, arith}
 use Rattle.std.specs.Prelude.{nat_lt, is_some}
 use Rattle.std.specs.List.{list_any}
 use Rattle.std.specs.Ordering.{int_eq, eq_by_cmp, int_cmp}
@@ -10,7 +10,7 @@ use Rattle.jute.specs.declared.owned.Id.{Id}
 use Rattle.sessions.specs.declared.request.SessionRequest.{SessionRequest}
 use Rattle.sessions.specs.Credentials.{session_id_of, password_of, digest_id}
 use Rattle.sessions.specs.State.{Connection, Guests, State}
-use Rattle.sessions.specs.Sessions.{Connects, Shows, Expires, greatest_counter, ids_limit, is_same_id, is_password, is_valid, close_as, close, expire_as, expire, open_new, rejoin, connect, show_in, digest_text, auth_by, auth}
+use Rattle.sessions.specs.Sessions.{Connects, Shows, Expires, greatest_counter, ids_limit, is_same_id, is_password, is_valid, close_as, expire_as, expire, open_new, rejoin, connect, show_in, digest_text, auth_by}
 use Rattle.sessions.specs.Agreement.{IsOpenedBy, Agrees, IsEnded, EndedIsEnded}
 use Rattle.sessions.proofs.Cases.{at_if, first_of}
 use Rattle.sessions.proofs.Maps.{none-some, same_or_other, other, inserted_elsewhere, removed, removed_elsewhere}

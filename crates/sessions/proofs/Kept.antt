@@ -1,5 +1,5 @@
 -- Sessions and connections agree after each step.
-use Rattle.std.proofs.Common.{◌≡◌, ℕ, ◌+◌, ◌-◌, ◌^◌, ◌<◌, ◌==◌, ℤ, pos, true, false, List, [], length, Option, Some, None, refl, sym, ap, subst, ◌∙◌, arith}
+use Rattle.std.proofs.Common.{◌≡◌, ℕ, ◌+◌, ◌^◌, ◌<◌, ◌==◌, ℤ, pos, true, false, List, [], length, Option, Some, None, refl, sym, ap, subst, ◌∙◌, arith}
 use Rattle.std.specs.Prelude.{IsTrue, nat_lt, is_some, if◌then◌else◌}
 use Rattle.std.specs.List.{list_any}
 use Rattle.std.specs.Ordering.{int_eq}
@@ -7,12 +7,11 @@ use Rattle.std.specs.Cmp.{nat_cmp_total}
 use Rattle.std.proofs.lemmas.Bool.{eqb-false, ltb-true}
 use Rattle.std.proofs.lemmas.Map.Lookups.{exact_unsigned}
 use Rattle.std.specs.FinMap as finmap
-use Rattle.settings.specs.Settings.{is_server_id}
 use Rattle.jute.specs.declared.owned.Id.{Id}
 use Rattle.sessions.specs.declared.request.SessionRequest.{SessionRequest}
 use Rattle.sessions.specs.Credentials.{session_id_of, password_of, digest_id}
 use Rattle.sessions.specs.State.{Connection, Connections, State}
-use Rattle.sessions.specs.Sessions.{Connects, Shows, Expires, greatest_counter, ids_limit, is_same_id, is_password, is_valid, session_of, session_in, connection_of, close_as, close, close_one, expire_as, expire, open_new, rejoin, connect, refused, show_in, show, digest_text, auth_by, auth}
+use Rattle.sessions.specs.Sessions.{Connects, Shows, Expires, greatest_counter, ids_limit, is_same_id, is_password, is_valid, session_of, session_in, connection_of, close_as, close_one, expire_as, expire, open_new, rejoin, connect, refused, show_in, digest_text, auth_by}
 use Rattle.sessions.specs.Agreement.{Agrees, AgreementIsKept, AnswersTell, named}
 use Rattle.sessions.proofs.Cases.{at_if, first_of}
 use Rattle.sessions.proofs.Maps.{none-some, some-some, inserted}

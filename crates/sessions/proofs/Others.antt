@@ -10,7 +10,7 @@ use Rattle.jute.specs.declared.owned.Id.{Id}
 use Rattle.sessions.specs.declared.request.SessionRequest.{SessionRequest}
 use Rattle.sessions.specs.Credentials.{session_id_of, digest_id}
 use Rattle.sessions.specs.State.{Connection, State}
-use Rattle.sessions.specs.Sessions.{Connects, Shows, Expires, greatest_counter, ids_limit, is_same_id, with_id, is_valid, connection_of, close_as, close, close_one, expire_as, expire, connect, show_in, digest_text, auth_by, auth}
+use Rattle.sessions.specs.Sessions.{Connects, Shows, greatest_counter, ids_limit, is_same_id, with_id, is_valid, connection_of, close_as, close_one, expire_as, connect, show_in, digest_text, auth_by}
 use Rattle.sessions.specs.Agreement.{OthersStay}
 use Rattle.sessions.proofs.Cases.{at_if}
 use Rattle.sessions.proofs.Maps.{other, inserted_elsewhere, removed_elsewhere}
