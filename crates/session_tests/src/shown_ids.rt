@@ -1,0 +1,140 @@
+//! Ids that connections show. Digests were made by another SHA-1 and base64.
+
+use crate::sessions_of;
+use sessions::{SessionRequest, Sessions};
+use std::alloc::Global;
+use std::test::Fail;
+
+// Gives connection 1 of server 3 a session.
+fn opened(alloc: Global) -> Result<Sessions, Fail> {
+    let mut sessions = sessions_of(alloc, 3)?;
+    let request = SessionRequest {
+        time_out: 10_000,
+        session_id: 0,
+        password: None,
+    };
+    match sessions.session(1) {
+        Some(_) => Ok(sessions),
+        None => {
+            sessions.connect(alloc, 1, &request)?;
+            Ok(sessions)
+        }
+    }
+}
+
+// The ids that connection 1 has shown, one after another.
+fn ids(alloc: Global, sessions: &Sessions) -> Result<String, Fail> {
+    let mut text = String::new(alloc);
+    for id in sessions.ids(1) {
+        text.push_str(id.scheme.as_str())?;
+        text.push_str(" ")?;
+        text.push_str(id.id.as_str())?;
+        text.push_str(";")?;
+    }
+    Ok(text)
+}
+
+// Whether what connection 1 shows is accepted.
+fn auth(
+    alloc: Global,
+    sessions: &mut Sessions,
+    scheme: Option<&str>,
+    bytes: Option<&[u8]>,
+) -> Result<bool, Fail> {
+    Ok(sessions.auth(alloc, 1, scheme, bytes)?)
+}
+
+// Shows a digest id at connection 1.
+fn show(alloc: Global, sessions: &mut Sessions, text: &str) -> Result<bool, Fail> {
+    auth(alloc, sessions, Some("digest"), Some(text.as_bytes()))
+}
+
+// Connection 1 of server 3, which has shown super:admin.
+fn admin(alloc: Global) -> Result<Sessions, Fail> {
+    let mut sessions = opened(alloc)?;
+    show(alloc, &mut sessions, "super:admin")?;
+    Ok(sessions)
+}
+
+// The ids that connection 1 has shown beside super:admin, and whether the last of them was accepted.
+fn shown(alloc: Global, scheme: Option<&str>, bytes: Option<&[u8]>) -> Result<String, Fail> {
+    let mut sessions = admin(alloc)?;
+    let is_accepted = auth(alloc, &mut sessions, scheme, bytes)?;
+    let mut text = ids(alloc, &sessions)?;
+    if !is_accepted {
+        text.push_str("refused")?;
+    }
+    Ok(text)
+}
+
+#[test]
+fn a_digest_id_is_shown_once(rt: HostRuntime) -> Result<(), Fail> {
+    let alloc = rt.alloc();
+    let first = "digest super:xQJmxLMiHGwaqBvst5y6rkB6HQs=;";
+    let digest = Some("digest");
+    for (bytes, more) in [
+        ("super:admin", ""),
+        ("user", "digest user:Et6pb+wgWTVmq3VpLJlJWWgzrck=;"),
+        ("a:b:c", "digest a:cLzgnoJ6mP5qz3w+mwvPE2vDgu0=;"),
+    ] {
+        let text = shown(alloc, digest, Some(bytes.as_bytes()))?;
+        assert_eq!(rt; text.as_str(), format!(in alloc; "{first}{more}")?.as_str());
+    }
+    Ok(())
+}
+
+#[test]
+fn what_is_no_digest_id_is_refused(rt: HostRuntime) -> Result<(), Fail> {
+    let alloc = rt.alloc();
+    let refused = "digest super:xQJmxLMiHGwaqBvst5y6rkB6HQs=;refused";
+    let given: [(Option<&str>, Option<&[u8]>); 4] = [
+        (None, Some(b"super:admin")),
+        (Some("world"), Some(b"super:admin")),
+        (Some("digest"), None),
+        (Some("digest"), Some(b"a:\xff")),
+    ];
+    for (scheme, bytes) in given {
+        assert_eq!(rt; shown(alloc, scheme, bytes)?.as_str(), refused);
+    }
+    Ok(())
+}
+
+// How many of so many users are accepted, and then whether the first is again.
+fn users(alloc: Global, count: u32) -> Result<(u32, bool), Fail> {
+    let mut sessions = opened(alloc)?;
+    let mut accepted: u32 = 0;
+    for number in 0..count {
+        let user = number.to_string(alloc)?;
+        if show(alloc, &mut sessions, user.as_str())? {
+            accepted = accepted.saturating_add(1);
+        }
+    }
+    Ok((accepted, show(alloc, &mut sessions, "0")?))
+}
+
+#[test]
+fn a_connection_shows_1024_ids(rt: HostRuntime) -> Result<(), Fail> {
+    let alloc = rt.alloc();
+    assert_eq!(rt; users(alloc, 1025)?, (1024, true));
+    Ok(())
+}
+
+// Closes connection 1.
+fn close(sessions: &mut Sessions) {
+    sessions.close(1);
+}
+
+// A connection closes, and another of its number shows nothing; without a session none is shown.
+fn closed(alloc: Global) -> Result<(bool, bool), Fail> {
+    let mut sessions = admin(alloc)?;
+    close(&mut sessions);
+    let is_accepted = show(alloc, &mut sessions, "super:admin")?;
+    Ok((is_accepted, sessions.ids(1).is_empty()))
+}
+
+#[test]
+fn ids_go_with_their_connection(rt: HostRuntime) -> Result<(), Fail> {
+    let alloc = rt.alloc();
+    assert_eq!(rt; closed(alloc)?, (false, true));
+    Ok(())
+}

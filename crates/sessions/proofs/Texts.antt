@@ -1,0 +1,33 @@
+-- What "digest" and bytes show, as a test told it.
+use Rattle.std.proofs.Common.{◌≡◌, ℕ, Bool, true, false, not, ◌&&◌, List, Some, None, refl, sym, ap}
+use Rattle.std.specs.Prelude.{IsUtf8, codes, if◌then◌else◌}
+use Rattle.std.specs.Str.{bytes_eq, is_utf8}
+use Rattle.std.proofs.lemmas.Str.{IsUtf8-from_is_utf8, is_utf8-from_IsUtf8}
+use Rattle.sessions.specs.Sessions.{digest_text}
+use mathlib.Core.Bool.{true≢false}
+
+is_not : (b : Bool) → false ≡ not b → b ≡ true
+is_not true e = refl
+is_not false e = absurd (true≢false (sym e))
+
+at_none : (a b : Bool) (x : List ℕ) → b ≡ false → None ≡ (if a && b then Some x else None)
+at_none true b x e = ap (λ t. if t then Some x else None) (sym e)
+at_none false b x e = refl
+
+at_some : (a b : Bool) (x : List ℕ) → a ≡ true → b ≡ true → Some x ≡ (if a && b then Some x else None)
+at_some a b x e f = λ i. if sym e i && sym f i then Some x else None
+
+not_text_at : (bytes : List ℕ) (b : Bool) → is_utf8 bytes ≡ b → (IsUtf8 bytes → ⊥) → b ≡ false
+not_text_at bytes true e h = absurd (h (IsUtf8-from_is_utf8 bytes e))
+not_text_at bytes false e h = refl
+
+-- bytes that are no text show nothing
+pub shows_nothing : (scheme bytes : List ℕ) → (IsUtf8 bytes → ⊥) → None ≡ digest_text (Some scheme) (Some bytes)
+shows_nothing scheme bytes h =
+    at_none (bytes_eq scheme (codes "digest")) (is_utf8 bytes) bytes (not_text_at bytes (is_utf8 bytes) refl h)
+
+pub shows_text : (scheme bytes : List ℕ) → false ≡ not (bytes_eq scheme (codes "digest")) → IsUtf8 bytes
+    → Some bytes ≡ digest_text (Some scheme) (Some bytes)
+shows_text scheme bytes same h =
+    at_some (bytes_eq scheme (codes "digest")) (is_utf8 bytes) bytes (is_not (bytes_eq scheme (codes "digest")) same)
+    (is_utf8-from_IsUtf8 bytes h)

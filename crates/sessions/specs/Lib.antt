@@ -1,0 +1,5 @@
+pub mod Credentials
+pub mod State
+pub mod Sessions
+pub mod Agreement
+pub mod Inner

@@ -1,0 +1,128 @@
+//! The connections that have a session.
+
+ghost use Rattle.std.specs.Prelude.{◌≡◌, OnOk, OnErr};
+ghost use Rattle.std.specs.Option.{option_copied};
+ghost use Rattle.std.specs.FinMap as finmap;
+ghost use Rattle.sessions.specs.Sessions.{new_connection, with_id};
+ghost use Rattle.sessions.specs.Inner.{shown};
+
+use jute::Id;
+use std::alloc::Global;
+use std::collections::BTreeMap;
+use std::marker::Model;
+use values::NoMemory;
+
+/// A connection's session, and the ids that it has shown.
+#[derive(Drop)]
+pub struct Connection {
+    session: i64,
+    ids: Vec<Id>,
+}
+
+impl Model for Connection {
+    ghost use Rattle.sessions.specs.State.{Connection as TheConnection, connection_code};
+
+    ghost Value = { TheConnection };
+
+    ghost coded = { connection_code };
+
+    ghost view = { λ c. record { session = c.session; ids = c.ids.items } };
+}
+
+impl Connection {
+    pub fn session(&self) -> i64
+        ensures { result ≡ self.now.session }
+    {
+        self.session
+    }
+
+    pub fn ids(&self) -> &[Id]
+        ensures { result.now ≡ self.now.ids }
+    {
+        self.ids.as_slice()
+    }
+
+    // Shows an id.
+    fn show(&mut self, id: Id) -> Result<(), NoMemory>
+        ensures ok { OnOk result (self.new ≡ with_id self.old id) }
+        ensures err { OnErr result (self.new ≡ self.old) }
+    {
+        self.ids.push(id)?;
+        Ok(())
+    }
+}
+
+/// The connections that have a session, by their numbers.
+#[derive(Drop)]
+pub struct Connections {
+    map: BTreeMap<u64, Connection>,
+}
+
+impl Model for Connections {
+    ghost use Rattle.std.specs.FinMap as finmap;
+    ghost use Rattle.sessions.specs.State.{Connections as TheConnections, connections_code};
+
+    ghost Value = { TheConnections };
+
+    ghost coded = { connections_code };
+
+    ghost view = { λ c. finmap.from_entries c.map.entries };
+}
+
+impl Connections {
+    /// No connection, which takes no memory.
+    pub fn new(alloc: Global) -> Connections
+        ensures { result ≡ finmap.empty }
+    {
+        Connections {
+            map: BTreeMap::new(alloc),
+        }
+    }
+
+    /// Gives the connection the session; it has shown no id.
+    pub fn add(&mut self, alloc: Global, number: u64, session: i64) -> Result<(), NoMemory>
+        ensures ok { OnOk result (self.new ≡ finmap.insert self.old number (new_connection session)) }
+        ensures err { OnErr result (self.new ≡ self.old) }
+    {
+        let connection = Connection {
+            session,
+            ids: Vec::new(alloc),
+        };
+        self.map.insert(number, connection)?;
+        Ok(())
+    }
+
+    /// The connection, if it has a session.
+    pub fn get(&self, number: u64) -> Option<&Connection>
+        ensures { option_copied result ≡ finmap.get self.now number }
+    {
+        self.map.get(&number)
+    }
+
+    /// Shows an id at a connection that has a session.
+    pub fn show(&mut self, number: u64, id: Id) -> Result<(), NoMemory>
+        ensures ok { let connection = finmap.get self.old number in
+            OnOk result (self.new ≡ shown self.old number id connection) }
+        ensures err { OnErr result (self.new ≡ self.old) }
+    {
+        match self.map.get_mut(&number) {
+            None => return Ok(()),
+            Some(connection) => connection.show(id),
+        }
+    }
+
+    /// Takes the connection out, and answers it, if it had a session.
+    pub fn take(&mut self, number: u64) -> Option<Connection>
+        ensures was { result ≡ finmap.get self.old number }
+        ensures removed { self.new ≡ finmap.remove self.old number }
+    {
+        self.map.remove(&number)
+    }
+
+    /// Drops the connection.
+    pub fn close(&mut self, number: u64)
+        ensures { self.new ≡ finmap.remove self.old number }
+    {
+        self.take(number);
+    }
+}

@@ -1,0 +1,75 @@
+//! The guest sessions, each with its connection.
+
+ghost use Rattle.std.specs.Prelude.{◌≡◌, OnOk, OnErr, Some};
+ghost use Rattle.std.specs.FinMap as finmap;
+ghost use Rattle.sessions.specs.Sessions.{connection_in};
+ghost use Rattle.sessions.specs.Inner.{replaced};
+
+use std::alloc::Global;
+use std::collections::BTreeMap;
+use std::marker::Model;
+use std::mem;
+use values::NoMemory;
+
+/// The guest sessions that haven't ended, each with the connection that has it now, if there is one.
+#[derive(Drop)]
+pub struct Guests {
+    map: BTreeMap<i64, Option<u64>>,
+}
+
+impl Model for Guests {
+    ghost use Rattle.std.specs.FinMap as finmap;
+    ghost use Rattle.sessions.specs.State.{Guests as TheGuests, guests_code};
+
+    ghost Value = { TheGuests };
+
+    ghost coded = { guests_code };
+
+    ghost view = { λ g. finmap.from_entries g.map.entries };
+}
+
+impl Guests {
+    /// No session, which takes no memory.
+    pub fn new(alloc: Global) -> Guests
+        ensures { result ≡ finmap.empty }
+    {
+        Guests {
+            map: BTreeMap::new(alloc),
+        }
+    }
+
+    /// Adds a session that the connection has.
+    pub fn add(&mut self, session: i64, connection: u64) -> Result<(), NoMemory>
+        ensures ok { OnOk result (self.new ≡ finmap.insert self.old session (Some connection)) }
+        ensures err { OnErr result (self.new ≡ self.old) }
+    {
+        self.map.insert(session, Some(connection))?;
+        Ok(())
+    }
+
+    pub fn contains(&self, session: i64) -> bool
+        ensures { result ≡ finmap.contains_key self.now session }
+    {
+        self.map.contains_key(&session)
+    }
+
+    /// Gives a session that is known another connection, or none, and answers the connection that had it.
+    pub fn replace(&mut self, session: i64, connection: Option<u64>) -> Option<u64>
+        ensures older { result ≡ connection_in (finmap.get self.old session) }
+        ensures new { let known = finmap.get self.old session in
+            self.new ≡ replaced self.old session connection known }
+    {
+        match self.map.get_mut(&session) {
+            None => return None,
+            Some(place) => mem::replace(place, connection),
+        }
+    }
+
+    /// Takes a session out, and answers its connection, if there was that session.
+    pub fn remove(&mut self, session: i64) -> Option<Option<u64>>
+        ensures was { result ≡ finmap.get self.old session }
+        ensures removed { self.new ≡ finmap.remove self.old session }
+    {
+        self.map.remove(&session)
+    }
+}

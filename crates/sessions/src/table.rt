@@ -1,0 +1,314 @@
+//! Sessions, and who has them.
+
+ghost use Rattle.std.specs.Prelude.{◌≡◌, OnErr, IfOk, IfNone, IsTrue, None, nat_lt, length};
+ghost use Rattle.std.specs.Option.{option_copied};
+ghost use Rattle.std.specs.FinMap as finmap;
+ghost use Rattle.sessions.specs.State.{terms_of};
+ghost use Rattle.sessions.specs.Sessions.{no_sessions, session_of, ids_of, close, expire, clamped, welcome, is_valid, open_new, rejoin, connect, refusal, show, digest_text, auth, ids_limit};
+ghost use Rattle.sessions.specs.Agreement.{Agrees};
+
+use crate::connections::Connections;
+use crate::credentials::{COUNTERS, digest_id, password, session_id};
+use crate::guests::Guests;
+use crate::request::{Connected, PASSWORD_LEN, SessionRequest, SessionResponse};
+use jute::Id;
+use settings::{Secret, ServerId, TimeoutBounds};
+use std::alloc::Global;
+use std::marker::Model;
+use values::NoMemory;
+
+/// The most ids that a connection may show.
+pub const IDS_LIMIT: usize = 1024;
+
+/// The guest sessions of an observer, and for each connection its session and the ids that it has shown.
+#[derive(Drop)]
+pub struct Sessions {
+    server_id: ServerId,
+    timeouts: TimeoutBounds,
+    secret: Secret,
+    // How many sessions were opened.
+    counter: u64,
+    guests: Guests,
+    connections: Connections,
+}
+
+impl Model for Sessions {
+    ghost use Rattle.sessions.specs.State.{State, terms_of, state_of, state_code};
+    ghost use Rattle.sessions.specs.Agreement.{Agrees};
+
+    ghost Value = { State };
+
+    ghost coded = { state_code };
+
+    ghost view = { λ s. state_of (terms_of s.server_id s.timeouts s.secret) s.counter s.guests s.connections };
+
+    ghost invariant = { λ s. Agrees (state_of (terms_of s.server_id s.timeouts s.secret)
+        s.counter s.guests s.connections) };
+}
+
+// A timeout within the bounds, in milliseconds.
+fn clamped(bounds: TimeoutBounds, time_out: i32) -> i32
+    ensures { result ≡ clamped bounds time_out }
+{
+    if time_out < bounds.least() {
+        return bounds.least();
+    }
+    if bounds.greatest() < time_out {
+        return bounds.greatest();
+    }
+    time_out
+}
+
+// The answer to a client that gets no session.
+fn refused() -> Connected
+    ensures { result ≡ record { response = refusal; older = None } }
+{
+    Connected {
+        response: SessionResponse {
+            time_out: 0,
+            session_id: 0,
+            password: [0; PASSWORD_LEN],
+        },
+        older: None,
+    }
+}
+
+// The text that is shown by the scheme "digest".
+fn digest_text<'a>(scheme: Option<&str>, bytes: Option<&'a [u8]>) -> Option<&'a str>
+    ensures { let given = option_copied scheme.entry in
+        option_copied result ≡ digest_text given (option_copied bytes.entry) }
+{
+    let Some(scheme) = scheme else {
+        return None;
+    };
+    let Some(bytes) = bytes else {
+        return None;
+    };
+    if scheme != "digest" {
+        return None;
+    }
+    match str::from_utf8(bytes) {
+        Err(_) => return None,
+        Ok(text) => Some(text),
+    }
+}
+
+// Whether one id more may be shown beside these.
+fn has_room(ids: &[Id]) -> bool
+    ensures { result ≡ nat_lt (length ids.now) ids_limit }
+{
+    ids.len() < IDS_LIMIT
+}
+
+impl Sessions {
+    /// No session, which takes no memory.
+    pub fn new(
+        alloc: Global,
+        server_id: ServerId,
+        timeouts: TimeoutBounds,
+        secret: Secret,
+    ) -> Sessions
+        ensures { result ≡ no_sessions (terms_of server_id timeouts secret) }
+    {
+        let _number = server_id.number();
+        Sessions {
+            server_id,
+            timeouts,
+            secret,
+            counter: 0,
+            guests: Guests::new(alloc),
+            connections: Connections::new(alloc),
+        }
+    }
+
+    /// The connection's session, if it has one.
+    pub fn session(&self, connection: u64) -> Option<i64>
+        ensures session { result ≡ session_of self.now connection }
+        ensures none { IfNone result (finmap.get self.now.connections connection ≡ None) }
+        ensures agrees { Agrees self.now }
+    {
+        match self.connections.get(connection) {
+            None => None,
+            Some(connection) => Some(connection.session()),
+        }
+    }
+
+    /// The ids that the connection has shown, in order.
+    pub fn ids(&self, connection: u64) -> &[Id]
+        ensures { result.now ≡ ids_of self.now connection }
+    {
+        match self.connections.get(connection) {
+            None => &[],
+            Some(connection) => connection.ids(),
+        }
+    }
+
+    // What a client is answered that has the session from now on.
+    fn welcome(&self, session: i64, time_out: i32) -> SessionResponse
+        ensures { result ≡ welcome self.now.terms session time_out }
+    {
+        SessionResponse {
+            time_out: clamped(self.timeouts, time_out),
+            session_id: session,
+            password: password(&self.secret, session),
+        }
+    }
+
+    // Opens a new session.
+    fn open_new(
+        &mut self,
+        alloc: Global,
+        connection: u64,
+        time_out: i32,
+    ) -> Result<Connected, NoMemory>
+        requires { finmap.get self.old.connections connection ≡ None }
+        ensures ok { IfOk result (λ connected. open_new self.old connection time_out
+            ≡ record { connected = connected; after = self.new }) }
+        ensures err { OnErr result (self.new ≡ self.old) }
+    {
+        if self.counter == COUNTERS - 1 {
+            return Ok(refused());
+        }
+        let counter = self.counter + 1;
+        let session = session_id(self.server_id, counter);
+        let response = self.welcome(session, time_out);
+        self.connections.add(alloc, connection, session)?;
+        match self.guests.add(session, connection) {
+            Err(e) => {
+                self.connections.close(connection);
+                return Err(e);
+            }
+            Ok(()) => {
+                self.counter = counter;
+                Ok(Connected {
+                    response,
+                    older: None,
+                })
+            }
+        }
+    }
+
+    // Whether the session is a guest session, and the password is its own.
+    fn is_valid(&self, request: &SessionRequest<'_>) -> bool
+        ensures { result ≡ is_valid self.now request.now }
+    {
+        if !self.guests.contains(request.session_id) {
+            return false;
+        }
+        match &request.password {
+            None => return false,
+            Some(given) => {
+                given.as_slice() == password(&self.secret, request.session_id).as_slice()
+            }
+        }
+    }
+
+    // Gives a session back.
+    fn rejoin(
+        &mut self,
+        alloc: Global,
+        connection: u64,
+        request: &SessionRequest<'_>,
+    ) -> Result<Connected, NoMemory>
+        requires known { IsTrue (finmap.contains_key self.old.guests request.now.session_id) }
+        requires free { finmap.get self.old.connections connection ≡ None }
+        ensures ok { IfOk result (λ connected. rejoin self.old connection request.now
+            ≡ record { connected = connected; after = self.new }) }
+        ensures err { OnErr result (self.new ≡ self.old) }
+    {
+        let response = self.welcome(request.session_id, request.time_out);
+        self.connections.add(alloc, connection, request.session_id)?;
+        let older = self.guests.replace(request.session_id, Some(connection));
+        if let Some(older) = older {
+            self.connections.close(older);
+        }
+        Ok(Connected { response, older })
+    }
+
+    /// Connects a connection that has no session. It has one afterwards, unless the answer is a refusal.
+    pub fn connect(
+        &mut self,
+        alloc: Global,
+        connection: u64,
+        request: &SessionRequest<'_>,
+    ) -> Result<Connected, NoMemory>
+        requires { finmap.get self.old.connections connection ≡ None }
+        ensures ok { IfOk result (λ connected. connect self.old connection request.now
+            ≡ record { connected = connected; after = self.new }) }
+        ensures err { OnErr result (self.new ≡ self.old) }
+    {
+        if request.session_id == 0 {
+            return self.open_new(alloc, connection, request.time_out);
+        }
+        if !self.is_valid(request) {
+            return Ok(refused());
+        }
+        self.rejoin(alloc, connection, request)
+    }
+
+    // Shows an id.
+    fn show(&mut self, connection: u64, id: Id) -> Result<bool, NoMemory>
+        ensures ok { IfOk result (λ is_accepted. show self.old connection id
+            ≡ record { is_accepted = is_accepted; after = self.new }) }
+        ensures err { OnErr result (self.new ≡ self.old) }
+    {
+        let Some(shown) = self.connections.get(connection) else {
+            return Ok(false);
+        };
+        if shown.ids().contains(&id) {
+            return Ok(true);
+        }
+        if !has_room(shown.ids()) {
+            return Ok(false);
+        }
+        self.connections.show(connection, id)?;
+        Ok(true)
+    }
+
+    /// Shows the digest id of the bytes "user:password". False where that is refused: another scheme or none, bytes that are
+    /// null or no UTF-8, one id more than `IDS_LIMIT`, or a connection without a session.
+    pub fn auth(
+        &mut self,
+        alloc: Global,
+        connection: u64,
+        scheme: Option<&str>,
+        bytes: Option<&[u8]>,
+    ) -> Result<bool, NoMemory>
+        ensures ok { let given = option_copied scheme.entry in
+            let text = option_copied bytes.entry in
+            IfOk result (λ is_accepted. auth self.old connection given text
+            ≡ record { is_accepted = is_accepted; after = self.new }) }
+        ensures err { OnErr result (self.new ≡ self.old) }
+    {
+        let Some(text) = digest_text(scheme, bytes) else {
+            return Ok(false);
+        };
+        self.show(connection, digest_id(alloc, text)?)
+    }
+
+    /// Drops a connection and its ids. Its session stays.
+    pub fn close(&mut self, connection: u64)
+        ensures { self.new ≡ close self.old connection }
+    {
+        match self.connections.take(connection) {
+            None => return,
+            Some(connection) => {
+                self.guests.replace(connection.session(), None);
+            }
+        }
+    }
+
+    /// Ends a guest session, and drops and answers its connection, which is to be closed. Nothing else has that id.
+    pub fn expire(&mut self, session: i64) -> Option<u64>
+        ensures { expire self.old session ≡ record { closed = result; after = self.new } }
+    {
+        match self.guests.remove(session) {
+            None => return None,
+            Some(None) => return None,
+            Some(Some(connection)) => {
+                self.connections.close(connection);
+                Some(connection)
+            }
+        }
+    }
+}
