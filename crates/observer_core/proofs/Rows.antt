@@ -53,7 +53,8 @@ use Rattle.read_processor.specs.declared.request.Request.{Request}
 use Rattle.read_processor.specs.Look.{look_at_node, shown_look, body_of as shown_body}
 use Rattle.read_processor.specs.Reply.{reply}
 use Rattle.observer_core.specs.Play.{Happened, behind, quiet, happening, inform, apply, receive, deliver_as, deliver, is_refused, leave_leader, end_at, take_leader_bytes, send, answer, serve_as, serve, is_closed, wait_if_open, frames, serve_all, take_client_bytes, at_client, happen, play, new_machine, primed_machine}
-use Rattle.observer_core.specs.Rows.{WorkedRows, spelled, inform_of_create, inform_of_set_data, get_front, get_back, reply_of_create, reply_of_set_data, created, overwritten, asked}
+use Rattle.values.specs.Hex.{spelled}
+use Rattle.observer_core.specs.Rows.{WorkedRows, inform_of_create, inform_of_set_data, get_front, get_back, reply_of_create, reply_of_set_data, created, overwritten, asked}
 use Rattle.observer_core.proofs.NatMaps.{get-inserted, insert-insert, entries-empty}
 
 -- ---- texts

@@ -1,6 +1,6 @@
 -- Rows of bytes that were worked out by hand: what comes, and what goes.
 use Rattle.std.specs.Prelude.{◌≡◌, ℕ, List, [], ◌∷◌, ◌++◌, Option, Some, None, codes}
-use Rattle.values.specs.Hex.{hex}
+use Rattle.values.specs.Hex.{spelled}
 use Rattle.values.specs.declared.fault.Fault.TheVariants.{OutOfOrder}
 use Rattle.observer_core.specs.declared.config.Config.{Config}
 use Rattle.observer_core.specs.declared.event.Event.{Event}
@@ -8,14 +8,6 @@ use Rattle.observer_core.specs.declared.event.Event.TheVariants.{LeaderBytes, Cl
 use Rattle.observer_core.specs.declared.event.Output.{Output}
 use Rattle.observer_core.specs.declared.event.Output.TheVariants.{ToClient, CloseLeader, CloseClient}
 use Rattle.observer_core.specs.Play.{play, new_machine, primed_machine}
-
--- the bytes that digits spell
-abbrev pub bytes_in : Option (List ℕ) → List ℕ
-bytes_in None = []
-bytes_in (Some bytes) = bytes
-
-abbrev pub spelled : List ℕ → List ℕ
-spelled text = bytes_in (hex text)
 
 -- an INFORM of a create of /a with the data "hi", zxid 0x100000001
 abbrev pub inform_of_create : List ℕ

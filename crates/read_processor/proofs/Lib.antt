@@ -4,3 +4,5 @@ pub mod Counting
 pub mod Filling
 -- which responses may be written, and how long they are
 pub mod Writing
+-- looks that were worked out by hand
+pub mod Rows

@@ -3,3 +3,4 @@ pub mod Limits
 pub mod Look
 pub mod Permissions
 pub mod Reply
+pub mod Rows

@@ -40,7 +40,7 @@ impl Model for Body {
     ghost invariant = { λ b. HasRoom b.bytes.items };
 }
 
-// Writes an int over the bytes that stand in front.
+// Writes an int over the bytes that stand in front. It is lent, since a number that is passed comes back as its bits.
 #[tactic(auto, unfolding(jute::specs::Format::number_bytes))]
 fn fill_int(bytes: &mut [u8], number: &i32)
     requires { 4 ≤ length bytes.old }

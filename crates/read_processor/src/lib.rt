@@ -17,12 +17,14 @@
 mod bodies;
 mod body;
 mod counts;
+mod law;
 mod permissions;
 mod reads;
 mod request;
 mod shown;
 
 pub use body::Body;
+pub use law::worked_looks;
 pub use reads::look;
 pub use request::Request;
 pub use shown::Look;

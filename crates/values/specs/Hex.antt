@@ -33,6 +33,14 @@ at_least_one (b ∷ bytes) = Some (b ∷ bytes)
 abbrev pub hex : List ℕ → Option (List ℕ)
 hex text = bytes_of (without_blanks text) >>= at_least_one
 
+-- the bytes that a text spells; none where it spells none
+abbrev pub bytes_in : Option (List ℕ) → List ℕ
+bytes_in None = []
+bytes_in (Some bytes) = bytes
+
+abbrev pub spelled : List ℕ → List ℕ
+spelled text = bytes_in (hex text)
+
 -- the lower-case digit of a value
 abbrev pub digit : ℕ → ℕ
 digit value = if nat_lt value 10 then 48 + value else 87 + value

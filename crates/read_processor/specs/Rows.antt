@@ -1,0 +1,66 @@
+-- Looks that were worked out by hand, at any state that has the node.
+use Rattle.std.specs.Prelude.{◌≡◌, ℕ, pos, List, [], ◌∷◌, ◌++◌, Option, Some, None, false, codes}
+use Rattle.std.specs.FinMap as finmap
+use Rattle.std.specs.FinSet as set
+use Rattle.values.specs.Hex.{spelled}
+use Rattle.jute.specs.declared.owned.Id.{Id}
+use Rattle.jute.specs.declared.codes.TheConstants.{BAD_ARGUMENTS, NO_NODE, NO_AUTH}
+use Rattle.client_records.specs.declared.request.PathAndWatch.{PathAndWatch}
+use Rattle.data_tree.specs.State.{State}
+use Rattle.data_tree.specs.declared.node.Node.{Node}
+use Rattle.read_processor.specs.declared.request.Request.TheVariants.{Exists, GetData}
+use Rattle.read_processor.specs.Look.{look, without_body, shown_look}
+
+abbrev pub reader : Id
+reader = record { scheme = codes "digest"; id = codes "ann:QQ==" }
+
+-- a node with the data "hi", which one id may read
+abbrev pub node : Node
+node = record {
+  bytes = Some (codes "hi");
+  acl = record { perms = pos 1; id = reader } ∷ [];
+  stat = record {
+    czxid = pos 4294967297;
+    mzxid = pos 4294967298;
+    ctime = pos 1000;
+    mtime = pos 2000;
+    version = pos 1;
+    cversion = pos 0;
+    aversion = pos 0;
+    ephemeral_owner = pos 0;
+    pzxid = pos 4294967297;
+  };
+  children = set.empty;
+}
+
+abbrev pub stat_of_node : List ℕ
+stat_of_node =
+    codes "0000000100000001 0000000100000002 00000000000003e8 00000000000007d0 00000001 00000000 00000000"
+    ++ codes " 0000000000000000 00000002 00000000 0000000100000001"
+
+-- what the replies to exists and to getData have behind their headers
+abbrev pub exists_bytes : List ℕ
+exists_bytes = spelled stat_of_node
+
+abbrev pub get_data_bytes : List ℕ
+get_data_bytes = spelled (codes "00000002 6869 " ++ stat_of_node)
+
+-- the state has the node at /a, and none at /q
+abbrev pub Holds : State → Type 0
+Holds s = (finmap.get s.nodes (codes "/a") ≡ Some node) × (finmap.get s.nodes (codes "/q") ≡ None)
+
+abbrev pub asked : List ℕ → PathAndWatch
+asked path = record { path = Some path; watch = false }
+
+-- the same, at each state that holds the node
+abbrev pub At : (State → Type 0) → Type 0
+At P = (s : State) → Holds s → P s
+
+pub record WorkedLooks : Type 0 where
+  pub read : At (λ s. look s (reader ∷ []) (GetData (asked (codes "/a"))) ≡ shown_look get_data_bytes)
+  pub not_read : At (λ s. look s [] (GetData (asked (codes "/a"))) ≡ without_body NO_AUTH)
+  -- no permission is asked for
+  pub exists : At (λ s. look s [] (Exists (asked (codes "/a"))) ≡ shown_look exists_bytes)
+  pub missing : At (λ s. look s [] (GetData (asked (codes "/q"))) ≡ without_body NO_NODE)
+  pub not_asked_for : At (λ s. look s [] (GetData (asked (codes "q"))) ≡ without_body BAD_ARGUMENTS)
+  pub null : At (λ s. look s [] (GetData (record { path = None; watch = false })) ≡ without_body BAD_ARGUMENTS)
