@@ -1,0 +1,96 @@
+-- The paths of a set as a list.
+use Rattle.std.proofs.Common.{◌≡◌, List, [], ◌∷◌, Bool, true, false, ◌&&◌, cond, T, refl, sym, ap, ◌∙◌, map, subst, is_some}
+use Rattle.std.specs.declared.cmp.Ordering.{Ordering}
+use Rattle.std.specs.declared.cmp.Ordering.TheVariants.{Less, Equal, Greater}
+use Rattle.std.specs.Ordering.{is_lt}
+use Rattle.std.specs.List.{AllByRecursion}
+use Rattle.std.specs.List.Sorted.{IsStrictlySortedBy}
+use Rattle.std.specs.FinMap as finmap
+use Rattle.std.specs.FinMap.Entries.{is_sorted, below_all, is_some-find}
+use Rattle.std.specs.FinSet as set
+use mathlib.Core.Bool.{true≢false}
+use Rattle.ephemerals.specs.Orders.{Bytes, path_cmp, in_order, ascending}
+use Rattle.ephemerals.proofs.Totals.{path_total}
+use Rattle.txn_codec.specs.declared.txn.Txn.{Txn}
+use Rattle.data_tree.specs.Footprint.{touches, footprint}
+use Rattle.footprint.specs.declared.cover.Footprint.{Footprint}
+use Rattle.footprint.specs.declared.cover.Footprint.TheVariants.{Barrier, Paths}
+use Rattle.footprint.specs.Footprints.{paths_of, is_barrier, footprint_of}
+use Rattle.footprint.specs.Laws.{PathsAreTheCells, PathsAscend}
+
+-- texts as entries
+abbrev marked : List Bytes → List (Bytes × Unit {0})
+marked texts = map (λ (t : Bytes). (t, tt {0})) texts
+
+unmarked : (texts : List Bytes) → map (λ (e : Bytes × Unit {0}). e.0) (marked texts) ≡ texts
+unmarked [] = refl
+unmarked (t ∷ ts) = ap (λ r. t ∷ r) (unmarked ts)
+
+in_ascending : (texts : List Bytes) (q : Bytes) → touches (ascending texts) q ≡ touches texts q
+in_ascending texts q =
+    sym (finmap.contains_key-keys (finmap.from_entries {R = path_cmp} (marked texts)) q)
+    ∙ ap is_some (finmap.get-from_entries path_total (marked texts) q)
+    ∙ is_some-find path_cmp q (marked texts)
+    ∙ ap (λ ts. touches ts q) (unmarked texts)
+
+first : (a b : Bool) → T (a && b) → T a
+first true b p = tt
+first false b p = p
+
+second : (a b : Bool) → T (a && b) → T b
+second true b p = p
+second false b p = absurd p
+
+less : (o : Ordering) → T (is_lt o) → o ≡ Less
+less Less p = refl
+less Equal p = absurd p
+less Greater p = absurd p
+
+all_above : (k : Bytes) (es : List (Bytes × Unit {0})) → T (below_all path_cmp k es)
+    → AllByRecursion (λ y. path_cmp k y ≡ Less) (map (λ (e : Bytes × Unit {0}). e.0) es)
+all_above k [] h = tt
+all_above k (e ∷ es) h = (
+  less (path_cmp k e.0) (first (is_lt (path_cmp k e.0)) (below_all path_cmp k es) h),
+  all_above k es (second (is_lt (path_cmp k e.0)) (below_all path_cmp k es) h),
+)
+
+keys_ascend : (es : List (Bytes × Unit {0})) → T (is_sorted path_cmp es)
+    → IsStrictlySortedBy path_cmp (map (λ (e : Bytes × Unit {0}). e.0) es)
+unfolding IsStrictlySortedBy
+keys_ascend [] h = tt
+keys_ascend (e ∷ es) h = (
+  all_above e.0 es (first (below_all path_cmp e.0 es) (is_sorted path_cmp es) h),
+  keys_ascend es (second (below_all path_cmp e.0 es) (is_sorted path_cmp es) h),
+)
+
+ascending_ascends : (texts : List Bytes) → IsStrictlySortedBy path_cmp (ascending texts)
+ascending_ascends texts =
+    let entries = finmap.from_entries {R = path_cmp} (marked texts) in
+    keys_ascend (finmap.entries entries) (finmap.entries_sorted entries)
+
+abbrev are_paths : Footprint → Bool
+are_paths Barrier = false
+are_paths (Paths paths) = true
+
+abbrev listed : Footprint → List Bytes
+listed Barrier = []
+listed (Paths paths) = paths
+
+-- which list a footprint that is no barrier has
+the_list : (t : Txn) (paths : List Bytes) → footprint_of t ≡ Paths paths → in_order (paths_of t) ≡ paths
+the_list t paths = by (is_barrier t)
+  where
+    by : (b : Bool) → cond b Barrier (Paths (in_order (paths_of t))) ≡ Paths paths → in_order (paths_of t) ≡ paths
+    by true is = absurd (true≢false (sym (ap are_paths is)))
+    by false is = ap listed is
+
+pub paths_are_the_cells : PathsAreTheCells
+paths_are_the_cells t paths is path =
+    ap (λ ps. touches ps path) (sym (the_list t paths is))
+    ∙ in_ascending (set.items (paths_of t)) path
+    ∙ sym (set.contains-items (paths_of t) path)
+    ∙ set.contains-from_list path_total (footprint t) path
+
+pub paths_ascend : PathsAscend
+paths_ascend t paths is =
+    subst (λ ps. IsStrictlySortedBy path_cmp ps) (the_list t paths is) (ascending_ascends (set.items (paths_of t)))

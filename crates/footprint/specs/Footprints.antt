@@ -1,0 +1,31 @@
+-- A transaction's footprint: a finite set of paths, or a barrier. The set is listed in ascending bytes, each path once.
+use Rattle.std.specs.Prelude.{ℕ, Bool, true, false, nat_lt, if◌then◌else◌}
+use Rattle.std.specs.FinSet as set
+use Rattle.ephemerals.specs.Orders.{Names, in_order}
+use Rattle.txn_codec.specs.declared.txn.Txn.{Txn}
+use Rattle.txn_codec.specs.declared.txn.Body.{Body}
+use Rattle.txn_codec.specs.declared.txn.Body.TheVariants as body
+use Rattle.data_tree.specs.Footprint as cells
+use Rattle.footprint.specs.declared.cover.Footprint.{Footprint}
+use Rattle.footprint.specs.declared.cover.Footprint.TheVariants.{Barrier, Paths}
+
+-- a multi of more paths is a barrier
+abbrev pub most_paths : ℕ
+most_paths = 16
+
+-- the paths whose cells a transaction may touch; those of a closeSession hang on the state and aren't here
+abbrev pub paths_of : Txn → Names
+paths_of t = set.from_list (cells.footprint t)
+
+abbrev pub is_barrier : Txn → Bool
+is_barrier t = of_body t.body
+  where
+    of_body : Body → Bool
+    of_body (body.Single operation) = false
+    of_body (body.SetAcl body) = false
+    of_body (body.Multi parts) = nat_lt most_paths (set.len (paths_of t))
+    of_body (body.CreateSession timeout) = false
+    of_body body.CloseSession = true
+
+abbrev pub footprint_of : Txn → Footprint
+footprint_of t = if is_barrier t then Barrier else Paths (in_order (paths_of t))

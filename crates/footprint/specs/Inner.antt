@@ -1,0 +1,9 @@
+-- What the contracts of private functions cite, and nobody else has to believe.
+use Rattle.std.specs.Prelude.{◌≡◌, List, ◌||◌}
+use Rattle.std.specs.FinSet as set
+use Rattle.ephemerals.specs.Orders.{Bytes, Names}
+use Rattle.data_tree.specs.Footprint.{touches}
+
+-- the set has gained these paths, and no others
+abbrev pub HasGained : List Bytes → Names → Names → Type 0
+HasGained paths old new = (q : Bytes) → set.contains new q ≡ (touches paths q || set.contains old q)

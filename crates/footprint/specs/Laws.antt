@@ -1,0 +1,18 @@
+-- A footprint's list and the cells that the meaning of transactions speaks of.
+use Rattle.std.specs.Prelude.{◌≡◌, List}
+use Rattle.std.specs.List.Sorted.{IsStrictlySortedBy}
+use Rattle.ephemerals.specs.Orders.{Bytes, path_cmp}
+use Rattle.txn_codec.specs.declared.txn.Txn.{Txn}
+use Rattle.data_tree.specs.Footprint.{touches, footprint}
+use Rattle.footprint.specs.declared.cover.Footprint.TheVariants.{Paths}
+use Rattle.footprint.specs.Footprints.{footprint_of}
+
+-- a path is listed exactly where the transaction may touch its cell
+abbrev pub PathsAreTheCells : Type 0
+PathsAreTheCells =
+    (t : Txn) (paths : List Bytes) → footprint_of t ≡ Paths paths
+    → (path : Bytes) → touches paths path ≡ touches (footprint t) path
+
+-- strictly ascending bytes, so each path once
+abbrev pub PathsAscend : Type 0
+PathsAscend = (t : Txn) (paths : List Bytes) → footprint_of t ≡ Paths paths → IsStrictlySortedBy path_cmp paths

@@ -1,0 +1,3 @@
+pub mod Footprints
+pub mod Laws
+pub mod Inner
