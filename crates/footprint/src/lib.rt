@@ -1,8 +1,8 @@
 //! Which paths a transaction may touch.
 //!
-//! Transactions whose footprints have no path in common can be done apart (the laws of `data_tree` say so), so a footprint is
-//! what a batch is cut by. It is a finite set of paths, given as a strictly ascending list, or a barrier: a transaction
-//! whose paths hang on the state, or are too many, is done alone.
+//! Transactions whose footprints have no path in common can be done apart (the laws of `data_tree` say so), so a batch
+//! may be cut by their footprints. A footprint is a finite set of paths, given as a strictly ascending list, or a
+//! barrier: a transaction whose paths hang on the state, or are too many, is done alone.
 //!
 //! ```text
 //! match footprint(alloc, &txn)? {

@@ -38,7 +38,7 @@ fn listed(alloc: Global, paths: TextSet) -> Result<Listed<Text>, NoMemory>
     Ok(Listed::from_vec(list))
 }
 
-/// The transaction's footprint. It costs the transaction's own paths, times a logarithm.
+/// The transaction's footprint, or want of memory. It costs the transaction's own paths, times a logarithm.
 pub fn footprint(alloc: Global, txn: &Txn) -> Result<Footprint, NoMemory>
     ensures { IfOk result (λ footprint. footprint ≡ footprint_of txn.now) }
 {
