@@ -3,7 +3,7 @@
 ghost use Rattle.std.specs.Prelude.{◌≡◌, ℕ, List, IsTrue};
 ghost use Rattle.settings.specs.Settings.{is_secret, secret_of, default_secret};
 
-use std::alloc::Global;
+use std::alloc::{AllocError, Global};
 use std::marker::Model;
 use values::Blob;
 
@@ -22,6 +22,16 @@ impl Model for Secret {
     ghost view = { λ s. s.bytes };
 
     ghost invariant = { λ s. IsTrue (is_secret s.bytes) };
+}
+
+impl Clone for Secret {
+    ghost is_clone = { λ y x. y ≡ x };
+
+    fn clone(&self) -> Result<Secret, AllocError> {
+        Ok(Secret {
+            bytes: self.bytes.clone()?,
+        })
+    }
 }
 
 impl Secret {
