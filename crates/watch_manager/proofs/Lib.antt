@@ -22,3 +22,5 @@ mod Evaluating
 mod Silent
 -- Who is told, and how often
 mod Told
+-- What others keep
+mod Others

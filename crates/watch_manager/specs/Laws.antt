@@ -1,10 +1,10 @@
 -- What holds of each firing, whatever is watched and whatever changes.
-use Rattle.std.specs.Prelude.{◌≡◌, ℕ, List, Bool, true, ◌||◌, map}
+use Rattle.std.specs.Prelude.{◌≡◌, ◌≢◌, ℕ, List, [], Bool, true, ◌||◌, map}
 use Rattle.std.specs.List.{AllByRecursion, IsDistinct}
 use Rattle.std.specs.FinSet as set
 use Rattle.ephemerals.specs.Orders.{Bytes}
 use Rattle.data_tree.specs.declared.outcome.Trigger.{Trigger}
-use Rattle.watch_manager.specs.Pairs.{Pairs, same_connection}
+use Rattle.watch_manager.specs.Pairs.{Pairs, without_connection, same_connection}
 use Rattle.watch_manager.specs.Watching.{Watching, dropped}
 use Rattle.watch_manager.specs.Watches.{tells, fire}
 use Rattle.watch_manager.specs.declared.event.Event.{Event}
@@ -31,8 +31,19 @@ OnlyWatchersAreTold =
     → AllByRecursion (λ (e : ℕ × Event). test e.0 ≡ true) (fire w triggers).events
     × WatchersPass test (fire w triggers).left
 
+-- where nobody is told, no watch is used up
+abbrev pub SilenceKeepsWatches : Type 0
+SilenceKeepsWatches = (w : Watching) (triggers : List Trigger) → (fire w triggers).events ≡ [] → w ≡ (fire w triggers).left
+
 -- a connection that was dropped watches nothing, and nobody watches anew
 abbrev pub DroppedWatchesNothing : Type 0
 DroppedWatchesNothing =
     (test : ℕ → Bool) (w : Watching) (conn : ℕ) → WatchersPass (λ c. test c || same_connection conn c) w
     → WatchersPass test (dropped conn w)
+
+-- setting a watch, and dropping a connection, leave the watches of every other connection
+pub record OthersKeepWatches : Type 0 where
+  pub sets : (pairs : Pairs) (path : Bytes) (conn : ℕ) (p : Bytes) (other : ℕ) → other ≢ conn
+      → set.contains (set.insert pairs (path, conn)) (p, other) ≡ set.contains pairs (p, other)
+  pub drops : (pairs : Pairs) (conn : ℕ) (p : Bytes) (other : ℕ) → other ≢ conn
+      → set.contains (without_connection conn pairs) (p, other) ≡ set.contains pairs (p, other)

@@ -1,0 +1,32 @@
+-- What one connection does with its watches leaves those of every other.
+use Rattle.std.proofs.Common.{◌≡◌, ◌≢◌, ℕ, Bool, true, false, not, ◌&&◌, ◌||◌, refl, sym, ap, ◌∙◌}
+use mathlib.Core.Bool.{and-true}
+use Rattle.std.specs.Ordering.{eq_by_cmp}
+use Rattle.std.proofs.lemmas.Map.Views.{tells_apart}
+use Rattle.std.proofs.lemmas.Map.Lookups.{exact_unsigned}
+use Rattle.std.specs.FinSet as set
+use Rattle.ephemerals.specs.Orders.{Bytes}
+use Rattle.watch_manager.specs.Pairs.{Pairs, watch_cmp, without_connection, same_connection}
+use Rattle.watch_manager.specs.Laws.{OthersKeepWatches}
+use Rattle.watch_manager.proofs.Totals.{watch_total, watch_exact}
+use Rattle.watch_manager.proofs.Watchers.{contains-without_connection}
+
+sets : (pairs : Pairs) (path : Bytes) (conn : ℕ) (p : Bytes) (other : ℕ) → other ≢ conn
+    → set.contains (set.insert pairs (path, conn)) (p, other) ≡ set.contains pairs (p, other)
+sets pairs path conn p other apart =
+    set.contains-insert watch_total pairs (path, conn) (p, other) ∙ by (eq_by_cmp watch_cmp (p, other) (path, conn)) refl
+  where
+    by : (b : Bool) → eq_by_cmp watch_cmp (p, other) (path, conn) ≡ b → (b || set.contains pairs (p, other)) ≡ set.contains pairs (p, other)
+    by true same = absurd (apart (ap (λ (q : Bytes × ℕ). q.1) (tells_apart watch_exact (p, other) (path, conn) same)))
+    by false differ = refl
+
+drops : (pairs : Pairs) (conn : ℕ) (p : Bytes) (other : ℕ) → other ≢ conn
+    → set.contains (without_connection conn pairs) (p, other) ≡ set.contains pairs (p, other)
+drops pairs conn p other apart = contains-without_connection conn pairs (p, other) ∙ by (same_connection conn other) refl
+  where
+    by : (b : Bool) → same_connection conn other ≡ b → (set.contains pairs (p, other) && not b) ≡ set.contains pairs (p, other)
+    by true same = absurd (apart (sym (tells_apart exact_unsigned conn other same)))
+    by false differ = and-true (set.contains pairs (p, other))
+
+pub others_keep_watches : OthersKeepWatches
+others_keep_watches = record { sets = sets; drops = drops }
