@@ -1,6 +1,6 @@
--- The worked looks: the node is found, and what it shows is evaluated.
-use Rattle.std.proofs.Common.{◌≡◌, ℕ, List, [], ◌∷◌, ◌++◌, Option, Some, None, refl, ap, ◌∙◌}
-use Rattle.std.specs.Prelude.{ℤ, codes}
+-- The worked looks and watches: the node is found, and what it shows is evaluated.
+use Rattle.std.proofs.Common.{◌≡◌, ℕ, List, [], ◌∷◌, Option, Some, refl, ap, ◌∙◌}
+use Rattle.std.specs.Prelude.{codes}
 use Rattle.std.specs.FinSet as set
 use Rattle.jute.specs.Format.{number_bytes}
 use Rattle.jute.specs.Records.{stat}
@@ -13,7 +13,7 @@ use Rattle.data_tree.specs.declared.node.Node.{Node}
 use Rattle.read_processor.specs.declared.request.Request.{Request}
 use Rattle.read_processor.specs.declared.request.Request.TheVariants.{Exists, GetData}
 use Rattle.read_processor.specs.Look.{look_at_node, shown_look}
-use Rattle.read_processor.specs.Rows.{WorkedLooks, asked, node, reader, exists_bytes, get_data_bytes}
+use Rattle.read_processor.specs.Rows.{WorkedLooks, WorkedWatches, asked, node, reader, exists_bytes, get_data_bytes}
 
 -- the numbers that the node shows, by how many children it has
 abbrev numbers : ℕ → Stat
@@ -52,4 +52,13 @@ worked = record {
   missing = λ s h. ap (look_at_node [] (GetData (asked (codes "/q")))) h.1;
   not_asked_for = λ s h. refl;
   null = λ s h. refl;
+}
+
+pub worked_watches : WorkedWatches
+worked_watches = record {
+  waits = refl;
+  missing = refl;
+  renewed = λ s h. rw (h.0, h.1) refl;
+  twice = λ s h. rw h.0 refl;
+  not_asked_for = λ s h. refl;
 }

@@ -11,7 +11,8 @@ use Rattle.jute.specs.declared.owned.Acl.{Acl}
 use Rattle.jute.specs.declared.stat.Stat.{Stat}
 use Rattle.data_tree.specs.Stats.{length_of}
 use Rattle.client_records.specs.Fields.{names}
-use Rattle.client_records.specs.Responses.{get_data_response, get_acl_response}
+use Rattle.client_records.specs.Responses.{get_data_response, get_acl_response, watcher_event}
+use Rattle.client_records.specs.declared.event.WatcherEvent.{WatcherEvent}
 use Rattle.client_records.specs.declared.response.GetDataResponse.{GetDataResponse}
 use Rattle.client_records.specs.declared.response.GetAclResponse.{GetAclResponse}
 use Rattle.read_processor.specs.Limits.{body_limit}
@@ -109,3 +110,25 @@ get_acl_length r =
 pub get_acl_writable : (r : GetAclResponse) → length (entries r) ≤ body_limit → get_acl_response.Writable r
 unfolding get_acl_response
 get_acl_writable r le = (vector_writable acl acl_plain r.acl le, stat_writable r.stat)
+
+-- ---- events
+
+pub event_length : (r : WatcherEvent) → length (watcher_event.written r) ≡ 12 + length_of r.path
+unfolding watcher_event number_bytes
+event_length r = by r.path
+  where
+    by : (path : Option (List ℕ))
+        → length (watcher_event.written (record r { path = path })) ≡ 12 + length_of path
+    by None = refl
+    by (Some path) = simp length-append (omega arith)
+
+pub event_writable : (r : WatcherEvent) → length_of r.path ≤ body_limit → watcher_event.Writable r
+unfolding watcher_event
+event_writable r le = (tt, (tt, by r.path le))
+  where
+    by : (path : Option (List ℕ)) → length_of path ≤ body_limit → buffer.Writable path
+    by None le = tt
+    by (Some path) le = omega (arith, le)
+
+pub event_small : (r : WatcherEvent) → length_of r.path ≤ body_limit → length (watcher_event.written r) < 2 ^ 63
+event_small r le = omega (arith, event_length r, le)

@@ -1,6 +1,9 @@
+pub mod Events
 pub mod Inner
 pub mod Limits
 pub mod Look
 pub mod Permissions
+pub mod Renewal
 pub mod Reply
 pub mod Rows
+pub mod Watch

@@ -1,15 +1,20 @@
--- Looks that were worked out by hand, at any state that has the node.
-use Rattle.std.specs.Prelude.{◌≡◌, ℕ, pos, List, [], ◌∷◌, ◌++◌, Option, Some, None, false, codes}
+-- Looks that were worked out by hand, and watches, at any state that has the node.
+use Rattle.std.specs.Prelude.{◌≡◌, ℕ, pos, List, [], ◌∷◌, ◌++◌, Some, None, true, false, codes}
 use Rattle.std.specs.FinMap as finmap
 use Rattle.std.specs.FinSet as set
 use Rattle.values.specs.Hex.{spelled}
 use Rattle.jute.specs.declared.owned.Id.{Id}
 use Rattle.jute.specs.declared.codes.TheConstants.{BAD_ARGUMENTS, NO_NODE, NO_AUTH}
 use Rattle.client_records.specs.declared.request.PathAndWatch.{PathAndWatch}
+use Rattle.client_records.specs.declared.request.SetWatches.{SetWatches}
 use Rattle.data_tree.specs.State.{State}
 use Rattle.data_tree.specs.declared.node.Node.{Node}
+use Rattle.watch_manager.specs.declared.event.EventKind.TheVariants.{NodeDataChanged, NodeCreated}
 use Rattle.read_processor.specs.declared.request.Request.TheVariants.{Exists, GetData}
+use Rattle.read_processor.specs.declared.watch.Watch.TheVariants.{Data, Child}
 use Rattle.read_processor.specs.Look.{look, without_body, shown_look}
+use Rattle.read_processor.specs.Watch.{watch_of}
+use Rattle.read_processor.specs.Renewal.{renew}
 
 abbrev pub reader : Id
 reader = record { scheme = codes "digest"; id = codes "ann:QQ==" }
@@ -64,3 +69,36 @@ pub record WorkedLooks : Type 0 where
   pub missing : At (λ s. look s [] (GetData (asked (codes "/q"))) ≡ without_body NO_NODE)
   pub not_asked_for : At (λ s. look s [] (GetData (asked (codes "q"))) ≡ without_body BAD_ARGUMENTS)
   pub null : At (λ s. look s [] (GetData (record { path = None; watch = false })) ≡ without_body BAD_ARGUMENTS)
+
+abbrev pub watched : List ℕ → PathAndWatch
+watched path = record { path = Some path; watch = true }
+
+-- A client that was told of all up to the node's pzxid had read these nodes, found these absent, and read the children
+-- of these.
+abbrev pub watched_before : List (List ℕ) → List (List ℕ) → List (List ℕ) → SetWatches
+watched_before read absent parents = record {
+  relative_zxid = pos 4294967297;
+  data_watches = read;
+  exist_watches = absent;
+  child_watches = parents;
+}
+
+pub record WorkedWatches : Type 0 where
+  pub waits : watch_of (Exists (watched (codes "/q"))) NO_NODE ≡ Some (Data (codes "/q"))
+  pub missing : watch_of (GetData (watched (codes "/q"))) NO_NODE ≡ None
+  -- The node's data changed since, its children didn't, and /q isn't there yet.
+  pub renewed : At (λ s.
+      renew s (watched_before (codes "/a" ∷ []) (codes "/q" ∷ []) (codes "/a" ∷ []))
+      ≡ Some (record {
+        events = record { kind = NodeDataChanged; path = codes "/a" } ∷ [];
+        watches = Data (codes "/q") ∷ Child (codes "/a") ∷ [];
+      }))
+  -- a path that stands twice is told twice
+  pub twice : At (λ s.
+      renew s (watched_before [] (codes "/a" ∷ codes "/a" ∷ []) [])
+      ≡ Some (record {
+        events = record { kind = NodeCreated; path = codes "/a" }
+            ∷ record { kind = NodeCreated; path = codes "/a" } ∷ [];
+        watches = [];
+      }))
+  pub not_asked_for : At (λ s. renew s (watched_before (codes "/a" ∷ []) [] (codes "a" ∷ [])) ≡ None)

@@ -1,8 +1,9 @@
-//! Laws of looks.
+//! Laws of looks and of watches.
 
-ghost use Rattle.read_processor.specs.Rows.{WorkedLooks};
+ghost use Rattle.read_processor.specs.Rows.{WorkedLooks, WorkedWatches};
 
 /// The definitions, evaluated, give what was worked out by hand.
 pub fn worked_looks()
-    ensures { WorkedLooks }
+    ensures looks { WorkedLooks }
+    ensures watches { WorkedWatches }
 {}

@@ -14,8 +14,8 @@ use jute::codes::{BAD_ARGUMENTS, NO_AUTH, NO_NODE};
 use std::alloc::Global;
 use values::{NoMemory, Str};
 
-// Whether a path may be asked for.
-fn is_asked(path: &[u8]) -> bool
+/// Whether a path may be asked for.
+pub fn is_asked(path: &[u8]) -> bool
     ensures { result ≡ is_asked path.now }
 {
     path.starts_with(b"/") && !path.contains(&0)

@@ -1,13 +1,17 @@
 //! What a read shows.
 
 ghost use Rattle.std.specs.Prelude.{◌≡◌, IfOk};
+ghost use Rattle.read_processor.specs.Events.{of_event};
 ghost use Rattle.read_processor.specs.Look.{without_body};
 ghost use Rattle.read_processor.specs.Reply.{reply};
 
-use crate::body::Body;
+use crate::body::{BODY_LIMIT, Body};
+use client_records::WatcherEvent;
+use client_records::codes::{OK, SYNC_CONNECTED};
 use jute::ReplyHeader;
 use std::alloc::Global;
-use values::{Blob, NoMemory};
+use values::{Blob, NoMemory, Str};
+use watch_manager::Event;
 
 /// What a read shows.
 #[derive(Drop)]
@@ -28,6 +32,29 @@ impl Look {
             error,
             body: Some(body),
         })
+    }
+
+    /// What tells a client of an event. It answers no request, so its frame has `NOTIFICATION_XID` and
+    /// the zxid -1.
+    pub fn of_event(alloc: Global, event: &Event) -> Result<Look, NoMemory>
+        ensures { IfOk result (λ look. look ≡ of_event event.now) }
+    {
+        let path = event.path.as_str();
+        if path.len() > BODY_LIMIT {
+            return Ok(Look {
+                error: OK,
+                body: None,
+            });
+        }
+        let body = Body::of(
+            alloc,
+            &WatcherEvent {
+                kind: event.kind.number(),
+                state: SYNC_CONNECTED,
+                path: Some(Str::new(path)),
+            },
+        )?;
+        Ok(Look { error: OK, body })
     }
 
     /// The frame of the reply, if its body isn't too long for one. It takes no memory.

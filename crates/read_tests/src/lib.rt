@@ -7,14 +7,14 @@ mod errors;
 #[cfg(test)]
 mod frames;
 
-use client_records::{GetAclRequest, PathAndWatch};
+use client_records::{GetAclRequest, PathAndWatch, RequestKind};
 use data_tree::Tree;
 use jute::Id;
-use read_processor::{Request, look};
+use read_processor::{Look, Request, look};
 use std::alloc::Global;
 use std::test::Fail;
 use txn_codec::decode_txn;
-use values::{Str, Text};
+use values::{Blob, Str, Text};
 
 // The bytes that words of hexadecimal digits stand for.
 fn bytes_of(alloc: Global, parts: &[&str]) -> Result<Vec<u8>, Fail> {
@@ -40,19 +40,25 @@ pub fn tree_after(alloc: Global, transactions: &[&str]) -> Result<Tree, Fail> {
     Ok(tree)
 }
 
-/// A path, and no watch.
-pub fn asked(path: &str) -> PathAndWatch<'_> {
+// A path, and no watch.
+fn asked(path: &str) -> PathAndWatch<'_> {
     PathAndWatch {
         path: Some(Str::new(path)),
         watch: false,
     }
 }
 
-/// A getACL.
-pub fn get_acl(path: &str) -> Request<'_> {
-    Request::GetAcl(GetAclRequest {
-        path: Some(Str::new(path)),
-    })
+/// A read of this kind, without a watch; an exists where the kind is no other read.
+pub fn read_of(kind: RequestKind, path: &str) -> Request<'_> {
+    match kind {
+        RequestKind::GetData => Request::GetData(asked(path)),
+        RequestKind::GetAcl => Request::GetAcl(GetAclRequest {
+            path: Some(Str::new(path)),
+        }),
+        RequestKind::GetChildren => Request::GetChildren(asked(path)),
+        RequestKind::GetChildren2 => Request::GetChildren2(asked(path)),
+        _ => Request::Exists(asked(path)),
+    }
 }
 
 /// An id of a scheme.
@@ -63,16 +69,33 @@ pub fn id_of(alloc: Global, scheme: &str, id: &str) -> Result<Id, Fail> {
     })
 }
 
-/// Whether the frame of the answer to request 1 at this zxid is these bytes, in words of hexadecimal digits.
+// What a read shows behind these transactions.
+fn shown(alloc: Global, transactions: &[&str], request: &Request<'_>) -> Result<Look, Fail> {
+    let tree = tree_after(alloc, transactions)?;
+    Ok(look(alloc, &tree, &[], request)?)
+}
+
+// The frame of the answer to request 1 at this zxid.
+fn frame_of(
+    alloc: Global,
+    transactions: &[&str],
+    request: &Request<'_>,
+    zxid: i64,
+) -> Result<Blob, Fail> {
+    let look = shown(alloc, transactions, request)?;
+    Ok(look.into_frame(1, zxid).ok_or("a frame")?)
+}
+
+/// Whether a read of the path is answered so at this zxid, behind these transactions, in words of hexadecimal digits.
 pub fn is_answered(
     alloc: Global,
-    tree: &Tree,
-    request: &Request<'_>,
+    transactions: &[&str],
+    kind: RequestKind,
+    path: &str,
     zxid: i64,
     parts: &[&str],
 ) -> Result<bool, Fail> {
-    let shown = look(alloc, tree, &[], request)?;
-    let frame = shown.into_frame(1, zxid).ok_or("a frame")?;
+    let frame = frame_of(alloc, transactions, &read_of(kind, path), zxid)?;
     Ok(frame.as_slice() == bytes_of(alloc, parts)?.as_slice())
 }
 

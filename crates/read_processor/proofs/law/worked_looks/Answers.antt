@@ -1,5 +1,8 @@
-use Rattle.read_processor.proofs.Rows.{worked}
+use Rattle.read_processor.proofs.Rows.{worked, worked_watches}
 use Rattle.read_processor.proofs.law.worked_looks.Goals as goal
 
-pub returns : goal.returns
-returns c = worked
+pub returns-clause-looks : goal.returns-clause-looks
+returns-clause-looks c = worked
+
+pub returns-clause-watches : goal.returns-clause-watches
+returns-clause-watches c = worked_watches
