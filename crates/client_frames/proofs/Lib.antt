@@ -1,0 +1,2 @@
+-- How long the answer to a connect is
+mod Lengths

@@ -1,0 +1,36 @@
+-- The first frame of a connection, and its answer (zookeeper.jute, ConnectRequest and ConnectResponse).
+use Rattle.std.specs.Prelude.{ℕ, pos, List, [], ◌∷◌, ◌++◌, length, Some, Result, Ok, Err, Bool, true, false, nat_lt}
+use Rattle.values.specs.declared.fault.Fault.{Fault}
+use Rattle.jute.specs.Frame.{framed}
+use Rattle.client_records.specs.declared.connect.ConnectRequest.{ConnectRequest}
+use Rattle.client_records.specs.declared.connect.ConnectResponse.{ConnectResponse}
+use Rattle.client_records.specs.Requests.{connect_request}
+use Rattle.client_records.specs.Responses.{connect_response}
+use Rattle.sessions.specs.declared.request.SessionRequest.{SessionRequest}
+use Rattle.sessions.specs.declared.request.SessionResponse.{SessionResponse}
+use Rattle.client_frames.specs.declared.connecting.Connecting.{Connecting}
+
+-- a byte may follow the request, by which newer clients say that a read-only server would do
+abbrev pub connecting_behind : Result (ConnectRequest × List ℕ) Fault → Result Connecting Fault
+connecting_behind (Ok x) = Ok (record { request = x.0; has_byte = nat_lt 0 (length x.1) })
+connecting_behind (Err e) = Err e
+
+abbrev pub connecting_in : List ℕ → Result Connecting Fault
+connecting_in frame = connecting_behind (connect_request.read frame)
+
+-- which session is asked for
+abbrev pub session_request : ConnectRequest → SessionRequest
+session_request r = record { time_out = r.time_out; session_id = r.session_id; password = r.passwd }
+
+-- protocol version 0
+abbrev pub response_of : SessionResponse → ConnectResponse
+response_of r =
+    record { protocol_version = pos 0; time_out = r.time_out; session_id = r.session_id; passwd = Some r.password }
+
+-- the byte stands in the answer exactly where the request had one: 0, since no server here is read-only
+abbrev pub read_only_byte : Bool → List ℕ
+read_only_byte true = 0 ∷ []
+read_only_byte false = []
+
+abbrev pub answer_to_connect : SessionResponse → Bool → List ℕ
+answer_to_connect r has_byte = framed (connect_response.written (response_of r) ++ read_only_byte has_byte)

@@ -1,0 +1,117 @@
+//! What a client's frame asks for.
+
+ghost use Rattle.std.specs.Prelude.{◌≡◌, IfOk};
+ghost use Rattle.jute.specs.Reads.{GivesWhole};
+ghost use Rattle.client_records.specs.Kinds.{kind_of};
+ghost use Rattle.client_records.specs.Requests.{auth_packet, set_watches};
+ghost use Rattle.client_frames.specs.Call.{front_in, asked_as, body_of, call_in};
+
+use client_records::{AuthPacket, RequestKind, SetWatches};
+use jute::{ReadRecord, Reader, RequestHeader};
+use read_processor::Request;
+use std::alloc::Global;
+use values::{NoMemory, ReadError};
+
+/// What stands behind a header.
+#[derive(Drop)]
+pub enum CallBody<'a> {
+    Read(Request<'a>),
+    SetWatches(SetWatches<'a>),
+    Auth(AuthPacket<'a>),
+    CloseSession,
+    /// The body isn't one of the header's type.
+    Unreadable,
+    Ping,
+    /// A change, or a sync, which no observer does by itself.
+    Write,
+    /// The header's type is none.
+    Unknown,
+}
+
+/// A frame of a client.
+#[derive(Drop)]
+pub struct Call<'a> {
+    /// The client's number for it.
+    pub xid: i32,
+    pub body: CallBody<'a>,
+}
+
+// The record at the front, if it can be read.
+fn front<'a, T: ReadRecord<'a>>(
+    alloc: Global,
+    reader: &mut Reader<'a>,
+) -> Result<Option<T>, NoMemory>
+    ensures { IfOk result (λ found. found ≡ front_in (T.read_of reader.old)) }
+{
+    match T::read(alloc, reader) {
+        Ok(record) => Ok(Some(record)),
+        Err(ReadError::NoMemory) => Err(NoMemory),
+        Err(ReadError::Fault(_)) => Ok(None),
+    }
+}
+
+fn read_auth<'a>(alloc: Global, reader: &mut Reader<'a>) -> Result<CallBody<'a>, NoMemory>
+    ensures { IfOk result
+        (λ body. body ≡ asked_as CallBody.Auth (front_in (auth_packet.read reader.old))) }
+{
+    match front(alloc, reader)? {
+        None => Ok(CallBody::Unreadable),
+        Some(packet) => Ok(CallBody::Auth(packet)),
+    }
+}
+
+fn read_set_watches<'a>(alloc: Global, reader: &mut Reader<'a>) -> Result<CallBody<'a>, NoMemory>
+    ensures { IfOk result
+        (λ body. body ≡ asked_as CallBody.SetWatches (front_in (set_watches.read reader.old))) }
+{
+    match front(alloc, reader)? {
+        None => Ok(CallBody::Unreadable),
+        Some(asked) => Ok(CallBody::SetWatches(asked)),
+    }
+}
+
+// The body of a request of that type.
+fn read_body<'a>(
+    alloc: Global,
+    kind: Option<RequestKind>,
+    reader: &mut Reader<'a>,
+) -> Result<CallBody<'a>, NoMemory>
+    ensures { IfOk result (λ body. body ≡ body_of kind reader.old) }
+{
+    let Some(kind) = kind else {
+        return Ok(CallBody::Unknown);
+    };
+    let request = match kind {
+        RequestKind::Exists => front(alloc, reader)?.map(Request::Exists),
+        RequestKind::GetData => front(alloc, reader)?.map(Request::GetData),
+        RequestKind::GetAcl => front(alloc, reader)?.map(Request::GetAcl),
+        RequestKind::GetChildren => front(alloc, reader)?.map(Request::GetChildren),
+        RequestKind::GetChildren2 => front(alloc, reader)?.map(Request::GetChildren2),
+        RequestKind::Auth => return read_auth(alloc, reader),
+        RequestKind::SetWatches => return read_set_watches(alloc, reader),
+        RequestKind::CloseSession => return Ok(CallBody::CloseSession),
+        RequestKind::Ping => return Ok(CallBody::Ping),
+        RequestKind::Create
+        | RequestKind::Delete
+        | RequestKind::SetData
+        | RequestKind::SetAcl
+        | RequestKind::Sync
+        | RequestKind::Check
+        | RequestKind::Multi => return Ok(CallBody::Write),
+    };
+    match request {
+        None => Ok(CallBody::Unreadable),
+        Some(request) => Ok(CallBody::Read(request)),
+    }
+}
+
+/// The call that a frame is. A fault: it has no whole header.
+pub fn read_call<'a>(alloc: Global, frame: &'a [u8]) -> Result<Call<'a>, ReadError>
+    ensures { GivesWhole (call_in frame.now) result }
+{
+    let mut reader = Reader::new(frame);
+    let header = RequestHeader::read(alloc, &mut reader)?;
+    let xid = header.xid;
+    let body = read_body(alloc, RequestKind::from_code(header.kind), &mut reader)?;
+    Ok(Call { xid, body })
+}

@@ -1,0 +1,20 @@
+//! What the frames of a client ask for.
+//!
+//! The first frame of a connection asks for a session: `read_connecting` reads it, and `answer_to_connect` is the frame
+//! of the answer. Each later frame is a call: a header, and the body of a request of the header's type. `read_call` reads
+//! it, and tells a body that can't be read from a header of no known type, which are answered differently. specs/Connect
+//! and specs/Call say what is read.
+//!
+//! ```text
+//! let connecting = read_connecting(alloc, frame)?;
+//! let connected = sessions.connect(alloc, number, &session_request(connecting.request))?;
+//! answer_to_connect(alloc, &connected.response, connecting.has_byte)?     // the answer's frame
+//! let call = read_call(alloc, frame)?;                                    // Call { xid: 1, body: CallBody::Read(..) }
+//! ```
+#![tactic(auto)]
+
+mod call;
+mod connecting;
+
+pub use call::{Call, CallBody, read_call};
+pub use connecting::{Connecting, answer_to_connect, read_connecting, session_request};

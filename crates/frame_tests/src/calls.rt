@@ -1,0 +1,67 @@
+//! Later frames.
+
+use crate::asked;
+use std::test::*;
+
+#[test]
+fn reads(rt: HostRuntime) {
+    let path = b"\x00\x00\x00\x07\x00\x00\x00\x03\x00\x00\x00\x02/a\x01";
+    assert_eq!(rt; asked(rt.alloc(), path), "exists");
+    let path = b"\x00\x00\x00\x07\x00\x00\x00\x04\x00\x00\x00\x02/a\x01";
+    assert_eq!(rt; asked(rt.alloc(), path), "getData");
+    let path = b"\x00\x00\x00\x07\x00\x00\x00\x06\x00\x00\x00\x02/a";
+    assert_eq!(rt; asked(rt.alloc(), path), "getACL");
+    let path = b"\x00\x00\x00\x07\x00\x00\x00\x08\x00\x00\x00\x02/a\x01";
+    assert_eq!(rt; asked(rt.alloc(), path), "getChildren");
+    let path = b"\x00\x00\x00\x07\x00\x00\x00\x0c\x00\x00\x00\x02/a\x01";
+    assert_eq!(rt; asked(rt.alloc(), path), "getChildren2");
+}
+
+#[test]
+fn others(rt: HostRuntime) {
+    let auth = b"\x00\x00\x00\x07\x00\x00\x00\x64\x00\x00\x00\x00\xff\xff\xff\xff\xff\xff\xff\xff";
+    assert_eq!(rt; asked(rt.alloc(), auth), "auth");
+    let watches = b"\x00\x00\x00\x07\x00\x00\x00\x65\x00\x00\x00\x00\x00\x00\x00\x00\
+        \x00\x00\x00\x00\xff\xff\xff\xff\x00\x00\x00\x00";
+    assert_eq!(rt; asked(rt.alloc(), watches), "setWatches");
+    assert_eq!(rt;
+        asked(rt.alloc(), b"\x00\x00\x00\x07\xff\xff\xff\xf5"),
+        "closeSession"
+    );
+    assert_eq!(rt;
+        asked(rt.alloc(), b"\x00\x00\x00\x07\x00\x00\x00\x0b"),
+        "ping"
+    );
+    assert_eq!(rt;
+        asked(rt.alloc(), b"\x00\x00\x00\x07\x00\x00\x00\x01"),
+        "write"
+    );
+    assert_eq!(rt;
+        asked(rt.alloc(), b"\x00\x00\x00\x07\x00\x00\x00\x09"),
+        "write"
+    );
+    assert_eq!(rt;
+        asked(rt.alloc(), b"\x00\x00\x00\x07\x00\x00\x00\x0f"),
+        "unknown"
+    );
+}
+
+/// A body that stops short, and a header that does.
+#[test]
+fn short(rt: HostRuntime) {
+    let path = b"\x00\x00\x00\x07\x00\x00\x00\x04\x00\x00\x00\x02/a";
+    assert_eq!(rt; asked(rt.alloc(), path), "unreadable");
+    assert_eq!(rt;
+        asked(rt.alloc(), b"\x00\x00\x00\x07\x00\x00\x00\x64"),
+        "unreadable"
+    );
+    assert_eq!(rt;
+        asked(rt.alloc(), b"\x00\x00\x00\x07\x00\x00\x00\x65"),
+        "unreadable"
+    );
+    assert_eq!(rt;
+        asked(rt.alloc(), b"\x00\x00\x00\x07\x00\x00\x00"),
+        "no header"
+    );
+    assert_eq!(rt; asked(rt.alloc(), b""), "no header");
+}

@@ -1,0 +1,86 @@
+//! Tests of `client_frames`. They stand apart, since a crate with tests is proved twice; and the calls stand behind
+//! functions without clauses, so that a test's own proof is short.
+#![tactic(auto)]
+
+#[cfg(test)]
+mod calls;
+#[cfg(test)]
+mod connects;
+
+use client_frames::{
+    CallBody, Connecting, answer_to_connect, read_call, read_connecting, session_request,
+};
+use read_processor::Request;
+use sessions::{SessionRequest, SessionResponse};
+use std::alloc::Global;
+use values::ReadError;
+
+// What a body asks for.
+fn word(body: &CallBody<'_>) -> &'static str {
+    match body {
+        CallBody::Read(Request::Exists(_)) => "exists",
+        CallBody::Read(Request::GetData(_)) => "getData",
+        CallBody::Read(Request::GetAcl(_)) => "getACL",
+        CallBody::Read(Request::GetChildren(_)) => "getChildren",
+        CallBody::Read(Request::GetChildren2(_)) => "getChildren2",
+        CallBody::SetWatches(_) => "setWatches",
+        CallBody::Auth(_) => "auth",
+        CallBody::CloseSession => "closeSession",
+        CallBody::Unreadable => "unreadable",
+        CallBody::Ping => "ping",
+        CallBody::Write => "write",
+        CallBody::Unknown => "unknown",
+    }
+}
+
+/// What a frame asks for, in a word, if its xid is 7.
+pub fn asked(alloc: Global, frame: &[u8]) -> &'static str {
+    match read_call(alloc, frame) {
+        Ok(call) if call.xid == 7 => word(&call.body),
+        Ok(_) => "another xid",
+        Err(ReadError::NoMemory) => "no memory",
+        Err(ReadError::Fault(_)) => "no header",
+    }
+}
+
+// Whether the password is "secret".
+fn has_secret(request: &SessionRequest<'_>) -> bool {
+    match &request.password {
+        None => false,
+        Some(password) => password.as_slice() == b"secret".as_slice(),
+    }
+}
+
+// Whether a client asks for session 5, and has seen zxid 9.
+fn is_fifth(connecting: Connecting<'_>, has_byte: bool) -> bool {
+    if connecting.has_byte != has_byte || connecting.request.last_zxid_seen != 9 {
+        return false;
+    }
+    let request = session_request(connecting.request);
+    request.time_out == 10_000 && request.session_id == 5 && has_secret(&request)
+}
+
+/// Whether a first frame asks for session 5 with the password "secret" and a timeout of 10 seconds, has seen zxid 9, and
+/// has a byte behind that or not.
+pub fn is_connect(alloc: Global, frame: &[u8], has_byte: bool) -> bool {
+    match read_connecting(alloc, frame) {
+        Ok(connecting) => is_fifth(connecting, has_byte),
+        Err(_) => false,
+    }
+}
+
+/// Whether a first frame can't be read.
+pub fn is_no_connect(alloc: Global, frame: &[u8]) -> bool {
+    match read_connecting(alloc, frame) {
+        Err(ReadError::Fault(_)) => true,
+        _ => false,
+    }
+}
+
+/// Whether the answer with this session is the frame.
+pub fn is_answer(alloc: Global, response: &SessionResponse, has_byte: bool, frame: &[u8]) -> bool {
+    match answer_to_connect(alloc, response, has_byte) {
+        Ok(answer) => answer.as_slice() == frame,
+        Err(_) => false,
+    }
+}
