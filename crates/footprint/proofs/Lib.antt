@@ -1,4 +1,4 @@
 -- A set that gains paths
 mod Gaining
 -- The paths of a set as a list
-mod Ascending
+pub mod Ascending

@@ -1,0 +1,149 @@
+//! What is cut from the front of a list.
+
+use crate::{read_txn, read_txns};
+use batcher::{Batch, Limits, cut};
+use std::alloc::Global;
+use std::test::Fail;
+use txn_codec::Txn;
+
+// How many transactions the batch has, and each group's places and paths; or the word "barrier".
+fn shown(alloc: Global, batch: &Batch) -> Result<String, Fail> {
+    let count = batch.txns().len();
+    let mut text = format!(in alloc; "{count}")?;
+    if batch.is_barrier() {
+        text.push_str(" barrier")?;
+    }
+    for group in batch.groups() {
+        text.push_str(";")?;
+        for place in group.members() {
+            let place = *place;
+            text.push_str(format!(in alloc; " {place}")?.as_str())?;
+        }
+        for path in group.paths().iter() {
+            text.push_str(" ")?;
+            text.push_str(path.as_str())?;
+        }
+    }
+    Ok(text)
+}
+
+// What is cut from the list with these limits.
+fn cut_of(alloc: Global, words: &str, batch: usize, groups: usize) -> Result<String, Fail> {
+    let limits = Limits::new(4, batch, groups)?;
+    let txns = read_txns(alloc, words)?;
+    shown(alloc, &cut(alloc, txns.as_slice(), &limits)?)
+}
+
+// What is cut with limits that are usual.
+fn usual(alloc: Global, words: &str) -> Result<String, Fail> {
+    cut_of(alloc, words, 256, 64)
+}
+
+// So many checks.
+fn checks(alloc: Global, count: usize) -> Result<Vec<Txn>, Fail> {
+    let mut txns = Vec::new(alloc);
+    for _ in 0..count {
+        txns.push(read_txn(alloc, "?/a")?)?;
+    }
+    Ok(txns)
+}
+
+// How many of so many checks are cut at most.
+fn most_cut(alloc: Global, count: usize) -> Result<(usize, bool), Fail> {
+    let limits = Limits::new(64, 4096, 256)?;
+    let batch = cut(alloc, checks(alloc, count)?.as_slice(), &limits)?;
+    Ok((batch.len(), batch.is_empty()))
+}
+
+// Whether these are limits, and are shown as they are.
+fn are_limits(workers: usize, batch: usize, groups: usize) -> bool {
+    match Limits::new(workers, batch, groups) {
+        Ok(limits) => {
+            limits.workers() == workers && limits.batch() == batch && limits.groups() == groups
+        }
+        Err(_) => false,
+    }
+}
+
+#[test]
+fn those_that_share_a_path_are_one_group(rt: HostRuntime) -> Result<(), Fail> {
+    let alloc = rt.alloc();
+    let two = usual(alloc, "/a/x /a/y /b/z")?;
+    assert_eq!(rt; two.as_str(), "3; 0 1 /a /a/x /a/y; 2 /b /b/z");
+    let back = usual(alloc, "/a/x /b/y /a/z /b/w /a/x/v")?;
+    assert_eq!(rt;
+        back.as_str(),
+        "5; 0 2 4 /a /a/x /a/x/v /a/z; 1 3 /b /b/w /b/y"
+    );
+    let multi = usual(alloc, "/a/x /a/y/z +/a/p,/a/q /b/r +/b/s")?;
+    assert_eq!(rt;
+        multi.as_str(),
+        "5; 0 2 /a /a/p /a/q /a/x; 1 /a/y /a/y/z; 3 4 /b /b/r /b/s"
+    );
+    Ok(())
+}
+
+#[test]
+fn one_that_meets_two_groups_begins_the_next_batch(rt: HostRuntime) -> Result<(), Fail> {
+    let alloc = rt.alloc();
+    let front = usual(alloc, "/a/x /b/y +/a/p,/b/q")?;
+    assert_eq!(rt; front.as_str(), "2; 0 /a /a/x; 1 /b /b/y");
+    assert_eq!(rt;
+        usual(alloc, "+/a/p,/b/q")?.as_str(),
+        "1; 0 /a /a/p /b /b/q"
+    );
+    Ok(())
+}
+
+#[test]
+fn a_barrier_is_alone(rt: HostRuntime) -> Result<(), Fail> {
+    let alloc = rt.alloc();
+    assert_eq!(rt; usual(alloc, "close /a/x")?.as_str(), "1 barrier");
+    assert_eq!(rt; usual(alloc, "/a/x close /a/y")?.as_str(), "1; 0 /a /a/x");
+    assert_eq!(rt; usual(alloc, "")?.as_str(), "0");
+    Ok(())
+}
+
+#[test]
+fn what_has_no_path_joins_the_group_opened_last(rt: HostRuntime) -> Result<(), Fail> {
+    let alloc = rt.alloc();
+    assert_eq!(rt;
+        usual(alloc, "open /a/x ?/b open")?.as_str(),
+        "4; 0; 1 2 3 /a /a/x"
+    );
+    assert_eq!(rt;
+        usual(alloc, "/a/x /b/y /a/z open")?.as_str(),
+        "4; 0 2 /a /a/x /a/z; 1 3 /b /b/y"
+    );
+    assert_eq!(rt; usual(alloc, "?/a")?.as_str(), "1; 0");
+    Ok(())
+}
+
+#[test]
+fn a_cut_keeps_to_its_limits(rt: HostRuntime) -> Result<(), Fail> {
+    let alloc = rt.alloc();
+    assert_eq!(rt;
+        cut_of(alloc, "/a/x /a/y", 1, 256)?.as_str(),
+        "1; 0 /a /a/x"
+    );
+    assert_eq!(rt;
+        cut_of(alloc, "/a/x /b/y", 4096, 1)?.as_str(),
+        "1; 0 /a /a/x"
+    );
+    assert_eq!(rt;
+        cut_of(alloc, "/a/x /a/y /b/y", 4096, 1)?.as_str(),
+        "2; 0 1 /a /a/x /a/y"
+    );
+    assert_eq!(rt; most_cut(alloc, 4097)?, (4096, false));
+    assert_eq!(rt; most_cut(alloc, 0)?, (0, true));
+    Ok(())
+}
+
+#[test]
+fn limits_are_within_their_bounds(rt: HostRuntime) -> Result<(), Fail> {
+    assert!(rt; are_limits(1, 1, 1) && are_limits(64, 4096, 256));
+    assert!(rt; !are_limits(0, 1, 1) && !are_limits(65, 1, 1));
+    assert!(rt; !are_limits(1, 0, 1) && !are_limits(1, 4097, 1));
+    assert!(rt; !are_limits(1, 1, 0) && !are_limits(1, 1, 257));
+    Ok(())
+}

@@ -1,0 +1,64 @@
+//! Tests of cuts, over public calls alone. They stand in a crate of their own, since a crate that has tests is proved
+//! twice; and the calls stand in functions without clauses, so that a test's own proof is short.
+#![tactic(auto)]
+
+#[cfg(test)]
+mod cuts;
+
+use std::alloc::Global;
+use txn_codec::{Body, Check, Create, Operation, Path, Txn, TxnHeader};
+use values::{Listed, ReadError};
+
+// A transaction of session 9.
+fn txn_of(body: Body) -> Txn {
+    let header = TxnHeader {
+        client_id: 9,
+        cxid: 1,
+        zxid: 1,
+        time: 1000,
+    };
+    Txn { header, body }
+}
+
+// A create of the path.
+fn create_of(alloc: Global, path: &str) -> Result<Operation, ReadError> {
+    Ok(Operation::Create(Create {
+        path: Path::new(alloc, path)?,
+        bytes: None,
+        acl: None,
+        ephemeral: false,
+        parent_cversion: -1,
+    }))
+}
+
+/// The transaction that a word stands for: a create of the path "/..", a multi of creates of the paths
+/// behind "+", a check of the path behind "?", or that a session begins ("open") or ends ("close").
+pub fn read_txn(alloc: Global, word: &str) -> Result<Txn, ReadError> {
+    if word == "open" {
+        return Ok(txn_of(Body::CreateSession(5000)));
+    }
+    if word == "close" {
+        return Ok(txn_of(Body::CloseSession));
+    }
+    if let Some(path) = word.strip_prefix('?') {
+        let path = Path::new(alloc, path)?;
+        return Ok(txn_of(Body::Single(Operation::Check(Check { path, version: 1 }))));
+    }
+    if let Some(paths) = word.strip_prefix('+') {
+        let mut parts = Vec::new(alloc);
+        for path in paths.split(',') {
+            parts.push(create_of(alloc, path)?)?;
+        }
+        return Ok(txn_of(Body::Multi(Listed::from_vec(parts))));
+    }
+    Ok(txn_of(Body::Single(create_of(alloc, word)?)))
+}
+
+/// The transactions of words between blanks.
+pub fn read_txns(alloc: Global, words: &str) -> Result<Vec<Txn>, ReadError> {
+    let mut txns = Vec::new(alloc);
+    for word in words.split_whitespace() {
+        txns.push(read_txn(alloc, word)?)?;
+    }
+    Ok(txns)
+}

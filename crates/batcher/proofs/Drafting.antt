@@ -1,0 +1,287 @@
+-- A draft that gains a transaction.
+use Rattle.std.proofs.Common.{◌≡◌, ℕ, zero, suc, ◌+◌, ◌-◌, ◌<◌, ◌≤◌, nat_eq, nat_lt, List, [], ◌∷◌, ◌++◌, Bool, true, false, cond, ◌||◌, Option, Some, None, is_some, Result, Ok, Err, OnOk, set, get_or, refl, sym, ap, ◌∙◌, subst, arith, length, drop}
+use Rattle.std.specs.List.{zip}
+use Rattle.std.specs.Option.{option_map_or}
+use Rattle.std.specs.BTreeMap.{get_by_text}
+use Rattle.std.proofs.lemmas.Bool.Decides.{nat_tests}
+use Rattle.std.proofs.lemmas.Bool.{eqb-true}
+use mathlib.Core.Bool.{true≢false}
+use Rattle.std.proofs.lemmas.List.{length-append}
+use Rattle.ephemerals.specs.Orders.{Bytes, in_order}
+use Rattle.txn_codec.specs.declared.txn.Txn.{Txn}
+use Rattle.data_tree.specs.Footprint.{touches, footprint}
+use Rattle.data_tree.specs.Commuting.{Tagged, batch_of}
+use Rattle.footprint.specs.declared.cover.Footprint.TheVariants.{Barrier, Paths}
+use Rattle.footprint.specs.Footprints.{is_barrier, paths_of, footprint_of}
+use Rattle.footprint.proofs.Ascending.{paths_are_the_cells}
+use Rattle.batcher.specs.Class.{Class, no_member}
+use Rattle.batcher.specs.Limits.{LimitNumbers, are_limits}
+use Rattle.batcher.specs.declared.draft.Draft.{Draft}
+use Rattle.batcher.specs.declared.met.Met.TheVariants.{Nothing}
+use Rattle.batcher.specs.Groups.{group_with, opened, group_for, group_next, grouped, classes_of}
+use Rattle.batcher.specs.Cut.{cut, is_barrier_alone, is_batch, listed, groups_of}
+use Rattle.batcher.specs.Inner.Joining.{joined, with_member, all_met, met_group}
+use Rattle.batcher.specs.Inner.Taking.{within, group_taken, taken_behind, HasTaken, BeginsWithBarrier}
+use Rattle.batcher.specs.Inner.Drafts.{taken_in, IsDraft}
+use Rattle.batcher.proofs.Steps.{IsNext}
+use Rattle.batcher.proofs.Owning.{none, group_with-behind, or_else, met_or_new}
+use Rattle.batcher.proofs.Members.{classes_of-behind, length-classes_of}
+use Rattle.batcher.proofs.Taking.{begins_with_barrier, taken_is_cut, taken_is_grouped}
+use Rattle.batcher.proofs.Meeting.{or_true, met_is, same_group_for, group_for-below}
+
+-- ---- transactions with their groups
+
+zip-behind : (ks : List ℕ) (ts : List Txn) (k : ℕ) (t : Txn) → length ks ≡ length ts
+    → zip (ks ++ k ∷ []) (ts ++ t ∷ []) ≡ zip ks ts ++ (k, t) ∷ []
+zip-behind [] [] k t same = refl
+zip-behind [] (u ∷ us) k t same = absurd (omega arith)
+zip-behind (j ∷ js) [] k t same = absurd (omega arith)
+zip-behind (j ∷ js) (u ∷ us) k t same = ap (λ r. (j, u) ∷ r) (zip-behind js us k t (omega arith))
+
+batch_of-zip : (ks : List ℕ) (ts : List Txn) → length ks ≡ length ts → batch_of (zip ks ts) ≡ ts
+batch_of-zip [] [] same = refl
+batch_of-zip [] (u ∷ us) same = absurd (omega arith)
+batch_of-zip (j ∷ js) [] same = absurd (omega arith)
+batch_of-zip (j ∷ js) (u ∷ us) same = ap (λ r. u ∷ r) (batch_of-zip js us (omega arith))
+
+length-zip : (ks : List ℕ) (ts : List Txn) → length ks ≡ length ts → length (zip ks ts) ≡ length ts
+length-zip [] [] same = refl
+length-zip [] (u ∷ us) same = absurd (omega arith)
+length-zip (j ∷ js) [] same = absurd (omega arith)
+length-zip (j ∷ js) (u ∷ us) same = ap suc (length-zip js us (omega arith))
+
+pub batch_in : (draft : Draft) → IsDraft draft → batch_of (taken_in draft) ≡ draft.txns.items
+batch_in draft is = batch_of-zip draft.numbers.items draft.txns.items is.numbers
+
+pub length_in : (draft : Draft) → IsDraft draft → length (taken_in draft) ≡ length draft.txns.items
+length_in draft is = length-zip draft.numbers.items draft.txns.items is.numbers
+
+pub opened_in : (draft : Draft) → IsDraft draft → length draft.groups.items ≡ opened (taken_in draft)
+opened_in draft is = ap length is.groups ∙ length-classes_of (taken_in draft)
+
+-- ---- the group for a transaction
+
+pub for_no_path : (draft : Draft) → IsDraft draft → (paths : List Bytes) → nat_eq (length paths) 0 ≡ true
+    → group_for (taken_in draft) paths ≡ Some (length draft.groups.items - 1)
+for_no_path draft is [] e = ap (λ n. Some (n - 1)) (sym (opened_in draft is))
+for_no_path draft is (p ∷ ps) e = absurd (true≢false (sym e ∙ not_zero (length ps)))
+  where
+    not_zero : (n : ℕ) → nat_eq (suc n) 0 ≡ false
+    not_zero n = grind (arith, nat_tests)
+
+pub for_paths : (draft : Draft) → IsDraft draft → (paths : List Bytes) → nat_eq (length paths) 0 ≡ false
+    → met_group (length draft.groups.items) (all_met (get_by_text draft.owners) Nothing paths)
+    ≡ group_for (taken_in draft) paths
+for_paths draft is [] e = absurd (true≢false e)
+for_paths draft is (p ∷ ps) e =
+    ap (λ n. met_group n (all_met (get_by_text draft.owners) Nothing (p ∷ ps))) (opened_in draft is)
+    ∙ met_is (taken_in draft) (get_by_text draft.owners) is.owners p ps
+
+-- no barrier has a list of paths
+not_barrier : (t : Txn) (paths : List Bytes) → footprint_of t ≡ Paths paths → is_barrier t ≡ false
+not_barrier t paths = by (is_barrier t)
+  where
+    by : (b : Bool) → cond b Barrier (Paths (in_order (paths_of t))) ≡ Paths paths → b ≡ false
+    by true e = absurd (other e)
+      where
+        other : Barrier ≡ Paths paths → ⊥
+        other e = cc
+    by false e = refl
+
+a_barrier : (t : Txn) → footprint_of t ≡ Barrier → is_barrier t ≡ true
+a_barrier t = by (is_barrier t)
+  where
+    by : (b : Bool) → cond b Barrier (Paths (in_order (paths_of t))) ≡ Barrier → b ≡ true
+    by true e = refl
+    by false e = absurd (other e)
+      where
+        other : Paths (in_order (paths_of t)) ≡ Barrier → ⊥
+        other e = cc
+
+by_the_paths : (before : List Tagged) (t : Txn) (paths : List Bytes) → footprint_of t ≡ Paths paths
+    → group_next before t ≡ group_for before paths
+by_the_paths before t paths is =
+    ap (λ b. cond b None (group_for before (footprint t))) (not_barrier t paths is)
+    ∙ sym (same_group_for before paths (footprint t) (paths_are_the_cells t paths is))
+
+lt_test : (a b : ℕ) → a < b → nat_lt a b ≡ true
+lt_test a b h = grind (arith, nat_tests)
+
+ge_test : (a b : ℕ) → b ≤ a → nat_lt a b ≡ false
+ge_test a b h = grind (arith, nat_tests)
+
+module _ (limits : LimitNumbers) (draft : Draft) (is : IsDraft draft) (t : Txn) where
+  taken_when : (b : Bool) → nat_lt (length (taken_in draft)) limits.batch ≡ b
+      → group_taken limits (taken_in draft) t ≡ cond b (within limits.groups (group_next (taken_in draft) t)) None
+  taken_when b e = ap (λ b. cond b (within limits.groups (group_next (taken_in draft) t)) None) e
+
+  pub full_takes_none : limits.batch ≤ length draft.txns.items → group_taken limits (taken_in draft) t ≡ None
+  full_takes_none full =
+      let long = length_in draft is in
+      taken_when false (ge_test (length (taken_in draft)) limits.batch (omega arith))
+
+  module _ (room : length draft.txns.items < limits.batch) where
+    with_room : group_taken limits (taken_in draft) t ≡ within limits.groups (group_next (taken_in draft) t)
+    with_room =
+        let long = length_in draft is in
+        taken_when true (lt_test (length (taken_in draft)) limits.batch (omega arith))
+
+    pub barrier_not_taken : footprint_of t ≡ Barrier → group_taken limits (taken_in draft) t ≡ None
+    barrier_not_taken e =
+        with_room
+        ∙ ap (λ b. within limits.groups (cond b None (group_for (taken_in draft) (footprint t)))) (a_barrier t e)
+
+    module _ (paths : List Bytes) (has : footprint_of t ≡ Paths paths) where
+      by_paths : group_taken limits (taken_in draft) t ≡ within limits.groups (group_for (taken_in draft) paths)
+      by_paths = with_room ∙ ap (within limits.groups) (by_the_paths (taken_in draft) t paths has)
+
+      pub without_group : group_for (taken_in draft) paths ≡ None → group_taken limits (taken_in draft) t ≡ None
+      without_group e = by_paths ∙ ap (within limits.groups) e
+
+      pub past_the_last : (k : ℕ) → group_for (taken_in draft) paths ≡ Some k → limits.groups ≤ k
+          → group_taken limits (taken_in draft) t ≡ None
+      past_the_last k e past =
+          by_paths ∙ ap (within limits.groups) e ∙ ap (λ b. cond b (Some k) None) (ge_test k limits.groups past)
+
+      pub into_group : (k : ℕ) → group_for (taken_in draft) paths ≡ Some k → k < limits.groups
+          → group_taken limits (taken_in draft) t ≡ Some k
+      into_group k e fits =
+          by_paths ∙ ap (within limits.groups) e ∙ ap (λ b. cond b (Some k) None) (lt_test k limits.groups fits)
+
+-- ---- one transaction more
+
+owner_now : (before : List Tagged) (k : ℕ) (t : Txn) (paths : List Bytes) → group_for before paths ≡ Some k
+    → ((q : Bytes) → touches paths q ≡ touches (footprint t) q) → (q : Bytes)
+    → cond (touches paths q) (Some k) (group_with before q) ≡ group_with (before ++ (k, t) ∷ []) q
+owner_now before k t paths is cells q =
+    by (touches paths q) refl
+    ∙ ap (λ b. or_else (group_with before q) (cond b (Some k) None)) (cells q)
+    ∙ sym (group_with-behind before (k, t) q)
+  where
+    or_nothing : (o : Option ℕ) → o ≡ or_else o None
+    or_nothing None = refl
+    or_nothing (Some j) = refl
+
+    by : (b : Bool) → touches paths q ≡ b
+        → cond b (Some k) (group_with before q) ≡ or_else (group_with before q) (cond b (Some k) None)
+    by true e = sym (met_or_new before paths k is q e)
+    by false e = or_nothing (group_with before q)
+
+pub record Gained (old new : Draft) (k : ℕ) (t : Txn) : Type 0 where
+  pub draft : IsDraft new
+  pub taken : taken_in new ≡ taken_in old ++ (k, t) ∷ []
+
+pub gained : (old new : Draft) (k : ℕ) (t : Txn) (paths : List Bytes) → IsDraft old
+    → group_for (taken_in old) paths ≡ Some k → footprint_of t ≡ Paths paths
+    → new.numbers.items ≡ old.numbers.items ++ k ∷ [] → new.txns.items ≡ old.txns.items ++ t ∷ []
+    → ((q : Bytes) → get_by_text new.owners q ≡ cond (touches paths q) (Some k) (get_by_text old.owners q))
+    → new.groups.items ≡ with_member old.groups.items k (length old.txns.items) paths → Gained old new k t
+gained old new k t paths is for has numbers txns owners groups =
+    record {
+      draft = record {
+        numbers = let m = ap length numbers in let n = ap length txns in
+            let o = length-append old.numbers.items (k ∷ []) in let p = length-append old.txns.items (t ∷ []) in
+            let q = is.numbers in omega arith;
+        owners = λ q.
+            owners q ∙ ap (cond (touches paths q) (Some k)) (is.owners q)
+            ∙ owner_now (taken_in old) k t paths for cells q
+            ∙ ap (λ ts. group_with ts q) (sym taken);
+        groups = groups
+            ∙ ap (λ cs. with_member cs k (length old.txns.items) paths) is.groups
+            ∙ ap (λ n. with_member (classes_of (taken_in old)) k n paths) (sym (length_in old is))
+            ∙ sym (classes_of-behind (taken_in old) k t paths cells (group_for-below (taken_in old) paths k for))
+            ∙ ap classes_of (sym taken);
+      };
+      taken = taken;
+    }
+  where
+    cells : (q : Bytes) → touches paths q ≡ touches (footprint t) q
+    cells = paths_are_the_cells t paths has
+
+    taken : taken_in new ≡ taken_in old ++ (k, t) ∷ []
+    taken = (λ i. zip (numbers i) (txns i)) ∙ zip-behind old.numbers.items old.txns.items k t is.numbers
+
+-- ---- a list of transactions
+
+takes_next : (limits : LimitNumbers) (before : List Tagged) (t : Txn) (k : ℕ) (ts : List Txn)
+    → group_taken limits before t ≡ Some k
+    → taken_behind limits before (t ∷ ts) ≡ taken_behind limits (before ++ (k, t) ∷ []) ts
+takes_next limits before t k ts is =
+    ap (λ o. option_map_or (λ j. taken_behind limits (before ++ (j, t) ∷ []) ts) o before) is
+
+takes_no_more : (limits : LimitNumbers) (before : List Tagged) (t : Txn) (ts : List Txn)
+    → group_taken limits before t ≡ None → taken_behind limits before (t ∷ ts) ≡ before
+takes_no_more limits before t ts is =
+    ap (λ o. option_map_or (λ j. taken_behind limits (before ++ (j, t) ∷ []) ts) o before) is
+
+module _ (limits : LimitNumbers) (txns : List Txn) (i : ℕ) (t : Txn) (next : IsNext txns i t) where
+  pub next_taken : (old new all : List Tagged) (b : Bool) → b ≡ true → HasTaken limits old t b new
+      → taken_behind limits old (drop i txns) ≡ all → taken_behind limits new (drop (i + 1) txns) ≡ all
+  next_taken old new all false e has is = absurd (true≢false (sym e))
+  next_taken old new all true e has is =
+      ap (λ ts. taken_behind limits ts (drop (i + 1) txns)) has.1.1
+      ∙ sym (takes_next limits old t has.0 (drop (i + 1) txns) has.1.0)
+      ∙ sym (ap (taken_behind limits old) next)
+      ∙ is
+
+  pub next_not_taken : (old new all : List Tagged) (b : Bool) → b ≡ false → HasTaken limits old t b new
+      → taken_behind limits old (drop i txns) ≡ all → new ≡ all
+  next_not_taken old new all true e has is = absurd (true≢false e)
+  next_not_taken old new all false e has is =
+      has.1
+      ∙ sym (takes_no_more limits old t (drop (i + 1) txns) has.0)
+      ∙ sym (ap (taken_behind limits old) next)
+      ∙ is
+
+-- ---- the batch of a draft
+
+module _ (limits : LimitNumbers) (txns : List Txn) (draft : Draft) (is : IsDraft draft) where
+  module _ (taken : taken_in draft ≡ taken_behind limits [] txns) (ok : are_limits limits ≡ true) where
+    txns_are : draft.txns.items ≡ batch_of (taken_behind limits [] txns)
+    txns_are = sym (batch_in draft is) ∙ ap batch_of taken
+
+    grouped_are : grouped draft.txns.items ≡ Some (taken_behind limits [] txns)
+    grouped_are = ap grouped txns_are ∙ taken_is_grouped limits txns ok
+
+    pub groups_are : draft.groups.items ≡ groups_of draft.txns.items
+    groups_are = is.groups ∙ ap classes_of taken ∙ sym (ap listed grouped_are)
+
+    pub are_a_batch : is_batch draft.txns.items ≡ true
+    are_a_batch =
+        ap (λ o. is_barrier_alone draft.txns.items || is_some o) grouped_are
+        ∙ or_true (is_barrier_alone draft.txns.items)
+
+    long : length (taken_behind limits [] txns) ≡ length draft.txns.items
+    long = ap length (sym taken) ∙ length_in draft is
+
+    pub nothing_but_barrier : (n : ℕ) → n ≡ length draft.txns.items → nat_eq n 0 ≡ true → BeginsWithBarrier txns
+    nothing_but_barrier n is none =
+        begins_with_barrier limits txns ok (long ∙ sym is ∙ eqb-true n 0 none)
+
+    pub the_cut : (n : ℕ) → n ≡ length draft.txns.items → nat_eq n 0 ≡ false → draft.txns.items ≡ cut limits txns
+    the_cut n is some =
+        let above : 1 ≤ n = not_zero n some in
+        txns_are ∙ taken_is_cut limits txns ok (subst (λ m. 1 ≤ m) (is ∙ sym long) above)
+      where
+        not_zero : (n : ℕ) → nat_eq n 0 ≡ false → 1 ≤ n
+        not_zero n e = grind (arith, nat_tests)
+
+-- ---- a group in a list of groups
+
+put_joined : (cs : List Class) (k place : ℕ) (ps : List Bytes) (old : Class) → k < length cs → old ≡ get_or cs k old
+    → set cs k (joined old place ps) ≡ with_member cs k place ps
+put_joined [] k place ps old within is = absurd (omega arith)
+put_joined (c ∷ cs) zero place ps old within is = λ i. joined (is i) place ps ∷ cs
+put_joined (c ∷ cs) (suc k) place ps old within is = ap (λ r. c ∷ r) (put_joined cs k place ps old (omega arith) is)
+
+pub put_within : {A E : Type 0} (r : Result A E) (cs : List Class) (k place : ℕ) (ps : List Bytes) (old new : Class)
+    → k < length cs → old ≡ get_or cs k old → OnOk r (new ≡ joined old place ps)
+    → OnOk r (set cs k new ≡ with_member cs k place ps)
+put_within (Ok x) cs k place ps old new within is joins = ap (set cs k) joins ∙ put_joined cs k place ps old within is
+put_within (Err e) cs k place ps old new within is joins = tt
+
+pub put_behind : (cs : List Class) (k place : ℕ) (ps : List Bytes) (new : Class) → length cs ≤ k
+    → new ≡ joined no_member place ps → cs ++ new ∷ [] ≡ with_member cs k place ps
+put_behind [] k place ps new past is = ap (λ c. c ∷ []) is
+put_behind (c ∷ cs) zero place ps new past is = absurd (omega arith)
+put_behind (c ∷ cs) (suc k) place ps new past is = ap (λ r. c ∷ r) (put_behind cs k place ps new (omega arith) is)

@@ -1,0 +1,81 @@
+-- Cuts that were worked out by hand.
+use Rattle.std.proofs.Common.{◌≡◌, ℕ, Some, None, ◌+◌, ◌≤◌, nat_lt, List, [], ◌∷◌, Bool, true, false, cond, refl, ap, ◌∙◌, arith, length}
+use Rattle.std.specs.FinSet as set
+use Rattle.std.proofs.lemmas.Bool.Decides.{nat_tests}
+use Rattle.ephemerals.specs.Orders.{Bytes, path_cmp}
+use Rattle.ephemerals.proofs.Totals.{path_total}
+use Rattle.txn_codec.specs.declared.txn.Txn.{Txn}
+use Rattle.txn_codec.specs.declared.txn.TxnHeader.{TxnHeader}
+use Rattle.data_tree.specs.Footprint.{footprint}
+use Rattle.footprint.specs.Footprints.{is_barrier, paths_of}
+use Rattle.std.specs.Option.{option_and_then}
+use Rattle.batcher.specs.Groups.{group_for, grouped_behind, grouped}
+use Rattle.batcher.specs.Cut.{has_at_most, is_allowed, longest_of, cut, listed, groups_of}
+use Rattle.batcher.specs.Rows.{creates, both, usual, class, a, a_x, a_p, b, b_y, b_q, WorkedCuts, CutsAreWorked}
+
+-- a set has at most as many members as the list that it is made of
+len_most : (paths : List Bytes) → set.len (set.from_list {R = path_cmp} paths) ≤ length paths
+len_most [] = let none = set.len-empty path_cmp in omega arith
+len_most (p ∷ ps) =
+    by (set.contains (set.from_list {R = path_cmp} ps) p) (len_most ps)
+    (set.len-insert path_total (set.from_list {R = path_cmp} ps) p)
+  where
+    by : (b : Bool) → set.len (set.from_list {R = path_cmp} ps) ≤ length ps
+        → set.len (set.from_list {R = path_cmp} (p ∷ ps))
+        ≡ cond b (set.len (set.from_list {R = path_cmp} ps)) (set.len (set.from_list {R = path_cmp} ps) + 1)
+        → set.len (set.from_list {R = path_cmp} (p ∷ ps)) ≤ length (p ∷ ps)
+    by true rest is = omega arith
+    by false rest is = omega arith
+
+few : (n : ℕ) → n ≤ 4 → nat_lt 16 n ≡ false
+few n h = grind (arith, nat_tests)
+
+-- the multi isn't done alone
+both_free : (h : TxnHeader) → is_barrier (both h) ≡ false
+both_free h = few (set.len (paths_of (both h))) (len_most (footprint (both h)))
+
+-- the multi behind a create under each of its parents
+refused : (h : TxnHeader) → is_allowed usual (creates h a_x ∷ creates h b_y ∷ both h ∷ []) ≡ false
+refused h =
+    ap
+    (λ b. has_at_most 64
+    (option_and_then (λ k. grouped_behind ((0, creates h a_x) ∷ (1, creates h b_y) ∷ (k, both h) ∷ []) [])
+    (cond b None (group_for ((0, creates h a_x) ∷ (1, creates h b_y) ∷ []) (footprint (both h))))))
+    (both_free h)
+
+front_of : (h : TxnHeader)
+    → cut usual (creates h a_x ∷ creates h b_y ∷ both h ∷ []) ≡ creates h a_x ∷ creates h b_y ∷ []
+front_of h =
+    let all : List Txn = creates h a_x ∷ creates h b_y ∷ both h ∷ [] in
+    ap (λ b. cond b all (longest_of (is_allowed usual) all 2)) (refused h)
+
+grouped_both : (h : TxnHeader) → grouped (both h ∷ []) ≡ Some ((0, both h) ∷ [])
+grouped_both h =
+    ap (λ b. option_and_then (λ k. grouped_behind ((k, both h) ∷ []) []) (cond b None (Some 0))) (both_free h)
+
+alone : (h : TxnHeader) → cut usual (both h ∷ []) ≡ both h ∷ []
+alone h =
+    let all : List Txn = both h ∷ [] in
+    ap (λ b. cond b all (longest_of (is_allowed usual) all 1)) (both_free h)
+    ∙ ap (λ o. cond (has_at_most 64 o) all []) (grouped_both h)
+
+groups_of_both : (h : TxnHeader)
+    → groups_of (both h ∷ []) ≡ class (0 ∷ []) (a_p ∷ a ∷ b_q ∷ b ∷ []) ∷ []
+groups_of_both h = ap listed (grouped_both h)
+
+worked : (h : TxnHeader) → WorkedCuts h
+worked h =
+    record {
+      nothing = record { cut_is = refl; groups_are = refl };
+      two_groups = record { cut_is = refl; groups_are = refl };
+      meets_two = record { cut_is = front_of h; groups_are = refl };
+      behind_it = record { cut_is = alone h; groups_are = groups_of_both h };
+      barrier_in_front = record { cut_is = refl; groups_are = refl };
+      barrier_behind = record { cut_is = refl; groups_are = refl };
+      no_path = record { cut_is = refl; groups_are = refl };
+      one_transaction = record { cut_is = refl; groups_are = refl };
+      one_group = record { cut_is = refl; groups_are = refl };
+    }
+
+pub cuts_are_worked : CutsAreWorked
+cuts_are_worked = worked

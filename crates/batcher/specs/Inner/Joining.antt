@@ -1,0 +1,36 @@
+-- A transaction that comes into a group.
+use Rattle.std.specs.Prelude.{ℕ, zero, suc, List, [], ◌∷◌, ◌++◌, Option, Some, None, ◌==◌, if◌then◌else◌}
+use Rattle.std.specs.FinSet as set
+use Rattle.ephemerals.specs.Orders.{Bytes}
+use Rattle.batcher.specs.Class.{Class, no_member}
+use Rattle.batcher.specs.declared.met.Met.{Met}
+use Rattle.batcher.specs.declared.met.Met.TheVariants.{Nothing, Group, Several}
+
+-- the group gains the transaction at the place, with these paths
+abbrev pub joined : Class → ℕ → List Bytes → Class
+joined class place paths =
+    record { members = class.members ++ place ∷ []; paths = set.union class.paths (set.from_list paths) }
+
+-- the group of this number gains a transaction; behind the last group it is a new one
+abbrev pub with_member : List Class → ℕ → ℕ → List Bytes → List Class
+with_member [] k place paths = joined no_member place paths ∷ []
+with_member (c ∷ cs) zero place paths = joined c place paths ∷ cs
+with_member (c ∷ cs) (suc k) place paths = c ∷ with_member cs k place paths
+
+-- what was met, and what has one path more
+abbrev pub also : Met → Option ℕ → Met
+also met None = met
+also Nothing (Some k) = Group k
+also (Group j) (Some k) = if k == j then Group j else Several
+also Several (Some k) = Several
+
+-- what was met, and what has each of the paths
+abbrev pub all_met : (Bytes → Option ℕ) → Met → List Bytes → Met
+all_met owner met [] = met
+all_met owner met (p ∷ ps) = all_met owner (also met (owner p)) ps
+
+-- the group that was met, or a new one; nothing, where several were met
+abbrev pub met_group : ℕ → Met → Option ℕ
+met_group new Nothing = Some new
+met_group new (Group k) = Some k
+met_group new Several = None

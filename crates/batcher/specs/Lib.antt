@@ -1,0 +1,7 @@
+pub mod Class
+pub mod Limits
+pub mod Groups
+pub mod Cut
+pub mod Laws
+pub mod Rows
+pub mod Inner

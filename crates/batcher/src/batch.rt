@@ -1,0 +1,76 @@
+//! A batch of transactions.
+
+ghost use Rattle.std.specs.Prelude.{◌≡◌, ◌↔◌, [], IsTrue, length};
+ghost use Rattle.batcher.specs.Cut.{is_barrier_alone, is_batch, groups_of};
+
+use crate::group::Group;
+use std::marker::Model;
+use txn_codec::Txn;
+
+/// Transactions that are done at once, by groups that have no path in common; or a barrier alone, which
+/// has no group. It is seen as the list of its transactions, which says what its groups are.
+#[derive(Drop)]
+pub struct Batch {
+    txns: Vec<Txn>,
+    groups: Vec<Group>,
+}
+
+impl Model for Batch {
+    ghost use Rattle.std.specs.Prelude.{◌≡◌, List, IsTrue};
+    ghost use Rattle.txn_codec.specs.declared.txn.Txn.{Txn};
+    ghost use Rattle.batcher.specs.Cut.{is_batch, groups_of};
+
+    ghost Value = { List Txn };
+
+    ghost view = { λ b. b.txns.items };
+
+    ghost invariant = { λ b. (b.groups.items ≡ groups_of b.txns.items)
+        × IsTrue (is_batch b.txns.items) };
+}
+
+impl Batch {
+    // The batch of these transactions, with their groups.
+    pub(crate) fn new(txns: Vec<Txn>, groups: Vec<Group>) -> Batch
+        requires groups { groups.items ≡ groups_of txns.items }
+        requires batch { IsTrue (is_batch txns.items) }
+        ensures { result ≡ txns.items }
+    {
+        Batch { txns, groups }
+    }
+
+    /// Whether it is a barrier alone.
+    pub fn is_barrier(&self) -> bool
+        ensures { result ≡ is_barrier_alone self.now }
+    {
+        self.groups.is_empty() && !self.txns.is_empty()
+    }
+
+    /// The transactions, in their order.
+    pub fn txns(&self) -> &[Txn]
+        ensures txns { result.now ≡ self.now }
+        ensures batch { IsTrue (is_batch result.now) }
+    {
+        self.txns.as_slice()
+    }
+
+    /// The groups, in the order in which they were opened.
+    pub fn groups(&self) -> &[Group]
+        ensures { result.now ≡ groups_of self.now }
+    {
+        self.groups.as_slice()
+    }
+
+    /// How many transactions there are.
+    pub fn len(&self) -> usize
+        ensures { result ≡ length self.now }
+    {
+        self.txns.len()
+    }
+
+    /// Whether there is no transaction.
+    pub fn is_empty(&self) -> bool
+        ensures { IsTrue result ↔ (self.now ≡ []) }
+    {
+        self.txns.is_empty()
+    }
+}

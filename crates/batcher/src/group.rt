@@ -1,0 +1,78 @@
+//! A group of a batch.
+
+ghost use Rattle.std.specs.Prelude.{◌≡◌, OnOk};
+ghost use Rattle.std.specs.FinSet as set;
+ghost use Rattle.batcher.specs.Class.{no_member};
+ghost use Rattle.batcher.specs.Inner.Joining.{joined};
+
+use ephemerals::TextSet;
+use std::alloc::Global;
+use std::marker::Model;
+use values::{NoMemory, Text};
+
+/// Transactions of a batch that are done one after the other, by their places in it, and the paths that
+/// they may touch.
+#[derive(Drop)]
+pub struct Group {
+    members: Vec<usize>,
+    paths: TextSet,
+}
+
+impl Model for Group {
+    ghost use Rattle.batcher.specs.Class.{Class, class_code};
+
+    ghost Value = { Class };
+
+    ghost coded = { class_code };
+
+    ghost view = { λ g. record { members = g.members.items; paths = g.paths } };
+}
+
+// Adds paths to a set.
+fn add_paths(alloc: Global, names: &mut TextSet, paths: &[Text]) -> Result<(), NoMemory>
+    ensures { OnOk result (names.new ≡ set.union names.old (set.from_list paths.now)) }
+{
+    for path in paths {
+        names.insert(String::from_str(alloc, path.as_str())?)?;
+    }
+    Ok(())
+}
+
+impl Group {
+    /// No transaction, which takes no memory.
+    pub(crate) fn new(alloc: Global) -> Group
+        ensures { result ≡ no_member }
+    {
+        Group {
+            members: Vec::new(alloc),
+            paths: TextSet::new(alloc),
+        }
+    }
+
+    /// The places in the batch of the group's transactions, ascending.
+    pub fn members(&self) -> &[usize]
+        ensures { result.now ≡ self.now.members }
+    {
+        self.members.as_slice()
+    }
+
+    /// The paths that the group's transactions may touch, as a set that is gone over in ascending bytes.
+    pub fn paths(&self) -> &TextSet
+        ensures { result.now ≡ self.now.paths }
+    {
+        &self.paths
+    }
+
+    /// Adds the transaction at the place, which may touch these paths.
+    pub(crate) fn add(
+        &mut self,
+        alloc: Global,
+        place: usize,
+        paths: &[Text],
+    ) -> Result<(), NoMemory>
+        ensures { OnOk result (self.new ≡ joined self.old place paths.now) }
+    {
+        self.members.push(place)?;
+        add_paths(alloc, &mut self.paths, paths)
+    }
+}

@@ -1,0 +1,55 @@
+//! Which groups a transaction meets.
+
+ghost use Rattle.std.specs.Prelude.{◌≡◌};
+ghost use Rattle.std.specs.BTreeMap.{get_by_text};
+ghost use Rattle.batcher.specs.Inner.Joining.{also, all_met};
+ghost use Rattle.batcher.specs.declared.met.Met.TheVariants.{Nothing};
+
+use std::collections::BTreeMap;
+use values::Text;
+
+/// The groups that have one of a transaction's paths.
+#[derive(Clone, Copy)]
+pub enum Met {
+    Nothing,
+    /// One group, by its number.
+    Group(usize),
+    Several,
+}
+
+// The group that has the path.
+fn owner(owners: &BTreeMap<String, usize>, path: &str) -> Option<usize>
+    ensures { result ≡ get_by_text owners.now path.now }
+{
+    owners.get(path).copied()
+}
+
+// What was met, and what has one path more.
+fn also(met: Met, owner: Option<usize>) -> Met
+    ensures { result ≡ also met owner }
+{
+    let Some(group) = owner else {
+        return met;
+    };
+    match met {
+        Met::Nothing => Met::Group(group),
+        Met::Group(other) => {
+            if group == other {
+                return Met::Group(other);
+            }
+            Met::Several
+        }
+        Met::Several => Met::Several,
+    }
+}
+
+/// The groups that own one of the paths.
+pub fn met_by(owners: &BTreeMap<String, usize>, paths: &[Text]) -> Met
+    ensures { result ≡ all_met (get_by_text owners.now) Nothing paths.now }
+{
+    let mut met = Met::Nothing;
+    for path in paths {
+        met = also(met, owner(owners, path.as_str()));
+    }
+    met
+}
