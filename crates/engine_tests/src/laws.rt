@@ -1,7 +1,8 @@
 //! The laws, each called once. A law that is called in a test would bring its statement, rows of bytes among it, into
 //! the test's proof.
 use observer_core::{
-    cut_anywhere, logs_are_followed, plays_on, refusals_change_nothing, worked_rows,
+    clients_are_apart, connections_agree, cut_anywhere, logs_are_followed, plays_on,
+    refusals_change_nothing, worked_rows,
 };
 
 pub fn call_plays_on() {
@@ -14,6 +15,14 @@ pub fn call_cut_anywhere() {
 
 pub fn call_logs_are_followed() {
     logs_are_followed();
+}
+
+pub fn call_clients_are_apart() {
+    clients_are_apart();
+}
+
+pub fn call_connections_agree() {
+    connections_agree();
 }
 
 pub fn call_refusals_change_nothing() {

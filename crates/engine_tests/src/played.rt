@@ -1,8 +1,8 @@
 //! What comes, and what goes out of it.
 use super::*;
 use crate::laws::{
-    call_cut_anywhere, call_logs_are_followed, call_plays_on, call_refusals_change_nothing,
-    call_worked_rows,
+    call_clients_are_apart, call_connections_agree, call_cut_anywhere, call_logs_are_followed,
+    call_plays_on, call_refusals_change_nothing, call_worked_rows,
 };
 use crate::rows::{create, get, reply_of_create, reply_of_set, set};
 use observer_core::CLIENT_FRAME_LIMIT;
@@ -115,6 +115,16 @@ fn closes_client(alloc: Global, engine: Engine) -> bool {
     closes(alloc, engine, &events, &[Output::CloseClient(1)], (0, 3))
 }
 
+// A connection opens and goes, and the session of connection 1 expires, which closes it.
+fn expires(alloc: Global, engine: Engine) -> bool {
+    let events = [
+        Event::ClientUp(2),
+        Event::ClientEnd(2),
+        Event::Expire(0x0300_0000_0000_0001),
+    ];
+    closes(alloc, engine, &events, &[Output::CloseClient(1)], (0, 3))
+}
+
 // A leader that isn't there is passed over, and so is a client.
 fn passes_over(alloc: Global, engine: Engine) -> bool {
     let events = [told(create()), asked(get()), Event::Checkpoint];
@@ -155,6 +165,14 @@ fn greatest_frame(rt: HostRuntime) -> Result<(), Fail> {
     assert_eq!(rt; CLIENT_FRAME_LIMIT, 1_048_575);
     assert!(rt; waits(rt.alloc(), primed(rt.alloc())?));
     assert!(rt; closes_client(rt.alloc(), primed(rt.alloc())?));
+    Ok(())
+}
+
+#[test]
+fn clients(rt: HostRuntime) -> Result<(), Fail> {
+    call_connections_agree();
+    call_clients_are_apart();
+    assert!(rt; expires(rt.alloc(), primed(rt.alloc())?));
     Ok(())
 }
 

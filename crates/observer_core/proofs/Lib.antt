@@ -4,5 +4,10 @@ pub mod Steps
 pub mod Delivering
 pub mod Serving
 pub mod Playing
+pub mod Keeping
 pub mod Logs
 pub mod Rows
+pub mod Closing
+pub mod Passing
+pub mod Agreeing
+pub mod Apart

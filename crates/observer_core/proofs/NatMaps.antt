@@ -1,6 +1,6 @@
 -- A map from unsigned numbers, read as a finite map.
-use Rattle.std.proofs.Common.{◌≡◌, ℕ, suc, ◌<◌, Bool, true, false, cond, List, [], ◌∷◌, map, length, Option, Some, None, refl, sym, ap, ◌∙◌, arith}
-use Rattle.std.specs.Prelude.{IfSome}
+use Rattle.std.proofs.Common.{◌≡◌, ◌≢◌, ℕ, suc, ◌<◌, Bool, true, false, cond, List, [], ◌∷◌, map, length, Option, Some, None, refl, sym, ap, ◌∙◌, arith}
+use Rattle.std.specs.Prelude.{IfSome, is_some}
 use Rattle.std.specs.declared.cmp.Ordering.TheVariants.{Less, Equal, Greater}
 use Rattle.std.specs.BTreeMap as tree
 use Rattle.std.specs.BTreeMap.{BTreeMap, is_at}
@@ -89,6 +89,33 @@ module _ {X : Type 0} where
       ∙ keys-sorted (p ∷ new) (sorted_push p.0 (map (λ (x : ℕ × X). x.0) new) (each_of_all (λ y. nat_cmp p.0 y ≡ Less) (map (λ (x : ℕ × X). x.0) new) above) sorted)
       ∙ ap (λ ks. p.0 ∷ ks) (sym (keys-sorted new sorted))
 
+  absent_above : (n : ℕ) (es : List (ℕ × X)) → AllByRecursion (λ y. nat_cmp n y ≡ Less) (map (λ (x : ℕ × X). x.0) es) → finmap.find nat_cmp n es ≡ None
+  absent_above n [] h = refl
+  absent_above n (e ∷ es) h =
+      ap (λ r. cond (is_eq r) (Some e.1) (finmap.find nat_cmp n es)) h.0 ∙ absent_above n es h.1
+
+  taken_out : (b : Bool) (v : X) (o : Option X) → (b ≡ true → o ≡ None) → o ≡ cond b None (cond b (Some v) o)
+  taken_out true v o h = h refl
+  taken_out false v o h = refl
+
+  found_by : (n q : ℕ) (es : List (ℕ × X)) → finmap.find nat_cmp n es ≡ None → eq_by_cmp nat_cmp q n ≡ true → finmap.find nat_cmp q es ≡ None
+  found_by n q es none same = ap (λ k. finmap.find nat_cmp k es) (exact_unsigned q n (eq_is (nat_cmp q n) same)) ∙ none
+
+  popped-removed : (p : ℕ × X) (new : List (ℕ × X)) → AllByRecursion (λ y. nat_cmp p.0 y ≡ Less) (map (λ (x : ℕ × X). x.0) new) → seen new ≡ finmap.remove (seen (p ∷ new)) p.0
+  popped-removed p new above = finmap.same_map nat_cmp_total exact_unsigned _ _ (λ q.
+      finmap.get-from_entries nat_cmp_total new q
+      ∙ taken_out (eq_by_cmp nat_cmp q p.0) p.1 (finmap.find nat_cmp q new) (found_by p.0 q new (absent_above p.0 new above))
+      ∙ ap (cond (eq_by_cmp nat_cmp q p.0) None) (sym (finmap.get-from_entries nat_cmp_total (p ∷ new) q))
+      ∙ sym (finmap.get-remove nat_cmp_total (seen (p ∷ new)) p.0 q))
+
+  -- the first entry is taken out, and no other
+  pub first-removed : (r : Option (ℕ × X)) (old new : List (ℕ × X)) → IfSome r (λ p. old ≡ p ∷ new) → IfSome r (λ p. All (λ y. nat_cmp p.0 y ≡ Less) (map (λ (x : ℕ × X). x.0) new))
+      → IfSome r (λ p. seen new ≡ finmap.remove (seen old) p.0)
+  first-removed None old new is above = tt
+  first-removed (Some p) old new is above =
+      popped-removed p new (each_of_all (λ y. nat_cmp p.0 y ≡ Less) (map (λ (x : ℕ × X). x.0) new) above)
+      ∙ ap (λ es. finmap.remove (seen es) p.0) (sym is)
+
   -- ---- one key
 
   pub get-inserted : (m : finmap.FinMap nat_cmp X) (k : ℕ) (v : X) → finmap.get (finmap.insert m k v) k ≡ Some v
@@ -96,6 +123,28 @@ module _ {X : Type 0} where
 
   pub get-removed : (m : finmap.FinMap nat_cmp X) (k : ℕ) → finmap.get (finmap.remove m k) k ≡ None
   get-removed m k = finmap.get-remove nat_cmp_total m k k ∙ ap (λ b. cond b None (finmap.get m k)) (same_key k)
+
+  was_there : (b : Bool) (o : Option X) (v : X) → cond b None o ≡ Some v → o ≡ Some v
+  was_there true o v e = absurd (true≢false (sym (ap is_some e)))
+  was_there false o v e = e
+
+  -- what is there after one was taken out was there before
+  pub still_there : (m : finmap.FinMap nat_cmp X) (n k : ℕ) (v : X) → finmap.get (finmap.remove m n) k ≡ Some v → finmap.get m k ≡ Some v
+  still_there m n k v e = was_there (eq_by_cmp nat_cmp k n) (finmap.get m k) v (sym (finmap.get-remove nat_cmp_total m n k) ∙ e)
+
+  apart : (m : finmap.FinMap nat_cmp X) (n k : ℕ) (new : Option X) → k ≢ n → cond (eq_by_cmp nat_cmp k n) new (finmap.get m k) ≡ finmap.get m k
+  apart m n k new other = by (eq_by_cmp nat_cmp k n) refl
+    where
+      by : (b : Bool) → eq_by_cmp nat_cmp k n ≡ b → cond b new (finmap.get m k) ≡ finmap.get m k
+      by true same = absurd (other (exact_unsigned k n (eq_is (nat_cmp k n) same)))
+      by false differ = refl
+
+  -- another key is left where one is taken out, and where one is put in
+  pub get-kept : (m : finmap.FinMap nat_cmp X) (n k : ℕ) → k ≢ n → finmap.get (finmap.remove m n) k ≡ finmap.get m k
+  get-kept m n k other = finmap.get-remove nat_cmp_total m n k ∙ apart m n k None other
+
+  pub get-beside : (m : finmap.FinMap nat_cmp X) (n k : ℕ) (v : X) → k ≢ n → finmap.get (finmap.insert m n v) k ≡ finmap.get m k
+  get-beside m n k v other = finmap.get-insert nat_cmp_total m n v k ∙ apart m n k (Some v) other
 
   over : (b : Bool) (v w : X) (o : Option X) → cond b (Some v) (cond b (Some w) o) ≡ cond b (Some v) o
   over true v w o = refl

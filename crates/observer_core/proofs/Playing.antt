@@ -1,10 +1,9 @@
 -- Play of lists joined, and of bytes cut.
-use Rattle.std.proofs.Common.{◌≡◌, ℕ, Bool, true, false, cond, not, List, [], ◌∷◌, ◌++◌, Option, Some, None, Result, Ok, Err, refl, sym, ap, ◌∙◌, append_assoc}
-use Rattle.std.specs.Prelude.{is_some, ℤ}
+use Rattle.std.proofs.Common.{◌≡◌, ℕ, Bool, true, false, cond, not, List, [], ◌∷◌, ◌++◌, Option, Some, None, Ok, Err, refl, sym, ap, ◌∙◌, append_assoc}
+use Rattle.std.specs.Prelude.{is_some}
 use Rattle.std.specs.Option.{unwrap_or}
 use Rattle.std.proofs.lemmas.List.{append-nil}
 use Rattle.std.specs.FinMap as finmap
-use mathlib.Core.Bool.{true≢false}
 use Rattle.values.specs.declared.fault.Fault.{Fault}
 use Rattle.jute.specs.Stream.{Unread, Place, Items, items, add, place_at}
 use Rattle.jute.proofs.Public.{comes_in_pieces}
@@ -12,22 +11,17 @@ use Rattle.quorum_packet.specs.declared.packet.QuorumPacket.{QuorumPacket}
 use Rattle.quorum_packet.specs.declared.phase.Phase.{Phase}
 use Rattle.quorum_packet.specs.Packets.{packets}
 use Rattle.quorum_packet.proofs.PacketFormat.{packets_streamed}
-use Rattle.observer_core.specs.declared.request.Call.{Call}
-use Rattle.observer_core.specs.declared.request.CallBody.{CallBody}
-use Rattle.observer_core.specs.declared.request.CallBody.TheVariants.{Read, Unreadable, Ping, Write, Unanswered, Unknown}
-use Rattle.read_processor.specs.declared.request.Request.{Request}
-use Rattle.read_processor.specs.declared.shown.Look.{Look}
 use Rattle.observer_core.specs.declared.event.Event.{Event}
 use Rattle.observer_core.specs.declared.event.Event.TheVariants.{LeaderBytes, ClientBytes}
 use Rattle.observer_core.specs.declared.event.Output.{Output}
 use Rattle.observer_core.specs.declared.event.Output.TheVariants.{CloseClient}
 use Rattle.observer_core.specs.Machine.{Connection, Connections, World, Machine}
-use Rattle.observer_core.specs.Request.{sets_watch, call_in}
-use Rattle.read_processor.specs.Look.{look, without_body}
-use Rattle.jute.specs.declared.codes.TheConstants.{BAD_ARGUMENTS}
-use Rattle.client_records.specs.declared.codes.TheConstants.{OK, UNIMPLEMENTED, NOT_READ_ONLY, PING_XID}
-use Rattle.read_processor.specs.Reply.{reply}
-use Rattle.observer_core.specs.Play.{Happened, behind, quiet, happening, Delivery, deliver, is_refused, end_at, deliver_all, leave_leader, take_leader_bytes, close_client, send, answer, request, call, serve_as, serve, is_closed, keep, wait, wait_if_open, frames, serve_all, take_client_bytes, at_client, happen, play}
+use Rattle.observer_core.specs.Steps.{Happened, behind, quiet, and_then, happening}
+use Rattle.observer_core.specs.Clients.{at_rest}
+use Rattle.observer_core.specs.Leader.{Delivery, deliver, is_refused, end_at, deliver_all, beside, leave_leader, take_leader_bytes}
+use Rattle.observer_core.specs.Serve.{close_client, serve, is_closed, keep, wait, wait_if_open, wait_at, frames, serve_all, take_client_bytes}
+use Rattle.observer_core.specs.Play.{serving, happen, play}
+use Rattle.observer_core.proofs.Closing.{serve_closes}
 use Rattle.observer_core.proofs.Steps.{behind_behind, passed_over, happening_on}
 use Rattle.observer_core.proofs.NatMaps.{get-inserted, get-removed, insert-insert, insert-same}
 use Rattle.observer_core.proofs.Streams.{frames_streamed}
@@ -46,7 +40,7 @@ some_is c k e = ap (λ (o : Option Connection). unwrap_or o c) e
 
 -- what the packets that came leave of the leader
 abbrev finish : Happened Delivery → Place Phase → Happened Machine
-finish h place = behind h.outputs (leave_leader h.after.world (end_at place h.after.fault))
+finish h place = and_then h (λ d. leave_leader d.world (end_at place d.fault))
 
 -- what further bytes of the leader bring
 abbrev then_leader : Happened Machine → List ℕ → Happened Machine
@@ -95,108 +89,77 @@ leader_cut_anywhere m a b events = two_events m (LeaderBytes (a ++ b)) (LeaderBy
 -- ---- a client's bytes
 
 -- the connection, if it is open, has no bytes waiting
-abbrev IsTaken : ℕ → Connections → Type 0
-IsTaken n connections = (k : Connection) → finmap.get connections n ≡ Some k → k ≡ record { rest = [] }
+abbrev IsTaken : ℕ → World → Type 0
+IsTaken n w = (k : Connection) → finmap.get w.clients.connections n ≡ Some k → k ≡ at_rest
 
-module _ (n : ℕ) where
-  closed_taken : (w : World) → IsTaken n (close_client n w).after.connections
-  closed_taken w k e = absurd (true≢false (ap is_some (sym e ∙ get-removed w.connections n)))
+module _ (serving : Bool) (n : ℕ) where
+  served_taken : (w : World) (frame : List ℕ) → IsTaken n w → IsTaken n (serve serving n w frame).after
+  served_taken w frame t k e = t k (serve_closes serving n w frame n k e)
 
-  sent_taken : (w : World) (frame : Option (List ℕ)) → IsTaken n w.connections → IsTaken n (send n w frame).after.connections
-  sent_taken w None t = closed_taken w
-  sent_taken w (Some bytes) t = t
-
-  answered_taken : (w : World) (xid : ℤ) (seen : Look) → IsTaken n w.connections → IsTaken n (answer n w xid seen).after.connections
-  answered_taken w xid seen t = sent_taken w (reply xid w.learner.last_zxid seen) t
-
-  requested_taken : (w : World) (xid : ℤ) (r : Request) → IsTaken n w.connections → IsTaken n (request n w xid r).after.connections
-  requested_taken w xid r t = by (sets_watch r)
-    where
-      by : (b : Bool) → IsTaken n (cond b (quiet w) (answer n w xid (look w.tree [] r))).after.connections
-      by true = t
-      by false = answered_taken w xid (look w.tree [] r) t
-
-  called_taken : (w : World) (xid : ℤ) (b : CallBody) → IsTaken n w.connections → IsTaken n (call n w xid b).after.connections
-  called_taken w xid (Read r) t = requested_taken w xid r t
-  called_taken w xid Unreadable t = answered_taken w xid (without_body BAD_ARGUMENTS) t
-  called_taken w xid Ping t = answered_taken w PING_XID (without_body OK) t
-  called_taken w xid Write t = answered_taken w xid (without_body NOT_READ_ONLY) t
-  called_taken w xid Unanswered t = t
-  called_taken w xid Unknown t = closed_taken (answer n w xid (without_body UNIMPLEMENTED)).after
-
-  served_taken : (w : World) (frame : List ℕ) → IsTaken n w.connections → IsTaken n (serve n w frame).after.connections
-  served_taken w frame t = by (call_in frame)
-    where
-      by : (c : Result Call Fault) → IsTaken n (serve_as n w c).after.connections
-      by (Ok c) = called_taken w c.xid c.body t
-      by (Err e) = closed_taken w
-
-  all_taken : (w : World) (fs : List (List ℕ)) → IsTaken n w.connections → IsTaken n (happening (is_closed n) (serve n) w fs).after.connections
+  all_taken : (w : World) (fs : List (List ℕ)) → IsTaken n w → IsTaken n (happening (is_closed n) (serve serving n) w fs).after
   all_taken w [] t = t
-  all_taken w (f ∷ fs) t = by (is_closed n w) (all_taken (serve n w f).after fs (served_taken w f t))
+  all_taken w (f ∷ fs) t = by (is_closed n w) (all_taken (serve serving n w f).after fs (served_taken w f t))
     where
-      by : (b : Bool) → IsTaken n (happening (is_closed n) (serve n) (serve n w f).after fs).after.connections
-          → IsTaken n (cond b (quiet w) (behind (serve n w f).outputs (happening (is_closed n) (serve n) (serve n w f).after fs))).after.connections
+      by : (b : Bool) → IsTaken n (happening (is_closed n) (serve serving n) (serve serving n w f).after fs).after
+          → IsTaken n (cond b (quiet w) (behind (serve serving n w f).outputs (happening (is_closed n) (serve serving n) (serve serving n w f).after fs))).after
       by true others = t
       by false others = others
 
   -- what the frames that came leave of the connection
   abbrev left_at : Happened World → Unread → Happened World
-  left_at h left = behind h.outputs (wait_if_open n h.after (finmap.get h.after.connections n) left)
+  left_at h left = and_then h (wait_at n left)
 
   -- what further bytes of the client bring
   abbrev then_client : Happened World → List ℕ → Happened World
-  then_client h more = behind h.outputs (take_client_bytes n h.after (finmap.get h.after.connections n) more)
+  then_client h more = and_then h (λ w. take_client_bytes serving n w (finmap.get w.clients.connections n) more)
 
   -- bytes are taken to hand again
-  kept_again : (w : World) (rest : List ℕ) → finmap.get w.connections n ≡ Some (record { rest = [] })
-      → keep n (keep n w (record { rest = [] }) rest) (record { rest = rest }) [] ≡ w
+  kept_again : (w : World) (rest : List ℕ) → finmap.get w.clients.connections n ≡ Some at_rest
+      → keep n (keep n w at_rest rest) (record { rest = rest }) [] ≡ w
   kept_again w rest there =
-      ap (λ (c : Connections). record w { connections = c })
-      (insert-insert w.connections n (record { rest = [] }) (record { rest = rest }) ∙ insert-same w.connections n (record { rest = [] }) there)
+      ap (λ (c : Connections). record w { clients = record w.clients { connections = c } })
+      (insert-insert w.clients.connections n at_rest (record { rest = rest }) ∙ insert-same w.clients.connections n at_rest there)
 
-  waited_on : (w : World) (k : Connection) (unread : Unread) (more : List ℕ) → finmap.get w.connections n ≡ Some k → k ≡ record { rest = [] } →
+  waited_on : (w : World) (k : Connection) (unread : Unread) (more : List ℕ) → finmap.get w.clients.connections n ≡ Some k → k ≡ at_rest →
       let left : Place (Unit {0}) = record { phase = tt; unread = unread } in
-      serve_all n w (items frames (add left more)) ≡ then_client (wait n w k unread) more
+      serve_all serving n w (items frames (add left more)) ≡ then_client (wait n w k unread) more
   waited_on w k (Ok rest) more there fresh =
-      let empty : Connection = record { rest = [] } in
-      let kept = keep n w empty rest in
+      let kept = keep n w at_rest rest in
       let found = items frames (place_at tt (rest ++ more)) in
-      sym (ap (λ (x : World). serve_all n x found) (kept_again w rest (there ∙ ap Some fresh)))
-      ∙ sym (ap (λ (o : Option Connection). take_client_bytes n kept o more) (get-inserted w.connections n (record { rest = rest })))
+      sym (ap (λ (x : World). serve_all serving n x found) (kept_again w rest (there ∙ ap Some fresh)))
+      ∙ sym (ap (λ (o : Option Connection). take_client_bytes serving n kept o more) (get-inserted w.clients.connections n (record { rest = rest })))
       ∙ sym (ap (λ (c : Connection). then_client (wait n w c (Ok rest)) more) fresh)
   waited_on w k (Err e) more there fresh =
       ap (λ (o : Option Connection). wait_if_open n w o (Err e)) there
-      ∙ sym (ap (λ (o : Option Connection). behind (CloseClient n ∷ []) (take_client_bytes n (close_client n w).after o more)) (get-removed w.connections n))
+      ∙ sym (ap (λ (o : Option Connection). behind (CloseClient n ∷ []) (take_client_bytes serving n (close_client n w).after o more)) (get-removed w.clients.connections n))
 
-  served_on : (w : World) (o : Option Connection) (left : Place (Unit {0})) (more : List ℕ) → finmap.get w.connections n ≡ o → IsTaken n w.connections
-      → serve_all n w (items frames (add left more)) ≡ then_client (wait_if_open n w o left.unread) more
+  served_on : (w : World) (o : Option Connection) (left : Place (Unit {0})) (more : List ℕ) → finmap.get w.clients.connections n ≡ o → IsTaken n w
+      → serve_all serving n w (items frames (add left more)) ≡ then_client (wait_if_open n w o left.unread) more
   served_on w None left more there t =
       let j = items frames (add left more) in
-      ap (λ (h : Happened World). left_at h j.left.unread) (passed_over (is_closed n) (serve n) w j.found (ap (λ (x : Option Connection). not (is_some x)) there))
+      ap (λ (h : Happened World). left_at h j.left.unread) (passed_over (is_closed n) (serve serving n) w j.found (ap (λ (x : Option Connection). not (is_some x)) there))
       ∙ ap (λ (x : Option Connection). wait_if_open n w x j.left.unread) there
-      ∙ sym (ap (λ (x : Option Connection). take_client_bytes n w x more) there)
+      ∙ sym (ap (λ (x : Option Connection). take_client_bytes serving n w x more) there)
   served_on w (Some k) left more there t = waited_on w k left.unread more there (t k there)
 
-  client_cut : (w : World) (o : Option Connection) (a b : List ℕ) → finmap.get w.connections n ≡ o → take_client_bytes n w o (a ++ b) ≡ then_client (take_client_bytes n w o a) b
-  client_cut w None a b there = sym (ap (λ (x : Option Connection). take_client_bytes n w x b) there)
+  client_cut : (w : World) (o : Option Connection) (a b : List ℕ) → finmap.get w.clients.connections n ≡ o → take_client_bytes serving n w o (a ++ b) ≡ then_client (take_client_bytes serving n w o a) b
+  client_cut w None a b there = sym (ap (λ (x : Option Connection). take_client_bytes serving n w x b) there)
   client_cut w (Some k) a b there =
       let v = keep n w k [] in
       let i = items frames (place_at tt (k.rest ++ a)) in
       let j = items frames (add i.left b) in
-      let h = happening (is_closed n) (serve n) v i.found in
-      let g = happening (is_closed n) (serve n) h.after j.found in
-      let t : IsTaken n v.connections = λ (c : Connection) is. some_is c (record { rest = [] }) (sym is ∙ get-inserted w.connections n (record { rest = [] })) in
-      ap (λ (x : List ℕ). serve_all n v (items frames (place_at tt x))) (sym (append_assoc k.rest a b))
-      ∙ ap (serve_all n v) (comes_in_pieces frames frames_streamed (place_at tt (k.rest ++ a)) b)
-      ∙ ap (λ (x : Happened World). left_at x j.left.unread) (happening_on (is_closed n) (serve n) v i.found j.found)
-      ∙ sym (behind_behind h.outputs g.outputs (wait_if_open n g.after (finmap.get g.after.connections n) j.left.unread))
-      ∙ ap (behind h.outputs) (served_on h.after (finmap.get h.after.connections n) i.left b refl (all_taken v i.found t))
-      ∙ behind_behind h.outputs (wait_if_open n h.after (finmap.get h.after.connections n) i.left.unread).outputs
-      (take_client_bytes n (wait_if_open n h.after (finmap.get h.after.connections n) i.left.unread).after
-      (finmap.get (wait_if_open n h.after (finmap.get h.after.connections n) i.left.unread).after.connections n) b)
+      let h = happening (is_closed n) (serve serving n) v i.found in
+      let g = happening (is_closed n) (serve serving n) h.after j.found in
+      let waits = wait_at n i.left.unread h.after in
+      let t : IsTaken n v = λ (c : Connection) is. some_is c at_rest (sym is ∙ get-inserted w.clients.connections n at_rest) in
+      ap (λ (x : List ℕ). serve_all serving n v (items frames (place_at tt x))) (sym (append_assoc k.rest a b))
+      ∙ ap (serve_all serving n v) (comes_in_pieces frames frames_streamed (place_at tt (k.rest ++ a)) b)
+      ∙ ap (λ (x : Happened World). left_at x j.left.unread) (happening_on (is_closed n) (serve serving n) v i.found j.found)
+      ∙ sym (behind_behind h.outputs g.outputs (wait_at n j.left.unread g.after))
+      ∙ ap (behind h.outputs) (served_on h.after (finmap.get h.after.clients.connections n) i.left b refl (all_taken v i.found t))
+      ∙ behind_behind h.outputs waits.outputs (take_client_bytes serving n waits.after (finmap.get waits.after.clients.connections n) b)
 
 pub client_cut_anywhere : (m : Machine) (n : ℕ) (a b : List ℕ) (events : List Event) → play m (ClientBytes n (a ++ b) ∷ events) ≡ play m (ClientBytes n a ∷ ClientBytes n b ∷ events)
 client_cut_anywhere m n a b events =
     two_events m (ClientBytes n (a ++ b)) (ClientBytes n a) (ClientBytes n b) events
-    (ap (at_client m.leader) (client_cut n m.world (finmap.get m.world.connections n) a b refl))
+    (ap (beside m.leader) (client_cut (serving m) n m.world (finmap.get m.world.clients.connections n) a b refl))

@@ -1,7 +1,9 @@
 -- The worked rows, step by step: what the bytes read as, the state behind each transaction, and the reply to each request.
-use Rattle.std.proofs.Common.{◌≡◌, ◌≤◌, ℕ, List, [], ◌∷◌, ◌++◌, length, map, not, Option, Some, None, Result, Ok, Bool, false, cond, refl, ap, ◌∙◌, arith, rules}
+use Rattle.std.proofs.Common.{◌≡◌, ◌≤◌, ℕ, List, [], ◌∷◌, ◌++◌, length, map, not, Option, Some, None, Result, Ok, Bool, true, false, cond, refl, sym, ap, ◌∙◌, arith, rules}
 use Rattle.std.specs.Prelude.{ℤ, pos, codes, is_some}
+use Rattle.std.specs.List.{AllByRecursion}
 use Rattle.std.specs.Cmp.{nat_cmp_total}
+use mathlib.Core.Bool.{true≢false}
 use Rattle.observer_core.proofs.Steps.{goes_on}
 use Rattle.std.specs.FinMap as finmap
 use Rattle.std.specs.FinSet as set
@@ -39,23 +41,38 @@ use Rattle.data_tree.specs.State.{State}
 use Rattle.data_tree.specs.Meaning.{mean, fresh, first_node, after_changes, create_new, create_taken, create_under, set_data_at, of_effect, new_node, with_data}
 use Rattle.data_tree.specs.Stats.{shown_stat, java_int, length_of}
 use Rattle.data_tree.specs.declared.node.Node.{Node}
+use Rattle.data_tree.specs.declared.outcome.Trigger.{Trigger}
+use Rattle.jute.specs.declared.owned.Id.{Id}
+use Rattle.sessions.specs.State.{Connection as SessionConnection}
+use Rattle.sessions.specs.Sessions.{session_in, session_of, ids_in, ids_of, new_connection}
+use Rattle.sessions.specs.Credentials.{session_id_of}
+use Rattle.watch_manager.specs.declared.event.Event.{Event as NodeEvent}
+use Rattle.watch_manager.specs.Pairs.{watch_cmp}
+use Rattle.watch_manager.specs.Watching.{no_watch}
+use Rattle.watch_manager.specs.Watches.{Fired, fire}
+use Rattle.watch_manager.specs.Laws.{AllPass, OnlyWatchersAreTold, SilenceKeepsWatches}
+use Rattle.read_processor.specs.Watch.{watch_of}
 use Rattle.observer_core.specs.declared.config.Config.{Config}
-use Rattle.observer_core.specs.declared.request.Call.{Call}
-use Rattle.observer_core.specs.declared.request.CallBody.TheVariants.{Read}
+use Rattle.client_frames.specs.declared.call.Call.{Call}
+use Rattle.client_frames.specs.declared.call.CallBody.TheVariants.{Read}
 use Rattle.read_processor.specs.declared.request.Request.TheVariants.{GetData}
 use Rattle.observer_core.specs.declared.event.Event.{Event}
 use Rattle.observer_core.specs.declared.event.Event.TheVariants.{ClientBytes}
 use Rattle.observer_core.specs.declared.event.Output.TheVariants.{ToClient, CloseLeader, CloseClient}
-use Rattle.observer_core.specs.Machine.{Connection, Connections, World, Machine}
-use Rattle.observer_core.specs.Request.{call_in, call_behind, body_of, read_as, front_in}
 use Rattle.read_processor.specs.declared.shown.Look.{Look}
 use Rattle.read_processor.specs.declared.request.Request.{Request}
-use Rattle.read_processor.specs.Look.{look_at_node, shown_look, body_of as shown_body}
+use Rattle.read_processor.specs.Look.{look, look_at_node, shown_look, body_of as shown_body}
 use Rattle.read_processor.specs.Reply.{reply}
-use Rattle.observer_core.specs.Play.{Happened, behind, quiet, happening, inform, apply, receive, deliver_as, deliver, is_refused, leave_leader, end_at, take_leader_bytes, send, answer, serve_as, serve, is_closed, wait_if_open, frames, serve_all, take_client_bytes, at_client, happen, play, new_machine, primed_machine}
 use Rattle.values.specs.Hex.{spelled}
 use Rattle.observer_core.specs.Rows.{WorkedRows, inform_of_create, inform_of_set_data, get_front, get_back, reply_of_create, reply_of_set_data, created, overwritten, asked}
-use Rattle.observer_core.proofs.NatMaps.{get-inserted, insert-insert, entries-empty}
+use Rattle.observer_core.specs.Machine.{Connection, Connections, Clients, World, Machine}
+use Rattle.client_frames.specs.Call.{call_in, call_behind, body_of, read_as, front_in}
+use Rattle.observer_core.specs.Steps.{Happened, behind, quiet, happening}
+use Rattle.observer_core.specs.Clients.{without, closing, notices}
+use Rattle.observer_core.specs.Leader.{with_watches, with_meant, inform, apply, receive, deliver_as, deliver, is_refused, leave_leader, end_at, beside, take_leader_bytes}
+use Rattle.observer_core.specs.Serve.{send, answer, watched_if, watching, serve_as, serve_by, serve, is_closed, wait_if_open, frames, serve_all, take_client_bytes}
+use Rattle.observer_core.specs.Play.{happen, play, first_client, new_machine, primed_machine}
+use Rattle.observer_core.proofs.NatMaps.{get-inserted, get-removed, insert-insert, entries-empty}
 
 -- ---- texts
 
@@ -221,16 +238,39 @@ call_read =
     ∙ ap (λ k. Ok (record { xid = pos 1; body = body_of k get_body })) kind_read
     ∙ ap (λ r. Ok (record { xid = pos 1; body = read_as GetData (front_in r) })) body_read
 
+-- a look is answered, and leaves its watch
+abbrev shown_by : World → Look → Happened World
+shown_by w seen = answer 1 (watching w (watched_if 1 w.clients.watches (watch_of wanted seen.error))) (pos 1) seen
+
 -- a world whose tree shows the node is answered with it
-answered_by : (w : World) (n : Node) (frame : List ℕ) → finmap.get w.tree.nodes (codes "/a") ≡ Some n → look_at_node [] wanted (Some n) ≡ shown_look (shown_body wanted n) → n.children ≡ set.empty
-    → reply_by w.learner.last_zxid n 0 ≡ Some frame → serve 1 w get_frame ≡ record { outputs = ToClient 1 frame ∷ []; after = w }
-answered_by w n frame there shows childless is =
-    ap (serve_as 1 w) call_read
-    ∙ ap (λ (o : Option Node). answer 1 w (pos 1) (look_at_node [] wanted o)) there
-    ∙ ap (λ (l : Look). answer 1 w (pos 1) l) shows
+answered_by : (w : World) (session : ℤ) (n : Node) (frame : List ℕ) → session_of w.clients.sessions 1 ≡ Some session → ids_of w.clients.sessions 1 ≡ []
+    → finmap.get w.tree.nodes (codes "/a") ≡ Some n → look_at_node [] wanted (Some n) ≡ shown_look (shown_body wanted n) → n.children ≡ set.empty
+    → reply_by w.learner.last_zxid n 0 ≡ Some frame → serve true 1 w get_frame ≡ record { outputs = ToClient 1 frame ∷ []; after = w }
+answered_by w session n frame joined no_ids there shows childless is =
+    ap (serve_by true 1 w get_frame) joined
+    ∙ ap (serve_as 1 w) call_read
+    ∙ ap (λ (ids : List Id). shown_by w (look w.tree ids wanted)) no_ids
+    ∙ ap (λ (o : Option Node). shown_by w (look_at_node [] wanted o)) there
+    ∙ ap (shown_by w) shows
     ∙ ap (λ (c : set.FinSet (slice_cmp nat_cmp)). send 1 w (reply_by w.learner.last_zxid n (set.len c))) childless
     ∙ ap (λ (k : ℕ). send 1 w (reply_by w.learner.last_zxid n k)) no_children
     ∙ ap (send 1 w) is
+
+-- ---- watches
+
+-- where nobody watches, nobody is told
+abbrev pub NobodyTold : Type 0
+NobodyTold = (triggers : List Trigger) → fire no_watch triggers ≡ (record { events = []; left = no_watch })
+
+no_event : (events : List (ℕ × NodeEvent)) → AllByRecursion (λ (e : ℕ × NodeEvent). false ≡ true) events → events ≡ []
+no_event [] h = refl
+no_event (e ∷ events) h = absurd (true≢false (sym h.0))
+
+pub unwatched : OnlyWatchersAreTold → SilenceKeepsWatches → NobodyTold
+unwatched only silent triggers =
+    let nobody : AllPass (λ (n : ℕ). false) set.empty = λ path n there. sym (set.contains-empty watch_cmp (path, n)) ∙ there in
+    let none = no_event (fire no_watch triggers).events (only (λ (n : ℕ). false) no_watch triggers (nobody, nobody)).0 in
+    λ i. record { events = none i; left = sym (silent no_watch triggers none) i }
 
 -- ---- events
 
@@ -241,13 +281,26 @@ ReadAgain = (t : Txn) → txn.Fits t → whole txn (txn.written t) ≡ Ok t
 abbrev at_first : List ℕ → Connections
 at_first rest = finmap.insert finmap.empty 1 (record { rest = rest })
 
+-- the first connection is open and has the first session, and nobody watches
+abbrev clients_at : Config → List ℕ → Clients
+clients_at config rest = record { connections = at_first rest; sessions = (first_client config).sessions; watches = no_watch }
+
+abbrev first_session : Config → ℤ
+first_session config = session_id_of config.server_id 1
+
+joined_first : (config : Config) → session_of (first_client config).sessions 1 ≡ Some (first_session config)
+joined_first config = ap session_in (get-inserted {X = SessionConnection} finmap.empty 1 (new_connection (first_session config)))
+
+no_ids_first : (config : Config) → ids_of (first_client config).sessions 1 ≡ []
+no_ids_first config = ap ids_in (get-inserted {X = SessionConnection} finmap.empty 1 (new_connection (first_session config)))
+
 -- a world in epoch 1, with the first connection open
 abbrev world_at : Config → ℤ → List Txn → State → List ℕ → World
 world_at config zxid log s rest = record {
   config = config;
   learner = record { accepted_epoch = pos 1; current_epoch = pos 1; last_zxid = zxid; base = record { zxid = pos 0; tree = fresh }; log = log };
   tree = s;
-  connections = at_first rest;
+  clients = clients_at config rest;
 }
 
 -- a machine that follows a leader there
@@ -278,18 +331,27 @@ after_create config rest = following config (pos 4294967297) (create_txn ∷ [])
 abbrev after_set : Config → Machine
 after_set config = following config (pos 4294967298) (create_txn ∷ set_txn ∷ []) written []
 
-create_comes : (again : ReadAgain) (config : Config) (rest : List ℕ) → happen (following config (pos 0) [] fresh rest) created ≡ quiet (after_create config rest)
-create_comes again config rest =
-    inform_comes again (world_at config (pos 0) [] fresh rest) inform_of_create (pos 4294967297) create_txn create_fits create_found
+-- what a transaction triggered is told
+abbrev told_by : World → Fired → Result (Happened World) Fault
+told_by w fired = Ok (record { outputs = notices fired.events; after = with_watches w fired.left })
+
+create_comes : (again : ReadAgain) (nobody : NobodyTold) (config : Config) (rest : List ℕ) → happen (following config (pos 0) [] fresh rest) created ≡ quiet (after_create config rest)
+create_comes again nobody config rest =
+    let w = world_at config (pos 0) [] fresh rest in
+    inform_comes again w inform_of_create (pos 4294967297) create_txn create_fits create_found
+    ∙ ap (λ (f : Fired). one_delivered w (told_by (with_meant w create_txn (mean fresh create_txn)) f)) (nobody (mean fresh create_txn).triggers)
     ∙ ap (λ (s : State). quiet (following config (pos 4294967297) (create_txn ∷ []) s rest)) made-is
 
-set_comes : (again : ReadAgain) (config : Config) → happen (after_create config []) overwritten ≡ quiet (after_set config)
-set_comes again config =
-    inform_comes again (after_create config []).world inform_of_set_data (pos 4294967298) set_txn set_fits set_found
+set_comes : (again : ReadAgain) (nobody : NobodyTold) (config : Config) → happen (after_create config []) overwritten ≡ quiet (after_set config)
+set_comes again nobody config =
+    let w = (after_create config []).world in
+    inform_comes again w inform_of_set_data (pos 4294967298) set_txn set_fits set_found
+    ∙ ap (λ (f : Fired). one_delivered w (told_by (with_meant w set_txn (mean made set_txn)) f)) (nobody (mean made set_txn).triggers)
     ∙ ap (λ (s : State). quiet (following config (pos 4294967298) (create_txn ∷ set_txn ∷ []) s [])) written-is
 
 abbrev closed : Config → Machine
-closed config = record { leader = None; world = record (after_create config []).world { connections = finmap.empty } }
+closed config =
+    record { leader = None; world = record (after_create config []).world { clients = without 1 (clients_at config []) } }
 
 abbrev refusing : Config → Happened Machine
 refusing config = record { outputs = CloseLeader OutOfOrder ∷ CloseClient 1 ∷ []; after = closed config }
@@ -302,22 +364,28 @@ keys-first = ap (λ (es : List (ℕ × Connection)). map (λ (e : ℕ × Connect
 create_comes_again : (again : ReadAgain) (config : Config) → happen (after_create config []) created ≡ refusing config
 create_comes_again again config =
     inform_comes again (after_create config []).world inform_of_create (pos 4294967297) create_txn create_fits create_found
-    ∙ ap (λ (ks : List ℕ). record { outputs = CloseLeader OutOfOrder ∷ map (λ n. CloseClient n) ks; after = closed config }) keys-first
+    ∙ ap (λ (ks : List ℕ). lost (closing ks (clients_at config []))) keys-first
+  where
+    w : World
+    w = (after_create config []).world
+
+    lost : Happened Clients → Happened Machine
+    lost h = behind (CloseLeader OutOfOrder ∷ []) (beside None (record { outputs = h.outputs; after = record w { clients = h.after } }))
 
 abbrev replying : List ℕ → Machine → Happened Machine
 replying frame m = record { outputs = ToClient 1 frame ∷ []; after = m }
 
 -- what the first connection's bytes do, by the frames that they make
 abbrev at_frames : World → Items (Unit {0}) (List ℕ) → Happened Machine
-at_frames w i = at_client (Some (place_at Packets [])) (serve_all 1 w i)
+at_frames w i = beside (Some (place_at Packets [])) (serve_all true 1 w i)
 
 -- the bytes of the first connection are taken to hand
 in_hand : (config : Config) (zxid : ℤ) (log : List Txn) (s : State) (rest bytes : List ℕ)
     → happen (following config zxid log s rest) (ClientBytes 1 bytes) ≡ at_frames (world_at config zxid log s []) (items frames (place_at tt (rest ++ bytes)))
 in_hand config zxid log s rest bytes =
     let w = world_at config zxid log s rest in
-    ap (λ (o : Option Connection). at_client (Some (place_at Packets [])) (take_client_bytes 1 w o bytes)) (get-inserted finmap.empty 1 (record { rest = rest }))
-    ∙ ap (λ (c : Connections). at_frames (record w { connections = c }) (items frames (place_at tt (rest ++ bytes)))) (insert-insert finmap.empty 1 (record { rest = [] }) (record { rest = rest }))
+    ap (λ (o : Option Connection). beside (Some (place_at Packets [])) (take_client_bytes true 1 w o bytes)) (get-inserted finmap.empty 1 (record { rest = rest }))
+    ∙ ap (λ (c : Connections). at_frames (record w { clients = record w.clients { connections = c } }) (items frames (place_at tt (rest ++ bytes)))) (insert-insert finmap.empty 1 (record { rest = [] }) (record { rest = rest }))
 
 -- the bytes that are left wait
 left_waiting : (config : Config) (zxid : ℤ) (log : List Txn) (s : State) (rest : List ℕ)
@@ -325,83 +393,83 @@ left_waiting : (config : Config) (zxid : ℤ) (log : List Txn) (s : State) (rest
 left_waiting config zxid log s rest =
     let w = world_at config zxid log s [] in
     ap (λ (o : Option Connection). wait_if_open 1 w o (Ok rest)) (get-inserted finmap.empty 1 (record { rest = [] }))
-    ∙ ap (λ (c : Connections). quiet (record w { connections = c })) (insert-insert finmap.empty 1 (record { rest = rest }) (record { rest = [] }))
+    ∙ ap (λ (c : Connections). quiet (record w { clients = record w.clients { connections = c } })) (insert-insert finmap.empty 1 (record { rest = rest }) (record { rest = [] }))
 
 -- the last byte of a request comes
 get_comes : (config : Config) (zxid : ℤ) (log : List Txn) (s : State) (rest bytes frame : List ℕ)
     → items frames (place_at tt (rest ++ bytes)) ≡ one_frame get_frame
-    → serve 1 (world_at config zxid log s []) get_frame ≡ record { outputs = ToClient 1 frame ∷ []; after = world_at config zxid log s [] }
+    → serve true 1 (world_at config zxid log s []) get_frame ≡ record { outputs = ToClient 1 frame ∷ []; after = world_at config zxid log s [] }
     → happen (following config zxid log s rest) (ClientBytes 1 bytes) ≡ replying frame (following config zxid log s [])
 get_comes config zxid log s rest bytes frame found replies =
     let w = world_at config zxid log s [] in
     in_hand config zxid log s rest bytes
     ∙ ap (at_frames w) found
-    ∙ ap (λ (h : Happened World). at_client (Some (place_at Packets [])) (behind h.outputs (wait_if_open 1 h.after (finmap.get h.after.connections 1) (Ok []))))
-    (goes_on (is_closed 1) (serve 1) w get_frame [] (ap (λ (o : Option Connection). not (is_some o)) (get-inserted finmap.empty 1 (record { rest = [] }))))
-    ∙ ap (λ (h : Happened World). at_client (Some (place_at Packets [])) (behind (h.outputs ++ []) (wait_if_open 1 h.after (finmap.get h.after.connections 1) (Ok [])))) replies
-    ∙ ap (λ (h : Happened World). at_client (Some (place_at Packets [])) (behind (ToClient 1 frame ∷ []) h)) (left_waiting config zxid log s [])
+    ∙ ap (λ (h : Happened World). beside (Some (place_at Packets [])) (behind h.outputs (wait_if_open 1 h.after (finmap.get h.after.clients.connections 1) (Ok []))))
+    (goes_on (is_closed 1) (serve true 1) w get_frame [] (ap (λ (o : Option Connection). not (is_some o)) (get-inserted finmap.empty 1 (record { rest = [] }))))
+    ∙ ap (λ (h : Happened World). beside (Some (place_at Packets [])) (behind (h.outputs ++ []) (wait_if_open 1 h.after (finmap.get h.after.clients.connections 1) (Ok [])))) replies
+    ∙ ap (λ (h : Happened World). beside (Some (place_at Packets [])) (behind (ToClient 1 frame ∷ []) h)) (left_waiting config zxid log s [])
 
 -- a part of a request comes
 front_comes : (config : Config) → happen (following config (pos 0) [] fresh []) (ClientBytes 1 get_front) ≡ quiet (following config (pos 0) [] fresh get_front)
 front_comes config =
     in_hand config (pos 0) [] fresh [] get_front
     ∙ ap (at_frames (world_at config (pos 0) [] fresh [])) get_waits
-    ∙ ap (λ (h : Happened World). at_client (Some (place_at Packets [])) h) (left_waiting config (pos 0) [] fresh get_front)
+    ∙ ap (λ (h : Happened World). beside (Some (place_at Packets [])) h) (left_waiting config (pos 0) [] fresh get_front)
 
 get_after_create : (config : Config) (rest bytes : List ℕ) → items frames (place_at tt (rest ++ bytes)) ≡ one_frame get_frame
     → happen (after_create config rest) (ClientBytes 1 bytes) ≡ replying reply_of_create (after_create config [])
 get_after_create config rest bytes found =
     get_comes config (pos 4294967297) (create_txn ∷ []) made rest bytes reply_of_create found
-    (answered_by (after_create config []).world node reply_of_create node_there refl refl create_replied)
+    (answered_by (after_create config []).world (first_session config) node reply_of_create (joined_first config) (no_ids_first config) node_there refl refl create_replied)
 
 get_after_set : (config : Config) → happen (after_set config) asked ≡ replying reply_of_set_data (after_set config)
 get_after_set config =
     get_comes config (pos 4294967298) (create_txn ∷ set_txn ∷ []) written [] (get_front ++ get_back) reply_of_set_data get_found
-    (answered_by (after_set config).world written_node reply_of_set_data written_there refl refl set_replied)
+    (answered_by (after_set config).world (first_session config) written_node reply_of_set_data (joined_first config) (no_ids_first config) written_there refl refl set_replied)
 
 -- ---- the rows
 
 step : (m : Machine) (e : Event) (events : List Event) (h : Happened Machine) → happen m e ≡ h → play m (e ∷ events) ≡ behind h.outputs (play h.after events)
 step m e events h is = ap (λ (g : Happened Machine). behind g.outputs (play g.after events)) is
 
-create_get : (again : ReadAgain) (config : Config) (events : List Event)
+create_get : (again : ReadAgain) (nobody : NobodyTold) (config : Config) (events : List Event)
     → play (primed_machine config) (created ∷ asked ∷ events) ≡ behind (ToClient 1 reply_of_create ∷ []) (play (after_create config []) events)
-create_get again config events =
-    step (primed_machine config) created (asked ∷ events) (quiet (after_create config [])) (create_comes again config [])
+create_get again nobody config events =
+    step (primed_machine config) created (asked ∷ events) (quiet (after_create config [])) (create_comes again nobody config [])
     ∙ step (after_create config []) asked events (replying reply_of_create (after_create config [])) (get_after_create config [] (get_front ++ get_back) get_found)
 
-set_get : (again : ReadAgain) (config : Config) → play (after_create config []) (overwritten ∷ asked ∷ []) ≡ replying reply_of_set_data (after_set config)
-set_get again config =
-    step (after_create config []) overwritten (asked ∷ []) (quiet (after_set config)) (set_comes again config)
+set_get : (again : ReadAgain) (nobody : NobodyTold) (config : Config) → play (after_create config []) (overwritten ∷ asked ∷ []) ≡ replying reply_of_set_data (after_set config)
+set_get again nobody config =
+    step (after_create config []) overwritten (asked ∷ []) (quiet (after_set config)) (set_comes again nobody config)
     ∙ step (after_set config) asked [] (replying reply_of_set_data (after_set config)) (get_after_set config)
 
-cut_get : (again : ReadAgain) (config : Config)
+cut_get : (again : ReadAgain) (nobody : NobodyTold) (config : Config)
     → play (primed_machine config) (ClientBytes 1 get_front ∷ created ∷ ClientBytes 1 get_back ∷ []) ≡ replying reply_of_create (after_create config [])
-cut_get again config =
+cut_get again nobody config =
     step (primed_machine config) (ClientBytes 1 get_front) (created ∷ ClientBytes 1 get_back ∷ []) (quiet (following config (pos 0) [] fresh get_front)) (front_comes config)
-    ∙ step (following config (pos 0) [] fresh get_front) created (ClientBytes 1 get_back ∷ []) (quiet (after_create config get_front)) (create_comes again config get_front)
+    ∙ step (following config (pos 0) [] fresh get_front) created (ClientBytes 1 get_back ∷ []) (quiet (after_create config get_front)) (create_comes again nobody config get_front)
     ∙ step (after_create config get_front) (ClientBytes 1 get_back) [] (replying reply_of_create (after_create config [])) (get_after_create config get_front get_back get_found)
 
-create_twice : (again : ReadAgain) (config : Config)
+create_twice : (again : ReadAgain) (nobody : NobodyTold) (config : Config)
     → play (primed_machine config) (created ∷ created ∷ overwritten ∷ asked ∷ []) ≡ behind (CloseLeader OutOfOrder ∷ CloseClient 1 ∷ []) (play (closed config) (overwritten ∷ asked ∷ []))
-create_twice again config =
-    step (primed_machine config) created (created ∷ overwritten ∷ asked ∷ []) (quiet (after_create config [])) (create_comes again config [])
+create_twice again nobody config =
+    step (primed_machine config) created (created ∷ overwritten ∷ asked ∷ []) (quiet (after_create config [])) (create_comes again nobody config [])
     ∙ step (after_create config []) created (overwritten ∷ asked ∷ []) (refusing config) (create_comes_again again config)
 
 idle_is : (config : Config) → (play (new_machine config) (created ∷ asked ∷ [])).outputs ≡ []
-idle_is config = ap (λ (o : Option Connection). (at_client None (take_client_bytes 1 (new_machine config).world o (get_front ++ get_back))).outputs ++ []) (finmap.get-empty nat_cmp 1)
+idle_is config = ap (λ (o : Option Connection). (beside None (take_client_bytes false 1 (new_machine config).world o (get_front ++ get_back))).outputs ++ []) (finmap.get-empty nat_cmp 1)
 
 closed_passes : (config : Config) → (behind (CloseLeader OutOfOrder ∷ CloseClient 1 ∷ []) (play (closed config) (overwritten ∷ asked ∷ []))).outputs ≡ CloseLeader OutOfOrder ∷ CloseClient 1 ∷ []
 closed_passes config =
-    ap (λ (o : Option Connection). (CloseLeader OutOfOrder ∷ CloseClient 1 ∷ []) ++ ((at_client None (take_client_bytes 1 (closed config).world o (get_front ++ get_back))).outputs ++ []))
-    (finmap.get-empty nat_cmp 1)
+    ap (λ (o : Option Connection). (CloseLeader OutOfOrder ∷ CloseClient 1 ∷ []) ++ ((beside None (take_client_bytes false 1 (closed config).world o (get_front ++ get_back))).outputs ++ []))
+    (get-removed (at_first []) 1)
 
-pub rows_hold : ReadAgain → WorkedRows
-rows_hold again = record {
-  create_then_get = λ config. ap (λ (h : Happened Machine). h.outputs) (create_get again config []);
-  set_then_get = λ config. ap (λ (h : Happened Machine). h.outputs) (create_get again config (overwritten ∷ asked ∷ []) ∙ ap (behind (ToClient 1 reply_of_create ∷ [])) (set_get again config));
-  cut_request = λ config. ap (λ (h : Happened Machine). h.outputs) (cut_get again config);
-  same_zxid_twice = λ config. ap (λ (h : Happened Machine). h.outputs) (create_twice again config) ∙ closed_passes config;
+pub rows_hold : ReadAgain → NobodyTold → WorkedRows
+rows_hold again nobody = record {
+  create_then_get = λ config. ap (λ (h : Happened Machine). h.outputs) (create_get again nobody config []);
+  set_then_get = λ config. ap (λ (h : Happened Machine). h.outputs) (create_get again nobody config (overwritten ∷ asked ∷ []) ∙ ap (behind (ToClient 1 reply_of_create ∷ [])) (set_get again nobody config));
+  cut_request = λ config. ap (λ (h : Happened Machine). h.outputs) (cut_get again nobody config);
+  same_zxid_twice = λ config. ap (λ (h : Happened Machine). h.outputs) (create_twice again nobody config) ∙ closed_passes config;
   nothing = λ config. refl;
   idle = λ config. idle_is config;
 }

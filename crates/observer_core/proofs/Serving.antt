@@ -1,5 +1,5 @@
 -- What the loop over a client's frames does at each turn.
-use Rattle.std.proofs.Common.{◌≡◌, ℕ, ◌-◌, ◌<◌, ◌≤◌, true, false, not, List, [], ◌++◌, length, drop, Option, Some, None, Ok, Err, refl, sym, ap, ◌∙◌, arith}
+use Rattle.std.proofs.Common.{◌≡◌, ℕ, ◌-◌, ◌<◌, ◌≤◌, Bool, true, false, not, List, [], ◌++◌, length, drop, Option, Some, None, Ok, Err, refl, sym, ap, ◌∙◌, arith}
 use Rattle.std.specs.Prelude.{is_some}
 use Rattle.std.specs.Option.{unwrap_or}
 use Rattle.std.specs.FinMap as finmap
@@ -12,7 +12,8 @@ use Rattle.jute.specs.Laws.{IsBytes}
 use Rattle.jute.specs.Stream.{items, place_at, before, nothing, Items, Unread}
 use Rattle.jute.proofs.Public.{items_whole, items_short, items_refused, shorter_rest, refused_other}
 use Rattle.observer_core.specs.Machine.{Connection, World}
-use Rattle.observer_core.specs.Play.{Happened, behind, quiet, happening, close_client, serve, serve_all, is_closed, wait_if_open, take_client_bytes, frames, client_frame_limit}
+use Rattle.observer_core.specs.Steps.{Happened, behind, quiet, and_then, happening}
+use Rattle.observer_core.specs.Serve.{close_client, serve, serve_all, is_closed, wait_if_open, wait_at, take_client_bytes, frames, client_frame_limit}
 use Rattle.observer_core.specs.Inner.{rest_at, with_rest}
 use Rattle.observer_core.proofs.Steps.{behind_behind, passed_over, goes_on}
 use Rattle.observer_core.proofs.Streams.{client_frame_sound, frames_streamed}
@@ -44,10 +45,10 @@ frame_refused bytes e other h = items_refused frames frames_streamed tt bytes e 
 
 -- ---- turns
 
-pub closed_is : (n : ℕ) (w : World) → finmap.contains_key w.connections n ≡ false → is_closed n w ≡ true
+pub closed_is : (n : ℕ) (w : World) → finmap.contains_key w.clients.connections n ≡ false → is_closed n w ≡ true
 closed_is n w e = ap not e
 
-pub open_is : (n : ℕ) (w : World) → finmap.contains_key w.connections n ≡ true → is_closed n w ≡ false
+pub open_is : (n : ℕ) (w : World) → finmap.contains_key w.clients.connections n ≡ true → is_closed n w ≡ false
 open_is n w e = ap not e
 
 none_of : {A : Type 0} (o : Option A) → is_some o ≡ false → o ≡ None
@@ -56,32 +57,32 @@ none_of (Some x) e = absurd (true≢false e)
 
 -- the end of an event whose frames were served
 abbrev left_at : ℕ → Unread → Happened World → Happened World
-left_at n left h = behind h.outputs (wait_if_open n h.after (finmap.get h.after.connections n) left)
+left_at n left h = and_then h (wait_at n left)
 
-module _ (n : ℕ) (w : World) (found : Items (Unit {0}) (List ℕ)) where
-  pub served_first : (f : List ℕ) (others : Items (Unit {0}) (List ℕ)) → found ≡ before f others → finmap.contains_key w.connections n ≡ true
-      → serve_all n w found ≡ behind (serve n w f).outputs (serve_all n (serve n w f).after others)
+module _ (serving : Bool) (n : ℕ) (w : World) (found : Items (Unit {0}) (List ℕ)) where
+  pub served_first : (f : List ℕ) (others : Items (Unit {0}) (List ℕ)) → found ≡ before f others → finmap.contains_key w.clients.connections n ≡ true
+      → serve_all serving n w found ≡ behind (serve serving n w f).outputs (serve_all serving n (serve serving n w f).after others)
   served_first f others is open_ =
-      ap (serve_all n w) is
-      ∙ ap (left_at n others.left.unread) (goes_on (is_closed n) (serve n) w f others.found (open_is n w open_))
-      ∙ sym (behind_behind (serve n w f).outputs (happening (is_closed n) (serve n) (serve n w f).after others.found).outputs
-      (wait_if_open n (happening (is_closed n) (serve n) (serve n w f).after others.found).after (finmap.get (happening (is_closed n) (serve n) (serve n w f).after others.found).after.connections n) others.left.unread))
+      ap (serve_all serving n w) is
+      ∙ ap (left_at n others.left.unread) (goes_on (is_closed n) (serve serving n) w f others.found (open_is n w open_))
+      ∙ sym (behind_behind (serve serving n w f).outputs (happening (is_closed n) (serve serving n) (serve serving n w f).after others.found).outputs
+      (wait_at n others.left.unread (happening (is_closed n) (serve serving n) (serve serving n w f).after others.found).after))
 
-  pub all_passed_over : finmap.contains_key w.connections n ≡ false → serve_all n w found ≡ quiet w
+  pub all_passed_over : finmap.contains_key w.clients.connections n ≡ false → serve_all serving n w found ≡ quiet w
   all_passed_over closed =
-      ap (left_at n found.left.unread) (passed_over (is_closed n) (serve n) w found.found (closed_is n w closed))
-      ∙ ap (λ (o : Option Connection). wait_if_open n w o found.left.unread) (none_of (finmap.get w.connections n) closed)
+      ap (left_at n found.left.unread) (passed_over (is_closed n) (serve serving n) w found.found (closed_is n w closed))
+      ∙ ap (λ (o : Option Connection). wait_if_open n w o found.left.unread) (none_of (finmap.get w.clients.connections n) closed)
 
   pub none_whole : (bytes : List ℕ) → found ≡ nothing (place_at tt bytes)
-      → serve_all n w found ≡ quiet (record w { connections = with_rest w.connections n (finmap.get w.connections n) bytes })
-  none_whole bytes is = ap (serve_all n w) is ∙ by (finmap.get w.connections n)
+      → serve_all serving n w found ≡ quiet (record w { clients = record w.clients { connections = with_rest w.clients.connections n (finmap.get w.clients.connections n) bytes } })
+  none_whole bytes is = ap (serve_all serving n w) is ∙ by (finmap.get w.clients.connections n)
     where
-      by : (o : Option Connection) → wait_if_open n w o (Ok bytes) ≡ quiet (record w { connections = with_rest w.connections n o bytes })
+      by : (o : Option Connection) → wait_if_open n w o (Ok bytes) ≡ quiet (record w { clients = record w.clients { connections = with_rest w.clients.connections n o bytes } })
       by None = refl
       by (Some k) = refl
 
-  pub bad_length : (e : Fault) → found ≡ nothing (record { phase = tt; unread = Err e }) → finmap.contains_key w.connections n ≡ true → serve_all n w found ≡ close_client n w
-  bad_length e is open_ = ap (serve_all n w) is ∙ by (finmap.get w.connections n) open_
+  pub bad_length : (e : Fault) → found ≡ nothing (record { phase = tt; unread = Err e }) → finmap.contains_key w.clients.connections n ≡ true → serve_all serving n w found ≡ close_client n w
+  bad_length e is open_ = ap (serve_all serving n w) is ∙ by (finmap.get w.clients.connections n) open_
     where
       by : (o : Option Connection) → is_some o ≡ true → wait_if_open n w o (Err e) ≡ close_client n w
       by None h = absurd (true≢false (sym h))
@@ -89,19 +90,19 @@ module _ (n : ℕ) (w : World) (found : Items (Unit {0}) (List ℕ)) where
 
 -- ---- bytes
 
-module _ (n : ℕ) (w : World) (o : Option Connection) (bytes : List ℕ) where
-  pub not_open : rest_at o ≡ None → take_client_bytes n w o bytes ≡ quiet (record w { connections = with_rest w.connections n o [] })
+module _ (serving : Bool) (n : ℕ) (w : World) (o : Option Connection) (bytes : List ℕ) where
+  pub not_open : rest_at o ≡ None → take_client_bytes serving n w o bytes ≡ quiet (record w { clients = record w.clients { connections = with_rest w.clients.connections n o [] } })
   not_open e = by o e
     where
-      by : (o : Option Connection) → rest_at o ≡ None → take_client_bytes n w o bytes ≡ quiet (record w { connections = with_rest w.connections n o [] })
+      by : (o : Option Connection) → rest_at o ≡ None → take_client_bytes serving n w o bytes ≡ quiet (record w { clients = record w.clients { connections = with_rest w.clients.connections n o [] } })
       by None e = refl
       by (Some k) e = absurd (true≢false (ap is_some e))
 
   pub at_open : (rest : List ℕ) → rest_at o ≡ Some rest
-      → take_client_bytes n w o bytes ≡ serve_all n (record w { connections = with_rest w.connections n o [] }) (items frames (place_at tt (rest ++ bytes)))
+      → take_client_bytes serving n w o bytes ≡ serve_all serving n (record w { clients = record w.clients { connections = with_rest w.clients.connections n o [] } }) (items frames (place_at tt (rest ++ bytes)))
   at_open rest e = by o e
     where
       by : (o : Option Connection) → rest_at o ≡ Some rest
-          → take_client_bytes n w o bytes ≡ serve_all n (record w { connections = with_rest w.connections n o [] }) (items frames (place_at tt (rest ++ bytes)))
+          → take_client_bytes serving n w o bytes ≡ serve_all serving n (record w { clients = record w.clients { connections = with_rest w.clients.connections n o [] } }) (items frames (place_at tt (rest ++ bytes)))
       by None e = absurd (true≢false (sym (ap is_some e)))
-      by (Some k) e = ap (λ (x : Option (List ℕ)). serve_all n (record w { connections = with_rest w.connections n (Some k) [] }) (items frames (place_at tt (unwrap_or x [] ++ bytes)))) e
+      by (Some k) e = ap (λ (x : Option (List ℕ)). serve_all serving n (record w { clients = record w.clients { connections = with_rest w.clients.connections n (Some k) [] } }) (items frames (place_at tt (unwrap_or x [] ++ bytes)))) e

@@ -1,12 +1,12 @@
 -- Steps one behind another.
-use Rattle.std.proofs.Common.{◌≡◌, Bool, true, false, cond, List, [], ◌∷◌, ◌++◌, Result, Ok, Err, refl, sym, ap, ◌∙◌, append_assoc}
+use Rattle.std.proofs.Common.{◌≡◌, Bool, true, false, cond, List, [], ◌∷◌, ◌++◌, Result, Ok, Err, refl, sym, ap, subst, ◌∙◌, append_assoc}
 use Rattle.std.proofs.lemmas.List.{append-nil}
 use Rattle.values.specs.Gains.{Gains}
 use Rattle.values.proofs.Gaining.{gains_first, gains_behind}
 use Rattle.observer_core.specs.declared.event.Output.{Output}
 use Rattle.values.specs.declared.fault.NoMemory.{NoMemory}
 use Rattle.observer_core.specs.Inner.{Meets}
-use Rattle.observer_core.specs.Play.{Happened, behind, quiet, happening}
+use Rattle.observer_core.specs.Steps.{Happened, behind, quiet, and_then, happening}
 
 pub behind_behind : {S : Type 0} (x y : List Output) (h : Happened S) → behind x (behind y h) ≡ behind (x ++ y) h
 behind_behind x y h = ap (λ (o : List Output). record { outputs = o; after = h.after }) (sym (append_assoc x y h.outputs))
@@ -93,3 +93,29 @@ module _ {S : Type 0} where
       → left ≡ last → Meets r now last new after → SoFar old whole now left → Meets r old whole new after
   ends_with (Ok u) old whole now new left last after is m s = last_step old whole now new last after m (same_left old whole now left last is s)
   ends_with (Err e) old whole now new left last after is m s = stops old whole now new last m (same_left old whole now left last is s)
+
+-- outputs alone
+abbrev pub putting : List Output → Happened (Unit {0})
+putting outputs = record { outputs = outputs; after = tt }
+
+-- ---- two steps
+
+-- one was made, and then the other was tried
+pub then_meets : {S T : Type 0} (r : Result (Unit {0}) NoMemory) (old mid new : List Output) (h : Happened S) (next : S → Happened T) (left : S) (after : T)
+    → behind old h ≡ record { outputs = mid; after = left } → Meets r mid (next left) new after → Meets r old (and_then h next) new after
+then_meets {S} (Ok u) old mid new h next left after made m =
+    behind_behind old h.outputs (next h.after) ∙ ap (λ (g : Happened S). behind g.outputs (next g.after)) made ∙ m
+then_meets {S} (Err e) old mid new h next left after made m =
+    let there = ap (λ (g : Happened S). g.after) made in
+    subst (λ (s : S). Gains old (h.outputs ++ (next s).outputs) new) (sym there)
+    (gains_behind old h.outputs (sym (ap (λ (g : Happened S). g.outputs) made)) m)
+
+-- the first one wanted memory
+pub first_stops : {S T : Type 0} (old new : List Output) (h : Happened S) (next : S → Happened T) → Gains old h.outputs new → Gains old (and_then h next).outputs new
+first_stops old new h next g = gains_first (next h.after).outputs g
+
+-- outputs were put, and then a step was tried
+pub behind_meets : {S : Type 0} (r : Result (Unit {0}) NoMemory) (old put mid new : List Output) (h : Happened S) (after : S)
+    → mid ≡ old ++ put → Meets r mid h new after → Meets r old (behind put h) new after
+behind_meets (Ok u) old put mid new h after is m = behind_behind old put h ∙ ap (λ (o : List Output). behind o h) (sym is) ∙ m
+behind_meets (Err e) old put mid new h after is m = gains_behind old put is m

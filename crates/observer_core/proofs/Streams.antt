@@ -4,7 +4,7 @@ use Rattle.jute.specs.Laws.{Sound}
 use Rattle.jute.specs.Frame.{frame}
 use Rattle.jute.specs.Stream.{IsStream}
 use Rattle.jute.proofs.Public.{frame_sound, only_streamed}
-use Rattle.observer_core.specs.Play.{frames, client_frame_limit}
+use Rattle.observer_core.specs.Serve.{frames, client_frame_limit}
 
 pub client_frame_sound : Sound (frame client_frame_limit)
 client_frame_sound = frame_sound client_frame_limit (omega arith)

@@ -1,5 +1,5 @@
 -- What the private functions answer and leave. No public contract cites this.
-use Rattle.std.specs.Prelude.{◌≡◌, ℕ, List, [], Result, Ok, Err, Option, Some, None, length, drop, ◌<◌, ◌≤◌}
+use Rattle.std.specs.Prelude.{◌≡◌, ℕ, List, Result, Ok, Err, Option, Some, None, length, drop, ◌<◌, ◌≤◌}
 use Rattle.std.specs.FinMap as finmap
 use Rattle.std.specs.Borrow.{Bor}
 use Rattle.values.specs.Gains.{Gains}
@@ -12,35 +12,38 @@ use Rattle.quorum_packet.specs.declared.phase.Phase.{Phase}
 use Rattle.quorum_packet.specs.declared.packet.QuorumPacket.{QuorumPacket}
 use Rattle.observer_core.specs.declared.event.Output.{Output}
 use Rattle.observer_core.specs.Machine.{Connection, Connections, World}
-use Rattle.observer_core.specs.Play.{Happened, behind, quiet, deliver_all, end_at, closings, frames}
+use Rattle.observer_core.specs.Steps.{Happened, behind}
+use Rattle.observer_core.specs.Leader.{deliver_all, end_at}
+use Rattle.observer_core.specs.Serve.{frames}
 
 -- All of it happened; or memory was refused, and a front of the outputs was put out.
 abbrev pub Meets : {S : Type 0} → Result (Unit {0}) NoMemory → List Output → Happened S → List Output → S → Type 0
 Meets (Ok u) old whole new after = behind old whole ≡ record { outputs = new; after = after }
 Meets (Err e) old whole new after = Gains old whole.outputs new
 
--- A packet was taken, which puts nothing out; or it was refused, and nothing was changed.
-abbrev pub Receives : Result (Unit {0}) ReadError → Result (Happened World) Fault → World → World → Type 0
-Receives (Ok u) meant old new = meant ≡ Ok (quiet new)
-Receives (Err errors.NoMemory) meant old new = Unit {0}
-Receives (Err (errors.Fault e)) meant old new = (meant ≡ Err e) × (new ≡ old)
+-- A packet was taken; or it was refused, and nothing was changed; or memory was.
+abbrev pub Receives : Result (Unit {0}) ReadError → List Output → Result (Happened World) Fault → World → List Output → World → Type 0
+Receives (Ok u) old (Ok h) before new after = Meets (Ok u) old h new after
+Receives (Ok u) old (Err e) before new after = ⊥
+Receives (Err errors.NoMemory) old (Ok h) before new after = Gains old h.outputs new
+Receives (Err errors.NoMemory) old (Err e) before new after = new ≡ old
+Receives (Err (errors.Fault e)) old meant before new after = (meant ≡ Err e) × ((new ≡ old) × (after ≡ before))
 
 -- what the packets that were found put out, the world behind them, and where the stream stands then
 pub record Arrival : Type 0 where
-  pub outputs : List Output
   pub world : World
   pub leader : Result (Place Phase) Fault
 
-abbrev pub arrive : World → Items Phase QuorumPacket → Arrival
+abbrev pub arrive : World → Items Phase QuorumPacket → Happened Arrival
 arrive w found =
     let h = deliver_all w found.found in
-    record { outputs = h.outputs; world = h.after.world; leader = end_at found.left h.after.fault }
+    record { outputs = h.outputs; after = record { world = h.after.world; leader = end_at found.left h.after.fault } }
 
--- The packets were delivered, which puts nothing out, and the stream goes on, or ended with a fault.
-abbrev pub Delivers : Result (Option Fault) NoMemory → Arrival → Place Phase → World → Type 0
-Delivers (Ok None) whole leader world = whole ≡ record { outputs = []; world = world; leader = Ok leader }
-Delivers (Ok (Some e)) whole leader world = whole ≡ record { outputs = []; world = world; leader = Err e }
-Delivers (Err e) whole leader world = Unit {0}
+-- The packets were delivered, and the stream goes on, or ended with a fault.
+abbrev pub Delivers : Result (Option Fault) NoMemory → List Output → Happened Arrival → List Output → Place Phase → World → Type 0
+Delivers (Ok None) old whole new leader world = Meets (Ok tt) old whole new (record { world = world; leader = Ok leader })
+Delivers (Ok (Some e)) old whole new leader world = Meets (Ok tt) old whole new (record { world = world; leader = Err e })
+Delivers (Err e) old whole new leader world = Gains old whole.outputs new
 
 -- The first frame, with how many bytes it takes; or that none is whole; or that its length is out of its bounds.
 abbrev pub FirstFrame : Result (Option (Bor (List ℕ) × ℕ)) Fault → List ℕ → Type 0
@@ -48,13 +51,6 @@ FirstFrame (Ok (Some f)) bytes =
     (items frames (place_at tt bytes) ≡ before f.0.now (items frames (place_at tt (drop f.1 bytes)))) × (0 < f.1) × (f.1 ≤ length bytes)
 FirstFrame (Ok None) bytes = items frames (place_at tt bytes) ≡ nothing (place_at tt bytes)
 FirstFrame (Err e) bytes = items frames (place_at tt bytes) ≡ nothing (record { phase = tt; unread = Err e })
-
--- all connections are closed
-abbrev pub cleared : Connections → Happened Connections
-cleared connections = record { outputs = closings connections; after = finmap.empty }
-
-abbrev pub disconnected : World → Happened World
-disconnected w = record { outputs = closings w.connections; after = record w { connections = finmap.empty } }
 
 -- the bytes that wait at an open connection
 abbrev pub rest_at : Option Connection → Option (List ℕ)

@@ -1,7 +1,12 @@
 pub mod Machine
-pub mod Request
+pub mod Steps
+pub mod Clients
+pub mod Leader
+pub mod Serve
 pub mod Play
 pub mod Plays
 pub mod Inner
 pub mod Logs
+pub mod Agreement
+pub mod Apart
 pub mod Rows

@@ -9,8 +9,10 @@ use Rattle.data_tree.specs.State.{State}
 use Rattle.data_tree.specs.Meaning.{after}
 use Rattle.observer_core.specs.declared.config.Config.{Config}
 use Rattle.observer_core.specs.declared.event.Event.{Event}
-use Rattle.observer_core.specs.Machine.{Connections, World, Machine}
-use Rattle.observer_core.specs.Play.{play, receive, Delivery, deliver, quiet, started_machine}
+use Rattle.observer_core.specs.Machine.{Clients, World, Machine}
+use Rattle.observer_core.specs.Steps.{quiet}
+use Rattle.observer_core.specs.Leader.{receive, Delivery, deliver}
+use Rattle.observer_core.specs.Play.{play, started_machine}
 
 -- the zxid of the last transaction; that of the base where there is none
 abbrev pub zxid_after : ℤ → List Txn → ℤ
@@ -31,8 +33,8 @@ pub record FollowsItsLog (w : World) : Type 0 where
 
 -- it is so at the start, and no event ends it
 pub record LogsAreFollowed : Type 0 where
-  pub starts : (config : Config) (accepted current : ℤ) (tree : State) (leader : Option (Place Phase)) (connections : Connections)
-      → FollowsItsLog (started_machine config accepted current tree leader connections).world
+  pub starts : (config : Config) (accepted current : ℤ) (tree : State) (leader : Option (Place Phase)) (clients : Clients)
+      → FollowsItsLog (started_machine config accepted current tree leader clients).world
   pub plays : (m : Machine) (events : List Event) → FollowsItsLog m.world → FollowsItsLog (play m events).after.world
 
 -- a packet that is refused puts nothing out, changes nothing of the world, and ends the stream with its fault

@@ -1,5 +1,5 @@
 -- Rows of bytes that were worked out by hand: what comes, and what goes.
-use Rattle.std.specs.Prelude.{◌≡◌, ℕ, List, [], ◌∷◌, ◌++◌, Option, Some, None, codes}
+use Rattle.std.specs.Prelude.{◌≡◌, ℕ, List, [], ◌∷◌, ◌++◌, codes}
 use Rattle.values.specs.Hex.{spelled}
 use Rattle.values.specs.declared.fault.Fault.TheVariants.{OutOfOrder}
 use Rattle.observer_core.specs.declared.config.Config.{Config}

@@ -1,94 +1,29 @@
 //! What a client's bytes do.
 
-ghost use Rattle.std.specs.Prelude.{◌≡◌};
+ghost use Rattle.std.specs.Prelude.{◌≡◌, OnOk};
 ghost use Rattle.std.specs.FinMap as finmap;
 ghost use Rattle.jute.specs.Stream.{items, place_at};
-ghost use Rattle.read_processor.specs.Look.{without_body};
-ghost use Rattle.observer_core.specs.Play.{close_client, answer, request, call, serve, serve_all, frames, take_client_bytes};
+ghost use Rattle.observer_core.specs.Serve.{call, serve_as, serve, serve_all, frames, take_client_bytes, open_client, end_client};
+ghost use Rattle.client_frames.specs.Call.{call_in};
 ghost use Rattle.observer_core.specs.Inner.{Meets, FirstFrame};
 
 use crate::event::Output;
+use crate::joining::join;
 use crate::machine::World;
-use crate::request::{CallBody, read_call, sets_watch};
+use crate::reading::{answer_renewal, answer_request};
+use crate::sending::{answer_without_body, answer_without_body_last, close_client};
+use crate::session::{end_session, show_id};
+use client_frames::{CallBody, read_call};
 use client_records::codes::{NOT_READ_ONLY, OK, PING_XID, UNIMPLEMENTED};
 use jute::codes::BAD_ARGUMENTS;
 use jute::{Reader, read_frame};
-use read_processor::{Look, Request, look};
 use std::alloc::Global;
 use values::{ByteQueue, Fault, NoMemory, ReadError};
 
 /// The most bytes of a client's frame.
 pub const CLIENT_FRAME_LIMIT: u32 = 1_048_575;
 
-fn close_client(number: u64, world: &mut World, outputs: &mut Vec<Output>) -> Result<(), NoMemory>
-    ensures { Meets result outputs.old.items
-        (close_client number world.old)
-        outputs.new.items world.new }
-{
-    outputs.push(Output::CloseClient(number))?;
-    world.connections.close(number);
-    Ok(())
-}
-
-// Sends what is shown. What is too long for a frame isn't sent, and closes the connection.
-fn answer(
-    number: u64,
-    world: &mut World,
-    xid: i32,
-    seen: Look,
-    outputs: &mut Vec<Output>,
-) -> Result<(), NoMemory>
-    ensures { Meets result outputs.old.items
-        (answer number world.old xid seen)
-        outputs.new.items world.new }
-{
-    match seen.into_frame(xid, world.learner.last_zxid()) {
-        None => close_client(number, world, outputs),
-        Some(frame) => {
-            outputs.push(Output::ToClient(number, frame))?;
-            Ok(())
-        }
-    }
-}
-
-// Sends an error's number, or 0, without a body.
-fn answer_without_body(
-    alloc: Global,
-    number: u64,
-    world: &mut World,
-    xid: i32,
-    error: i32,
-    outputs: &mut Vec<Output>,
-) -> Result<(), NoMemory>
-    ensures { Meets result outputs.old.items
-        (answer number world.old xid (without_body error))
-        outputs.new.items world.new }
-{
-    let seen = Look::without_body(alloc, error)?;
-    answer(number, world, xid, seen, outputs)
-}
-
-// Answers a read, or passes it over where it sets a watch.
-fn answer_request(
-    alloc: Global,
-    number: u64,
-    world: &mut World,
-    xid: i32,
-    asked: &Request<'_>,
-    outputs: &mut Vec<Output>,
-) -> Result<(), NoMemory>
-    ensures { Meets result outputs.old.items
-        (request number world.old xid asked.now)
-        outputs.new.items world.new }
-{
-    if sets_watch(asked) {
-        return Ok(());
-    }
-    let seen = look(alloc, &world.tree, &[], asked)?;
-    answer(number, world, xid, seen, outputs)
-}
-
-// Answers a call, or passes over one of a type that isn't answered yet.
+// Answers a call.
 fn answer_call(
     alloc: Global,
     number: u64,
@@ -103,6 +38,12 @@ fn answer_call(
 {
     match body {
         CallBody::Read(asked) => answer_request(alloc, number, world, xid, asked, outputs),
+        CallBody::SetWatches(asked) => answer_renewal(alloc, number, world, xid, asked, outputs),
+        CallBody::Auth(packet) => show_id(alloc, number, world, xid, packet, outputs),
+        CallBody::CloseSession => {
+            end_session(number, world);
+            answer_without_body_last(alloc, number, world, xid, OK, outputs)
+        }
         CallBody::Unreadable => answer_without_body(
             alloc,
             number,
@@ -113,16 +54,19 @@ fn answer_call(
         ),
         CallBody::Ping => answer_without_body(alloc, number, world, PING_XID, OK, outputs),
         CallBody::Write => answer_without_body(alloc, number, world, xid, NOT_READ_ONLY, outputs),
-        CallBody::Unanswered => Ok(()),
-        CallBody::Unknown => {
-            answer_without_body(alloc, number, world, xid, UNIMPLEMENTED, outputs)?;
-            close_client(number, world, outputs)
-        }
+        CallBody::Unknown => answer_without_body_last(
+            alloc,
+            number,
+            world,
+            xid,
+            UNIMPLEMENTED,
+            outputs,
+        ),
     }
 }
 
-// Serves one frame.
-fn serve(
+// Serves one frame of a connection that has a session.
+fn serve_call(
     alloc: Global,
     number: u64,
     world: &mut World,
@@ -130,13 +74,32 @@ fn serve(
     outputs: &mut Vec<Output>,
 ) -> Result<(), NoMemory>
     ensures { Meets result outputs.old.items
-        (serve number world.old frame.now)
+        (serve_as number world.old (call_in frame.now))
         outputs.new.items world.new }
 {
     match read_call(alloc, frame) {
         Ok(call) => answer_call(alloc, number, world, call.xid, &call.body, outputs),
         Err(ReadError::NoMemory) => Err(NoMemory),
         Err(ReadError::Fault(_)) => close_client(number, world, outputs),
+    }
+}
+
+// Serves one frame: until the connection has a session, it asks for one.
+fn serve(
+    alloc: Global,
+    serving: bool,
+    number: u64,
+    world: &mut World,
+    frame: &[u8],
+    outputs: &mut Vec<Output>,
+) -> Result<(), NoMemory>
+    ensures { Meets result outputs.old.items
+        (serve serving number world.old frame.now)
+        outputs.new.items world.new }
+{
+    match world.clients.sessions.session(number) {
+        None => join(alloc, serving, number, world, frame, outputs),
+        Some(_) => serve_call(alloc, number, world, frame, outputs),
     }
 }
 
@@ -160,23 +123,24 @@ fn first_frame(bytes: &[u8]) -> Result<Option<(&[u8], usize)>, Fault>
 // Serves the frames that are whole, while the connection is open. The rest waits.
 fn serve_all(
     alloc: Global,
+    serving: bool,
     number: u64,
     world: &mut World,
     mut waiting: ByteQueue,
     outputs: &mut Vec<Output>,
 ) -> Result<(), NoMemory>
     ensures { Meets result outputs.old.items
-        (serve_all number world.old (items frames (place_at tt waiting)))
+        (serve_all serving number world.old (items frames (place_at tt waiting)))
         outputs.new.items world.new }
 {
-    'frame: while world.connections.is_open(number) {
+    'frame: while world.clients.is_open(number) {
         match first_frame(waiting.as_slice()) {
             Ok(Some((frame, used))) => {
-                serve(alloc, number, world, frame, outputs)?;
+                serve(alloc, serving, number, world, frame, outputs)?;
                 waiting.drop_front(used);
             }
             Ok(None) => {
-                world.connections.replace_rest(number, waiting);
+                world.clients.connections.replace_rest(number, waiting);
                 return Ok(());
             }
             Err(_) => return close_client(number, world, outputs),
@@ -185,22 +149,43 @@ fn serve_all(
     Ok(())
 }
 
-/// Lets a client's bytes happen.
+/// Lets a client's bytes happen, where a leader is followed or not.
 pub fn take_client_bytes(
     alloc: Global,
+    serving: bool,
     number: u64,
     world: &mut World,
     bytes: &[u8],
     outputs: &mut Vec<Output>,
 ) -> Result<(), NoMemory>
     ensures { Meets result outputs.old.items
-        (take_client_bytes number world.old (finmap.get world.old.connections number) bytes.now)
+        (take_client_bytes serving number world.old
+        (finmap.get world.old.clients.connections number) bytes.now)
         outputs.new.items world.new }
 {
     let none = ByteQueue::new(alloc);
-    let Some(mut waiting) = world.connections.replace_rest(number, none) else {
+    let Some(mut waiting) = world.clients.connections.replace_rest(number, none) else {
         return Ok(());
     };
     waiting.add(bytes)?;
-    serve_all(alloc, number, world, waiting, outputs)
+    serve_all(alloc, serving, number, world, waiting, outputs)
+}
+
+/// Opens a connection; one that is open already stays as it is.
+pub fn open_client(alloc: Global, number: u64, world: &mut World) -> Result<(), NoMemory>
+    ensures { OnOk result (world.new ≡ open_client number world.old) }
+{
+    if world.clients.is_open(number) {
+        return Ok(());
+    }
+    world.clients.open(alloc, number)
+}
+
+/// Closes a connection whose client has gone.
+pub fn end_client(number: u64, world: &mut World)
+    ensures { world.new ≡ end_client number world.old }
+{
+    if world.clients.is_open(number) {
+        world.clients.close(number);
+    }
 }

@@ -92,6 +92,7 @@ impl Connections {
     /// Closes the connection with the least number.
     pub fn close_first(&mut self) -> Option<u64>
         ensures first { IfSome result (λ n. finmap.keys self.old ≡ n ∷ finmap.keys self.new) }
+        ensures closed { IfSome result (λ n. self.new ≡ finmap.remove self.old n) }
         ensures none { IfNone result ((self.old ≡ finmap.empty) × (self.new ≡ finmap.empty)) }
     {
         match self.map.pop_first() {

@@ -1,11 +1,12 @@
 //! The engine: a machine that is closed by want of memory.
 
 ghost use Rattle.std.specs.Prelude.{◌≡◌, Some, IfOk};
-ghost use Rattle.observer_core.specs.Play.{started_machine, new_machine, primed_machine};
+ghost use Rattle.observer_core.specs.Play.{started_machine, no_clients, first_client, new_machine, primed_machine};
 ghost use Rattle.data_tree.specs.Meaning.{fresh};
 ghost use Rattle.observer_core.specs.Machine.{Machine as TheMachine};
 ghost use Rattle.observer_core.specs.Plays.{Plays};
 
+use crate::clients::Clients;
 use crate::config::Config;
 use crate::connections::Connections;
 use crate::event::{Event, Output};
@@ -14,10 +15,12 @@ use crate::machine::{Machine, World};
 use crate::run::run;
 use data_tree::Tree;
 use quorum_packet::PacketFeed;
+use sessions::{SessionRequest, Sessions};
 use std::alloc::Global;
 use std::marker::Model;
 use thiserror::Error;
 use values::NoMemory;
+use watch_manager::Watches;
 
 // The connection that is open from the start where a leader is followed from the start.
 const FIRST: u64 = 1;
@@ -58,10 +61,10 @@ fn started(
     config: Config,
     epochs: (i32, i32),
     leader: Option<PacketFeed>,
-    connections: Connections,
+    clients: Clients,
 ) -> Result<Engine, NoMemory>
     ensures { IfOk result
-        (λ e. e ≡ Some (started_machine config epochs.0 epochs.1 fresh leader connections)) }
+        (λ e. e ≡ Some (started_machine config epochs.0 epochs.1 fresh leader clients)) }
 {
     let (accepted_epoch, current_epoch) = epochs;
     let tree = Tree::fresh(alloc)?;
@@ -80,7 +83,7 @@ fn started(
         config,
         learner,
         tree,
-        connections,
+        clients,
     };
     Ok(Engine {
         machine: Machine { leader, world },
@@ -88,13 +91,41 @@ fn started(
     })
 }
 
+// Nobody, and no session yet.
+fn no_clients(alloc: Global, config: &Config) -> Result<Clients, NoMemory>
+    ensures { IfOk result (λ clients. clients ≡ no_clients config.now) }
+{
+    let secret = config.secret.clone()?;
+    Ok(Clients {
+        connections: Connections::new(alloc),
+        sessions: Sessions::new(alloc, config.server_id, config.timeouts, secret),
+        watches: Watches::new(alloc),
+    })
+}
+
+// One connection that is open, and has the first session.
+fn first_client(alloc: Global, config: &Config) -> Result<Clients, NoMemory>
+    ensures { IfOk result (λ clients. clients ≡ first_client config.now) }
+{
+    let mut clients = no_clients(alloc, config)?;
+    let request = SessionRequest {
+        time_out: 0,
+        session_id: 0,
+        password: None,
+    };
+    clients.sessions.connect(alloc, FIRST, &request)?;
+    clients.open(alloc, FIRST)?;
+    Ok(clients)
+}
+
 impl Engine {
-    /// An observer without a leader: it passes over what comes.
+    /// An observer without a leader: it passes over what a leader would send, and closes a client that wants a session.
     pub fn new(alloc: Global, config: Config) -> Result<Engine, NoMemory>
         ensures { IfOk result (λ e. e ≡ Some (new_machine config)) }
     {
         let epochs = (config.epochs.accepted(), config.epochs.current());
-        started(alloc, config, epochs, None, Connections::new(alloc))
+        let clients = no_clients(alloc, &config)?;
+        started(alloc, config, epochs, None, clients)
     }
 
     /// An observer that follows a leader in epoch 1, with connection 1 open.
@@ -102,9 +133,8 @@ impl Engine {
         ensures { IfOk result (λ e. e ≡ Some (primed_machine config)) }
     {
         let leader = PacketFeed::new(alloc);
-        let mut connections = Connections::new(alloc);
-        connections.open(alloc, FIRST)?;
-        started(alloc, config, (1, 1), Some(leader), connections)
+        let clients = first_client(alloc, &config)?;
+        started(alloc, config, (1, 1), Some(leader), clients)
     }
 
     /// The data tree. Of a closed engine it is only to be dropped.

@@ -4,8 +4,11 @@ ghost use Rattle.std.specs.Prelude.{◌≡◌, List, ℕ, ◌∷◌, ◌++◌};
 ghost use Rattle.observer_core.specs.Machine.{Machine};
 ghost use Rattle.observer_core.specs.declared.event.Event.{Event};
 ghost use Rattle.observer_core.specs.declared.event.Event.TheVariants.{LeaderBytes, ClientBytes};
-ghost use Rattle.observer_core.specs.Play.{play, behind};
+ghost use Rattle.observer_core.specs.Steps.{behind};
+ghost use Rattle.observer_core.specs.Play.{play};
 ghost use Rattle.observer_core.specs.Logs.{LogsAreFollowed, RefusalsChangeNothing};
+ghost use Rattle.observer_core.specs.Agreement.{ConnectionsAgree};
+ghost use Rattle.observer_core.specs.Apart.{ClientsAreApart};
 ghost use Rattle.observer_core.specs.Rows.{WorkedRows};
 
 /// Two lists of events, one behind the other.
@@ -35,9 +38,31 @@ pub fn refusals_change_nothing()
     ensures { RefusalsChangeNothing }
 {}
 
+/// Whoever has a session or watches something is open, each connection's session is a guest session
+/// that hasn't ended, and no two connections have one session: at the start, and after every list of
+/// events if it was so before.
+pub fn connections_agree()
+    ensures { ConnectionsAgree }
+{
+    sessions::sessions_and_connections_agree();
+    watch_manager::law::firing();
+}
+
+/// A client that comes, sends or goes leaves the tree, the log, and every other connection: the bytes that wait there, its
+/// session and ids, and its watches; and what goes out names it alone. One other connection may be closed, an older one of
+/// the session that it takes up.
+pub fn clients_are_apart()
+    ensures { ClientsAreApart }
+{
+    sessions::others_stay();
+    sessions::sessions_and_connections_agree();
+    watch_manager::law::firing();
+}
+
 /// The definitions, computed on rows of bytes that were worked out by hand.
 pub fn worked_rows()
     ensures { WorkedRows }
 {
     txn_codec::transactions();
+    watch_manager::law::firing();
 }

@@ -4,26 +4,52 @@ ghost use Rattle.std.specs.Prelude.{◌≡◌};
 ghost use Rattle.jute.specs.Stream.{items};
 ghost use Rattle.quorum_packet.specs.Packets.{packets};
 ghost use Rattle.txn_codec.specs.Spelling.{txn, whole};
-ghost use Rattle.observer_core.specs.Play.{carried_bytes, apply, inform, receive, take_leader_bytes};
-ghost use Rattle.observer_core.specs.Inner.{Meets, Receives, Delivers, arrive, cleared, disconnected};
+ghost use Rattle.observer_core.specs.Clients.{closing_all};
+ghost use Rattle.observer_core.specs.Leader.{carried_bytes, tell, apply, inform, receive, disconnected, take_leader_bytes};
+ghost use Rattle.observer_core.specs.Inner.{Meets, Receives, Delivers, arrive};
 
-use crate::connections::Connections;
+use crate::clients::Clients;
 use crate::event::Output;
 use crate::machine::{Machine, World};
+use crate::notice::notify_each;
+use data_tree::Trigger;
 use quorum_packet::{PacketFeed, PacketKind, QuorumPacket};
 use std::alloc::Global;
 use txn_codec::{Txn, decode_txn};
 use values::{Fault, NoMemory, ReadError};
 
-// Applies a transaction and keeps it in the log. What it triggers is told to nobody yet.
-fn apply(alloc: Global, world: &mut World, txn: Txn) -> Result<(), ReadError>
-    ensures { Receives result (apply world.old txn) world.old world.new }
+// Tells those who watch what a transaction triggers.
+fn tell(
+    alloc: Global,
+    world: &mut World,
+    triggers: &[Trigger],
+    outputs: &mut Vec<Output>,
+) -> Result<(), NoMemory>
+    ensures { Meets result outputs.old.items
+        (tell world.old triggers.now)
+        outputs.new.items world.new }
+{
+    let events = world.clients.watches.fire(alloc, triggers)?;
+    notify_each(alloc, events.as_slice(), outputs)
+}
+
+// Applies a transaction and keeps it in the log. What it triggers is told at once.
+fn apply(
+    alloc: Global,
+    world: &mut World,
+    txn: Txn,
+    outputs: &mut Vec<Output>,
+) -> Result<(), ReadError>
+    ensures { Receives result outputs.old.items
+        (apply world.old txn)
+        world.old outputs.new.items world.new }
 {
     if !world.learner.precedes(&txn) {
         return Err(ReadError::Fault(Fault::OutOfOrder));
     }
-    world.tree.apply(alloc, &txn)?;
+    let outcome = world.tree.apply(alloc, &txn)?;
     world.learner.keep(txn)?;
+    tell(alloc, world, outcome.triggers.as_slice(), outputs)?;
     Ok(())
 }
 
@@ -38,21 +64,33 @@ fn carried_bytes(packet: &QuorumPacket) -> &[u8]
 }
 
 // A transaction to apply.
-fn inform(alloc: Global, world: &mut World, packet: &QuorumPacket) -> Result<(), ReadError>
-    ensures { Receives result
+fn inform(
+    alloc: Global,
+    world: &mut World,
+    packet: &QuorumPacket,
+    outputs: &mut Vec<Output>,
+) -> Result<(), ReadError>
+    ensures { Receives result outputs.old.items
         (inform world.old (whole txn (carried_bytes packet.now.bytes)))
-        world.old world.new }
+        world.old outputs.new.items world.new }
 {
     let txn = decode_txn(alloc, carried_bytes(packet))?;
-    apply(alloc, world, txn)
+    apply(alloc, world, txn, outputs)
 }
 
 // Takes one packet. All but an INFORM are passed over yet.
-fn receive(alloc: Global, world: &mut World, packet: &QuorumPacket) -> Result<(), ReadError>
-    ensures { Receives result (receive world.old packet.now) world.old world.new }
+fn receive(
+    alloc: Global,
+    world: &mut World,
+    packet: &QuorumPacket,
+    outputs: &mut Vec<Output>,
+) -> Result<(), ReadError>
+    ensures { Receives result outputs.old.items
+        (receive world.old packet.now)
+        world.old outputs.new.items world.new }
 {
     match PacketKind::from_code(packet.kind) {
-        Some(PacketKind::Inform) => inform(alloc, world, packet),
+        Some(PacketKind::Inform) => inform(alloc, world, packet, outputs),
         None
         | Some(
             PacketKind::Request
@@ -76,13 +114,20 @@ fn receive(alloc: Global, world: &mut World, packet: &QuorumPacket) -> Result<()
 }
 
 // Takes the packets that are whole. Answers the fault that ends the stream, if one does.
-fn drain(alloc: Global, feed: &mut PacketFeed, world: &mut World) -> Result<Option<Fault>, NoMemory>
-    ensures { Delivers result (arrive world.old (items packets feed.old)) feed.new world.new }
+fn drain(
+    alloc: Global,
+    feed: &mut PacketFeed,
+    world: &mut World,
+    outputs: &mut Vec<Output>,
+) -> Result<Option<Fault>, NoMemory>
+    ensures { Delivers result outputs.old.items
+        (arrive world.old (items packets feed.old))
+        outputs.new.items feed.new world.new }
 {
     loop {
         match feed.next(alloc) {
             Ok(None) => return Ok(None),
-            Ok(Some(packet)) => match receive(alloc, world, &packet) {
+            Ok(Some(packet)) => match receive(alloc, world, &packet, outputs) {
                 Ok(()) => {}
                 Err(ReadError::NoMemory) => return Err(NoMemory),
                 Err(ReadError::Fault(fault)) => return Ok(Some(fault)),
@@ -94,12 +139,12 @@ fn drain(alloc: Global, feed: &mut PacketFeed, world: &mut World) -> Result<Opti
 }
 
 // Closes all connections, in the order of their numbers.
-fn close_all(connections: &mut Connections, outputs: &mut Vec<Output>) -> Result<(), NoMemory>
+fn close_all(clients: &mut Clients, outputs: &mut Vec<Output>) -> Result<(), NoMemory>
     ensures { Meets result outputs.old.items
-        (cleared connections.old)
-        outputs.new.items connections.new }
+        (closing_all clients.old)
+        outputs.new.items clients.new }
 {
-    while let Some(number) = connections.close_first() {
+    while let Some(number) = clients.close_first() {
         outputs.push(Output::CloseClient(number))?;
     }
     Ok(())
@@ -108,7 +153,7 @@ fn close_all(connections: &mut Connections, outputs: &mut Vec<Output>) -> Result
 fn disconnect(world: &mut World, outputs: &mut Vec<Output>) -> Result<(), NoMemory>
     ensures { Meets result outputs.old.items (disconnected world.old) outputs.new.items world.new }
 {
-    close_all(&mut world.connections, outputs)
+    close_all(&mut world.clients, outputs)
 }
 
 /// Lets the leader's bytes happen.
@@ -126,7 +171,7 @@ pub fn take_leader_bytes(
         return Ok(());
     };
     feed.feed(bytes)?;
-    match drain(alloc, &mut feed, &mut machine.world)? {
+    match drain(alloc, &mut feed, &mut machine.world, outputs)? {
         None => {
             machine.leader = Some(feed);
             Ok(())

@@ -1,7 +1,7 @@
 //! How far a leader was followed.
 
 ghost use Rattle.std.specs.Prelude.{◌≡◌, ◌++◌, ◌∷◌, [], OnOk, OnErr, int_lt};
-ghost use Rattle.observer_core.specs.Play.{with_logged};
+ghost use Rattle.observer_core.specs.Leader.{with_logged};
 
 use data_tree::Tree;
 use std::alloc::Global;

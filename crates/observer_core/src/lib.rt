@@ -1,13 +1,24 @@
 //! The observer as a machine: events in, outputs out.
 //!
-//! An [`Engine`] is fed lists of [`Event`]s and appends what they cause as [`Output`]s. What that is, says specs/Play: it
-//! speaks of a machine (specs/Machine), which is a leader's stream and a world, and of steps. A packet is a step of the
-//! world, a frame of a client is one, and an event makes all that came whole with it. A packet may be refused; then the
-//! leader and all clients are closed, and nothing else changes. What a read shows of the tree, and the frame in which it is
-//! sent, are `read_processor`'s. specs/Plays says what `feed_inline` answers, with want of memory in it.
+//! An [`Engine`] is fed lists of [`Event`]s and appends what they cause as [`Output`]s. What that is, says
+//! specs/Play: it speaks of a machine (specs/Machine), which is a leader's stream and a world, and of steps
+//! (specs/Steps), each of which puts something out and leaves a world.
 //!
-//! `leader` and `client` carry the two kinds of steps out, `run` the events. What their private functions promise each
-//! other stands in specs/Inner, and nobody outside needs it.
+//! A packet of the leader is a step (specs/Leader): its transaction is applied, and who watches what it changed is
+//! told at once. A packet may be refused; then the leader and all clients are closed, and nothing else changes. A
+//! frame of a client is a step (specs/Serve), answered at the state as it is: the first one of a connection asks for
+//! a session, the others read and leave watches, show an id, set watches again, or end the session. A connection goes
+//! with its ids and its watches in one step (specs/Clients), and its session stays. An event makes all the steps that
+//! came whole with it.
+//!
+//! What a frame asks for is read by `client_frames`; what a read shows of the tree, and the frame in which it is
+//! sent, are `read_processor`'s; who has which session is known to `sessions`, and who is told of a change to
+//! `watch_manager`. This crate says when each is asked, and what goes out. specs/Plays says what `feed_inline`
+//! answers, with want of memory in it.
+//!
+//! `leader` and `client` carry the two kinds of steps out, with `joining`, `reading` and `session` for what a frame
+//! asks and `sending` and `notice` for what goes out; `run` carries out the events. What their private functions
+//! promise each other stands in specs/Inner, and nobody outside needs it.
 //!
 //! ```text
 //! let config = Config::new(3, 0, 0, 4000, 40_000, secret)?;  // server id, two epochs, two timeouts in milliseconds, secret
@@ -19,20 +30,28 @@
 #![tactic(auto)]
 
 mod client;
+mod clients;
 mod config;
 mod connections;
 mod engine;
 mod event;
+mod joining;
 mod law;
 mod leader;
 mod learner;
 mod machine;
-mod request;
+mod notice;
+mod reading;
 mod run;
+mod sending;
+mod session;
 
 pub use client::CLIENT_FRAME_LIMIT;
 pub use config::{BadConfig, Config};
 pub use engine::{Engine, Stop};
 pub use event::{Event, Output};
-pub use law::{cut_anywhere, logs_are_followed, plays_on, refusals_change_nothing, worked_rows};
+pub use law::{
+    clients_are_apart, connections_agree, cut_anywhere, logs_are_followed, plays_on,
+    refusals_change_nothing, worked_rows,
+};
 pub use learner::Learner;

@@ -1,7 +1,7 @@
 //! The machine of the definitions, as it is held.
 
+use crate::clients::Clients;
 use crate::config::Config;
-use crate::connections::Connections;
 use crate::learner::Learner;
 use data_tree::Tree;
 use quorum_packet::PacketFeed;
@@ -14,7 +14,7 @@ pub struct World {
     pub learner: Learner,
     /// What a read shows.
     pub tree: Tree,
-    pub connections: Connections,
+    pub clients: Clients,
 }
 
 impl Model for World {
@@ -27,7 +27,7 @@ impl Model for World {
 
     ghost coded = { world_code of_config.the_row.coded of_tree.the_row.coded of_txn.the_row.coded };
 
-    ghost view = { λ w. record { config = w.config; learner = w.learner; tree = w.tree; connections = w.connections } };
+    ghost view = { λ w. record { config = w.config; learner = w.learner; tree = w.tree; clients = w.clients } };
 }
 
 /// An observer, all of it.

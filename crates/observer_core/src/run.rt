@@ -3,10 +3,11 @@
 ghost use Rattle.observer_core.specs.Play.{happen, play};
 ghost use Rattle.observer_core.specs.Inner.{Meets};
 
-use crate::client::take_client_bytes;
+use crate::client::{end_client, open_client, take_client_bytes};
 use crate::event::{Event, Output};
 use crate::leader::take_leader_bytes;
 use crate::machine::Machine;
+use crate::session::expire_session;
 use std::alloc::Global;
 use values::NoMemory;
 
@@ -22,21 +23,24 @@ fn happen(
 {
     match event {
         Event::LeaderBytes(bytes) => take_leader_bytes(alloc, machine, bytes.as_slice(), outputs),
+        Event::ClientUp(number) => open_client(alloc, *number, &mut machine.world),
         Event::ClientBytes(number, bytes) => {
+            let serving = machine.leader.is_some();
             take_client_bytes(
                 alloc,
+                serving,
                 *number,
                 &mut machine.world,
                 bytes.as_slice(),
                 outputs,
             )
         }
-        Event::LeaderUp
-        | Event::LeaderEnd
-        | Event::ClientUp(_)
-        | Event::ClientEnd(_)
-        | Event::Expire(_)
-        | Event::Checkpoint => Ok(()),
+        Event::ClientEnd(number) => {
+            end_client(*number, &mut machine.world);
+            Ok(())
+        }
+        Event::Expire(session) => expire_session(session, &mut machine.world, outputs),
+        Event::LeaderUp | Event::LeaderEnd | Event::Checkpoint => Ok(()),
     }
 }
 

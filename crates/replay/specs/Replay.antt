@@ -8,7 +8,8 @@ use Rattle.observer_core.specs.declared.event.Event.{Event}
 use Rattle.observer_core.specs.declared.event.Event.TheVariants as events
 use Rattle.observer_core.specs.declared.event.Output.{Output}
 use Rattle.observer_core.specs.Machine.{Machine}
-use Rattle.observer_core.specs.Play.{Happened, play, new_machine, primed_machine}
+use Rattle.observer_core.specs.Steps.{Happened}
+use Rattle.observer_core.specs.Play.{play, new_machine, primed_machine}
 use Rattle.values.specs.Gains.{Gains}
 use Rattle.replay_script.specs.Script.{script_of}
 use Rattle.replay_script.specs.declared.event.ScriptEvent.{ScriptEvent}

@@ -81,7 +81,8 @@ impl Connections {
 
     /// Gives the connection the session; it has shown no id.
     pub fn add(&mut self, alloc: Global, number: u64, session: i64) -> Result<(), NoMemory>
-        ensures ok { OnOk result (self.new ≡ finmap.insert self.old number (new_connection session)) }
+        ensures ok { OnOk result
+            (self.new ≡ finmap.insert self.old number (new_connection session)) }
         ensures err { OnErr result (self.new ≡ self.old) }
     {
         let connection = Connection {

@@ -110,6 +110,7 @@ impl Sessions {
     ) -> Sessions
         ensures { result ≡ no_sessions (terms_of server_id timeouts secret) }
     {
+        // The contract of `number` tells the prover the number's bounds, which the invariant rests on.
         let _number = server_id.number();
         Sessions {
             server_id,

@@ -1,5 +1,5 @@
-use Rattle.observer_core.proofs.Rows.{rows_hold}
+use Rattle.observer_core.proofs.Rows.{rows_hold, unwatched}
 use Rattle.observer_core.proofs.law.worked_rows.Goals as goal
 
 pub returns : goal.returns
-returns c = rows_hold c.transactions.ensures.again
+returns c = rows_hold c.transactions.ensures.again (unwatched c.firing.ensures.watchers c.firing.ensures.silent)

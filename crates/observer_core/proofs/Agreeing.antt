@@ -1,0 +1,372 @@
+-- Whatever happens, sessions and watches name open connections, and no two connections have one session.
+use Rattle.std.proofs.Common.{◌≡◌, ℕ, ℤ, pos, Bool, true, false, cond, not, ◌||◌, List, [], ◌∷◌, ◌++◌, Option, Some, None, Result, Ok, Err, refl, sym, ap, ◌∙◌, int_lt}
+use Rattle.std.specs.Prelude.{is_some, IsTrue}
+use Rattle.std.specs.Option.{unwrap_or}
+use Rattle.std.specs.Ordering.{eq_by_cmp, nat_cmp, int_eq}
+use Rattle.std.specs.Cmp.{nat_cmp_total, eq_by_cmp_equiv}
+use Rattle.std.proofs.lemmas.Bool.{cond_both}
+use Rattle.std.specs.FinMap as finmap
+use Rattle.std.specs.FinSet as set
+use mathlib.Core.Bool.{true≢false}
+use Rattle.values.specs.declared.fault.Fault.{Fault}
+use Rattle.settings.specs.Settings.{is_server_id}
+use Rattle.jute.specs.Stream.{Place, Unread, items, add, place_at}
+use Rattle.jute.specs.declared.codes.TheConstants.{BAD_ARGUMENTS}
+use Rattle.quorum_packet.specs.declared.packet.QuorumPacket.{QuorumPacket}
+use Rattle.quorum_packet.specs.declared.phase.Phase.{Phase}
+use Rattle.quorum_packet.specs.declared.kind.PacketKind.{PacketKind}
+use Rattle.quorum_packet.specs.declared.kind.PacketKind.TheVariants as kinds
+use Rattle.quorum_packet.specs.Kinds.{kind_of}
+use Rattle.quorum_packet.specs.Packets.{packets}
+use Rattle.txn_codec.specs.Spelling.{txn, whole}
+use Rattle.txn_codec.specs.declared.txn.Txn.{Txn}
+use Rattle.data_tree.specs.Meaning.{mean}
+use Rattle.data_tree.specs.declared.outcome.Trigger.{Trigger}
+use Rattle.client_records.specs.declared.codes.TheConstants.{OK, UNIMPLEMENTED, AUTH_FAILED, NOT_READ_ONLY, PING_XID}
+use Rattle.client_frames.specs.declared.call.Call.{Call}
+use Rattle.client_frames.specs.declared.call.CallBody.{CallBody}
+use Rattle.client_frames.specs.declared.call.CallBody.TheVariants as bodies
+use Rattle.client_frames.specs.declared.connecting.Connecting.{Connecting}
+use Rattle.client_frames.specs.Call.{call_in}
+use Rattle.client_frames.specs.Connect.{connecting_in, session_request, answer_to_connect}
+use Rattle.sessions.specs.State.{State as Sessions, Connection as SessionConnection, terms_of}
+use Rattle.sessions.specs.Sessions.{session_in, session_of, ids_of, Connects, connect, Shows, auth, expire}
+use Rattle.sessions.specs.Agreement.{Agrees, SessionsAreApart, AgreementIsKept}
+use Rattle.sessions.specs.declared.request.SessionResponse.{SessionResponse}
+use Rattle.watch_manager.specs.Pairs.{watch_cmp, same_connection}
+use Rattle.watch_manager.specs.Watching.{Watching}
+use Rattle.watch_manager.specs.Watches.{fire}
+use Rattle.watch_manager.specs.Laws.{AllPass, WatchersPass, OnlyWatchersAreTold, DroppedWatchesNothing}
+use Rattle.read_processor.specs.declared.renewal.Renewal.{Renewal}
+use Rattle.read_processor.specs.Look.{look, without_body}
+use Rattle.read_processor.specs.Watch.{watch_of}
+use Rattle.read_processor.specs.Renewal.{renew}
+use Rattle.read_processor.specs.Reply.{reply}
+use Rattle.observer_core.specs.declared.config.Config.{Config}
+use Rattle.observer_core.specs.declared.event.Event.{Event}
+use Rattle.observer_core.specs.declared.event.Event.TheVariants as event
+use Rattle.observer_core.specs.Machine.{Connection, Clients, World, Machine}
+use Rattle.observer_core.specs.Steps.{Happened, happening}
+use Rattle.observer_core.specs.Clients.{at_rest, is_open, with_connection, without, without_each}
+use Rattle.observer_core.specs.Leader.{carried_bytes, with_meant, tell, inform, receive_as, receive, Delivery, deliver_as, deliver, is_refused, deliver_all, end_at, leave_leader, take_leader_bytes}
+use Rattle.observer_core.specs.Serve.{close_client, send, send_last, watching, watched_if, watched_each, renewed, with_sessions, shown, ended, end_session, close_left, greet, connected, may_connect, join, call, serve_as, serve_by, serve, is_closed, keep, wait_if_open, frames, take_client_bytes}
+use Rattle.observer_core.specs.Play.{serving, happen, no_clients, first_request, new_machine, primed_machine}
+use Rattle.observer_core.specs.Agreement.{ClientsAgree, OneSessionEach, ConnectionsAgree}
+use Rattle.observer_core.proofs.NatMaps.{get-inserted}
+use Rattle.observer_core.proofs.Keeping.{happening_keeps}
+use Rattle.observer_core.proofs.Passing.{KeysPass, closed_passes, expired_passes, auth_passes, connected_passes, watchers_pass, watched_if_passes, watched_each_passes}
+
+abbrev Agreeing : World → Type 0
+Agreeing w = ClientsAgree w.clients
+
+abbrev IsOpen : ℕ → World → Type 0
+IsOpen n w = is_open n w.clients ≡ true
+
+-- ---- no two connections have one session
+
+-- the connection that has the session
+with_session : (o : Option SessionConnection) (session : ℤ) → session_in o ≡ Some session
+    → (c : SessionConnection) × ((o ≡ Some c) × (c.session ≡ session))
+with_session None session e = absurd (true≢false (sym (ap is_some e)))
+with_session (Some c) session e = (c, (refl, ap (λ (x : Option ℤ). unwrap_or x session) e))
+
+one_session_each : SessionsAreApart → OneSessionEach
+one_session_each apart c a m n session at_m at_n =
+    let first = with_session (finmap.get c.sessions.connections m) session at_m in
+    let second = with_session (finmap.get c.sessions.connections n) session at_n in
+    apart c.sessions a.sessions m n first.0 second.0 first.1.0 second.1.0 (first.1.1 ∙ sym second.1.1)
+
+-- ---- connections open
+
+pub opened_agrees : (n : ℕ) (k : Connection) (c : Clients) → ClientsAgree c → ClientsAgree (with_connection n k c)
+opened_agrees n k c a = record {
+  sessions = a.sessions;
+  joined = λ m has. still m (a.joined m has);
+  watching = watchers_pass (λ m. is_open m c) (λ m. is_open m (with_connection n k c)) c.watches still a.watching;
+}
+  where
+    still : (m : ℕ) → is_open m c ≡ true → is_open m (with_connection n k c) ≡ true
+    still m e =
+        ap is_some (finmap.get-insert nat_cmp_total c.connections n k m)
+        ∙ cond_both (eq_by_cmp nat_cmp m n) _ _ (λ (o : Option Connection). is_some o ≡ true) (λ _. refl) (λ _. e)
+
+-- ---- connections close
+
+-- each other one is open still
+open_but : (n : ℕ) (c : Clients) (m : ℕ) → is_open m c ≡ true → (is_open m (without n c) || same_connection n m) ≡ true
+open_but n c m e =
+    (λ i. is_some (finmap.get-remove nat_cmp_total c.connections n m i) || (eq_by_cmp_equiv nat_cmp_total).symm n m i)
+    ∙ by (eq_by_cmp nat_cmp m n) (finmap.get c.connections m) e
+  where
+    by : (b : Bool) (o : Option Connection) → is_some o ≡ true → (is_some (cond b None o) || b) ≡ true
+    by true o e = refl
+    by false o e = ap (λ x. x || false) e
+
+module _ (kept : AgreementIsKept) (told : OnlyWatchersAreTold) (dropped : DroppedWatchesNothing) where
+  closed_agrees : (n : ℕ) (c : Clients) → ClientsAgree c → ClientsAgree (without n c)
+  closed_agrees n c a =
+      let left : ℕ → Bool = λ m. is_open m (without n c) in
+      record {
+        sessions = kept.closes c.sessions n a.sessions;
+        joined = closed_passes left c.sessions n (λ m has. open_but n c m (a.joined m has));
+        watching =
+            dropped left c.watches n
+            (watchers_pass (λ m. is_open m c) (λ m. left m || same_connection n m) c.watches (open_but n c) a.watching);
+      }
+
+  each_closed_agrees : (ns : List ℕ) (c : Clients) → ClientsAgree c → ClientsAgree (without_each ns c)
+  each_closed_agrees [] c a = a
+  each_closed_agrees (n ∷ others) c a = each_closed_agrees others (without n c) (closed_agrees n c a)
+
+  -- ---- what goes to a client
+
+  close_agrees : (n : ℕ) (w : World) → Agreeing w → Agreeing (close_client n w).after
+  close_agrees n w a = closed_agrees n w.clients a
+
+  send_agrees : (n : ℕ) (w : World) (frame : Option (List ℕ)) → Agreeing w → Agreeing (send n w frame).after
+  send_agrees n w None a = close_agrees n w a
+  send_agrees n w (Some bytes) a = a
+
+  send_last_agrees : (n : ℕ) (w : World) (frame : Option (List ℕ)) → Agreeing w → Agreeing (send_last n w frame).after
+  send_last_agrees n w frame a = close_agrees n (send n w frame).after (send_agrees n w frame a)
+
+  -- ---- watches
+
+  watches_agree : (w : World) (watches : Watching) → WatchersPass (λ m. is_open m w.clients) watches → Agreeing w
+      → Agreeing (watching w watches)
+  watches_agree w watches pass a = record { sessions = a.sessions; joined = a.joined; watching = pass }
+
+  renewed_agrees : (n : ℕ) (w : World) (xid : ℤ) (r : Option Renewal) → IsOpen n w → Agreeing w
+      → Agreeing (renewed n w xid r).after
+  renewed_agrees n w xid None here a = send_agrees n w (reply xid w.learner.last_zxid (without_body BAD_ARGUMENTS)) a
+  renewed_agrees n w xid (Some r) here a =
+      let watches = watched_each n w.clients.watches r.watches in
+      send_agrees n (watching w watches) (reply xid w.learner.last_zxid (without_body OK))
+      (watches_agree w watches
+      (watched_each_passes (λ m. is_open m w.clients) n here w.clients.watches r.watches a.watching) a)
+
+  -- ---- sessions
+
+  sessions_agree : (w : World) (s : Sessions) → Agrees s → KeysPass (λ m. is_open m w.clients) s.connections
+      → Agreeing w → Agreeing (with_sessions w s)
+  sessions_agree w s agrees pass a = record { sessions = agrees; joined = pass; watching = a.watching }
+
+  shown_agrees : (n : ℕ) (w : World) (xid : ℤ) (shows : Shows) → Agreeing (with_sessions w shows.after)
+      → Agreeing (shown n w xid shows).after
+  shown_agrees n w xid shows a =
+      let v = with_sessions w shows.after in
+      cond_both shows.is_accepted _ _ (λ (h : Happened World). Agreeing h.after)
+      (λ _. send_agrees n v (reply xid (pos 0) (without_body OK)) a)
+      (λ _. send_last_agrees n v (reply xid (pos 0) (without_body AUTH_FAILED)) a)
+
+  auth_agrees : (n : ℕ) (w : World) (scheme bytes : Option (List ℕ)) → IsOpen n w → Agreeing w
+      → Agreeing (with_sessions w (auth w.clients.sessions n scheme bytes).after)
+  auth_agrees n w scheme bytes here a =
+      let s = w.clients.sessions in
+      sessions_agree w (auth s n scheme bytes).after (kept.auths s n scheme bytes a.sessions)
+      (auth_passes (λ m. is_open m w.clients) s n here a.joined scheme bytes) a
+
+  expire_agrees : (w : World) (session : ℤ) → Agreeing w
+      → Agreeing (with_sessions w (expire w.clients.sessions session).after)
+  expire_agrees w session a =
+      let s = w.clients.sessions in
+      sessions_agree w (expire s session).after (kept.expires s session a.sessions)
+      (expired_passes (λ m. is_open m w.clients) s session a.joined) a
+
+  ended_agrees : (w : World) (session : Option ℤ) → Agreeing w → Agreeing (ended w session)
+  ended_agrees w None a = a
+  ended_agrees w (Some session) a = expire_agrees w session a
+
+  left_agrees : (w : World) (left : Option ℕ) → Agreeing w → Agreeing (close_left w left).after
+  left_agrees w None a = a
+  left_agrees w (Some n) a = close_agrees n w a
+
+  greet_agrees : (n : ℕ) (has_byte : Bool) (response : SessionResponse) (w : World) → Agreeing w
+      → Agreeing (greet n has_byte response w).after
+  greet_agrees n has_byte response w a =
+      let frame = Some (answer_to_connect response has_byte) in
+      cond_both (int_eq response.session_id (pos 0)) _ _ (λ (h : Happened World). Agreeing h.after)
+      (λ _. send_last_agrees n w frame a) (λ _. send_agrees n w frame a)
+
+  connected_agrees : (n : ℕ) (w : World) (has_byte : Bool) (c : Connects) → Agreeing (with_sessions w c.after)
+      → Agreeing (connected n w has_byte c).after
+  connected_agrees n w has_byte c a =
+      let v = with_sessions w c.after in
+      let older = c.connected.older in
+      greet_agrees n has_byte c.connected.response (close_left v older).after (left_agrees v older a)
+
+  join_agrees : (serving : Bool) (n : ℕ) (w : World) (c : Result Connecting Fault)
+      → finmap.get w.clients.sessions.connections n ≡ None → IsOpen n w → Agreeing w
+      → Agreeing (join serving n w c).after
+  join_agrees serving n w (Err e) none here a = close_agrees n w a
+  join_agrees serving n w (Ok c) none here a =
+      let s = w.clients.sessions in
+      let asked = session_request c.request in
+      let connects = connect s n asked in
+      let pass = connected_passes (λ m. is_open m w.clients) s n here a.joined asked in
+      let agrees = sessions_agree w connects.after (kept.connects s n asked a.sessions none) pass a in
+      cond_both (may_connect serving w c.request) _ _ (λ (h : Happened World). Agreeing h.after)
+      (λ _. connected_agrees n w c.has_byte connects agrees) (λ _. close_agrees n w a)
+
+  -- ---- frames
+
+  call_agrees : (n : ℕ) (w : World) (xid : ℤ) (b : CallBody) → IsOpen n w → Agreeing w → Agreeing (call n w xid b).after
+  call_agrees n w xid (bodies.Read r) here a =
+      let seen = look w.tree (ids_of w.clients.sessions n) r in
+      let watch = watch_of r seen.error in
+      let watches = watched_if n w.clients.watches watch in
+      send_agrees n (watching w watches) (reply xid w.learner.last_zxid seen)
+      (watches_agree w watches
+      (watched_if_passes (λ m. is_open m w.clients) n here w.clients.watches watch a.watching) a)
+  call_agrees n w xid (bodies.SetWatches r) here a = renewed_agrees n w xid (renew w.tree r) here a
+  call_agrees n w xid (bodies.Auth packet) here a =
+      shown_agrees n w xid (auth w.clients.sessions n packet.scheme packet.auth)
+      (auth_agrees n w packet.scheme packet.auth here a)
+  call_agrees n w xid bodies.CloseSession here a =
+      let v = end_session n w in
+      send_last_agrees n v (reply xid v.learner.last_zxid (without_body OK))
+      (ended_agrees w (session_of w.clients.sessions n) a)
+  call_agrees n w xid bodies.Unreadable here a =
+      send_agrees n w (reply xid w.learner.last_zxid (without_body BAD_ARGUMENTS)) a
+  call_agrees n w xid bodies.Ping here a = send_agrees n w (reply PING_XID w.learner.last_zxid (without_body OK)) a
+  call_agrees n w xid bodies.Write here a =
+      send_agrees n w (reply xid w.learner.last_zxid (without_body NOT_READ_ONLY)) a
+  call_agrees n w xid bodies.Unknown here a =
+      send_last_agrees n w (reply xid w.learner.last_zxid (without_body UNIMPLEMENTED)) a
+
+  no_session : (o : Option SessionConnection) → session_in o ≡ None → o ≡ None
+  no_session None e = refl
+  no_session (Some c) e = absurd (true≢false (ap is_some e))
+
+  open_is : (b : Bool) → not b ≡ false → b ≡ true
+  open_is true e = refl
+  open_is false e = absurd (true≢false e)
+
+  pub serve_agrees : (serving : Bool) (n : ℕ) (w : World) (frame : List ℕ) → is_closed n w ≡ false → Agreeing w
+      → Agreeing (serve serving n w frame).after
+  serve_agrees serving n w frame still a = by (session_of w.clients.sessions n) refl
+    where
+      here : IsOpen n w
+      here = open_is (is_open n w.clients) still
+
+      of_call : (c : Result Call Fault) → Agreeing (serve_as n w c).after
+      of_call (Ok c) = call_agrees n w c.xid c.body here a
+      of_call (Err e) = close_agrees n w a
+
+      by : (session : Option ℤ) → session_of w.clients.sessions n ≡ session
+          → Agreeing (serve_by serving n w frame session).after
+      by None e =
+          join_agrees serving n w (connecting_in frame)
+          (no_session (finmap.get w.clients.sessions.connections n) e) here a
+      by (Some session) e = of_call (call_in frame)
+
+  wait_agrees : (n : ℕ) (w : World) (o : Option Connection) (left : Unread) → Agreeing w
+      → Agreeing (wait_if_open n w o left).after
+  wait_agrees n w None left a = a
+  wait_agrees n w (Some k) (Ok rest) a = opened_agrees n (record { rest = rest }) w.clients a
+  wait_agrees n w (Some k) (Err e) a = close_agrees n w a
+
+  client_agrees : (serving : Bool) (n : ℕ) (w : World) (o : Option Connection) (bytes : List ℕ) → Agreeing w
+      → Agreeing (take_client_bytes serving n w o bytes).after
+  client_agrees serving n w None bytes a = a
+  client_agrees serving n w (Some k) bytes a =
+      let v = keep n w k [] in
+      let found = items frames (place_at tt (k.rest ++ bytes)) in
+      let h = happening (is_closed n) (serve serving n) v found.found in
+      wait_agrees n h.after (finmap.get h.after.clients.connections n) found.left.unread
+      (happening_keeps Agreeing (is_closed n) (serve serving n) (serve_agrees serving n) v found.found
+      (opened_agrees n at_rest w.clients a))
+
+  -- ---- the leader's packets
+
+  -- what was not refused
+  abbrev Taken : Result (Happened World) Fault → Type 0
+  Taken (Ok h) = Agreeing h.after
+  Taken (Err e) = Unit {0}
+
+  tell_agrees : (w : World) (triggers : List Trigger) → Agreeing w → Agreeing (tell w triggers).after
+  tell_agrees w triggers a =
+      watches_agree w (fire w.clients.watches triggers).left
+      (told (λ m. is_open m w.clients) w.clients.watches triggers a.watching).1 a
+
+  inform_agrees : (w : World) (x : Result Txn Fault) → Agreeing w → Taken (inform w x)
+  inform_agrees w (Ok t) a =
+      let meant = mean w.tree t in
+      cond_both (int_lt w.learner.last_zxid t.header.zxid) _ _ Taken
+      (λ _. tell_agrees (with_meant w t meant) meant.triggers a) (λ _. tt)
+  inform_agrees w (Err e) a = tt
+
+  receive_agrees : (w : World) (p : QuorumPacket) → Agreeing w → Taken (receive w p)
+  receive_agrees w p a = by (kind_of p.kind)
+    where
+      by : (k : Option PacketKind) → Taken (receive_as k w p.bytes)
+      by (Some kinds.Inform) = inform_agrees w (whole txn (carried_bytes p.bytes)) a
+      by k = a
+
+  deliver_agrees : (d : Delivery) (p : QuorumPacket) → Agreeing d.world → Agreeing (deliver d p).after.world
+  deliver_agrees d p a = by (receive d.world p) (receive_agrees d.world p a)
+    where
+      by : (r : Result (Happened World) Fault) → Taken r → Agreeing (deliver_as r d.world).after.world
+      by (Ok h) now = now
+      by (Err e) now = a
+
+  leave_agrees : (w : World) (leader : Result (Place Phase) Fault) → Agreeing w
+      → Agreeing (leave_leader w leader).after.world
+  leave_agrees w (Ok place) a = a
+  leave_agrees w (Err e) a = each_closed_agrees (finmap.keys w.clients.connections) w.clients a
+
+  leader_agrees : (leader : Option (Place Phase)) (w : World) (bytes : List ℕ) → Agreeing w
+      → Agreeing (take_leader_bytes leader w bytes).after.world
+  leader_agrees None w bytes a = a
+  leader_agrees (Some place) w bytes a =
+      let found = items packets (add place bytes) in
+      let d = (deliver_all w found.found).after in
+      leave_agrees d.world (end_at found.left d.fault)
+      (happening_keeps (λ (d : Delivery). Agreeing d.world) is_refused deliver (λ d p _. deliver_agrees d p)
+      (record { world = w; fault = None }) found.found a)
+
+  -- ---- events
+
+  happen_agrees : (m : Machine) (e : Event) → Agreeing m.world → Agreeing (happen m e).after.world
+  happen_agrees m (event.LeaderBytes bytes) a = leader_agrees m.leader m.world bytes a
+  happen_agrees m (event.ClientUp n) a =
+      cond_both (is_open n m.world.clients) _ _ Agreeing (λ _. a) (λ _. opened_agrees n at_rest m.world.clients a)
+  happen_agrees m (event.ClientBytes n bytes) a =
+      client_agrees (serving m) n m.world (finmap.get m.world.clients.connections n) bytes a
+  happen_agrees m (event.ClientEnd n) a =
+      cond_both (is_open n m.world.clients) _ _ Agreeing (λ _. closed_agrees n m.world.clients a) (λ _. a)
+  happen_agrees m (event.Expire session) a =
+      let e = expire m.world.clients.sessions session in
+      left_agrees (with_sessions m.world e.after) e.closed (expire_agrees m.world session a)
+  happen_agrees m e a = a
+
+  -- ---- the start
+
+  nobody_agrees : (config : Config) → IsTrue (is_server_id config.server_id) → ClientsAgree (no_clients config)
+  nobody_agrees config fits = record {
+    sessions = kept.starts (terms_of config.server_id config.timeouts config.secret) fits;
+    joined = λ n has. absurd (true≢false (sym has ∙ ap is_some (finmap.get-empty nat_cmp n)));
+    watching = (none, none);
+  }
+    where
+      none : AllPass (λ n. is_open n (no_clients config)) set.empty
+      none path n has = absurd (true≢false (sym has ∙ set.contains-empty watch_cmp (path, n)))
+
+  primed_agrees : (config : Config) → IsTrue (is_server_id config.server_id) → Agreeing (primed_machine config).world
+  primed_agrees config fits =
+      let w = (new_machine config).world in
+      let v : World = record w { clients = with_connection 1 at_rest w.clients } in
+      let s = w.clients.sessions in
+      let a = opened_agrees 1 at_rest w.clients (nobody_agrees config fits) in
+      let here : IsOpen 1 v = ap is_some (get-inserted w.clients.connections 1 at_rest) in
+      sessions_agree v (connect s 1 first_request).after
+      (kept.connects s 1 first_request a.sessions (finmap.get-empty nat_cmp 1))
+      (connected_passes (λ m. is_open m v.clients) s 1 here a.joined first_request) a
+
+  pub connections_agree : SessionsAreApart → ConnectionsAgree
+  connections_agree apart = record {
+    starts = nobody_agrees;
+    starts_primed = primed_agrees;
+    plays = happening_keeps (λ (m : Machine). Agreeing m.world) (λ _. false) happen (λ m e _. happen_agrees m e);
+    apart = one_session_each apart;
+  }

@@ -1,0 +1,148 @@
+-- A test that all numbers in a map pass, and all connections that have a session or watch something.
+use Rattle.std.proofs.Common.{◌≡◌, ℕ, ◌+◌, ◌==◌, ℤ, pos, Bool, true, false, ◌||◌, List, [], ◌∷◌, length, Option, Some, None, refl, sym, ap, ◌∙◌}
+use Rattle.std.specs.Prelude.{is_some, nat_lt}
+use Rattle.std.specs.List.{list_any}
+use Rattle.std.specs.Ordering.{eq_by_cmp, nat_cmp, int_eq}
+use Rattle.std.specs.Cmp.{nat_cmp_total, eq_by_cmp_equiv}
+use Rattle.std.proofs.Math.Bool.{or-false}
+use Rattle.std.proofs.lemmas.Bool.{cond_both}
+use Rattle.std.proofs.lemmas.Map.Lookups.{exact_unsigned}
+use Rattle.std.proofs.lemmas.Map.Views.{tells_apart}
+use Rattle.std.specs.FinMap as finmap
+use Rattle.std.specs.FinSet as set
+use mathlib.Core.Bool.{true≢false}
+use Rattle.jute.specs.declared.owned.Id.{Id}
+use Rattle.sessions.specs.declared.request.SessionRequest.{SessionRequest}
+use Rattle.sessions.specs.Credentials.{session_id_of, digest_id}
+use Rattle.sessions.specs.State.{Connection, State}
+use Rattle.sessions.specs.Sessions.{Connects, Shows, new_connection, greatest_counter, ids_limit, is_same_id, with_id, is_valid, connection_of, close, close_as, close_one, expire, expire_as, open_new, connect, show_in, digest_text, auth_by, auth}
+use Rattle.watch_manager.specs.Pairs.{Pairs, watch_cmp, same_connection}
+use Rattle.watch_manager.specs.Watching.{Watching}
+use Rattle.watch_manager.specs.Laws.{AllPass, WatchersPass}
+use Rattle.watch_manager.proofs.Totals.{watch_total, watch_exact}
+use Rattle.read_processor.specs.declared.watch.Watch.{Watch}
+use Rattle.read_processor.specs.declared.watch.Watch.TheVariants as tables
+use Rattle.observer_core.specs.Serve.{watched, watched_if, watched_each}
+
+or_first : (a b : Bool) → b ≡ false → (a || b) ≡ true → a ≡ true
+or_first a b none h = sym (or-false a) ∙ ap (λ x. a || x) (sym none) ∙ h
+
+-- ---- numbers in a map
+
+abbrev pub KeysPass : {X : Type 0} → (ℕ → Bool) → finmap.FinMap nat_cmp X → Type 0
+KeysPass test m = (k : ℕ) → finmap.contains_key m k ≡ true → test k ≡ true
+
+module _ {X : Type 0} (test : ℕ → Bool) (m : finmap.FinMap nat_cmp X) (n : ℕ) where
+  pub inserted_passes : (v : X) → test n ≡ true → KeysPass test m → KeysPass test (finmap.insert m n v)
+  inserted_passes v here all k has =
+      cond_both (eq_by_cmp nat_cmp k n) (Some v) (finmap.get m k) (λ o. is_some o ≡ true → test k ≡ true)
+      (λ same h. ap test (tells_apart exact_unsigned k n same) ∙ here) (λ other h. all k h)
+      (sym (ap is_some (finmap.get-insert nat_cmp_total m n v k)) ∙ has)
+
+  -- whoever is left passes, if only the one that was taken out doesn't
+  pub removed_passes : KeysPass (λ k. test k || same_connection n k) m → KeysPass test (finmap.remove m n)
+  removed_passes all k has =
+      cond_both (eq_by_cmp nat_cmp k n) None (finmap.get m k) (λ o. is_some o ≡ true → test k ≡ true)
+      (λ same h. absurd (true≢false (sym h)))
+      (λ other h. or_first (test k) (same_connection n k) ((eq_by_cmp_equiv nat_cmp_total).symm n k ∙ other) (all k h))
+      (sym (ap is_some (finmap.get-remove nat_cmp_total m n k)) ∙ has)
+
+  -- so it is where that one isn't in the map
+  pub absent_passes : finmap.get m n ≡ None → KeysPass (λ k. test k || same_connection n k) m → KeysPass test m
+  absent_passes none all k has = by (same_connection n k) refl
+    where
+      by : (b : Bool) → same_connection n k ≡ b → test k ≡ true
+      by true same =
+          let is_none = ap (finmap.get m) (sym (tells_apart exact_unsigned n k same)) ∙ none in
+          absurd (true≢false (sym has ∙ ap is_some is_none))
+      by false other = or_first (test k) (same_connection n k) other (all k has)
+
+-- ---- connections that have a session
+
+module _ (test : ℕ → Bool) where
+  abbrev Pass : State → Type 0
+  Pass s = KeysPass test s.connections
+
+  -- whoever has a session still passes, if only the one that was closed doesn't
+  pub closed_passes : (s : State) (n : ℕ) → KeysPass (λ k. test k || same_connection n k) s.connections
+      → Pass (close s n)
+  closed_passes s n all = by (finmap.get s.connections n) refl
+    where
+      by : (o : Option Connection) → finmap.get s.connections n ≡ o → Pass (close_as s n o)
+      by None none = absent_passes test s.connections n none all
+      by (Some c) has = removed_passes test s.connections n all
+
+  one_closed_passes : (s : State) (o : Option ℕ) → Pass s → Pass (close_one s o)
+  one_closed_passes s None all = all
+  one_closed_passes s (Some n) all = closed_passes s n (λ k has. ap (λ b. b || same_connection n k) (all k has))
+
+  pub expired_passes : (s : State) (session : ℤ) → Pass s → Pass (expire s session).after
+  expired_passes s session all = by (finmap.get s.guests session)
+    where
+      by : (o : Option (Option ℕ)) → Pass (expire_as s session o).after
+      by None = all
+      by (Some o) = one_closed_passes s o all
+
+  module _ (s : State) (n : ℕ) (here : test n ≡ true) (all : Pass s) where
+    shown_passes : (id : Id) (o : Option Connection) → Pass (show_in s n id o).after
+    shown_passes id None = all
+    shown_passes id (Some c) =
+        cond_both (list_any (λ shown. is_same_id shown id) c.ids) _ _ (λ (x : Shows). Pass x.after) (λ _. all)
+        (λ _. cond_both (nat_lt (length c.ids) ids_limit) _ _ (λ (x : Shows). Pass x.after)
+        (λ _. inserted_passes test s.connections n (with_id c id) here all) (λ _. all))
+
+    pub auth_passes : (scheme bytes : Option (List ℕ)) → Pass (auth s n scheme bytes).after
+    auth_passes scheme bytes = by (digest_text scheme bytes)
+      where
+        by : (o : Option (List ℕ)) → Pass (auth_by s n o).after
+        by None = all
+        by (Some text) = shown_passes (digest_id text) (finmap.get s.connections n)
+
+    opened_passes : (time_out : ℤ) → Pass (open_new s n time_out).after
+    opened_passes time_out =
+        let session = session_id_of s.terms.server_id (s.counter + 1) in
+        cond_both (s.counter == greatest_counter) _ _ (λ (x : Connects). Pass x.after) (λ _. all)
+        (λ _. inserted_passes test s.connections n (new_connection session) here all)
+
+    pub connected_passes : (request : SessionRequest) → Pass (connect s n request).after
+    connected_passes request =
+        let session = request.session_id in
+        let older = connection_of s session in
+        let others = one_closed_passes s older all in
+        cond_both (int_eq session (pos 0)) _ _ (λ (x : Connects). Pass x.after) (λ _. opened_passes request.time_out)
+        (λ _. cond_both (is_valid s request) _ _ (λ (x : Connects). Pass x.after)
+        (λ _. inserted_passes test (close_one s older).connections n (new_connection session) here others)
+        (λ _. all))
+
+-- ---- connections that watch
+
+-- a weaker test
+pub watchers_pass : (p q : ℕ → Bool) (w : Watching) → ((k : ℕ) → p k ≡ true → q k ≡ true) → WatchersPass p w
+    → WatchersPass q w
+watchers_pass p q w weaker all = (λ path k has. weaker k (all.0 path k has), λ path k has. weaker k (all.1 path k has))
+
+module _ (test : ℕ → Bool) (n : ℕ) (here : test n ≡ true) where
+  pair_passes : (pairs : Pairs) (path : List ℕ) → AllPass test pairs → AllPass test (set.insert pairs (path, n))
+  pair_passes pairs path all at k has =
+      by (eq_by_cmp watch_cmp (at, k) (path, n)) refl
+      (sym (set.contains-insert watch_total pairs (path, n) (at, k)) ∙ has)
+    where
+      by : (b : Bool) → eq_by_cmp watch_cmp (at, k) (path, n) ≡ b → (b || set.contains pairs (at, k)) ≡ true
+          → test k ≡ true
+      by true same h = ap (λ (p : List ℕ × ℕ). test p.1) (tells_apart watch_exact (at, k) (path, n) same) ∙ here
+      by false other h = all at k h
+
+  watched_passes : (w : Watching) (watch : Watch) → WatchersPass test w → WatchersPass test (watched n w watch)
+  watched_passes w (tables.Data path) all = (pair_passes w.own path all.0, all.1)
+  watched_passes w (tables.Child path) all = (all.0, pair_passes w.child path all.1)
+
+  pub watched_if_passes : (w : Watching) (watch : Option Watch) → WatchersPass test w
+      → WatchersPass test (watched_if n w watch)
+  watched_if_passes w None all = all
+  watched_if_passes w (Some watch) all = watched_passes w watch all
+
+  pub watched_each_passes : (w : Watching) (watches : List Watch) → WatchersPass test w
+      → WatchersPass test (watched_each n w watches)
+  watched_each_passes w [] all = all
+  watched_each_passes w (watch ∷ others) all =
+      watched_each_passes (watched n w watch) others (watched_passes w watch all)

@@ -1,0 +1,12 @@
+use Rattle.std.proofs.lemmas.Result.{err_from_is_err_and}
+use Rattle.values.proofs.Gaining.{gains_nothing}
+use Rattle.sessions.specs.Sessions.{connect}
+use Rattle.client_frames.specs.Connect.{session_request}
+use Rattle.observer_core.specs.Serve.{connected}
+use Rattle.observer_core.proofs.joining.admit.Goals as goal
+
+pub returns-in_err-connected : goal.returns-in_err-connected
+returns-in_err-connected c =
+    let p = err_from_is_err_and c.from_residual.result c.from_residual.ensures.1 in
+    let asked = connect c.args.world.now.clients.sessions c.args.number (session_request c.args.connecting.request) in
+    rw p.1 (gains_nothing c.args.outputs.now.items (connected c.args.number c.args.world.now c.args.connecting.has_byte asked).outputs)

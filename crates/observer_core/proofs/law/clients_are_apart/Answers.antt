@@ -1,0 +1,23 @@
+use Rattle.std.proofs.Common.{refl, []}
+use Rattle.std.specs.FinMap as finmap
+use Rattle.observer_core.specs.Machine.{World}
+use Rattle.observer_core.specs.Agreement.{ClientsAgree}
+use Rattle.observer_core.specs.Play.{serving}
+use Rattle.observer_core.proofs.Agreeing.{opened_agrees, serve_agrees}
+use Rattle.observer_core.proofs.Apart.{open_apart, bytes_apart, end_apart}
+use Rattle.observer_core.proofs.law.clients_are_apart.Goals as goal
+
+pub returns : goal.returns
+returns c =
+    let stay = c.others_stay.ensures in
+    let keep_watches = c.firing.ensures.others in
+    let served = serve_agrees c.sessions_and_connections_agree.ensures.kept c.firing.ensures.watchers c.firing.ensures.dropped in
+    record {
+      comes = λ m n. record { leader = refl; world = open_apart stay keep_watches n m.world };
+      sends = λ m n bytes agree. record {
+        leader = refl;
+        world = bytes_apart stay keep_watches (λ (w : World). ClientsAgree w.clients) (λ w a. a.sessions) served (serving m) n m.world
+            (finmap.get m.world.clients.connections n) bytes (λ k is. opened_agrees n (record { rest = [] }) m.world.clients agree);
+      };
+      goes = λ m n. record { leader = refl; world = end_apart stay keep_watches n m.world };
+    }

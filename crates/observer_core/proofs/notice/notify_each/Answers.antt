@@ -1,0 +1,18 @@
+use Rattle.std.proofs.Common.{ℕ, suc, List, ◌∷◌, drop, ap, sym, ◌∙◌}
+use Rattle.std.proofs.lemmas.Result.{err_from_is_err_and}
+use Rattle.std.proofs.Math.Seq.{drop-cons}
+use Rattle.watch_manager.specs.declared.event.Event.{Event}
+use Rattle.observer_core.specs.Clients.{notice, notices}
+use Rattle.observer_core.proofs.Steps.{putting, stops_in_step}
+use Rattle.observer_core.proofs.notice.notify_each.Goals as goal
+
+pub returns-in_err-notify : goal.returns-in_err-notify
+returns-in_err-notify c =
+    let p = err_from_is_err_and c.from_residual.result c.from_residual.ensures.1 in
+    let l = c.loop-number in
+    let told = c.loop-number-item.result in
+    let others = drop (suc l.number-index) c.args.events.now in
+    let is = drop-cons c.args.events.now l.number-index told c.loop-number-test.true ∙ ap (λ (e : ℕ × Event). e ∷ others) (sym c.loop-number-item.is) in
+    rw p.1 (stops_in_step c.args.outputs.now.items (putting (notices c.args.events.now)) l.outputs.items c.notify.new.outputs.items
+    (putting (notices (drop l.number-index c.args.events.now))) (putting (notice told.0 told.1)) (λ u. putting (notices others))
+    (ap (λ (es : List (ℕ × Event)). putting (notices es)) is) c.in_err-notify.ensures l.invariant)

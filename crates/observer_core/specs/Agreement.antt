@@ -1,0 +1,36 @@
+-- How sessions, watches and open connections hang together.
+use Rattle.std.specs.Prelude.{◌≡◌, ℕ, ℤ, List, Some, true, IsTrue}
+use Rattle.std.specs.FinMap as finmap
+use Rattle.settings.specs.Settings.{is_server_id}
+use Rattle.sessions.specs.Sessions.{session_of}
+use Rattle.sessions.specs.Agreement.{Agrees}
+use Rattle.watch_manager.specs.Laws.{WatchersPass}
+use Rattle.observer_core.specs.declared.config.Config.{Config}
+use Rattle.observer_core.specs.declared.event.Event.{Event}
+use Rattle.observer_core.specs.Machine.{Clients, Machine}
+use Rattle.observer_core.specs.Clients.{is_open}
+use Rattle.observer_core.specs.Play.{play, new_machine, primed_machine}
+
+-- Sessions and watches name open connections.
+pub record ClientsAgree (c : Clients) : Type 0 where
+  -- each connection's session is a guest session that hasn't ended, and that session's connection is this one
+  pub sessions : Agrees c.sessions
+  -- whoever has a session is open
+  pub joined : (n : ℕ) → finmap.contains_key c.sessions.connections n ≡ true → is_open n c ≡ true
+  -- whoever watches something is open
+  pub watching : WatchersPass (λ n. is_open n c) c.watches
+
+-- no two connections have one session
+abbrev pub OneSessionEach : Type 0
+OneSessionEach = (c : Clients) → ClientsAgree c → (m n : ℕ) (session : ℤ)
+    → session_of c.sessions m ≡ Some session → session_of c.sessions n ≡ Some session → m ≡ n
+
+-- it is so at the start, and no event ends it
+pub record ConnectionsAgree : Type 0 where
+  pub starts : (config : Config) → IsTrue (is_server_id config.server_id)
+      → ClientsAgree (new_machine config).world.clients
+  pub starts_primed : (config : Config) → IsTrue (is_server_id config.server_id)
+      → ClientsAgree (primed_machine config).world.clients
+  pub plays : (m : Machine) (events : List Event) → ClientsAgree m.world.clients
+      → ClientsAgree (play m events).after.world.clients
+  pub apart : OneSessionEach
