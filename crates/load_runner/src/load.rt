@@ -1,39 +1,22 @@
-//! A leader and a client that know what they say, and the engine that they say it to.
+//! A leader and clients that know what they say, and the engine that they say it to.
 
-ghost use Rattle.std.specs.Prelude.{◌≤◌, length};
 ghost use Rattle.txn_codec.specs.Spelling.{body as body_format};
 
-use crate::choice::Choice;
-use crate::messages::{
-    PATH_LIMIT, child_path, create, parent_path, set_data, write_get_data, write_inform,
-};
+use crate::messages::{child_path, create, parent_path, write_connect, write_inform};
 use anyhow::{Context, Result, ensure};
 use observer_core::{Config, Engine, Event, Output};
 use std::alloc::Global;
-use txn_codec::{Body, Path, Txn, TxnHeader};
+use txn_codec::{Body, Txn, TxnHeader};
 use values::{Blob, Bytes};
 
 // The session that asked for all transactions.
 const SESSION: i64 = 7;
 
-// The connection that a primed engine has.
-const CONNECTION: u64 = 1;
+/// The connection that a primed engine has.
+pub const CONNECTION: u64 = 1;
 
 // The zxid before the first transaction of epoch 1.
 const EPOCH: i64 = 0x1_0000_0000;
-
-/// How much is to be done.
-#[derive(Clone, Copy, Debug)]
-pub struct Sizes {
-    /// How many nodes are made below the root.
-    pub parents: u32,
-    /// How many nodes are made below each of these.
-    pub children: u32,
-    /// How often the data of such a node is set.
-    pub sets: u32,
-    /// A node is read at each so many sets; 0: never.
-    pub every: u32,
-}
 
 /// The engine, and what was said to it.
 #[derive(Drop)]
@@ -41,8 +24,10 @@ pub struct Load {
     pub engine: Engine,
     /// How many transactions the leader told of.
     pub transactions: u64,
-    /// How many reads were answered.
+    /// How many requests were answered.
     pub replies: u64,
+    /// How many events clients were told of.
+    pub events: u64,
     // The zxid of the last one.
     zxid: i64,
     // The bytes of the message that is said next.
@@ -51,9 +36,9 @@ pub struct Load {
     outputs: Vec<Output>,
 }
 
-// Whether a node is read before the set of a number.
-fn is_read(every: u32, set: u32) -> bool {
-    every != 0 && set % every == 0
+// A count of what was said or came back, with so many more.
+fn more(count: u64, more: u64) -> Result<u64> {
+    count.checked_add(more).context("no count is left")
 }
 
 impl Load {
@@ -66,14 +51,28 @@ impl Load {
             engine,
             transactions: 0,
             replies: 0,
+            events: 0,
             zxid: EPOCH,
             message: Vec::new(alloc),
             outputs: Vec::new(alloc),
         })
     }
 
-    // The leader tells of a transaction.
-    fn tell(&mut self, alloc: Global, body: Body) -> Result<()>
+    // Takes away what went out, and answers how much it was. All of it goes to clients.
+    fn take_sent(&mut self) -> Result<u64> {
+        ensure!(
+            self.outputs
+                .iter()
+                .all(|output| matches!(output, Output::ToClient(_, _))),
+            "a connection was closed"
+        );
+        let sent = self.outputs.len() as u64;
+        self.outputs.clear();
+        Ok(sent)
+    }
+
+    /// The leader tells of a transaction, and those who watch what it changes are told.
+    pub fn tell(&mut self, alloc: Global, body: Body) -> Result<()>
         requires { body_format.Writable body }
     {
         let zxid = self.zxid.checked_add(1).context("no zxid is left")?;
@@ -84,98 +83,72 @@ impl Load {
             time: 1000,
         };
         self.zxid = zxid;
-        self.transactions = self
-            .transactions
-            .checked_add(1)
-            .context("no count of transactions is left")?;
+        self.transactions = more(self.transactions, 1)?;
         self.message.clear();
         write_inform(alloc, &Txn { header, body }, &mut self.message)?;
         let events = [Event::LeaderBytes(Bytes::new(self.message.as_slice()))];
         self.engine.feed_inline(alloc, &events, &mut self.outputs)?;
-        ensure!(
-            self.outputs.is_empty(),
-            "the leader's connection was closed"
-        );
+        let sent = self.take_sent()?;
+        self.events = more(self.events, sent)?;
         Ok(())
     }
 
-    // The client asks for a node's data.
-    fn ask(&mut self, alloc: Global, path: &Path) -> Result<()>
-        requires { length path.now ≤ PATH_LIMIT }
-    {
-        self.message.clear();
-        write_get_data(alloc, 1, path, &mut self.message)?;
-        let events = [Event::ClientBytes(CONNECTION, Bytes::new(self.message.as_slice()))];
+    /// A connection's bytes come, and are answered as far as they are whole.
+    pub fn hear(&mut self, alloc: Global, connection: u64, bytes: &[u8]) -> Result<()> {
+        let events = [Event::ClientBytes(connection, Bytes::new(bytes))];
         self.engine.feed_inline(alloc, &events, &mut self.outputs)?;
-        ensure!(
-            self.outputs
-                .iter()
-                .all(|output| matches!(output, Output::ToClient(_, _))),
-            "a connection was closed"
-        );
-        self.replies = self
-            .replies
-            .checked_add(self.outputs.len() as u64)
-            .context("no count of replies is left")?;
-        self.outputs.clear();
+        let sent = self.take_sent()?;
+        self.replies = more(self.replies, sent)?;
         Ok(())
+    }
+
+    /// A client connects, and is given a session.
+    pub fn open(&mut self, alloc: Global, connection: u64) -> Result<()> {
+        let events = [Event::ClientUp(connection)];
+        self.engine.feed_inline(alloc, &events, &mut self.outputs)?;
+        let mut frame = Vec::new(alloc);
+        write_connect(alloc, &mut frame)?;
+        self.hear(alloc, connection, frame.as_slice())
     }
 
     // Makes the nodes below a parent.
-    fn make_children(&mut self, alloc: Global, parent: u32, children: u32) -> Result<()> {
+    fn make_children(
+        &mut self,
+        alloc: Global,
+        parent: u32,
+        children: u32,
+        content: &[u8],
+    ) -> Result<()> {
         for child in 0..children {
             let path = child_path(alloc, parent, child)?;
-            let body = create(alloc, path)?;
+            let body = create(alloc, path, content)?;
             self.tell(alloc, body)?;
         }
         Ok(())
     }
 
-    // Makes the nodes below the root.
-    fn make_parents(&mut self, alloc: Global, parents: u32) -> Result<()> {
+    /// Makes nodes below the root.
+    pub fn make_parents(&mut self, alloc: Global, parents: u32, content: &[u8]) -> Result<()> {
         for parent in 0..parents {
             let path = parent_path(alloc, parent)?;
-            let body = create(alloc, path)?;
+            let body = create(alloc, path, content)?;
             self.tell(alloc, body)?;
         }
         Ok(())
     }
 
-    // Sets a node's data, and may read it before.
-    fn set_one(&mut self, alloc: Global, path: Path, is_read: bool) -> Result<()>
-        requires { length path ≤ PATH_LIMIT }
-    {
-        if is_read {
-            self.ask(alloc, &path)?;
-        }
-        let body = set_data(alloc, path)?;
-        self.tell(alloc, body)
-    }
-
-    // Sets the data of children, and reads some of them.
-    fn set(&mut self, alloc: Global, sizes: &Sizes) -> Result<()>
-        requires parents { 1 ≤ sizes.now.parents }
-        requires children { 1 ≤ sizes.now.children }
-    {
-        let mut choice = Choice::new();
-        for set in 0..sizes.sets {
-            let parent = choice.below(sizes.parents);
-            let child = choice.below(sizes.children);
-            let path = child_path(alloc, parent, child)?;
-            self.set_one(alloc, path, is_read(sizes.every, set))?;
+    /// Makes nodes below the root, and nodes below each of these, all with the same data.
+    pub fn make_tree(
+        &mut self,
+        alloc: Global,
+        parents: u32,
+        children: u32,
+        content: &[u8],
+    ) -> Result<()> {
+        self.make_parents(alloc, parents, content)?;
+        for parent in 0..parents {
+            self.make_children(alloc, parent, children, content)?;
         }
         Ok(())
-    }
-
-    /// Makes the nodes, and then sets and reads children, which are chosen by a fixed sequence of numbers.
-    pub fn run(&mut self, alloc: Global, sizes: &Sizes) -> Result<()> {
-        self.make_parents(alloc, sizes.parents)?;
-        for parent in 0..sizes.parents {
-            self.make_children(alloc, parent, sizes.children)?;
-        }
-        if sizes.parents == 0 || sizes.children == 0 {
-            return Ok(());
-        }
-        self.set(alloc, sizes)
     }
 }

@@ -1,40 +1,105 @@
-//! Feeds the engine with transactions and reads that are made in memory, and prints counts alone, so that it can be timed.
+//! Feeds the engine with transactions and requests that are made in memory, and prints counts alone,
+//! so that it can be timed.
 //!
-//! `load_runner PARENTS CHILDREN SETS EVERY`: the leader tells of PARENTS creates below the root and of CHILDREN below each
-//! of these, then of SETS setDatas of children; a client reads a child at each EVERY of them, and never where EVERY is 0.
+//! `load_runner PARENTS CHILDREN SETS EVERY`: the leader tells of PARENTS creates below the root and
+//! of CHILDREN below each of these, then of SETS setDatas of children; a client reads a child at each
+//! EVERY of them, and never where EVERY is 0.
+//!
+//! `load_runner reads PARENTS CHILDREN READS TIMES PIECE`: after such creates, of 100 bytes of data
+//! each, a client writes READS getDatas of children, and says all of them TIMES times, in pieces of
+//! PIECE bytes.
+//!
+//! `load_runner watches CONNECTIONS WATCHES SETS OTHERS`: OTHERS watches are left, and CONNECTIONS
+//! connections opened, each of which leaves WATCHES watches; then, SETS times, each of these
+//! connections watches one node, and the leader sets it.
 #![tactic(auto)]
 
 mod choice;
 mod load;
 mod messages;
+mod reads;
+mod sets;
+mod watches;
 
 use anyhow::{Context, Result};
-use load::{Load, Sizes};
-use std::alloc::Global;
+use load::Load;
+use reads::Reads;
+use sets::Sets;
+use std::alloc::{AllocError, Global};
 use std::env;
+use watches::Watched;
 
-// One of the four numbers of the command line.
-fn number(argument: Option<String>) -> Result<u32> {
-    let text = argument.context("four numbers are wanted: PARENTS CHILDREN SETS EVERY")?;
+const USAGE: &str =
+    "wanted: PARENTS CHILDREN SETS EVERY, or reads PARENTS CHILDREN READS TIMES PIECE, \
+    or watches CONNECTIONS WATCHES SETS OTHERS";
+
+// The words behind the program's name.
+fn words(rt: &HostRuntime) -> Result<Vec<String>> {
+    let mut words = Vec::new(rt.alloc());
+    for word in env::args(rt)?.skip(1) {
+        words.push(word).map_err(AllocError::from)?;
+    }
+    Ok(words)
+}
+
+// One of the numbers of the command line.
+fn number(words: &[String], place: usize) -> Result<u32> {
+    let text = words.get(place).context(USAGE)?;
     text.as_str().parse::<u32>().context("no number of 32 bits")
 }
 
+fn sets_of(words: &[String]) -> Result<Sets> {
+    Ok(Sets {
+        parents: number(words, 0)?,
+        children: number(words, 1)?,
+        sets: number(words, 2)?,
+        every: number(words, 3)?,
+    })
+}
+
+fn reads_of(words: &[String]) -> Result<Reads> {
+    Ok(Reads {
+        parents: number(words, 1)?,
+        children: number(words, 2)?,
+        reads: number(words, 3)?,
+        times: number(words, 4)?,
+        piece: number(words, 5)?,
+    })
+}
+
+fn watched_of(words: &[String]) -> Result<Watched> {
+    Ok(Watched {
+        connections: number(words, 1)?,
+        watches: number(words, 2)?,
+        sets: number(words, 3)?,
+        others: number(words, 4)?,
+    })
+}
+
+// Puts the load on the engine that the words ask for.
+fn run(alloc: Global, load: &mut Load, words: &[String]) -> Result<()> {
+    let word = words.first().context(USAGE)?.as_str();
+    if word == "reads" {
+        return load.read(alloc, &reads_of(words)?);
+    }
+    if word == "watches" {
+        return load.watch(alloc, &watched_of(words)?);
+    }
+    load.set(alloc, &sets_of(words)?)
+}
+
 fn main(rt: HostRuntime) -> Result<()> {
-    let mut arguments = env::args(&rt)?;
-    let _program = arguments.next();
-    let sizes = Sizes {
-        parents: number(arguments.next())?,
-        children: number(arguments.next())?,
-        sets: number(arguments.next())?,
-        every: number(arguments.next())?,
-    };
+    let words = words(&rt)?;
     let alloc: Global = rt.alloc();
     let mut load = Load::new(alloc)?;
-    load.run(alloc, &sizes)?;
+    run(alloc, &mut load, words.as_slice())?;
     let transactions = load.transactions;
     let replies = load.replies;
+    let events = load.events;
     let paths = load.engine.tree().paths();
     let zxid = load.engine.learner().last_zxid();
-    println!(rt; "transactions={transactions} replies={replies} paths={paths} zxid=0x{zxid:x}")?;
+    println!(rt;
+        "transactions={transactions} replies={replies} events={events} paths={paths} zxid=0x{zxid:x}"
+    )?;
     Ok(())
 }

@@ -4,8 +4,8 @@ ghost use Rattle.std.specs.Prelude.{◌≤◌, length, IfOk};
 ghost use Rattle.txn_codec.specs.Spelling.{body as body_format};
 
 use anyhow::{Result, ensure};
-use client_records::PathAndWatch;
-use jute::codes::{GET_DATA, open_list};
+use client_records::{ConnectRequest, PathAndWatch, RequestKind};
+use jute::codes::open_list;
 use jute::{RequestHeader, WriteRecord, put_bytes};
 use quorum_packet::{PacketKind, QuorumPacket, write_packet};
 use std::alloc::Global;
@@ -18,8 +18,11 @@ pub const PATH_LIMIT: usize = 64;
 // The most bytes of a transaction or a request that a message carries here.
 const CARRIED_LIMIT: usize = 1024;
 
-// What each node holds.
-const CONTENT: &[u8; 16] = b"0123456789abcdef";
+/// What a node holds where nothing else is said.
+pub const CONTENT: &[u8] = b"0123456789abcdef";
+
+/// 100 bytes that a node may hold.
+pub const LONG_CONTENT: &[u8; 100] = &[b'x'; 100];
 
 // The path of a text, if it is a short one.
 fn short_path(alloc: Global, text: &str) -> Result<Path>
@@ -45,13 +48,22 @@ pub fn child_path(alloc: Global, parent: u32, child: u32) -> Result<Path>
     short_path(alloc, text.as_str())
 }
 
+/// The path of a node that a connection watches: 20 bytes, where the numbers are below 10,000,000.
+pub fn watched_path(alloc: Global, connection: u64, watch: u32) -> Result<Path>
+    ensures { IfOk result (λ p. length p ≤ PATH_LIMIT) }
+{
+    let text = format!(in alloc; "/c{connection:07}/w{watch:09}")?;
+    short_path(alloc, text.as_str())
+}
+
 /// A node is made that everyone may change.
 #[tactic(auto, unfolding(jute::specs::Owned::acl, jute::specs::Owned::id))]
-pub fn create(alloc: Global, path: Path) -> Result<Body, NoMemory>
+pub fn create(alloc: Global, path: Path, content: &[u8]) -> Result<Body>
     requires { length path ≤ PATH_LIMIT }
     ensures { IfOk result body_format.Writable }
 {
-    let bytes = Blob::new(alloc, CONTENT)?;
+    ensure!(content.len() <= CARRIED_LIMIT, "a node's data is too long");
+    let bytes = Blob::new(alloc, content)?;
     let acl = open_list(alloc)?;
     Ok(Body::Single(Operation::Create(Create {
         path,
@@ -75,7 +87,7 @@ pub fn set_data(alloc: Global, path: Path) -> Result<Body, NoMemory>
     })))
 }
 
-/// Writes the packet by which a leader tells of a transaction. An error may leave a front of the packet.
+/// Writes the packet by which a leader tells of a transaction. An error may leave a front of it.
 #[tactic(auto, unfolding(quorum_packet::specs::Packet::packet))]
 pub fn write_inform(alloc: Global, txn: &Txn, out: &mut Vec<u8>) -> Result<()>
     requires { body_format.Writable txn.now.body }
@@ -92,20 +104,43 @@ pub fn write_inform(alloc: Global, txn: &Txn, out: &mut Vec<u8>) -> Result<()>
     Ok(write_packet(&informing, out)?)
 }
 
-/// Writes the frame by which a client asks for a node's data, without a watch. An error may leave a front of it.
+/// Writes the frame by which a client reads a node and may watch it. An error may leave a front of
+/// it.
 #[tactic(auto, unfolding(jute::specs::Records::request_header, client_records::specs::Requests::path_and_watch))]
-pub fn write_get_data(alloc: Global, xid: i32, path: &Path, out: &mut Vec<u8>) -> Result<()>
+pub fn write_read(
+    alloc: Global,
+    kind: RequestKind,
+    path: &Path,
+    watch: bool,
+    out: &mut Vec<u8>,
+) -> Result<()>
     requires { length path.now ≤ PATH_LIMIT }
 {
     let mut frame = Vec::new(alloc);
     let header = RequestHeader {
-        xid,
-        kind: GET_DATA,
+        xid: 1,
+        kind: kind.code(),
     };
     header.write(&mut frame)?;
     let request = PathAndWatch {
         path: Some(Str::new(path.as_str())),
-        watch: false,
+        watch,
+    };
+    request.write(&mut frame)?;
+    ensure!(frame.len() <= CARRIED_LIMIT, "a request is too long");
+    Ok(put_bytes(out, frame.as_slice())?)
+}
+
+/// Writes the frame by which a client asks for a new session. An error may leave a front of it.
+#[tactic(auto, unfolding(client_records::specs::Requests::connect_request))]
+pub fn write_connect(alloc: Global, out: &mut Vec<u8>) -> Result<()> {
+    let mut frame = Vec::new(alloc);
+    let request = ConnectRequest {
+        protocol_version: 0,
+        last_zxid_seen: 0,
+        time_out: 10_000,
+        session_id: 0,
+        passwd: None,
     };
     request.write(&mut frame)?;
     ensure!(frame.len() <= CARRIED_LIMIT, "a request is too long");

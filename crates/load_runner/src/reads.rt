@@ -1,0 +1,67 @@
+//! Reads, one behind the other without waiting.
+
+ghost use Rattle.std.specs.Prelude.{◌≤◌};
+
+use crate::choice::Choice;
+use crate::load::{CONNECTION, Load};
+use crate::messages::{LONG_CONTENT, child_path, write_read};
+use anyhow::{Result, ensure};
+use client_records::RequestKind;
+use std::alloc::Global;
+
+/// How much is to be read.
+#[derive(Clone, Copy, Debug)]
+pub struct Reads {
+    /// How many nodes are made below the root.
+    pub parents: u32,
+    /// How many nodes are made below each of these.
+    pub children: u32,
+    /// How many reads of such nodes the client writes.
+    pub reads: u32,
+    /// How often it says all of them.
+    pub times: u32,
+    /// In pieces of how many bytes these come.
+    pub piece: u32,
+}
+
+// The frames by which the data of children is asked for, in a mixed order.
+fn frames_of_reads(alloc: Global, sizes: &Reads) -> Result<Vec<u8>>
+    requires parents { 1 ≤ sizes.now.parents }
+    requires children { 1 ≤ sizes.now.children }
+{
+    let mut choice = Choice::new();
+    let mut frames = Vec::new(alloc);
+    for _ in 0..sizes.reads {
+        let parent = choice.below(sizes.parents);
+        let child = choice.below(sizes.children);
+        let path = child_path(alloc, parent, child)?;
+        write_read(alloc, RequestKind::GetData, &path, false, &mut frames)?;
+    }
+    Ok(frames)
+}
+
+impl Load {
+    // The client's bytes come in pieces.
+    fn hear_in_pieces(&mut self, alloc: Global, bytes: &[u8], piece: usize) -> Result<()>
+        requires { 1 ≤ piece }
+    {
+        for piece in bytes.chunks(piece) {
+            self.hear(alloc, CONNECTION, piece)?;
+        }
+        Ok(())
+    }
+
+    /// Makes the nodes with 100 bytes of data each, and then reads children.
+    pub fn read(&mut self, alloc: Global, sizes: &Reads) -> Result<()> {
+        ensure!(
+            sizes.parents > 0 && sizes.children > 0 && sizes.piece > 0,
+            "there is nothing to be read"
+        );
+        self.make_tree(alloc, sizes.parents, sizes.children, LONG_CONTENT)?;
+        let frames = frames_of_reads(alloc, sizes)?;
+        for _ in 0..sizes.times {
+            self.hear_in_pieces(alloc, frames.as_slice(), sizes.piece as usize)?;
+        }
+        Ok(())
+    }
+}

@@ -1,0 +1,75 @@
+//! Transactions, with reads between.
+
+ghost use Rattle.std.specs.Prelude.{◌≤◌, length};
+
+use crate::choice::Choice;
+use crate::load::{CONNECTION, Load};
+use crate::messages::{CONTENT, PATH_LIMIT, child_path, set_data, write_read};
+use anyhow::Result;
+use client_records::RequestKind;
+use std::alloc::Global;
+use txn_codec::Path;
+
+/// How much is to be set.
+#[derive(Clone, Copy, Debug)]
+pub struct Sets {
+    /// How many nodes are made below the root.
+    pub parents: u32,
+    /// How many nodes are made below each of these.
+    pub children: u32,
+    /// How often the data of such a node is set.
+    pub sets: u32,
+    /// A node is read at each so many sets; 0: never.
+    pub every: u32,
+}
+
+// Whether a node is read before the set of a number.
+fn is_read(every: u32, set: u32) -> bool {
+    every != 0 && set % every == 0
+}
+
+impl Load {
+    // The client asks for a node's data.
+    fn ask(&mut self, alloc: Global, path: &Path) -> Result<()>
+        requires { length path.now ≤ PATH_LIMIT }
+    {
+        let mut frame = Vec::new(alloc);
+        write_read(alloc, RequestKind::GetData, path, false, &mut frame)?;
+        self.hear(alloc, CONNECTION, frame.as_slice())
+    }
+
+    // Sets a node's data, and may read it before.
+    fn set_one(&mut self, alloc: Global, path: Path, is_read: bool) -> Result<()>
+        requires { length path ≤ PATH_LIMIT }
+    {
+        if is_read {
+            self.ask(alloc, &path)?;
+        }
+        let body = set_data(alloc, path)?;
+        self.tell(alloc, body)
+    }
+
+    // Sets the data of children, and reads some of them.
+    fn set_children(&mut self, alloc: Global, sizes: &Sets) -> Result<()>
+        requires parents { 1 ≤ sizes.now.parents }
+        requires children { 1 ≤ sizes.now.children }
+    {
+        let mut choice = Choice::new();
+        for set in 0..sizes.sets {
+            let parent = choice.below(sizes.parents);
+            let child = choice.below(sizes.children);
+            let path = child_path(alloc, parent, child)?;
+            self.set_one(alloc, path, is_read(sizes.every, set))?;
+        }
+        Ok(())
+    }
+
+    /// Makes the nodes, and then sets and reads children in a mixed order.
+    pub fn set(&mut self, alloc: Global, sizes: &Sets) -> Result<()> {
+        self.make_tree(alloc, sizes.parents, sizes.children, CONTENT)?;
+        if sizes.parents == 0 || sizes.children == 0 {
+            return Ok(());
+        }
+        self.set_children(alloc, sizes)
+    }
+}

@@ -1,0 +1,78 @@
+//! Watches, and the events that use them up.
+
+use crate::load::{CONNECTION, Load};
+use crate::messages::{CONTENT, parent_path, set_data, watched_path, write_read};
+use anyhow::Result;
+use client_records::RequestKind;
+use std::alloc::Global;
+
+// The first connection that is opened here.
+const FIRST: u64 = 2;
+
+/// How much is to be watched.
+#[derive(Clone, Copy, Debug)]
+pub struct Watched {
+    /// How many connections are opened.
+    pub connections: u32,
+    /// How many watches each of them leaves that nothing uses up.
+    pub watches: u32,
+    /// How often the node is set that all of them watch.
+    pub sets: u32,
+    /// How many watches stand beside that nothing uses up.
+    pub others: u32,
+}
+
+impl Load {
+    // A connection watches paths of 20 bytes, at which there are no nodes.
+    fn leave(&mut self, alloc: Global, connection: u64, watches: u32) -> Result<()> {
+        let mut frame = Vec::new(alloc);
+        for watch in 0..watches {
+            let path = watched_path(alloc, connection, watch)?;
+            frame.clear();
+            write_read(alloc, RequestKind::Exists, &path, true, &mut frame)?;
+            self.hear(alloc, connection, frame.as_slice())?;
+        }
+        Ok(())
+    }
+
+    // Opens connections, each of which leaves its own watches.
+    fn open_all(&mut self, alloc: Global, connections: u32, watches: u32) -> Result<()> {
+        for connection in 0..connections {
+            let connection = u64::from(connection) + FIRST;
+            self.open(alloc, connection)?;
+            self.leave(alloc, connection, watches)?;
+        }
+        Ok(())
+    }
+
+    // Each of the connections watches the first node below the root.
+    fn watch_first(&mut self, alloc: Global, connections: u32) -> Result<()> {
+        let path = parent_path(alloc, 0)?;
+        let mut frame = Vec::new(alloc);
+        write_read(alloc, RequestKind::GetData, &path, true, &mut frame)?;
+        for connection in 0..connections {
+            let connection = u64::from(connection) + FIRST;
+            self.hear(alloc, connection, frame.as_slice())?;
+        }
+        Ok(())
+    }
+
+    // The leader tells that this node was set.
+    fn set_first(&mut self, alloc: Global) -> Result<()> {
+        let path = parent_path(alloc, 0)?;
+        let body = set_data(alloc, path)?;
+        self.tell(alloc, body)
+    }
+
+    /// Opens connections that leave watches; then, each time, all watch one node, which is set.
+    pub fn watch(&mut self, alloc: Global, sizes: &Watched) -> Result<()> {
+        self.leave(alloc, CONNECTION, sizes.others)?;
+        self.open_all(alloc, sizes.connections, sizes.watches)?;
+        self.make_parents(alloc, 1, CONTENT)?;
+        for _ in 0..sizes.sets {
+            self.watch_first(alloc, sizes.connections)?;
+            self.set_first(alloc)?;
+        }
+        Ok(())
+    }
+}
