@@ -34,7 +34,7 @@ pub record IsApart (n : ℕ) (w : World) (h : Happened World) : Type 0 where
   pub outputs : AllByRecursion (IsOf n) h.outputs
   pub learner : h.after.learner ≡ w.learner
   pub tree : h.after.tree ≡ w.tree
-  -- another connection is untouched, unless it is closed: an older connection of the session is
+  -- another connection that isn't closed is untouched
   pub others : (k : ℕ) → k ≢ n → StaysOpen k h.outputs → IsUntouched k w.clients h.after.clients
 
 -- the same of a machine; the leader's bytes are left, too

@@ -48,9 +48,9 @@ pub fn connections_agree()
     watch_manager::law::firing();
 }
 
-/// A client that comes, sends or goes leaves the tree, the log, and every other connection: the bytes that wait there, its
-/// session and ids, and its watches; and what goes out names it alone. One other connection may be closed, an older one of
-/// the session that it takes up.
+/// A client that comes, sends or goes leaves the tree and the log; no frame goes to another, and none to the leader; and
+/// every other connection that isn't closed is untouched: the bytes that wait there, its session and ids, and its watches.
+/// Which others are closed isn't said here: by Play, an older connection of a session that is taken up.
 pub fn clients_are_apart()
     ensures { ClientsAreApart }
 {
