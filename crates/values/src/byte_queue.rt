@@ -11,12 +11,16 @@ use std::marker::Model;
 ///
 /// What was dropped stays in the buffer until it is more than what waits, and then the rest moves to the buffer's
 /// start. So at most as many bytes are moved as are dropped, however small the pieces are, and the buffer holds at
-/// most twice what waits.
+/// most twice what waits. When nothing waits any more, a buffer above `KEPT` bytes is given up, so that a connection
+/// on which one long frame came holds no more than any other once it idles.
 #[derive(Debug, Drop)]
 pub struct ByteQueue {
     buffer: Vec<u8>,
     start: usize,
 }
+
+/// The longest buffer, in bytes, that an empty queue keeps for what comes next.
+const KEPT: usize = 512;
 
 impl Model for ByteQueue {
     ghost use Rattle.std.specs.Prelude.{◌+◌, ◌≤◌, List, ℕ, length, drop};
@@ -75,6 +79,9 @@ impl ByteQueue {
             self.buffer.copy_within(self.start.., 0);
             self.buffer.truncate(waiting);
             self.start = 0;
+        }
+        if waiting == 0 && self.buffer.capacity() > KEPT {
+            self.buffer.shrink_to_fit();
         }
     }
 }
