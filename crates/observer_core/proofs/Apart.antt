@@ -1,12 +1,10 @@
 -- What a client does reaches no other connection but an older one of its session.
-use Rattle.std.proofs.Common.{◌≡◌, ◌≢◌, ℕ, ℤ, pos, negsuc, Bool, true, false, cond, List, [], ◌∷◌, ◌++◌, Option, Some, None, Result, Ok, Err, refl, sym, ap, ◌∙◌}
-use Rattle.std.specs.Prelude.{is_some}
+use Rattle.std.proofs.Common.{◌≡◌, ◌≢◌, ◌⊎◌, inl, inr, ℕ, ℤ, pos, negsuc, Bool, true, false, not, cond, List, [], ◌∷◌, ◌++◌, Option, Some, None, Result, Ok, Err, refl, sym, ap, ◌∙◌}
 use Rattle.std.specs.Option.{unwrap_or}
 use Rattle.std.specs.Ordering.{int_eq}
 use Rattle.std.specs.List.{AllByRecursion}
 use Rattle.std.specs.FinMap as finmap
 use Rattle.std.specs.FinSet as set
-use mathlib.Core.Bool.{true≢false}
 use Rattle.values.specs.declared.fault.Fault.{Fault}
 use Rattle.jute.specs.Stream.{Unread, place_at, items}
 use Rattle.jute.specs.declared.codes.TheConstants.{BAD_ARGUMENTS}
@@ -14,7 +12,7 @@ use Rattle.client_records.specs.declared.codes.TheConstants.{OK, UNIMPLEMENTED, 
 use Rattle.client_records.specs.declared.request.AuthPacket.{AuthPacket}
 use Rattle.sessions.specs.State.{State as Sessions, Connection as Joined}
 use Rattle.sessions.specs.Sessions.{session_in, session_of, ids_of, Connects, connect, Shows, auth, expire_as, expire}
-use Rattle.sessions.specs.Agreement.{Agrees, OthersStay}
+use Rattle.sessions.specs.Agreement.{Agrees, OthersStay, AnswersTell}
 use Rattle.sessions.specs.declared.request.SessionRequest.{SessionRequest}
 use Rattle.sessions.specs.declared.request.SessionResponse.{SessionResponse}
 use Rattle.watch_manager.specs.declared.event.Event.{Event as NodeEvent}
@@ -36,13 +34,14 @@ use Rattle.client_frames.specs.declared.connecting.Connecting.{Connecting}
 use Rattle.client_frames.specs.Call.{call_in}
 use Rattle.client_frames.specs.Connect.{connecting_in, session_request, answer_to_connect}
 use Rattle.observer_core.specs.declared.event.Output.{Output}
-use Rattle.observer_core.specs.declared.event.Output.TheVariants.{CloseClient}
+use Rattle.observer_core.specs.declared.event.Output.TheVariants.{ToLeader, ToClient, CloseLeader, CloseClient}
 use Rattle.observer_core.specs.Machine.{Connection, Clients, World}
 use Rattle.observer_core.specs.Steps.{Happened, quiet, and_then, happening}
 use Rattle.observer_core.specs.Clients.{at_rest, is_open, with_connection, without, sent_to, notice, notices_to}
 use Rattle.observer_core.specs.Serve.{close_client, send, send_last, answer_last, watched, watched_each, watched_if, watching, renewed, with_sessions, shown, ended, end_session, close_left, greet, connected, may_connect, join, call, serve_as, serve_by, serve, is_closed, keep, wait_if_open, wait_at, frames, take_client_bytes, open_client, end_client}
-use Rattle.observer_core.specs.Apart.{IsOf, IsUntouched, IsApart}
+use Rattle.observer_core.specs.Apart.{IsOf, IsUntouched, IsTakenUp, IsApart}
 use Rattle.observer_core.proofs.NatMaps.{get-kept, get-beside}
+use Rattle.observer_core.proofs.Taking.{none_or_some, HasIfOpen, closed_has, call_in_has, wait_has, connected_joins}
 
 -- ---- lists
 
@@ -72,272 +71,387 @@ untouched_on k c d e first second = record {
   child = λ path. second.child path ∙ first.child path;
 }
 
--- one step, and another on what it left
-then_apart : (n : ℕ) (w : World) (h : Happened World) (next : World → Happened World) → IsApart n w h → IsApart n h.after (next h.after) → IsApart n w (and_then h next)
-then_apart n w h next a b = record {
-  outputs = all_joined (IsOf n) h.outputs (next h.after).outputs a.outputs b.outputs;
-  learner = b.learner ∙ a.learner;
-  tree = b.tree ∙ a.tree;
-  others = λ k other stays. untouched_on k w.clients h.after.clients (next h.after).after.clients
-      (a.others k other (all_front (λ (o : Output). o ≢ CloseClient k) h.outputs (next h.after).outputs stays))
-      (b.others k other (all_back (λ (o : Output). o ≢ CloseClient k) h.outputs (next h.after).outputs stays));
-}
-
--- the clients change, and nothing goes out
-changes : (n : ℕ) (w : World) (c : Clients) → ((k : ℕ) → k ≢ n → IsUntouched k w.clients c) → IsApart n w (quiet (record w { clients = c }))
-changes n w c alone = record { outputs = tt; learner = refl; tree = refl; others = λ k other stays. alone k other }
-
-stays_so : (n : ℕ) (w : World) → IsApart n w (quiet w)
-stays_so n w = changes n w w.clients (λ k other. untouched k w.clients)
-
 connection_alone : (n : ℕ) (w : World) (connection : Connection) (k : ℕ) → k ≢ n → IsUntouched k w.clients (with_connection n connection w.clients)
 connection_alone n w connection k other =
     record { rest = get-beside w.clients.connections n k connection other; session = refl; own = λ path. refl; child = λ path. refl }
 
-module _ (stay : OthersStay) (keep_watches : OthersKeepWatches) where
-  without_alone : (n : ℕ) (c : Clients) (k : ℕ) → k ≢ n → IsUntouched k c (without n c)
-  without_alone n c k other = record {
-    rest = get-kept c.connections n k other;
-    session = stay.closes c.sessions n k other;
-    own = λ path. keep_watches.drops c.watches.own n path k other;
-    child = λ path. keep_watches.drops c.watches.child n path k other;
+without_alone : (stay : OthersStay) (keep_watches : OthersKeepWatches) (n : ℕ) (c : Clients) (k : ℕ) → k ≢ n → IsUntouched k c (without n c)
+without_alone stay keep_watches n c k other = record {
+  rest = get-kept c.connections n k other;
+  session = stay.closes c.sessions n k other;
+  own = λ path. keep_watches.drops c.watches.own n path k other;
+  child = λ path. keep_watches.drops c.watches.child n path k other;
+}
+
+module _ (left : ℕ → Type 0) where
+  -- one step, and another on what it left
+  then_apart : (n : ℕ) (w : World) (h : Happened World) (next : World → Happened World) → IsApart n left w h → IsApart n left h.after (next h.after) → IsApart n left w (and_then h next)
+  then_apart n w h next a b = record {
+    outputs = all_joined (IsOf n left) h.outputs (next h.after).outputs a.outputs b.outputs;
+    learner = b.learner ∙ a.learner;
+    tree = b.tree ∙ a.tree;
+    others = λ k other stays. untouched_on k w.clients h.after.clients (next h.after).after.clients
+        (a.others k other (all_front (λ (o : Output). o ≢ CloseClient k) h.outputs (next h.after).outputs stays))
+        (b.others k other (all_back (λ (o : Output). o ≢ CloseClient k) h.outputs (next h.after).outputs stays));
   }
 
-  -- the client's connection closes, or another one
-  close_apart : (n m : ℕ) (w : World) → IsApart n w (close_client m w)
-  close_apart n m w = record {
-    outputs = (tt, tt);
-    learner = refl;
-    tree = refl;
-    others = λ k other stays. without_alone m w.clients k (λ is. stays.0 (ap (λ (x : ℕ). CloseClient x) (sym is)));
-  }
+  -- the clients change, and nothing goes out
+  changes : (n : ℕ) (w : World) (c : Clients) → ((k : ℕ) → k ≢ n → IsUntouched k w.clients c) → IsApart n left w (quiet (record w { clients = c }))
+  changes n w c alone = record { outputs = tt; learner = refl; tree = refl; others = λ k other stays. alone k other }
 
-  send_apart : (n : ℕ) (w : World) (frame : Option (List ℕ)) → IsApart n w (send n w frame)
-  send_apart n w None = close_apart n n w
-  send_apart n w (Some bytes) =
-      record { outputs = (refl, tt); learner = refl; tree = refl; others = λ k other stays. untouched k w.clients }
+  stays_so : (n : ℕ) (w : World) → IsApart n left w (quiet w)
+  stays_so n w = changes n w w.clients (λ k other. untouched k w.clients)
 
-  send_last_apart : (n : ℕ) (w : World) (frame : Option (List ℕ)) → IsApart n w (send_last n w frame)
-  send_last_apart n w frame = then_apart n w (send n w frame) (close_client n) (send_apart n w frame) (close_apart n n (send n w frame).after)
+  module _ (stay : OthersStay) (keep_watches : OthersKeepWatches) where
+    -- the client's connection closes, or another one
+    close_apart : (n m : ℕ) (w : World) → (m ≡ n) ⊎ left m → IsApart n left w (close_client m w)
+    close_apart n m w may = record {
+      outputs = (may, tt);
+      learner = refl;
+      tree = refl;
+      others = λ k other stays. without_alone stay keep_watches m w.clients k (λ is. stays.0 (ap (λ (x : ℕ). CloseClient x) (sym is)));
+    }
 
-  -- ---- watches
+    close_own : (n : ℕ) (w : World) → IsApart n left w (close_client n w)
+    close_own n w = close_apart n n w (inl refl)
 
-  abbrev SameWatches : ℕ → Watching → Watching → Type 0
-  SameWatches k before after = (path : List ℕ)
-      → (set.contains after.own (path, k) ≡ set.contains before.own (path, k)) × (set.contains after.child (path, k) ≡ set.contains before.child (path, k))
+    send_apart : (n : ℕ) (w : World) (frame : Option (List ℕ)) → IsApart n left w (send n w frame)
+    send_apart n w None = close_own n w
+    send_apart n w (Some bytes) =
+        record { outputs = (refl, tt); learner = refl; tree = refl; others = λ k other stays. untouched k w.clients }
 
-  watched_same : (n k : ℕ) → k ≢ n → (w : Watching) (watch : Watch) → SameWatches k w (watched n w watch)
-  watched_same n k other w (tables.Data p) path = (keep_watches.sets w.own p n path k other, refl)
-  watched_same n k other w (tables.Child p) path = (refl, keep_watches.sets w.child p n path k other)
+    send_last_apart : (n : ℕ) (w : World) (frame : Option (List ℕ)) → IsApart n left w (send_last n w frame)
+    send_last_apart n w frame = then_apart n w (send n w frame) (close_client n) (send_apart n w frame) (close_own n (send n w frame).after)
 
-  each_same : (n k : ℕ) → k ≢ n → (w : Watching) (all : List Watch) → SameWatches k w (watched_each n w all)
-  each_same n k other w [] path = (refl, refl)
-  each_same n k other w (watch ∷ all) path =
-      let first = watched_same n k other w watch path in
-      let rest = each_same n k other (watched n w watch) all path in
-      (rest.0 ∙ first.0, rest.1 ∙ first.1)
+    -- ---- watches
 
-  if_same : (n k : ℕ) → k ≢ n → (w : Watching) (watch : Option Watch) → SameWatches k w (watched_if n w watch)
-  if_same n k other w None path = (refl, refl)
-  if_same n k other w (Some watch) path = watched_same n k other w watch path
+    abbrev SameWatches : ℕ → Watching → Watching → Type 0
+    SameWatches k before after = (path : List ℕ)
+        → (set.contains after.own (path, k) ≡ set.contains before.own (path, k)) × (set.contains after.child (path, k) ≡ set.contains before.child (path, k))
 
-  watching_apart : (n : ℕ) (w : World) (watches : Watching) → ((k : ℕ) → k ≢ n → SameWatches k w.clients.watches watches) → IsApart n w (quiet (watching w watches))
-  watching_apart n w watches same = changes n w (watching w watches).clients (λ k other. record {
-    rest = refl;
-    session = refl;
-    own = λ path. (same k other path).0;
-    child = λ path. (same k other path).1;
-  })
+    watched_same : (n k : ℕ) → k ≢ n → (w : Watching) (watch : Watch) → SameWatches k w (watched n w watch)
+    watched_same n k other w (tables.Data p) path = (keep_watches.sets w.own p n path k other, refl)
+    watched_same n k other w (tables.Child p) path = (refl, keep_watches.sets w.child p n path k other)
 
-  notices_of : (n : ℕ) (events : List NodeEvent) → AllByRecursion (IsOf n) (notices_to n events)
-  notices_of n [] = tt
-  notices_of n (event ∷ events) = all_joined (IsOf n) (notice n event) (notices_to n events) (by (reply NOTIFICATION_XID (negsuc 0) (of_event event))) (notices_of n events)
-    where
-      by : (frame : Option (List ℕ)) → AllByRecursion (IsOf n) (sent_to n frame)
-      by None = tt
-      by (Some bytes) = (refl, tt)
+    each_same : (n k : ℕ) → k ≢ n → (w : Watching) (all : List Watch) → SameWatches k w (watched_each n w all)
+    each_same n k other w [] path = (refl, refl)
+    each_same n k other w (watch ∷ all) path =
+        let first = watched_same n k other w watch path in
+        let rest = each_same n k other (watched n w watch) all path in
+        (rest.0 ∙ first.0, rest.1 ∙ first.1)
 
-  renewed_apart : (n : ℕ) (w : World) (xid : ℤ) (r : Option Renewal) → IsApart n w (renewed n w xid r)
-  renewed_apart n w xid None = send_apart n w (reply xid w.learner.last_zxid (without_body BAD_ARGUMENTS))
-  renewed_apart n w xid (Some r) =
-      let watches = watched_each n w.clients.watches r.watches in
-      let set_again = watching_apart n w watches (λ k other. each_same n k other w.clients.watches r.watches) in
-      let told : Happened World = record { outputs = notices_to n r.events; after = watching w watches } in
-      let told_apart : IsApart n w told = record { outputs = notices_of n r.events; learner = refl; tree = refl; others = λ k other stays. set_again.others k other tt } in
-      then_apart n w told (λ v. send n v (reply xid w.learner.last_zxid (without_body OK))) told_apart
-      (send_apart n (watching w watches) (reply xid w.learner.last_zxid (without_body OK)))
+    if_same : (n k : ℕ) → k ≢ n → (w : Watching) (watch : Option Watch) → SameWatches k w (watched_if n w watch)
+    if_same n k other w None path = (refl, refl)
+    if_same n k other w (Some watch) path = watched_same n k other w watch path
 
-  -- ---- sessions
+    watching_apart : (n : ℕ) (w : World) (watches : Watching) → ((k : ℕ) → k ≢ n → SameWatches k w.clients.watches watches) → IsApart n left w (quiet (watching w watches))
+    watching_apart n w watches same = changes n w (watching w watches).clients (λ k other. record {
+      rest = refl;
+      session = refl;
+      own = λ path. (same k other path).0;
+      child = λ path. (same k other path).1;
+    })
 
-  sessions_apart : (n : ℕ) (w : World) (s : Sessions) → ((k : ℕ) → k ≢ n → finmap.get s.connections k ≡ finmap.get w.clients.sessions.connections k)
-      → IsApart n w (quiet (with_sessions w s))
-  sessions_apart n w s same = changes n w (with_sessions w s).clients (λ k other. record {
-    rest = refl;
-    session = same k other;
-    own = λ path. refl;
-    child = λ path. refl;
-  })
-
-  show_apart : (n : ℕ) (w : World) (xid : ℤ) (packet : AuthPacket) → IsApart n w (shown n w xid (auth w.clients.sessions n packet.scheme packet.auth))
-  show_apart n w xid packet = then_apart n w (quiet v) (λ u. answered u shows.is_accepted) (sessions_apart n w shows.after (λ k other. stay.auths w.clients.sessions n packet.scheme packet.auth k other)) (by shows.is_accepted)
-    where
-      shows : Shows
-      shows = auth w.clients.sessions n packet.scheme packet.auth
-
-      v : World
-      v = with_sessions w shows.after
-
-      answered : World → Bool → Happened World
-      answered u b = cond b (send n u (reply xid (pos 0) (without_body OK))) (send_last n u (reply xid (pos 0) (without_body AUTH_FAILED)))
-
-      by : (b : Bool) → IsApart n v (answered v b)
-      by true = send_apart n v (reply xid (pos 0) (without_body OK))
-      by false = send_last_apart n v (reply xid (pos 0) (without_body AUTH_FAILED))
-
-  some_is : (j k : ℕ) → Some j ≡ Some k → j ≡ k
-  some_is j k e = ap (λ (o : Option ℕ). unwrap_or o j) e
-
-  ended_apart : (n : ℕ) (w : World) → Agrees w.clients.sessions → IsApart n w (quiet (end_session n w))
-  ended_apart n w agree = by (finmap.get s.connections n) refl
-    where
-      s : Sessions
-      s = w.clients.sessions
-
-      by : (o : Option Joined) → finmap.get s.connections n ≡ o → IsApart n w (quiet (ended w (session_in o)))
-      by None there = stays_so n w
-      by (Some c) there = sessions_apart n w (expire s c.session).after (λ k other.
-          let closed : (expire s c.session).closed ≡ Some n = ap (λ (g : Option (Option ℕ)). (expire_as s c.session g).closed) (agree.guests n c there) in
-          stay.expires s c.session k (λ is. other (sym (some_is n k (sym closed ∙ is)))))
-
-  greet_apart : (n : ℕ) (has_byte : Bool) (response : SessionResponse) (w : World) → IsApart n w (greet n has_byte response w)
-  greet_apart n has_byte response w = by (int_eq response.session_id (pos 0))
-    where
-      frame : Option (List ℕ)
-      frame = Some (answer_to_connect response has_byte)
-
-      by : (b : Bool) → IsApart n w (cond b (send_last n w frame) (send n w frame))
-      by true = send_last_apart n w frame
-      by false = send_apart n w frame
-
-  none_or_some : (k : ℕ) → None ≢ Some k
-  none_or_some k e = true≢false (sym (ap is_some e))
-
-  left_apart : (n : ℕ) (w : World) (request : SessionRequest) → let c = connect w.clients.sessions n request in IsApart n w (close_left (with_sessions w c.after) c.connected.older)
-  left_apart n w request = by c.connected.older refl
-    where
-      c : Connects
-      c = connect w.clients.sessions n request
-
-      v : World
-      v = with_sessions w c.after
-
-      alone : (k : ℕ) → k ≢ n → c.connected.older ≢ Some k → IsUntouched k w.clients v.clients
-      alone k other older = record { rest = refl; session = stay.connects w.clients.sessions n request k other older; own = λ path. refl; child = λ path. refl }
-
-      by : (o : Option ℕ) → c.connected.older ≡ o → IsApart n w (close_left v o)
-      by None is = changes n w v.clients (λ k other. alone k other (λ e. none_or_some k (sym is ∙ e)))
-      by (Some j) is =
-          let closed = close_apart n j v in
-          record {
-            outputs = closed.outputs;
-            learner = refl;
-            tree = refl;
-            others = λ k other stays. untouched_on k w.clients v.clients (close_client j v).after.clients
-                (alone k other (λ e. stays.0 (ap (λ (x : ℕ). CloseClient x) (some_is j k (sym is ∙ e))))) (closed.others k other stays);
-          }
-
-  join_apart : (serving : Bool) (n : ℕ) (w : World) (c : Result Connecting Fault) → IsApart n w (join serving n w c)
-  join_apart serving n w (Err e) = close_apart n n w
-  join_apart serving n w (Ok c) = by (may_connect serving w c.request)
-    where
-      asked : Connects
-      asked = connect w.clients.sessions n (session_request c.request)
-
-      left : Happened World
-      left = close_left (with_sessions w asked.after) asked.connected.older
-
-      by : (b : Bool) → IsApart n w (cond b (connected n w c.has_byte asked) (close_client n w))
-      by true =
-          then_apart n w left (greet n c.has_byte asked.connected.response) (left_apart n w (session_request c.request))
-          (greet_apart n c.has_byte asked.connected.response left.after)
-      by false = close_apart n n w
-
-  -- ---- frames
-
-  call_apart : (n : ℕ) (w : World) (xid : ℤ) (b : CallBody) → Agrees w.clients.sessions → IsApart n w (call n w xid b)
-  call_apart n w xid (bodies.Read r) agree =
-      let seen = look w.tree (ids_of w.clients.sessions n) r in
-      let watch = watch_of r seen.error in
-      let watches = watched_if n w.clients.watches watch in
-      then_apart n w (quiet (watching w watches)) (λ v. send n v (reply xid w.learner.last_zxid seen))
-      (watching_apart n w watches (λ k other. if_same n k other w.clients.watches watch)) (send_apart n (watching w watches) (reply xid w.learner.last_zxid seen))
-  call_apart n w xid (bodies.SetWatches r) agree = renewed_apart n w xid (renew w.tree r)
-  call_apart n w xid (bodies.Auth packet) agree = show_apart n w xid packet
-  call_apart n w xid bodies.CloseSession agree =
-      let v = end_session n w in
-      then_apart n w (quiet v) (λ u. answer_last n u xid (without_body OK)) (ended_apart n w agree) (send_last_apart n v (reply xid v.learner.last_zxid (without_body OK)))
-  call_apart n w xid bodies.Unreadable agree = send_apart n w (reply xid w.learner.last_zxid (without_body BAD_ARGUMENTS))
-  call_apart n w xid bodies.Ping agree = send_apart n w (reply PING_XID w.learner.last_zxid (without_body OK))
-  call_apart n w xid bodies.Write agree = send_apart n w (reply xid w.learner.last_zxid (without_body NOT_READ_ONLY))
-  call_apart n w xid bodies.Unknown agree = send_last_apart n w (reply xid w.learner.last_zxid (without_body UNIMPLEMENTED))
-
-  serve_apart : (serving : Bool) (n : ℕ) (w : World) (frame : List ℕ) → Agrees w.clients.sessions → IsApart n w (serve serving n w frame)
-  serve_apart serving n w frame agree = by (session_of w.clients.sessions n)
-    where
-      of_call : (c : Result Call Fault) → IsApart n w (serve_as n w c)
-      of_call (Ok c) = call_apart n w c.xid c.body agree
-      of_call (Err e) = close_apart n n w
-
-      by : (session : Option ℤ) → IsApart n w (serve_by serving n w frame session)
-      by None = join_apart serving n w (connecting_in frame)
-      by (Some session) = of_call (call_in frame)
-
-  -- ---- bytes
-
-  wait_apart : (n : ℕ) (w : World) (o : Option Connection) (left : Unread) → IsApart n w (wait_if_open n w o left)
-  wait_apart n w None left = stays_so n w
-  wait_apart n w (Some c) (Ok rest) = changes n w (keep n w c rest).clients (connection_alone n w (record { rest = rest }))
-  wait_apart n w (Some c) (Err e) = close_apart n n w
-
-  module _ (Agree : World → Type 0) (of_sessions : (w : World) → Agree w → Agrees w.clients.sessions)
-      (served : (serving : Bool) (n : ℕ) (w : World) (frame : List ℕ) → is_closed n w ≡ false → Agree w → Agree (serve serving n w frame).after) where
-    frames_apart : (serving : Bool) (n : ℕ) (w : World) (fs : List (List ℕ)) → Agree w → IsApart n w (happening (is_closed n) (serve serving n) w fs)
-    frames_apart serving n w [] agree = stays_so n w
-    frames_apart serving n w (f ∷ fs) agree = by (is_closed n w) refl (frames_apart serving n (serve serving n w f).after fs)
+    notices_of : (n : ℕ) (events : List NodeEvent) → AllByRecursion (IsOf n left) (notices_to n events)
+    notices_of n [] = tt
+    notices_of n (event ∷ events) = all_joined (IsOf n left) (notice n event) (notices_to n events) (by (reply NOTIFICATION_XID (negsuc 0) (of_event event))) (notices_of n events)
       where
-        others : World → Happened World
-        others v = happening (is_closed n) (serve serving n) v fs
+        by : (frame : Option (List ℕ)) → AllByRecursion (IsOf n left) (sent_to n frame)
+        by None = tt
+        by (Some bytes) = (refl, tt)
 
-        by : (b : Bool) → is_closed n w ≡ b → (Agree (serve serving n w f).after → IsApart n (serve serving n w f).after (others (serve serving n w f).after))
-            → IsApart n w (cond b (quiet w) (and_then (serve serving n w f) others))
-        by true closed rest = stays_so n w
-        by false open_ rest =
-            then_apart n w (serve serving n w f) others (serve_apart serving n w f (of_sessions w agree)) (rest (served serving n w f open_ agree))
+    renewed_apart : (n : ℕ) (w : World) (xid : ℤ) (r : Option Renewal) → IsApart n left w (renewed n w xid r)
+    renewed_apart n w xid None = send_apart n w (reply xid w.learner.last_zxid (without_body BAD_ARGUMENTS))
+    renewed_apart n w xid (Some r) =
+        let watches = watched_each n w.clients.watches r.watches in
+        let set_again = watching_apart n w watches (λ k other. each_same n k other w.clients.watches r.watches) in
+        let told : Happened World = record { outputs = notices_to n r.events; after = watching w watches } in
+        let told_apart : IsApart n left w told = record { outputs = notices_of n r.events; learner = refl; tree = refl; others = λ k other stays. set_again.others k other tt } in
+        then_apart n w told (λ v. send n v (reply xid w.learner.last_zxid (without_body OK))) told_apart
+        (send_apart n (watching w watches) (reply xid w.learner.last_zxid (without_body OK)))
 
-    pub bytes_apart : (serving : Bool) (n : ℕ) (w : World) (o : Option Connection) (bytes : List ℕ) → ((c : Connection) → o ≡ Some c → Agree (keep n w c []))
-        → IsApart n w (take_client_bytes serving n w o bytes)
-    bytes_apart serving n w None bytes agree = stays_so n w
-    bytes_apart serving n w (Some c) bytes agree =
-        let v = keep n w c [] in
-        let found = items frames (place_at tt (c.rest ++ bytes)) in
-        let h = happening (is_closed n) (serve serving n) v found.found in
-        then_apart n w (quiet v) (λ u. and_then (happening (is_closed n) (serve serving n) u found.found) (wait_at n found.left.unread))
-        (changes n w v.clients (connection_alone n w at_rest))
-        (then_apart n v h (wait_at n found.left.unread) (frames_apart serving n v found.found (agree c refl))
-        (wait_apart n h.after (finmap.get h.after.clients.connections n) found.left.unread))
+    -- ---- sessions
+
+    sessions_apart : (n : ℕ) (w : World) (s : Sessions) → ((k : ℕ) → k ≢ n → finmap.get s.connections k ≡ finmap.get w.clients.sessions.connections k)
+        → IsApart n left w (quiet (with_sessions w s))
+    sessions_apart n w s same = changes n w (with_sessions w s).clients (λ k other. record {
+      rest = refl;
+      session = same k other;
+      own = λ path. refl;
+      child = λ path. refl;
+    })
+
+    show_apart : (n : ℕ) (w : World) (xid : ℤ) (packet : AuthPacket) → IsApart n left w (shown n w xid (auth w.clients.sessions n packet.scheme packet.auth))
+    show_apart n w xid packet = then_apart n w (quiet v) (λ u. answered u shows.is_accepted) (sessions_apart n w shows.after (λ k other. stay.auths w.clients.sessions n packet.scheme packet.auth k other)) (by shows.is_accepted)
+      where
+        shows : Shows
+        shows = auth w.clients.sessions n packet.scheme packet.auth
+
+        v : World
+        v = with_sessions w shows.after
+
+        answered : World → Bool → Happened World
+        answered u b = cond b (send n u (reply xid (pos 0) (without_body OK))) (send_last n u (reply xid (pos 0) (without_body AUTH_FAILED)))
+
+        by : (b : Bool) → IsApart n left v (answered v b)
+        by true = send_apart n v (reply xid (pos 0) (without_body OK))
+        by false = send_last_apart n v (reply xid (pos 0) (without_body AUTH_FAILED))
+
+    some_is : (j k : ℕ) → Some j ≡ Some k → j ≡ k
+    some_is j k e = ap (λ (o : Option ℕ). unwrap_or o j) e
+
+    ended_apart : (n : ℕ) (w : World) → Agrees w.clients.sessions → IsApart n left w (quiet (end_session n w))
+    ended_apart n w agree = by (finmap.get s.connections n) refl
+      where
+        s : Sessions
+        s = w.clients.sessions
+
+        by : (o : Option Joined) → finmap.get s.connections n ≡ o → IsApart n left w (quiet (ended w (session_in o)))
+        by None there = stays_so n w
+        by (Some c) there = sessions_apart n w (expire s c.session).after (λ k other.
+            let closed : (expire s c.session).closed ≡ Some n = ap (λ (g : Option (Option ℕ)). (expire_as s c.session g).closed) (agree.guests n c there) in
+            stay.expires s c.session k (λ is. other (sym (some_is n k (sym closed ∙ is)))))
+
+    greet_apart : (n : ℕ) (has_byte : Bool) (response : SessionResponse) (w : World) → IsApart n left w (greet n has_byte response w)
+    greet_apart n has_byte response w = by (int_eq response.session_id (pos 0))
+      where
+        frame : Option (List ℕ)
+        frame = Some (answer_to_connect response has_byte)
+
+        by : (b : Bool) → IsApart n left w (cond b (send_last n w frame) (send n w frame))
+        by true = send_last_apart n w frame
+        by false = send_apart n w frame
+
+    left_apart : (n : ℕ) (w : World) (request : SessionRequest) → let c = connect w.clients.sessions n request in
+        ((j : ℕ) → c.connected.older ≡ Some j → left j) → IsApart n left w (close_left (with_sessions w c.after) c.connected.older)
+    left_apart n w request may = by c.connected.older refl
+      where
+        c : Connects
+        c = connect w.clients.sessions n request
+
+        v : World
+        v = with_sessions w c.after
+
+        alone : (k : ℕ) → k ≢ n → c.connected.older ≢ Some k → IsUntouched k w.clients v.clients
+        alone k other older = record { rest = refl; session = stay.connects w.clients.sessions n request k other older; own = λ path. refl; child = λ path. refl }
+
+        by : (o : Option ℕ) → c.connected.older ≡ o → IsApart n left w (close_left v o)
+        by None is = changes n w v.clients (λ k other. alone k other (λ e. none_or_some k (sym is ∙ e)))
+        by (Some j) is =
+            let closed = close_apart n j v (inr (may j is)) in
+            record {
+              outputs = closed.outputs;
+              learner = refl;
+              tree = refl;
+              others = λ k other stays. untouched_on k w.clients v.clients (close_client j v).after.clients
+                  (alone k other (λ e. stays.0 (ap (λ (x : ℕ). CloseClient x) (some_is j k (sym is ∙ e))))) (closed.others k other stays);
+            }
+
+    connected_apart : (n : ℕ) (w : World) (has_byte : Bool) (request : SessionRequest) → let c = connect w.clients.sessions n request in
+        ((j : ℕ) → c.connected.older ≡ Some j → left j) → IsApart n left w (connected n w has_byte c)
+    connected_apart n w has_byte request may =
+        let c = connect w.clients.sessions n request in
+        let older = close_left (with_sessions w c.after) c.connected.older in
+        then_apart n w older (greet n has_byte c.connected.response) (left_apart n w request may) (greet_apart n has_byte c.connected.response older.after)
+
+    -- ---- frames
+
+    call_apart : (n : ℕ) (w : World) (xid : ℤ) (b : CallBody) → Agrees w.clients.sessions → IsApart n left w (call n w xid b)
+    call_apart n w xid (bodies.Read r) agree =
+        let seen = look w.tree (ids_of w.clients.sessions n) r in
+        let watch = watch_of r seen.error in
+        let watches = watched_if n w.clients.watches watch in
+        then_apart n w (quiet (watching w watches)) (λ v. send n v (reply xid w.learner.last_zxid seen))
+        (watching_apart n w watches (λ k other. if_same n k other w.clients.watches watch)) (send_apart n (watching w watches) (reply xid w.learner.last_zxid seen))
+    call_apart n w xid (bodies.SetWatches r) agree = renewed_apart n w xid (renew w.tree r)
+    call_apart n w xid (bodies.Auth packet) agree = show_apart n w xid packet
+    call_apart n w xid bodies.CloseSession agree =
+        let v = end_session n w in
+        then_apart n w (quiet v) (λ u. answer_last n u xid (without_body OK)) (ended_apart n w agree) (send_last_apart n v (reply xid v.learner.last_zxid (without_body OK)))
+    call_apart n w xid bodies.Unreadable agree = send_apart n w (reply xid w.learner.last_zxid (without_body BAD_ARGUMENTS))
+    call_apart n w xid bodies.Ping agree = send_apart n w (reply PING_XID w.learner.last_zxid (without_body OK))
+    call_apart n w xid bodies.Write agree = send_apart n w (reply xid w.learner.last_zxid (without_body NOT_READ_ONLY))
+    call_apart n w xid bodies.Unknown agree = send_last_apart n w (reply xid w.learner.last_zxid (without_body UNIMPLEMENTED))
+
+    call_in_apart : (n : ℕ) (w : World) (c : Result Call Fault) → Agrees w.clients.sessions → IsApart n left w (serve_as n w c)
+    call_in_apart n w (Ok c) agree = call_apart n w c.xid c.body agree
+    call_in_apart n w (Err e) agree = close_own n w
+
+    -- ---- what is left of a client's bytes
+
+    wait_apart : (n : ℕ) (w : World) (o : Option Connection) (unread : Unread) → IsApart n left w (wait_if_open n w o unread)
+    wait_apart n w None unread = stays_so n w
+    wait_apart n w (Some c) (Ok rest) = changes n w (keep n w c rest).clients (connection_alone n w (record { rest = rest }))
+    wait_apart n w (Some c) (Err e) = close_own n w
 
   -- ---- coming and going
 
-  pub open_apart : (n : ℕ) (w : World) → IsApart n w (quiet (open_client n w))
+  pub open_apart : (n : ℕ) (w : World) → IsApart n left w (quiet (open_client n w))
   open_apart n w = by (is_open n w.clients)
     where
-      by : (b : Bool) → IsApart n w (quiet (cond b w (record w { clients = with_connection n at_rest w.clients })))
+      by : (b : Bool) → IsApart n left w (quiet (cond b w (record w { clients = with_connection n at_rest w.clients })))
       by true = stays_so n w
       by false = changes n w (with_connection n at_rest w.clients) (connection_alone n w at_rest)
 
-  pub end_apart : (n : ℕ) (w : World) → IsApart n w (quiet (end_client n w))
-  end_apart n w = by (is_open n w.clients)
+  pub end_apart : (stay : OthersStay) (keep_watches : OthersKeepWatches) (n : ℕ) (w : World) → IsApart n left w (quiet (end_client n w))
+  end_apart stay keep_watches n w = by (is_open n w.clients)
     where
-      by : (b : Bool) → IsApart n w (quiet (cond b (record w { clients = without n w.clients }) w))
-      by true = changes n w (without n w.clients) (without_alone n w.clients)
+      by : (b : Bool) → IsApart n left w (quiet (cond b (record w { clients = without n w.clients }) w))
+      by true = changes n w (without n w.clients) (without_alone stay keep_watches n w.clients)
       by false = stays_so n w
+
+-- ---- all that a client sends
+
+-- none but the client's own connection closes
+abbrev Nobody : ℕ → Type 0
+Nobody k = ⊥
+
+-- with more that may be closed
+wider : (n : ℕ) (p q : ℕ → Type 0) (w : World) (h : Happened World) → ((k : ℕ) → p k → q k) → IsApart n p w h → IsApart n q w h
+wider n p q w h more a = record { outputs = each h.outputs a.outputs; learner = a.learner; tree = a.tree; others = a.others }
+  where
+    of_closed : (k : ℕ) → (k ≡ n) ⊎ p k → (k ≡ n) ⊎ q k
+    of_closed k (inl is) = inl is
+    of_closed k (inr may) = inr (more k may)
+
+    one : (output : Output) → IsOf n p output → IsOf n q output
+    one (ToLeader bytes) is = is
+    one (ToClient k frame) is = is
+    one (CloseLeader e) is = is
+    one (CloseClient k) is = of_closed k is
+
+    each : (outputs : List Output) → AllByRecursion (IsOf n p) outputs → AllByRecursion (IsOf n q) outputs
+    each [] all = tt
+    each (output ∷ others) all = (one output all.0, each others all.1)
+
+module _ (stay : OthersStay) (keep_watches : OthersKeepWatches) (told : AnswersTell) (Agree : World → Type 0)
+    (of_sessions : (w : World) → Agree w → Agrees w.clients.sessions)
+    (served : (serving : Bool) (n : ℕ) (w : World) (frame : List ℕ) → is_closed n w ≡ false → Agree w → Agree (serve serving n w frame).after) where
+  -- a client that has a session keeps it, and closes nobody else
+  record IsOwn (n : ℕ) (session : ℤ) (w : World) (h : Happened World) : Type 0 where
+    apart : IsApart n Nobody w h
+    has : HasIfOpen n session h.after.clients
+
+  serve_own : (serving : Bool) (n : ℕ) (session : ℤ) (w : World) (frame : List ℕ) → Agrees w.clients.sessions
+      → session_of w.clients.sessions n ≡ Some session → IsOwn n session w (serve serving n w frame)
+  serve_own serving n session w frame agree has = by (session_of w.clients.sessions n) has
+    where
+      by : (o : Option ℤ) → o ≡ Some session → IsOwn n session w (serve_by serving n w frame o)
+      by None e = absurd (none_or_some session e)
+      by (Some own) e = record {
+        apart = call_in_apart Nobody stay keep_watches n w (call_in frame) agree;
+        has = call_in_has n session w (call_in frame) has;
+      }
+
+  all_own : (serving : Bool) (n : ℕ) (session : ℤ) (w : World) (fs : List (List ℕ)) → Agree w → HasIfOpen n session w.clients
+      → IsOwn n session w (happening (is_closed n) (serve serving n) w fs)
+  all_own serving n session w [] agree has = record { apart = stays_so Nobody n w; has = has }
+  all_own serving n session w (f ∷ fs) agree has = by (is_open n w.clients) refl (all_own serving n session (serve serving n w f).after fs)
+    where
+      h : Happened World
+      h = serve serving n w f
+
+      others : World → Happened World
+      others v = happening (is_closed n) (serve serving n) v fs
+
+      by : (b : Bool) → is_open n w.clients ≡ b → (Agree h.after → HasIfOpen n session h.after.clients → IsOwn n session h.after (others h.after))
+          → IsOwn n session w (cond (not b) (quiet w) (and_then h others))
+      by false closed rest = record { apart = stays_so Nobody n w; has = has }
+      by true here rest =
+          let first = serve_own serving n session w f (of_sessions w agree) (has here) in
+          let then = rest (served serving n w f (ap not here) agree) first.has in
+          record { apart = then_apart Nobody n w h others first.apart then.apart; has = then.has }
+
+  -- a client without a session asks for one first; whom that closes had the session that it takes up
+  abbrev Had : World → ℤ → ℕ → Type 0
+  Had w session k = session_of w.clients.sessions k ≡ Some session
+
+  record Asks (n : ℕ) (w : World) (h : Happened World) : Type 0 where
+    session : ℤ
+    apart : IsApart n (Had w session) w h
+    has : HasIfOpen n session h.after.clients
+
+  close_asks : (n : ℕ) (w : World) → Asks n w (close_client n w)
+  close_asks n w = record { session = pos 0; apart = close_own (Had w (pos 0)) stay keep_watches n w; has = closed_has n (pos 0) w.clients }
+
+  join_asks : (serving : Bool) (n : ℕ) (w : World) (c : Result Connecting Fault) → Agrees w.clients.sessions
+      → finmap.get w.clients.sessions.connections n ≡ None → Asks n w (join serving n w c)
+  join_asks serving n w (Err e) agree none = close_asks n w
+  join_asks serving n w (Ok c) agree none = by (may_connect serving w c.request)
+    where
+      request : SessionRequest
+      request = session_request c.request
+
+      by : (b : Bool) → Asks n w (cond b (connected n w c.has_byte (connect w.clients.sessions n request)) (close_client n w))
+      by true =
+          let joins = connected_joins stay told n w c.has_byte request agree none in
+          record {
+            session = joins.session;
+            apart = connected_apart (Had w joins.session) stay keep_watches n w c.has_byte request joins.left;
+            has = joins.has;
+          }
+      by false = close_asks n w
+
+  none_there : (o : Option Joined) → session_in o ≡ None → o ≡ None
+  none_there None e = refl
+  none_there (Some c) e = absurd (none_or_some c.session (sym e))
+
+  serve_asks : (serving : Bool) (n : ℕ) (w : World) (frame : List ℕ) → Agrees w.clients.sessions
+      → session_of w.clients.sessions n ≡ None → Asks n w (serve serving n w frame)
+  serve_asks serving n w frame agree none = by (session_of w.clients.sessions n) none
+    where
+      by : (o : Option ℤ) → o ≡ None → Asks n w (serve_by serving n w frame o)
+      by None e = join_asks serving n w (connecting_in frame) agree (none_there (finmap.get w.clients.sessions.connections n) none)
+      by (Some session) e = absurd (none_or_some session (sym e))
+
+  abbrev TakesUp : ℕ → World → Happened World → Type 0
+  TakesUp n w h = IsApart n (IsTakenUp n w.clients h.after.clients) w h
+
+  frames_apart : (serving : Bool) (n : ℕ) (w : World) (fs : List (List ℕ)) → Agree w → TakesUp n w (happening (is_closed n) (serve serving n) w fs)
+  frames_apart serving n w [] agree = stays_so (IsTakenUp n w.clients w.clients) n w
+  frames_apart serving n w (f ∷ fs) agree = by_session (session_of w.clients.sessions n) refl
+    where
+      h : Happened World
+      h = serve serving n w f
+
+      others : World → Happened World
+      others v = happening (is_closed n) (serve serving n) v fs
+
+      all : Happened World
+      all = happening (is_closed n) (serve serving n) w (f ∷ fs)
+
+      asking : session_of w.clients.sessions n ≡ None → (b : Bool) → is_open n w.clients ≡ b
+          → TakesUp n w (cond (not b) (quiet w) (and_then h others))
+      asking none false closed = stays_so (IsTakenUp n w.clients w.clients) n w
+      asking none true here =
+          let asks = serve_asks serving n w f (of_sessions w agree) none in
+          let rest = all_own serving n asks.session h.after fs (served serving n w f (ap not here) agree) asks.has in
+          let after = (others h.after).after.clients in
+          let taken = IsTakenUp n w.clients after in
+          then_apart taken n w h others
+          (wider n (Had w asks.session) taken w h (λ k had. record { session = asks.session; had = had; none = none; has = rest.has }) asks.apart)
+          (wider n Nobody taken h.after (others h.after) (λ k may. absurd may) rest.apart)
+
+      by_session : (o : Option ℤ) → session_of w.clients.sessions n ≡ o → TakesUp n w all
+      by_session None none = asking none (is_open n w.clients) refl
+      by_session (Some session) has =
+          wider n Nobody (IsTakenUp n w.clients all.after.clients) w all (λ k may. absurd may)
+          (all_own serving n session w (f ∷ fs) agree (λ _. has)).apart
+
+  pub bytes_apart : (serving : Bool) (n : ℕ) (w : World) (o : Option Connection) (bytes : List ℕ) → ((c : Connection) → o ≡ Some c → Agree (keep n w c []))
+      → TakesUp n w (take_client_bytes serving n w o bytes)
+  bytes_apart serving n w None bytes agree = stays_so (IsTakenUp n w.clients w.clients) n w
+  bytes_apart serving n w (Some c) bytes agree =
+      let v = keep n w c [] in
+      let found = items frames (place_at tt (c.rest ++ bytes)) in
+      let h = happening (is_closed n) (serve serving n) v found.found in
+      let there = finmap.get h.after.clients.connections n in
+      let after = (wait_if_open n h.after there found.left.unread).after.clients in
+      let taken = IsTakenUp n w.clients after in
+      let keeps : (session : ℤ) → HasIfOpen n session h.after.clients → HasIfOpen n session after = λ session has. wait_has n session h.after there found.left.unread refl has in
+      then_apart taken n w (quiet v) (λ u. and_then (happening (is_closed n) (serve serving n) u found.found) (wait_at n found.left.unread))
+      (changes taken n w v.clients (connection_alone n w at_rest))
+      (then_apart taken n v h (wait_at n found.left.unread)
+      (wider n (IsTakenUp n v.clients h.after.clients) taken v h (λ k t. record { session = t.session; had = t.had; none = t.none; has = keeps t.session t.has })
+      (frames_apart serving n v found.found (agree c refl)))
+      (wait_apart taken stay keep_watches n h.after there found.left.unread))

@@ -10,4 +10,5 @@ pub mod Rows
 pub mod Closing
 pub mod Passing
 pub mod Agreeing
+pub mod Taking
 pub mod Apart

@@ -1,6 +1,6 @@
 -- The worked rows, step by step: what the bytes read as, the state behind each transaction, and the reply to each request.
 use Rattle.std.proofs.Common.{◌≡◌, ◌≤◌, ℕ, List, [], ◌∷◌, ◌++◌, length, map, not, Option, Some, None, Result, Ok, Bool, true, false, cond, refl, sym, ap, ◌∙◌, arith, rules}
-use Rattle.std.specs.Prelude.{ℤ, pos, codes, is_some}
+use Rattle.std.specs.Prelude.{ℤ, pos, negsuc, codes, is_some}
 use Rattle.std.specs.List.{AllByRecursion}
 use Rattle.std.specs.Cmp.{nat_cmp_total}
 use mathlib.Core.Bool.{true≢false}
@@ -22,7 +22,9 @@ use Rattle.jute.specs.Records.{stat, request_header, reply_header}
 use Rattle.client_records.specs.declared.kind.RequestKind.TheVariants as kinds
 use Rattle.client_records.specs.Kinds.{kind_of as request_kind_of}
 use Rattle.client_records.specs.Requests.{path_and_watch}
-use Rattle.client_records.specs.Responses.{get_data_response}
+use Rattle.client_records.specs.Responses.{get_data_response, watcher_event}
+use Rattle.client_records.specs.declared.codes.TheConstants.{NOTIFICATION_XID}
+use Rattle.jute.specs.declared.codes.TheConstants.{NO_NODE}
 use Rattle.jute.specs.Stream.{items_within, items, Items, place_at}
 use Rattle.quorum_packet.specs.declared.packet.QuorumPacket.{QuorumPacket}
 use Rattle.quorum_packet.specs.declared.phase.Phase.{Phase}
@@ -42,33 +44,37 @@ use Rattle.data_tree.specs.Meaning.{mean, fresh, first_node, after_changes, crea
 use Rattle.data_tree.specs.Stats.{shown_stat, java_int, length_of}
 use Rattle.data_tree.specs.declared.node.Node.{Node}
 use Rattle.data_tree.specs.declared.outcome.Trigger.{Trigger}
+use Rattle.data_tree.specs.declared.outcome.Trigger.TheVariants.{Created, ChildrenChanged}
 use Rattle.jute.specs.declared.owned.Id.{Id}
 use Rattle.sessions.specs.State.{Connection as SessionConnection}
 use Rattle.sessions.specs.Sessions.{session_in, session_of, ids_in, ids_of, new_connection}
 use Rattle.sessions.specs.Credentials.{session_id_of}
 use Rattle.watch_manager.specs.declared.event.Event.{Event as NodeEvent}
 use Rattle.watch_manager.specs.Pairs.{watch_cmp}
-use Rattle.watch_manager.specs.Watching.{no_watch}
+use Rattle.watch_manager.specs.declared.event.EventKind.TheVariants.{NodeCreated}
+use Rattle.watch_manager.specs.Watching.{Watching, no_watch}
+use Rattle.watch_manager.specs.Rows.{watches_on, WorkedRows as FiringRows}
 use Rattle.watch_manager.specs.Watches.{Fired, fire}
 use Rattle.watch_manager.specs.Laws.{AllPass, OnlyWatchersAreTold, SilenceKeepsWatches}
 use Rattle.read_processor.specs.Watch.{watch_of}
 use Rattle.observer_core.specs.declared.config.Config.{Config}
 use Rattle.client_frames.specs.declared.call.Call.{Call}
 use Rattle.client_frames.specs.declared.call.CallBody.TheVariants.{Read}
-use Rattle.read_processor.specs.declared.request.Request.TheVariants.{GetData}
+use Rattle.read_processor.specs.declared.request.Request.TheVariants.{Exists, GetData}
 use Rattle.observer_core.specs.declared.event.Event.{Event}
 use Rattle.observer_core.specs.declared.event.Event.TheVariants.{ClientBytes}
 use Rattle.observer_core.specs.declared.event.Output.TheVariants.{ToClient, CloseLeader, CloseClient}
 use Rattle.read_processor.specs.declared.shown.Look.{Look}
 use Rattle.read_processor.specs.declared.request.Request.{Request}
-use Rattle.read_processor.specs.Look.{look, look_at_node, shown_look, body_of as shown_body}
+use Rattle.read_processor.specs.Events.{of_event}
+use Rattle.read_processor.specs.Look.{look, without_body, look_at_node, shown_look, body_of as shown_body}
 use Rattle.read_processor.specs.Reply.{reply}
 use Rattle.values.specs.Hex.{spelled}
-use Rattle.observer_core.specs.Rows.{WorkedRows, inform_of_create, inform_of_set_data, get_front, get_back, reply_of_create, reply_of_set_data, created, overwritten, asked}
+use Rattle.observer_core.specs.Rows.{WorkedRows, inform_of_create, inform_of_set_data, get_front, get_back, reply_of_create, reply_of_set_data, exists_request, reply_of_missing, event_of_create, created, overwritten, asked, awaited}
 use Rattle.observer_core.specs.Machine.{Connection, Connections, Clients, World, Machine}
 use Rattle.client_frames.specs.Call.{call_in, call_behind, body_of, read_as, front_in}
 use Rattle.observer_core.specs.Steps.{Happened, behind, quiet, happening}
-use Rattle.observer_core.specs.Clients.{without, closing, notices}
+use Rattle.observer_core.specs.Clients.{without, closing, sent_to, notices}
 use Rattle.observer_core.specs.Leader.{with_watches, with_meant, inform, apply, receive, deliver_as, deliver, is_refused, leave_leader, end_at, beside, take_leader_bytes}
 use Rattle.observer_core.specs.Serve.{send, answer, watched_if, watching, serve_as, serve_by, serve, is_closed, wait_if_open, frames, serve_all, take_client_bytes}
 use Rattle.observer_core.specs.Play.{happen, play, first_client, new_machine, primed_machine}
@@ -427,6 +433,104 @@ get_after_set config =
     get_comes config (pos 4294967298) (create_txn ∷ set_txn ∷ []) written [] (get_front ++ get_back) reply_of_set_data get_found
     (answered_by (after_set config).world (first_session config) written_node reply_of_set_data (joined_first config) (no_ids_first config) written_there refl refl set_replied)
 
+-- ---- a watch
+
+abbrev exists_frame : List ℕ
+exists_frame = spelled (codes "00000002 00000003 00000002 2f61 01")
+
+abbrev exists_body : List ℕ
+exists_body = spelled (codes "00000002 2f61 01")
+
+exists_found : items frames (place_at tt exists_request) ≡ one_frame exists_frame
+unfolding items_within frame_at judged_at
+exists_found = refl
+
+exists_header : request_header.read exists_frame ≡ Ok (record { xid = pos 2; kind = pos 3 }, exists_body)
+unfolding request_header
+exists_header = refl
+
+exists_kind : request_kind_of (pos 3) ≡ Some kinds.Exists
+unfolding request_kind_of
+exists_kind = refl
+
+exists_body_read : path_and_watch.read exists_body ≡ Ok (record { path = Some (codes "/a"); watch = true }, [])
+unfolding path_and_watch judged_at buffer_at
+exists_body_read = rw (is_utf8-from_IsUtf8 (codes "/a") path_is_text)
+
+abbrev watch_wanted : Request
+watch_wanted = Exists (record { path = Some (codes "/a"); watch = true })
+
+exists_read : call_in exists_frame ≡ Ok (record { xid = pos 2; body = Read watch_wanted })
+exists_read =
+    ap call_behind exists_header
+    ∙ ap (λ k. Ok (record { xid = pos 2; body = body_of k exists_body })) exists_kind
+    ∙ ap (λ r. Ok (record { xid = pos 2; body = read_as Exists (front_in r) })) exists_body_read
+
+nothing_there : finmap.get fresh.nodes (codes "/a") ≡ None
+nothing_there = simp (finmap.get-insert {X = Node} nat_list_cmp_total, finmap.get-empty {X = Node} (slice_cmp nat_cmp))
+
+missing_replied : reply (pos 2) (pos 0) (without_body NO_NODE) ≡ Some reply_of_missing
+unfolding reply_header number_bytes
+missing_replied = refl
+
+-- the first connection watches /a
+abbrev one_watch : Watching
+one_watch = watches_on ((codes "/a", 1) ∷ []) []
+
+abbrev waiting : Config → World
+waiting config = watching (world_at config (pos 0) [] fresh []) one_watch
+
+exists_served : (config : Config) → serve true 1 (world_at config (pos 0) [] fresh []) exists_frame ≡ record { outputs = ToClient 1 reply_of_missing ∷ []; after = waiting config }
+exists_served config =
+    ap (serve_by true 1 w exists_frame) (joined_first config)
+    ∙ ap (serve_as 1 w) exists_read
+    ∙ ap (λ (ids : List Id). looked (look w.tree ids watch_wanted)) (no_ids_first config)
+    ∙ ap (λ (o : Option Node). looked (look_at_node [] watch_wanted o)) nothing_there
+    ∙ ap (send 1 (waiting config)) missing_replied
+  where
+    w : World
+    w = world_at config (pos 0) [] fresh []
+
+    looked : Look → Happened World
+    looked seen = answer 1 (watching w (watched_if 1 w.clients.watches (watch_of watch_wanted seen.error))) (pos 2) seen
+
+abbrev awaiting : Config → Machine
+awaiting config = record { leader = Some (place_at Packets []); world = waiting config }
+
+exists_comes : (config : Config) → happen (primed_machine config) awaited ≡ replying reply_of_missing (awaiting config)
+exists_comes config =
+    let w = world_at config (pos 0) [] fresh [] in
+    let open_ = get-inserted finmap.empty 1 (record { rest = [] }) in
+    in_hand config (pos 0) [] fresh [] exists_request
+    ∙ ap (at_frames w) exists_found
+    ∙ ap (λ (h : Happened World). beside (Some (place_at Packets [])) (behind h.outputs (wait_if_open 1 h.after (finmap.get h.after.clients.connections 1) (Ok []))))
+    (goes_on (is_closed 1) (serve true 1) w exists_frame [] (ap (λ (o : Option Connection). not (is_some o)) open_))
+    ∙ ap (λ (h : Happened World). beside (Some (place_at Packets [])) (behind (h.outputs ++ []) (wait_if_open 1 h.after (finmap.get h.after.clients.connections 1) (Ok [])))) (exists_served config)
+    ∙ ap (λ (o : Option Connection). beside (Some (place_at Packets [])) (behind (ToClient 1 reply_of_missing ∷ []) (wait_if_open 1 (waiting config) o (Ok [])))) open_
+    ∙ ap (λ (c : Connections). replying reply_of_missing (record { leader = Some (place_at Packets []); world = record (waiting config) { clients = record (waiting config).clients { connections = c } } })) (insert-insert finmap.empty 1 (record { rest = [] }) (record { rest = [] }))
+
+-- what the create triggers
+create_triggers : (mean fresh create_txn).triggers ≡ Created (codes "/a") ∷ ChildrenChanged (codes "/") ∷ []
+create_triggers =
+    ap (λ (o : Option Node). (of_effect (create_under create_header create_body o) fresh).triggers) root_there
+    ∙ ap (λ (b : Bool). (of_effect (cond b (create_taken create_header create_body root) (create_new create_header create_body root)) fresh).triggers) name_free
+
+abbrev node_created : NodeEvent
+node_created = record { kind = NodeCreated; path = codes "/a" }
+
+event_sent : reply NOTIFICATION_XID (negsuc 0) (of_event node_created) ≡ Some event_of_create
+unfolding reply_header watcher_event number_bytes
+event_sent = refl
+
+watched_create_comes : (again : ReadAgain) (rows : FiringRows) (config : Config)
+    → happen (awaiting config) created ≡ replying event_of_create (after_create config [])
+watched_create_comes again rows config =
+    let w = waiting config in
+    inform_comes again w inform_of_create (pos 4294967297) create_txn create_fits create_found
+    ∙ ap (λ (f : Fired). one_delivered w (told_by (with_meant w create_txn (mean fresh create_txn)) f)) (ap (fire one_watch) create_triggers ∙ rows.created)
+    ∙ ap (λ (frame : Option (List ℕ)). one_delivered w (Ok (record { outputs = sent_to 1 frame ++ []; after = with_watches (with_meant w create_txn (mean fresh create_txn)) no_watch }))) event_sent
+    ∙ ap (λ (s : State). replying event_of_create (following config (pos 4294967297) (create_txn ∷ []) s [])) made-is
+
 -- ---- the rows
 
 step : (m : Machine) (e : Event) (events : List Event) (h : Happened Machine) → happen m e ≡ h → play m (e ∷ events) ≡ behind h.outputs (play h.after events)
@@ -456,6 +560,15 @@ create_twice again nobody config =
     step (primed_machine config) created (created ∷ overwritten ∷ asked ∷ []) (quiet (after_create config [])) (create_comes again nobody config [])
     ∙ step (after_create config []) created (overwritten ∷ asked ∷ []) (refusing config) (create_comes_again again config)
 
+watch_told : (again : ReadAgain) (nobody : NobodyTold) (rows : FiringRows) (config : Config)
+    → play (primed_machine config) (awaited ∷ created ∷ overwritten ∷ [])
+    ≡ record { outputs = ToClient 1 reply_of_missing ∷ ToClient 1 event_of_create ∷ []; after = after_set config }
+watch_told again nobody rows config =
+    step (primed_machine config) awaited (created ∷ overwritten ∷ []) (replying reply_of_missing (awaiting config)) (exists_comes config)
+    ∙ ap (behind (ToClient 1 reply_of_missing ∷ []))
+    (step (awaiting config) created (overwritten ∷ []) (replying event_of_create (after_create config [])) (watched_create_comes again rows config)
+    ∙ ap (behind (ToClient 1 event_of_create ∷ [])) (step (after_create config []) overwritten [] (quiet (after_set config)) (set_comes again nobody config)))
+
 idle_is : (config : Config) → (play (new_machine config) (created ∷ asked ∷ [])).outputs ≡ []
 idle_is config = ap (λ (o : Option Connection). (beside None (take_client_bytes false 1 (new_machine config).world o (get_front ++ get_back))).outputs ++ []) (finmap.get-empty nat_cmp 1)
 
@@ -464,12 +577,13 @@ closed_passes config =
     ap (λ (o : Option Connection). (CloseLeader OutOfOrder ∷ CloseClient 1 ∷ []) ++ ((beside None (take_client_bytes false 1 (closed config).world o (get_front ++ get_back))).outputs ++ []))
     (get-removed (at_first []) 1)
 
-pub rows_hold : ReadAgain → NobodyTold → WorkedRows
-rows_hold again nobody = record {
+pub rows_hold : ReadAgain → NobodyTold → FiringRows → WorkedRows
+rows_hold again nobody rows = record {
   create_then_get = λ config. ap (λ (h : Happened Machine). h.outputs) (create_get again nobody config []);
   set_then_get = λ config. ap (λ (h : Happened Machine). h.outputs) (create_get again nobody config (overwritten ∷ asked ∷ []) ∙ ap (behind (ToClient 1 reply_of_create ∷ [])) (set_get again nobody config));
   cut_request = λ config. ap (λ (h : Happened Machine). h.outputs) (cut_get again nobody config);
   same_zxid_twice = λ config. ap (λ (h : Happened Machine). h.outputs) (create_twice again nobody config) ∙ closed_passes config;
+  watch_on_missing = λ config. ap (λ (h : Happened Machine). h.outputs) (watch_told again nobody rows config);
   nothing = λ config. refl;
   idle = λ config. idle_is config;
 }

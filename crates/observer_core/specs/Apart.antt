@@ -1,5 +1,5 @@
 -- How far an event of one client reaches.
-use Rattle.std.specs.Prelude.{◌≡◌, ◌≢◌, ℕ, List}
+use Rattle.std.specs.Prelude.{◌≡◌, ◌≢◌, ◌⊎◌, ℕ, ℤ, List, Some, None, true}
 use Rattle.std.specs.List.{AllByRecursion}
 use Rattle.std.specs.FinMap as finmap
 use Rattle.std.specs.FinSet as set
@@ -7,16 +7,25 @@ use Rattle.observer_core.specs.declared.event.Event.TheVariants.{ClientUp, Clien
 use Rattle.observer_core.specs.declared.event.Output.{Output}
 use Rattle.observer_core.specs.declared.event.Output.TheVariants.{ToLeader, ToClient, CloseLeader, CloseClient}
 use Rattle.observer_core.specs.Machine.{Clients, World, Machine}
+use Rattle.sessions.specs.Sessions.{session_of}
 use Rattle.observer_core.specs.Steps.{Happened}
+use Rattle.observer_core.specs.Clients.{is_open}
 use Rattle.observer_core.specs.Agreement.{ClientsAgree}
 use Rattle.observer_core.specs.Play.{happen}
 
--- frames go to the client alone, and nothing to the leader; a connection may be closed
-abbrev pub IsOf : ℕ → Output → Type 0
-IsOf n (ToLeader bytes) = ⊥
-IsOf n (ToClient k frame) = k ≡ n
-IsOf n (CloseLeader e) = ⊥
-IsOf n (CloseClient k) = Unit {0}
+-- frames go to the client alone, and nothing to the leader; its own connection may be closed, and those that are left
+abbrev pub IsOf : ℕ → (ℕ → Type 0) → Output → Type 0
+IsOf n left (ToLeader bytes) = ⊥
+IsOf n left (ToClient k frame) = k ≡ n
+IsOf n left (CloseLeader e) = ⊥
+IsOf n left (CloseClient k) = (k ≡ n) ⊎ left k
+
+-- the connection k had a session that the client n took up: n had none before, and it has this one now if it is still open
+pub record IsTakenUp (n : ℕ) (before after : Clients) (k : ℕ) : Type 0 where
+  pub session : ℤ
+  pub had : session_of before.sessions k ≡ Some session
+  pub none : session_of before.sessions n ≡ None
+  pub has : is_open n after ≡ true → session_of after.sessions n ≡ Some session
 
 -- the connection isn't closed
 abbrev pub StaysOpen : ℕ → List Output → Type 0
@@ -29,18 +38,19 @@ pub record IsUntouched (k : ℕ) (before after : Clients) : Type 0 where
   pub own : (path : List ℕ) → set.contains after.watches.own (path, k) ≡ set.contains before.watches.own (path, k)
   pub child : (path : List ℕ) → set.contains after.watches.child (path, k) ≡ set.contains before.watches.child (path, k)
 
--- what happened to the world is the client's alone
-pub record IsApart (n : ℕ) (w : World) (h : Happened World) : Type 0 where
-  pub outputs : AllByRecursion (IsOf n) h.outputs
+-- what happened to the world is the client's alone, where those that are left may be closed besides
+pub record IsApart (n : ℕ) (left : ℕ → Type 0) (w : World) (h : Happened World) : Type 0 where
+  pub outputs : AllByRecursion (IsOf n left) h.outputs
   pub learner : h.after.learner ≡ w.learner
   pub tree : h.after.tree ≡ w.tree
   -- another connection that isn't closed is untouched
   pub others : (k : ℕ) → k ≢ n → StaysOpen k h.outputs → IsUntouched k w.clients h.after.clients
 
--- the same of a machine; the leader's bytes are left, too
+-- the same of a machine, where a connection is left if its session was taken up; the leader's bytes wait as before
 pub record ReachesOnly (n : ℕ) (m : Machine) (h : Happened Machine) : Type 0 where
   pub leader : h.after.leader ≡ m.leader
-  pub world : IsApart n m.world (record { outputs = h.outputs; after = h.after.world })
+  pub world : IsApart n (IsTakenUp n m.world.clients h.after.world.clients) m.world
+      (record { outputs = h.outputs; after = h.after.world })
 
 -- a client that comes, sends, or goes
 pub record ClientsAreApart : Type 0 where

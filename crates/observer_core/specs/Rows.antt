@@ -41,6 +41,18 @@ reply_of_set_data =
     spelled (codes "00000058 00000001 0000000100000002 00000000 ffffffff 0000000100000001 0000000100000002 00000000000003e8 00000000000007d0"
     ++ codes " 00000001 00000000 00000000 0000000000000000 00000000 00000000 0000000100000001")
 
+-- exists of /a, with a watch
+abbrev pub exists_request : List ℕ
+exists_request = spelled (codes "0000000f 00000002 00000003 00000002 2f61 01")
+
+-- its reply where there is no node, before any transaction
+abbrev pub reply_of_missing : List ℕ
+reply_of_missing = spelled (codes "00000010 00000002 0000000000000000 ffffff9b")
+
+-- what the watch tells when the node is made
+abbrev pub event_of_create : List ℕ
+event_of_create = spelled (codes "0000001e ffffffff ffffffffffffffff 00000000 00000001 00000003 00000002 2f61")
+
 abbrev pub created : Event
 created = LeaderBytes inform_of_create
 
@@ -49,6 +61,9 @@ overwritten = LeaderBytes inform_of_set_data
 
 abbrev pub asked : Event
 asked = ClientBytes 1 (get_front ++ get_back)
+
+abbrev pub awaited : Event
+awaited = ClientBytes 1 exists_request
 
 -- a primed machine answers so
 abbrev pub Answers : List Event → List Output → Type 0
@@ -62,6 +77,8 @@ pub record WorkedRows : Type 0 where
   pub cut_request : Answers (ClientBytes 1 get_front ∷ created ∷ ClientBytes 1 get_back ∷ []) (ToClient 1 reply_of_create ∷ [])
   -- the same transaction twice is refused, and what comes then is passed over
   pub same_zxid_twice : Answers (created ∷ created ∷ overwritten ∷ asked ∷ []) (CloseLeader OutOfOrder ∷ CloseClient 1 ∷ [])
+  -- a watch on a node that isn't there tells of its create, and of nothing behind it
+  pub watch_on_missing : Answers (awaited ∷ created ∷ overwritten ∷ []) (ToClient 1 reply_of_missing ∷ ToClient 1 event_of_create ∷ [])
   pub nothing : Answers [] []
   -- without a leader and a client nothing is answered
   pub idle : (config : Config) → (play (new_machine config) (created ∷ asked ∷ [])).outputs ≡ []

@@ -50,7 +50,8 @@ pub fn connections_agree()
 
 /// A client that comes, sends or goes leaves the tree and the log; no frame goes to another, and none to the leader; and
 /// every other connection that isn't closed is untouched: the bytes that wait there, its session and ids, and its watches.
-/// Which others are closed isn't said here: by Play, an older connection of a session that is taken up.
+/// Another one is closed only where its session is taken up: by a client that had none before, and that has this one from
+/// then on while it is open.
 pub fn clients_are_apart()
     ensures { ClientsAreApart }
 {
@@ -65,4 +66,5 @@ pub fn worked_rows()
 {
     txn_codec::transactions();
     watch_manager::law::firing();
+    watch_manager::law::worked_rows();
 }

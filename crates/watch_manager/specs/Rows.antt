@@ -7,7 +7,7 @@ use Rattle.watch_manager.specs.Watching.{Watching, no_watch}
 use Rattle.watch_manager.specs.Watches.{Fired, fire}
 use Rattle.watch_manager.specs.declared.event.Event.{Event}
 use Rattle.watch_manager.specs.declared.event.EventKind.{EventKind}
-use Rattle.watch_manager.specs.declared.event.EventKind.TheVariants.{NodeDeleted, NodeChildrenChanged}
+use Rattle.watch_manager.specs.declared.event.EventKind.TheVariants.{NodeCreated, NodeDeleted, NodeChildrenChanged}
 
 abbrev pub root : Bytes
 root = codes "/"
@@ -49,3 +49,6 @@ pub record WorkedRows : Type 0 where
       fire (watches_on ((a_f, 1) ∷ []) ((a, 1) ∷ (b, 1) ∷ []))
       (Deleted a_e ∷ ChildrenChanged a ∷ Deleted a_f ∷ ChildrenChanged a ∷ Deleted b_g ∷ ChildrenChanged b ∷ [])
       ≡ leaves_nothing (tell 1 NodeChildrenChanged a ∷ tell 1 NodeDeleted a_f ∷ tell 1 NodeChildrenChanged b ∷ [])
+  -- A create of /a, which connection 1 has waited for.
+  pub created :
+      fire (watches_on ((a, 1) ∷ []) []) (Created a ∷ ChildrenChanged root ∷ []) ≡ leaves_nothing (tell 1 NodeCreated a ∷ [])

@@ -14,4 +14,5 @@ returns c = record {
       evaluated ((a_f, 1) ∷ []) ((a, 1) ∷ (b, 1) ∷ [])
       (Deleted a_e ∷ ChildrenChanged a ∷ Deleted a_f ∷ ChildrenChanged a ∷ Deleted b_g ∷ ChildrenChanged b ∷ [])
       ((tt, tt), ((tt, tt), (((tt, tt), tt), (tt, ((tt, tt), ((tt, tt), tt))))));
+  created = evaluated ((a, 1) ∷ []) [] (Created a ∷ ChildrenChanged root ∷ []) ((tt, tt), (tt, tt));
 }
