@@ -12,18 +12,6 @@ pub const AUTH_FAILED: i32 = -115;
 /// The error of a request that would change the tree.
 pub const NOT_READ_ONLY: i32 = -119;
 
-/// The event of a node that was made.
-pub const NODE_CREATED: i32 = 1;
-
-/// The event of a node that was taken away.
-pub const NODE_DELETED: i32 = 2;
-
-/// The event of a node whose bytes were changed.
-pub const NODE_DATA_CHANGED: i32 = 3;
-
-/// The event of a node that gained or lost a child.
-pub const NODE_CHILDREN_CHANGED: i32 = 4;
-
 /// The state that each event has: the client is connected.
 pub const SYNC_CONNECTED: i32 = 3;
 

@@ -10,7 +10,7 @@ use values::{NoMemory, ReadError, Str};
 /// The WatcherEvent of zookeeper.jute.
 #[derive(Drop, PartialEq)]
 pub struct WatcherEvent<'a> {
-    /// What happened: a number from `NODE_CREATED` to `NODE_CHILDREN_CHANGED`.
+    /// What happened: the node was made (1), removed (2), its bytes replaced (3), or a child gained or lost (4).
     pub kind: i32,
     /// The state of the client, `SYNC_CONNECTED`.
     pub state: i32,
