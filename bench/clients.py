@@ -5,8 +5,8 @@
 
 Each figure is the difference of two runs, of which one does the same but for what is measured: so making the tree and
 the bytes isn't in it. All runs take turns, several times, and the least processor time of each is taken. What a load
-prints must be what it asks for. Memory is the resident set at its greatest. An event can't be told apart from the getData
-that leaves its watch again, so both together have no bound. The exit status is 0 where every figure is met that has one.
+prints must be what it asks for. Memory is the resident set at its greatest. The exit status is 0 where every figure is
+met that has a bound.
 """
 import argparse
 import pathlib
@@ -19,7 +19,9 @@ from run import PIECES, TWICE, machine, timed  # noqa: E402
 
 PARENTS, CHILDREN, READS = 100, 1000, 400_000
 WHOLE, PIECE = 26_000, 100
-CONNECTIONS, WATCHES, SETS, OTHERS = 1000, 100, 500, 1_000_000
+CONNECTIONS, WATCHES, NODES, OTHERS = 1000, 100, 500, 1_000_000
+NAMES, LISTS = 100_000, 50
+PINGS = 2000
 IDLE = 100_000
 # The smaller of two loads whose memory is compared is so large that what this script holds itself, and what the system
 # counts as the program's, isn't more.
@@ -53,9 +55,17 @@ def reads(times, piece):
     return Load(["reads", PARENTS, CHILDREN, READS, times, piece], READS * times)
 
 
-def watches(connections, own, sets, others):
-    replies = connections * (1 + own + sets) + others
-    return Load(["watches", connections, own, sets, others], replies, connections * sets)
+def watches(connections, own, nodes, sets, others):
+    replies = connections * (1 + own + nodes) + others
+    return Load(["watches", connections, own, nodes, sets, others], replies, connections * sets)
+
+
+def lists(names, times):
+    return Load(["lists", names, times], times)
+
+
+def pings(connections):
+    return Load(["pings", connections], 2 * connections)
 
 
 def loads():
@@ -64,15 +74,22 @@ def loads():
         "reads": reads(1, WHOLE),
         "twice": reads(2, WHOLE),
         "pieces": reads(1, PIECE),
-        "no set": watches(CONNECTIONS, WATCHES, 0, 0),
-        "sets": watches(CONNECTIONS, WATCHES, SETS, 0),
-        "others, no set": watches(CONNECTIONS, WATCHES, 0, OTHERS),
-        "others": watches(CONNECTIONS, WATCHES, SETS, OTHERS),
-        "few watches of one": watches(0, 0, 0, FEW),
-        "watches of one": watches(0, 0, 0, OTHERS),
-        "watches of all": watches(CONNECTIONS, OTHERS // CONNECTIONS, 0, 0),
-        "idle": watches(IDLE, 0, 0, 0),
-        "many idle": watches(MANY_TIMES * IDLE, 0, 0, 0),
+        "opened": watches(CONNECTIONS, WATCHES, 0, 0, 0),
+        "no set": watches(CONNECTIONS, WATCHES, NODES, 0, 0),
+        "sets": watches(CONNECTIONS, WATCHES, NODES, NODES, 0),
+        "others, no set": watches(CONNECTIONS, WATCHES, NODES, 0, OTHERS),
+        "others": watches(CONNECTIONS, WATCHES, NODES, NODES, OTHERS),
+        "few watches of one": watches(0, 0, 0, 0, FEW),
+        "watches of one": watches(0, 0, 0, 0, OTHERS),
+        "watches of all": watches(CONNECTIONS, OTHERS // CONNECTIONS, 0, 0, 0),
+        "idle": watches(IDLE, 0, 0, 0, 0),
+        "many idle": watches(MANY_TIMES * IDLE, 0, 0, 0, 0),
+        "no list": lists(NAMES, 0),
+        "lists": lists(NAMES, LISTS),
+        "twice, no list": lists(2 * NAMES, 0),
+        "twice the names": lists(2 * NAMES, LISTS),
+        "pings": pings(PINGS),
+        "many pings": pings(MANY_TIMES * PINGS),
     }
 
 
@@ -85,16 +102,20 @@ def figures(of):
     def holds(name, without):
         return of[name].memory - of[without].memory
 
-    told, left = CONNECTIONS * SETS, CONNECTIONS * WATCHES
+    told, left = CONNECTIONS * NODES, CONNECTIONS * WATCHES
     return [
         ("microseconds a getData", 1e6 * took("reads", "no read") / READS, 2.5),
         ("2n getDatas against n", took("twice", "no read") / took("reads", "no read"), TWICE),
         (f"pieces of {PIECE} bytes against {WHOLE}", took("pieces", "no read") / took("reads", "no read"), PIECES),
-        ("microseconds an event and the getData that watches again", 1e6 * took("sets", "no set") / told, None),
+        ("microseconds a getData that watches", 1e6 * took("no set", "opened") / told, None),
+        ("microseconds an event", 1e6 * took("sets", "no set") / told, 2),
         ("the same beside other watches, times as long", took("others", "others, no set") / took("sets", "no set"), 1.5),
+        ("nanoseconds a name in a list", 1e9 * took("lists", "no list") / (LISTS * NAMES), None),
+        ("2n names against n", took("twice the names", "twice, no list") / took("lists", "no list"), TWICE),
         ("bytes a watch, all of one connection", holds("watches of one", "few watches of one") / (OTHERS - FEW), 500),
-        (f"bytes a watch, of {CONNECTIONS:,} connections", holds("watches of all", "no set") / (OTHERS - left), 500),
+        (f"bytes a watch, of {CONNECTIONS:,} connections", holds("watches of all", "opened") / (OTHERS - left), 500),
         ("bytes an idle connection", holds("many idle", "idle") / ((MANY_TIMES - 1) * IDLE), 1024),
+        ("the same behind a long frame", holds("many pings", "pings") / ((MANY_TIMES - 1) * PINGS), 1024),
     ]
 
 

@@ -9,20 +9,30 @@
 //! each, a client writes READS getDatas of children, and says all of them TIMES times, in pieces of
 //! PIECE bytes.
 //!
-//! `load_runner watches CONNECTIONS WATCHES SETS OTHERS`: OTHERS watches are left, and CONNECTIONS
-//! connections opened, each of which leaves WATCHES watches; then, SETS times, each of these
-//! connections watches one node, and the leader sets it.
+//! `load_runner watches CONNECTIONS WATCHES NODES SETS OTHERS`: OTHERS watches are left, and
+//! CONNECTIONS connections opened, each of which leaves WATCHES watches; then each of these
+//! connections watches NODES nodes, all the same ones, and the leader sets the first SETS of them.
+//!
+//! `load_runner lists CHILDREN TIMES`: after creates of CHILDREN nodes below one, a client lists these
+//! TIMES times.
+//!
+//! `load_runner pings CONNECTIONS`: CONNECTIONS connections are opened, and on each a ping comes that
+//! is as long as a frame may be, in two pieces.
 #![tactic(auto)]
 
 mod choice;
+mod listing;
 mod load;
 mod messages;
+mod pings;
 mod reads;
 mod sets;
 mod watches;
 
 use anyhow::{Context, Result};
+use listing::Listing;
 use load::Load;
+use pings::Pings;
 use reads::Reads;
 use sets::Sets;
 use std::alloc::{AllocError, Global};
@@ -31,7 +41,7 @@ use watches::Watched;
 
 const USAGE: &str =
     "wanted: PARENTS CHILDREN SETS EVERY, or reads PARENTS CHILDREN READS TIMES PIECE, \
-    or watches CONNECTIONS WATCHES SETS OTHERS";
+    or watches CONNECTIONS WATCHES NODES SETS OTHERS, or lists CHILDREN TIMES, or pings CONNECTIONS";
 
 // The words behind the program's name.
 fn words(rt: &HostRuntime) -> Result<Vec<String>> {
@@ -71,8 +81,22 @@ fn watched_of(words: &[String]) -> Result<Watched> {
     Ok(Watched {
         connections: number(words, 1)?,
         watches: number(words, 2)?,
-        sets: number(words, 3)?,
-        others: number(words, 4)?,
+        nodes: number(words, 3)?,
+        sets: number(words, 4)?,
+        others: number(words, 5)?,
+    })
+}
+
+fn listing_of(words: &[String]) -> Result<Listing> {
+    Ok(Listing {
+        children: number(words, 1)?,
+        times: number(words, 2)?,
+    })
+}
+
+fn pings_of(words: &[String]) -> Result<Pings> {
+    Ok(Pings {
+        connections: number(words, 1)?,
     })
 }
 
@@ -84,6 +108,12 @@ fn run(alloc: Global, load: &mut Load, words: &[String]) -> Result<()> {
     }
     if word == "watches" {
         return load.watch(alloc, &watched_of(words)?);
+    }
+    if word == "lists" {
+        return load.list(alloc, &listing_of(words)?);
+    }
+    if word == "pings" {
+        return load.ping(alloc, &pings_of(words)?);
     }
     load.set(alloc, &sets_of(words)?)
 }

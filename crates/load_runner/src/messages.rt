@@ -4,6 +4,7 @@ ghost use Rattle.std.specs.Prelude.{◌≤◌, length, IfOk};
 ghost use Rattle.txn_codec.specs.Spelling.{body as body_format};
 
 use anyhow::{Result, ensure};
+use client_records::codes::PING_XID;
 use client_records::{ConnectRequest, PathAndWatch, RequestKind};
 use jute::codes::open_list;
 use jute::{RequestHeader, WriteRecord, put_bytes};
@@ -17,6 +18,9 @@ pub const PATH_LIMIT: usize = 64;
 
 // The most bytes of a transaction or a request that a message carries here.
 const CARRIED_LIMIT: usize = 1024;
+
+// The most bytes of a client's frame.
+const FRAME_LIMIT: usize = 1_048_575;
 
 /// What a node holds where nothing else is said.
 pub const CONTENT: &[u8] = b"0123456789abcdef";
@@ -144,5 +148,20 @@ pub fn write_connect(alloc: Global, out: &mut Vec<u8>) -> Result<()> {
     };
     request.write(&mut frame)?;
     ensure!(frame.len() <= CARRIED_LIMIT, "a request is too long");
+    Ok(put_bytes(out, frame.as_slice())?)
+}
+
+/// Writes the frame of a ping behind whose header bytes stand that say nothing, as many as may. An
+/// error may leave a front of it.
+#[tactic(auto, unfolding(jute::specs::Records::request_header))]
+pub fn write_long_ping(alloc: Global, out: &mut Vec<u8>) -> Result<()> {
+    let mut frame = Vec::new(alloc);
+    let header = RequestHeader {
+        xid: PING_XID,
+        kind: RequestKind::Ping.code(),
+    };
+    header.write(&mut frame)?;
+    frame.resize(FRAME_LIMIT, 0)?;
+    ensure!(frame.len() <= FRAME_LIMIT, "a request is too long");
     Ok(put_bytes(out, frame.as_slice())?)
 }

@@ -6,8 +6,8 @@ use anyhow::Result;
 use client_records::RequestKind;
 use std::alloc::Global;
 
-// The first connection that is opened here.
-const FIRST: u64 = 2;
+/// The first connection that is opened here.
+pub const FIRST: u64 = 2;
 
 /// How much is to be watched.
 #[derive(Clone, Copy, Debug)]
@@ -16,7 +16,9 @@ pub struct Watched {
     pub connections: u32,
     /// How many watches each of them leaves that nothing uses up.
     pub watches: u32,
-    /// How often the node is set that all of them watch.
+    /// How many nodes each of them watches besides.
+    pub nodes: u32,
+    /// How many of these nodes are set then.
     pub sets: u32,
     /// How many watches stand beside that nothing uses up.
     pub others: u32,
@@ -45,9 +47,9 @@ impl Load {
         Ok(())
     }
 
-    // Each of the connections watches the first node below the root.
-    fn watch_first(&mut self, alloc: Global, connections: u32) -> Result<()> {
-        let path = parent_path(alloc, 0)?;
+    // Each of the connections watches a node below the root.
+    fn watch_node(&mut self, alloc: Global, connections: u32, node: u32) -> Result<()> {
+        let path = parent_path(alloc, node)?;
         let mut frame = Vec::new(alloc);
         write_read(alloc, RequestKind::GetData, &path, true, &mut frame)?;
         for connection in 0..connections {
@@ -57,21 +59,24 @@ impl Load {
         Ok(())
     }
 
-    // The leader tells that this node was set.
-    fn set_first(&mut self, alloc: Global) -> Result<()> {
-        let path = parent_path(alloc, 0)?;
+    // The leader tells that a node was set.
+    fn set_node(&mut self, alloc: Global, node: u32) -> Result<()> {
+        let path = parent_path(alloc, node)?;
         let body = set_data(alloc, path)?;
         self.tell(alloc, body)
     }
 
-    /// Opens connections that leave watches; then, each time, all watch one node, which is set.
+    /// Opens connections that leave watches, and all of which watch the same nodes besides; then some of
+    /// these are set.
     pub fn watch(&mut self, alloc: Global, sizes: &Watched) -> Result<()> {
         self.leave(alloc, CONNECTION, sizes.others)?;
         self.open_all(alloc, sizes.connections, sizes.watches)?;
-        self.make_parents(alloc, 1, CONTENT)?;
-        for _ in 0..sizes.sets {
-            self.watch_first(alloc, sizes.connections)?;
-            self.set_first(alloc)?;
+        self.make_parents(alloc, sizes.nodes, CONTENT)?;
+        for node in 0..sizes.nodes {
+            self.watch_node(alloc, sizes.connections, node)?;
+        }
+        for node in 0..sizes.sets {
+            self.set_node(alloc, node)?;
         }
         Ok(())
     }

@@ -1,0 +1,30 @@
+//! Long lists of children.
+
+use crate::load::{CONNECTION, Load};
+use crate::messages::{CONTENT, parent_path, write_read};
+use anyhow::Result;
+use client_records::RequestKind;
+use std::alloc::Global;
+
+/// How much is to be listed.
+#[derive(Clone, Copy, Debug)]
+pub struct Listing {
+    /// How many nodes are made below one parent.
+    pub children: u32,
+    /// How often a client asks for their names.
+    pub times: u32,
+}
+
+impl Load {
+    /// Makes the children of one node, and then lists them.
+    pub fn list(&mut self, alloc: Global, sizes: &Listing) -> Result<()> {
+        self.make_tree(alloc, 1, sizes.children, CONTENT)?;
+        let path = parent_path(alloc, 0)?;
+        let mut frame = Vec::new(alloc);
+        write_read(alloc, RequestKind::GetChildren, &path, false, &mut frame)?;
+        for _ in 0..sizes.times {
+            self.hear(alloc, CONNECTION, frame.as_slice())?;
+        }
+        Ok(())
+    }
+}

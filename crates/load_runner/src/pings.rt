@@ -1,0 +1,29 @@
+//! Connections on which a frame came that is as long as a frame may be.
+
+use crate::load::Load;
+use crate::messages::write_long_ping;
+use crate::watches::FIRST;
+use anyhow::Result;
+use std::alloc::Global;
+
+/// How many connections are opened.
+#[derive(Clone, Copy, Debug)]
+pub struct Pings {
+    pub connections: u32,
+}
+
+impl Load {
+    /// Opens connections, on each of which one long frame comes, in two pieces.
+    pub fn ping(&mut self, alloc: Global, sizes: &Pings) -> Result<()> {
+        let mut frame = Vec::new(alloc);
+        write_long_ping(alloc, &mut frame)?;
+        let (first, second) = frame.as_slice().split_at(frame.len() / 2);
+        for connection in 0..sizes.connections {
+            let connection = u64::from(connection) + FIRST;
+            self.open(alloc, connection)?;
+            self.hear(alloc, connection, first)?;
+            self.hear(alloc, connection, second)?;
+        }
+        Ok(())
+    }
+}
