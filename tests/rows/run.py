@@ -10,14 +10,19 @@ The comments at the head of a script say what the row shows, and two kinds of th
     # status 1                      the exit status that is wanted; without it 0
     # stderr line 4: bad line       the one line that standard error has; without it none
 
-Lines count in a bad script, so a comment there is replaced and never added. The last line printed is `N passed, M
-failed`; the exit status is 0 where no row failed and there was one at least.
+Lines count in a bad script, so a comment there is replaced and never added. Rows that are too long for a file are made
+by made.py. The last line printed is `N passed, M failed`; the exit status is 0 where no row failed and there was one at
+least.
 """
 import argparse
 import pathlib
 import shutil
 import subprocess
 import sys
+import tempfile
+
+sys.dont_write_bytecode = True
+import made  # noqa: E402
 
 HERE = pathlib.Path(__file__).resolve().parent
 SECONDS = 60
@@ -66,24 +71,39 @@ def faults(words, path):
     return found
 
 
+def make(room):
+    """Writes the rows that made.py makes into a folder."""
+    for name, script, wanted in made.rows():
+        (room / f"{name}.script").write_bytes(script)
+        (room / f"{name}.expected").write_bytes(wanted)
+
+
+def run(words, only, room):
+    """Runs the rows with that in their name. Returns how many held, and how many failed."""
+    make(room)
+    passed = failed = 0
+    rows = sorted([*HERE.glob("*.script"), *room.glob("*.script")], key=lambda it: it.stem)
+    for path in (it for it in rows if only in it.stem):
+        found = faults(words, path)
+        passed, failed = passed + (not found), failed + bool(found)
+        if found:
+            print(f"FAIL {path.stem}")
+        for line in found:
+            print(f"  {line}")
+    return passed, failed
+
+
 def main():
     parser = argparse.ArgumentParser(description=__doc__, formatter_class=argparse.RawDescriptionHelpFormatter)
     parser.add_argument("--only", default="", help="a part of a row's name")
     parser.add_argument("program", help="the program, and what stands before `replay`")
     parser.add_argument("arguments", nargs=argparse.REMAINDER)
     args = parser.parse_args()
-    rows = [it for it in sorted(HERE.glob("*.script")) if args.only in it.stem]
     if not shutil.which(args.program):
-        print(f"no program {args.program}: its rows were not run\n0 passed, {len(rows)} failed")
+        print(f"no program {args.program}: no row was run\n0 passed, 1 failed")
         return 1
-    passed = failed = 0
-    for path in rows:
-        found = faults([args.program] + args.arguments, path)
-        passed, failed = passed + (not found), failed + bool(found)
-        if found:
-            print(f"FAIL {path.stem}")
-        for line in found:
-            print(f"  {line}")
+    with tempfile.TemporaryDirectory(prefix="rows-") as room:
+        passed, failed = run([args.program] + args.arguments, args.only, pathlib.Path(room))
     print(f"{passed} passed, {failed} failed")
     return 1 if failed or not passed else 0
 
