@@ -1,0 +1,156 @@
+-- What is read in parts, one step after another, and however the bytes are cut.
+use Rattle.std.proofs.Common.{◌≡◌, ℕ, zero, suc, ◌<◌, Bool, true, false, List, ◌++◌, length, Result, Ok, Err, refl, ap, subst, ◌∙◌, arith, inl, inr}
+use Rattle.values.specs.declared.fault.Fault.{Fault}
+use Rattle.jute.specs.Format.{◌>>=◌}
+use Rattle.jute.specs.Pieces.{Stands, Leaves, Eats}
+use Rattle.jute.specs.Stream.{Reading, values, passes, StreamedIn, IsStream, read_in}
+use Rattle.jute.specs.Loading.{Loads, unless_last, load_within, load_from}
+use Rattle.jute.proofs.Streaming.{shorter_rest}
+
+-- what was read in a phase is read again
+stands_in : {A : Type 0} (f : Reading A) → StreamedIn f → (bytes more : List ℕ)
+    → Stands (read_in f bytes) more (read_in f (bytes ++ more))
+stands_in (values f) s bytes more = s.pieced.stands bytes more
+stands_in passes s bytes more = inl refl
+
+pub at_most : {A : Type 0} (r : Result (A × List ℕ) Fault) (n : ℕ) → Eats r n → Leaves r n
+at_most (Ok x) n h = omega (arith, h)
+at_most (Err e) n h = tt
+
+module _ {S A L : Type 0} (load : Loads S A L) (s : IsStream load.stream) where
+  -- what is made of a value, and of the others
+  abbrev pub made_with : L → (A → L → List ℕ → Result (L × List ℕ) Fault) → A × List ℕ → Result (L × List ℕ) Fault
+  made_with made others x = load.takes made x.0 >>= λ next. unless_last (load.is_last x.0) next x.1
+      (others x.0 next x.1)
+
+  abbrev pub one : Result (A × List ℕ) Fault → L → (A → L → List ℕ → Result (L × List ℕ) Fault)
+      → Result (L × List ℕ) Fault
+  one r made others = r >>= made_with made others
+
+  abbrev pub behind : S → A → L → List ℕ → Result (L × List ℕ) Fault
+  behind phase v next rest = load_from load (load.stream.after phase v) next rest
+
+  taken_same : (q : Result L Fault) (last : Bool) (rest : List ℕ) (g h : L → Result (L × List ℕ) Fault)
+      → ((next : L) → g next ≡ h next)
+      → (q >>= λ next. unless_last last next rest (g next)) ≡ (q >>= λ next. unless_last last next rest (h next))
+  taken_same (Ok next) last rest g h same = ap (unless_last last next rest) (same next)
+  taken_same (Err e) last rest g h same = refl
+
+  one_same : (phase : S) (bytes : List ℕ) (made : L) (r : Result (A × List ℕ) Fault)
+      (g h : A → L → List ℕ → Result (L × List ℕ) Fault) → read_in (load.stream.reading phase) bytes ≡ r
+      → ((v : A) (next : L) (rest : List ℕ) → length rest < length bytes → g v next rest ≡ h v next rest)
+      → one r made g ≡ one r made h
+  one_same phase bytes made (Ok x) g h e same =
+      taken_same (load.takes made x.0) (load.is_last x.0) x.1 (λ next. g x.0 next x.1) (λ next. h x.0 next x.1)
+      (λ next. same x.0 next x.1 (shorter_rest load.stream s phase bytes x.1 x.0 e))
+  one_same phase bytes made (Err d) g h e same = refl
+
+  enough : (n m : ℕ) (phase : S) (made : L) (bytes : List ℕ) → length bytes < n → length bytes < m
+      → load_within load n phase made bytes ≡ load_within load m phase made bytes
+  unfolding load_within
+  enough zero m phase made bytes ln lm = absurd (omega (arith, ln))
+  enough (suc n) zero phase made bytes ln lm = absurd (omega (arith, lm))
+  enough (suc n) (suc m) phase made bytes ln lm =
+      one_same phase bytes made (read_in (load.stream.reading phase) bytes)
+      (λ v. load_within load n (load.stream.after phase v)) (λ v. load_within load m (load.stream.after phase v)) refl
+      (λ v next rest lt.
+      enough n m (load.stream.after phase v) next rest (omega (arith, lt, ln)) (omega (arith, lt, lm)))
+
+  -- one step, with no bound to be seen
+  pub load_step : (phase : S) (made : L) (bytes : List ℕ)
+      → load_from load phase made bytes ≡ one (read_in (load.stream.reading phase) bytes) made (behind phase)
+  unfolding load_within
+  load_step phase made bytes =
+      one_same phase bytes made (read_in (load.stream.reading phase) bytes)
+      (λ v. load_within load (length bytes) (load.stream.after phase v)) (behind phase) refl
+      (λ v next rest lt. enough (length bytes) (suc (length rest)) (load.stream.after phase v) next rest lt
+      (omega arith))
+
+  -- the step for each answer of the reading
+  pub load_refused : (phase : S) (made : L) (bytes : List ℕ) (e : Fault)
+      → read_in (load.stream.reading phase) bytes ≡ Err e → load_from load phase made bytes ≡ Err e
+  load_refused phase made bytes e h = load_step phase made bytes ∙ ap (λ r. one r made (behind phase)) h
+
+  pub load_read : (phase : S) (made : L) (bytes rest : List ℕ) (v : A)
+      → read_in (load.stream.reading phase) bytes ≡ Ok (v, rest)
+      → load_from load phase made bytes ≡ made_with made (behind phase) (v, rest)
+  load_read phase made bytes rest v h = load_step phase made bytes ∙ ap (λ r. one r made (behind phase)) h
+
+  -- and it stands, whatever comes behind
+  pub load_read_on : (phase : S) (made : L) (bytes rest more : List ℕ) (v : A)
+      → read_in (load.stream.reading phase) bytes ≡ Ok (v, rest)
+      → load_from load phase made (bytes ++ more) ≡ made_with made (behind phase) (v, rest ++ more)
+  load_read_on phase made bytes rest more v h =
+      load_read phase made (bytes ++ more) (rest ++ more) v
+      (subst (λ (r : Result (A × List ℕ) Fault). Stands r more (read_in (load.stream.reading phase) (bytes ++ more))) h
+      (stands_in (load.stream.reading phase) (s.streamed phase) bytes more))
+
+  -- ---- more bytes
+
+  taken_stands : (q : Result L Fault) (last : Bool) (rest more : List ℕ) (g h : L → Result (L × List ℕ) Fault)
+      → ((next : L) → Stands (g next) more (h next))
+      → Stands (q >>= λ next. unless_last last next rest (g next)) more
+      (q >>= λ next. unless_last last next (rest ++ more) (h next))
+  taken_stands (Ok next) true rest more g h others = refl
+  taken_stands (Ok next) false rest more g h others = others next
+  taken_stands (Err e) last rest more g h others = inr refl
+
+  one_stands : (phase : S) (made : L) (bytes more : List ℕ) (r after : Result (A × List ℕ) Fault)
+      → read_in (load.stream.reading phase) bytes ≡ r → Stands r more after
+      → ((p : S) (next : L) (b : List ℕ) → length b < length bytes
+      → Stands (load_from load p next b) more (load_from load p next (b ++ more)))
+      → Stands (one r made (behind phase)) more (one after made (behind phase))
+  one_stands phase made bytes more (Ok x) after e h others =
+      rw h (taken_stands (load.takes made x.0) (load.is_last x.0) x.1 more (λ next. behind phase x.0 next x.1)
+      (λ next. behind phase x.0 next (x.1 ++ more))
+      (λ next. others (load.stream.after phase x.0) next x.1 (shorter_rest load.stream s phase bytes x.1 x.0 e)))
+  one_stands phase made bytes more (Err d) after e (inl short) others = inl short
+  one_stands phase made bytes more (Err d) after e (inr same) others = inr (ap (λ r. one r made (behind phase)) same)
+
+  stands_within : (n : ℕ) (phase : S) (made : L) (bytes more : List ℕ) → length bytes < n
+      → Stands (load_from load phase made bytes) more (load_from load phase made (bytes ++ more))
+  stands_within zero phase made bytes more lt = absurd (omega (arith, lt))
+  stands_within (suc n) phase made bytes more lt =
+      rw (load_step phase made bytes, load_step phase made (bytes ++ more))
+      (one_stands phase made bytes more (read_in (load.stream.reading phase) bytes)
+      (read_in (load.stream.reading phase) (bytes ++ more)) refl
+      (stands_in (load.stream.reading phase) (s.streamed phase) bytes more)
+      (λ p next b shorter. stands_within n p next b more (omega (arith, shorter, lt))))
+
+  pub load_stands : (phase : S) (made : L) (bytes more : List ℕ)
+      → Stands (load_from load phase made bytes) more (load_from load phase made (bytes ++ more))
+  load_stands phase made bytes more = stands_within (suc (length bytes)) phase made bytes more (omega arith)
+
+  -- ---- fewer bytes are left
+
+  taken_eats : (q : Result L Fault) (last : Bool) (rest : List ℕ) (n : ℕ) (g : L → Result (L × List ℕ) Fault)
+      → length rest < n → ((next : L) → Eats (g next) (length rest))
+      → Eats (q >>= λ next. unless_last last next rest (g next)) n
+  taken_eats (Ok next) true rest n g lt others = lt
+  taken_eats (Ok next) false rest n g lt others = longer (g next) (others next)
+    where
+      longer : (r : Result (L × List ℕ) Fault) → Eats r (length rest) → Eats r n
+      longer (Ok x) h = omega (arith, h, lt)
+      longer (Err e) h = tt
+  taken_eats (Err e) last rest n g lt others = tt
+
+  one_eats : (phase : S) (made : L) (bytes : List ℕ) (r : Result (A × List ℕ) Fault)
+      → read_in (load.stream.reading phase) bytes ≡ r
+      → ((p : S) (next : L) (b : List ℕ) → length b < length bytes → Eats (load_from load p next b) (length b))
+      → Eats (one r made (behind phase)) (length bytes)
+  one_eats phase made bytes (Ok x) e others =
+      let lt = shorter_rest load.stream s phase bytes x.1 x.0 e in
+      taken_eats (load.takes made x.0) (load.is_last x.0) x.1 (length bytes) (λ next. behind phase x.0 next x.1) lt
+      (λ next. others (load.stream.after phase x.0) next x.1 lt)
+  one_eats phase made bytes (Err d) e others = tt
+
+  eats_within : (n : ℕ) (phase : S) (made : L) (bytes : List ℕ) → length bytes < n
+      → Eats (load_from load phase made bytes) (length bytes)
+  eats_within zero phase made bytes lt = absurd (omega (arith, lt))
+  eats_within (suc n) phase made bytes lt =
+      rw (load_step phase made bytes)
+      (one_eats phase made bytes (read_in (load.stream.reading phase) bytes) refl
+      (λ p next b shorter. eats_within n p next b (omega (arith, shorter, lt))))
+
+  pub load_eats : (phase : S) (made : L) (bytes : List ℕ) → Eats (load_from load phase made bytes) (length bytes)
+  load_eats phase made bytes = eats_within (suc (length bytes)) phase made bytes (omega arith)
