@@ -4,13 +4,14 @@ use mathlib.Core.Bool.{true≢false}
 use Rattle.std.specs.Ordering.{int_eq, eq_by_cmp}
 use Rattle.std.specs.FinMap as finmap
 use Rattle.std.specs.FinSet as set
-use Rattle.ephemerals.specs.Orders.{Bytes, path_cmp}
+use Rattle.ephemerals.specs.Orders.{Bytes, path_cmp, in_order}
+use Rattle.ephemerals.specs.Pairs.{paths_of}
 use Rattle.txn_codec.specs.Paths.{parent_of, name_of}
 use Rattle.data_tree.specs.State.{State, Nodes}
-use Rattle.data_tree.specs.Meaning.{Effect, effect_of, create_under, create_taken, create_new, delete_at, set_data_at, set_acl_at, owner_of, Meant, answer_of, of_effect, of_operation, of_set_acl, of_parts, of_failed, has_error, first_error, mean, after_changes}
+use Rattle.data_tree.specs.Meaning.{Effect, effect_of, create_under, create_taken, create_new, delete_at, set_data_at, set_acl_at, owner_of, Meant, answer_of, of_effect, of_operation, of_set_acl, of_parts, of_failed, has_error, first_error, mean, mean_of, after_changes, of_create_session, of_close_session, deletes, state_without_session}
 use Rattle.data_tree.specs.Meaning.Change.{Put, Own, Disown}
 use Rattle.data_tree.specs.Footprint.{touches, IsSameCell, AreSameAt, AreApart, footprint_of, footprint_of_parts, footprint, KeepsToCells}
-use Rattle.data_tree.specs.Commuting.{IsConfined, IsConfinedTo, DoCommute, TransactionsKeepToTheirFootprints, DisjointTransactionsCommute}
+use Rattle.data_tree.specs.Commuting.{IsConfined, IsConfinedTo, TransactionsKeepToTheirFootprints, TransactionsSetTheirTimeouts, DisjointTransactionsCommute, with_timeout_of, with_timeouts}
 use Rattle.data_tree.specs.declared.node.Node.{Node}
 use Rattle.data_tree.specs.declared.outcome.Outcome.{Outcome}
 use Rattle.txn_codec.specs.declared.txn.TxnHeader.{TxnHeader}
@@ -23,7 +24,7 @@ use Rattle.txn_codec.specs.declared.txn.Body.TheVariants as body
 use Rattle.txn_codec.specs.declared.txn.Operation.{Operation}
 use Rattle.txn_codec.specs.declared.txn.Operation.TheVariants as op
 use Rattle.ephemerals.proofs.Totals.{path_total}
-use Rattle.data_tree.proofs.Cells.{AreWithin, same_state, same_cell_sym, same_cell_trans, same_cell_refl, after_changes-frame, after_changes-local, after_changes-sessions, touches_first, touches_second}
+use Rattle.data_tree.proofs.SameCells.{AreWithin, same_state, same_cell_sym, same_cell_trans, same_cell_refl, after_changes-frame, after_changes-local, after_changes-sessions, touches_first, touches_second}
 
 -- ---- one operation
 
@@ -109,7 +110,6 @@ effect-confined ps effect within local = record {
     frame = λ s q out. after_changes-frame ps s (effect s).changes (within s) q out;
     local = λ s t same q at. subst (λ e. IsSameCell (after_changes s (effect s).changes) (after_changes t e.changes) q)
         (local s t same) (after_changes-local s t (effect s).changes q (same q at));
-    sessions = λ s. after_changes-sessions s (effect s).changes;
   };
   answer =
       λ s t same. ap (λ e. let a : Outcome = record { err = e.err; parts = []; triggers = e.triggers } in a)
@@ -163,16 +163,6 @@ commute_cell ps qs f g cf cg apart s q = by (touches ps q) (touches qs q) refl r
         (same_cell_trans (cf.frame s q e)
         (same_cell_trans (same_cell_sym (cg.frame s q d)) (same_cell_sym (cf.frame (g s) q e))))
 
-pub confined_commute : (ps qs : List Bytes) (f g : State → Meant) → IsConfinedTo ps f → IsConfinedTo qs g
-    → AreApart ps qs → (s : State) → DoCommute f g s
-confined_commute ps qs f g cf cg apart s = record {
-  state = same_state _ _
-      (cg.state.sessions (f s).state ∙ cf.state.sessions s ∙ sym (cf.state.sessions (g s).state ∙ cg.state.sessions s))
-      (commute_cell ps qs (λ t. (f t).state) (λ t. (g t).state) cf.state cg.state apart s);
-  first = cf.answer (g s).state s (same_at_after qs ps (λ t. (g t).state) cg.state (turned ps qs apart) s);
-  second = cg.answer (f s).state s (same_at_after ps qs (λ t. (f t).state) cf.state apart s);
-}
-
 -- ---- a multi: confined steps one after another
 
 or_false_first : (a b : Bool) → (a || b) ≡ false → a ≡ false
@@ -225,7 +215,7 @@ joined_is h o os s = refl
 
 pub parts-confined : (h : TxnHeader) (os : List Operation) → IsConfinedTo (footprint_of_parts os) (of_parts h os)
 parts-confined h [] = record {
-  state = record { frame = λ s q out. same_cell_refl s q; local = λ s t same. same; sessions = λ s. refl };
+  state = record { frame = λ s q out. same_cell_refl s q; local = λ s t same. same };
   answer = λ s t same. refl;
 }
 parts-confined h (o ∷ os) =
@@ -251,7 +241,6 @@ parts-confined h (o ∷ os) =
             (first.state.frame s q (or_false_first (touches ps q) (touches qs q) none));
         local = λ s t same. wider qs (ps ++ qs) (λ u. (of_parts h os u).state) in_rest rest.state _ _
             (after_first s t same);
-        sessions = λ s. rest.state.sessions (of_operation h o s).state ∙ first.state.sessions s;
       };
       answer = λ s t same. joined_is h o os s
           ∙ (λ i. joined (first.answer s t (λ q at. same q (in_first q at)) i)
@@ -260,20 +249,19 @@ parts-confined h (o ∷ os) =
           ∙ sym (joined_is h o os t);
     }
 
-nothing-confined : (meant : State → Meant) → ((s : State) → (meant s).state ≡ s)
+nothing-confined : (meant : State → Meant) → ((s : State) (q : Bytes) → IsSameCell (meant s).state s q)
     → ((s t : State) → answer_of (meant s) ≡ answer_of (meant t)) → IsConfinedTo [] meant
 nothing-confined meant stays same = record {
   state = record {
-    frame = λ s q out. subst (λ u. IsSameCell u s q) (sym (stays s)) (same_cell_refl s q);
+    frame = λ s q out. stays s q;
     local = λ s t same q at. absurd (true≢false (sym at));
-    sessions = λ s. ap (λ u. u.sessions) (stays s);
   };
   answer = λ s t at. same s t;
 }
 
 multi-confined : (h : TxnHeader) (os : List Operation) (b : Bool)
     → IsConfinedTo (if b then [] else footprint_of_parts os) (λ s. if b then of_failed os s else of_parts h os s)
-multi-confined h os true = nothing-confined (of_failed os) (λ s. refl) (λ s t. refl)
+multi-confined h os true = nothing-confined (of_failed os) same_cell_refl (λ s t. refl)
 multi-confined h os false = parts-confined h os
 
 pub transactions_keep_to_their_footprints : TransactionsKeepToTheirFootprints
@@ -284,10 +272,65 @@ transactions_keep_to_their_footprints t = by t.header t.body
     by h (body.Single operation) k = operation-confined h operation
     by h (body.SetAcl b) k = set_acl-confined b
     by h (body.Multi parts) k = multi-confined h parts (has_error parts)
-    by h (body.CreateSession timeout) k = absurd k
+    by h (body.CreateSession timeout) k =
+        nothing-confined (of_create_session h timeout) (λ s q. record { node = refl; owners = λ w. refl })
+        (λ s t. refl)
     by h body.CloseSession k = absurd k
+
+-- ---- sessions
+
+parts-sessions : (h : TxnHeader) (os : List Operation) (s : State) → (of_parts h os s).state.sessions ≡ s.sessions
+parts-sessions h [] s = refl
+parts-sessions h (o ∷ os) s =
+    parts-sessions h os (of_operation h o s).state
+    ∙ after_changes-sessions s (effect_of h o s.nodes).changes
+
+multi-sessions : (h : TxnHeader) (os : List Operation) (s : State) (b : Bool)
+    → (if b then of_failed os s else of_parts h os s).state.sessions ≡ s.sessions
+multi-sessions h os s true = refl
+multi-sessions h os s false = parts-sessions h os s
+
+-- a closeSession takes its session out, and sets no timeout
+pub close-sessions : (h : TxnHeader) (s : State)
+    → (of_close_session h s).state.sessions ≡ finmap.remove s.sessions h.client_id
+close-sessions h s =
+    parts-sessions h (deletes (in_order (paths_of h.client_id s.pairs))) (state_without_session h.client_id s)
+
+pub mean-sessions : (t : Txn) (s : State) → KeepsToCells t
+    → (mean s t).state.sessions ≡ with_timeout_of t.header t.body s.sessions
+mean-sessions t s = by t.header t.body
+  where
+    by : (h : TxnHeader) (b : Body) → (let t : Txn = record { header = h; body = b } in KeepsToCells t)
+        → (mean_of h b s).state.sessions ≡ with_timeout_of h b s.sessions
+    by h (body.Single operation) k = after_changes-sessions s (effect_of h operation s.nodes).changes
+    by h (body.SetAcl b) k = after_changes-sessions s (set_acl_at b (finmap.get s.nodes b.path)).changes
+    by h (body.Multi parts) k = multi-sessions h parts s (has_error parts)
+    by h (body.CreateSession timeout) k = refl
+    by h body.CloseSession k = absurd k
+
+pub transactions_set_their_timeouts : TransactionsSetTheirTimeouts
+transactions_set_their_timeouts [] s keep = refl
+transactions_set_their_timeouts (t ∷ ts) s keep =
+    transactions_set_their_timeouts ts (mean s t).state keep.1
+    ∙ ap (λ x. with_timeouts x ts) (mean-sessions t s keep.0)
+
+-- ---- two transactions
 
 pub disjoint_transactions_commute : DisjointTransactionsCommute
 disjoint_transactions_commute a b s ka kb apart =
-    confined_commute (footprint a) (footprint b) (λ u. mean u a) (λ u. mean u b)
-    (transactions_keep_to_their_footprints a ka) (transactions_keep_to_their_footprints b kb) apart s
+    let ca = transactions_keep_to_their_footprints a ka in
+    let cb = transactions_keep_to_their_footprints b kb in
+    let same = commute_cell (footprint a) (footprint b) (λ u. (mean u a).state) (λ u. (mean u b).state) ca.state cb.state
+    apart s in
+    record {
+      cells = same;
+      first = ca.answer (mean s b).state s
+          (same_at_after (footprint b) (footprint a) (λ u. (mean u b).state) cb.state
+          (turned (footprint a) (footprint b) apart) s);
+      second = cb.answer (mean s a).state s
+          (same_at_after (footprint a) (footprint b) (λ u. (mean u a).state) ca.state apart s);
+      state = λ orderless. same_state (mean (mean s a).state b).state (mean (mean s b).state a).state
+          (mean-sessions b (mean s a).state kb ∙ ap (with_timeout_of b.header b.body) (mean-sessions a s ka)
+          ∙ orderless
+          ∙ sym (mean-sessions a (mean s b).state ka ∙ ap (with_timeout_of a.header a.body) (mean-sessions b s kb))) same;
+    }

@@ -15,11 +15,15 @@ pub mod Deletes
 -- One more part of a multi, one more delete of a closeSession, and the errors of parts
 pub mod Multis
 -- States with the same cells, and what one change does to a cell
-pub mod Cells
+pub mod SameCells
 -- Transactions on other cells commute
 pub mod Commute
 -- The groups of a batch, each on its own cells
 pub mod Batches
+-- Cells that are taken out of a state, and put back
+pub mod MovedCells
+-- What a transaction means doesn't hang on the sessions
+pub mod CellMeanings
 -- A loop that stops at the first item that fails
 pub mod Deciding
 -- The entries of a map are its nodes, and what links them
@@ -30,3 +34,9 @@ pub mod Counting
 pub mod OwnersOfNodes
 -- How many nodes a loop found to be owned
 pub mod CountedOwners
+-- A node that was put where it has a place, and one that was not
+pub mod Placing
+-- Paths and names stay right
+pub mod Naming
+-- What transactions and nodes that are put leave of paths and names
+pub mod KeepingNames

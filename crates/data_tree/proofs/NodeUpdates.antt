@@ -1,5 +1,5 @@
 -- A node that was lent for writing.
-use Rattle.std.proofs.Common.{◌≡◌, Bool, true, false, cond, Option, Some, None, OnSome, refl, sym, ap, subst, ◌∙◌, if◌then◌else◌}
+use Rattle.std.proofs.Common.{◌≡◌, Bool, true, false, cond, Option, Some, None, is_some, OnSome, refl, sym, ap, subst, ◌∙◌, if◌then◌else◌}
 use Rattle.std.specs.Borrow.{MutBor}
 use Rattle.std.specs.Ordering.{eq_by_cmp, is_eq}
 use Rattle.std.proofs.lemmas.Map.Lookups.{exact_bytes}
@@ -12,11 +12,11 @@ use Rattle.data_tree.specs.Inner.Children.{with_added_child, with_raised_stat, s
 use Rattle.std.specs.FinSet as set
 use Rattle.txn_codec.specs.declared.txn.TxnHeader.{TxnHeader}
 use Rattle.txn_codec.specs.declared.txn.Create.{Create}
-use Rattle.std.proofs.lemmas.Bool.{not-false, not-true}
 use Rattle.values.proofs.SetSteps.{remove-insert, insert-present}
 use Rattle.data_tree.specs.Making.{with_name}
-use Rattle.data_tree.specs.Inner.Children.{without_name, lacks_name}
-use mathlib.Core.Bool.{true≢false}
+use Rattle.data_tree.specs.Inner.Children.{without_name, added_child, with_new_node}
+use Rattle.data_tree.specs.declared.added_child.AddedChild.TheVariants.{Taken, Added}
+use Rattle.jute.specs.declared.stat.StatPersisted.{StatPersisted}
 use Rattle.std.specs.Cmp.{tied_itself}
 use Rattle.data_tree.specs.declared.node.Node.{Node}
 use Rattle.ephemerals.proofs.Totals.{path_total}
@@ -96,39 +96,67 @@ undone m path name h c parent is free =
     ∙ insert_same m path parent is
 
 -- a name that was added, and taken out again
-pub undone_name : (m : Nodes) (path name : Bytes) → lacks_name (finmap.get m path) name ≡ true
+pub undone_name : (m : Nodes) (path name : Bytes) (stat : StatPersisted)
+    → Added stat ≡ added_child (finmap.get m path) name
     → update_node (update_node m path (with_name name)) path (without_name name) ≡ m
-undone_name m path name = by (finmap.get m path) refl
+undone_name m path name stat = by (finmap.get m path) refl
   where
-    by : (o : Option Node) → finmap.get m path ≡ o → lacks_name o name ≡ true
+    under : (parent : Node) (b : Bool) → finmap.get m path ≡ Some parent → set.contains parent.children name ≡ b
+        → Added stat ≡ (if b then Taken else Added parent.stat)
         → update_node (update_node m path (with_name name)) path (without_name name) ≡ m
-    by None is gain = absurd (true≢false (sym gain))
-    by (Some parent) is gain =
+    under parent true is here a = cc
+    under parent false is here a =
         ap (λ o. update_node (update_found m path (with_name name) o) path (without_name name)) is
         ∙ ap (update_found (finmap.insert m path (with_name name parent)) path (without_name name))
         (get_inserted m path (with_name name parent))
         ∙ insert_insert m path (with_name name parent) (without_name name (with_name name parent))
         ∙ ap (finmap.insert m path)
-        (λ i. record parent {
-          children =
-              remove-insert path_total exact_bytes parent.children name
-              (not-true (set.contains parent.children name) gain) i;
-        })
+        (λ i. record parent { children = remove-insert path_total exact_bytes parent.children name here i })
         ∙ insert_same m path parent is
 
--- a name that was there, or had no node to be added to
-pub kept_name : (m : Nodes) (path name : Bytes) → lacks_name (finmap.get m path) name ≡ false
+    by : (o : Option Node) → finmap.get m path ≡ o → Added stat ≡ added_child o name
+        → update_node (update_node m path (with_name name)) path (without_name name) ≡ m
+    by None is a = cc
+    by (Some parent) is a = under parent (set.contains parent.children name) is refl a
+
+-- a name that was there
+pub kept_name : (m : Nodes) (path name : Bytes) → Taken ≡ added_child (finmap.get m path) name
     → update_node m path (with_name name) ≡ m
 kept_name m path name = by (finmap.get m path) refl
   where
-    by : (o : Option Node) → finmap.get m path ≡ o → lacks_name o name ≡ false → update_node m path (with_name name) ≡ m
-    by None is gain = ap (update_found m path (with_name name)) is
-    by (Some parent) is gain =
+    under : (parent : Node) (b : Bool) → finmap.get m path ≡ Some parent → set.contains parent.children name ≡ b
+        → Taken ≡ (if b then Taken else Added parent.stat) → update_node m path (with_name name) ≡ m
+    under parent false is here t = cc
+    under parent true is here t =
         ap (update_found m path (with_name name)) is
         ∙ ap (finmap.insert m path)
-        (λ i. record parent {
-          children =
-              sym (insert-present path_total exact_bytes parent.children name
-              (not-false (set.contains parent.children name) gain)) i;
-        })
+        (λ i. record parent { children = sym (insert-present path_total exact_bytes parent.children name here) i })
         ∙ insert_same m path parent is
+
+    by : (o : Option Node) → finmap.get m path ≡ o → Taken ≡ added_child o name
+        → update_node m path (with_name name) ≡ m
+    by None is t = cc
+    by (Some parent) is t = under parent (set.contains parent.children name) is refl t
+
+-- a node that is put where there was none
+pub new_node_put : (m : Nodes) (path : Bytes) (node : Node) → finmap.get m path ≡ None
+    → finmap.insert m path node ≡ with_new_node m path node
+new_node_put m path node none = by (finmap.get m path) none
+  where
+    by : (o : Option Node) → o ≡ None
+        → finmap.insert m path node ≡ (if is_some o then m else finmap.insert m path node)
+    by None is = refl
+    by (Some old) is = cc
+
+-- a node that was put in place of another one, which is put back
+pub old_node_put_back : (m : Nodes) (path : Bytes) (node old : Node) → finmap.get m path ≡ Some old
+    → update_node (finmap.insert m path node) path (λ _. old) ≡ with_new_node m path node
+old_node_put_back m path node old is =
+    ap (update_found (finmap.insert m path node) path (λ _. old)) (get_inserted m path node)
+    ∙ insert_insert m path node old
+    ∙ insert_same m path old is
+    ∙ by (finmap.get m path) is
+  where
+    by : (o : Option Node) → o ≡ Some old → m ≡ (if is_some o then m else finmap.insert m path node)
+    by None is = cc
+    by (Some other) is = refl

@@ -1,17 +1,22 @@
 -- Transactions keep to their footprints, so those on other cells commute, and groups of them leave what the whole
 -- batch leaves.
 use Rattle.std.specs.Prelude.{◌≡◌, ◌≢◌, ◌⊎◌, ◌==◌, ℕ, List, [], ◌∷◌, true, false, map, if◌then◌else◌}
+use Rattle.std.specs.List.{AllByRecursion}
+use Rattle.std.specs.FinMap as finmap
 use Rattle.ephemerals.specs.Orders.{Bytes}
 use Rattle.txn_codec.specs.declared.txn.Txn.{Txn}
-use Rattle.data_tree.specs.State.{State}
-use Rattle.data_tree.specs.Meaning.{Meant, mean, after, answer_of}
+use Rattle.txn_codec.specs.declared.txn.TxnHeader.{TxnHeader}
+use Rattle.txn_codec.specs.declared.txn.Body.{Body}
+use Rattle.txn_codec.specs.declared.txn.Body.TheVariants as body
+use Rattle.data_tree.specs.State.{State, Sessions}
+use Rattle.data_tree.specs.Meaning.{Meant, mean, after, outcomes, answer_of}
+use Rattle.data_tree.specs.Cells.{after_in_cells, outcomes_in_cells}
 use Rattle.data_tree.specs.Footprint.{touches, IsSameCell, AreSameAt, AreApart, footprint, KeepsToCells}
 
--- the step leaves every other cell and the sessions, and what it leaves in its own cells depends on those alone
+-- the step leaves every other cell, and what it leaves in its own cells depends on those alone; no session is in a cell
 pub record IsConfined (paths : List Bytes) (step : State → State) : Type 0 where
   pub frame : (s : State) (path : Bytes) → touches paths path ≡ false → IsSameCell (step s) s path
   pub local : (s t : State) → AreSameAt paths s t → AreSameAt paths (step s) (step t)
-  pub sessions : (s : State) → (step s).sessions ≡ s.sessions
 
 -- a step and its answer, which depends on the step's cells alone
 pub record IsConfinedTo (paths : List Bytes) (meant : State → Meant) : Type 0 where
@@ -21,15 +26,37 @@ pub record IsConfinedTo (paths : List Bytes) (meant : State → Meant) : Type 0 
 abbrev pub TransactionsKeepToTheirFootprints : Type 0
 TransactionsKeepToTheirFootprints = (t : Txn) → KeepsToCells t → IsConfinedTo (footprint t) (λ s. mean s t)
 
--- in either order the same state and the same answers
-pub record DoCommute (f g : State → Meant) (s : State) : Type 0 where
-  pub state : (g (f s).state).state ≡ (f (g s).state).state
-  pub first : answer_of (f (g s).state) ≡ answer_of (f s)
-  pub second : answer_of (g (f s).state) ≡ answer_of (g s)
+-- a createSession sets its session's timeout
+abbrev pub with_timeout_of : TxnHeader → Body → Sessions → Sessions
+with_timeout_of header (body.CreateSession timeout) sessions = finmap.insert sessions header.client_id timeout
+with_timeout_of header (body.Single operation) sessions = sessions
+with_timeout_of header (body.SetAcl body) sessions = sessions
+with_timeout_of header (body.Multi parts) sessions = sessions
+with_timeout_of header body.CloseSession sessions = sessions
+
+-- the sessions after the transactions' timeouts were set in order
+abbrev pub with_timeouts : Sessions → List Txn → Sessions
+with_timeouts sessions [] = sessions
+with_timeouts sessions (t ∷ ts) = with_timeouts (with_timeout_of t.header t.body sessions) ts
+
+-- what becomes of the sessions hangs on no cell
+abbrev pub TransactionsSetTheirTimeouts : Type 0
+TransactionsSetTheirTimeouts =
+    (txns : List Txn) (s : State) → AllByRecursion KeepsToCells txns
+    → (after s txns).sessions ≡ with_timeouts s.sessions txns
+
+-- in either order the same cells and the same answers; and the same state, where the order of their timeouts doesn't
+-- matter either
+pub record DoCommute (a b : Txn) (s : State) : Type 0 where
+  pub cells : (path : Bytes) → IsSameCell (after s (a ∷ b ∷ [])) (after s (b ∷ a ∷ [])) path
+  pub first : answer_of (mean (mean s b).state a) ≡ answer_of (mean s a)
+  pub second : answer_of (mean (mean s a).state b) ≡ answer_of (mean s b)
+  pub state : with_timeouts s.sessions (a ∷ b ∷ []) ≡ with_timeouts s.sessions (b ∷ a ∷ [])
+      → after s (a ∷ b ∷ []) ≡ after s (b ∷ a ∷ [])
 
 abbrev pub DisjointTransactionsCommute : Type 0
-DisjointTransactionsCommute = (a b : Txn) (s : State) → KeepsToCells a → KeepsToCells b
-    → AreApart (footprint a) (footprint b) → DoCommute (λ u. mean u a) (λ u. mean u b) s
+DisjointTransactionsCommute =
+    (a b : Txn) (s : State) → KeepsToCells a → KeepsToCells b → AreApart (footprint a) (footprint b) → DoCommute a b s
 
 -- a transaction and the group that it was put into
 abbrev pub Tagged : Type 0
@@ -39,6 +66,12 @@ Tagged = ℕ × Txn
 abbrev pub of_group : ℕ → List Tagged → List Txn
 of_group k [] = []
 of_group k (t ∷ ts) = if t.0 == k then t.1 ∷ of_group k ts else of_group k ts
+
+-- what stands at the places of the group k
+abbrev pub at_group : {A : Type 0} → ℕ → List Tagged → List A → List A
+at_group k [] xs = []
+at_group k (t ∷ ts) [] = []
+at_group k (t ∷ ts) (x ∷ xs) = if t.0 == k then x ∷ at_group k ts xs else at_group k ts xs
 
 abbrev pub batch_of : List Tagged → List Txn
 batch_of batch = map (λ (t : Tagged). t.1) batch
@@ -54,21 +87,27 @@ KeepsTo paths (t ∷ ts) =
 abbrev pub AreDisjoint : (ℕ → List Bytes) → Type 0
 AreDisjoint paths = (j k : ℕ) → j ≢ k → AreApart (paths j) (paths k)
 
--- each group's own transactions, on cells that were taken from the state, leave these cells as the whole batch does.
--- So it doesn't matter when, and by whom, a group's transactions are done
+-- each group's own transactions, on cells that were taken from the state, leave these cells as the whole batch does and
+-- all other cells as they were, and give the answers that the batch gives at the group's places
+pub record IsOfTheBatch (paths : List Bytes) (batch : List Tagged) (s taken : State) (k : ℕ) : Type 0 where
+  pub cells : AreSameAt paths (after_in_cells taken (of_group k batch)) (after s (batch_of batch))
+  pub others : (p : Bytes) → touches paths p ≡ false → IsSameCell (after_in_cells taken (of_group k batch)) taken p
+  pub answers : outcomes_in_cells taken (of_group k batch) ≡ at_group k batch (outcomes s (batch_of batch))
+
+-- so it doesn't matter when, and by whom, a group's transactions are done
 abbrev pub GroupsAreTheBatch : Type 0
 GroupsAreTheBatch =
     (paths : ℕ → List Bytes) (batch : List Tagged) → AreDisjoint paths → KeepsTo paths batch
-    → (s cells : State) (k : ℕ) → AreSameAt (paths k) cells s
-    → AreSameAt (paths k) (after cells (of_group k batch)) (after s (batch_of batch))
+    → (s cells : State) (k : ℕ) → AreSameAt (paths k) cells s → IsOfTheBatch (paths k) batch s cells k
 
--- and a state that has each group's cells, and the old cells elsewhere, is the state after the batch
+-- and a state that has each group's cells, the old cells elsewhere, and the timeouts set in order, is the state after
+-- the batch
 abbrev pub CellsPutBackAreTheBatch : Type 0
 CellsPutBackAreTheBatch =
     (paths : ℕ → List Bytes) (batch : List Tagged) → AreDisjoint paths → KeepsTo paths batch
     → (s new : State) (cells : ℕ → State) → ((k : ℕ) → AreSameAt (paths k) (cells k) s)
-    → ((k : ℕ) → AreSameAt (paths k) new (after (cells k) (of_group k batch)))
+    → ((k : ℕ) → AreSameAt (paths k) new (after_in_cells (cells k) (of_group k batch)))
     → ((p : Bytes) → ((k : ℕ) → touches (paths k) p ≡ false) → IsSameCell new s p)
-    → new.sessions ≡ s.sessions
+    → new.sessions ≡ with_timeouts s.sessions (batch_of batch)
     → (find : (p : Bytes) → ((k : ℕ) × (touches (paths k) p ≡ true)) ⊎ ((k : ℕ) → touches (paths k) p ≡ false))
     → new ≡ after s (batch_of batch)

@@ -37,7 +37,7 @@ footprint t = of_body t.body
     of_body (body.CreateSession timeout) = []
     of_body body.CloseSession = []
 
--- createSession changes the sessions, and closeSession cells of every path that the session lists
+-- a closeSession changes cells of every path that the session lists
 abbrev pub KeepsToCells : Txn → Type 0
 KeepsToCells t = keeps t.body
   where
@@ -45,7 +45,7 @@ KeepsToCells t = keeps t.body
     keeps (body.Single operation) = Unit {0}
     keeps (body.SetAcl body) = Unit {0}
     keeps (body.Multi parts) = Unit {0}
-    keeps (body.CreateSession timeout) = ⊥
+    keeps (body.CreateSession timeout) = Unit {0}
     keeps body.CloseSession = ⊥
 
 abbrev pub touches : List Bytes → Bytes → Bool

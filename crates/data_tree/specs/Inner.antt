@@ -3,3 +3,4 @@ pub mod Children
 pub mod NodesView
 pub mod NodeMapLends
 pub mod Doing
+pub mod Moving

@@ -5,7 +5,9 @@ pub mod State
 pub mod Meaning
 pub mod Whole
 pub mod Making
+pub mod Naming
 pub mod Refused
 pub mod Footprint
+pub mod Cells
 pub mod Commuting
 pub mod Inner

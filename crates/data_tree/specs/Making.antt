@@ -45,3 +45,7 @@ with_node s path node =
 abbrev pub has_place : Nodes → Bytes → Bool
 has_place nodes path =
     if is_root path then finmap.len nodes == 0 else not (has_node nodes path) && has_node nodes (parent_of path)
+
+-- the node at a path that has a place; at any other path nothing changes
+abbrev pub with_node_in_place : State → Bytes → Node → State
+with_node_in_place s path node = if has_place s.nodes path then with_node s path node else s

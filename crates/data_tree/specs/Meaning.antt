@@ -10,7 +10,7 @@ use Rattle.ephemerals.specs.Orders.{Bytes, Names, in_order}
 use Rattle.ephemerals.specs.Pairs.{paths_of, without_session}
 use Rattle.jute.specs.Codes.{open_acl}
 use Rattle.jute.specs.declared.codes.TheConstants.{NO_NODE, NODE_EXISTS, RUNTIME_INCONSISTENCY}
-use Rattle.jute.specs.declared.owned.Acl.{Acl}
+use Rattle.txn_codec.specs.Acls.{acl_or_open}
 use Rattle.txn_codec.specs.Paths.{parent_of, name_of}
 use Rattle.txn_codec.specs.declared.txn.TxnHeader.{TxnHeader}
 use Rattle.txn_codec.specs.declared.txn.Create.{Create}
@@ -56,11 +56,6 @@ pub record Effect : Type 0 where
 
 abbrev pub no_change : ℤ → Effect
 no_change error = record { err = error; changes = []; triggers = [] }
-
--- null stands for the open list
-abbrev pub acl_or_open : Option (List Acl) → List Acl
-acl_or_open None = open_acl
-acl_or_open (Some acl) = acl
 
 -- the stored cversion of the parent after a create: -1 counts it up by one, and Java's 32-bit numbers wrap
 abbrev pub next_cversion : ℤ → ℤ → ℤ
@@ -288,6 +283,11 @@ answer_of m = record { err = m.err; parts = m.parts; triggers = m.triggers }
 abbrev pub after : State → List Txn → State
 after s [] = s
 after s (t ∷ ts) = after (mean s t).state ts
+
+-- what they answer
+abbrev pub outcomes : State → List Txn → List Outcome
+outcomes s [] = []
+outcomes s (t ∷ ts) = answer_of (mean s t) ∷ outcomes (mean s t).state ts
 
 -- a node that nobody made: empty data, the open list, all numbers 0
 abbrev pub first_node : Names → Node

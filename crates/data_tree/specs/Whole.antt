@@ -1,10 +1,12 @@
--- When a tree is whole: its nodes, the names that they list, and the pairs of sessions and paths agree.
-use Rattle.std.specs.Prelude.{◌≡◌, ℤ, pos, not, ◌&&◌, Bool, true, false, Option, Some, None, is_some, codes, if◌then◌else◌}
+-- When a tree is whole: its paths and names are right, and its nodes, the names that they list, and the pairs of
+-- sessions and paths agree.
+use Rattle.std.specs.Prelude.{◌≡◌, ℤ, pos, not, ◌&&◌, ◌==◌, Bool, true, false, Option, Some, None, is_some, codes, if◌then◌else◌}
 use Rattle.std.specs.Ordering.{int_eq}
 use Rattle.std.specs.FinMap as finmap
 use Rattle.std.specs.FinSet as set
-use Rattle.ephemerals.specs.Orders.{Bytes, Pairs}
-use Rattle.txn_codec.specs.Paths.{is_root, parent_of, name_of, child_of}
+use Rattle.std.specs.List.{list_any}
+use Rattle.ephemerals.specs.Orders.{Bytes, Names, Pairs}
+use Rattle.txn_codec.specs.Paths.{is_name, is_path, is_root, parent_of, name_of, child_of}
 use Rattle.data_tree.specs.State.{State, Nodes}
 use Rattle.data_tree.specs.declared.node.Node.{Node}
 
@@ -38,11 +40,24 @@ pub record AreLinked (nodes : Nodes) : Type 0 where
   -- each name that a node lists has a node
   pub children : (path name : Bytes) → lists nodes path name ≡ true → has_node nodes (child_of path name) ≡ true
 
+-- what may stand behind a path's last slash: it isn't empty, and has no NUL and no slash
+abbrev pub is_child_name : Bytes → Bool
+is_child_name name = is_name name && not (list_any (λ b. b == 0) name) && not (list_any (λ b. b == 47) name)
+
+abbrev pub AreChildNames : Names → Type 0
+AreChildNames names = (name : Bytes) → set.contains names name ≡ true → is_child_name name ≡ true
+
+-- each node stands at a path, and lists names of children
+pub record AreNamed (nodes : Nodes) : Type 0 where
+  pub paths : (path : Bytes) → has_node nodes path ≡ true → is_path path ≡ true
+  pub names : (path name : Bytes) → lists nodes path name ≡ true → is_child_name name ≡ true
+
 -- a session lists a path exactly where it owns the node there
 abbrev pub AreOwned : Nodes → Pairs → Type 0
 AreOwned nodes pairs = (session : ℤ) (path : Bytes) → set.contains pairs (session, path) ≡ owns nodes session path
 
 pub record IsWhole (s : State) : Type 0 where
   pub root : has_node s.nodes (codes "/") ≡ true
+  pub named : AreNamed s.nodes
   pub links : AreLinked s.nodes
   pub owners : AreOwned s.nodes s.pairs

@@ -4,7 +4,8 @@
 //! timeout. It starts `fresh`, or `empty` where it is read from an image node by node. `apply` does one transaction,
 //! and is proved to be what `specs/Meaning.antt` says of it; `docs/TRANSACTIONS.md` tells that in a table. What
 //! allocates is done first: where memory is refused, the tree is as it was, but after a multi or a closeSession. The
-//! laws in `law` say which transactions can be done apart.
+//! laws in `law` say which transactions can be done apart: `take_cells` moves what stands at some paths out of the
+//! tree, transactions that keep to these paths are done there as they are done here, and `put_cells` brings it back.
 //!
 //! ```text
 //! let mut tree = Tree::fresh(alloc)?;
@@ -12,11 +13,16 @@
 //! outcome.err                          // 0, or the number of the first error
 //! outcome.triggers                     // what watchers are told, in order
 //! tree.node("/a"), tree.stat("/a")     // the node, and what it shows of itself
+//! let mut cells = tree.take_cells(alloc, &paths)?;
+//! cells.apply(alloc, &txn)?;
+//! tree.put_cells(alloc, cells)?;
 //! ```
 #![tactic(auto)]
 
 mod added_child;
+mod cells;
 pub mod law;
+mod moving;
 mod multi;
 mod node;
 mod node_map;
@@ -24,6 +30,7 @@ mod outcome;
 mod sessions;
 mod tree;
 
+pub use cells::Cells;
 pub use node::Node;
 pub use outcome::{Outcome, Trigger};
 pub use sessions::Timeouts;

@@ -3,21 +3,20 @@
 ghost use Rattle.std.specs.Prelude.{◌≡◌, OnOk, OnErr, IfOk, not, int_lt, if◌then◌else◌, string_bytes};
 ghost use Rattle.std.specs.FinSet as set;
 ghost use Rattle.data_tree.specs.Inner.Children.{with_added_child, stat_after_create};
-ghost use Rattle.data_tree.specs.Meaning.{new_node, owner_of, next_cversion, acl_or_open, with_data, with_acl, first_node};
+ghost use Rattle.data_tree.specs.Meaning.{new_node, owner_of, next_cversion, with_data, with_acl, first_node};
 ghost use Rattle.data_tree.specs.Stats.{shown, shown_stat, java_int, length_of, shown_cversion};
 
 use ephemerals::TextSet;
-use jute::codes::open_list;
-use jute::{Acl, Stat, StatPersisted};
+use jute::{Stat, StatPersisted};
 use std::alloc::{AllocError, Global};
-use txn_codec::{Create, SetAcl, SetData, TxnHeader};
-use values::{Blob, Listed, NoMemory};
+use txn_codec::{AclList, Create, SetAcl, SetData, TxnHeader};
+use values::{Blob, NoMemory};
 
 /// A node: its bytes, or null; who may do what; its numbers; the names of its children.
 #[derive(Drop)]
 pub struct Node {
     pub bytes: Option<Blob>,
-    pub acl: Listed<Acl>,
+    pub acl: AclList,
     pub stat: StatPersisted,
     pub children: TextSet,
 }
@@ -80,16 +79,6 @@ pub(crate) fn owner(header: &TxnHeader, ephemeral: bool) -> i64
     ensures { result ≡ owner_of header.now ephemeral }
 {
     if ephemeral { header.client_id } else { 0 }
-}
-
-// A copy of the list, or the open one for null.
-fn acl_or_open(alloc: Global, acl: &Option<Listed<Acl>>) -> Result<Listed<Acl>, NoMemory>
-    ensures { IfOk result (λ list. list ≡ acl_or_open acl.now) }
-{
-    match acl {
-        None => open_list(alloc),
-        Some(list) => Ok(list.clone()?),
-    }
 }
 
 // The numbers of a new node.
@@ -157,7 +146,7 @@ fn first_node(alloc: Global, children: TextSet) -> Result<Node, NoMemory>
 {
     Ok(Node {
         bytes: Some(Blob::new(alloc, &[])?),
-        acl: open_list(alloc)?,
+        acl: AclList::open(),
         stat: zero_stat(),
         children,
     })
@@ -169,6 +158,16 @@ impl Node {
         ensures { IfOk result (λ node. node ≡ first_node set.empty) }
     {
         first_node(alloc, TextSet::new(alloc))
+    }
+
+    /// A node that stands where another one comes, which takes no memory.
+    pub(crate) fn placeholder(alloc: Global) -> Node {
+        Node {
+            bytes: None,
+            acl: AclList::open(),
+            stat: zero_stat(),
+            children: TextSet::new(alloc),
+        }
     }
 
     /// A node that nobody made, with one child.
@@ -188,7 +187,7 @@ impl Node {
     {
         Ok(Node {
             bytes: create.bytes.clone()?,
-            acl: acl_or_open(alloc, &create.acl)?,
+            acl: AclList::of(&create.acl)?,
             stat: first_stat(header, create),
             children: TextSet::new(alloc),
         })
@@ -229,11 +228,11 @@ impl Node {
     }
 
     /// Replaces the access control list.
-    pub(crate) fn set_acl(&mut self, alloc: Global, body: &SetAcl) -> Result<(), NoMemory>
+    pub(crate) fn set_acl(&mut self, body: &SetAcl) -> Result<(), NoMemory>
         ensures ok { OnOk result (self.new ≡ with_acl body.now self.old) }
         ensures err { OnErr result (self.new ≡ self.old) }
     {
-        let acl = acl_or_open(alloc, &body.acl)?;
+        let acl = AclList::of(&body.acl)?;
         self.acl = acl;
         self.stat.aversion = body.version;
         Ok(())

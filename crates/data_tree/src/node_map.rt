@@ -1,16 +1,17 @@
 //! The nodes by path, seen as a finite map.
 
-ghost use Rattle.std.specs.Prelude.{◌≡◌, ◌↔◌, ℤ, OnOk, OnErr, IfOk, IsTrue, Option, None, Some, is_some, true, string_bytes};
+ghost use Rattle.std.specs.Prelude.{◌≡◌, ◌↔◌, ℤ, OnOk, OnErr, IfOk, IsTrue, Option, None, Some, is_some, not, true, string_bytes};
 ghost use Rattle.std.specs.Option.{option_copied, option_copied_mut};
 ghost use Rattle.std.specs.Borrow.{sem};
 ghost use Rattle.std.specs.FinMap as finmap;
 ghost use Rattle.data_tree.specs.Inner.NodeMapLends.{LendsNode};
+ghost use Rattle.data_tree.specs.Cells.{with_entries};
 ghost use Rattle.data_tree.specs.Making.{update_node};
 ghost use Rattle.data_tree.specs.Inner.Children.{with_added_child, added_child, without_added_child, without_child};
 ghost use Rattle.data_tree.specs.Meaning.{with_data, with_acl};
 ghost use Rattle.data_tree.specs.Making.{with_name};
-ghost use Rattle.data_tree.specs.Inner.Children.{without_name, lacks_name};
-ghost use Rattle.data_tree.specs.Whole.{has_node, has_parent, AreLinked, AreOwned, lists};
+ghost use Rattle.data_tree.specs.Inner.Children.{without_name, with_new_node};
+ghost use Rattle.data_tree.specs.Whole.{has_node, has_parent, AreLinked, AreNamed, AreChildNames, AreOwned, is_child_name, lists};
 ghost use Rattle.data_tree.specs.Inner.Children.{HasItsChildren};
 
 use crate::added_child::AddedChild;
@@ -20,7 +21,7 @@ use jute::StatPersisted;
 use std::alloc::{AllocError, Global};
 use std::collections::BTreeMap;
 use std::marker::Model;
-use txn_codec::{Create, SetAcl, SetData, TxnHeader, child_of, name_of, parent_of};
+use txn_codec::{Create, SetAcl, SetData, TxnHeader, child_of, is_path, name_of, parent_of};
 use values::NoMemory;
 
 /// Nodes by path.
@@ -52,6 +53,25 @@ impl Clone for NodeMap {
             map: self.map.clone()?,
         })
     }
+}
+
+// Whether a text may stand behind a path's last slash.
+fn is_child_name(name: &[u8]) -> bool
+    ensures { result ≡ is_child_name name.now }
+{
+    !name.is_empty() && !name.contains(&0) && !name.contains(&b'/')
+}
+
+// Whether each of the names may stand there.
+fn are_child_names(names: &TextSet) -> bool
+    ensures { IsTrue result ↔ AreChildNames names.now }
+{
+    for name in names.iter() {
+        if !is_child_name(name.as_str().as_bytes()) {
+            return false;
+        }
+    }
+    true
 }
 
 impl NodeMap {
@@ -87,6 +107,16 @@ impl NodeMap {
         Ok(())
     }
 
+    /// Puts all of the others' nodes, in place of those that stand there. Refused, it may have put some.
+    pub fn append(&mut self, others: NodeMap) -> Result<(), NoMemory>
+        ensures { OnOk result (self.new ≡ with_entries self.old (finmap.entries others)) }
+    {
+        for (path, node) in others.map {
+            self.insert(path, node)?;
+        }
+        Ok(())
+    }
+
     /// Takes out the node at the path.
     pub fn remove(&mut self, path: &str) -> Option<Node>
         ensures value { result ≡ finmap.get self.old path.now }
@@ -95,24 +125,55 @@ impl NodeMap {
         self.map.remove(path)
     }
 
-    fn get_mut(&mut self, path: &str) -> Option<&mut Node>
+    pub(crate) fn get_mut(&mut self, path: &str) -> Option<&mut Node>
         ensures* writes_back { sem 𝓛 (LendsNode self.entry path.now result) }
         ensures value { option_copied_mut result ≡ finmap.get self.old path.now }
     {
         self.map.get_mut(path)
     }
 
-    /// Makes the node at the path list the name, and says whether there is such a node and the name is new to it.
-    pub fn add_name(&mut self, path: &str, name: String) -> Result<bool, NoMemory>
+    // Puts another node at the path, if one is there.
+    fn replace(&mut self, path: &str, node: Node)
+        ensures { self.new ≡ update_node self.old path.now (λ _. node) }
+    {
+        match self.get_mut(path) {
+            None => return,
+            Some(place) => *place = node,
+        }
+    }
+
+    /// Puts a node at the path where there is none yet, and says whether there was none.
+    pub fn insert_new(&mut self, alloc: Global, path: &str, node: Node) -> Result<bool, NoMemory>
+        ensures new { IfOk result (λ new. new ≡ not (has_node self.old path.now)) }
+        ensures state { OnOk result (self.new ≡ with_new_node self.old path.now node) }
+        ensures err { OnErr result (self.new ≡ self.old) }
+    {
+        let key = String::from_str(alloc, path)?;
+        match self.map.insert(key, node)? {
+            None => Ok(true),
+            Some(old) => {
+                self.replace(path, old);
+                Ok(false)
+            }
+        }
+    }
+
+    /// Makes the node at the path, if any, list the name.
+    pub fn add_name(&mut self, path: &str, name: String) -> Result<AddedChild, NoMemory>
         ensures state { OnOk result
             (self.new ≡ update_node self.old path.now (with_name (string_bytes name))) }
-        ensures gained { IfOk result
-            (λ gained. gained ≡ lacks_name (finmap.get self.old path.now) (string_bytes name)) }
+        ensures outcome { IfOk result
+            (λ is. is ≡ added_child (finmap.get self.old path.now) (string_bytes name)) }
         ensures err { OnErr result (self.new ≡ self.old) }
     {
         match self.get_mut(path) {
-            None => return Ok(false),
-            Some(node) => Ok(node.children.insert(name)?),
+            None => return Ok(AddedChild::NoParent),
+            Some(node) => {
+                if node.children.insert(name)? {
+                    return Ok(AddedChild::Added(node.stat));
+                }
+                Ok(AddedChild::Taken)
+            }
         }
     }
 
@@ -206,7 +267,7 @@ impl NodeMap {
     }
 
     /// Replaces the access control list of the node at the path, and says whether there is such a node.
-    pub fn set_acl(&mut self, alloc: Global, path: &str, body: &SetAcl) -> Result<bool, NoMemory>
+    pub fn set_acl(&mut self, path: &str, body: &SetAcl) -> Result<bool, NoMemory>
         ensures state { OnOk result (self.new ≡ update_node self.old path.now (with_acl body.now)) }
         ensures found { IfOk result (λ found. found ≡ is_some (finmap.get self.old path.now)) }
         ensures err { OnErr result (self.new ≡ self.old) }
@@ -214,7 +275,7 @@ impl NodeMap {
         match self.get_mut(path) {
             None => return Ok(false),
             Some(node) => {
-                node.set_acl(alloc, body)?;
+                node.set_acl(body)?;
                 Ok(true)
             }
         }
@@ -248,6 +309,21 @@ impl NodeMap {
             }
         }
         Ok(true)
+    }
+
+    /// Whether each node stands at a path, and lists names that may stand behind a path's last slash.
+    pub fn are_named(&self) -> bool
+        ensures { IsTrue result ↔ AreNamed self.now }
+    {
+        for (path, node) in self.map.iter() {
+            if !is_path(path.as_str().as_bytes()) {
+                return false;
+            }
+            if !are_child_names(&node.children) {
+                return false;
+            }
+        }
+        true
     }
 
     /// Whether each node but the root has a parent that lists its name, and each name that a node lists has a node.

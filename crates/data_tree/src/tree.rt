@@ -1,12 +1,14 @@
 //! The data tree.
 
-ghost use Rattle.std.specs.Prelude.{◌≡◌, ◌++◌, [], ◌↔◌, OnOk, OnErr, IfOk, IsTrue};
+ghost use Rattle.std.specs.Prelude.{◌≡◌, ◌++◌, [], ◌↔◌, OnOk, OnErr, IfOk, IsTrue, not, codes};
 ghost use Rattle.std.specs.Option.{option_copied, option_map};
 ghost use Rattle.std.specs.FinMap as finmap;
 ghost use Rattle.data_tree.specs.Making.{with_placed_node};
-ghost use Rattle.data_tree.specs.Making.{empty_state, with_session, with_node, has_place};
-ghost use Rattle.data_tree.specs.Whole.{IsWhole};
+ghost use Rattle.data_tree.specs.Making.{empty_state, with_session, with_node_in_place, has_place};
+ghost use Rattle.data_tree.specs.Inner.Children.{with_new_node_placed};
+ghost use Rattle.data_tree.specs.Whole.{IsWhole, has_node};
 ghost use Rattle.data_tree.specs.Meaning.{of_operation, of_set_acl, of_create_session, of_close_session, of_parts, of_multi, deletes, has_error, mean, answer_of, fresh};
+ghost use Rattle.data_tree.specs.Cells.{cells_at, without_cells, with_cells};
 ghost use Rattle.data_tree.specs.Refused.{IsAfterFront};
 ghost use Rattle.data_tree.specs.Refused.{IsPartly, IsLeftBy};
 ghost use Rattle.data_tree.specs.Inner.Doing.{Does};
@@ -104,33 +106,62 @@ impl Tree {
         self.timeouts.set(session, timeout)
     }
 
-    /// Whether a node can be put at the path: at "/" where there is no node, and at any other path where it is new
-    /// and its parent is there.
-    pub fn has_place(&self, path: &Path) -> bool
-        ensures { result ≡ has_place self.now.nodes path.now }
-    {
-        if path.as_str() == "/" {
-            return self.paths() == 0;
-        }
-        self.node(path.as_str()).is_none() && self.node(path.parent()).is_some()
-    }
-
-    /// Adds a node at a path that has a place, its name in the parent and its owner's pair. Refused, it leaves the
-    /// tree as it was.
-    pub fn put_node(&mut self, alloc: Global, path: &Path, node: Node) -> Result<(), NoMemory>
-        requires place { IsTrue (has_place self.old.nodes path.now) }
-        ensures ok { OnOk result (self.new ≡ with_node self.old path.now node) }
+    /// Adds a node at the path, its name in the parent and its owner's pair, and says whether the path has a place: "/"
+    /// where there is no node, and any other path where it is new and its parent is there. Where there is no place, and
+    /// where memory is refused, the tree is as it was.
+    pub fn put_node(&mut self, alloc: Global, path: &Path, node: Node) -> Result<bool, NoMemory>
+        ensures placed { IfOk result (λ placed. placed ≡ has_place self.old.nodes path.now) }
+        ensures state { OnOk result (self.new ≡ with_node_in_place self.old path.now node) }
         ensures err { OnErr result (self.new ≡ self.old) }
     {
+        if path.as_str() == "/" {
+            return self.put_root(alloc, node);
+        }
         let name = String::from_str(alloc, path.name())?;
-        let listed = self.nodes.add_name(path.parent(), name)?;
-        match self.place_node(alloc, path.as_str(), node) {
-            Ok(()) => Ok(()),
-            Err(error) => {
-                if listed {
+        match self.nodes.add_name(path.parent(), name)? {
+            AddedChild::NoParent => Ok(false),
+            AddedChild::Taken => self.place_new_node(alloc, path.as_str(), node),
+            AddedChild::Added(_) => match self.place_new_node(alloc, path.as_str(), node) {
+                Ok(true) => Ok(true),
+                Ok(false) => {
                     self.nodes.remove_name(path.parent(), path.name());
-                    return Err(error);
+                    Ok(false)
                 }
+                Err(error) => {
+                    self.nodes.remove_name(path.parent(), path.name());
+                    Err(error)
+                }
+            },
+        }
+    }
+
+    // Puts the root where there is no node, and says whether there was none.
+    fn put_root(&mut self, alloc: Global, node: Node) -> Result<bool, NoMemory>
+        ensures placed { IfOk result (λ placed. placed ≡ has_place self.old.nodes (codes "/")) }
+        ensures state { OnOk result (self.new ≡ with_node_in_place self.old (codes "/") node) }
+        ensures err { OnErr result (self.new ≡ self.old) }
+    {
+        if self.paths() != 0 {
+            return Ok(false);
+        }
+        self.place_node(alloc, "/", node)?;
+        Ok(true)
+    }
+
+    // Puts a node and its owner's pair where there is no node yet, and says whether there was none.
+    fn place_new_node(&mut self, alloc: Global, path: &str, node: Node) -> Result<bool, NoMemory>
+        ensures new { IfOk result (λ new. new ≡ not (has_node self.old.nodes path.now)) }
+        ensures state { OnOk result (self.new ≡ with_new_node_placed self.old path.now node) }
+        ensures err { OnErr result (self.new ≡ self.old) }
+    {
+        let session = node.stat.ephemeral_owner;
+        if !self.nodes.insert_new(alloc, path, node)? {
+            return Ok(false);
+        }
+        match self.ephemerals.add(alloc, session, path) {
+            Ok(_) => Ok(true),
+            Err(error) => {
+                self.nodes.remove(path);
                 Err(error)
             }
         }
@@ -238,10 +269,10 @@ impl Tree {
         Ok(0)
     }
 
-    fn set_acl(&mut self, alloc: Global, body: &SetAcl) -> Result<i32, NoMemory>
+    fn set_acl(&mut self, body: &SetAcl) -> Result<i32, NoMemory>
         ensures { Does (of_set_acl body.now self.old) result self.old self.new [] [] }
     {
-        if !self.nodes.set_acl(alloc, body.path.as_str(), body)? {
+        if !self.nodes.set_acl(body.path.as_str(), body)? {
             return Ok(NO_NODE);
         }
         Ok(0)
@@ -346,7 +377,7 @@ impl Tree {
         let mut triggers = Vec::new(alloc);
         let err = match &txn.body {
             Body::Single(operation) => self.operate(alloc, &txn.header, operation, &mut triggers)?,
-            Body::SetAcl(body) => self.set_acl(alloc, body)?,
+            Body::SetAcl(body) => self.set_acl(body)?,
             Body::Multi(parts) => return self.apply_multi(alloc, &txn.header, parts.as_slice()),
             Body::CreateSession(timeout) => {
                 self.create_session(&txn.header, *timeout)?;
@@ -379,6 +410,30 @@ impl Tree {
             return failed_outcome(alloc, parts);
         }
         self.operate_all(alloc, header, parts)
+    }
+
+    // The nodes and the pairs at these paths, which stand here no more.
+    pub(crate) fn take_tree(&mut self, alloc: Global, paths: &TextSet) -> Result<Tree, NoMemory>
+        ensures cells { IfOk result (λ cells. cells ≡ cells_at paths.now self.old) }
+        ensures rest { OnOk result (self.new ≡ without_cells paths.now self.old) }
+        ensures err { OnErr result (self.new ≡ self.old) }
+    {
+        let ephemerals = self.ephemerals.at(alloc, paths)?;
+        let nodes = self.nodes.take(alloc, paths)?;
+        self.ephemerals.drop_at(paths);
+        Ok(Tree {
+            nodes,
+            ephemerals,
+            timeouts: Timeouts::new(alloc),
+        })
+    }
+
+    // Adds the nodes and the pairs of another tree.
+    pub(crate) fn put_tree(&mut self, alloc: Global, cells: Tree) -> Result<(), NoMemory>
+        ensures { OnOk result (self.new ≡ with_cells cells self.old) }
+    {
+        self.ephemerals.add_all(alloc, &cells.ephemerals)?;
+        self.nodes.append(cells.nodes)
     }
 
     /// The node at the path.
@@ -424,12 +479,16 @@ impl Tree {
         &self.ephemerals
     }
 
-    /// Whether the tree is whole: there is a root; each other node has a parent that lists its name; each name that a
-    /// node lists has a node; and the ephemerals are the owned nodes' paths, each with its owner.
+    /// Whether the tree is whole: there is a root; each node stands at a path and lists names that may stand in one; each
+    /// node but the root has a parent that lists its name; each name that a node lists has a node; and the ephemerals are
+    /// the owned nodes' paths, each with its owner.
     pub fn is_whole(&self, alloc: Global) -> Result<bool, NoMemory>
         ensures { IfOk result (λ whole. IsTrue whole ↔ IsWhole self.now) }
     {
         if self.node("/").is_none() || !self.nodes.are_owned(&self.ephemerals) {
+            return Ok(false);
+        }
+        if !self.nodes.are_named() {
             return Ok(false);
         }
         self.nodes.are_linked(alloc)

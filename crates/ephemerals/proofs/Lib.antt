@@ -16,3 +16,15 @@ pub mod PairSets
 pub mod OtherOwner
 -- How many pairs there are
 pub mod Counts
+-- Pairs that are kept as a set for each key. Public
+pub mod Grouped
+-- A map from texts as a finite map from bytes. Public
+pub mod PathMaps
+-- What stands in a set that is listed in order. Public
+pub mod Ascending
+-- A set of sessions as a finite set of numbers
+pub mod SessionSets
+-- Sets of sessions by path as a set of pairs
+pub mod PathSets
+-- Pairs that are gone over by path or by session, and pairs at some paths. Public
+pub mod Steps

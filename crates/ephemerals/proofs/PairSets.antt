@@ -86,6 +86,17 @@ holds-lookup (e ∷ es) v p distinct = by (holds-lookup es v p distinct.1) (eq_b
         ∙ rest
         ∙ ap (λ b. listed (cond b (Some e.1) (lookup (is_at (int_cmp v)) es)) p) (sym t)
 
+-- the pairs of one session, and the others
+pub contains-pairs_of : (e : ℤ × Names) (es : List (ℤ × Names)) (v : ℤ) (p : Bytes)
+    → set.contains (pairs_of (e ∷ es)) (v, p)
+    ≡ ((eq_by_cmp int_cmp v e.0 && set.contains e.1 p) || set.contains (pairs_of es) (v, p))
+unfolding holds
+contains-pairs_of e es v p =
+    set.contains-from_list pair_total (all_pairs (e ∷ es)) (v, p)
+    ∙ any-pairs (e ∷ es) v p
+    ∙ ap (λ b. (eq_by_cmp int_cmp v e.0 && set.contains e.1 p) || b)
+    (sym (set.contains-from_list pair_total (all_pairs es) (v, p) ∙ any-pairs es v p))
+
 pub contains-pairs : (m : BTreeMap ℤ Names) → tree.IsOrdered int_cmp m → (v : ℤ) (p : Bytes)
     → set.contains (pairs_of m.entries) (v, p) ≡ listed (tree.get int_cmp m v) p
 contains-pairs m ordered v p =

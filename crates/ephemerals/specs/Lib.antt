@@ -1,3 +1,4 @@
 pub mod Orders
 pub mod Pairs
+pub mod Grouped
 pub mod Inner

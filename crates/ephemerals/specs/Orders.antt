@@ -20,6 +20,10 @@ Names = set.FinSet path_cmp
 abbrev pub pair_cmp : ℤ × Bytes → ℤ × Bytes → Ordering
 pair_cmp = then_cmp (on (λ (p : ℤ × Bytes). p.0) int_cmp) (on (λ (p : ℤ × Bytes). p.1) path_cmp)
 
+-- sessions by their ids
+abbrev pub Sessions : Type 0
+Sessions = set.FinSet int_cmp
+
 -- sessions with the paths of their ephemeral nodes
 abbrev pub Pairs : Type 0
 Pairs = set.FinSet pair_cmp

@@ -22,3 +22,11 @@ paths_of session pairs =
 
 abbrev pub without_session : ℤ → Pairs → Pairs
 without_session session pairs = set.retain pairs (λ (p : ℤ × Bytes). not (int_eq p.0 session))
+
+-- the pairs at these paths
+abbrev pub pairs_at : Names → Pairs → Pairs
+pairs_at paths pairs = set.retain pairs (λ (p : ℤ × Bytes). set.contains paths p.1)
+
+-- all pairs but those at these paths
+abbrev pub without_paths : Names → Pairs → Pairs
+without_paths paths pairs = set.retain pairs (λ (p : ℤ × Bytes). not (set.contains paths p.1))

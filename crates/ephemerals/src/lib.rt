@@ -1,9 +1,9 @@
 //! Ordered sets of texts, and which session owns which path.
 //!
 //! A `TextSet` is a finite set of texts that is gone over in ascending bytes: a node's children, or a session's
-//! paths. `Ephemerals` is a finite set of pairs of a session and a path, kept as a `TextSet` for each session, so
-//! that the paths of a session that ends are taken out at once. Session 0 owns nothing: what would add or remove a
-//! pair of it does nothing.
+//! paths. `Ephemerals` is a finite set of pairs of a session and a path, kept by session and by path, so that neither
+//! a session that ends nor a path that is taken out looks at other pairs. Session 0 owns nothing: what would add or
+//! remove a pair of it does nothing.
 //!
 //! ```text
 //! let mut owners = Ephemerals::new(alloc);
@@ -14,7 +14,10 @@
 //! ```
 #![tactic(auto)]
 
+mod by_path;
+mod by_session;
 mod owners;
+mod session_set;
 mod text_set;
 
 pub use owners::Ephemerals;

@@ -1,30 +1,30 @@
-//! For each session the paths of its ephemeral nodes.
+//! Which session owns which ephemeral node.
 
-ghost use Rattle.std.specs.Prelude.{◌≡◌, ◌≢◌, ◌&&◌, OnOk, OnErr, IfOk, IfSome, IfNone, IsTrue, not, false, pos, string_bytes, List, ℕ};
+ghost use Rattle.std.specs.Prelude.{◌≡◌, ◌≢◌, ◌&&◌, OnOk, OnErr, IfOk, IfSome, IfNone, not, pos};
 ghost use Rattle.std.specs.Ordering.{int_eq};
 ghost use Rattle.std.specs.FinSet as set;
 ghost use Rattle.ephemerals.specs.Pairs.{with_pair, without_pair, with_other_owner, paths_of, without_session};
+ghost use Rattle.ephemerals.specs.Pairs.{pairs_at, without_paths};
+ghost use Rattle.ephemerals.specs.Inner.Steps.{without_path, pairs_on, HasGainedAt, HasGainedOf};
 
+use crate::by_path::ByPath;
+use crate::by_session::BySession;
+use crate::session_set::SessionSet;
 use crate::text_set::TextSet;
 use std::alloc::{AllocError, Global};
-use std::collections::BTreeMap;
 use std::marker::Model;
 use values::NoMemory;
 
 /// Which session owns which ephemeral node: a set of pairs of a session and a path. Session 0 owns none.
 #[derive(Drop)]
 pub struct Ephemerals {
-    sets: BTreeMap<i64, TextSet>,
-    // How many pairs there are.
-    count: usize,
+    by_session: BySession,
+    by_path: ByPath,
 }
 
 impl Model for Ephemerals {
     ghost use Rattle.std.specs.Prelude.{◌≡◌};
-    ghost use Rattle.std.specs.Ordering.{int_cmp};
-    ghost use Rattle.std.specs.BTreeMap.{IsOrdered};
     ghost use Rattle.ephemerals.specs.Orders.{Pairs};
-    ghost use Rattle.ephemerals.specs.Inner.PairsView.{pairs_of};
     ghost use Rattle.std.specs.FinSet as set;
     ghost use Rattle.std.specs.Coded.{coded_ℕ, coded_list, coded_ℤ, coded×};
 
@@ -32,10 +32,9 @@ impl Model for Ephemerals {
 
     ghost coded = { set.code (coded× coded_ℤ (coded_list coded_ℕ)) };
 
-    ghost view = { λ e. pairs_of e.sets.entries };
+    ghost view = { λ e. e.by_session };
 
-    ghost invariant = { λ e. IsOrdered int_cmp e.sets ×
-        (e.count ≡ set.len (pairs_of e.sets.entries)) };
+    ghost invariant = { λ e. e.by_path ≡ e.by_session };
 }
 
 impl Ephemerals {
@@ -44,8 +43,8 @@ impl Ephemerals {
         ensures { result ≡ set.empty }
     {
         Ephemerals {
-            sets: BTreeMap::new(alloc),
-            count: 0,
+            by_session: BySession::new(alloc),
+            by_path: ByPath::new(alloc),
         }
     }
 
@@ -53,69 +52,35 @@ impl Ephemerals {
     pub fn count(&self) -> usize
         ensures { result ≡ set.len self.now }
     {
-        self.count
+        self.by_session.count()
     }
 
     /// Whether the session owns the path.
     pub fn contains(&self, session: i64, path: &str) -> bool
         ensures { result ≡ set.contains self.now (session, path.now) }
     {
-        match self.sets.get(&session) {
-            None => false,
-            Some(paths) => paths.contains(path),
-        }
+        self.by_session.contains(session, path)
     }
 
     // Adds the pair, and says whether it is new.
-    fn insert(&mut self, alloc: Global, session: i64, path: String) -> Result<bool, NoMemory>
-        ensures ok { OnOk result (self.new ≡ set.insert self.old (session, string_bytes path)) }
+    fn insert(&mut self, alloc: Global, session: i64, path: &str) -> Result<bool, NoMemory>
+        ensures ok { OnOk result (self.new ≡ set.insert self.old (session, path.now)) }
         ensures added { IfOk result
-            (λ added. added ≡ not (set.contains self.old (session, string_bytes path))) }
+            (λ added. added ≡ not (set.contains self.old (session, path.now))) }
         ensures err { OnErr result (self.new ≡ self.old) }
     {
-        // Each pair takes more than a byte of memory, so that memory ends before the numbers do.
-        let count = self.count.checked_add(1).ok_or(NoMemory)?;
-        match self.sets.get_mut(&session) {
-            Some(paths) => {
-                let added = paths.insert(path)?;
-                if added {
-                    self.count = count;
-                }
-                Ok(added)
-            }
-            None => {
-                let mut paths = TextSet::new(alloc);
-                paths.insert(path)?;
-                self.sets.insert(session, paths)?;
-                self.count = count;
-                Ok(true)
+        let key = String::from_str(alloc, path)?;
+        let added = self.by_session.insert(alloc, session, key)?;
+        if !added {
+            return Ok(added);
+        }
+        match self.by_path.insert(alloc, path, session) {
+            Ok(()) => return Ok(added),
+            Err(refused) => {
+                self.by_session.remove(session, path);
+                Err(refused)
             }
         }
-    }
-
-    // Takes the pair out, and says whether the session has a set that is empty now.
-    fn remove_pair(&mut self, session: i64, path: &str) -> bool
-        ensures removed { self.new ≡ set.remove self.old (session, path.now) }
-        ensures emptied { IsTrue result →
-            (p : List ℕ) → set.contains self.new (session, p) ≡ false }
-    {
-        match self.sets.get_mut(&session) {
-            None => return false,
-            Some(paths) => {
-                if paths.remove(path) {
-                    self.count -= 1;
-                }
-                paths.is_empty()
-            }
-        }
-    }
-
-    // Frees the set of a session that owns no path.
-    fn forget(&mut self, session: i64)
-        requires { (p : List ℕ) → set.contains self.old (session, p) ≡ false }
-        ensures { self.new ≡ self.old }
-    {
-        self.sets.remove(&session);
     }
 
     /// Makes the session own the path, and says whether it is new. Session 0 gains nothing.
@@ -128,7 +93,7 @@ impl Ephemerals {
         if session == 0 {
             return Ok(false);
         }
-        self.insert(alloc, session, String::from_str(alloc, path)?)
+        self.insert(alloc, session, path)
     }
 
     /// Makes the session own the path no more. Session 0 loses nothing.
@@ -138,9 +103,8 @@ impl Ephemerals {
         if session == 0 {
             return;
         }
-        if self.remove_pair(session, path) {
-            self.forget(session);
-        }
+        self.by_session.remove(session, path);
+        self.by_path.remove(path, session);
     }
 
     /// The path goes from the old session to the new one. Session 0 loses and gains nothing.
@@ -162,15 +126,7 @@ impl Ephemerals {
         ensures some { IfSome result (λ paths. paths.now ≢ set.empty) }
         ensures none { IfNone result (paths_of session self.now ≡ set.empty) }
     {
-        match self.sets.get(&session) {
-            None => return None,
-            Some(paths) => {
-                if paths.is_empty() {
-                    return None;
-                }
-                Some(paths)
-            }
-        }
+        self.by_session.of(session)
     }
 
     /// Takes out all paths of a session, which takes no memory.
@@ -178,13 +134,84 @@ impl Ephemerals {
         ensures paths { result ≡ paths_of session self.old }
         ensures rest { self.new ≡ without_session session self.old }
     {
-        match self.sets.remove(&session) {
-            None => return TextSet::new(alloc),
-            Some(paths) => {
-                self.count -= paths.len();
-                paths
-            }
+        let paths = self.by_session.take_session(alloc, session);
+        self.by_path.remove_all(&paths, session);
+        paths
+    }
+
+    // Adds the path at each of the sessions.
+    fn add_sessions(
+        &mut self,
+        alloc: Global,
+        sessions: &SessionSet,
+        path: &str,
+    ) -> Result<(), NoMemory>
+        ensures { OnOk result (HasGainedAt path.now sessions.now self.old self.new) }
+    {
+        for session in sessions.iter() {
+            self.insert(alloc, *session, path)?;
         }
+        Ok(())
+    }
+
+    // Adds what others own at the path.
+    fn add_on(&mut self, alloc: Global, path: &str, others: &Ephemerals) -> Result<(), NoMemory>
+        ensures { OnOk result (self.new ≡ set.union self.old (pairs_on path.now others.now)) }
+    {
+        match others.by_path.of(path) {
+            None => return Ok(()),
+            Some(sessions) => self.add_sessions(alloc, sessions, path),
+        }
+    }
+
+    /// A copy of the pairs at these paths.
+    pub fn at(&self, alloc: Global, paths: &TextSet) -> Result<Ephemerals, NoMemory>
+        ensures { IfOk result (λ found. found ≡ pairs_at paths.now self.now) }
+    {
+        let mut found = Ephemerals::new(alloc);
+        for path in paths.iter() {
+            found.add_on(alloc, path.as_str(), self)?;
+        }
+        Ok(found)
+    }
+
+    // Takes out the pairs at the path.
+    fn drop_on(&mut self, path: &str)
+        ensures { self.new ≡ without_path path.now self.old }
+    {
+        match self.by_path.take(path) {
+            None => return,
+            Some(sessions) => self.by_session.remove_all(&sessions, path),
+        }
+    }
+
+    /// Takes out the pairs at these paths, which takes no memory.
+    pub fn drop_at(&mut self, paths: &TextSet)
+        ensures { self.new ≡ without_paths paths.now self.old }
+    {
+        for path in paths.iter() {
+            self.drop_on(path.as_str());
+        }
+    }
+
+    // Adds the session at each of the paths.
+    fn add_paths(&mut self, alloc: Global, session: i64, paths: &TextSet) -> Result<(), NoMemory>
+        ensures { OnOk result (HasGainedOf session paths.now self.old self.new) }
+    {
+        for path in paths.iter() {
+            self.insert(alloc, session, path.as_str())?;
+        }
+        Ok(())
+    }
+
+    /// Adds all of the others' pairs. Refused, it may have added some.
+    pub fn add_all(&mut self, alloc: Global, others: &Ephemerals) -> Result<(), NoMemory>
+        ensures { OnOk result (self.new ≡ set.union self.old others.now) }
+    {
+        for (session, paths) in others.by_session.iter() {
+            self.add_paths(alloc, *session, paths)?;
+        }
+        Ok(())
     }
 }
 
@@ -193,8 +220,8 @@ impl Clone for Ephemerals {
 
     fn clone(&self) -> Result<Ephemerals, AllocError> {
         Ok(Ephemerals {
-            sets: self.sets.clone()?,
-            count: self.count,
+            by_session: self.by_session.clone()?,
+            by_path: self.by_path.clone()?,
         })
     }
 }

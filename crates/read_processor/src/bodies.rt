@@ -11,7 +11,8 @@ use crate::counts::{acls_len, names_len, with_bytes};
 use crate::request::Request;
 use client_records::{Acls, ExistsResponse, GetAclResponse, GetDataResponse};
 use data_tree::Node;
-use jute::WriteRecord;
+use jute::codes::open_list;
+use jute::{Acl, WriteRecord};
 use std::alloc::Global;
 use values::{Blob, Bytes, NoMemory};
 
@@ -59,10 +60,11 @@ fn get_data(alloc: Global, node: &Node) -> Result<Option<Body>, NoMemory>
     )
 }
 
-fn get_acl(alloc: Global, node: &Node) -> Result<Option<Body>, NoMemory>
+// A node's numbers with the entries of its list.
+fn get_entries(alloc: Global, node: &Node, entries: &[Acl]) -> Result<Option<Body>, NoMemory>
+    requires { entries.now ≡ node.now.acl }
     ensures { IfOk result (λ body. body ≡ fitting (get_acl_body node.now)) }
 {
-    let entries = node.acl.as_slice();
     let Some(_) = acls_len(entries) else {
         return Ok(None);
     };
@@ -73,6 +75,16 @@ fn get_acl(alloc: Global, node: &Node) -> Result<Option<Body>, NoMemory>
             stat: node.shown(),
         },
     )
+}
+
+// The open list has entries for as long as they are written.
+fn get_acl(alloc: Global, node: &Node) -> Result<Option<Body>, NoMemory>
+    ensures { IfOk result (λ body. body ≡ fitting (get_acl_body node.now)) }
+{
+    match node.acl.listed() {
+        None => get_entries(alloc, node, open_list(alloc)?.as_slice()),
+        Some(entries) => get_entries(alloc, node, entries),
+    }
 }
 
 fn get_children(alloc: Global, node: &Node) -> Result<Option<Body>, NoMemory>

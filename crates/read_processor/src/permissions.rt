@@ -6,6 +6,7 @@ ghost use Rattle.read_processor.specs.Permissions.{lets_read, is_same_id, is_eve
 
 use jute::codes::READ;
 use jute::{Acl, Id};
+use txn_codec::AclList;
 
 // Whether the permissions have the one to read.
 fn lets_read(acl: &Acl) -> bool
@@ -48,9 +49,12 @@ fn any_grants_read(ids: &[Id], acls: &[Acl]) -> bool
     acls.iter().any(|acl| grants_read(ids, acl))
 }
 
-/// Whether who has shown these ids may read a node with this list.
-pub fn may_read(ids: &[Id], acls: &[Acl]) -> bool
-    ensures { result ≡ may_read ids.now acls.now }
+/// Whether who has shown these ids may read a node with this list. The open list lets everybody read.
+pub fn may_read(ids: &[Id], acl: &AclList) -> bool
+    ensures { result ≡ may_read ids.now acl.now }
 {
-    acls.is_empty() || any_grants_read(ids, acls)
+    match acl.listed() {
+        None => return true,
+        Some(entries) => entries.is_empty() || any_grants_read(ids, entries),
+    }
 }

@@ -56,7 +56,7 @@ fn look_at_node(
     let Some(node) = node else {
         return Look::without_body(alloc, NO_NODE);
     };
-    if wants_read(request) && !may_read(ids, node.acl.as_slice()) {
+    if wants_read(request) && !may_read(ids, &node.acl) {
         return Look::without_body(alloc, NO_AUTH);
     }
     let body = body_of(alloc, request, node)?;

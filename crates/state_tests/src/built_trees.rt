@@ -6,6 +6,7 @@ use ephemerals::TextSet;
 use jute::StatPersisted;
 use std::alloc::Global;
 use std::test::Fail;
+use txn_codec::AclList;
 use values::Listed;
 
 // Numbers that are all different, with the owner.
@@ -24,23 +25,32 @@ fn stat_of(owner: i64) -> StatPersisted {
 }
 
 // A node without bytes, entries and children, of the owner.
-fn node_of(alloc: Global, owner: i64) -> Node {
-    Node {
+fn node_of(alloc: Global, owner: i64) -> Result<Node, Fail> {
+    Ok(Node {
         bytes: None,
-        acl: Listed::from_vec(Vec::new(alloc)),
+        acl: AclList::of(&Some(Listed::from_vec(Vec::new(alloc))))?,
         stat: stat_of(owner),
         children: TextSet::new(alloc),
-    }
+    })
 }
 
 // Puts a node of the owner, and says whether there was a place.
 fn put(alloc: Global, tree: &mut Tree, text: &str, owner: i64) -> Result<bool, Fail> {
     let path = path_of(alloc, text).ok_or("a path")?;
-    if !tree.has_place(&path) {
-        return Ok(false);
+    Ok(tree.put_node(alloc, &path, node_of(alloc, owner)?)?)
+}
+
+// A tree of /x/y, whose root listed the names before; and whether it is whole.
+fn is_whole_from(alloc: Global, names: &[&str]) -> Result<bool, Fail> {
+    let mut root = node_of(alloc, 0)?;
+    for name in names {
+        root.children.insert(String::from_str(alloc, name)?)?;
     }
-    tree.put_node(alloc, &path, node_of(alloc, owner))?;
-    Ok(true)
+    let mut tree = Tree::empty(alloc);
+    tree.put_node(alloc, &path_of(alloc, "/").ok_or("a path")?, root)?;
+    put(alloc, &mut tree, "/x", 0)?;
+    put(alloc, &mut tree, "/x/y", 0)?;
+    Ok(tree.is_whole(alloc)?)
 }
 
 // Session 9 lasts 5 seconds; then come nodes, and for each a sign whether there was a place.
@@ -110,5 +120,14 @@ fn a_copy_stands_alone(rt: HostRuntime) -> Result<(), Fail> {
     make_whole(rt.alloc(), &mut tree)?;
     assert!(rt; is_copied(rt.alloc(), &mut tree)?);
     assert!(rt; !is_as_made(rt.alloc(), &tree)?);
+    Ok(())
+}
+
+#[test]
+fn a_whole_tree_lists_names(rt: HostRuntime) -> Result<(), Fail> {
+    assert!(rt; is_whole_from(rt.alloc(), &[])?);
+    assert!(rt; is_whole_from(rt.alloc(), &["x"])?);
+    assert!(rt; !is_whole_from(rt.alloc(), &[""])?);
+    assert!(rt; !is_whole_from(rt.alloc(), &["x/y"])?);
     Ok(())
 }

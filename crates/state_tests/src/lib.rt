@@ -4,7 +4,11 @@
 #![tactic(auto)]
 
 #[cfg(test)]
+mod acl_lists;
+#[cfg(test)]
 mod built_trees;
+#[cfg(test)]
+mod cells;
 #[cfg(test)]
 mod owners;
 #[cfg(test)]

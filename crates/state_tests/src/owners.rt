@@ -1,6 +1,6 @@
 //! Which session owns which path.
 
-use ephemerals::Ephemerals;
+use ephemerals::{Ephemerals, TextSet};
 use std::alloc::Global;
 use std::test::Fail;
 
@@ -52,6 +52,32 @@ fn moved(alloc: Global, owners: &Ephemerals) -> Result<String, Fail> {
     copy.replace(alloc, "/a", 9, 7)?;
     copy.replace(alloc, "/c", 0, 0)?;
     text_of(alloc, &copy)
+}
+
+// The pairs at /a that session 9 and then session 7 own, beside what is left without them and with them again.
+fn taken(alloc: Global, owners: &mut Ephemerals) -> Result<String, Fail> {
+    owners.add(alloc, 7, "/a")?;
+    let mut paths = TextSet::new(alloc);
+    paths.insert(String::from_str(alloc, "/a")?)?;
+    let found = owners.at(alloc, &paths)?;
+    owners.drop_at(&paths);
+    let left = text_of(alloc, owners)?;
+    owners.add_all(alloc, &found)?;
+    Ok(format!(in alloc;
+        "{} {left} {}",
+        text_of(alloc, &found)?,
+        text_of(alloc, owners)?
+    )?)
+}
+
+#[test]
+fn pairs_move_by_their_paths(rt: HostRuntime) -> Result<(), Fail> {
+    let mut owners = Ephemerals::new(rt.alloc());
+    fill(rt.alloc(), &mut owners)?;
+    let text = taken(rt.alloc(), &mut owners)?;
+    assert_eq!(rt; text.as_str(), "-;/a;/a; -;-;/b; -;/a;/a/b;");
+    assert_eq!(rt; owners.count(), 3);
+    Ok(())
 }
 
 #[test]

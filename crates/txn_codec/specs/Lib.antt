@@ -1,3 +1,4 @@
+pub mod Acls
 pub mod Paths
 pub mod Kinds
 pub mod Spelling

@@ -13,6 +13,7 @@
 //! ```
 #![tactic(auto)]
 
+mod acl_list;
 mod decode;
 mod encode;
 mod kind;
@@ -21,9 +22,10 @@ mod path;
 mod place;
 mod txn;
 
+pub use acl_list::AclList;
 pub use decode::decode_txn;
 pub use encode::encode_txn;
 pub use kind::TxnKind;
 pub use law::transactions;
-pub use path::{Path, child_of, name_of, parent_of};
+pub use path::{Path, child_of, is_path, name_of, parent_of};
 pub use txn::{Body, Check, Create, Operation, SetAcl, SetData, Txn, TxnHeader};

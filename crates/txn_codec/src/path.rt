@@ -46,8 +46,8 @@ fn is_child_path(text: &[u8]) -> bool
     }
 }
 
-// Whether a text is a path.
-fn is_path(text: &[u8]) -> bool
+/// Whether a text is a path.
+pub fn is_path(text: &[u8]) -> bool
     ensures { result ≡ is_path text.now }
 {
     matches!(text, [b'/']) || is_child_path(text)

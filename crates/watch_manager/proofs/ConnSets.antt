@@ -1,6 +1,5 @@
 -- A set of connections, read as a finite set of numbers.
-use Rattle.std.proofs.Common.{◌≡◌, ℕ, List, [], ◌∷◌, Bool, true, false, cond, not, ◌||◌, ◌&&◌, Some, None, is_some, refl, sym, ap, ◌∙◌, map, length, arith}
-use Rattle.std.specs.declared.cmp.Ordering.{Ordering}
+use Rattle.std.proofs.Common.{◌≡◌, ℕ, List, [], ◌∷◌, Bool, true, false, cond, not, ◌||◌, ◌&&◌, Some, None, refl, sym, ap, ◌∙◌, map, length, arith}
 use Rattle.std.specs.declared.cmp.Ordering.TheVariants.{Less}
 use Rattle.std.specs.FinMap as finmap
 use Rattle.std.specs.FinMap.Entries.{by_order}
@@ -11,7 +10,7 @@ use Rattle.std.specs.BTreeSet as sorted
 use Rattle.std.specs.BTreeSet.{BTreeSet}
 use Rattle.std.specs.List.{list_any, AllByRecursion}
 use Rattle.std.specs.Ordering.{eq_by_cmp, is_eq, nat_cmp}
-use Rattle.std.specs.Cmp.{IsTotalOrder, nat_cmp_total, eq_by_cmp_equiv, tied_itself}
+use Rattle.std.specs.Cmp.{nat_cmp_total, eq_by_cmp_equiv, tied_itself}
 use Rattle.std.proofs.lemmas.Map.Lookups.{exact_unsigned}
 use Rattle.std.specs.FinSet as set
 use Rattle.watch_manager.specs.Pairs.{Connections, in_number}
@@ -79,25 +78,6 @@ entries-sorted (n ∷ ns) s =
     finmap.entries-insert nat_cmp_total (finmap.from_entries {R = nat_cmp} (marked ns)) n (tt {0})
     ∙ ap (finmap.put nat_cmp n (tt {0})) (entries-sorted ns (sorted_tail nat_cmp n ns s))
     ∙ put_first n ns (sorted_head nat_cmp n ns s)
-
-module _ {K : Type 0} {R : K → K → Ordering} (o : IsTotalOrder R) where
-  is_some-find : (q : K) (ks : List K) → is_some (finmap.find R q (map (λ (k : K). (k, tt {0})) ks))
-      ≡ list_any (eq_by_cmp R q) ks
-  is_some-find q [] = refl
-  is_some-find q (k ∷ ks) = by (eq_by_cmp R q k) ∙ ap (λ b. eq_by_cmp R q k || b) (is_some-find q ks)
-    where
-      by : (b : Bool) → is_some (cond b (Some (tt {0})) (finmap.find R q (map (λ (x : K). (x, tt {0})) ks)))
-          ≡ (b || is_some (finmap.find R q (map (λ (x : K). (x, tt {0})) ks)))
-      by true = refl
-      by false = refl
-
-  -- what stands in a list in order is what stands in the list
-  pub any-ascending : (ks : List K) (q : K) → list_any (eq_by_cmp R q)
-      (finmap.keys (finmap.from_entries {R = R} (map (λ (k : K). (k, tt {0})) ks))) ≡ list_any (eq_by_cmp R q) ks
-  any-ascending ks q =
-      sym (finmap.contains_key-keys (finmap.from_entries {R = R} (map (λ (k : K). (k, tt {0})) ks)) q)
-      ∙ ap is_some (finmap.get-from_entries o (map (λ (k : K). (k, tt {0})) ks) q)
-      ∙ is_some-find q ks
 
 same_marked : (xs ys : List ℕ) → ((q : ℕ) → list_any (eq_by_cmp nat_cmp q) xs ≡ list_any (eq_by_cmp nat_cmp q) ys)
     → finmap.from_entries {R = nat_cmp} (marked xs) ≡ finmap.from_entries {R = nat_cmp} (marked ys)

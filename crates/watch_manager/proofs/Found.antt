@@ -9,8 +9,8 @@ use Rattle.std.specs.FinSet as set
 use Rattle.ephemerals.specs.Orders.{Bytes}
 use Rattle.watch_manager.specs.Pairs.{Connections, Pairs, watchers}
 use Rattle.watch_manager.specs.Inner.Grouped.{path_pairs}
-use Rattle.watch_manager.proofs.PathMaps.{seen}
-use Rattle.watch_manager.proofs.Grouped.{listed, contains-found}
+use Rattle.ephemerals.proofs.PathMaps.{seen}
+use Rattle.ephemerals.proofs.Grouped.{listed, contains-found}
 use Rattle.watch_manager.proofs.Watchers.{are_watchers, no_watcher}
 
 module _ {Z : Type 0} (es : List (String Z × Connections)) (path : Bytes) (pairs : Pairs) (is : path_pairs es ≡ pairs)

@@ -1,11 +1,7 @@
 -- The order of watches is total, and ties only what is equal. Public
 pub mod Totals
--- Pairs that are kept as a set for each key
-mod Grouped
 -- A map from numbers as a finite map
 mod ConnMaps
--- A map from texts as a finite map from bytes
-mod PathMaps
 -- A set of connections as a finite set of numbers
 mod ConnSets
 -- Who watches a path, and what is left without a path or a connection. Public

@@ -12,7 +12,7 @@ use Rattle.watch_manager.specs.Pairs.{Connections, Pairs, in_number, watchers, w
 use Rattle.watch_manager.specs.Watching.{Watching}
 use Rattle.watch_manager.specs.Watches.{told, each_but, tells, after, fire}
 use Rattle.watch_manager.specs.declared.event.EventKind.{EventKind}
-use Rattle.watch_manager.proofs.ConnSets.{any-ascending}
+use Rattle.ephemerals.proofs.Ascending.{any-ascending}
 use Rattle.watch_manager.proofs.Tables.{unwatched}
 
 front_empty : {A : Type 0} (xs ys : List A) → xs ++ ys ≡ [] → xs ≡ []

@@ -13,7 +13,7 @@ use Rattle.ephemerals.proofs.Totals.{path_total}
 use Rattle.watch_manager.specs.Pairs.{Connections, Pairs, watch_cmp, in_number, watchers, without_path, without_connection, same_path, same_connection}
 use Rattle.watch_manager.specs.Inner.Grouped.{pair_cmp, ConnPairs, AgreeOn, without_conns, without_paths, without_key}
 use Rattle.watch_manager.proofs.Totals.{watch_total, watch_exact, conn_total, conn_exact}
-use Rattle.watch_manager.proofs.ConnSets.{any-ascending}
+use Rattle.ephemerals.proofs.Ascending.{any-ascending}
 use Rattle.watch_manager.proofs.Watchers.{contains-watchers, contains-without_path, contains-without_connection}
 
 turned : (q p : Bytes) (d c : ℕ) → eq_by_cmp watch_cmp (q, d) (p, c)

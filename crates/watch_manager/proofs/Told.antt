@@ -24,8 +24,8 @@ use Rattle.watch_manager.specs.Laws.{AllPass, WatchersPass}
 use Rattle.watch_manager.specs.declared.event.Event.{Event}
 use Rattle.watch_manager.specs.declared.event.EventKind.{EventKind}
 use Rattle.watch_manager.specs.declared.event.EventKind.TheVariants.{NodeDeleted}
-use Rattle.watch_manager.proofs.ConnSets.{any-ascending}
-use Rattle.watch_manager.proofs.Grouped.{front_holds, rest_holds}
+use Rattle.ephemerals.proofs.Ascending.{any-ascending}
+use Rattle.ephemerals.proofs.Grouped.{front_holds, rest_holds}
 use Rattle.watch_manager.proofs.Watchers.{contains-watchers, contains-without_path, contains-without_connection}
 
 -- lists of which each element has a property

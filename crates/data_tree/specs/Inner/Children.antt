@@ -1,11 +1,13 @@
 -- The children of a node, one more or one less: what the program does to a parent.
-use Rattle.std.specs.Prelude.{◌≡◌, ℤ, Bool, true, false, not, if◌then◌else◌, Option, Some, None, int_lt}
+use Rattle.std.specs.Prelude.{◌≡◌, ℤ, true, if◌then◌else◌, Option, Some, None, int_lt}
+use Rattle.std.specs.FinMap as finmap
 use Rattle.std.specs.FinSet as set
 use Rattle.ephemerals.specs.Orders.{Bytes, Names}
 use Rattle.txn_codec.specs.Paths.{child_of}
 use Rattle.txn_codec.specs.declared.txn.TxnHeader.{TxnHeader}
 use Rattle.txn_codec.specs.declared.txn.Create.{Create}
-use Rattle.data_tree.specs.Nodes.{Nodes}
+use Rattle.data_tree.specs.State.{State, Nodes}
+use Rattle.data_tree.specs.Making.{with_placed_node}
 use Rattle.data_tree.specs.Meaning.{next_cversion}
 use Rattle.data_tree.specs.Whole.{has_node}
 use Rattle.data_tree.specs.declared.node.Node.{Node}
@@ -48,10 +50,13 @@ without_child name zxid parent =
 abbrev pub without_name : Bytes → Node → Node
 without_name name parent = record parent { children = set.remove parent.children name }
 
--- whether there is a node that doesn't list the name yet
-abbrev pub lacks_name : Option Node → Bytes → Bool
-lacks_name None name = false
-lacks_name (Some parent) name = not (set.contains parent.children name)
+-- the node at the path, where there is none yet
+abbrev pub with_new_node : Nodes → Bytes → Node → Nodes
+with_new_node nodes path node = if has_node nodes path then nodes else finmap.insert nodes path node
+
+-- the same, with its owner's pair
+abbrev pub with_new_node_placed : State → Bytes → Node → State
+with_new_node_placed s path node = if has_node s.nodes path then s else with_placed_node s path node
 
 -- each of the names has a node under the path
 abbrev pub HasItsChildren : Nodes → Bytes → Names → Type 0

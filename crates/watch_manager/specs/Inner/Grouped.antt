@@ -1,24 +1,12 @@
--- Pairs that are kept as a set for each key.
-use Rattle.std.specs.Prelude.{◌≡◌, ℕ, List, [], ◌∷◌, ◌++◌, map, not, string_bytes}
-use Rattle.std.specs.declared.cmp.Ordering.{Ordering}
+-- Watches, kept as a set for each path and for each connection.
+use Rattle.std.specs.Prelude.{◌≡◌, ℕ, List, [], ◌∷◌, not}
 use Rattle.std.specs.declared.string.String.{String}
-use Rattle.std.specs.Ordering.{nat_cmp, then_cmp, on}
+use Rattle.std.specs.Ordering.{nat_cmp}
 use Rattle.std.specs.FinMap as finmap
 use Rattle.std.specs.FinSet as set
 use Rattle.ephemerals.specs.Orders.{Bytes, path_cmp, Names}
+pub use Rattle.ephemerals.specs.Grouped.{pair_cmp, pairs_of, by_bytes}
 use Rattle.watch_manager.specs.Pairs.{Connections, Pairs, same_connection}
-
--- ascending key, then ascending value
-abbrev pub pair_cmp : {K V : Type 0} → (K → K → Ordering) → (V → V → Ordering) → K × V → K × V → Ordering
-pair_cmp {K} {V} R S = then_cmp (on (λ (p : K × V). p.0) R) (on (λ (p : K × V). p.1) S)
-
-abbrev pub all_pairs : {K V : Type 0} {S : V → V → Ordering} → List (K × set.FinSet S) → List (K × V)
-all_pairs [] = []
-all_pairs {K} {V} {S} (e ∷ es) = map (λ (v : V). (e.0, v)) (set.items e.1) ++ all_pairs es
-
-abbrev pub pairs_of : {K V : Type 0} {R : K → K → Ordering} {S : V → V → Ordering} → finmap.FinMap R (set.FinSet S)
-    → set.FinSet (pair_cmp R S)
-pairs_of m = set.from_list (all_pairs (finmap.entries m))
 
 -- pairs of a connection and a path
 abbrev pub ConnPairs : Type 0
@@ -26,10 +14,6 @@ ConnPairs = set.FinSet (pair_cmp nat_cmp path_cmp)
 
 abbrev pub conn_pairs : List (ℕ × Names) → ConnPairs
 conn_pairs es = pairs_of (finmap.from_entries {R = nat_cmp} es)
-
--- entries by text as entries by bytes
-abbrev pub by_bytes : {X Z : Type 0} → List (String Z × X) → List (Bytes × X)
-by_bytes es = map (λ e. (string_bytes e.0, e.1)) es
 
 abbrev pub path_pairs : {Z : Type 0} → List (String Z × Connections) → Pairs
 path_pairs es = pairs_of (finmap.from_entries {R = path_cmp} (by_bytes es))

@@ -5,6 +5,14 @@ use Rattle.ephemerals.proofs.Errors.{on_err}
 use Rattle.data_tree.proofs.NodeUpdates.{lent_is, lent_same}
 use Rattle.data_tree.proofs.node_map.NodeMap.add_name.Goals as goal
 
+pub returns-then-branch-clause-state : goal.returns-then-branch-clause-state
+returns-then-branch-clause-state c =
+    let w : Node = record c.in-Some.node.now { children = c.insert.new.self } in
+    lent_is c.get_mut.result c.args.self.now (c.get_mut.follows.lender w) c.args.path.now c.in-Some.node w
+    (with_name (string_bytes c.args.name))
+    c.in-Some.is (c.get_mut.follows.holds w) c.in-Some.ensures.value
+    (ap (λ s. let n : Node = record c.in-Some.node.now { children = s } in n) c.in_ok-insert-in-Some.ensures.ok)
+
 pub returns-clause-state : goal.returns-clause-state
 returns-clause-state c =
     let w : Node = record c.in-Some.node.now { children = c.insert.new.self } in

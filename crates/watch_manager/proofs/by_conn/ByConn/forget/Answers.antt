@@ -4,7 +4,7 @@ use Rattle.std.proofs.lemmas.Map.Lookups.{exact_unsigned, exact_bytes}
 use Rattle.ephemerals.proofs.Totals.{path_total}
 use Rattle.std.specs.FinSet as set
 use Rattle.watch_manager.proofs.ConnMaps.{seen, seen-remove}
-use Rattle.watch_manager.proofs.Grouped.{forget}
+use Rattle.ephemerals.proofs.Grouped.{forget}
 use Rattle.watch_manager.proofs.by_conn.ByConn.forget.Goals as goal
 
 pub returns : goal.returns

@@ -12,7 +12,7 @@ use Rattle.ephemerals.specs.Orders.{Names}
 use Rattle.ephemerals.proofs.Errors.{on_err}
 use Rattle.watch_manager.specs.Inner.Grouped.{conn_pairs}
 use Rattle.watch_manager.proofs.ConnMaps.{seen, get-seen, seen-insert}
-use Rattle.watch_manager.proofs.Grouped.{insert_through, insert_first}
+use Rattle.ephemerals.proofs.Grouped.{insert_through, insert_first}
 use Rattle.watch_manager.proofs.by_conn.ByConn.insert.Goals as goal
 
 -- the set of a connection that was written back as it was

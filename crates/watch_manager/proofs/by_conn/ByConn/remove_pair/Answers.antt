@@ -5,7 +5,7 @@ use Rattle.ephemerals.proofs.Totals.{path_total}
 use Rattle.std.specs.FinSet as set
 use Rattle.watch_manager.specs.Inner.Grouped.{conn_pairs}
 use Rattle.watch_manager.proofs.ConnMaps.{seen, get-seen, seen-insert}
-use Rattle.watch_manager.proofs.Grouped.{remove_through, remove_none, emptied}
+use Rattle.ephemerals.proofs.Grouped.{remove_through, remove_none, emptied}
 use Rattle.watch_manager.proofs.by_conn.ByConn.remove_pair.Goals as goal
 
 pub returns-clause-removed : goal.returns-clause-removed

@@ -6,7 +6,7 @@ use Rattle.std.specs.FinSet as set
 use Rattle.ephemerals.specs.Orders.{Names, Bytes}
 use Rattle.watch_manager.specs.Inner.Grouped.{ConnPairs, without_key}
 use Rattle.watch_manager.proofs.ConnMaps.{seen, get-seen, seen-remove}
-use Rattle.watch_manager.proofs.Grouped.{listed, contains-found, taken}
+use Rattle.ephemerals.proofs.Grouped.{listed, contains-found, taken}
 use Rattle.watch_manager.proofs.by_conn.ByConn.take.Goals as goal
 
 some : (r : Option Names) (pairs : ConnPairs) (k : ℕ)

@@ -3,8 +3,8 @@ use Rattle.std.specs.Cmp.{nat_cmp_total}
 use Rattle.std.proofs.lemmas.Map.Lookups.{exact_unsigned, exact_bytes}
 use Rattle.ephemerals.proofs.Totals.{path_total}
 use Rattle.std.specs.FinSet as set
-use Rattle.watch_manager.proofs.PathMaps.{seen, seen-remove}
-use Rattle.watch_manager.proofs.Grouped.{forget}
+use Rattle.ephemerals.proofs.PathMaps.{seen, seen-remove}
+use Rattle.ephemerals.proofs.Grouped.{forget}
 use Rattle.watch_manager.proofs.by_path.ByPath.forget.Goals as goal
 
 pub returns : goal.returns

@@ -13,8 +13,8 @@ use Rattle.ephemerals.proofs.Errors.{on_err}
 use Rattle.ephemerals.proofs.TextKeys.{query}
 use Rattle.watch_manager.specs.Pairs.{Connections}
 use Rattle.watch_manager.specs.Inner.Grouped.{path_pairs}
-use Rattle.watch_manager.proofs.PathMaps.{seen, get-seen, seen-insert}
-use Rattle.watch_manager.proofs.Grouped.{insert_through, insert_first, contains-found}
+use Rattle.ephemerals.proofs.PathMaps.{seen, get-seen, seen-insert}
+use Rattle.ephemerals.proofs.Grouped.{insert_through, insert_first, contains-found}
 use Rattle.watch_manager.proofs.by_path.ByPath.insert.Goals as goal
 
 -- the set of a path that was written back as it was

@@ -3,7 +3,7 @@ use Rattle.std.specs.Cmp.{nat_cmp_total}
 use Rattle.std.proofs.lemmas.Map.Lookups.{exact_unsigned, exact_bytes}
 use Rattle.ephemerals.proofs.Totals.{path_total}
 use Rattle.watch_manager.specs.Inner.Grouped.{path_pairs}
-use Rattle.watch_manager.proofs.Grouped.{no_pairs}
+use Rattle.ephemerals.proofs.Grouped.{no_pairs}
 use Rattle.watch_manager.proofs.by_path.ByPath.new.Goals as goal
 
 pub returns : goal.returns

@@ -1,5 +1,5 @@
 use Rattle.std.proofs.Common.{sym, ◌∙◌}
-use Rattle.watch_manager.proofs.PathMaps.{get-seen}
+use Rattle.ephemerals.proofs.PathMaps.{get-seen}
 use Rattle.watch_manager.proofs.Found.{found-some, found-none}
 use Rattle.watch_manager.proofs.by_path.ByPath.of.Goals as goal
 

@@ -4,8 +4,8 @@ use Rattle.std.proofs.lemmas.Map.Lookups.{exact_unsigned, exact_bytes}
 use Rattle.ephemerals.proofs.Totals.{path_total}
 use Rattle.std.specs.FinSet as set
 use Rattle.watch_manager.specs.Inner.Grouped.{path_pairs}
-use Rattle.watch_manager.proofs.PathMaps.{seen, get-seen, seen-insert}
-use Rattle.watch_manager.proofs.Grouped.{remove_through, remove_none, emptied}
+use Rattle.ephemerals.proofs.PathMaps.{seen, get-seen, seen-insert}
+use Rattle.ephemerals.proofs.Grouped.{remove_through, remove_none, emptied}
 use Rattle.watch_manager.proofs.by_path.ByPath.remove_pair.Goals as goal
 
 pub returns-clause-removed : goal.returns-clause-removed

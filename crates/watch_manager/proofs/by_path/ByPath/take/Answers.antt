@@ -3,8 +3,8 @@ use Rattle.std.specs.Cmp.{nat_cmp_total}
 use Rattle.std.proofs.lemmas.Map.Lookups.{exact_unsigned, exact_bytes}
 use Rattle.ephemerals.proofs.Totals.{path_total}
 use Rattle.watch_manager.specs.Pairs.{without_path}
-use Rattle.watch_manager.proofs.PathMaps.{seen, get-seen, seen-remove}
-use Rattle.watch_manager.proofs.Grouped.{taken}
+use Rattle.ephemerals.proofs.PathMaps.{seen, get-seen, seen-remove}
+use Rattle.ephemerals.proofs.Grouped.{taken}
 use Rattle.watch_manager.proofs.Found.{if_some, if_none}
 use Rattle.watch_manager.proofs.by_path.ByPath.take.Goals as goal
 

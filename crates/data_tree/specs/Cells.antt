@@ -1,0 +1,83 @@
+-- Cells that are taken out of a state and put back, and what transactions mean there.
+use Rattle.std.specs.Prelude.{◌≡◌, ℤ, List, [], ◌∷◌, not, true, false, None}
+use Rattle.std.specs.FinMap as finmap
+use Rattle.std.specs.FinSet as set
+use Rattle.ephemerals.specs.Orders.{Bytes, Names}
+use Rattle.ephemerals.specs.Pairs.{pairs_at, without_paths}
+use Rattle.txn_codec.specs.declared.txn.Txn.{Txn}
+use Rattle.data_tree.specs.State.{State, Nodes}
+use Rattle.data_tree.specs.Meaning.{Meant, mean, answer_of}
+use Rattle.data_tree.specs.Footprint.{IsSameCell}
+use Rattle.data_tree.specs.declared.node.Node.{Node}
+use Rattle.data_tree.specs.declared.outcome.Outcome.{Outcome}
+
+-- the cells at these paths, and no session
+abbrev pub cells_at : Names → State → State
+cells_at paths s = record {
+  nodes = finmap.retain_keys s.nodes (set.contains paths);
+  pairs = pairs_at paths s.pairs;
+  sessions = finmap.empty;
+}
+
+-- these cells are empty
+abbrev pub without_cells : Names → State → State
+without_cells paths s = record {
+  nodes = finmap.retain_keys s.nodes (λ (path : Bytes). not (set.contains paths path));
+  pairs = without_paths paths s.pairs;
+  sessions = s.sessions;
+}
+
+-- the nodes, and in their place those of the entries
+abbrev pub with_entries : Nodes → List (Bytes × Node) → Nodes
+with_entries nodes [] = nodes
+with_entries nodes (e ∷ es) = finmap.insert (with_entries nodes es) e.0 e.1
+
+-- what stands in the cells stands in the state too
+abbrev pub with_cells : State → State → State
+with_cells cells s = record {
+  nodes = with_entries s.nodes (finmap.entries cells.nodes);
+  pairs = set.union s.pairs cells.pairs;
+  sessions = s.sessions;
+}
+
+-- the transaction's meaning, with the sessions left as they are: their timeouts are set where all the state is
+abbrev pub mean_in_cells : State → Txn → Meant
+mean_in_cells cells t =
+    let meant = mean cells t in record meant { state = record meant.state { sessions = cells.sessions } }
+
+-- one after the other
+abbrev pub after_in_cells : State → List Txn → State
+after_in_cells cells [] = cells
+after_in_cells cells (t ∷ ts) = after_in_cells (mean_in_cells cells t).state ts
+
+abbrev pub outcomes_in_cells : State → List Txn → List Outcome
+outcomes_in_cells cells [] = []
+outcomes_in_cells cells (t ∷ ts) =
+    answer_of (mean_in_cells cells t) ∷ outcomes_in_cells (mean_in_cells cells t).state ts
+
+-- no node, and no session lists the path
+pub record IsEmptyCell (s : State) (path : Bytes) : Type 0 where
+  pub node : finmap.get s.nodes path ≡ None
+  pub owners : (session : ℤ) → set.contains s.pairs (session, path) ≡ false
+
+-- the cells at the paths go, and no other
+pub record MovesCells (paths : Names) (s : State) : Type 0 where
+  pub taken : (path : Bytes) → set.contains paths path ≡ true → IsSameCell (cells_at paths s) s path
+  pub gone : (path : Bytes) → set.contains paths path ≡ true → IsEmptyCell (without_cells paths s) path
+  pub left : (path : Bytes) → set.contains paths path ≡ false → IsSameCell (without_cells paths s) s path
+  pub nothing : (path : Bytes) → set.contains paths path ≡ false → IsEmptyCell (cells_at paths s) path
+
+abbrev pub TakenCellsMove : Type 0
+TakenCellsMove = (paths : Names) (s : State) → MovesCells paths s
+
+-- cells come to where nothing stands, and where they are empty nothing changes
+pub record PutsCells (cells s : State) : Type 0 where
+  pub put : (path : Bytes) → IsEmptyCell s path → IsSameCell (with_cells cells s) cells path
+  pub left : (path : Bytes) → IsEmptyCell cells path → IsSameCell (with_cells cells s) s path
+
+abbrev pub CellsComeToEmptyCells : Type 0
+CellsComeToEmptyCells = (cells s : State) → PutsCells cells s
+
+-- what is taken and put back as it is leaves the state as it was
+abbrev pub TakenAndPutBackIsTheState : Type 0
+TakenAndPutBackIsTheState = (paths : Names) (s : State) → with_cells (cells_at paths s) (without_cells paths s) ≡ s

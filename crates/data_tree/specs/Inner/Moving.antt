@@ -1,0 +1,27 @@
+-- Nodes that are moved from one map to another, which has a node in their place already.
+use Rattle.std.specs.Prelude.{◌≡◌, List, [], ◌∷◌, ◌&&◌, Option, Some, None}
+use Rattle.std.specs.FinMap as finmap
+use Rattle.std.specs.FinSet as set
+use Rattle.ephemerals.specs.Orders.{Bytes, Names}
+use Rattle.data_tree.specs.Nodes.{Nodes}
+use Rattle.data_tree.specs.Whole.{has_node}
+use Rattle.data_tree.specs.Making.{update_node}
+use Rattle.data_tree.specs.declared.node.Node.{Node}
+
+-- there is a node just where one of the paths has a node
+abbrev pub HasRoom : Names → Nodes → Nodes → Type 0
+HasRoom paths nodes room = (q : Bytes) → has_node room q ≡ (set.contains paths q && has_node nodes q)
+
+-- the node, if any, in place of the one at the path
+abbrev pub filled : Bytes → Option Node → Nodes → Nodes
+filled path None room = room
+filled path (Some node) room = update_node room path (λ (n : Node). node)
+
+abbrev pub without_nodes : List Bytes → Nodes → Nodes
+without_nodes [] nodes = nodes
+without_nodes (p ∷ ps) nodes = without_nodes ps (finmap.remove nodes p)
+
+-- the room, with the nodes at the paths
+abbrev pub moved : List Bytes → Nodes → Nodes → Nodes
+moved [] nodes room = room
+moved (p ∷ ps) nodes room = moved ps (finmap.remove nodes p) (filled p (finmap.get nodes p) room)

@@ -1,0 +1,24 @@
+-- What keeps the paths of a tree's nodes, and the names that they list, right.
+use Rattle.std.specs.Prelude.{IsTrue}
+use Rattle.ephemerals.specs.Orders.{Bytes}
+use Rattle.txn_codec.specs.Paths.{is_path, is_child_path, name_of}
+use Rattle.txn_codec.specs.Parents.{HaveParents}
+use Rattle.txn_codec.specs.declared.txn.Txn.{Txn}
+use Rattle.data_tree.specs.State.{State}
+use Rattle.data_tree.specs.Meaning.{mean}
+use Rattle.data_tree.specs.Making.{with_node_in_place}
+use Rattle.data_tree.specs.Whole.{is_child_name, AreChildNames, AreNamed}
+use Rattle.data_tree.specs.declared.node.Node.{Node}
+
+-- what stands behind a path's last slash may stand there
+abbrev pub PathsEndInNames : Type 0
+PathsEndInNames = (path : Bytes) → IsTrue (is_child_path path) → IsTrue (is_child_name (name_of path))
+
+-- of a transaction that makes no "/", as each has that was decoded
+abbrev pub TransactionsKeepNames : Type 0
+TransactionsKeepNames = (s : State) (t : Txn) → HaveParents t.body → AreNamed s.nodes → AreNamed (mean s t).state.nodes
+
+abbrev pub NodesKeepNames : Type 0
+NodesKeepNames =
+    (s : State) (path : Bytes) (node : Node) → IsTrue (is_path path) → AreChildNames node.children → AreNamed s.nodes
+    → AreNamed (with_node_in_place s path node).nodes

@@ -1,0 +1,117 @@
+//! Who may do what with a node.
+
+ghost use Rattle.std.specs.Prelude.{◌≡◌, ◌≢◌, ◌↔◌, IfOk, IfSome, IfNone, IsTrue, codes};
+ghost use Rattle.jute.specs.Codes.{open_acl};
+ghost use Rattle.txn_codec.specs.Acls.{acl_or_open};
+
+use jute::codes::ALL;
+use jute::{Acl, Id};
+use std::alloc::AllocError;
+use std::marker::Model;
+use values::{Listed, NoMemory};
+
+/// A node's access control list, seen as its entries. The open list, which nearly every node has, takes no memory.
+#[derive(Drop)]
+pub struct AclList {
+    // `None` stands for the open list.
+    entries: Option<Listed<Acl>>,
+}
+
+impl Model for AclList {
+    ghost use Rattle.std.specs.Prelude.{List, Some, ◌≢◌};
+    ghost use Rattle.jute.specs.Codes.{open_acl};
+    ghost use Rattle.jute.specs.declared.owned.Acl.{Acl};
+    ghost use Rattle.txn_codec.specs.Acls.{acl_or_open};
+
+    ghost Value = { List Acl };
+
+    ghost view = { λ l. acl_or_open l.entries };
+
+    ghost invariant = { λ l. l.entries ≢ Some open_acl };
+}
+
+// Whether the id is world:anyone.
+fn is_anyone(id: &Id) -> bool
+    ensures { IsTrue result ↔ (id.now ≡ record { scheme = codes "world"; id = codes "anyone" }) }
+{
+    if id.scheme.as_str() != "world" {
+        return false;
+    }
+    id.id.as_str() == "anyone"
+}
+
+// Whether the entries are those of the open list.
+fn are_open(entries: &[Acl]) -> bool
+    ensures { IsTrue result ↔ (entries.now ≡ open_acl) }
+{
+    match entries {
+        [entry] => {
+            if entry.perms != ALL {
+                return false;
+            }
+            is_anyone(&entry.id)
+        }
+        _ => false,
+    }
+}
+
+impl AclList {
+    /// The list that grants everyone everything.
+    pub fn open() -> AclList
+        ensures { result ≡ open_acl }
+    {
+        AclList { entries: None }
+    }
+
+    /// The list of these entries; null stands for the open list. It takes no memory.
+    pub fn new(acl: Option<Listed<Acl>>) -> AclList
+        ensures { result ≡ acl_or_open acl }
+    {
+        let Some(entries) = acl else {
+            return AclList::open();
+        };
+        if are_open(entries.as_slice()) {
+            return AclList::open();
+        }
+        AclList {
+            entries: Some(entries),
+        }
+    }
+
+    /// The list of a copy of the entries; null stands for the open list.
+    pub fn of(acl: &Option<Listed<Acl>>) -> Result<AclList, NoMemory>
+        ensures { IfOk result (λ list. list ≡ acl_or_open acl.now) }
+    {
+        let Some(entries) = acl else {
+            return Ok(AclList::open());
+        };
+        if are_open(entries.as_slice()) {
+            return Ok(AclList::open());
+        }
+        Ok(AclList {
+            entries: Some(entries.clone()?),
+        })
+    }
+
+    /// The entries, unless the list is the open one.
+    pub fn listed(&self) -> Option<&[Acl]>
+        ensures entries { IfSome result (λ entries. entries.now ≡ self.now) }
+        ensures not_open { IfSome result (λ entries. entries.now ≢ open_acl) }
+        ensures open { IfNone result (self.now ≡ open_acl) }
+    {
+        match &self.entries {
+            None => return None,
+            Some(entries) => Some(entries.as_slice()),
+        }
+    }
+}
+
+impl Clone for AclList {
+    ghost is_clone = { λ x y. y ≡ x };
+
+    fn clone(&self) -> Result<AclList, AllocError> {
+        Ok(AclList {
+            entries: self.entries.clone()?,
+        })
+    }
+}
