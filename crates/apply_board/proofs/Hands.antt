@@ -1,0 +1,55 @@
+-- Which slot a seat holds.
+use Rattle.std.proofs.Common.{◌≡◌, ℕ, ◌<◌, List, [], ◌∷◌, ◌++◌, map, drop, length, get_or, sym, refl, ap, ◌∙◌, arith, Option, None, Bool}
+use Rattle.std.proofs.lemmas.List.{append-nil}
+use Rattle.apply_board.specs.declared.view.View.{View}
+use Rattle.apply_board.specs.declared.group.Group.{Group}
+use Rattle.apply_board.specs.Views.{numbers, giving}
+use Rattle.apply_board.specs.Inner.Fields.{held_by, IsSitting}
+use Rattle.apply_board.proofs.Histories.{numbers-append}
+
+drop_numbers : {F : Type 0} (given : List (ℕ × F)) (more : List ℕ) → drop (length given) (numbers given ++ more) ≡ more
+drop_numbers [] more = refl
+drop_numbers (one ∷ given) more = drop_numbers given more
+
+length_numbers : {F : Type 0} (given : List (ℕ × F)) (k : ℕ) → length given < length (numbers given ++ k ∷ [])
+length_numbers [] k = omega arith
+length_numbers (one ∷ given) k = omega (arith, length_numbers given k)
+
+last_number : {F : Type 0} (given : List (ℕ × F)) (k : ℕ) → get_or (numbers given ++ k ∷ []) (length given) 0 ≡ k
+last_number [] k = refl
+last_number (one ∷ given) k = last_number given k
+
+module _ {W F : Type 0} where
+  pub idle_hand : (v : View W F) → v.claimed ≡ numbers v.given → held_by v ≡ []
+  idle_hand v idle = ap (λ l. map (λ k. (k, None)) (drop (length v.given) l))
+      (idle ∙ sym (append-nil (numbers v.given))) ∙ ap (λ l. map (λ k. (k, None)) l) (drop_numbers v.given [])
+
+  pub one_hand : (v : View W F) (k : ℕ) → v.claimed ≡ numbers v.given ++ k ∷ [] → held_by v ≡ (k, None) ∷ []
+  one_hand v k holds = ap (λ l. map (λ k. (k, None)) (drop (length v.given) l)) holds
+      ∙ ap (λ l. map (λ k. (k, None)) l) (drop_numbers v.given (k ∷ []))
+
+  -- a number that is held is a slot's
+  pub held_within : (slots : ℕ) (v : View W F) (k : ℕ)
+      → ((i : ℕ) → i < length v.claimed → get_or v.claimed i 0 < slots) → v.claimed ≡ numbers v.given ++ k ∷ []
+      → k < slots
+  held_within slots v k within holds = let n = length_numbers v.given k in let last = last_number v.given k in
+      let l = ap (λ (xs : List ℕ). length xs) holds in
+      let g = ap (λ (xs : List ℕ). get_or xs (length v.given) 0) holds in
+      let w = within (length v.given) (omega arith) in omega arith
+
+  pub gives_all : (v : View W F) (k : ℕ) (f : F) → v.claimed ≡ numbers v.given ++ k ∷ []
+      → v.claimed ≡ numbers (v.given ++ (k, f) ∷ [])
+  gives_all v k f holds = holds ∙ sym (numbers-append v.given ((k, f) ∷ []))
+
+  -- a seat that has given k
+  pub sits_given : (slots : ℕ) (v : View W F) (hand : List (ℕ × Option (Group W F))) (spent : Bool) (made k : ℕ)
+      (f : F) → IsSitting slots v hand spent made
+      → v.claimed ≡ numbers v.given ++ k ∷ [] → IsSitting slots (giving v k f) [] spent made
+  sits_given slots v hand spent made k f sits holds = record {
+    seated = sits.seated;
+    alone = sits.alone;
+    spent_is = sits.spent_is;
+    made_is = sits.made_is;
+    hand_is = sym (idle_hand (giving v k f) (gives_all v k f holds));
+    within = sits.within;
+  }

@@ -1,0 +1,94 @@
+-- What follows from a board's history, and what stays of it in each step.
+use Rattle.std.proofs.Common.{◌≡◌, ◌≢◌, ℕ, suc, ◌<◌, ◌≤◌, min, Bool, true, false, cond, List, [], ◌∷◌, ◌++◌, length, set, sym, refl, ap, ◌∙◌, subst, ⊎_elim, arith, length-set}
+use mathlib.Core.Logic.{dite}
+use mathlib.Core.Option.{some}
+use mathlib.Core.List.{map-append}
+use native.Mathlib.Decide.{dec_le}
+use lib.ListN.{get_elem?}
+use Rattle.atomic_table.proofs.Lists.{at_set, at_map}
+use Rattle.apply_board.specs.declared.view.View.{View}
+use Rattle.apply_board.specs.Views.{numbers}
+use Rattle.apply_board.specs.Board.{total, times, Shared, drawn, claims_of, gifts_of, seats_of, IsSeat, BoardHistory}
+use Rattle.apply_board.proofs.Sums.{total-set, total_le_at, term_le, in_times, times-append}
+
+pub numbers-append : {F : Type 0} (a b : List (ℕ × F)) → numbers (a ++ b) ≡ numbers a ++ numbers b
+numbers-append {F} a b = map-append (λ (g : ℕ × F). g.0) a b
+
+module _ {W F : Type 0} (gives : W → F → Type 0) (works : List W) where
+  abbrev V : Type 0
+  V = View W F
+
+  abbrev S : Type 0
+  S = Shared W F
+
+  -- what a seat gave it had claimed
+  given_le : (s : S) (v : V) (k : ℕ) → IsSeat gives works s v → times k (numbers v.given) ≤ times k v.claimed
+  given_le s v k o = ⊎_elim (λ (e : v.claimed ≡ numbers v.given). let t = ap (times k) e in omega arith)
+      (λ t. let e = ap (times k) t.1 in omega (arith, times-append k (numbers v.given) (t.0 ∷ []))) o.given_is
+
+  gifts_le : (s : S) → BoardHistory gives works s → (k j : ℕ) (v : V) → get_elem? s.views j ≡ some v
+      → gifts_of k v ≤ claims_of k v
+  gifts_le s r k j v at = let by : (b : Bool) → v.seated ≡ b
+      → gifts_of k v ≤ claims_of k v = λ b. elim b as (λ c. v.seated ≡ c → gifts_of k v ≤ claims_of k v) [
+        | true ↦ λ e. omega (arith, given_le s v k (r.each_seat j v at e))
+        | false ↦ λ e. subst (λ (u : V). gifts_of k u ≤ claims_of k u) (sym (r.each_vacated j v at e)) (omega arith)
+      ] in by v.seated refl
+
+  pub gift_claimed : (s : S) (v : V) (i k : ℕ) (f : F) → IsSeat gives works s v
+      → get_elem? (v.given ++ v.gathered) i ≡ some (k, f) → 1 ≤ claims_of k v
+  gift_claimed s v i k f o e = let a : 1 ≤ times k (numbers (v.given ++ v.gathered)) = in_times
+      (numbers (v.given ++ v.gathered)) i k (at_map (λ (g : ℕ × F). g.0) (v.given ++ v.gathered) i (k, f) e) in
+      let b = ap (times k) (numbers-append v.given v.gathered) in
+      omega (arith, times-append k (numbers v.given) (numbers v.gathered), given_le s v k o)
+
+  pub at_most_one : (s : S) → BoardHistory gives works s → (k : ℕ) → total (claims_of k) s.views ≤ 1
+  at_most_one s r k = dite (dec_le (suc k) (min (drawn s) (length works)))
+      (λ below. omega (arith, r.claimed k (omega arith))) (λ past. omega (arith, r.unclaimed k (omega arith)))
+
+  -- what is claimed is below word 0, and a work
+  pub claimed_below : (s : S) → BoardHistory gives works s → (j : ℕ) (v : V) → get_elem? s.views j ≡ some v → (k : ℕ)
+      → 1 ≤ claims_of k v → (k < drawn s) × (k < length works)
+  claimed_below s r j v at k d = let t = term_le (claims_of k) s.views j v at in
+      dite (dec_le (suc k) (min (drawn s) (length works)))
+      (λ below. (omega arith, omega arith))
+      (λ past. let z = r.unclaimed k (omega arith) in absurd (omega arith))
+
+  -- a number that the seat v claimed and didn't give was given by nobody
+  pub none_given : (s : S) → BoardHistory gives works s → (j : ℕ) (v : V) → get_elem? s.views j ≡ some v → (k : ℕ)
+      → 1 ≤ claims_of k v → gifts_of k v ≡ 0 → total (gifts_of k) s.views ≡ 0
+  none_given s r j v at k held ungiven = let t = total_le_at (gifts_of k) (claims_of k) s.views j v at
+      (gifts_le s r k) in let m = at_most_one s r k in omega arith
+
+  -- a seat is as it was where a step leaves the slots of what it claimed
+  pub stays : (s s' : S) (v : V) → drawn s ≤ drawn s'
+      → ((k : ℕ) → 1 ≤ claims_of k v → get_elem? s'.homes k ≡ get_elem? s.homes k) → IsSeat gives works s v
+      → IsSeat gives works s' v
+  stays s s' v up same o = record {
+    keeps = o.keeps;
+    claimed_rises = o.claimed_rises;
+    given_is = o.given_is;
+    home = λ i k f e. same k (gift_claimed s v i k f o e) ∙ o.home i k f e;
+    fits = o.fits;
+    spent_late = λ e. let h = o.spent_late e in omega arith;
+  }
+
+  -- what holds of the view that a step changes, and of the others, holds of all
+  pub seats_stay : (K : ℕ → V → Type 0) (vs : List V) (me : ℕ) (w : V) → K me w
+      → ((j : ℕ) (d : V) → j ≢ me → get_elem? vs j ≡ some d → K j d) → (j : ℕ) (d : V)
+      → get_elem? (set vs me w) j ≡ some d → K j d
+  seats_stay K vs me w mine others j d e = ⊎_elim (λ (t : (j ≡ me) × (w ≡ d)). subst (λ (x : ℕ × V). K x.0 x.1)
+      (λ i. (sym t.0 i, t.1 i)) mine)
+      (λ (t : (j ≢ me) × (get_elem? vs j ≡ some d)). others j d t.0 t.1) (at_set vs me j w d e)
+
+  abbrev pub Counts : List V → ℕ → V → Type 0
+  Counts vs j v = 0 < v.made → (j ≡ 0) × (v.made ≡ length vs) × (v.unjoined ≡ total seats_of vs)
+
+  -- a step that makes no seat and takes none in leaves the counts
+  pub counts_stay : (s : S) → BoardHistory gives works s → (id : ℕ) (v w : V) → get_elem? s.views id ≡ some v
+      → w.made ≡ v.made → w.unjoined ≡ v.unjoined → w.seated ≡ v.seated
+      → (j : ℕ) (d : V) → get_elem? (set s.views id w) j ≡ some d → Counts (set s.views id w) j d
+  counts_stay s r id v w at made unjoined seated = let len = length-set s.views id w in
+      let t = total-set seats_of s.views id v w at in let e = ap (λ (b : Bool). cond {A = ℕ} b 1 0) seated in
+      seats_stay (Counts (set s.views id w)) s.views id w (λ p. let c = r.opener_counts id v at (omega arith) in
+      (c.0, omega arith, omega arith))
+      (λ j d _ at' p. let c = r.opener_counts j d at' p in (c.0, omega arith, omega arith))

@@ -1,0 +1,9 @@
+pub mod Sums
+pub mod Histories
+pub mod Claiming
+pub mod Giving
+pub mod Seating
+pub mod Filling
+pub mod Each
+pub mod Ends
+pub mod Hands

@@ -1,0 +1,189 @@
+-- A new seat, and one that is taken in, keep the board's history.
+use Rattle.std.proofs.Common.{◌≡◌, ◌≢◌, ◌⊎◌, ℕ, ◌+◌, ◌<◌, ◌≤◌, Bool, true, false, cond, ◌||◌, List, [], ◌∷◌, ◌++◌, length, set, sym, refl, ap, ◌∙◌, subst, ⊎_elim, inl, inr, arith, length-set, true≢false}
+use mathlib.Core.Option.{some, some-ne-none}
+use lib.ListN.{get_elem?}
+use Rattle.atomic_table.specs.Table.{Splits, Joins}
+use Rattle.atomic_table.proofs.Lists.{at_set, set_else, at_snoc}
+use Rattle.apply_board.specs.declared.view.View.{View}
+use Rattle.apply_board.specs.Views.{numbers, newcomer, seating, joined, vacated}
+use Rattle.apply_board.specs.Board.{total, times, Shared, claims_of, gifts_of, seats_of, marks_of, IsSeat, BoardHistory}
+use Rattle.apply_board.proofs.Sums.{bit_le, or_ge, or_cases, total-append, total-set, times-append, at_either, at_behind, at_front}
+use Rattle.apply_board.proofs.Histories.{numbers-append, seats_stay, Counts}
+
+module _ {W F : Type 0} (gives : W → F → Type 0) (works : List W) where
+  abbrev V : Type 0
+  V = View W F
+
+  abbrev S : Type 0
+  S = Shared W F
+
+  snoc_length : (vs : List V) (v : V) → length (vs ++ v ∷ []) ≡ length vs + 1
+  snoc_length [] v = refl
+  snoc_length (x ∷ xs) v = omega (arith, snoc_length xs v)
+
+  -- a seat knows no less where slots and words are as they were
+  pub same_slots : (s s' : S) (v : V) → s'.words ≡ s.words → s'.homes ≡ s.homes → IsSeat gives works s v
+      → IsSeat gives works s' v
+  same_slots s s' v words homes o = record {
+    keeps = o.keeps;
+    claimed_rises = o.claimed_rises;
+    given_is = o.given_is;
+    home = λ i k f e. ap (λ l. get_elem? l k) homes ∙ o.home i k f e;
+    fits = o.fits;
+    spent_late = λ e. let h = o.spent_late e in
+        let n = ap (λ (l : List ℕ). Rattle.std.proofs.Common.get_or l 0 0) words in omega arith;
+  }
+
+  -- a seat that has done nothing
+  fresh : (s : S) (v : V) → v.works ≡ works → IsSeat gives works s (newcomer v)
+  fresh s v same = record {
+    keeps = same;
+    claimed_rises = λ k l. absurd (omega arith);
+    given_is = inl refl;
+    home = λ i k f a. absurd (some-ne-none (k, f) (sym a));
+    fits = λ i k f w a. absurd (some-ne-none (k, f) (sym a));
+    spent_late = λ l. absurd (true≢false (sym l));
+  }
+
+  pub splits : (id : ℕ) (v : View W F) → 0 < v.made → v.made < 64 → v.seated ≡ true
+      → Splits (BoardHistory gives works) id v (seating v) (newcomer v)
+  splits id v opens room seated s r at =
+      let v' : V = seating v in
+      let u' : V = newcomer v in
+      let vs : List V = set s.views id v' in
+      let s' : S = record { words = s.words; homes = s.homes; views = vs ++ u' ∷ [] } in
+      let c = r.opener_counts id v at opens in
+      let len = length-set s.views id v' in
+      let longer : length s'.views ≡ length s.views + 1 = omega (arith, snoc_length vs u', len) in
+      let seats : total seats_of s'.views ≡ total seats_of s.views + 1 = omega
+      (arith, total-append seats_of vs (u' ∷ []), total-set seats_of s.views id v v' at) in
+      let same : (k : ℕ) → total (claims_of k) s'.views ≡ total (claims_of k) s.views = λ k. omega
+      (arith, total-append (claims_of k) vs (u' ∷ []), total-set (claims_of k) s.views id v v' at) in
+      let gifts : (k : ℕ) → total (gifts_of k) s'.views ≡ total (gifts_of k) s.views = λ k. omega
+      (arith, total-append (gifts_of k) vs (u' ∷ []), total-set (gifts_of k) s.views id v v' at) in
+      let marks : total marks_of s'.views ≡ total marks_of s.views = omega
+      (arith, total-append marks_of vs (u' ∷ []), total-set marks_of s.views id v v' at) in
+      let mine = r.each_seat id v at seated in
+      let first = c.0 in
+      record {
+        words_count = r.words_count;
+        slots_count = r.slots_count;
+        works_count = r.works_count;
+        claimed = λ k b. same k ∙ r.claimed k b;
+        unclaimed = λ k above. same k ∙ r.unclaimed k above;
+        words = λ k i. r.words k i ∙ sym (gifts k);
+        waits = r.waits;
+        marks = let b = r.marks in omega arith;
+        seats_at_most_64 = let m = c.1 in omega arith;
+        opener_counts = λ j d e. ⊎_elim
+            (λ e'. seats_stay gives works (Counts gives works s'.views) s.views id v' (λ _. let m = c.1 in
+            let o = c.2 in (first, omega arith, omega arith))
+            (λ i z n a p. let q = r.opener_counts i z a p in absurd (n (q.0 ∙ sym first))) j d e')
+            (λ (is : u' ≡ d). subst (λ (z : V). Counts gives works s'.views j z) is (λ p. absurd (omega arith)))
+            (at_snoc vs u' d j e);
+        each_seat = λ j d e. ⊎_elim
+            (λ e'. seats_stay gives works (λ _ z. z.seated ≡ true → IsSeat gives works s' z) s.views id v'
+            (λ _. record {
+              keeps = mine.keeps;
+              claimed_rises = mine.claimed_rises;
+              given_is = mine.given_is;
+              home = mine.home;
+              fits = mine.fits;
+              spent_late = mine.spent_late;
+            })
+            (λ i z _ a l. same_slots s s' z refl refl (r.each_seat i z a l)) j d e')
+            (λ (is : u' ≡ d). subst (λ (z : V). z.seated ≡ true → IsSeat gives works s' z) is
+            (λ _. fresh s' v mine.keeps)) (at_snoc vs u' d j e);
+        each_vacated = λ j d e. ⊎_elim
+            (λ e'. seats_stay gives works (λ _ z. z.seated ≡ false → z ≡ vacated) s.views id v'
+            (λ l. absurd (true≢false (sym seated ∙ l))) (λ i z _ a l. r.each_vacated i z a l) j d e')
+            (λ (is : u' ≡ d). subst (λ (z : V). z.seated ≡ false → z ≡ vacated) is (λ l. absurd (true≢false l)))
+            (at_snoc vs u' d j e);
+      }
+
+  -- what holds of a result that either seat gave, or gathered, holds of what the one knows behind it
+  either_gave : (v w : V) (i k : ℕ) (f : F) {X : Type 0} → get_elem? (v.given ++ (joined v w).gathered) i ≡ some (k, f)
+      → ((j : ℕ) → get_elem? (v.given ++ v.gathered) j ≡ some (k, f) → X)
+      → ((j : ℕ) → get_elem? (w.given ++ w.gathered) j ≡ some (k, f) → X) → X
+  either_gave v w i k f e left right = ⊎_elim (λ p. left p.0 (at_front v.given v.gathered (k, f) p.0 p.1))
+      (λ q. ⊎_elim (λ p. let y = at_behind v.given v.gathered (k, f) p.0 p.1 in left y.0 y.1) (λ p. right p.0 p.1)
+      (at_either v.gathered (w.given ++ w.gathered) (k, f) q.0 q.1))
+      (at_either v.given (joined v w).gathered (k, f) i e)
+
+  pub joins : (id : ℕ) (v : View W F) (other : ℕ) (w : View W F) → 0 < v.made → v.seated ≡ true → w.seated ≡ true
+      → w.claimed ≡ numbers w.given → Joins (BoardHistory gives works) id v other w (joined v w) vacated
+  joins id v other w opens seated seated' idle s r at apart at' =
+      let b : V = joined v w in
+      let vs : List V = set s.views id b in
+      let there : get_elem? s.views other ≡ some w = sym (set_else s.views id other b apart) ∙ at' in
+      let s' : S = record { words = s.words; homes = s.homes; views = set vs other vacated } in
+      let c = r.opener_counts id v at opens in
+      let first = c.0 in
+      let ov = r.each_seat id v at seated in
+      let ow = r.each_seat other w there seated' in
+      let len : length s'.views ≡ length s.views = omega (
+        arith,
+        length-set vs other vacated,
+        length-set s.views id b,
+      ) in
+      let here = ap (λ (x : Bool). cond {A = ℕ} x 1 0) seated in
+      let here' = ap (λ (x : Bool). cond {A = ℕ} x 1 0) seated' in
+      let seats : total seats_of s'.views + 1 ≡ total seats_of s.views = omega
+      (arith, total-set seats_of vs other w vacated at', total-set seats_of s.views id v b at) in
+      let sums : (k : ℕ) → times k (numbers b.gathered) ≡ times k (numbers v.gathered) +
+      (times k (numbers w.given) + times k (numbers w.gathered)) = λ k.
+      let n1 = ap (times k) (numbers-append v.gathered (w.given ++ w.gathered)) in
+      let n2 = ap (times k) (numbers-append w.given w.gathered) in
+      omega (
+        arith,
+        times-append k (numbers v.gathered) (numbers (w.given ++ w.gathered)),
+        times-append k (numbers w.given) (numbers w.gathered),
+      ) in
+      let same : (k : ℕ) → total (claims_of k) s'.views ≡ total (claims_of k) s.views = λ k.
+      let e = ap (times k) idle in let n = sums k in
+      omega (arith, total-set (claims_of k) vs other w vacated at', total-set (claims_of k) s.views id v b at) in
+      let gifts : (k : ℕ) → total (gifts_of k) s'.views ≡ total (gifts_of k) s.views = λ k.
+      let n = sums k in omega (
+        arith,
+        total-set (gifts_of k) vs other w vacated at',
+        total-set (gifts_of k) s.views id v b at,
+      ) in
+      let marks : total marks_of s.views ≤ total marks_of s'.views = omega (
+        arith,
+        total-set marks_of vs other w vacated at',
+        total-set marks_of s.views id v b at,
+        or_ge v.spent w.spent,
+        bit_le w.spent,
+      ) in
+      let two : (K : ℕ → V → Type 0) → K other vacated → K id b
+      → ((j : ℕ) (d : V) → j ≢ id → j ≢ other → get_elem? s.views j ≡ some d → K j d) → (j : ℕ) (d : V)
+      → get_elem? s'.views j ≡ some d → K j d =
+      λ K gone mine others. seats_stay gives works K vs other vacated gone
+      (λ j d n e. ⊎_elim (λ (t : (j ≡ id) × (b ≡ d)). subst (λ (x : ℕ × V). K x.0 x.1) (λ i. (sym t.0 i, t.1 i))
+      mine) (λ (t : (j ≢ id) × (get_elem? s.views j ≡ some d)). others j d t.0 n t.1)
+      (at_set s.views id j b d e)) in
+      record {
+        words_count = r.words_count;
+        slots_count = r.slots_count;
+        works_count = r.works_count;
+        claimed = λ k i. same k ∙ r.claimed k i;
+        unclaimed = λ k a. same k ∙ r.unclaimed k a;
+        words = λ k i. r.words k i ∙ sym (gifts k);
+        waits = r.waits;
+        marks = let x = r.marks in omega arith;
+        seats_at_most_64 = let f = r.seats_at_most_64 in omega arith;
+        opener_counts = two (Counts gives works s'.views) (λ p. absurd (omega arith)) (λ _. let m = c.1 in
+            let o = c.2 in (first, omega arith, omega arith))
+            (λ j d n _ a p. absurd (n ((r.opener_counts j d a p).0 ∙ sym first)));
+        each_seat = two (λ _ z. z.seated ≡ true → IsSeat gives works s' z) (λ e. absurd (true≢false (sym e)))
+            (λ _. record {
+              keeps = ov.keeps;
+              claimed_rises = ov.claimed_rises;
+              given_is = ov.given_is;
+              home = λ i k f e. either_gave v w i k f e (λ j. ov.home j k f) (λ j. ow.home j k f);
+              fits = λ i k f u e. either_gave v w i k f e (λ j. ov.fits j k f u) (λ j. ow.fits j k f u);
+              spent_late = λ e. ⊎_elim ov.spent_late ow.spent_late (or_cases v.spent w.spent e);
+            }) (λ j d _ _ a e. same_slots s s' d refl refl (r.each_seat j d a e));
+        each_vacated = two (λ _ z. z.seated ≡ false → z ≡ vacated) (λ _. refl)
+            (λ e. absurd (true≢false (sym seated ∙ e))) (λ j d _ _ a e. r.each_vacated j d a e);
+      }

@@ -1,0 +1,4 @@
+-- What only private contracts cite.
+pub mod Fields
+pub mod Steps
+pub mod Slots

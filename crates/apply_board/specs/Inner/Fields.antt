@@ -1,0 +1,41 @@
+-- How the fields of a seat and of a board hang together.
+use Rattle.std.specs.Prelude.{◌≡◌, ℕ, ◌+◌, ◌-◌, ◌<◌, ◌≤◌, ◌^◌, Bool, true, ◌||◌, List, [], ◌∷◌, ◌++◌, map, drop, length, slice_index, Option, None}
+use Rattle.apply_board.specs.declared.view.View.{View}
+use Rattle.apply_board.specs.declared.group.Group.{Group}
+use Rattle.apply_board.specs.Sitting.{BoardId, Sitting}
+
+module _ {W F : Type 0} where
+  -- the slots that a seat holds: those of the numbers that it claimed and didn't give, emptied
+  abbrev pub held_by : View W F → List (ℕ × Option (Group W F))
+  held_by v = map (λ k. (k, None)) (drop (length v.given) v.claimed)
+
+  -- a seat that was not taken in; the fields say what its view does
+  pub record IsSitting (slots : ℕ) (v : View W F) (hand : List (ℕ × Option (Group W F))) (spent : Bool)
+      (made : ℕ) : Type 0 where
+    pub seated : v.seated ≡ true
+    pub alone : v.gathered ≡ []
+    pub spent_is : v.spent ≡ spent
+    pub made_is : v.made ≡ made
+    pub hand_is : hand ≡ held_by v
+    pub within : (i : ℕ) → i < length v.claimed → slice_index v.claimed i < slots
+
+module _ {W F : Type 0} where
+  -- what the opener's seat v knows once this seat was taken in, which took in none itself
+  abbrev pub taking : View W F → Sitting W F → View W F
+  taking v seat = record v {
+    gathered = v.gathered ++ seat.view.given;
+    spent = v.spent || seat.view.spent;
+    unjoined = v.unjoined - 1;
+  }
+
+  -- and once these were, one after the other
+  abbrev pub gathering : View W F → List (Sitting W F) → View W F
+  gathering v [] = v
+  gathering v (seat ∷ seats) = gathering (taking v seat) seats
+
+-- there is a word more than slots, and room to list what lies in these
+pub record IsRoomy {A : Type 0} (board : BoardId) (groups : List A) (capacity : ℕ) : Type 0 where
+  pub empty : groups ≡ []
+  pub room : board.slots ≤ capacity
+  pub words_is : board.words ≡ board.slots + 1
+  pub few : board.slots < 2 ^ 63

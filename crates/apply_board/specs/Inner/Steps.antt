@@ -1,0 +1,35 @@
+-- What each step on the board's words tells the seat that makes it.
+use Rattle.std.specs.Prelude.{◌≡◌, ℕ, ◌<◌, ◌≤◌, [], ◌∷◌, length, slice_index, Option, Some}
+use mathlib.Core.Option.{some}
+use lib.ListN.{get_elem?}
+use Rattle.atomic_table.specs.Table.{Me, Step}
+use Rattle.apply_board.specs.declared.view.View.{View}
+use Rattle.apply_board.specs.declared.group.Group.{Group}
+use Rattle.apply_board.specs.declared.group.Group.TheVariants.{Home, Unclaimed}
+use Rattle.apply_board.specs.Views.{claiming, ending, giving}
+use Rattle.apply_board.specs.Board.{Moment}
+
+-- a seat's view, and the slots that it holds
+abbrev pub Holding : Type 0 → Type 0 → Type 0
+Holding W F = Me (Option (Group W F)) (View W F)
+
+module _ {W F : Type 0} where
+  -- the number drawn is a work's, and the seat holds its slot
+  pub record Takes (old : Holding W F) (k : ℕ) (new : Holding W F) : Type 0 where
+    pub work : W
+    pub opened : get_elem? old.0.works k ≡ some work
+    pub above : (i : ℕ) → i < length old.0.claimed → slice_index old.0.claimed i < k
+    pub new_is : new ≡ (claiming old.0 k, (k, Some (Unclaimed work)) ∷ old.1)
+
+  -- a claim draws a number and takes its work, or finds every number drawn
+  pub record Draws (gives : W → F → Type 0) (st : Step (Option (Group W F))) (old : Holding W F) (found : ℕ)
+      (new : Holding W F) : Type 0 where
+    pub takes : found < st.slots → Takes old found new
+    pub ends : st.slots ≤ found → new ≡ (ending old.0, old.1)
+    pub history : Moment gives new.0
+
+  -- the result in hand is home
+  pub record Gives (gives : W → F → Type 0) (st : Step (Option (Group W F))) (old : Holding W F)
+      (new : Holding W F) : Type 0 where
+    pub gone : (k : ℕ) (finished : F) → old.1 ≡ (k, Some (Home finished)) ∷ [] → new ≡ (giving old.0 k finished, [])
+    pub history : Moment gives new.0

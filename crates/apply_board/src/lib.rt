@@ -1,0 +1,29 @@
+//! Works in numbered places, for workers on threads: each claims the next number by one atomic addition, and
+//! gives the result back by one atomic store. No call takes a lock or waits for another.
+//!
+//! A worker has a seat. What the seat has claimed and given, and whether it has found every number claimed,
+//! stands in its view (`specs/Views.antt`); no code holds it. `specs/Board.antt` says what holds of the words, the
+//! slots and all seats' views of a board between any two steps: that no number is claimed twice, for one.
+//! `specs/Closing.antt` says what comes back in the end.
+//!
+//! ```text
+//! let (board, mut opener) = Board::open(alloc, works)?;
+//! let mut seat = board.seat(&mut opener)?;            // one more, for another thread
+//! while let Some((claim, work)) = board.claim(&mut seat) {
+//!     board.give(&mut seat, claim, done(work));
+//! }
+//! let groups = board.close(seats);                    // all seats, the opener's first
+//! ```
+#![tactic(auto)]
+
+mod board;
+mod group;
+mod life;
+mod plays;
+mod seat;
+mod view;
+
+pub use board::Claim;
+pub use group::{Group, Yields};
+pub use seat::{Board, Seat};
+pub use view::View;

@@ -1,0 +1,125 @@
+//! How a board is opened and closed.
+ghost use Rattle.std.specs.Prelude.{◌≡◌, ◌<◌, ◌≤◌, [], true, map, length, IfOk, All, Some};
+ghost use Rattle.std.specs.Vec.{vec_capacity};
+ghost use Rattle.std.specs.Mem.Slots.{slots_items, slots_len, IsFull};
+ghost use Rattle.apply_board.specs.declared.group.Group.TheVariants.{Unclaimed};
+ghost use Rattle.apply_board.specs.Views.{opener};
+ghost use Rattle.apply_board.specs.Board.{Moment};
+ghost use Rattle.apply_board.specs.Seats.{IsIdle, AreAll, all_given, any_spent, works_of};
+ghost use Rattle.apply_board.specs.Closing.{IsSettled};
+ghost use Rattle.apply_board.specs.Inner.Fields.{gathering};
+ghost use Rattle.apply_board.specs.Inner.Slots.{AreFull};
+
+use crate::group::{Group, Yields};
+use crate::plays::Gather;
+use crate::seat::{Board, Seat};
+use crate::view::View;
+use atomic_table::{Closed, Refused, Table};
+use std::alloc::Global;
+use std::snapshot::Snapshot;
+use values::NoMemory;
+
+// What lies in the slots at first.
+fn laid<W: Drop, F: Drop>(
+    alloc: Global,
+    mut works: Vec<W>,
+) -> Result<Vec<Option<Group<W, F>>>, NoMemory>
+    ensures { IfOk result (λ v. v.items ≡ map (λ w. Some (Unclaimed w)) works.items) }
+{
+    let mut slots = Vec::with_capacity(alloc, works.len())?;
+    works.reverse();
+    while let Some(work) = works.pop() {
+        slots.push_reserved(Some(Group::Unclaimed(work)));
+    }
+    Ok(slots)
+}
+
+// What lies in the slots, in order.
+fn emptied<W: Drop, F: Drop>(
+    mut closed: Closed<Option<Group<W, F>>, Global>,
+    mut groups: Vec<Group<W, F>>,
+) -> Vec<Group<W, F>>
+    requires filled { IsFull closed.slots }
+    requires count { length (slots_items closed.slots) ≡ slots_len closed.slots }
+    requires full { AreFull (slots_items closed.slots) }
+    requires empty { groups.items ≡ [] }
+    requires room { slots_len closed.slots ≤ vec_capacity groups }
+    ensures { map Some result.items ≡ slots_items closed.slots }
+{
+    let mut next = 0;
+    while next < closed.slot_count() {
+        let Some(group) = closed.take(next) else {
+            unreachable!()
+        };
+        groups.push_reserved(group);
+        next += 1;
+    }
+    closed.free();
+    groups
+}
+
+impl<W: Yields<F> + Drop, F: Drop> Board<W, F> {
+    /// A board with these works, each under its place in the list, and the opener's seat. It makes the room for all
+    /// that the other calls need; `NoMemory` where that isn't to be had, and the works are dropped.
+    pub fn open(alloc: Global, works: Vec<W>) -> Result<(Board<W, F>, Seat<W, F>), NoMemory>
+        ensures own { IfOk result (λ b. b.1.board ≡ b.0) }
+        ensures opener { IfOk result (λ b. b.1.view ≡ opener works.items) }
+        ensures history { IfOk result (λ b. Moment W.gives b.1.view) }
+    {
+        let count = works.len();
+        let opened = Snapshot::of(&works);
+        let words = Vec::from_elem(alloc, 0u64, count + 1)?;
+        let groups = Vec::with_capacity(alloc, count)?;
+        let slots = laid(alloc, works)?;
+        match Table::new(alloc, words.as_slice(), slots, &opened) {
+            Ok((table, place)) => Ok((
+                Board { table, groups },
+                Seat {
+                    place,
+                    spent: false,
+                    made: 1,
+                },
+            )),
+            Err(Refused { slots: _ }) => Err(NoMemory),
+        }
+    }
+
+    // Takes the others into the opener's seat.
+    fn gather(
+        &self,
+        place: &mut atomic_table::Seat<Option<Group<W, F>>, View<W, F>>,
+        mut others: Vec<Seat<W, F>>,
+    )
+        requires own { place.old.table_id ≡ self.now }
+        requires opener { (0 < place.old.me.0.made) × (place.old.me.0.seated ≡ true) }
+        requires others { All (λ s. (s.board ≡ self.now) × IsIdle s) others.items }
+        ensures own { (place.new.table_id ≡ place.old.table_id) × (place.new.id ≡ place.old.id) }
+        ensures view { place.new.me ≡ (gathering place.old.me.0 others.items, place.old.me.1) }
+    {
+        others.reverse();
+        while let Some(other) = others.pop() {
+            let Seat {
+                place: from,
+                spent: _,
+                made: _,
+            } = other;
+            self.table.shared.join_seat::<Gather>(place, from);
+        }
+    }
+
+    /// Each group once, by number: the result where one was given, and else the work as it was opened.
+    pub fn close(self, mut seats: Vec<Seat<W, F>>) -> Vec<Group<W, F>>
+        requires { AreAll self seats.items }
+        ensures { IsSettled W.gives (works_of seats.items) (all_given seats.items) (any_spent seats.items)
+            result.items }
+    {
+        let Seat {
+            mut place,
+            spent: _,
+            made: _,
+        } = seats.remove(0);
+        self.gather(&mut place, seats);
+        let Board { table, groups } = self;
+        emptied(table.close_with(place), groups)
+    }
+}

@@ -1,0 +1,94 @@
+//! Works on threads.
+ghost use Rattle.std.specs.Prelude.{◌≡◌, ◌<◌, IfOk, All, map, length};
+ghost use Rattle.apply_board.specs.Seats.{IsIdle, IsOpener};
+ghost use Rattle.apply_board.specs.Closing.{AreHome};
+ghost use Rattle.apply_workers.specs.Working.{Worked};
+ghost use Rattle.apply_workers.specs.Inner.{AreReady, AreWorked};
+
+use crate::gate::Gate;
+use crate::job::{Job, work};
+use apply_board::{Board, Group, Seat, Yields};
+use std::alloc::Global;
+use std::thread;
+use std::thread::Threads;
+use values::NoMemory;
+
+// A worker with its number.
+#[derive(Drop)]
+struct Worker<W, F> {
+    number: usize,
+    seat: Seat<W, F>,
+}
+
+// Up to so many workers, one a seat: the opener's first, and it has number 0.
+fn seated<W: Yields<F> + Drop, F: Drop>(
+    alloc: Global,
+    board: &Board<W, F>,
+    mut opener: Seat<W, F>,
+    workers: usize,
+) -> Result<Vec<Worker<W, F>>, NoMemory>
+    requires own { opener.board ≡ board.now }
+    requires opener { IsOpener opener × (opener.view.unjoined ≡ 1) × IsIdle opener }
+    requires workers { 0 < workers }
+    ensures { IfOk result (λ v. AreReady board.now opener.view.works (map (λ w. w.seat) v.items)) }
+{
+    let mut crew = Vec::with_capacity(alloc, workers)?;
+    while crew.len() + 1 < workers {
+        let Some(seat) = board.seat(&mut opener) else {
+            break;
+        };
+        let number = crew.len() + 1;
+        crew.push_reserved(Worker { number, seat });
+    }
+    crew.push_reserved(Worker {
+        number: 0,
+        seat: opener,
+    });
+    crew.reverse();
+    Ok(crew)
+}
+
+// Each worker's seat, when all works are claimed.
+fn worked<W: Job<F> + Drop + Send + Sync, F: Drop + Send + Sync, G: Gate + Sync, R: Threads + Sync>(
+    rt: &R,
+    board: &Board<W, F>,
+    crew: Vec<Worker<W, F>>,
+    gate: &G,
+) -> Result<Vec<Seat<W, F>>, NoMemory>
+    requires { All (λ w. (w.seat.board ≡ board.now) × IsIdle w.seat) crew.items }
+    ensures { IfOk result (λ v. AreWorked (map (λ w. w.seat) crew.items) v.items) }
+{
+    let seats = thread::map_vec(
+        rt,
+        crew,
+        &|worker: Worker<W, F>| -> Seat<W, F>
+            requires { (worker.seat.board ≡ board.now) × IsIdle worker.seat }
+            ensures { Worked worker.seat result }
+        { work(board, worker.seat, worker.number, gate) },
+    )?;
+    Ok(seats)
+}
+
+/// The results of the works, in order, each done once by one of up to so many workers. The first worker is the calling
+/// thread; where a thread can't be started, fewer work.
+pub fn run<
+    W: Job<F> + Drop + Send + Sync,
+    F: Drop + Send + Sync,
+    G: Gate + Sync,
+    R: Threads + Sync,
+>(
+    rt: &R,
+    alloc: Global,
+    works: Vec<W>,
+    workers: usize,
+    gate: &G,
+) -> Result<Vec<Group<W, F>>, NoMemory>
+    requires { 0 < workers }
+    ensures count { IfOk result (λ v. length v.items ≡ length works.items) }
+    ensures home { IfOk result (λ v. AreHome W.gives works.items v.items) }
+{
+    let (board, opener) = Board::open(alloc, works)?;
+    let crew = seated(alloc, &board, opener, workers)?;
+    let seats = worked(rt, &board, crew, gate)?;
+    Ok(board.close(seats))
+}
