@@ -1,0 +1,21 @@
+//! Tests of `snapshot_codec`. They stand apart, since a crate with tests is proved twice.
+#![tactic(auto)]
+
+#[cfg(test)]
+mod image_rows;
+#[cfg(test)]
+mod part_rows;
+#[cfg(test)]
+mod pieces;
+
+use std::alloc::Global;
+use values::NoMemory;
+
+/// The bytes of the pieces, one behind the other.
+pub fn joined(alloc: Global, pieces: &[&[u8]]) -> Result<Vec<u8>, NoMemory> {
+    let mut bytes = Vec::new(alloc);
+    for piece in pieces {
+        bytes.extend_from_slice(piece)?;
+    }
+    Ok(bytes)
+}

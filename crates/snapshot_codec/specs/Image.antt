@@ -1,0 +1,154 @@
+-- Which bytes are an image of which state.
+use Rattle.std.specs.Prelude.{◌≡◌, ℕ, ℤ, negsuc, Bool, true, false, not, ◌&&◌, List, [], ◌∷◌, ◌++◌, Option, Some, None, is_some, Result, Ok, ◌⊎◌, if◌then◌else◌}
+use Rattle.std.specs.FinMap as finmap
+use Rattle.std.specs.FinMap.{find}
+use Rattle.std.specs.FinSet as set
+use Rattle.std.specs.List.{list_any, flat_map}
+use Rattle.std.specs.Ordering.{eq_by_cmp, int_cmp, int_eq}
+use Rattle.values.specs.declared.fault.Fault.{Fault}
+use Rattle.values.specs.declared.fault.Fault.TheVariants.{BadImage}
+use Rattle.ephemerals.specs.Orders.{Bytes, path_cmp}
+use Rattle.jute.specs.Codes.{open_acl}
+use Rattle.jute.specs.Format.{Format, ◌>>=◌, Behind}
+use Rattle.jute.specs.Loading.{load_from, EndsOnce, NoneIsLast}
+use Rattle.jute.specs.Relation.{Stand}
+use Rattle.jute.specs.declared.owned.Acl.{Acl}
+use Rattle.txn_codec.specs.Paths.{is_root, parent_of, name_of}
+use Rattle.txn_codec.specs.Acls.{acl_or_open}
+use Rattle.data_tree.specs.State.{State}
+use Rattle.data_tree.specs.Whole.{AreOwned}
+use Rattle.data_tree.specs.declared.node.Node.{Node}
+use Rattle.snapshot_codec.specs.Made.{nothing, image_load}
+use Rattle.snapshot_codec.specs.Parts.{Value, Part, parts, part_format}
+use Rattle.snapshot_codec.specs.declared.part.ImageNode.{ImageNode}
+use Rattle.snapshot_codec.specs.declared.part.ImagePart.{ImagePart}
+use Rattle.snapshot_codec.specs.declared.part.ImagePart.TheVariants as part
+use Rattle.snapshot_codec.specs.declared.part.PartPhase.{PartPhase}
+use Rattle.snapshot_codec.specs.declared.part.PartPhase.TheVariants.{SessionCount}
+
+-- ---- sessions, ACL lists and nodes among the parts
+
+abbrev pub Sessions : Type 0
+Sessions = List (ℤ × ℤ)
+
+abbrev pub Lists : Type 0
+Lists = List (ℤ × List Acl)
+
+abbrev pub Rows : Type 0
+Rows = List (Bytes × ImageNode)
+
+abbrev pub parts_in : Value → List ImagePart
+parts_in (Part p) = p ∷ []
+parts_in v = []
+
+abbrev pub sessions_in : ImagePart → Sessions
+sessions_in (part.Session s) = (s.id, s.timeout) ∷ []
+sessions_in p = []
+
+-- null stands for the open list
+abbrev pub lists_in : ImagePart → Lists
+lists_in (part.Acl a) = (a.key, acl_or_open a.list) ∷ []
+lists_in p = []
+
+abbrev pub rows_in : ImagePart → Rows
+rows_in (part.Node n) = (n.path, n) ∷ []
+rows_in p = []
+
+-- the first entry that has the key; -1 names the open list, and no entry's
+abbrev pub list_named : Lists → ℤ → Option (List Acl)
+list_named lists key = if int_eq key (negsuc 0) then Some open_acl else find int_cmp key lists
+
+-- ---- their order
+
+-- the root is the first node; any other path is new, and its parent stands before it
+abbrev pub HasPlace : Bool → Rows → Bytes → Type 0
+HasPlace true rows path = rows ≡ []
+HasPlace false rows path = (find path_cmp path rows ≡ None) × (is_some (find path_cmp (parent_of path) rows) ≡ true)
+
+-- a part goes with those before it
+abbrev pub Goes : Sessions → Lists → Rows → ImagePart → Type 0
+Goes sessions lists rows (part.Session s) = find int_cmp s.id sessions ≡ None
+Goes sessions lists rows (part.Acl a) = find int_cmp a.key lists ≡ None
+Goes sessions lists rows (part.Node n) =
+    HasPlace (is_root n.path) rows n.path × (is_some (list_named lists n.acl) ≡ true)
+Goes sessions lists rows part.End = Unit {0}
+
+abbrev pub GoesBehind : List ImagePart → ImagePart → Type 0
+GoesBehind front p = Goes (flat_map sessions_in front) (flat_map lists_in front) (flat_map rows_in front) p
+
+-- each goes with the front and those of its own list before it
+abbrev pub EachGoesBehind : List ImagePart → List ImagePart → Type 0
+EachGoesBehind front [] = Unit {0}
+EachGoesBehind front (p ∷ ps) = GoesBehind front p × EachGoesBehind (front ++ p ∷ []) ps
+
+-- ---- the state that they make
+
+-- whether a path is that of the child with the name
+abbrev pub is_child : Bytes → Bytes → Bytes × ImageNode → Bool
+is_child path name row =
+    not (is_root row.0) && (eq_by_cmp path_cmp path (parent_of row.0) && eq_by_cmp path_cmp name (name_of row.0))
+
+-- the node has what stands behind its path, the list that its key names, and the names of the paths below it
+pub record IsNodeOf (lists : Lists) (rows : Rows) (path : Bytes) (row : ImageNode) (node : Node) : Type 0 where
+  pub bytes : node.bytes ≡ row.bytes
+  pub stat : node.stat ≡ row.stat
+  pub acl : list_named lists row.acl ≡ Some node.acl
+  pub children : (name : Bytes) → set.contains node.children name ≡ list_any (is_child path name) rows
+
+-- there is a node exactly where a path stands
+abbrev pub AreAt : Lists → Rows → Bytes → Option ImageNode → Option Node → Type 0
+AreAt lists rows path None None = Unit {0}
+AreAt lists rows path (Some row) (Some node) = IsNodeOf lists rows path row node
+AreAt lists rows path row found = ⊥
+
+pub record IsMadeOf (s : State) (sessions : Sessions) (lists : Lists) (rows : Rows) : Type 0 where
+  pub timeouts : (id : ℤ) → finmap.get s.sessions id ≡ find int_cmp id sessions
+  pub nodes : (path : Bytes) → AreAt lists rows path (find path_cmp path rows) (finmap.get s.nodes path)
+  -- each node with an owner gives the pair of the owner and the path
+  pub owners : AreOwned s.nodes s.pairs
+
+abbrev pub IsMadeOfParts : State → List ImagePart → Type 0
+IsMadeOfParts s ps = IsMadeOf s (flat_map sessions_in ps) (flat_map lists_in ps) (flat_map rows_in ps)
+
+-- ---- the image
+
+-- values stand there, from the first count to the end; their parts go with one another, and the state is made of them
+pub record SpellsImage (s : State) (text : List ℕ) : Type 0 where
+  pub found : List Value
+  pub end : PartPhase
+  pub stand : Stand parts found SessionCount text end []
+  pub ends : EndsOnce image_load found
+  pub order : EachGoesBehind [] (flat_map parts_in found)
+  pub made : IsMadeOfParts s (flat_map parts_in found)
+
+-- a part that doesn't go with those before it
+abbrev pub IsOut : List ImagePart → Value → Type 0
+IsOut front (Part p) = ¬ GoesBehind front p
+IsOut front v = ⊥
+
+-- What stands at the front is as it should be, and isn't the end. The next field is against its spelling; or a whole
+-- part stands there, and doesn't go with those before it.
+pub record AgainstImage (e : Fault) (bytes : List ℕ) : Type 0 where
+  pub found : List Value
+  pub end : PartPhase
+  pub rest : List ℕ
+  pub stand : Stand parts found SessionCount bytes end rest
+  pub none_last : NoneIsLast image_load found
+  pub order : EachGoesBehind [] (flat_map parts_in found)
+  pub next : (part_format end).against e rest
+      ⊎ ((e ≡ BadImage) × Behind (part_format end) (λ v behind. IsOut (flat_map parts_in found) v) rest)
+
+-- the loading of its parts
+unfoldable pub image_read : List ℕ → Result (State × List ℕ) Fault
+image_read bytes = load_from image_load SessionCount nothing bytes >>= λ x. Ok (x.0.state, x.1)
+
+-- how images are read; none is written here
+abbrev pub image : Format State
+image = record {
+  Spells = SpellsImage;
+  written = λ s. [];
+  Fits = λ s. ⊥;
+  Writable = λ s. ⊥;
+  read = image_read;
+  against = AgainstImage;
+}

@@ -1,0 +1,5 @@
+pub mod Parts
+pub mod AclLists
+pub mod Made
+pub mod Image
+pub mod Reads

@@ -1,0 +1,163 @@
+-- An image in parts: the count of its sessions, and the sessions; the count of its ACL lists, and the lists with their
+-- keys; the nodes, each a path and what stands behind it, until the path "/"; and the signature. A phase has one format.
+-- It keeps what it needs of a part that has begun: how many are left, and the path of a node.
+use Rattle.std.specs.Prelude.{◌≡◌, ℕ, ℤ, Bool, true, false, List, [], ◌∷◌, Option, Some, None, Result, Ok, Err, if◌then◌else◌, ◌==◌, ◌-◌, codes}
+use Rattle.std.specs.Str.{bytes_eq}
+use Rattle.values.specs.declared.fault.Fault.{Fault}
+use Rattle.values.specs.declared.fault.Fault.TheVariants.{BadLength, BadPath, BadImage}
+use Rattle.jute.specs.Format.{Format, ◌>>=◌, int, long, count, count_limit, buffer, text, vector, both, judged, case_of}
+use Rattle.jute.specs.Owned.{acl}
+use Rattle.jute.specs.Records.{stat_persisted}
+use Rattle.jute.specs.Stream.{values, Phased}
+use Rattle.jute.specs.declared.owned.Acl.{Acl}
+use Rattle.jute.specs.declared.stat.StatPersisted.{StatPersisted}
+use Rattle.txn_codec.specs.Paths.{is_root, path_of}
+use Rattle.snapshot_codec.specs.declared.part.ImagePart.{ImagePart}
+use Rattle.snapshot_codec.specs.declared.part.ImagePart.TheVariants as part
+use Rattle.snapshot_codec.specs.declared.part.PartPhase.{PartPhase}
+use Rattle.snapshot_codec.specs.declared.part.PartPhase.TheVariants.{SessionCount, Sessions, AclCount, Acls, Root, Nodes, Body, Signature}
+
+-- what stands in an image: a part, or what only moves the phase on
+pub data Value : Type 0 where
+  Count : (n : ℕ) → Value
+  Path : (path : List ℕ) → Value
+  -- the path "/" behind the last node
+  Close : Value
+  Part : (part : ImagePart) → Value
+
+-- what is shown: parts alone
+abbrev pub part_in : Value → Option ImagePart
+part_in (Part p) = Some p
+part_in v = None
+
+abbrev pub is_end : Value → Bool
+is_end (Part part.End) = true
+is_end v = false
+
+-- ---- what the fields stand for
+
+-- there is no null count
+abbrev pub count_of : Option ℕ → Result Value Fault
+count_of None = Err BadLength
+count_of (Some n) = Ok (Count n)
+
+abbrev pub session_of : ℤ × ℤ → Value
+session_of s = Part (part.Session (record { id = s.0; timeout = s.1 }))
+
+abbrev pub acl_of : ℤ × Option (List Acl) → Value
+acl_of a = Part (part.Acl (record { key = a.0; list = a.1 }))
+
+abbrev pub path_text : List ℕ → Result Value Fault
+path_text text = path_of text >>= λ path. Ok (Path path)
+
+abbrev pub slash : List ℕ
+slash = codes "/"
+
+-- The first path is empty, and the root's. "/" would end the nodes before there is one; any other path is refused with
+-- its node, which has no parent.
+abbrev pub root_text : List ℕ → Result Value Fault
+root_text [] = Ok (Path slash)
+root_text (b ∷ bytes) = if is_root (b ∷ bytes) then Err BadImage else path_text (b ∷ bytes)
+
+abbrev pub root_of : Option (List ℕ) → Result Value Fault
+root_of None = Err BadPath
+root_of (Some path) = root_text path
+
+abbrev pub next_of : Option (List ℕ) → Result Value Fault
+next_of None = Err BadPath
+next_of (Some path) = if is_root path then Ok Close else path_text path
+
+abbrev pub node_of : List ℕ → Option (List ℕ) × (ℤ × StatPersisted) → Value
+node_of path n = Part (part.Node (record { path = path; bytes = n.0; acl = n.1.0; stat = n.1.1 }))
+
+abbrev pub signature : List ℕ
+signature = codes "BenWasHere"
+
+abbrev pub signature_of : Option (List ℕ) → Result Value Fault
+signature_of None = Err BadImage
+signature_of (Some text) = if bytes_eq text signature then Ok (Part part.End) else Err BadImage
+
+-- ---- and back
+
+abbrev pub count_back : Value → Option (Option ℕ)
+count_back (Count n) = Some (Some n)
+count_back v = None
+
+abbrev pub session_back : Value → Option (ℤ × ℤ)
+session_back (Part (part.Session s)) = Some (s.id, s.timeout)
+session_back v = None
+
+abbrev pub acl_back : Value → Option (ℤ × Option (List Acl))
+acl_back (Part (part.Acl a)) = Some (a.key, a.list)
+acl_back v = None
+
+abbrev pub root_back : Value → Option (Option (List ℕ))
+root_back (Path path) = Some (Some (if is_root path then [] else path))
+root_back v = None
+
+abbrev pub next_back : Value → Option (Option (List ℕ))
+next_back (Path path) = Some (Some path)
+next_back Close = Some (Some slash)
+next_back v = None
+
+abbrev pub node_back : Value → Option (Option (List ℕ) × (ℤ × StatPersisted))
+node_back (Part (part.Node n)) = Some (n.bytes, (n.acl, n.stat))
+node_back v = None
+
+abbrev pub signature_back : Value → Option (Option (List ℕ))
+signature_back (Part part.End) = Some (Some signature)
+signature_back v = None
+
+-- ---- the phases
+
+abbrev pub counted_parts : Format Value
+counted_parts = judged count_of count_back (count count_limit)
+
+-- what stands behind the path of a node: its bytes, the key of its list, and its numbers
+abbrev pub node_body : Format (Option (List ℕ) × (ℤ × StatPersisted))
+node_body = both buffer (both long stat_persisted)
+
+abbrev pub part_format : PartPhase → Format Value
+part_format SessionCount = counted_parts
+part_format (Sessions n) = case_of session_of session_back (both long int)
+part_format AclCount = counted_parts
+part_format (Acls n) = case_of acl_of acl_back (both long (vector acl))
+part_format Root = judged root_of root_back text
+part_format Nodes = judged next_of next_back text
+part_format (Body path) = case_of (node_of path) node_back node_body
+part_format Signature = judged signature_of signature_back text
+
+abbrev pub sessions_from : ℕ → PartPhase
+sessions_from n = if n == 0 then AclCount else Sessions n
+
+abbrev pub acls_from : ℕ → PartPhase
+acls_from n = if n == 0 then Root else Acls n
+
+abbrev pub after_count : PartPhase → ℕ → PartPhase
+after_count AclCount n = acls_from n
+after_count phase n = sessions_from n
+
+abbrev pub after_session : PartPhase → PartPhase
+after_session (Sessions n) = sessions_from (n - 1)
+after_session phase = AclCount
+
+abbrev pub after_acl : PartPhase → PartPhase
+after_acl (Acls n) = acls_from (n - 1)
+after_acl phase = Root
+
+abbrev pub part_after : PartPhase → Value → PartPhase
+part_after phase (Count n) = after_count phase n
+part_after phase (Path path) = Body path
+part_after phase Close = Signature
+part_after phase (Part (part.Session s)) = after_session phase
+part_after phase (Part (part.Acl a)) = after_acl phase
+part_after phase (Part (part.Node n)) = Nodes
+part_after phase (Part part.End) = SessionCount
+
+-- images, one behind another, in parts
+abbrev pub parts : Phased PartPhase Value
+parts = record { reading = λ phase. values (part_format phase); after = part_after }
+
+-- a node has begun
+abbrev pub IsBody : PartPhase → Type 0
+IsBody phase = (path : List ℕ) × (phase ≡ Body path)

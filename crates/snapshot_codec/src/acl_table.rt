@@ -1,0 +1,88 @@
+//! ACL lists by their keys.
+
+ghost use Rattle.std.specs.Prelude.{◌≡◌, OnOk, OnErr, IfOk, is_some};
+ghost use Rattle.std.specs.FinMap as finmap;
+ghost use Rattle.std.specs.Option.{option_copied};
+ghost use Rattle.snapshot_codec.specs.Made.{list_of};
+
+use jute::Acl;
+use jute::codes::open_list;
+use std::alloc::Global;
+use std::collections::BTreeMap;
+use std::marker::Model;
+use txn_codec::AclList;
+use values::NoMemory;
+
+/// The key of the open list, which every image has.
+const OPEN_KEY: i64 = -1;
+
+/// The ACL lists that nodes may name.
+#[derive(Drop)]
+pub struct AclTable {
+    map: BTreeMap<i64, AclList>,
+}
+
+impl Model for AclTable {
+    ghost use Rattle.std.specs.FinMap as finmap;
+    ghost use Rattle.jute.specs.contracts.owned.Acl as acl;
+    ghost use Rattle.snapshot_codec.specs.AclLists.{AclLists, lists_code};
+
+    ghost Value = { AclLists };
+
+    ghost coded = { lists_code acl.the_row.coded };
+
+    ghost view = { λ t. finmap.from_entries t.map.entries };
+}
+
+fn copy(list: &AclList) -> Result<AclList, NoMemory>
+    ensures { IfOk result (λ copy. copy ≡ list.now) }
+{
+    Ok(list.clone()?)
+}
+
+impl AclTable {
+    /// No list but the open one, which takes no memory.
+    pub fn new(alloc: Global) -> AclTable
+        ensures { result ≡ finmap.empty }
+    {
+        AclTable {
+            map: BTreeMap::new(alloc),
+        }
+    }
+
+    // The list of the entry with the key.
+    fn get(&self, key: i64) -> Option<&AclList>
+        ensures { option_copied result ≡ finmap.get self.now key }
+    {
+        self.map.get(&key)
+    }
+
+    /// Whether there is an entry with the key.
+    pub fn contains(&self, key: i64) -> bool
+        ensures { result ≡ is_some (finmap.get self.now key) }
+    {
+        self.get(key).is_some()
+    }
+
+    /// Adds an entry in place of another one with the key. Refused, it leaves the table as it was.
+    pub fn insert(&mut self, key: i64, list: AclList) -> Result<(), NoMemory>
+        ensures ok { OnOk result (self.new ≡ finmap.insert self.old key list) }
+        ensures err { OnErr result (self.new ≡ self.old) }
+    {
+        self.map.insert(key, list)?;
+        Ok(())
+    }
+
+    /// A copy of the list that the key names, if it names one.
+    pub fn list(&self, key: i64) -> Result<Option<AclList>, NoMemory>
+        ensures { IfOk result (λ list. list ≡ list_of self.now key) }
+    {
+        if key == OPEN_KEY {
+            return Ok(Some(AclList::open()));
+        }
+        match self.get(key) {
+            None => Ok(None),
+            Some(list) => Ok(Some(copy(list)?)),
+        }
+    }
+}

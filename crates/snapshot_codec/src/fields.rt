@@ -1,0 +1,170 @@
+//! What stands in each phase of an image.
+
+ghost use Rattle.std.specs.Prelude.{◌≡◌};
+ghost use Rattle.jute.specs.Reads.{Gives};
+ghost use Rattle.snapshot_codec.specs.Parts.{Count, Path as PathValue, Part, node_body, part_format, sessions_from, acls_from};
+ghost use Rattle.snapshot_codec.specs.Reads.{path_or_close};
+ghost use Rattle.snapshot_codec.specs.declared.part.ImagePart.TheVariants as part;
+ghost use Rattle.snapshot_codec.specs.declared.part.PartPhase.TheVariants.{SessionCount, Sessions, Acls, Root, Nodes, Signature};
+
+use crate::part::{ImageAcl, ImageNode, ImageSession, PartPhase};
+use jute::{ReadRecord, Reader, StatPersisted, read_vector};
+use std::alloc::Global;
+use txn_codec::Path;
+use values::{Blob, Fault, ReadError};
+
+/// The text that ends an image.
+const SIGNATURE: &str = "BenWasHere";
+
+/// Reads how many sessions or ACL lists follow; null is `BadLength`.
+#[tactic(auto, unfolding(jute::specs::Format::judged_at))]
+pub fn read_count(reader: &mut Reader<'_>) -> Result<u32, ReadError>
+    ensures { Gives (part_format SessionCount).read (λ n. Count n) result reader.old reader.new }
+{
+    let mut ahead = reader.ahead();
+    match ahead.read_count()? {
+        None => Err(ReadError::Fault(Fault::BadLength)),
+        Some(count) => {
+            *reader = ahead;
+            Ok(count)
+        }
+    }
+}
+
+/// Reads a session.
+#[tactic(auto, unfolding(jute::specs::Format::judged_at))]
+pub fn read_session(reader: &mut Reader<'_>) -> Result<ImageSession, ReadError>
+    ensures { Gives (part_format (Sessions 0)).read (λ s. Part (part.Session s)) result reader.old reader.new }
+{
+    let mut ahead = reader.ahead();
+    let id = ahead.read_long()?;
+    let timeout = ahead.read_int()?;
+    *reader = ahead;
+    Ok(ImageSession { id, timeout })
+}
+
+/// Reads an ACL list and its key.
+#[tactic(auto, unfolding(jute::specs::Format::judged_at))]
+pub fn read_acl(alloc: Global, reader: &mut Reader<'_>) -> Result<ImageAcl, ReadError>
+    ensures { Gives (part_format (Acls 0)).read (λ a. Part (part.Acl a)) result reader.old reader.new }
+{
+    let mut ahead = reader.ahead();
+    let key = ahead.read_long()?;
+    let list = read_vector(alloc, &mut ahead)?;
+    *reader = ahead;
+    Ok(ImageAcl { key, list })
+}
+
+/// Reads the path of the first node, which is empty. A null one is `BadPath`, "/" is `BadImage`.
+#[tactic(auto, unfolding(jute::specs::Format::judged_at))]
+pub fn read_root(alloc: Global, reader: &mut Reader<'_>) -> Result<Path, ReadError>
+    ensures { Gives (part_format Root).read (λ p. PathValue p) result reader.old reader.new }
+{
+    let mut ahead = reader.ahead();
+    let Some(text) = ahead.read_string()? else {
+        return Err(ReadError::Fault(Fault::BadPath));
+    };
+    if text == "/" {
+        return Err(ReadError::Fault(Fault::BadImage));
+    }
+    let path = if text.is_empty() {
+        Path::new(alloc, "/")?
+    } else {
+        Path::new(alloc, text)?
+    };
+    *reader = ahead;
+    Ok(path)
+}
+
+/// Reads the path of a further node; `None` is the path "/", which stands behind the last one. A null one is
+/// `BadPath`.
+#[tactic(auto, unfolding(jute::specs::Format::judged_at))]
+pub fn read_next(alloc: Global, reader: &mut Reader<'_>) -> Result<Option<Path>, ReadError>
+    ensures { Gives (part_format Nodes).read path_or_close result reader.old reader.new }
+{
+    let mut ahead = reader.ahead();
+    let Some(text) = ahead.read_string()? else {
+        return Err(ReadError::Fault(Fault::BadPath));
+    };
+    if text == "/" {
+        *reader = ahead;
+        return Ok(None);
+    }
+    let path = Path::new(alloc, text)?;
+    *reader = ahead;
+    Ok(Some(path))
+}
+
+/// What stands behind the path of a node.
+#[derive(Debug, Drop)]
+pub struct NodeBody {
+    pub bytes: Option<Blob>,
+    pub acl: i64,
+    pub stat: StatPersisted,
+}
+
+impl NodeBody {
+    /// The node that has it at the path.
+    pub fn at(self, path: Path) -> ImageNode
+        ensures { result ≡ record { path = path; bytes = self.bytes; acl = self.acl; stat = self.stat } }
+    {
+        ImageNode {
+            path,
+            bytes: self.bytes,
+            acl: self.acl,
+            stat: self.stat,
+        }
+    }
+}
+
+/// Reads what stands behind the path of a node. The bytes are copied last: a node that isn't whole yet costs no copy.
+pub fn read_body(alloc: Global, reader: &mut Reader<'_>) -> Result<NodeBody, ReadError>
+    ensures { Gives node_body.read (λ b. (b.bytes, (b.acl, b.stat))) result reader.old reader.new }
+{
+    let mut ahead = reader.ahead();
+    let borrowed = ahead.read_buffer()?;
+    let acl = ahead.read_long()?;
+    let stat = StatPersisted::read(alloc, &mut ahead)?;
+    let bytes = match borrowed {
+        None => None,
+        Some(bytes) => Some(Blob::new(alloc, bytes)?),
+    };
+    *reader = ahead;
+    Ok(NodeBody { bytes, acl, stat })
+}
+
+/// Reads the text that ends an image; another one, and null, is `BadImage`.
+#[tactic(auto, unfolding(jute::specs::Format::judged_at))]
+pub fn read_signature(reader: &mut Reader<'_>) -> Result<(), ReadError>
+    ensures { Gives (part_format Signature).read (λ u. Part part.End) result reader.old reader.new }
+{
+    let mut ahead = reader.ahead();
+    let Some(text) = ahead.read_string()? else {
+        return Err(ReadError::Fault(Fault::BadImage));
+    };
+    if text != SIGNATURE {
+        return Err(ReadError::Fault(Fault::BadImage));
+    }
+    *reader = ahead;
+    Ok(())
+}
+
+/// So many sessions, or what stands behind them.
+pub fn sessions_from(count: u32) -> PartPhase
+    ensures { result ≡ sessions_from count }
+{
+    if count == 0 {
+        return PartPhase::AclCount;
+    }
+    PartPhase::Sessions(count)
+}
+
+/// So many ACL lists, or what stands behind them.
+pub fn acls_from(count: u32) -> PartPhase
+    ensures { result ≡ acls_from count }
+{
+    if count == 0 {
+        return PartPhase::Root;
+    }
+    PartPhase::Acls(count)
+}

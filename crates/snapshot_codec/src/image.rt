@@ -1,0 +1,85 @@
+//! Images that are all there.
+
+ghost use Rattle.std.specs.Prelude.{◌≡◌, false};
+ghost use Rattle.jute.specs.Reads.{Gives};
+ghost use Rattle.snapshot_codec.specs.Image.{image_read};
+ghost use Rattle.snapshot_codec.specs.Reads.{LoadsNext, ReadsImage};
+
+use crate::loader::Loader;
+use crate::part::PartPhase;
+use crate::read::read_part;
+use data_tree::Tree;
+use jute::Reader;
+use std::alloc::Global;
+use std::marker::Model;
+use values::ReadError;
+
+/// The image of a tree.
+#[derive(Drop)]
+pub struct Image {
+    tree: Tree,
+}
+
+impl Model for Image {
+    ghost use Rattle.data_tree.specs.State.{State, state_code};
+    ghost use Rattle.data_tree.specs.contracts.node.Node as node;
+
+    ghost Value = { State };
+
+    ghost coded = { state_code node.the_row.coded };
+
+    ghost view = { λ i. i.tree };
+}
+
+impl Image {
+    /// The tree of which it is the image. It takes no memory.
+    pub fn into_tree(self) -> Tree
+        ensures { result ≡ self }
+    {
+        self.tree
+    }
+}
+
+// Loads what stands next.
+fn load_next(
+    alloc: Global,
+    loader: &mut Loader,
+    phase: &mut PartPhase,
+    reader: &mut Reader<'_>,
+) -> Result<(), ReadError>
+    requires { loader.old.ended ≡ false }
+    ensures { LoadsNext result phase.old loader.old.made reader.old phase.new loader.new reader.new }
+{
+    match read_part(alloc, phase, reader)? {
+        None => Ok(()),
+        Some(part) => loader.part(alloc, part),
+    }
+}
+
+// Loads the parts of an image. A refused read leaves the place.
+#[tactic(auto, unfolding(crate::specs::Image::image_read))]
+fn load_image(alloc: Global, reader: &mut Reader<'_>) -> Result<Image, ReadError>
+    ensures { Gives image_read (λ image. image) result reader.old reader.new }
+{
+    let mut ahead = reader.ahead();
+    let mut phase = PartPhase::SessionCount;
+    let mut loader = Loader::new(alloc);
+    while !loader.has_ended() {
+        load_next(alloc, &mut loader, &mut phase, &mut ahead)?;
+    }
+    *reader = ahead;
+    Ok(Image {
+        tree: loader.finish(),
+    })
+}
+
+/// Reads the image at the front of the bytes, and says how many of them it takes. Its faults are those of its parts,
+/// the first one first: `Short`, `BadLength`, `BadText` and `BadPath` of a field at its last byte, and `BadImage` of a
+/// part that doesn't go with those before it, at the part's last byte.
+pub fn read_image(alloc: Global, bytes: &[u8]) -> Result<(Image, usize), ReadError>
+    ensures { ReadsImage result bytes.now }
+{
+    let mut reader = Reader::new(bytes);
+    let image = load_image(alloc, &mut reader)?;
+    Ok((image, bytes.len() - reader.rest().len()))
+}

@@ -1,0 +1,73 @@
+//! The parts of an image.
+
+ghost use Rattle.std.specs.Prelude.{◌≡◌};
+ghost use Rattle.snapshot_codec.specs.Parts.{Part, is_end};
+
+use jute::{Acl, StatPersisted};
+use txn_codec::Path;
+use values::{Blob, Listed};
+
+/// A session of an image, with its timeout in milliseconds.
+#[derive(Clone, Copy, Debug)]
+pub struct ImageSession {
+    pub id: i64,
+    pub timeout: i32,
+}
+
+/// An ACL list of an image, and the key by which nodes name it.
+#[derive(Debug, Drop)]
+pub struct ImageAcl {
+    pub key: i64,
+    /// `None` is null, which stands for the open list.
+    pub list: Option<Listed<Acl>>,
+}
+
+/// A node of an image, without its children, which stand behind it.
+#[derive(Debug, Drop)]
+pub struct ImageNode {
+    pub path: Path,
+    /// `None` is null.
+    pub bytes: Option<Blob>,
+    /// The key of its ACL list; -1 names the open list.
+    pub acl: i64,
+    pub stat: StatPersisted,
+}
+
+/// A part of an image.
+#[derive(Debug, Drop)]
+pub enum ImagePart {
+    Session(ImageSession),
+    Acl(ImageAcl),
+    Node(ImageNode),
+    End,
+}
+
+impl ImagePart {
+    /// Whether it is the last part.
+    pub fn is_end(&self) -> bool
+        ensures { result ≡ is_end (Part self.now) }
+    {
+        matches!(self, ImagePart::End)
+    }
+}
+
+/// What stands next in an image.
+#[derive(Debug, Drop)]
+pub enum PartPhase {
+    /// How many sessions there are.
+    SessionCount,
+    /// So many sessions, at least one.
+    Sessions(u32),
+    /// How many ACL lists there are.
+    AclCount,
+    /// So many ACL lists, at least one.
+    Acls(u32),
+    /// The path of the first node, which is the root.
+    Root,
+    /// The path of a further node, or "/" behind the last one.
+    Nodes,
+    /// What stands behind the path of a node.
+    Body(Path),
+    /// The text that ends an image.
+    Signature,
+}
