@@ -12,3 +12,13 @@ pub mod Images
 pub mod Whole
 -- The keys of ACL lists
 pub mod Keys
+-- The walk over the nodes
+pub mod WalkOrder
+-- What is below a node stands together in the walk
+pub mod Walks
+-- What is within the limits fits the formats of its phases
+pub mod Limits
+-- What is written of a whole state
+pub mod Written
+-- Images that were worked out by hand
+pub mod Rows

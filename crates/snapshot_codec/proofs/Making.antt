@@ -30,11 +30,11 @@ use Rattle.snapshot_codec.specs.Image.{Sessions, Lists, Rows, list_named, HasPla
 use Rattle.snapshot_codec.specs.Made.{Made, node_with}
 use Rattle.snapshot_codec.specs.declared.part.ImageNode.{ImageNode}
 
-and_parts : (a b : Bool) → (a && b) ≡ true → (a ≡ true) × (b ≡ true)
+pub and_parts : (a b : Bool) → (a && b) ≡ true → (a ≡ true) × (b ≡ true)
 and_parts true b e = (refl, e)
 and_parts false b e = absurd (true≢false (sym e))
 
-not_true : (b : Bool) → not b ≡ true → b ≡ false
+pub not_true : (b : Bool) → not b ≡ true → b ≡ false
 not_true true e = absurd (true≢false (sym e))
 not_true false e = refl
 

@@ -38,11 +38,11 @@ use Rattle.snapshot_codec.proofs.Making.{no_rows}
 
 -- ---- a path is that of its name below its parent
 
-all_behind : (text : Bytes) → has_slash text ≡ false → after_last_slash text ≡ text
+pub all_behind : (text : Bytes) → has_slash text ≡ false → after_last_slash text ≡ text
 all_behind [] none = refl
 all_behind (b ∷ text) none = rw none refl
 
-or_true : (b : Bool) → (b || true) ≡ true
+pub or_true : (b : Bool) → (b || true) ≡ true
 or_true true = refl
 or_true false = refl
 

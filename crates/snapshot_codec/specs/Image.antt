@@ -20,6 +20,8 @@ use Rattle.data_tree.specs.Whole.{AreOwned}
 use Rattle.data_tree.specs.declared.node.Node.{Node}
 use Rattle.snapshot_codec.specs.Made.{nothing, image_load}
 use Rattle.snapshot_codec.specs.Parts.{Value, Part, parts, part_format}
+pub use Rattle.snapshot_codec.specs.Written.{Lists}
+use Rattle.snapshot_codec.specs.Written.{image_bytes, FitsImage}
 use Rattle.snapshot_codec.specs.declared.part.ImageNode.{ImageNode}
 use Rattle.snapshot_codec.specs.declared.part.ImagePart.{ImagePart}
 use Rattle.snapshot_codec.specs.declared.part.ImagePart.TheVariants as part
@@ -30,9 +32,6 @@ use Rattle.snapshot_codec.specs.declared.part.PartPhase.TheVariants.{SessionCoun
 
 abbrev pub Sessions : Type 0
 Sessions = List (ℤ × ℤ)
-
-abbrev pub Lists : Type 0
-Lists = List (ℤ × List Acl)
 
 abbrev pub Rows : Type 0
 Rows = List (Bytes × ImageNode)
@@ -142,13 +141,12 @@ pub record AgainstImage (e : Fault) (bytes : List ℕ) : Type 0 where
 unfoldable pub image_read : List ℕ → Result (State × List ℕ) Fault
 image_read bytes = load_from image_load SessionCount nothing bytes >>= λ x. Ok (x.0.state, x.1)
 
--- how images are read; none is written here
 abbrev pub image : Format State
 image = record {
   Spells = SpellsImage;
-  written = λ s. [];
-  Fits = λ s. ⊥;
-  Writable = λ s. ⊥;
+  written = image_bytes;
+  Fits = FitsImage;
+  Writable = FitsImage;
   read = image_read;
   against = AgainstImage;
 }

@@ -1,9 +1,9 @@
 //! Laws of images and their parts.
 
 ghost use Rattle.std.specs.Prelude.{◌≡◌, ◌≢◌, ◌++◌, ℕ, List, Ok, Err};
-ghost use Rattle.data_tree.specs.State.{State};
+ghost use Rattle.data_tree.specs.State.{State, Nodes};
 ghost use Rattle.data_tree.specs.Whole.{IsWhole};
-ghost use Rattle.jute.specs.Laws.{Named, TakesSpellings};
+ghost use Rattle.jute.specs.Laws.{Named, TakesSpellings, WritesSpellings};
 ghost use Rattle.jute.specs.Loading.{AreSound, NeverWaits};
 ghost use Rattle.jute.specs.Stream.{ComesInPieces, Streamed};
 ghost use Rattle.values.specs.declared.fault.Fault.{Fault as TheFault};
@@ -11,6 +11,9 @@ ghost use Rattle.values.specs.declared.fault.Fault.TheVariants.{Short};
 ghost use Rattle.snapshot_codec.specs.Image.{SpellsImage, image, image_read};
 ghost use Rattle.snapshot_codec.specs.Made.{image_load};
 ghost use Rattle.snapshot_codec.specs.Parts.{parts};
+ghost use Rattle.snapshot_codec.specs.Rows.{WorkedImages};
+ghost use Rattle.snapshot_codec.specs.Walks.{IsWalk};
+ghost use Rattle.snapshot_codec.specs.Written.{walk};
 
 /// What stands in a phase is read exactly where its spelling stands, however the bytes are cut, and a refusal names the
 /// first field that no bytes at its place spell. No part is refused for want of bytes.
@@ -23,7 +26,8 @@ pub fn image_parts()
 /// What is read as an image is spelled so, and what is spelled so is read, whatever follows and however it is cut. A
 /// refusal names the first field against the image, or the first part that doesn't go with those before it, and what is
 /// against it is refused so. What was refused for another reason than too few bytes begins no image. A state that has
-/// an image is whole.
+/// an image is whole. What is written of a whole state within the limits is its image, and so is read again, whatever
+/// follows.
 pub fn images()
     ensures taken { TakesSpellings image }
     ensures again { (s : State) (text rest : List ℕ) → SpellsImage s text
@@ -33,7 +37,20 @@ pub fn images()
     ensures refused { (bytes more text rest : List ℕ) (s : State) (e : TheFault)
         → image_read bytes ≡ Err e → e ≢ Short
         → bytes ++ more ≡ text ++ rest → ¬ SpellsImage s text }
+    ensures writes { WritesSpellings image }
+    ensures back { (s : State) (rest : List ℕ) → image.Fits s → image_read (image.written s ++ rest) ≡ Ok (s, rest) }
     ensures whole { (s : State) (text : List ℕ) → SpellsImage s text → IsWhole s }
 {
     data_tree::law::names();
 }
+
+/// In an image each node stands once, a parent before its children, and what is below a node directly behind it.
+pub fn walks()
+    ensures { (nodes : Nodes) → IsWalk nodes (walk nodes) }
+{}
+
+/// Images that were worked out by hand: what is written of the fresh tree, in which order nodes stand, and which keys
+/// their lists have.
+pub fn worked_images()
+    ensures { WorkedImages }
+{}

@@ -3,7 +3,8 @@
 //! An image is read in parts, so that it never stands whole in memory beside the tree that it makes: `read_part` reads
 //! what stands next at a place, and a `Loader` takes each part into a tree. `read_image` does both for bytes that are
 //! all there. `specs/Parts.antt` says how the parts are spelled, `specs/Made.antt` what they make, and
-//! `specs/Image.antt`, as a relation, which bytes are an image of which state; the laws in `law` tie them.
+//! `specs/Image.antt`, as a relation, which bytes are an image of which state; `specs/Written.antt` says which image is
+//! written of a state. The laws in `law` tie them.
 //!
 //! ```text
 //! let (image, used) = read_image(alloc, bytes)?;     // or: part by part

@@ -1,5 +1,7 @@
+use Rattle.snapshot_codec.specs.Image.{image}
 use Rattle.snapshot_codec.proofs.Images.{image_taken, image_again, image_streamed, image_named, begins_none}
 use Rattle.snapshot_codec.proofs.Whole.{image_whole}
+use Rattle.snapshot_codec.proofs.Written.{image_written}
 use Rattle.snapshot_codec.proofs.law.images.Goals as goal
 
 pub returns : goal.returns
@@ -9,5 +11,7 @@ returns c = record {
   streamed = image_streamed;
   named = image_named;
   refused = begins_none;
+  writes = image_written;
+  back = λ s rest fits. image_again s (image.written s) rest (image_written s fits);
   whole = image_whole c.names.ensures.paths;
 }

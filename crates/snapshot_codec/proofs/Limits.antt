@@ -1,0 +1,211 @@
+-- What is within the limits fits the formats of the phases in which it is written, and its bytes spell it.
+use Rattle.std.proofs.Common.{◌≡◌, ℕ, suc, ◌-◌, ◌≤◌, ℤ, Bool, true, false, cond, ◌==◌, T, List, [], ◌∷◌, ◌++◌, map, length, Some, is_some, Ok, Err, refl, sym, ap, subst, ◌∙◌, arith, true≢false}
+use Rattle.std.specs.declared.cmp.Ordering.TheVariants.{Less}
+use Rattle.std.specs.FinMap as finmap
+use Rattle.std.specs.FinMap.{find, is_sorted}
+use Rattle.std.specs.FinMap.Entries.{below_all}
+use Rattle.std.specs.List.{AllByRecursion}
+use Rattle.std.specs.Ordering.{is_lt, eq_by_cmp}
+use Rattle.std.specs.Str.{IsUtf8, is_utf8}
+use lib.Utf8.{encode}
+use Rattle.std.proofs.lemmas.Bool.{eqb-true}
+use Rattle.std.proofs.lemmas.Str.{is_utf8-from_IsUtf8}
+use Rattle.std.proofs.lemmas.Map.Lookups.{exact_bytes}
+use Rattle.std.proofs.lemmas.Map.Views.{tells_apart}
+use Rattle.values.specs.declared.fault.Fault.TheVariants.{BadText, BadPath}
+use Rattle.ephemerals.specs.Orders.{Bytes, path_cmp}
+use Rattle.ephemerals.proofs.Totals.{path_total}
+use Rattle.jute.specs.Format.{◌>>=◌, int, long, buffer_limit, text_of, text, vector, both}
+use Rattle.jute.specs.Owned.{acl}
+use Rattle.jute.specs.Relation.{Stand}
+use Rattle.jute.specs.declared.owned.Acl.{Acl}
+use Rattle.txn_codec.specs.Paths.{is_root, is_path}
+use Rattle.data_tree.specs.State.{State}
+use Rattle.data_tree.specs.Whole.{IsWhole}
+use Rattle.data_tree.specs.declared.node.Node.{Node}
+use Rattle.snapshot_codec.specs.Parts.{Value, Path, Close, Part, slash, signature, next_of, node_body, parts, part_format, part_after, sessions_from, acls_from}
+use Rattle.snapshot_codec.specs.Written.{walk_cmp, walk, Lists, lists_of, key_of, session_part, list_part, node_values, values_of, bytes_from, IsWithinLimits}
+use Rattle.snapshot_codec.specs.declared.part.PartPhase.{PartPhase}
+use Rattle.snapshot_codec.specs.declared.part.PartPhase.TheVariants.{SessionCount, Sessions, AclCount, Acls, Root, Nodes}
+use Rattle.snapshot_codec.proofs.Formats.{part_sound, root_is}
+use Rattle.snapshot_codec.proofs.WalkOrder.{here_some, first, second, less, walk_find, walk_sorted, none_before_root}
+
+-- ---- bytes
+
+abbrev pub FitFrom : PartPhase → List Value → Type 0
+FitFrom phase [] = Unit {0}
+FitFrom phase (v ∷ vs) = (part_format phase).Fits v × FitFrom (part_after phase v) vs
+
+pub stand_written : (vs : List Value) (phase : PartPhase) → FitFrom phase vs
+    → (end : PartPhase) × Stand parts vs phase (bytes_from phase vs) end []
+stand_written [] phase h = (phase, (refl, refl))
+stand_written (v ∷ vs) phase h =
+    let others = stand_written vs (part_after phase v) h.1 in (
+      others.0,
+      (
+        (part_format phase).written v,
+        bytes_from (part_after phase v) vs,
+        refl,
+        (part_sound phase).lawful.writes v h.0,
+        others.1,
+      ),
+    )
+
+-- ---- sessions and lists, as many as were counted
+
+not_zero : (n : ℕ) → (suc n == 0) ≡ false
+not_zero n = by (suc n == 0) refl
+  where
+    by : (b : Bool) → (suc n == 0) ≡ b → b ≡ false
+    by true e = let none : suc n ≡ 0 = eqb-true (suc n) 0 e in absurd (omega arith)
+    by false e = refl
+
+one_less : (n : ℕ) → n ≡ suc n - 1
+one_less n = omega arith
+
+sessions_fit : (xs : List (ℤ × ℤ)) (vs : List Value) → AllByRecursion (both long int).Fits xs → FitFrom AclCount vs
+    → FitFrom (sessions_from (length xs)) (map (λ x. Part (session_part x)) xs ++ vs)
+sessions_fit [] vs h k = k
+sessions_fit (x ∷ xs) vs h k =
+    let behind = map (λ (y : ℤ × ℤ). Part (session_part y)) xs ++ vs in
+    subst (λ b. FitFrom (cond b AclCount (Sessions (suc (length xs)))) (Part (session_part x) ∷ behind))
+    (sym (not_zero (length xs)))
+    ((refl, h.0), subst (λ n. FitFrom (sessions_from n) behind) (one_less (length xs)) (sessions_fit xs vs h.1 k))
+
+lists_fit : (xs : Lists) (vs : List Value)
+    → AllByRecursion (λ (l : ℤ × List Acl). (both long (vector acl)).Fits (l.0, Some l.1)) xs → FitFrom Root vs
+    → FitFrom (acls_from (length xs)) (map (λ x. Part (list_part x)) xs ++ vs)
+lists_fit [] vs h k = k
+lists_fit (x ∷ xs) vs h k =
+    let behind = map (λ (y : ℤ × List Acl). Part (list_part y)) xs ++ vs in
+    subst (λ b. FitFrom (cond b Root (Acls (suc (length xs)))) (Part (list_part x) ∷ behind))
+    (sym (not_zero (length xs)))
+    ((refl, h.0), subst (λ n. FitFrom (acls_from n) behind) (one_less (length xs)) (lists_fit xs vs h.1 k))
+
+-- ---- texts
+
+text_fits : (t : List ℕ) → is_utf8 t ≡ true → length t ≤ buffer_limit → text.Fits (Some t)
+text_fits t is short =
+    let made : text_of (Some t) ≡ Ok (Some t) = ap (λ b. cond b (Ok (Some t)) (Err BadText)) is in (made, short)
+
+none_is_text : IsUtf8 []
+unfolding encode
+none_is_text = ([], (refl, refl))
+
+slash_is_text : IsUtf8 slash
+unfolding encode
+slash_is_text = (slash, (refl, refl))
+
+signature_is_text : IsUtf8 signature
+unfolding encode
+signature_is_text = (signature, (refl, refl))
+
+no_text : text.Fits (Some [])
+no_text = text_fits [] (is_utf8-from_IsUtf8 [] none_is_text) (omega arith)
+
+slash_text : text.Fits (Some slash)
+slash_text = text_fits slash (is_utf8-from_IsUtf8 slash slash_is_text) (omega arith)
+
+end_text : text.Fits (Some signature)
+end_text = text_fits signature (is_utf8-from_IsUtf8 signature signature_is_text) (omega arith)
+
+-- ---- nodes
+
+module _ (lists : Lists) where
+  abbrev Paths : List (Bytes × Node) → Type 0
+  Paths es = AllByRecursion (λ (e : Bytes × Node). text.Fits (Some e.0)) es
+
+  abbrev Bodies : List (Bytes × Node) → Type 0
+  Bodies es =
+      AllByRecursion (λ (e : Bytes × Node). node_body.Fits (e.1.bytes, (key_of lists e.1.acl, e.1.stat))) es
+
+  abbrev Others : List (Bytes × Node) → Type 0
+  Others es = AllByRecursion (λ (e : Bytes × Node). (is_root e.0 ≡ false) × (is_path e.0 ≡ true)) es
+
+  next_path : (p : Bytes) → is_root p ≡ false → is_path p ≡ true → next_of (Some p) ≡ Ok (Path p)
+  next_path p other is = λ i. cond (other i) (Ok Close) (cond (is i) (Ok p) (Err BadPath) >>= λ path. Ok (Path path))
+
+  nodes_fit : (es : List (Bytes × Node)) → Others es → Paths es → Bodies es → FitFrom Nodes (node_values lists es)
+  nodes_fit [] o p b = ((refl, slash_text), ((refl, end_text), tt))
+  nodes_fit (e ∷ es) o p b =
+      ((next_path e.0 o.0.0 o.0.1, p.0), ((refl, b.0), nodes_fit es o.1 p.1 b.1))
+
+  first_fits : (p : Bytes) → is_root p ≡ true → (part_format Root).Fits (Path p)
+  first_fits p root =
+      subst (λ (q : Bytes). (part_format Root).Fits (Path q)) (sym (root_is p root)) (refl, no_text)
+
+-- ---- the root is the first node
+
+less_found : (k q : Bytes) (es : List (Bytes × Node)) → T (below_all walk_cmp k es)
+    → is_some (find path_cmp q es) ≡ true → walk_cmp k q ≡ Less
+less_found k q [] h some = absurd (true≢false (sym some))
+less_found k q (e ∷ es) h some =
+    by (less_found k q es (second (is_lt (walk_cmp k e.0)) (below_all walk_cmp k es) h)) (eq_by_cmp path_cmp q e.0)
+    refl some
+  where
+    by : (is_some (find path_cmp q es) ≡ true → walk_cmp k q ≡ Less) → (b : Bool) → eq_by_cmp path_cmp q e.0 ≡ b
+        → is_some (cond b (Some e.1) (find path_cmp q es)) ≡ true → walk_cmp k q ≡ Less
+    by later true is j =
+        ap (walk_cmp k) (tells_apart exact_bytes q e.0 is)
+        ∙ less (walk_cmp k e.0) (first (is_lt (walk_cmp k e.0)) (below_all walk_cmp k es) h)
+    by later false is j = later j
+
+abbrev ArePaths : List (Bytes × Node) → Type 0
+ArePaths es = (q : Bytes) → is_some (find path_cmp q es) ≡ true → is_path q ≡ true
+
+behind_first : (e : Bytes × Node) (es : List (Bytes × Node)) → ArePaths (e ∷ es) → ArePaths es
+behind_first e es h q some = h q (by (eq_by_cmp path_cmp q e.0))
+  where
+    by : (b : Bool) → is_some (cond b (Some e.1) (find path_cmp q es)) ≡ true
+    by true = refl
+    by false = some
+
+others : (es : List (Bytes × Node)) → T (below_all walk_cmp slash es) → ArePaths es
+    → AllByRecursion (λ (e : Bytes × Node). (is_root e.0 ≡ false) × (is_path e.0 ≡ true)) es
+others [] h p = tt
+others (e ∷ es) h p = (
+  (by (is_root e.0) refl, p e.0 (here_some path_total e es)),
+  others es (second (is_lt (walk_cmp slash e.0)) (below_all walk_cmp slash es) h) (behind_first e es p),
+)
+  where
+    above : walk_cmp slash e.0 ≡ Less
+    above = less (walk_cmp slash e.0) (first (is_lt (walk_cmp slash e.0)) (below_all walk_cmp slash es) h)
+
+    by : (b : Bool) → is_root e.0 ≡ b → b ≡ false
+    by true root = absurd (none_before_root slash refl (ap (walk_cmp slash) (sym (root_is e.0 root)) ∙ above))
+    by false root = refl
+
+first_root : (e : Bytes × Node) (es : List (Bytes × Node)) → T (is_sorted walk_cmp (e ∷ es)) → ArePaths (e ∷ es)
+    → is_some (find path_cmp slash (e ∷ es)) ≡ true → slash ≡ e.0
+first_root e es h p some = by (eq_by_cmp path_cmp slash e.0) refl some
+  where
+    by : (b : Bool) → eq_by_cmp path_cmp slash e.0 ≡ b → is_some (cond b (Some e.1) (find path_cmp slash es)) ≡ true
+        → slash ≡ e.0
+    by true is k = tells_apart exact_bytes slash e.0 is
+    by false is k =
+        absurd (none_before_root e.0 (p e.0 (here_some path_total e es))
+        (less_found e.0 slash es (first (below_all walk_cmp e.0 es) (is_sorted walk_cmp es) h) k))
+
+walk_fits : (lists : Lists) (es : List (Bytes × Node)) → T (is_sorted walk_cmp es) → ArePaths es
+    → is_some (find path_cmp slash es) ≡ true → Paths lists es → Bodies lists es → FitFrom Root (node_values lists es)
+walk_fits lists [] h p some ps bs = absurd (true≢false (sym some))
+walk_fits lists (e ∷ es) h p some ps bs =
+    let root = first_root e es h p some in
+    let below : T (below_all walk_cmp slash es) = subst (λ (q : Bytes). T (below_all walk_cmp q es)) (sym root)
+    (first (below_all walk_cmp e.0 es) (is_sorted walk_cmp es) h) in (
+      first_fits lists e.0 (ap is_root (sym root)),
+      ((refl, bs.0), nodes_fit lists es (others es below (behind_first e es p)) ps.1 bs.1),
+    )
+
+pub values_fit : (s : State) → IsWhole s
+    → IsWithinLimits (finmap.entries s.sessions) (lists_of s.nodes) (walk s.nodes) → FitFrom SessionCount (values_of s)
+values_fit s w l = (
+  (refl, l.session_count),
+  sessions_fit (finmap.entries s.sessions) _ l.sessions (
+    (refl, l.list_count),
+    lists_fit (lists_of s.nodes) _ l.lists
+        (walk_fits (lists_of s.nodes) (walk s.nodes) (walk_sorted s.nodes)
+        (λ q some. w.named.paths q (sym (ap is_some (walk_find s.nodes q)) ∙ some))
+        (ap is_some (walk_find s.nodes slash) ∙ w.root) l.paths l.nodes),
+  ),
+)
