@@ -1,8 +1,16 @@
 -- What only private contracts cite.
-use Rattle.std.specs.Prelude.{◌≡◌, List, [], ◌∷◌}
+use Rattle.std.specs.Prelude.{◌≡◌, ℕ, List, [], ◌∷◌, slice_set}
+use Rattle.batcher.specs.Class.{Class}
 use Rattle.apply_board.specs.Sitting.{BoardId, Sitting}
 use Rattle.apply_board.specs.Seats.{AreAll, works_of}
 use Rattle.apply_workers.specs.Working.{Worked}
+use Rattle.apply_board.specs.declared.group.Group.{Group}
+use Rattle.apply_board.specs.declared.group.Group.TheVariants.{Home}
+use Rattle.data_tree.specs.State.{State}
+use Rattle.data_tree.specs.declared.outcome.Outcome.{Outcome}
+use Rattle.apply_workers.specs.declared.group_work.Work.{Work}
+use Rattle.apply_workers.specs.declared.group_work.Finished.{Finished}
+use Rattle.apply_workers.specs.declared.group_work.Finished.TheVariants.{Done}
 
 module _ {W F : Type 0} where
   -- all seats of a board with these works
@@ -15,3 +23,22 @@ module _ {W F : Type 0} where
   AreWorked (s ∷ ss) (t ∷ ts) = Worked s t × AreWorked ss ts
   AreWorked [] (t ∷ ts) = ⊥
   AreWorked (s ∷ ss) [] = ⊥
+
+module _ {A : Type 0} where
+  -- these are put at the places, one after the other
+  abbrev pub put_at : List A → List ℕ → List A → List A
+  put_at all [] xs = all
+  put_at all (p ∷ ps) [] = all
+  put_at all (p ∷ ps) (x ∷ xs) = put_at (slice_set all p x) ps xs
+
+  -- each group's share at its places
+  abbrev pub put_each_at : List A → List Class → List (List A) → List A
+  put_each_at all [] shares = all
+  put_each_at all (c ∷ cs) [] = all
+  put_each_at all (c ∷ cs) (xs ∷ shares) = put_each_at (put_at all c.members xs) cs shares
+
+-- the groups that came home with these cells and these outcomes
+abbrev pub homes : List State → List (List Outcome) → List (Group Work Finished)
+homes [] answers = []
+homes (c ∷ cs) [] = []
+homes (c ∷ cs) (os ∷ answers) = Home (Done c os) ∷ homes cs answers

@@ -1,2 +1,9 @@
 pub mod Working
 pub mod Inner
+pub mod Schedule
+pub mod Schedules
+pub mod ScheduleRows
+pub mod Places
+pub mod Works
+pub mod Taking
+pub mod Homing

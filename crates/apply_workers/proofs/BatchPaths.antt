@@ -1,0 +1,138 @@
+-- Transactions that came into groups, and their paths.
+use Rattle.std.proofs.Common.{◌≡◌, ℕ, ◌<◌, ◌≤◌, nat_eq, List, [], ◌∷◌, ◌++◌, Bool, true, false, cond, ◌||◌, Option, Some, None, refl, sym, ap, ◌∙◌, subst, arith}
+use Rattle.std.specs.List.{flat_map, AllByRecursion}
+use Rattle.std.specs.Option.{option_and_then}
+use Rattle.std.specs.Ordering.{eq_by_cmp}
+use Rattle.std.proofs.lemmas.Bool.{eqb-true}
+use Rattle.std.proofs.lemmas.List.Folds.{list_any-append}
+use mathlib.Core.Bool.{true≢false}
+use Rattle.ephemerals.specs.Orders.{Bytes, path_cmp}
+use Rattle.txn_codec.specs.declared.txn.Txn.{Txn}
+use Rattle.txn_codec.specs.declared.txn.TxnHeader.{TxnHeader}
+use Rattle.txn_codec.specs.declared.txn.Body.{Body}
+use Rattle.txn_codec.specs.declared.txn.Body.TheVariants as body
+use Rattle.data_tree.specs.Footprint.{touches, footprint, KeepsToCells}
+use Rattle.data_tree.specs.Commuting.{Tagged, of_group, batch_of, KeepsTo, at_group}
+use Rattle.footprint.specs.Footprints.{is_barrier}
+use Rattle.batcher.specs.Groups.{group_for, grouped_behind, paths_in}
+use Rattle.batcher.specs.Laws.{AreAmong}
+
+none : {A : Type 0} (x : A) → Some x ≡ None → ⊥
+none x e = cc
+
+-- ---- none of them is a barrier
+
+free : (t : Txn) → is_barrier t ≡ false → KeepsToCells t
+free t = by t.header t.body
+  where
+    by : (h : TxnHeader) (b : Body) → (let t : Txn = record { header = h; body = b } in is_barrier t ≡ false)
+        → (let t : Txn = record { header = h; body = b } in KeepsToCells t)
+    by h (body.Single operation) e = tt
+    by h (body.SetAcl b) e = tt
+    by h (body.Multi parts) e = tt
+    by h (body.CreateSession timeout) e = tt
+    by h body.CloseSession e = absurd (true≢false e)
+
+pub all_free : (before : List Tagged) (txns : List Txn) (batch : List Tagged) → grouped_behind before txns ≡ Some batch
+    → AllByRecursion KeepsToCells txns
+all_free before [] batch is = tt
+all_free before (t ∷ txns) batch is =
+    by (λ k. all_free (before ++ (k, t) ∷ []) txns batch) (is_barrier t) refl is
+  where
+    into : ((k : ℕ) → grouped_behind (before ++ (k, t) ∷ []) txns ≡ Some batch → AllByRecursion KeepsToCells txns)
+        → (o : Option ℕ) → option_and_then (λ k. grouped_behind (before ++ (k, t) ∷ []) txns) o ≡ Some batch
+        → AllByRecursion KeepsToCells txns
+    into others None is = absurd (none batch (sym is))
+    into others (Some k) is = others k is
+
+    by : ((k : ℕ) → grouped_behind (before ++ (k, t) ∷ []) txns ≡ Some batch → AllByRecursion KeepsToCells txns)
+        → (b : Bool) → is_barrier t ≡ b
+        → option_and_then (λ k. grouped_behind (before ++ (k, t) ∷ []) txns)
+        (cond b None (group_for before (footprint t))) ≡ Some batch
+        → KeepsToCells t × AllByRecursion KeepsToCells txns
+    by others true e is = absurd (none batch (sym is))
+    by others false e is = (free t e, into others (group_for before (footprint t)) is)
+
+pub keeps_to : (paths : ℕ → List Bytes) (batch : List Tagged) → AllByRecursion KeepsToCells (batch_of batch)
+    → AllByRecursion (λ (t : Tagged). AreAmong (footprint t.1) (paths t.0)) batch → KeepsTo paths batch
+keeps_to paths [] free among = tt
+keeps_to paths (t ∷ ts) free among = ((free.0, among.0), keeps_to paths ts free.1 among.1)
+
+-- ---- whose a path is
+
+in_front : (p : Bytes) (xs ys : List Bytes) → touches xs p ≡ true → touches (xs ++ ys) p ≡ true
+in_front p xs ys h = list_any-append (eq_by_cmp path_cmp p) xs ys ∙ ap (λ b. b || touches ys p) h
+
+or_true : (b : Bool) → (b || true) ≡ true
+or_true true = refl
+or_true false = refl
+
+in_rest : (p : Bytes) (xs ys : List Bytes) → touches ys p ≡ true → touches (xs ++ ys) p ≡ true
+in_rest p xs ys h =
+    list_any-append (eq_by_cmp path_cmp p) xs ys ∙ ap (λ b. touches xs p || b) h ∙ or_true (touches xs p)
+
+-- a group below the number that has the path
+pub record HasGroup (n : ℕ) (paths : ℕ → List Bytes) (p : Bytes) : Type 0 where
+  pub number : ℕ
+  pub below : number < n
+  pub there : touches (paths number) p ≡ true
+
+pub group_of : (n : ℕ) (paths : ℕ → List Bytes) (batch : List Tagged) (p : Bytes)
+    → AllByRecursion (λ (t : Tagged). AreAmong (footprint t.1) (paths t.0)) batch
+    → AllByRecursion (λ (t : Tagged). t.0 < n) batch
+    → touches (flat_map footprint (batch_of batch)) p ≡ true → HasGroup n paths p
+group_of n paths [] p among below h = absurd (true≢false (sym h))
+group_of n paths (t ∷ ts) p among below h =
+    by (touches (footprint t.1) p) refl (λ e. group_of n paths ts p among.1 below.1 e)
+    (sym (list_any-append (eq_by_cmp path_cmp p) (footprint t.1) (flat_map footprint (batch_of ts))) ∙ h)
+  where
+    by : (b : Bool) → touches (footprint t.1) p ≡ b
+        → (touches (flat_map footprint (batch_of ts)) p ≡ true → HasGroup n paths p)
+        → (touches (footprint t.1) p || touches (flat_map footprint (batch_of ts)) p) ≡ true → HasGroup n paths p
+    by true e rest h = record { number = t.0; below = below.0; there = among.0 p e }
+    by false e rest h = rest (ap (λ b. b || touches (flat_map footprint (batch_of ts)) p) (sym e) ∙ h)
+
+-- a group's path is the batch's
+pub in_batch : (k : ℕ) (batch : List Tagged) (p : Bytes) → touches (paths_in k batch) p ≡ true
+    → touches (flat_map footprint (batch_of batch)) p ≡ true
+in_batch k [] p h = h
+in_batch k (t ∷ ts) p h = by (nat_eq t.0 k) (in_batch k ts p) h
+  where
+    either : (b : Bool) → touches (footprint t.1) p ≡ b
+        → (touches (paths_in k ts) p ≡ true → touches (flat_map footprint (batch_of ts)) p ≡ true)
+        → (touches (footprint t.1) p || touches (paths_in k ts) p) ≡ true
+        → touches (footprint t.1 ++ flat_map footprint (batch_of ts)) p ≡ true
+    either true e rest h = in_front p (footprint t.1) (flat_map footprint (batch_of ts)) e
+    either false e rest h =
+        in_rest p (footprint t.1) (flat_map footprint (batch_of ts))
+        (rest (ap (λ b. b || touches (paths_in k ts) p) (sym e) ∙ h))
+
+    by : (b : Bool) → (touches (paths_in k ts) p ≡ true → touches (flat_map footprint (batch_of ts)) p ≡ true)
+        → touches (flat_map footprint (cond b (t.1 ∷ of_group k ts) (of_group k ts))) p ≡ true
+        → touches (footprint t.1 ++ flat_map footprint (batch_of ts)) p ≡ true
+    by true rest h =
+        either (touches (footprint t.1) p) refl rest
+        (sym (list_any-append (eq_by_cmp path_cmp p) (footprint t.1) (paths_in k ts)) ∙ h)
+    by false rest h = in_rest p (footprint t.1) (flat_map footprint (batch_of ts)) (rest h)
+
+-- and a group that has a path was opened
+pub is_below : (n k : ℕ) (batch : List Tagged) (p : Bytes) → AllByRecursion (λ (t : Tagged). t.0 < n) batch
+    → touches (paths_in k batch) p ≡ true → k < n
+is_below n k [] p below h = absurd (true≢false (sym h))
+is_below n k (t ∷ ts) p below h = by (nat_eq t.0 k) refl (is_below n k ts p below.1) h
+  where
+    by : (b : Bool) → nat_eq t.0 k ≡ b → (touches (paths_in k ts) p ≡ true → k < n)
+        → touches (flat_map footprint (cond b (t.1 ∷ of_group k ts) (of_group k ts))) p ≡ true → k < n
+    by true e rest h = subst (λ j. j < n) (eqb-true t.0 k e) below.0
+    by false e rest h = rest h
+
+-- nothing stands at the places of a group that wasn't opened
+pub nothing_at : {A : Type 0} (n k : ℕ) (batch : List Tagged) (xs : List A)
+    → AllByRecursion (λ (t : Tagged). t.0 < n) batch → n ≤ k → at_group k batch xs ≡ []
+nothing_at n k [] xs below above = refl
+nothing_at n k (t ∷ ts) [] below above = refl
+nothing_at {A} n k (t ∷ ts) (x ∷ xs) below above = by (nat_eq t.0 k) refl (nothing_at n k ts xs below.1 above)
+  where
+    by : (b : Bool) → nat_eq t.0 k ≡ b → at_group k ts xs ≡ [] → cond b (x ∷ at_group k ts xs) (at_group k ts xs) ≡ []
+    by true e rest = let same = eqb-true t.0 k e in let less = below.0 in absurd (omega arith)
+    by false e rest = rest

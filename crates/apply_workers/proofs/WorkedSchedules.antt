@@ -1,0 +1,100 @@
+-- Schedules that were worked out by hand.
+use Rattle.std.proofs.Common.{◌≡◌, pos, negsuc, List, [], ◌∷◌, false, cond, Some, None, refl, ap, ◌∙◌, codes}
+use Rattle.std.specs.Cmp.{int_cmp_total, eq_by_cmp_equiv}
+use Rattle.std.specs.FinMap as finmap
+use Rattle.std.specs.FinSet as set
+use Rattle.ephemerals.specs.Orders.{Bytes}
+use Rattle.ephemerals.proofs.Totals.{path_total}
+use Rattle.txn_codec.specs.Paths.{parent_of, name_of}
+use Rattle.txn_codec.specs.declared.txn.Create.{Create}
+use Rattle.txn_codec.specs.declared.txn.Txn.{Txn}
+use Rattle.txn_codec.specs.declared.txn.TxnHeader.{TxnHeader}
+use Rattle.data_tree.specs.State.{State, Sessions}
+use Rattle.data_tree.specs.Meaning.{Meant, mean, outcomes, answer_of, of_effect, create_under, create_taken, create_new, with_children, next_cversion}
+use Rattle.data_tree.specs.Commuting.{TransactionsSetTheirTimeouts}
+use Rattle.data_tree.specs.declared.node.Node.{Node}
+use Rattle.batcher.specs.Rows.{creates, a, b, a_x, a_y, b_z}
+use Rattle.apply_workers.specs.declared.step.Step.{Step}
+use Rattle.apply_workers.specs.Schedule.{scheduled}
+use Rattle.apply_workers.specs.Schedules.{SchedulesAreTheBatch}
+use Rattle.apply_workers.specs.ScheduleRows.{SchedulesAreWorked, opens, three_creates, created, two_workers}
+
+-- ---- two timeouts of one session
+
+abbrev two_timeouts : TxnHeader → List Txn
+two_timeouts h = opens h 5000 ∷ creates h a_x ∷ opens h 6000 ∷ []
+
+timeouts_are : SchedulesAreTheBatch → TransactionsSetTheirTimeouts → (h : TxnHeader) (s : State) (steps : List Step)
+    → finmap.get (scheduled s (two_timeouts h) steps).state.sessions h.client_id ≡ Some (pos 6000)
+timeouts_are law set_in_order h s steps =
+    ap (λ d. finmap.get d.state.sessions h.client_id) (law s (two_timeouts h) steps)
+    ∙ ap (λ sessions. finmap.get sessions h.client_id) (set_in_order (two_timeouts h) s (tt, (tt, (tt, tt))))
+    ∙ finmap.get-insert int_cmp_total before h.client_id (pos 6000) h.client_id
+    ∙ ap (λ b. cond b (Some (pos 6000)) (finmap.get before h.client_id))
+    ((eq_by_cmp_equiv int_cmp_total).refl h.client_id)
+  where
+    before : Sessions
+    before = finmap.insert s.sessions h.client_id (pos 5000)
+
+-- ---- creates under two parents
+
+abbrev body_of : Bytes → Create
+body_of path = record { path = path; bytes = None; acl = None; ephemeral = false; parent_cversion = negsuc 0 }
+
+-- what a create does that finds its parent without the child
+abbrev made : TxnHeader → Bytes → Node → State → Meant
+made h path parent s = of_effect (create_new h (body_of path) parent) s
+
+is_made : (h : TxnHeader) (s : State) (path : Bytes) (parent : Node) → finmap.get s.nodes (parent_of path) ≡ Some parent
+    → set.contains parent.children (name_of path) ≡ false → mean s (creates h path) ≡ made h path parent s
+is_made h s path parent is new =
+    ap (λ found. of_effect (create_under h (body_of path) found) s) is
+    ∙ ap
+    (λ b. of_effect (cond b (create_taken h (body_of path) parent) (create_new h (body_of path) parent)) s) new
+
+-- the parent with a child more
+abbrev with_child : TxnHeader → Node → Bytes → Node
+with_child h parent name =
+    with_children parent (set.insert parent.children name) (next_cversion parent.stat.cversion (negsuc 0)) h.zxid
+
+outcomes_are : SchedulesAreTheBatch → (h : TxnHeader) (s : State) (parent other : Node)
+    → finmap.get s.nodes a ≡ Some parent → finmap.get s.nodes b ≡ Some other
+    → set.contains parent.children (codes "x") ≡ false → set.contains parent.children (codes "y") ≡ false
+    → set.contains other.children (codes "z") ≡ false
+    → (scheduled s (three_creates h) two_workers).outcomes ≡ created a_x a ∷ created a_y a ∷ created b_z b ∷ []
+outcomes_are law h s parent other is_a is_b no_x no_y no_z =
+    ap (λ d. d.outcomes) (law s (three_creates h) two_workers)
+    ∙ ap (λ m. answer_of m ∷ outcomes m.state (creates h a_y ∷ creates h b_z ∷ [])) (is_made h s a_x parent is_a no_x)
+    ∙ ap (λ m. created a_x a ∷ answer_of m ∷ outcomes m.state (creates h b_z ∷ []))
+    (is_made h one a_y (with_child h parent (codes "x")) is_one no_more)
+    ∙ ap (λ m. created a_x a ∷ created a_y a ∷ answer_of m ∷ []) (is_made h two b_z other is_two no_z)
+  where
+    one : State
+    one = (made h a_x parent s).state
+
+    two : State
+    two = (made h a_y (with_child h parent (codes "x")) one).state
+
+    is_one : finmap.get one.nodes a ≡ Some (with_child h parent (codes "x"))
+    is_one =
+        finmap.get-insert path_total _ a_x _ a
+        ∙ finmap.get-insert path_total s.nodes a _ a
+
+    no_more : set.contains (with_child h parent (codes "x")).children (codes "y") ≡ false
+    no_more = set.contains-insert path_total parent.children (codes "x") (codes "y") ∙ no_y
+
+    is_two : finmap.get two.nodes b ≡ Some other
+    is_two =
+        finmap.get-insert path_total _ a_y _ b
+        ∙ finmap.get-insert path_total one.nodes a _ b
+        ∙ finmap.get-insert path_total _ a_x _ b
+        ∙ finmap.get-insert path_total s.nodes a _ b
+        ∙ is_b
+
+pub schedules_are_worked : SchedulesAreTheBatch → TransactionsSetTheirTimeouts → SchedulesAreWorked
+schedules_are_worked law set_in_order h = record {
+  groups = refl;
+  steps = λ s. refl;
+  outcomes = outcomes_are law h;
+  timeouts = timeouts_are law set_in_order h;
+}

@@ -1,0 +1,172 @@
+-- What workers do with a batch's groups, step by step, and what is made of the groups at the end.
+use Rattle.std.specs.Prelude.{ℕ, ◌==◌, ◌+◌, Bool, true, false, not, ◌&&◌, nat_lt, List, [], ◌∷◌, ◌++◌, Option, Some, None, map, length, take, drop, if◌then◌else◌}
+use Rattle.std.specs.List.{flat_map, list_any, range_with_len}
+use Rattle.std.specs.FinSet as set
+use Rattle.ephemerals.specs.Orders.{Names}
+use Rattle.txn_codec.specs.declared.txn.Txn.{Txn}
+use Rattle.data_tree.specs.State.{State}
+use Rattle.data_tree.specs.Meaning.{after, outcomes, answer_of}
+use Rattle.data_tree.specs.Footprint.{footprint}
+use Rattle.data_tree.specs.Cells.{cells_at, without_cells, with_cells, mean_in_cells, after_in_cells, outcomes_in_cells}
+use Rattle.data_tree.specs.Commuting.{Tagged, of_group, batch_of, with_timeouts}
+use Rattle.data_tree.specs.declared.outcome.Outcome.{Outcome}
+use Rattle.batcher.specs.Groups.{opened, grouped, paths_in}
+use Rattle.apply_workers.specs.declared.step.Step.{Step}
+use Rattle.apply_workers.specs.declared.step.Step.TheVariants.{Claim, Do, Give}
+
+-- who has a group
+pub data Holder : Type 0 where
+  Waiting : Holder
+  Held : (worker : ℕ) → Holder
+  Home : Holder
+
+-- a group by its number: its paths and the cells there, the transactions that aren't done yet, and what those that are
+-- done answered
+pub record GroupState : Type 0 where
+  pub number : ℕ
+  pub holder : Holder
+  pub paths : Names
+  pub cells : State
+  pub left : List Txn
+  pub outcomes : List Outcome
+
+-- the number of the group that is claimed next, and all groups
+pub record Progress : Type 0 where
+  pub next : ℕ
+  pub groups : List GroupState
+
+-- ---- the first state
+
+-- no transaction of the group k is done
+abbrev pub opened_group : State → List Tagged → ℕ → GroupState
+opened_group s batch k =
+    let paths = set.from_list (paths_in k batch) in
+    record {
+      number = k;
+      holder = Waiting;
+      paths = paths;
+      cells = cells_at paths s;
+      left = of_group k batch;
+      outcomes = [];
+    }
+
+-- each group has its cells of the state
+abbrev pub opened_groups : State → List Tagged → List GroupState
+opened_groups s batch = map (opened_group s batch) (range_with_len 0 (opened batch))
+
+abbrev pub at_start : State → List Tagged → Progress
+at_start s batch = record { next = 0; groups = opened_groups s batch }
+
+-- the state without the cells that the groups have
+abbrev pub beside : State → List Tagged → State
+beside s batch = without_cells (set.from_list (flat_map footprint (batch_of batch))) s
+
+-- ---- a step
+
+abbrev pub is_held_by : ℕ → Holder → Bool
+is_held_by worker Waiting = false
+is_held_by worker (Held holder) = holder == worker
+is_held_by worker Home = false
+
+-- whether no transaction is left
+abbrev pub none_left : List Txn → Bool
+none_left [] = true
+none_left (t ∷ ts) = false
+
+abbrev pub has_work : ℕ → GroupState → Bool
+has_work worker g = is_held_by worker g.holder && not (none_left g.left)
+
+abbrev pub is_finished_by : ℕ → GroupState → Bool
+is_finished_by worker g = is_held_by worker g.holder && none_left g.left
+
+-- A worker that has no group claims one, where one is left; one that has a group does its next transaction, where one
+-- is left, and gives the group back where none is.
+abbrev pub can_be_taken : Progress → Step → Bool
+can_be_taken p (Claim worker) =
+    not (list_any (λ (g : GroupState). is_held_by worker g.holder) p.groups) && nat_lt p.next (length p.groups)
+can_be_taken p (Do worker) = list_any (has_work worker) p.groups
+can_be_taken p (Give worker) = list_any (is_finished_by worker) p.groups
+
+abbrev pub claimed : ℕ → ℕ → GroupState → GroupState
+claimed worker next g = if g.number == next then record g { holder = Held worker } else g
+
+-- with its next transaction done on its cells
+abbrev pub with_next_done : GroupState → List Txn → GroupState
+with_next_done g [] = g
+with_next_done g (t ∷ ts) =
+    let meant = mean_in_cells g.cells t in
+    record g { cells = meant.state; left = ts; outcomes = g.outcomes ++ answer_of meant ∷ [] }
+
+abbrev pub done_by : ℕ → GroupState → GroupState
+done_by worker g = if has_work worker g then with_next_done g g.left else g
+
+abbrev pub given_by : ℕ → GroupState → GroupState
+given_by worker g = if is_finished_by worker g then record g { holder = Home } else g
+
+abbrev pub taken : Progress → Step → Progress
+taken p (Claim worker) = record { next = p.next + 1; groups = map (claimed worker p.next) p.groups }
+taken p (Do worker) = record p { groups = map (done_by worker) p.groups }
+taken p (Give worker) = record p { groups = map (given_by worker) p.groups }
+
+-- a step that can't be taken is passed over
+abbrev pub step : Progress → Step → Progress
+step p s = if can_be_taken p s then taken p s else p
+
+abbrev pub run : Progress → List Step → Progress
+run p [] = p
+run p (s ∷ ss) = run (step p s) ss
+
+-- ---- the end
+
+-- what is left of it is done
+abbrev pub finished : GroupState → GroupState
+finished g =
+    record g {
+      holder = Home;
+      cells = after_in_cells g.cells g.left;
+      left = [];
+      outcomes = g.outcomes ++ outcomes_in_cells g.cells g.left;
+    }
+
+-- the groups' cells go back, in the order of the groups
+abbrev pub put_back : State → List GroupState → State
+put_back s [] = s
+put_back s (g ∷ gs) = put_back (with_cells g.cells s) gs
+
+abbrev pub outcomes_of : ℕ → List GroupState → List Outcome
+outcomes_of k [] = []
+outcomes_of k (g ∷ gs) = if g.number == k then g.outcomes else outcomes_of k gs
+
+-- for each transaction the next outcome of its group
+abbrev pub in_batch_order : List Tagged → (ℕ → List Outcome) → List Outcome
+in_batch_order [] of = []
+in_batch_order (t ∷ ts) of =
+    take 1 (of t.0) ++ in_batch_order ts (λ k. if t.0 == k then drop 1 (of k) else of k)
+
+-- what a batch leaves and answers
+pub record BatchDone : Type 0 where
+  pub state : State
+  pub outcomes : List Outcome
+
+-- groups that are done, put together: the cells go back, and the timeouts are set in the order of the batch, in which
+-- the outcomes stand too
+abbrev pub put_together : State → List Tagged → List GroupState → BatchDone
+put_together tree batch done =
+    let put = put_back tree done in
+    record {
+      state = record put { sessions = with_timeouts put.sessions (batch_of batch) };
+      outcomes = in_batch_order batch (λ k. outcomes_of k done);
+    }
+
+-- what the steps left undone is done first
+abbrev pub home : State → List Tagged → List GroupState → BatchDone
+home tree batch groups = put_together tree batch (map finished groups)
+
+-- a batch that has no groups, as a barrier alone, is done on the tree itself
+abbrev pub scheduled_in : State → List Txn → Option (List Tagged) → List Step → BatchDone
+scheduled_in s txns None steps = record { state = after s txns; outcomes = outcomes s txns }
+scheduled_in s txns (Some batch) steps = home (beside s batch) batch (run (at_start s batch) steps).groups
+
+-- the batch, done by these steps and then what they leave undone
+abbrev pub scheduled : State → List Txn → List Step → BatchDone
+scheduled s txns steps = scheduled_in s txns (grouped txns) steps

@@ -1,0 +1,31 @@
+-- When a result is of a group's work.
+use Rattle.std.specs.Prelude.{◌≡◌, ◌≤◌, List, length}
+use Rattle.txn_codec.specs.declared.txn.Txn.{Txn}
+use Rattle.data_tree.specs.State.{State}
+use Rattle.data_tree.specs.Cells.{after_in_cells, outcomes_in_cells}
+use Rattle.data_tree.specs.declared.outcome.Outcome.{Outcome}
+use Rattle.apply_workers.specs.Places.{at_places}
+use Rattle.apply_workers.specs.declared.group_work.Work.{Work}
+use Rattle.apply_workers.specs.declared.group_work.Finished.{Finished}
+use Rattle.apply_workers.specs.declared.group_work.Finished.TheVariants.{Done, Stopped}
+
+-- the cells before the work
+abbrev pub cells_of : Work → State
+cells_of work = work.cells
+
+-- what is to be done there, in order
+abbrev pub txns_of : Work → List Txn
+txns_of work = at_places work.txns.now work.members.now
+
+-- what the transactions leave in the cells, and what they answer
+pub record IsDone (cells : State) (txns : List Txn) (new : State) (answers : List Outcome) : Type 0 where
+  pub state : new ≡ after_in_cells cells txns
+  pub outcomes : answers ≡ outcomes_in_cells cells txns
+
+-- done whole, or stopped before the end, with cells that are only to be dropped
+abbrev pub Finishes : State → List Txn → Finished → Type 0
+Finishes cells txns (Done new answers) = IsDone cells txns new answers
+Finishes cells txns (Stopped new done) = done ≤ length txns
+
+abbrev pub IsOfWork : Work → Finished → Type 0
+IsOfWork work finished = Finishes (cells_of work) (txns_of work) finished

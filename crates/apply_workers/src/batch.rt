@@ -1,0 +1,53 @@
+//! A batch that is done on threads.
+ghost use Rattle.std.specs.Prelude.{◌≡◌, ◌<◌, ◌≤◌, IfOk, OnOk};
+ghost use Rattle.data_tree.specs.Meaning.{after, outcomes};
+
+use crate::crew::run;
+use crate::gate::Gate;
+use crate::home::{all_done, home};
+use crate::home_law::groups_come_home;
+use crate::taking::{take_each, works};
+use batcher::Batch;
+use data_tree::{Outcome, Tree};
+use std::alloc::Global;
+use std::thread::Threads;
+use txn_codec::Txn;
+use values::NoMemory;
+
+// Does the transactions on the tree itself, one after the other.
+fn apply_each(alloc: Global, tree: &mut Tree, txns: &[Txn]) -> Result<Vec<Outcome>, NoMemory>
+    ensures tree { OnOk result (tree.new ≡ after tree.old txns.now) }
+    ensures outcomes { IfOk result (λ v. v.items ≡ outcomes tree.old txns.now) }
+{
+    let mut outcomes = Vec::new(alloc);
+    for txn in txns {
+        outcomes.push(tree.apply(alloc, txn)?)?;
+    }
+    Ok(outcomes)
+}
+
+/// Does a batch by up to so many workers (1 to 64), each group on its own cells, and answers what its transactions
+/// answer, in order: the tree and the answers are those of the transactions done one after the other, however many
+/// workers there are. It waits for the workers, of which the first is the calling thread. Refused memory, it leaves a
+/// tree that is only to be dropped.
+pub fn apply_batch<G: Gate + Sync, R: Threads + Sync>(
+    rt: &R,
+    alloc: Global,
+    tree: &mut Tree,
+    batch: Batch,
+    workers: usize,
+    gate: &G,
+) -> Result<Vec<Outcome>, NoMemory>
+    requires { (1 ≤ workers) × (workers ≤ 64) }
+    ensures tree { OnOk result (tree.new ≡ after tree.old batch) }
+    ensures outcomes { IfOk result (λ v. v.items ≡ outcomes tree.old batch) }
+{
+    if batch.is_barrier() {
+        return apply_each(alloc, tree, batch.txns());
+    }
+    groups_come_home();
+    let cells = take_each(alloc, tree, batch.groups())?;
+    let groups = run(rt, alloc, works(alloc, &batch, cells)?, workers, gate)?;
+    let done = all_done(alloc, groups)?;
+    home(alloc, tree, &batch, done)
+}

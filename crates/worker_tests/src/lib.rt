@@ -1,0 +1,91 @@
+//! Tests of batches that are done on workers, over public calls alone. They stand in a crate of their own, since a
+//! crate that has tests is proved twice; and the calls stand in functions without clauses, so that a test's own proof
+//! is short.
+#![tactic(auto)]
+
+#[cfg(test)]
+mod batches;
+#[cfg(test)]
+mod threads;
+
+use batch_tests::read_txns;
+use batcher::{Batch, Limits, cut};
+use data_tree::{Outcome, Tree, Trigger};
+use std::alloc::Global;
+use std::test::Fail;
+
+/// The fresh tree, behind the transactions of these words.
+pub fn tree_behind(alloc: Global, words: &str) -> Result<Tree, Fail> {
+    let mut tree = Tree::fresh(alloc)?;
+    for txn in read_txns(alloc, words)? {
+        tree.apply(alloc, &txn)?;
+    }
+    Ok(tree)
+}
+
+/// What is cut from the transactions of these words with limits that are usual.
+pub fn batch_of(alloc: Global, words: &str) -> Result<Batch, Fail> {
+    let limits = Limits::new(4, 256, 64)?;
+    Ok(cut(alloc, read_txns(alloc, words)?.as_slice(), &limits)?)
+}
+
+// A sign and the path of what watchers are told.
+fn told(trigger: &Trigger) -> (char, &str) {
+    match trigger {
+        Trigger::Created(path) => ('+', path.as_str()),
+        Trigger::Deleted(path) => ('-', path.as_str()),
+        Trigger::DataChanged(path) => ('=', path.as_str()),
+        Trigger::ChildrenChanged(path) => ('~', path.as_str()),
+    }
+}
+
+/// Each outcome's error, and what it tells watchers: "+" where a node was made, "-" where one was removed, "=" where
+/// its data changed, "~" where its children did.
+pub fn answers(alloc: Global, outcomes: &[Outcome]) -> Result<String, Fail> {
+    let mut text = String::new(alloc);
+    for outcome in outcomes {
+        let err = outcome.err;
+        text.push_str(format!(in alloc; "{err}")?.as_str())?;
+        for trigger in outcome.triggers.as_slice() {
+            let (sign, path) = told(trigger);
+            text.push(sign)?;
+            text.push_str(path)?;
+        }
+        text.push_str(";")?;
+    }
+    Ok(text)
+}
+
+// The names of the children of the node at the path.
+fn names(alloc: Global, tree: &Tree, path: &str) -> Result<String, Fail> {
+    let mut text = String::new(alloc);
+    if let Some(children) = tree.children(path) {
+        for name in children.iter() {
+            text.push_str(" ")?;
+            text.push_str(name.as_str())?;
+        }
+    }
+    Ok(text)
+}
+
+/// How many nodes there are, the children of "/", "/a" and "/b", and the timeout of session 9, or -1.
+pub fn state(alloc: Global, tree: &Tree) -> Result<String, Fail> {
+    let count = tree.paths();
+    let root = names(alloc, tree, "/")?;
+    let a = names(alloc, tree, "/a")?;
+    let b = names(alloc, tree, "/b")?;
+    let timeout = tree.sessions().get(9).unwrap_or(-1);
+    Ok(format!(in alloc; "{count}{root};{a};{b}; {timeout}")?)
+}
+
+/// What the transactions of these words answer and leave, one after the other, behind those of the words before.
+pub fn one_by_one(alloc: Global, before: &str, words: &str) -> Result<String, Fail> {
+    let mut tree = tree_behind(alloc, before)?;
+    let mut outcomes = Vec::new(alloc);
+    for txn in read_txns(alloc, words)? {
+        outcomes.push(tree.apply(alloc, &txn)?)?;
+    }
+    let mut text = answers(alloc, outcomes.as_slice())?;
+    text.push_str(state(alloc, &tree)?.as_str())?;
+    Ok(text)
+}

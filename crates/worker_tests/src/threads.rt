@@ -1,0 +1,69 @@
+//! Groups are done at the same time, by workers that share them out as they go.
+
+use crate::{answers, batch_of, tree_behind};
+use apply_workers::{Gate, apply_batch};
+use std::alloc::Global;
+use std::sync::atomic::{AtomicU64, Ordering};
+use std::test::Fail;
+use std::thread::Threads;
+
+const MOST_TURNS: u64 = 1_000_000_000;
+
+// Holds a group until so many others were passed, or marks that they were not.
+#[derive(Drop)]
+struct Holding {
+    held: usize,
+    others: u64,
+    passed: AtomicU64,
+    missed: AtomicU64,
+}
+
+impl Gate for Holding {
+    fn pass(&self, _worker: usize, group: usize) {
+        if group != self.held {
+            self.passed.fetch_add(1, Ordering::SeqCst);
+            return;
+        }
+        for _ in 0..MOST_TURNS {
+            if self.passed.load(Ordering::SeqCst) == self.others {
+                return;
+            }
+        }
+        self.missed.store(1, Ordering::SeqCst);
+    }
+}
+
+// What two workers answer while one group is held until so many others were passed; or the word "missed".
+fn held<R: Threads + Sync>(
+    rt: &R,
+    alloc: Global,
+    words: &str,
+    held: usize,
+    others: u64,
+) -> Result<String, Fail> {
+    let gate = Holding {
+        held,
+        others,
+        passed: AtomicU64::new(0),
+        missed: AtomicU64::new(0),
+    };
+    let mut tree = tree_behind(alloc, "/a /b /c")?;
+    let batch = batch_of(alloc, words)?;
+    let outcomes = apply_batch(rt, alloc, &mut tree, batch, 2, &gate)?;
+    if gate.missed.load(Ordering::SeqCst) != 0 {
+        return Ok(String::from_str(alloc, "missed")?);
+    }
+    answers(alloc, outcomes.as_slice())
+}
+
+#[test]
+fn a_held_group_holds_no_other(rt: HostRuntime) -> Result<(), Fail> {
+    let alloc = rt.alloc();
+    let two = held(&rt, alloc, "/a/x /a/y /b/z", 0, 1)?;
+    assert_eq!(rt; two.as_str(), "0+/a/x~/a;0+/a/y~/a;0+/b/z~/b;");
+    for group in 0..3 {
+        let three = held(&rt, alloc, "/a/x /b/y /c/z", group, 2)?;
+        assert_eq!(rt; three.as_str(), "0+/a/x~/a;0+/b/y~/b;0+/c/z~/c;");
+    }
+    Ok(())
+}
