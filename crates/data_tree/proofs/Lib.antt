@@ -4,6 +4,8 @@ pub mod Lists
 pub mod TextMaps
 -- A map from signed numbers as a finite map
 pub mod IntMaps
+-- A map of entries that are in order
+pub mod EntriesInOrder
 -- A node that was lent for writing
 pub mod NodeUpdates
 -- A pair that was added and is taken out again, and the changes of pairs

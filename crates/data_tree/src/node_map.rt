@@ -1,9 +1,11 @@
 //! The nodes by path, seen as a finite map.
 
-ghost use Rattle.std.specs.Prelude.{◌≡◌, ◌↔◌, ℤ, OnOk, OnErr, IfOk, IsTrue, Option, None, Some, is_some, not, true, string_bytes};
+ghost use Rattle.std.specs.Prelude.{◌≡◌, ◌↔◌, ℤ, OnOk, OnErr, IfOk, IsTrue, Option, None, Some, is_some, not, true, map, String, string_bytes};
 ghost use Rattle.std.specs.Option.{option_copied, option_copied_mut};
 ghost use Rattle.std.specs.Borrow.{sem};
 ghost use Rattle.std.specs.FinMap as finmap;
+ghost use Rattle.std.specs.Map.Iter.{ShowsInOrder, deref_pair};
+ghost use Rattle.data_tree.specs.declared.node.Node.{Node as TheNode};
 ghost use Rattle.data_tree.specs.Inner.NodeMapLends.{LendsNode};
 ghost use Rattle.data_tree.specs.Cells.{with_entries};
 ghost use Rattle.data_tree.specs.Making.{update_node};
@@ -20,6 +22,7 @@ use ephemerals::{Ephemerals, TextSet};
 use jute::StatPersisted;
 use std::alloc::{AllocError, Global};
 use std::collections::BTreeMap;
+use std::collections::btree_map::Iter;
 use std::marker::Model;
 use txn_codec::{Create, SetAcl, SetData, TxnHeader, child_of, is_path, name_of, parent_of};
 use values::NoMemory;
@@ -96,6 +99,14 @@ impl NodeMap {
         ensures { result ≡ finmap.len self.now }
     {
         self.map.len()
+    }
+
+    /// The nodes with their paths, in ascending bytes.
+    pub fn iter(&self) -> Iter<'_, String, Node>
+        ensures entries { map (λ e. (string_bytes e.0, e.1)) result ≡ finmap.entries self.now }
+        ensures runs { ShowsInOrder (deref_pair {K = String Global} {X = TheNode}) }
+    {
+        self.map.iter()
     }
 
     /// Puts a node at the path, in place of another one.

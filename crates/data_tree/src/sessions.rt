@@ -1,10 +1,12 @@
 //! The sessions' timeouts.
 
-ghost use Rattle.std.specs.Prelude.{◌≡◌, OnOk, OnErr};
+ghost use Rattle.std.specs.Prelude.{◌≡◌, ℤ, OnOk, OnErr};
+ghost use Rattle.std.specs.Map.Iter.{ShowsInOrder, deref_pair};
 ghost use Rattle.std.specs.FinMap as finmap;
 
 use std::alloc::{AllocError, Global};
 use std::collections::BTreeMap;
+use std::collections::btree_map::Iter;
 use std::marker::Model;
 use values::NoMemory;
 
@@ -51,6 +53,14 @@ impl Timeouts {
         ensures { result ≡ finmap.get self.now session }
     {
         self.map.get(&session).copied()
+    }
+
+    /// The sessions with their timeouts, in ascending number.
+    pub fn iter(&self) -> Iter<'_, i64, i32>
+        ensures entries { result ≡ finmap.entries self.now }
+        ensures runs { ShowsInOrder (deref_pair {K = ℤ} {X = ℤ}) }
+    {
+        self.map.iter()
     }
 
     // Sets a session's timeout.

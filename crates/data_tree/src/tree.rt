@@ -1,8 +1,10 @@
 //! The data tree.
 
-ghost use Rattle.std.specs.Prelude.{◌≡◌, ◌++◌, [], ◌↔◌, OnOk, OnErr, IfOk, IsTrue, not, codes};
+ghost use Rattle.std.specs.Prelude.{◌≡◌, ◌++◌, [], ◌↔◌, OnOk, OnErr, IfOk, IsTrue, not, map, String, string_bytes, codes};
 ghost use Rattle.std.specs.Option.{option_copied, option_map};
 ghost use Rattle.std.specs.FinMap as finmap;
+ghost use Rattle.std.specs.Map.Iter.{ShowsInOrder, deref_pair};
+ghost use Rattle.data_tree.specs.declared.node.Node.{Node as TheNode};
 ghost use Rattle.data_tree.specs.Making.{with_placed_node};
 ghost use Rattle.data_tree.specs.Making.{empty_state, with_session, with_node_in_place, has_place};
 ghost use Rattle.data_tree.specs.Inner.Children.{with_new_node_placed};
@@ -25,6 +27,7 @@ use ephemerals::{Ephemerals, TextSet};
 use jute::Stat;
 use jute::codes::{NO_NODE, NODE_EXISTS};
 use std::alloc::Global;
+use std::collections::btree_map::Iter;
 use std::marker::Model;
 use txn_codec::{
     Body, Create, Operation, Path, SetAcl, SetData, Txn, TxnHeader, name_of, parent_of,
@@ -455,6 +458,14 @@ impl Tree {
         ensures { result ≡ finmap.len self.now.nodes }
     {
         self.nodes.len()
+    }
+
+    /// The nodes with their paths, in ascending bytes.
+    pub fn nodes(&self) -> Iter<'_, String, Node>
+        ensures entries { map (λ e. (string_bytes e.0, e.1)) result ≡ finmap.entries self.now.nodes }
+        ensures runs { ShowsInOrder (deref_pair {K = String Global} {X = TheNode}) }
+    {
+        self.nodes.iter()
     }
 
     /// The names of the children of the node at the path, in ascending bytes.
