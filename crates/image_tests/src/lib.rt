@@ -7,6 +7,8 @@ mod image_rows;
 mod part_rows;
 #[cfg(test)]
 mod pieces;
+#[cfg(test)]
+mod written_rows;
 
 use std::alloc::Global;
 use values::NoMemory;

@@ -25,6 +25,16 @@ pub const READ_5: &[u8] = b"\0\0\0\0\0\0\0\x05\0\0\0\x01\0\0\0\x01\0\0\0\x05worl
 /// The same list under key 8.
 pub const READ_8: &[u8] = b"\0\0\0\0\0\0\0\x08\0\0\0\x01\0\0\0\x01\0\0\0\x05world\0\0\0\x06anyone";
 
+/// The same list under key 1, and under key 2.
+pub const READ_1: &[u8] = b"\0\0\0\0\0\0\0\x01\0\0\0\x01\0\0\0\x01\0\0\0\x05world\0\0\0\x06anyone";
+
+pub const READ_2: &[u8] = b"\0\0\0\0\0\0\0\x02\0\0\0\x01\0\0\0\x01\0\0\0\x05world\0\0\0\x06anyone";
+
+/// The list that lets everyone read and write, under key 1 and under key 7.
+pub const WRITE_1: &[u8] = b"\0\0\0\0\0\0\0\x01\0\0\0\x01\0\0\0\x03\0\0\0\x05world\0\0\0\x06anyone";
+
+pub const WRITE_7: &[u8] = b"\0\0\0\0\0\0\0\x07\0\0\0\x01\0\0\0\x03\0\0\0\x05world\0\0\0\x06anyone";
+
 /// A null list under key -1.
 pub const OPEN: &[u8] = b"\xff\xff\xff\xff\xff\xff\xff\xff\xff\xff\xff\xff";
 
@@ -36,6 +46,9 @@ pub const A: &[u8] = b"\0\0\0\x02/a";
 
 /// The path /b.
 pub const B: &[u8] = b"\0\0\0\x02/b";
+
+/// The path /a-b, whose third byte is less than a slash.
+pub const A_B: &[u8] = b"\0\0\0\x04/a-b";
 
 /// The path /a/c.
 pub const C: &[u8] = b"\0\0\0\x04/a/c";
@@ -51,6 +64,20 @@ pub const OWNED: &[u8] = b"\0\0\0\x01x\0\0\0\0\0\0\0\x05\
     \0\0\0\0\0\0\0\0\0\0\0\0\0\0\0\0\0\0\0\0\
     \0\0\0\0\0\0\0\0\0\0\0\0\0\0\0\0\0\0\0\0\
     \0\0\0\0\0\0\0\0\0\0\0\x09\0\0\0\0\0\0\0\0";
+
+/// The 60 bytes of numbers that are all 0.
+pub const NUMBERS: &[u8] = b"\0\0\0\0\0\0\0\0\0\0\0\0\0\0\0\0\0\0\0\0\
+    \0\0\0\0\0\0\0\0\0\0\0\0\0\0\0\0\0\0\0\0\
+    \0\0\0\0\0\0\0\0\0\0\0\0\0\0\0\0\0\0\0\0";
+
+/// No bytes, and the list under key 1, 2, 7 or 8.
+pub const KEY_1: &[u8] = b"\0\0\0\0\0\0\0\0\0\0\0\x01";
+
+pub const KEY_2: &[u8] = b"\0\0\0\0\0\0\0\0\0\0\0\x02";
+
+pub const KEY_7: &[u8] = b"\0\0\0\0\0\0\0\0\0\0\0\x07";
+
+pub const KEY_8: &[u8] = b"\0\0\0\0\0\0\0\0\0\0\0\x08";
 
 /// The path "/", which closes the nodes.
 pub const CLOSE: &[u8] = b"\0\0\0\x01/";

@@ -22,3 +22,13 @@ pub mod Limits
 pub mod Written
 -- Images that were worked out by hand
 pub mod Rows
+-- The table of ACL lists
+pub mod Tables
+-- A map in the order of the walk
+pub mod DepthFirst
+-- A loop that puts one item behind another
+pub mod Behind
+-- A node's numbers
+pub mod Nodes
+-- The bytes of an image, section by section
+pub mod ImageBytes

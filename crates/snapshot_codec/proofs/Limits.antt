@@ -53,14 +53,14 @@ stand_written (v ∷ vs) phase h =
 
 -- ---- sessions and lists, as many as were counted
 
-not_zero : (n : ℕ) → (suc n == 0) ≡ false
+pub not_zero : (n : ℕ) → (suc n == 0) ≡ false
 not_zero n = by (suc n == 0) refl
   where
     by : (b : Bool) → (suc n == 0) ≡ b → b ≡ false
     by true e = let none : suc n ≡ 0 = eqb-true (suc n) 0 e in absurd (omega arith)
     by false e = refl
 
-one_less : (n : ℕ) → n ≡ suc n - 1
+pub one_less : (n : ℕ) → n ≡ suc n - 1
 one_less n = omega arith
 
 sessions_fit : (xs : List (ℤ × ℤ)) (vs : List Value) → AllByRecursion (both long int).Fits xs → FitFrom AclCount vs
@@ -150,17 +150,17 @@ less_found k q (e ∷ es) h some =
         ∙ less (walk_cmp k e.0) (first (is_lt (walk_cmp k e.0)) (below_all walk_cmp k es) h)
     by later false is j = later j
 
-abbrev ArePaths : List (Bytes × Node) → Type 0
+abbrev pub ArePaths : List (Bytes × Node) → Type 0
 ArePaths es = (q : Bytes) → is_some (find path_cmp q es) ≡ true → is_path q ≡ true
 
-behind_first : (e : Bytes × Node) (es : List (Bytes × Node)) → ArePaths (e ∷ es) → ArePaths es
+pub behind_first : (e : Bytes × Node) (es : List (Bytes × Node)) → ArePaths (e ∷ es) → ArePaths es
 behind_first e es h q some = h q (by (eq_by_cmp path_cmp q e.0))
   where
     by : (b : Bool) → is_some (cond b (Some e.1) (find path_cmp q es)) ≡ true
     by true = refl
     by false = some
 
-others : (es : List (Bytes × Node)) → T (below_all walk_cmp slash es) → ArePaths es
+pub others : (es : List (Bytes × Node)) → T (below_all walk_cmp slash es) → ArePaths es
     → AllByRecursion (λ (e : Bytes × Node). (is_root e.0 ≡ false) × (is_path e.0 ≡ true)) es
 others [] h p = tt
 others (e ∷ es) h p = (
@@ -175,7 +175,7 @@ others (e ∷ es) h p = (
     by true root = absurd (none_before_root slash refl (ap (walk_cmp slash) (sym (root_is e.0 root)) ∙ above))
     by false root = refl
 
-first_root : (e : Bytes × Node) (es : List (Bytes × Node)) → T (is_sorted walk_cmp (e ∷ es)) → ArePaths (e ∷ es)
+pub first_root : (e : Bytes × Node) (es : List (Bytes × Node)) → T (is_sorted walk_cmp (e ∷ es)) → ArePaths (e ∷ es)
     → is_some (find path_cmp slash (e ∷ es)) ≡ true → slash ≡ e.0
 first_root e es h p some = by (eq_by_cmp path_cmp slash e.0) refl some
   where

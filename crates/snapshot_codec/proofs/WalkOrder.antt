@@ -125,7 +125,7 @@ rank_total = on_total rank nat_cmp_total
 pub walk_total : IsTotalOrder walk_cmp
 walk_total = lists_total rank_total
 
-walk_exact : (x y : Bytes) → walk_cmp x y ≡ Equal → x ≡ y
+pub walk_exact : (x y : Bytes) → walk_cmp x y ≡ Equal → x ≡ y
 walk_exact = slice_cmp-IsAntisymmetric {R = on rank nat_cmp} rank_exact_cmp
 
 same_tie : (q k : Bytes) → eq_by_cmp walk_cmp q k ≡ eq_by_cmp path_cmp q k

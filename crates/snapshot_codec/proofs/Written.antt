@@ -109,7 +109,7 @@ same_acl_decides a b = (
     own = λ i. (Decides-int_eq a.perms a.perms).1 refl i
         && ((bytes_decides a.id.scheme a.id.scheme).1 refl i && (bytes_decides a.id.id a.id.id).1 refl i)
 
-list_decides : (a b : List Acl) → (same_list a b ≡ true → a ≡ b) × (a ≡ b → same_list a b ≡ true)
+pub list_decides : (a b : List Acl) → (same_list a b ≡ true → a ≡ b) × (a ≡ b → same_list a b ≡ true)
 list_decides = pointwise_decides same_acl_decides
 
 -- the keys stand in order from one on
@@ -187,7 +187,7 @@ key_names n (e ∷ es) list h some =
         )
 
 -- a list has a key, or is the open one
-abbrev has_key : Lists → List Acl → Bool
+abbrev pub has_key : Lists → List Acl → Bool
 has_key lists list = same_list list open_acl || is_some (key_in lists list)
 
 still_in : (es fs : Lists) (list : List Acl) → is_some (key_in es list) ≡ true
@@ -214,7 +214,7 @@ or_right : (a b c : Bool) → (b ≡ true → c ≡ true) → (a || b) ≡ true 
 or_right true b c f e = refl
 or_right false b c f e = f e
 
-or_on : (a b : Bool) → b ≡ true → (a || b) ≡ true
+pub or_on : (a b : Bool) → b ≡ true → (a || b) ≡ true
 or_on true b e = refl
 or_on false b e = e
 
@@ -229,29 +229,34 @@ kept_with es list asked h = by (has_key es list)
     by true = h
     by false = or_right (same_list asked open_acl) (is_some (key_in es asked)) _ (still_in es _ asked) h
 
-keyed_with : (es : Lists) (list : List Acl) → has_key (with_list es list) list ≡ true
+pub keyed_with : (es : Lists) (list : List Acl) → has_key (with_list es list) list ≡ true
 keyed_with es list = by (has_key es list) refl
   where
     by : (b : Bool) → has_key es list ≡ b → has_key (cond b es (es ++ (pos (suc (length es)), list) ∷ [])) list ≡ true
     by true e = e
     by false e = or_on (same_list list open_acl) _ (new_in es (pos (suc (length es))) list)
 
-kept_from : (es : List (Bytes × Node)) (lists : Lists) (asked : List Acl) → has_key lists asked ≡ true
+pub kept_from : (es : List (Bytes × Node)) (lists : Lists) (asked : List Acl) → has_key lists asked ≡ true
     → has_key (lists_from lists es) asked ≡ true
 kept_from [] lists asked h = h
 kept_from (e ∷ es) lists asked h = kept_from es (with_list lists e.1.acl) asked (kept_with lists e.1.acl asked h)
 
-AllKeyed : Lists → List (Bytes × Node) → Type 0
+pub AllKeyed : Lists → List (Bytes × Node) → Type 0
 AllKeyed lists [] = Unit {0}
 AllKeyed lists (e ∷ es) = (has_key lists e.1.acl ≡ true) × AllKeyed lists es
 
-all_keyed : (es : List (Bytes × Node)) (lists : Lists) → AllKeyed (lists_from lists es) es
+pub all_keyed : (es : List (Bytes × Node)) (lists : Lists) → AllKeyed (lists_from lists es) es
 unfolding AllKeyed
 all_keyed [] lists = tt
 all_keyed (e ∷ es) lists = (
   kept_from es (with_list lists e.1.acl) e.1.acl (keyed_with lists e.1.acl),
   all_keyed es (with_list lists e.1.acl),
 )
+
+pub keyed_head : (lists : Lists) (x : Bytes × Node) (es : List (Bytes × Node)) → AllKeyed lists (x ∷ es)
+    → (has_key lists x.1.acl ≡ true) × AllKeyed lists es
+unfolding AllKeyed
+keyed_head lists x es h = h
 
 numbered_with : (es : Lists) (list : List Acl) → Numbered 0 es → Numbered 0 (with_list es list)
 numbered_with es list h = by (has_key es list)

@@ -2,7 +2,9 @@ pub mod Parts
 pub mod AclLists
 pub mod Made
 pub mod Written
+pub mod Totals
 pub mod Walks
 pub mod Image
 pub mod Rows
 pub mod Reads
+pub mod Writes

@@ -14,7 +14,7 @@ use txn_codec::Path;
 use values::{Blob, Fault, ReadError};
 
 /// The text that ends an image.
-const SIGNATURE: &str = "BenWasHere";
+pub const SIGNATURE: &str = "BenWasHere";
 
 /// Reads how many sessions or ACL lists follow; null is `BadLength`.
 #[tactic(auto, unfolding(jute::specs::Format::judged_at))]

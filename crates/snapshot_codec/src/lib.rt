@@ -3,8 +3,8 @@
 //! An image is read in parts, so that it never stands whole in memory beside the tree that it makes: `read_part` reads
 //! what stands next at a place, and a `Loader` takes each part into a tree. `read_image` does both for bytes that are
 //! all there. `specs/Parts.antt` says how the parts are spelled, `specs/Made.antt` what they make, and
-//! `specs/Image.antt`, as a relation, which bytes are an image of which state; `specs/Written.antt` says which image is
-//! written of a state. The laws in `law` tie them.
+//! `specs/Image.antt`, as a relation, which bytes are an image of which state. `write_image` writes a tree's image, which
+//! `specs/Written.antt` defines. The laws in `law` tie them: what is written is read again, and gives the tree.
 //!
 //! ```text
 //! let (image, used) = read_image(alloc, bytes)?;     // or: part by part
@@ -16,18 +16,26 @@
 //!     }
 //! }
 //! let tree = loader.finish();
+//! let bytes = write_image(alloc, &tree)?;            // NotWhole where the tree has no image
 //! ```
 #![tactic(auto)]
 
 mod acl_table;
+mod depth_first;
 mod fields;
+mod fits;
 mod image;
+mod key_table;
 pub mod law;
 mod loader;
 mod part;
 mod read;
+mod write_error;
+mod writer;
 
 pub use image::{Image, read_image};
 pub use loader::Loader;
 pub use part::{ImageAcl, ImageNode, ImagePart, ImageSession, PartPhase};
 pub use read::read_part;
+pub use write_error::WriteError;
+pub use writer::write_image;

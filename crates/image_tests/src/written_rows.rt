@@ -1,0 +1,143 @@
+//! Images that are written.
+
+use crate::joined;
+use crate::pieces::{
+    A, A_B, B, BARE, C, CLOSE, KEY_1, KEY_2, KEY_7, KEY_8, NONE, NUMBERS, ONE, READ_1, READ_2,
+    READ_8, ROOT, SESSION, SIGNATURE, TWO, WRITE_1, WRITE_7, fresh_image, session_image,
+};
+use data_tree::{Node, Tree};
+use ephemerals::TextSet;
+use jute::StatPersisted;
+use snapshot_codec::{WriteError, read_image, write_image};
+use std::alloc::Global;
+use std::test::Fail;
+use txn_codec::{AclList, Path};
+use values::Blob;
+
+// What is written of the tree that an image makes.
+fn written_again(alloc: Global, bytes: &[u8]) -> Result<Vec<u8>, Fail> {
+    let (image, _) = read_image(alloc, bytes)?;
+    let tree = image.into_tree();
+    Ok(write_image(alloc, &tree)?)
+}
+
+#[test]
+fn worked_images(rt: HostRuntime) -> Result<(), Fail> {
+    let fresh = fresh_image(rt.alloc())?;
+    let with_session = session_image(rt.alloc())?;
+    let tree = Tree::fresh(rt.alloc())?;
+    assert!(rt; write_image(rt.alloc(), &tree)? == fresh);
+    assert!(rt; written_again(rt.alloc(), &fresh)? == fresh);
+    assert!(rt; written_again(rt.alloc(), &with_session)? == with_session);
+    Ok(())
+}
+
+// Sessions stand in ascending id, and the least is below 0.
+#[test]
+fn sessions_in_order(rt: HostRuntime) -> Result<(), Fail> {
+    let alloc = rt.alloc();
+    let least: &[u8] = b"\x80\0\0\0\0\0\0\0\0\0\0\x01";
+    let end = joined(alloc, &[NONE, ROOT, BARE, CLOSE, SIGNATURE])?;
+    let read = joined(alloc, &[TWO, SESSION, least, &end])?;
+    let written = joined(alloc, &[TWO, least, SESSION, &end])?;
+    assert!(rt; written_again(alloc, &read)? == written);
+    Ok(())
+}
+
+// What is below a node stands behind it, before the next node; the list that is used first has the key 1, one that no
+// node uses is gone, and nodes with one list name one key.
+#[test]
+fn nodes_depth_first(rt: HostRuntime) -> Result<(), Fail> {
+    let alloc = rt.alloc();
+    let read = joined(
+        alloc,
+        &[
+            NONE, TWO, WRITE_7, READ_8, ROOT, BARE, A_B, KEY_8, NUMBERS, B, KEY_7, NUMBERS, A,
+            KEY_7, NUMBERS, C, KEY_8, NUMBERS, CLOSE, SIGNATURE,
+        ],
+    )?;
+    let written = joined(
+        alloc,
+        &[
+            NONE, TWO, WRITE_1, READ_2, ROOT, BARE, A, KEY_1, NUMBERS, C, KEY_2, NUMBERS, A_B,
+            KEY_2, NUMBERS, B, KEY_1, NUMBERS, CLOSE, SIGNATURE,
+        ],
+    )?;
+    assert!(rt; written_again(alloc, &read)? == written);
+    Ok(())
+}
+
+// Two keys of one list become one.
+#[test]
+fn one_key_a_list(rt: HostRuntime) -> Result<(), Fail> {
+    let alloc = rt.alloc();
+    let read = joined(
+        alloc,
+        &[
+            NONE, TWO, READ_2, READ_8, ROOT, BARE, A, KEY_2, NUMBERS, B, KEY_8, NUMBERS, CLOSE,
+            SIGNATURE,
+        ],
+    )?;
+    let written = joined(
+        alloc,
+        &[
+            NONE, ONE, READ_1, ROOT, BARE, A, KEY_1, NUMBERS, B, KEY_1, NUMBERS, CLOSE, SIGNATURE,
+        ],
+    )?;
+    assert!(rt; written_again(alloc, &read)? == written);
+    Ok(())
+}
+
+fn is_not_whole(alloc: Global, tree: &Tree) -> bool {
+    matches!(write_image(alloc, tree), Err(WriteError::NotWhole))
+}
+
+// The byte "x" 4,194,304 times, which is the limit.
+fn longest(alloc: Global) -> Result<Vec<u8>, Fail> {
+    let mut bytes = Vec::new(alloc);
+    bytes.push(b'x')?;
+    for _ in 0..22 {
+        let copy = bytes.clone()?;
+        bytes.extend_from_slice(&copy)?;
+    }
+    Ok(bytes)
+}
+
+// A tree of nothing but a root that has the bytes.
+fn root_of(alloc: Global, bytes: &[u8]) -> Result<Tree, Fail> {
+    let stat = StatPersisted {
+        czxid: 0,
+        mzxid: 0,
+        ctime: 0,
+        mtime: 0,
+        version: 0,
+        cversion: 0,
+        aversion: 0,
+        ephemeral_owner: 0,
+        pzxid: 0,
+    };
+    let node = Node {
+        bytes: Some(Blob::new(alloc, bytes)?),
+        acl: AclList::open(),
+        stat,
+        children: TextSet::new(alloc),
+    };
+    let mut tree = Tree::empty(alloc);
+    tree.put_node(alloc, &Path::new(alloc, "/")?, node)?;
+    Ok(tree)
+}
+
+// An image of a root with n bytes takes 103 bytes more.
+#[test]
+fn trees_without_an_image(rt: HostRuntime) -> Result<(), Fail> {
+    let alloc = rt.alloc();
+    assert!(rt; is_not_whole(alloc, &Tree::empty(alloc)));
+    let mut bytes = longest(alloc)?;
+    assert_eq!(rt;
+        write_image(alloc, &root_of(alloc, &bytes)?)?.len(),
+        4_194_407
+    );
+    bytes.push(b'x')?;
+    assert!(rt; is_not_whole(alloc, &root_of(alloc, &bytes)?));
+    Ok(())
+}

@@ -1,0 +1,39 @@
+use Rattle.std.proofs.Common.{◌≡◌, List, ◌∷◌, map, string_bytes, sym, ap, subst, ◌∙◌}
+use Rattle.std.specs.FinMap as finmap
+use Rattle.ephemerals.specs.Orders.{Bytes}
+use Rattle.data_tree.specs.declared.node.Node.{Node}
+use Rattle.snapshot_codec.specs.Written.{walk_cmp}
+use Rattle.snapshot_codec.specs.Writes.{shown_rows}
+use Rattle.snapshot_codec.proofs.DepthFirst.{SoFar, begins, takes}
+use Rattle.snapshot_codec.proofs.Tables.{seen-insert}
+use Rattle.snapshot_codec.proofs.depth_first.depth_first.Goals as goal
+
+pub loop-path-init : goal.loop-path-init
+loop-path-init c = (
+  tt,
+  tt,
+  begins c.args.tree.now.nodes (shown_rows c.new-rows.result.entries)
+      (map (λ e. (string_bytes e.0, e.1)) c.into_iter-path-iterator.result)
+      (ap shown_rows c.new-rows.ensures.empty)
+      (ap (map (λ e. (string_bytes e.0, e.1))) c.into_iter-path-iterator.ensures.into_iter_gives
+      ∙ c.nodes-path-items.ensures.entries),
+)
+
+pub loop-path-preserved : goal.loop-path-preserved
+loop-path-preserved c =
+    let nodes = c.args.tree.now.nodes in
+    let path = string_bytes c.in-Some.path.now in
+    let node = c.in-Some.node.now in
+    let rows = shown_rows c.loop-path.rows.entries in
+    let rest = map (λ e. (string_bytes e.0, e.1)) c.next.new.self in
+    let added : shown_rows c.insert.new.self.entries ≡ finmap.put walk_cmp path node rows =
+    ap shown_rows c.in_ok-insert.ensures.entries
+    ∙ seen-insert walk_cmp (λ p. p.text.now) (λ n. n.now) c.loop-path.rows.entries _ _
+    ∙ ap (λ (p : Bytes). finmap.put walk_cmp p node rows) c.as_str.ensures.value in (
+      tt,
+      tt,
+      subst (λ (r : List (Bytes × Node)). SoFar nodes r rest) (sym added)
+          (takes nodes rows rest (path, node)
+          (subst (λ r. SoFar nodes rows (map (λ e. (string_bytes e.0, e.1)) r)) c.in-Some.ensures.steps
+          c.loop-path.invariant.2)),
+    )

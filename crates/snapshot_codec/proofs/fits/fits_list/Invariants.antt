@@ -1,0 +1,7 @@
+use Rattle.std.proofs.Common.{◌↔◌, drop}
+use Rattle.std.specs.List.{AllByRecursion}
+use Rattle.jute.specs.Owned.{acl}
+use Rattle.snapshot_codec.proofs.fits.fits_list.Given as goal
+
+abbrev pub invariant-loop-entry : goal.invariant-loop-entry
+invariant-loop-entry l = AllByRecursion acl.Fits (drop l.entry-index l.list) ↔ AllByRecursion acl.Fits l.list

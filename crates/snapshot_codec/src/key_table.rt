@@ -1,0 +1,106 @@
+//! The ACL lists of an image, and their keys.
+
+ghost use Rattle.std.specs.Prelude.{◌≡◌, ◌≤◌, ◌++◌, [], OnOk};
+ghost use Rattle.std.specs.BTreeMap.{btree_map_len};
+ghost use Rattle.jute.specs.Format.{count_limit};
+ghost use Rattle.snapshot_codec.specs.Written.{Lists, lists_from};
+ghost use Rattle.snapshot_codec.specs.Writes.{shown_rows, GivesList, IsTable, Adds, Tables, NamesKey, table_bytes};
+
+use crate::depth_first::WalkPath;
+use crate::fits::fits_list;
+use crate::write_error::WriteError;
+use data_tree::Node;
+use jute::{Acl, COUNT_LIMIT, put_int, put_items, put_long};
+use std::alloc::Global;
+use std::collections::BTreeMap;
+use txn_codec::AclList;
+use values::NoMemory;
+
+/// The key that names the open list, which stands in no image.
+const OPEN_KEY: i64 = -1;
+
+// How a list is written, if it is within the limits.
+fn list_bytes(alloc: Global, list: &[Acl]) -> Result<Vec<u8>, WriteError>
+    ensures { GivesList result list.now }
+{
+    if !fits_list(list) {
+        return Err(WriteError::NotWhole);
+    }
+    let mut bytes = Vec::new(alloc);
+    put_int(&mut bytes, list.len() as i32)?;
+    put_items(&mut bytes, list)?;
+    Ok(bytes)
+}
+
+/// The lists that nodes use, but the open one, each once. Their keys are 1, 2, .. in the order in which they are added.
+#[derive(Drop)]
+pub struct KeyTable {
+    // Each list as it is written, with its key.
+    keys: BTreeMap<Vec<u8>, i64>,
+    // The keys with their lists, as they are written.
+    written: Vec<u8>,
+}
+
+impl KeyTable {
+    // Adds a list that has no key yet.
+    fn add(&mut self, alloc: Global, acl: &AclList) -> Result<(), WriteError>
+        ensures { (lists : Lists) → IsTable self.old lists → Adds result lists acl.now self.new }
+    {
+        let Some(list) = acl.listed() else {
+            return Ok(());
+        };
+        let bytes = list_bytes(alloc, list)?;
+        if self.keys.get(bytes.as_slice()).is_some() {
+            return Ok(());
+        }
+        let count = self.keys.len();
+        if count >= COUNT_LIMIT as usize {
+            return Err(WriteError::NotWhole);
+        }
+        let key = count as i64 + 1;
+        put_long(&mut self.written, key)?;
+        self.written.extend_from_slice(bytes.as_slice())?;
+        self.keys.insert(bytes, key)?;
+        Ok(())
+    }
+
+    /// The lists of the nodes, in the order in which they are first used. It is `NotWhole` where one of them, or how
+    /// many they are, passes a limit.
+    pub fn of(alloc: Global, rows: &BTreeMap<WalkPath<'_>, &Node>) -> Result<KeyTable, WriteError>
+        ensures { Tables result (lists_from [] (shown_rows rows.now.entries)) }
+    {
+        let mut table = KeyTable {
+            keys: BTreeMap::new(alloc),
+            written: Vec::new(alloc),
+        };
+        for (_, node) in rows {
+            table.add(alloc, &node.acl)?;
+        }
+        Ok(table)
+    }
+
+    /// The key of a node's list.
+    pub fn key(&self, alloc: Global, acl: &AclList) -> Result<i64, WriteError>
+        ensures { (lists : Lists) → IsTable self.now lists → NamesKey result lists acl.now }
+    {
+        let Some(list) = acl.listed() else {
+            return Ok(OPEN_KEY);
+        };
+        let bytes = list_bytes(alloc, list)?;
+        match self.keys.get(bytes.as_slice()) {
+            None => Ok(OPEN_KEY),
+            Some(key) => Ok(*key),
+        }
+    }
+
+    /// Writes how many lists there are, and the keys with their lists.
+    pub fn put(&self, out: &mut Vec<u8>) -> Result<(), NoMemory>
+        requires { btree_map_len self.now.keys ≤ count_limit }
+        ensures { (lists : Lists) → IsTable self.now lists
+            → OnOk result (out.new.items ≡ out.old.items ++ table_bytes lists) }
+    {
+        put_int(out, self.keys.len() as i32)?;
+        out.extend_from_slice(self.written.as_slice())?;
+        Ok(())
+    }
+}

@@ -1,0 +1,123 @@
+//! Writing images.
+
+ghost use Rattle.std.specs.Prelude.{◌≡◌, [], if◌then◌else◌, IfOk, OnOk, Err};
+ghost use Rattle.std.specs.FinMap as finmap;
+ghost use Rattle.jute.specs.Records.{stat_persisted};
+ghost use Rattle.txn_codec.specs.Paths.{is_root};
+ghost use Rattle.snapshot_codec.specs.Written.{image_bytes, lists_from, FitsImage};
+ghost use Rattle.snapshot_codec.specs.Writes.{shown_rows, IsTable, Writes, sessions_bytes, FitSessions, node_bytes, FitsNode, nodes_bytes, FitNodes};
+ghost use Rattle.snapshot_codec.specs.declared.write_error.WriteError.TheVariants as errors;
+
+use crate::depth_first::{WalkPath, depth_first};
+use crate::fields::SIGNATURE;
+use crate::fits::{fits_bytes, fits_text};
+use crate::key_table::KeyTable;
+use crate::write_error::WriteError;
+use data_tree::{Node, Timeouts, Tree};
+use jute::{COUNT_LIMIT, StatPersisted, WriteRecord, put_blob, put_int, put_long, put_string};
+use std::alloc::Global;
+use std::collections::BTreeMap;
+
+// Writes how many sessions there are, and the sessions.
+fn put_sessions(out: &mut Vec<u8>, sessions: &Timeouts) -> Result<(), WriteError>
+    ensures { Writes result (sessions_bytes (finmap.entries sessions.now)) out.old.items out.new.items
+        (FitSessions (finmap.entries sessions.now)) }
+{
+    let entries = sessions.iter();
+    let count = entries.len();
+    if count > COUNT_LIMIT as usize {
+        return Err(WriteError::NotWhole);
+    }
+    put_int(out, count as i32)?;
+    for (id, timeout) in entries {
+        put_long(out, *id)?;
+        put_int(out, *timeout)?;
+    }
+    Ok(())
+}
+
+// The path as it is written: the root's is empty.
+fn written_path(path: &str) -> &str
+    ensures { result.now ≡ (if is_root path.now then [] else path.now) }
+{
+    if path == "/" {
+        return "";
+    }
+    path
+}
+
+// The numbers of a node, each of which is within the bounds of its type.
+fn numbers(stat: &StatPersisted) -> StatPersisted
+    ensures same { result ≡ stat.now }
+    ensures fit { stat_persisted.Fits stat.now }
+{
+    StatPersisted {
+        czxid: stat.czxid,
+        mzxid: stat.mzxid,
+        ctime: stat.ctime,
+        mtime: stat.mtime,
+        version: stat.version,
+        cversion: stat.cversion,
+        aversion: stat.aversion,
+        ephemeral_owner: stat.ephemeral_owner,
+        pzxid: stat.pzxid,
+    }
+}
+
+// Writes a node: its path, which is empty at the root, its bytes, the key of its list, and its numbers.
+fn put_node(out: &mut Vec<u8>, path: &str, node: &Node, key: &i64) -> Result<(), WriteError>
+    ensures { Writes result (node_bytes path.now node.now key.now) out.old.items out.new.items
+        (FitsNode path.now node.now key.now) }
+{
+    if !fits_text(path) || !fits_bytes(&node.bytes) {
+        return Err(WriteError::NotWhole);
+    }
+    put_string(out, written_path(path))?;
+    put_blob(out, &node.bytes)?;
+    put_long(out, *key)?;
+    numbers(&node.stat).write(out)?;
+    Ok(())
+}
+
+// Writes the nodes.
+fn put_nodes(
+    alloc: Global,
+    out: &mut Vec<u8>,
+    table: &KeyTable,
+    rows: &BTreeMap<WalkPath<'_>, &Node>,
+) -> Result<(), WriteError>
+    requires { IsTable table.now (lists_from [] (shown_rows rows.now.entries)) }
+    ensures { let walked = shown_rows rows.now.entries in
+        Writes result (nodes_bytes (lists_from [] walked) walked) out.old.items out.new.items
+        (FitNodes (lists_from [] walked) walked) }
+{
+    for (path, node) in rows {
+        let key = table.key(alloc, &node.acl)?;
+        put_node(out, path.text, node, &key)?;
+    }
+    Ok(())
+}
+
+/// Writes the image of a tree: its sessions in ascending id; the ACL lists of its nodes but the open one, under keys 1,
+/// 2, .. in the order in which they are first used; the nodes depth first, children in ascending bytes; and the end.
+/// It is `NotWhole` exactly where the tree isn't whole, or passes a limit of the format: 1,048,576 sessions, ACL lists,
+/// and entries of a list; 4,194,304 bytes of a text, and of a node's data. Beside the image, it takes the memory of a
+/// path's and a node's address for each node, and of each list once.
+pub fn write_image(alloc: Global, tree: &Tree) -> Result<Vec<u8>, WriteError>
+    ensures written { IfOk result (λ bytes. bytes.items ≡ image_bytes tree.now) }
+    ensures fits { OnOk result (FitsImage tree.now) }
+    ensures refused { result ≡ Err errors.NotWhole → ¬ FitsImage tree.now }
+{
+    if !tree.is_whole(alloc)? {
+        return Err(WriteError::NotWhole);
+    }
+    let rows = depth_first(alloc, tree)?;
+    let table = KeyTable::of(alloc, &rows)?;
+    let mut out = Vec::new(alloc);
+    put_sessions(&mut out, tree.sessions())?;
+    table.put(&mut out)?;
+    put_nodes(alloc, &mut out, &table, &rows)?;
+    put_string(&mut out, "/")?;
+    put_string(&mut out, SIGNATURE)?;
+    Ok(out)
+}
