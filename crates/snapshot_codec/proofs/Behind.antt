@@ -1,5 +1,5 @@
 -- A loop that puts one item behind another: what is there, and what is left.
-use Rattle.std.proofs.Common.{◌≡◌, ℕ, List, [], ◌∷◌, ◌++◌, ◌↔◌, sym, ap, subst, ◌∙◌, append_assoc, append-nil}
+use Rattle.std.proofs.Common.{◌≡◌, ℕ, List, ◌∷◌, ◌++◌, ◌↔◌, sym, ap, subst, ◌∙◌, append_assoc}
 use Rattle.std.specs.List.{flat_map, AllByRecursion}
 
 module _ {A : Type 0} (w : A → List ℕ) (F : A → Type 0) (old : List ℕ) (all : List A) where

@@ -1,12 +1,12 @@
 -- A map in the order of the walk, which takes the nodes one by one in ascending bytes.
-use Rattle.std.proofs.Common.{◌≡◌, T, List, [], ◌∷◌, ◌++◌, length, None, refl, sym, ap, subst, ◌∙◌, arith, append_assoc, append-nil}
+use Rattle.std.proofs.Common.{◌≡◌, T, List, [], ◌∷◌, ◌++◌, length, None, refl, sym, ap, subst, ◌∙◌, arith, append_assoc}
 use Rattle.std.specs.FinMap as finmap
 use Rattle.std.specs.FinMap.{find, is_sorted, from_entries_push}
 use Rattle.ephemerals.specs.Orders.{Bytes, path_cmp}
 use Rattle.ephemerals.proofs.Totals.{path_total}
 use Rattle.data_tree.specs.Nodes.{Nodes}
 use Rattle.data_tree.specs.declared.node.Node.{Node}
-use Rattle.snapshot_codec.specs.Written.{walk_cmp, walk}
+use Rattle.snapshot_codec.specs.Written.{walk_cmp}
 use Rattle.snapshot_codec.proofs.WalkOrder.{before_none, walk_total, walk_exact, same_find}
 
 no_entries : {A : Type 0} (xs : List A) → length xs ≡ 0 → xs ≡ []

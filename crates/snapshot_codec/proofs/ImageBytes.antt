@@ -1,23 +1,22 @@
 -- The bytes of an image, section by section.
-use Rattle.std.proofs.Common.{◌≡◌, ℕ, suc, ℤ, Bool, true, false, cond, T, List, [], ◌∷◌, ◌++◌, map, length, Some, is_some, Result, Err, refl, sym, ap, subst, ◌∙◌, true≢false, append_assoc, append-nil}
+use Rattle.std.proofs.Common.{◌≡◌, ℕ, suc, ℤ, true, false, cond, T, List, [], ◌∷◌, ◌++◌, map, length, Some, is_some, Result, Err, refl, sym, ap, subst, ◌∙◌, true≢false, append_assoc, append-nil}
 use Rattle.std.specs.FinMap as finmap
 use Rattle.std.specs.FinMap.{find, is_sorted}
 use Rattle.std.specs.FinMap.Entries.{below_all}
 use Rattle.std.specs.List.{flat_map, AllByRecursion}
 use Rattle.ephemerals.specs.Orders.{Bytes, path_cmp}
-use Rattle.jute.specs.Format.{int, long, count, count_limit, text, vector, both}
-use Rattle.jute.specs.Owned.{acl}
+use Rattle.jute.specs.Format.{int, long, count, count_limit, text, both}
 use Rattle.jute.specs.declared.owned.Acl.{Acl}
 use Rattle.txn_codec.specs.Paths.{is_root, is_path}
 use Rattle.data_tree.specs.State.{State}
 use Rattle.data_tree.specs.Whole.{IsWhole}
 use Rattle.data_tree.specs.declared.node.Node.{Node}
 use Rattle.snapshot_codec.specs.Parts.{Value, Part, slash, signature, node_body}
-use Rattle.snapshot_codec.specs.Written.{walk_cmp, walk, Lists, lists_from, lists_of, key_of, session_part, list_part, counted_values, node_values, values_of, bytes_from, image_bytes, FitsImage, IsWithinLimits}
-use Rattle.snapshot_codec.specs.Writes.{sessions_bytes, FitSessions, keyed_bytes, table_bytes, FitLists, Tables, node_bytes, nodes_bytes, FitNodes, Writes}
+use Rattle.snapshot_codec.specs.Written.{walk_cmp, walk, Lists, lists_from, lists_of, key_of, session_part, list_part, counted_values, node_values, bytes_from, image_bytes, FitsImage}
+use Rattle.snapshot_codec.specs.Writes.{sessions_bytes, FitSessions, keyed_bytes, table_bytes, FitLists, Tables, nodes_bytes, FitNodes, Writes}
 use Rattle.snapshot_codec.specs.declared.write_error.WriteError.{WriteError}
 use Rattle.snapshot_codec.specs.declared.write_error.WriteError.TheVariants.{NotWhole, NoMemory}
-use Rattle.snapshot_codec.specs.declared.part.PartPhase.TheVariants.{SessionCount, Sessions, AclCount, Acls, Root, Nodes}
+use Rattle.snapshot_codec.specs.declared.part.PartPhase.TheVariants.{Sessions, AclCount, Acls, Root, Nodes}
 use Rattle.snapshot_codec.specs.Parts.{sessions_from, acls_from}
 use Rattle.snapshot_codec.proofs.Limits.{not_zero, one_less, ArePaths, behind_first, others, first_root}
 use Rattle.snapshot_codec.proofs.WalkOrder.{first, walk_find, walk_sorted}

@@ -2,9 +2,8 @@
 use Rattle.std.proofs.Common.{◌≡◌, ◌≢◌, ℕ, suc, ◌+◌, ◌<◌, ◌≤◌, ℤ, pos, negsuc, Bool, true, false, cond, ◌||◌, List, [], ◌∷◌, ◌++◌, map, length, Option, Some, None, is_some, Result, Ok, Err, refl, sym, ap, subst, ◌∙◌, arith, true≢false, append-nil, is_ok}
 use Rattle.std.specs.declared.cmp.Ordering.{Ordering}
 use Rattle.std.specs.declared.cmp.Ordering.TheVariants.{Less, Equal, Greater}
-use Rattle.std.specs.declared.vec.Vec.{Vec}
 use Rattle.std.specs.BTreeMap as tree
-use Rattle.std.specs.BTreeMap.{BTreeMap, btree_map_len, insert_entry, is_at}
+use Rattle.std.specs.BTreeMap.{btree_map_len, insert_entry, is_at}
 use Rattle.std.specs.FinMap as finmap
 use Rattle.std.specs.FinMap.{find}
 use Rattle.std.specs.FinMap.Entries.{by_order, find-put}
@@ -23,7 +22,7 @@ use Rattle.ephemerals.proofs.Totals.{path_total}
 use Rattle.values.specs.declared.fault.Fault.{Fault}
 use Rattle.values.specs.declared.fault.Fault.TheVariants.{BadLength}
 use Rattle.jute.specs.Codes.{open_acl}
-use Rattle.jute.specs.Format.{count, count_limit, length_of, long, vector, both}
+use Rattle.jute.specs.Format.{count, count_limit, long, vector, both}
 use Rattle.jute.specs.Laws.{Sound}
 use Rattle.jute.specs.Owned.{acl}
 use Rattle.jute.specs.declared.owned.Acl.{Acl}
@@ -34,7 +33,7 @@ use Rattle.snapshot_codec.specs.Writes.{FitsList, list_bytes, GivesList, FitList
 use Rattle.snapshot_codec.specs.declared.key_table.KeyTable.{KeyTable}
 use Rattle.snapshot_codec.specs.declared.write_error.WriteError.{WriteError}
 use Rattle.snapshot_codec.specs.declared.write_error.WriteError.TheVariants.{NotWhole, NoMemory}
-use Rattle.snapshot_codec.proofs.Written.{list_decides, has_key, keyed_with, AllKeyed}
+use Rattle.snapshot_codec.proofs.Written.{list_decides, has_key, keyed_with}
 
 -- ---- maps by what is seen of their keys
 

@@ -1,4 +1,4 @@
-use Rattle.std.proofs.Common.{◌≡◌, IsTrue, true, cond, Some, Ok, Err, length, ap, subst, sym}
+use Rattle.std.proofs.Common.{IsTrue, cond, Some, Ok, Err, length, ap, subst, sym}
 use Rattle.std.proofs.Math.Dec.{leb}
 use Rattle.std.proofs.lemmas.Bool.{leb-true, le-leb}
 use Rattle.std.proofs.lemmas.Str.{is_utf8-from_IsUtf8}

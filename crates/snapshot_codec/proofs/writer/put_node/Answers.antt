@@ -1,4 +1,4 @@
-use Rattle.std.proofs.Common.{rules, ◌≡◌, ◌++◌, FitsSigned, Some, to_z, of_z, w32, w64, ap, ◌∙◌, List, ℕ, ℤ}
+use Rattle.std.proofs.Common.{rules, ◌≡◌, ◌++◌, Some, to_z, of_z, w64, ap, ◌∙◌, List, ℕ, ℤ}
 use Rattle.jute.specs.Format.{buffer, long}
 use Rattle.jute.specs.Records.{stat_persisted}
 use Rattle.jute.specs.declared.stat.StatPersisted.{StatPersisted}

@@ -1,4 +1,4 @@
-use Rattle.std.proofs.Common.{rules, to_z, of_z, w64, ◌≡◌, ◌++◌, [], List, ℕ, ℤ, refl, sym, ap, subst, ◌∙◌}
+use Rattle.std.proofs.Common.{rules, to_z, of_z, w64, ◌≡◌, ◌++◌, [], ℤ, refl, sym, ap, subst, ◌∙◌}
 use Rattle.std.proofs.lemmas.Result.{err_from_is_err_and}
 use Rattle.snapshot_codec.specs.Written.{lists_from, key_of}
 use Rattle.snapshot_codec.specs.Writes.{shown_rows, node_bytes, FitsNode, nodes_bytes, FitNodes}

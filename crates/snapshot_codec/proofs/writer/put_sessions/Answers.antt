@@ -1,4 +1,4 @@
-use Rattle.std.proofs.Common.{rules, ◌≡◌, ◌++◌, FitsSigned, Some, length, to_z, of_z, w32, w64, ap, subst, ◌∙◌, List, ℕ, ℤ, append_assoc}
+use Rattle.std.proofs.Common.{rules, ◌≡◌, ◌++◌, FitsSigned, Some, length, to_z, of_z, w32, w64, ap, subst, ◌∙◌, ℤ, append_assoc}
 use Rattle.std.specs.FinMap as finmap
 use Rattle.jute.specs.Format.{int, long, count, count_limit, both}
 use Rattle.snapshot_codec.proofs.Behind.{Left, wrote}

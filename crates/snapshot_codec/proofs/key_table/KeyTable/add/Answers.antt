@@ -1,4 +1,4 @@
-use Rattle.std.proofs.Common.{rules, Global, ◌++◌, ◌+ℤ◌, append_assoc, ◌≡◌, ◌≤◌, ◌<◌, ◌+◌, suc, pos, cond, false, None, Some, is_some, Option, ℤ, length, refl, sym, ap, subst, ◌∙◌, arith, to_z, of_z, w64, FitsSigned}
+use Rattle.std.proofs.Common.{rules, Global, ◌++◌, ◌+ℤ◌, append_assoc, ◌≡◌, ◌≤◌, ◌<◌, ◌+◌, suc, pos, cond, None, Some, is_some, Option, ℤ, length, sym, ap, subst, ◌∙◌, arith, to_z, of_z, w64}
 use Rattle.std.specs.BTreeMap as tree
 use Rattle.std.specs.BTreeMap.{btree_map_len, is_at}
 use Rattle.std.specs.Map.{lookup}
@@ -7,7 +7,7 @@ use Rattle.std.specs.Ordering.{eq_by_cmp}
 use Rattle.std.proofs.lemmas.Result.{err_from_is_err_and}
 use Rattle.ephemerals.specs.Orders.{path_cmp}
 use Rattle.jute.specs.Format.{count_limit, long}
-use Rattle.snapshot_codec.specs.Written.{key_in, with_list}
+use Rattle.snapshot_codec.specs.Written.{with_list}
 use Rattle.snapshot_codec.specs.Writes.{FitLists, IsTable, list_bytes}
 use Rattle.snapshot_codec.proofs.Tables.{adds_err, looked, lookup-added, one_more, too_many}
 use Rattle.snapshot_codec.proofs.key_table.KeyTable.add.Goals as goal

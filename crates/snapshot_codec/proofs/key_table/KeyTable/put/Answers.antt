@@ -1,4 +1,4 @@
-use Rattle.std.proofs.Common.{◌≤◌, FitsSigned, w32, pos, ◌≡◌, subst, sym, arith}
+use Rattle.std.proofs.Common.{◌≤◌, subst, sym, arith}
 use Rattle.jute.specs.Format.{count_limit}
 use Rattle.snapshot_codec.proofs.key_table.KeyTable.put.Goals as goal
 
