@@ -1,7 +1,7 @@
 //! Packets and the feed of them.
 
 use crate::packet_bytes;
-use quorum_packet::{PacketFeed, PacketKind, write_packet};
+use quorum_packet::{Item, PacketFeed, PacketKind, write_packet};
 use std::alloc::Global;
 use std::test::Fail;
 use values::{Fault, NoMemory, ReadError};
@@ -19,20 +19,16 @@ fn with_data(alloc: Global, kind: PacketKind) -> Result<Vec<u8>, NoMemory> {
     packet_bytes(alloc, kind, 0x1_0000_0001, b"data")
 }
 
-/// The kind, the zxid and the number of bytes of the next packet.
+/// The kind, the zxid and the number of bytes of the next packet; `None` also where a part of an image is next.
 fn next_outline(
     alloc: Global,
     feed: &mut PacketFeed,
 ) -> Result<Option<(i32, i64, usize)>, ReadError> {
-    let found = feed.next(alloc)?;
-    Ok(found.map(|packet| {
-        let bytes = packet.bytes.as_ref();
-        (
-            packet.kind,
-            packet.zxid,
-            bytes.map_or(0, |b| b.as_slice().len()),
-        )
-    }))
+    let Some(Item::Packet(packet)) = feed.next(alloc)? else {
+        return Ok(None);
+    };
+    let len = packet.bytes.as_ref().map_or(0, |b| b.as_slice().len());
+    Ok(Some((packet.kind, packet.zxid, len)))
 }
 
 // Whether a packet comes at its last byte and no earlier, and the stream may end there alone.
@@ -45,10 +41,10 @@ fn comes_at_its_end(
     for (i, byte) in bytes.iter().enumerate() {
         feed.feed(&[*byte])?;
         let is_whole = i + 1 == bytes.len();
-        if feed.end().is_ok() != is_whole {
+        if next_outline(alloc, feed)? != is_whole.then_some(expected) {
             return Ok(false);
         }
-        if next_outline(alloc, feed)? != is_whole.then_some(expected) {
+        if feed.end().is_ok() != is_whole {
             return Ok(false);
         }
     }
@@ -73,16 +69,21 @@ fn feed_kind(alloc: Global, feed: &mut PacketFeed, kind: PacketKind) -> Result<(
     feed.feed(&bytes)
 }
 
-// Why a stream may not end behind an UPTODATE and the bytes, none of which was taken; and whether
-// the feed is faulty, which only taking makes it.
-fn end_behind(alloc: Global, bytes: &[u8]) -> Result<(Option<Fault>, bool), NoMemory> {
+// Why a stream may not end behind an UPTODATE and the bytes, before and after what is whole there was taken.
+fn end_behind(alloc: Global, bytes: &[u8]) -> Result<(Option<Fault>, Option<Fault>), ReadError> {
     let mut feed = PacketFeed::new(alloc);
     feed_kind(alloc, &mut feed, PacketKind::UpToDate)?;
     feed.feed(bytes)?;
-    Ok((feed.end().err(), feed.is_faulty()))
+    let before = feed.end().err();
+    for _ in 0..3 {
+        if feed.next(alloc).is_err() {
+            break;
+        }
+    }
+    Ok((before, feed.end().err()))
 }
 
-/// What is asked behind packets that weren't taken is what stands behind them.
+/// Where packets wait that weren't taken the stream may not end.
 #[test]
 fn stream_may_end_behind_whole_packets(rt: HostRuntime) -> Result<(), Fail> {
     let rows: [(&[u8], Option<Fault>); 4] = [
@@ -96,48 +97,12 @@ fn stream_may_end_behind_whole_packets(rt: HostRuntime) -> Result<(), Fail> {
     ];
     for (bytes, expected) in rows {
         assert!(rt;
-            end_behind(rt.alloc(), bytes)? == (expected, false),
+            end_behind(rt.alloc(), bytes)? == (Some(Fault::Short), expected),
             "{bytes:?}"
         );
     }
     let snap = with_data(rt.alloc(), PacketKind::Snap)?;
-    assert!(rt; end_behind(rt.alloc(), &snap)? == (Some(Fault::Short), false));
-    Ok(())
-}
-
-// Puts an UPTODATE, a SNAP and an INFORM behind each other.
-fn feed_image(alloc: Global, feed: &mut PacketFeed) -> Result<(), NoMemory> {
-    feed_kind(alloc, feed, PacketKind::UpToDate)?;
-    feed_kind(alloc, feed, PacketKind::Snap)?;
-    feed_kind(alloc, feed, PacketKind::Inform)
-}
-
-// Whether the UPTODATE and the SNAP come.
-fn are_taken(alloc: Global, feed: &mut PacketFeed) -> Result<bool, ReadError> {
-    for kind in [12, 15] {
-        if next_outline(alloc, feed)? != Some((kind, 0x1_0000_0001, 4)) {
-            return Ok(false);
-        }
-    }
-    Ok(true)
-}
-
-// Whether no packet comes and an image is owed, whatever is put behind.
-fn is_image_owed(alloc: Global, feed: &mut PacketFeed) -> Result<bool, ReadError> {
-    let found = next_outline(alloc, feed)?;
-    let is_owed = feed.end() == Err(Fault::Short);
-    feed_kind(alloc, feed, PacketKind::Inform)?;
-    Ok(found.is_none() && is_owed)
-}
-
-#[test]
-fn image_is_passed_over(rt: HostRuntime) -> Result<(), Fail> {
-    let mut feed = PacketFeed::new(rt.alloc());
-    feed_image(rt.alloc(), &mut feed)?;
-    assert!(rt; are_taken(rt.alloc(), &mut feed)?);
-    for _ in 0..2 {
-        assert!(rt; is_image_owed(rt.alloc(), &mut feed)?);
-    }
+    assert!(rt; end_behind(rt.alloc(), &snap)? == (Some(Fault::Short), Some(Fault::Short)));
     Ok(())
 }
 
@@ -171,7 +136,7 @@ fn fault_stays(rt: HostRuntime) -> Result<(), Fail> {
 /// What is written of the next packet.
 fn written_again(alloc: Global, feed: &mut PacketFeed) -> Result<Vec<u8>, ReadError> {
     let mut out = Vec::new(alloc);
-    if let Some(packet) = feed.next(alloc)? {
+    if let Some(Item::Packet(packet)) = feed.next(alloc)? {
         write_packet(&packet, &mut out)?;
     }
     Ok(out)

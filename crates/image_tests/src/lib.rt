@@ -2,6 +2,8 @@
 #![tactic(auto)]
 
 #[cfg(test)]
+mod feed_rows;
+#[cfg(test)]
 mod image_rows;
 #[cfg(test)]
 mod part_rows;

@@ -12,7 +12,7 @@ use Rattle.quorum_packet.specs.declared.unseen.Texts.{Texts}
 use Rattle.quorum_packet.specs.declared.unseen.Unseen.{Unseen}
 use Rattle.quorum_packet.specs.declared.unseen.Unseen.TheVariants as unseen
 use Rattle.quorum_packet.specs.Packet.{packet}
-use Rattle.quorum_packet.specs.Unseen.{AreUnseen, MayBeUnseen}
+use Rattle.quorum_packet.specs.Unseen.{Reads, IsLeft, AreUnseen, MayBeUnseen}
 
 -- an answer is no refusal
 abbrev done : {A : Type 0} → A → Result A Fault
@@ -22,7 +22,7 @@ done_not : {A : Type 0} (x : A) (e : Fault) → done x ≡ Err e → ⊥
 done_not x e h = absurd cc
 
 -- a value that was read is read again, whatever comes behind
-stands_ok : {A : Type 0} (f : Format A) → Pieced f → (bytes rest more : List ℕ) (v : A) → f.read bytes ≡ Ok (v, rest)
+pub stands_ok : {A : Type 0} (f : Format A) → Pieced f → (bytes rest more : List ℕ) (v : A) → f.read bytes ≡ Ok (v, rest)
     → f.read (bytes ++ more) ≡ Ok (v, rest ++ more)
 stands_ok {A} f p bytes rest more v h =
     subst (λ (r : Result (A × List ℕ) Fault). Stands r more (f.read (bytes ++ more))) h (p.stands bytes more)
@@ -122,10 +122,10 @@ fields_refused bytes b1 b2 b3 b4 more kind zxid carried ids e h1 h2 h3 h4 k =
 -- ---- what wasn't looked at
 
 -- a front, and behind it another one
-joined_fronts : (a x b y c : List ℕ) → a ≡ x ++ b → b ≡ y ++ c → a ≡ (x ++ y) ++ c
+pub joined_fronts : (a x b y c : List ℕ) → a ≡ x ++ b → b ≡ y ++ c → a ≡ (x ++ y) ++ c
 joined_fronts a x b y c p q = p ∙ ap (λ (t : List ℕ). x ++ t) q ∙ sym (append_assoc x y c)
 
-drop_more : (bytes text rest more : List ℕ) → bytes ≡ text ++ rest
+pub drop_more : (bytes text rest more : List ℕ) → bytes ≡ text ++ rest
     → drop (length bytes - length rest) (bytes ++ more) ≡ rest ++ more
 drop_more bytes text rest more e =
     let n : length bytes - length rest ≡ length text = omega (arith, ap length e, length-append text rest) in
@@ -136,7 +136,7 @@ drop_front_of bytes text rest e =
     let n : length bytes - length rest ≡ length text = omega (arith, ap length e, length-append text rest) in
     rw (n, e) (drop_at text rest (length text) refl)
 
-shorter : (bytes text rest : List ℕ) → bytes ≡ text ++ rest → length rest ≤ length bytes
+pub shorter : (bytes text rest : List ℕ) → bytes ≡ text ++ rest → length rest ≤ length bytes
 shorter bytes text rest e = omega (arith, ap length e, length-append text rest)
 
 -- a rest, and how many texts stand there
@@ -199,8 +199,9 @@ module _ (bytes ahead : List ℕ) (texts : Texts) (u : AreUnseen bytes texts) (s
       )
 
 -- a piece behind them
-texts_more : (bytes piece : List ℕ) (texts : Texts) → AreUnseen bytes texts → AreUnseen (bytes ++ piece) texts
-texts_more bytes piece texts h = record {
+left_more : {A B : Type 0} (whole : Reads A) (left : Reads B) (bytes piece : List ℕ) (start : ℕ)
+    → IsLeft whole left bytes start → IsLeft whole left (bytes ++ piece) start
+left_more whole left bytes piece start h = record {
   within = omega (arith, h.within, length-append bytes piece);
   refuses = λ more e k. rw (append_assoc bytes piece more)
       (h.refuses (piece ++ more) e (rw (append_assoc bytes piece more) at k));
@@ -208,8 +209,9 @@ texts_more bytes piece texts h = record {
 
 unseen_more : (bytes piece : List ℕ) (u : Option Unseen) → MayBeUnseen bytes u → MayBeUnseen (bytes ++ piece) u
 unseen_more bytes piece None h = tt
-unseen_more bytes piece (Some unseen.Fields) h = tt
-unseen_more bytes piece (Some (unseen.Texts texts)) h = texts_more bytes piece texts h
+unseen_more bytes piece (Some unseen.Whole) h = tt
+unseen_more bytes piece (Some (unseen.Texts texts)) h = left_more _ _ bytes piece texts.start h
+unseen_more bytes piece (Some (unseen.Entries entries)) h = left_more _ _ bytes piece entries.start h
 
 -- the same where memory may have been refused for the piece
 pub unseen_after : {T E : Type 0} (r : Result T E) (old new piece : List ℕ) (u : Option Unseen)

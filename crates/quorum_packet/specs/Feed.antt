@@ -1,50 +1,58 @@
--- What the feed of packets answers.
-use Rattle.std.specs.Prelude.{◌≡◌, ℕ, List, [], ◌∷◌, length, Option, Some, None, Result, Ok, Err, is_err, false, ◌<◌, ◌≤◌, drop}
+-- What the feed of a leader's stream answers.
+use Rattle.std.specs.Prelude.{◌≡◌, ℕ, ◌+◌, [], ◌∷◌, length, Option, Some, None, Result, Ok, Err, is_err, false, ◌<◌}
 use Rattle.values.specs.declared.fault.Fault.{Fault}
 use Rattle.values.specs.declared.fault.Fault.TheVariants.{Short}
 use Rattle.values.specs.declared.fault.ReadError.{ReadError}
 use Rattle.values.specs.declared.fault.ReadError.TheVariants as errors
-use Rattle.jute.specs.Reads.{Failed}
-use Rattle.jute.specs.Stream.{Unread, Place, nothing, before, items}
-use Rattle.quorum_packet.specs.declared.packet.QuorumPacket.{QuorumPacket}
+use Rattle.jute.specs.Stream.{Unread, Place, nothing, before}
+use Rattle.snapshot_codec.specs.declared.part.PartPhase.TheVariants.{Body}
+use Rattle.quorum_packet.specs.declared.item.Item.{Item}
+use Rattle.quorum_packet.specs.declared.item.Item.TheVariants as item
 use Rattle.quorum_packet.specs.declared.phase.Phase.{Phase}
-use Rattle.quorum_packet.specs.declared.phase.Phase.TheVariants.{Packets, ImageOwed}
+use Rattle.quorum_packet.specs.declared.phase.Phase.TheVariants.{Packets, Image}
+use Rattle.quorum_packet.specs.Items.{found_format, shows}
 use Rattle.quorum_packet.specs.Packet.{packet}
-use Rattle.quorum_packet.specs.Packets.{packets}
 
 -- how many bytes are unread
 abbrev pub unread_len : Unread → ℕ
 unread_len (Ok bytes) = length bytes
 unread_len (Err e) = 0
 
--- What next answers and leaves: the first packet and the stream behind it, that no packet is whole, or the fault.
--- Memory is refused only where no fault came.
-abbrev pub First : Result (Option QuorumPacket) ReadError → Place Phase → Place Phase → Type 0
-First (Ok (Some p)) old new =
-    (items packets old ≡ before p (items packets new)) × (unread_len new.unread < unread_len old.unread)
-First (Ok None) old new = (items packets old ≡ nothing new) × (is_err new.unread ≡ false)
-First (Err errors.NoMemory) old new = (new ≡ old) × (is_err old.unread ≡ false)
-First (Err (errors.Fault e)) old new = (items packets old ≡ nothing new) × (new.unread ≡ Err e)
+-- too few bytes are unread for what stands next
+abbrev pub WaitsFor : Phase → Unread → Type 0
+WaitsFor phase (Ok bytes) = (found_format phase).read bytes ≡ Err Short
+WaitsFor phase (Err e) = ⊥
 
--- bytes wait, and no packet at their front is read for this fault
-abbrev pub RefusesUnread : Fault → Unread → Type 0
-RefusesUnread fault (Ok bytes) = packet.read bytes ≡ Err fault
-RefusesUnread fault (Err e) = ⊥
+-- What next answers and leaves: the first packet or part and the stream behind it; that too few bytes are there for a
+-- packet, a part or what only moves an image on; or the fault. Memory is refused only where no fault came, and what
+-- the stream shows stays.
+abbrev pub First : Result (Option Item) ReadError → Place Phase → Place Phase → Type 0
+First (Ok (Some i)) old new = (shows old ≡ before i (shows new)) × (unread_len new.unread < unread_len old.unread)
+First (Ok None) old new = (shows old ≡ nothing new) × WaitsFor new.phase new.unread
+First (Err errors.NoMemory) old new =
+    (shows new ≡ shows old) × (is_err old.unread ≡ false) × (is_err new.unread ≡ false)
+First (Err (errors.Fault e)) old new = (shows old ≡ nothing new) × (new.unread ≡ Err e)
 
-abbrev pub Refuses : Place Phase → Fault → Type 0
-Refuses place fault = RefusesUnread fault place.unread
+-- a packet that was read can be written
+abbrev pub CanBeWritten : Item → Type 0
+CanBeWritten (item.Packet p) = packet.Writable p
+CanBeWritten (item.Part p) = Unit {0}
 
--- Whether a stream of which this is left may end: a fault, or a part of a packet or an image that is still to come.
+-- Whether a stream may end where it was read up to: not behind a fault, in an image, or where bytes are unread.
 abbrev pub ended : Phase → Unread → Result (Unit {0}) Fault
 ended phase (Err e) = Err e
-ended ImageOwed (Ok bytes) = Err Short
+ended (Image phase) (Ok bytes) = Err Short
 ended Packets (Ok []) = Ok tt
 ended Packets (Ok (b ∷ bytes)) = Err Short
 
 abbrev pub end_of : Place Phase → Result (Unit {0}) Fault
 end_of place = ended place.phase place.unread
 
--- a packet at the front of the bytes, which can be written, and how many it takes
-abbrev pub ReadsFront : Result (QuorumPacket × ℕ) ReadError → List ℕ → Type 0
-ReadsFront (Ok x) bytes = (packet.read bytes ≡ Ok (x.0, drop x.1 bytes)) × (x.1 ≤ length bytes) × packet.Writable x.0
-ReadsFront (Err e) bytes = Failed e (packet.read bytes)
+-- how many bytes a phase keeps of a part that has begun
+abbrev pub kept_len : Phase → ℕ
+kept_len (Image (Body path)) = length path
+kept_len phase = 0
+
+-- the bytes that are unread, and the path of a node that has begun
+abbrev pub held_len : Place Phase → ℕ
+held_len place = kept_len place.phase + unread_len place.unread

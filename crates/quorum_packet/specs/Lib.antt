@@ -1,7 +1,8 @@
 pub mod Feed
 pub mod Held
+pub mod Items
 pub mod Kinds
 pub mod Packet
-pub mod Packets
-pub mod Skips
+pub mod Steps
 pub mod Unseen
+pub mod WholeItems

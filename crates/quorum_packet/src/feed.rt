@@ -1,32 +1,34 @@
-//! The stream of packets, in whatever pieces it comes.
+//! The leader's stream, in whatever pieces it comes.
 
-ghost use Rattle.std.specs.Prelude.{◌≡◌, [], Ok, Err, false, is_err, IsTrue, IsOk, IsNone, IfOk, IfErr, IfSome, OnOk, OnErr};
-ghost use Rattle.jute.specs.Stream.{add, items, place_at};
-ghost use Rattle.quorum_packet.specs.Feed.{First, ReadsFront, Refuses, end_of};
-ghost use Rattle.quorum_packet.specs.Packet.{packet as packet_format};
-ghost use Rattle.quorum_packet.specs.Packets.{packets, phase_behind};
+ghost use Rattle.std.specs.Prelude.{◌≡◌, ◌<◌, ◌^◌, [], Ok, Err, false, is_err};
+ghost use Rattle.std.specs.Prelude.{IsTrue, IsOk, IfOk, IfErr, IfSome, OnOk, OnErr};
+ghost use Rattle.jute.specs.Stream.{add, place_at};
+ghost use Rattle.quorum_packet.specs.Feed.{First, CanBeWritten, end_of, held_len, unread_len};
+ghost use Rattle.quorum_packet.specs.Items.{phase_behind};
 ghost use Rattle.quorum_packet.specs.Kinds.{kind_of};
+ghost use Rattle.quorum_packet.specs.Steps.{FindsItem, ReadsFront, Refuses, Steps, showing};
 ghost use Rattle.quorum_packet.specs.declared.phase.Phase.TheVariants.{Packets};
 
+use crate::item::Item;
 use crate::kind::PacketKind;
 use crate::packet::QuorumPacket;
 use crate::phase::Phase;
-use crate::skip::skip_packet;
 use crate::unseen::{Unseen, look_on};
 use jute::{ReadRecord, Reader};
+use snapshot_codec::{PartPhase, read_part};
 use std::alloc::Global;
 use std::marker::Model;
 use values::{ByteQueue, Fault, NoMemory, ReadError};
 
-/// The packets of a stream, seen as the place up to which it was read: what stands there next, and the bytes
-/// that aren't read yet, or the fault that ended it.
+/// What a leader sends, seen as the place up to which it was read: what stands there next, and the bytes that aren't
+/// read yet, or the fault that ended it.
 ///
-/// A packet that is whole when it is met is read at once. Of one that isn't, only what a piece brings is looked at
-/// until all of it is in, so the work is linear in the bytes of the stream, however it is cut.
+/// A packet or part that is whole when it is met is read at once. Of one that isn't, only what a piece brings is
+/// looked at until all of it is in, so the work is linear in the bytes of the stream, however it is cut.
 #[derive(Drop)]
 pub struct PacketFeed {
     waiting: ByteQueue,
-    // `None`: the packet at the front wasn't met yet.
+    // `None`: what stands at the front wasn't met yet.
     unseen: Option<Unseen>,
     phase: Phase,
     fault: Option<Fault>,
@@ -46,21 +48,11 @@ impl Model for PacketFeed {
     ghost invariant = { λ f. MayBeUnseen f.waiting f.unseen };
 }
 
-// A packet at the front, and how many bytes it takes.
-fn read_front(alloc: Global, bytes: &[u8]) -> Result<(QuorumPacket, usize), ReadError>
-    ensures { ReadsFront result bytes.now }
+fn phase_behind(packet: &QuorumPacket) -> Phase
+    ensures { result ≡ phase_behind (kind_of packet.now.kind) }
 {
-    let mut ahead = Reader::new(bytes);
-    let packet = QuorumPacket::read(alloc, &mut ahead)?;
-    let left = ahead.rest().len();
-    Ok((packet, bytes.len() - left))
-}
-
-fn phase_behind(kind: i32) -> Phase
-    ensures { result ≡ phase_behind (kind_of kind) }
-{
-    match PacketKind::from_code(kind) {
-        Some(PacketKind::Snap) => Phase::ImageOwed,
+    match PacketKind::from_code(packet.kind) {
+        Some(PacketKind::Snap) => Phase::Image(PartPhase::SessionCount),
         None
         | Some(
             PacketKind::Request
@@ -83,22 +75,56 @@ fn phase_behind(kind: i32) -> Phase
     }
 }
 
-// Whether the stream may end behind the packets that stand whole in the bytes.
-fn end_behind(phase: Phase, bytes: &[u8]) -> Result<(), Fault>
-    ensures { result ≡ end_of (items packets (place_at phase bytes.now)).left }
+// What stands at the reader's place, and the phase behind it. What only moves an image on is `None`.
+fn read_found(
+    alloc: Global,
+    phase: &mut Phase,
+    reader: &mut Reader<'_>,
+) -> Result<Option<Item>, ReadError>
+    ensures { FindsItem result phase.old phase.new reader.old reader.new }
 {
-    let mut phase = phase;
-    let mut ahead = Reader::new(bytes);
-    while !ahead.rest().is_empty() {
-        if let Phase::ImageOwed = phase {
-            return Err(Fault::Short);
-        }
-        phase = phase_behind(skip_packet(&mut ahead)?);
-    }
     match phase {
-        Phase::Packets => Ok(()),
-        Phase::ImageOwed => Err(Fault::Short),
+        Phase::Packets => {
+            let packet = QuorumPacket::read(alloc, reader)?;
+            *phase = phase_behind(&packet);
+            Ok(Some(Item::Packet(packet)))
+        }
+        Phase::Image(parts) => match read_part(alloc, parts, reader)? {
+            None => Ok(None),
+            Some(part) => {
+                if part.is_end() {
+                    *phase = Phase::Packets;
+                    return Ok(Some(Item::Part(part)));
+                }
+                Ok(Some(Item::Part(part)))
+            }
+        },
     }
+}
+
+// What stands at the front of the bytes, and how many it takes.
+fn read_front(
+    alloc: Global,
+    phase: &mut Phase,
+    bytes: &[u8],
+) -> Result<(Option<Item>, usize), ReadError>
+    ensures front { ReadsFront result phase.old phase.new bytes.now }
+    ensures writable { IfOk result (λ x. IfSome x.0 CanBeWritten) }
+{
+    let mut ahead = Reader::new(bytes);
+    let found = read_found(alloc, phase, &mut ahead)?;
+    let left = ahead.rest().len();
+    Ok((found, bytes.len() - left))
+}
+
+/// What a step of the feed found.
+#[derive(Debug, Drop)]
+pub(crate) enum Step {
+    /// Too few bytes for anything.
+    Nothing,
+    /// What only moves an image on.
+    Hidden,
+    Shown(Item),
 }
 
 impl PacketFeed {
@@ -125,75 +151,104 @@ impl PacketFeed {
         self.waiting.add(piece)
     }
 
-    /// The first packet, or `None` where none is whole. After a fault it answers that fault from then on, and behind
-    /// a SNAP packet `None`, whatever comes. Refused memory leaves the feed as it was.
-    pub fn next(&mut self, alloc: Global) -> Result<Option<QuorumPacket>, ReadError>
+    /// The first packet or part, or `None` where too few bytes are there for what stands next. After a fault it
+    /// answers that fault from then on. Refused memory leaves what the stream shows as it was: no packet and no part
+    /// is lost, but what only moves an image on may have been passed over.
+    pub fn next(&mut self, alloc: Global) -> Result<Option<Item>, ReadError>
         ensures first { First result self.old self.new }
-        ensures writable { IfOk result (λ found. IfSome found packet_format.Writable) }
+        ensures writable { IfOk result (λ found. IfSome found CanBeWritten) }
     {
-        if let Some(fault) = self.fault {
-            return Err(ReadError::Fault(fault));
-        }
-        match self.phase {
-            Phase::Packets => self.next_packet(alloc),
-            Phase::ImageOwed => {
-                self.waiting.drop_front(self.waiting.len());
-                self.unseen = None;
-                Ok(None)
+        loop {
+            match self.step(alloc)? {
+                Step::Nothing => return Ok(None),
+                Step::Hidden => {}
+                Step::Shown(item) => return Ok(Some(item)),
             }
         }
     }
 
-    // The first packet, where packets stand next and no fault came.
-    fn next_packet(&mut self, alloc: Global) -> Result<Option<QuorumPacket>, ReadError>
-        requires packets { self.old.phase ≡ Packets }
-        requires fine { is_err self.old.unread ≡ false }
-        ensures first { First result self.old self.new }
-        ensures writable { IfOk result (λ found. IfSome found packet_format.Writable) }
+    // What stands next, shown or not.
+    fn step(&mut self, alloc: Global) -> Result<Step, ReadError>
+        ensures steps { Steps result self.old self.new }
+        ensures writable { IfSome (showing result) CanBeWritten }
     {
-        if let Err(fault) = look_on(self.waiting.as_slice(), &mut self.unseen) {
+        if let Some(fault) = self.fault {
+            return Err(ReadError::Fault(fault));
+        }
+        if let Err(fault) = look_on(&self.phase, self.waiting.as_slice(), &mut self.unseen) {
             return self.refuse(fault);
         }
-        match read_front(alloc, self.waiting.as_slice()) {
-            Ok((packet, used)) => {
+        match read_front(alloc, &mut self.phase, self.waiting.as_slice()) {
+            Ok((found, used)) => {
                 self.waiting.drop_front(used);
                 self.unseen = None;
-                self.phase = phase_behind(packet.kind);
-                Ok(Some(packet))
+                match found {
+                    None => Ok(Step::Hidden),
+                    Some(item) => Ok(Step::Shown(item)),
+                }
             }
             Err(ReadError::NoMemory) => Err(ReadError::NoMemory),
             Err(ReadError::Fault(fault)) => {
-                self.unseen = Some(Unseen::Fields);
+                self.unseen = Some(Unseen::Whole);
                 self.refuse(fault)
             }
         }
     }
 
-    // Too few bytes wait for more; another refusal ends the stream.
-    fn refuse(&mut self, fault: Fault) -> Result<Option<QuorumPacket>, ReadError>
-        requires packets { self.old.phase ≡ Packets }
-        requires refused { Refuses self.old fault }
-        ensures first { First result self.old self.new }
-        ensures none { IfOk result IsNone }
+    // Too few bytes wait for more; another refusal ends the stream, and the bytes are dropped.
+    fn refuse(&mut self, fault: Fault) -> Result<Step, ReadError>
+        requires { Refuses self.old fault }
+        ensures steps { Steps result self.old self.new }
+        ensures none { IfSome (showing result) CanBeWritten }
     {
         match fault {
-            Fault::Short => Ok(None),
+            Fault::Short => Ok(Step::Nothing),
             refusal => {
+                self.waiting.drop_front(self.waiting.len());
+                self.unseen = None;
                 self.fault = Some(refusal);
                 Err(ReadError::Fault(refusal))
             }
         }
     }
 
-    /// Whether the stream may end here: after a fault that fault, and of what stands behind the packets that are
-    /// whole the fault, or `Short` where it is a part of a packet or an image is owed.
+    /// Whether the stream may end where it was read up to: after a fault that fault, and `Short` where an image has
+    /// begun or is still to come, or where bytes are unread.
     pub fn end(&self) -> Result<(), Fault>
-        ensures { result ≡ end_of (items packets self.now).left }
+        ensures { result ≡ end_of self.now }
     {
-        match self.fault {
-            Some(fault) => Err(fault),
-            None => end_behind(self.phase, self.waiting.as_slice()),
+        if let Some(fault) = self.fault {
+            return Err(fault);
         }
+        match self.phase {
+            Phase::Image(_) => Err(Fault::Short),
+            Phase::Packets => {
+                if self.waiting.is_empty() {
+                    Ok(())
+                } else {
+                    Err(Fault::Short)
+                }
+            }
+        }
+    }
+
+    /// How many bytes it holds: those that are unread, and the path of a node that has begun. Behind a `next` that
+    /// answered `None` they are fewer than those of one packet, one part, or one that only moves an image on.
+    pub fn held(&self) -> usize
+        ensures { result ≡ held_len self.now }
+    {
+        self.phase.kept_len() + self.unread_len()
+    }
+
+    // How many bytes are unread; behind a fault none is.
+    fn unread_len(&self) -> usize
+        ensures len { result ≡ unread_len self.now.unread }
+        ensures fits { result < 2 ^ 63 }
+    {
+        if self.fault.is_some() {
+            return 0;
+        }
+        self.waiting.as_slice().len()
     }
 
     /// Whether a fault has ended the stream.

@@ -1,22 +1,34 @@
-//! Laws of the stream of packets.
+//! Laws of the leader's stream.
 
-ghost use Rattle.std.specs.Prelude.{◌≡◌, ℕ, List};
+ghost use Rattle.std.specs.Prelude.{◌≡◌, Bool, ℕ, List};
 ghost use Rattle.jute.specs.Laws.{IsBytes, Sound};
 ghost use Rattle.jute.specs.Relation.{AreItems};
-ghost use Rattle.jute.specs.Stream.{ComesInPieces, Items, items, place_at};
+ghost use Rattle.jute.specs.Stream.{ComesInPieces, Items, Place, add, items, joined, place_at};
+ghost use Rattle.quorum_packet.specs.Items.{Found, leader, shows};
 ghost use Rattle.quorum_packet.specs.Packet.{packet};
-ghost use Rattle.quorum_packet.specs.Packets.{packets};
-ghost use Rattle.quorum_packet.specs.declared.packet.QuorumPacket.{QuorumPacket};
+ghost use Rattle.quorum_packet.specs.WholeItems.{WholeItem, whole_items};
 ghost use Rattle.quorum_packet.specs.declared.phase.Phase.{Phase};
 
 /// A packet is read exactly where its spelling stands, and a refusal names the first field that no bytes at its
-/// place spell. The packets of a stream are the longest list whose spellings, joined, are a front of its bytes,
-/// however it is cut.
-pub fn packet_stream()
+/// place spell. What stands in a stream, packets and the parts of images, is the longest list whose spellings, joined,
+/// are a front of its bytes, however it is cut; and so is what is shown of it.
+pub fn leader_stream()
     ensures packet { Sound packet }
-    ensures pieces { ComesInPieces packets }
+    ensures pieces { ComesInPieces leader }
+    ensures shown { (place : Place Phase) (more : List ℕ)
+        → shows (add place more) ≡ joined (shows place) (shows (add (shows place).left more)) }
     ensures found { (phase : Phase) (bytes : List ℕ) → IsBytes bytes
-        → AreItems packets phase bytes (items packets (place_at phase bytes)) }
-    ensures alone { (phase : Phase) (bytes : List ℕ) (i : Items Phase QuorumPacket)
-        → AreItems packets phase bytes i → items packets (place_at phase bytes) ≡ i }
+        → AreItems leader phase bytes (items leader (place_at phase bytes)) }
+    ensures alone { (phase : Phase) (bytes : List ℕ) (i : Items Phase Found)
+        → AreItems leader phase bytes i → items leader (place_at phase bytes) ≡ i }
+{}
+
+/// The packets and whole images of a stream are the longest list whose spellings, joined, are a front of its bytes,
+/// however it is cut. An image stands first exactly where one is owed, and directly behind each SNAP packet.
+pub fn whole_items()
+    ensures pieces { ComesInPieces whole_items }
+    ensures found { (owed : Bool) (bytes : List ℕ) → IsBytes bytes
+        → AreItems whole_items owed bytes (items whole_items (place_at owed bytes)) }
+    ensures alone { (owed : Bool) (bytes : List ℕ) (i : Items Bool WholeItem)
+        → AreItems whole_items owed bytes i → items whole_items (place_at owed bytes) ≡ i }
 {}

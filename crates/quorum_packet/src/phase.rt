@@ -1,10 +1,28 @@
 //! What stands next in a leader's stream.
 
+ghost use Rattle.std.specs.Prelude.{◌≡◌, ◌<◌, ◌^◌};
+ghost use Rattle.quorum_packet.specs.Feed.{kept_len};
+
+use snapshot_codec::PartPhase;
+
 /// What stands next in a leader's stream.
-#[derive(Clone, Copy, Debug, PartialEq, Eq)]
+#[derive(Debug, Drop)]
 pub enum Phase {
     /// A packet.
     Packets,
-    /// The image that follows a SNAP packet.
-    ImageOwed,
+    /// What stands there in the image that follows a SNAP packet.
+    Image(PartPhase),
+}
+
+impl Phase {
+    /// How many bytes it keeps of a part that has begun: those of a node's path.
+    pub fn kept_len(&self) -> usize
+        ensures len { result ≡ kept_len self.now }
+        ensures fits { result < 2 ^ 63 }
+    {
+        match self {
+            Phase::Image(PartPhase::Body(path)) => path.as_str().len(),
+            _ => 0,
+        }
+    }
 }

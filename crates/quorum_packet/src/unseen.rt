@@ -1,11 +1,16 @@
-//! What of an unfinished packet wasn't looked at yet, so that no byte is looked at anew at each piece.
+//! What of something unfinished wasn't looked at yet, so that no byte is looked at anew at each piece.
 
-ghost use Rattle.std.specs.Prelude.{◌≡◌, Err, IfOk, IfErr, IfSome, OnOk, drop};
+ghost use Rattle.std.specs.Prelude.{◌≡◌, ◌<◌, Err, IfOk, IfErr, IfSome, OnOk, drop};
 ghost use Rattle.jute.specs.Format.{name};
+ghost use Rattle.quorum_packet.specs.Items.{found_format};
 ghost use Rattle.quorum_packet.specs.Packet.{packet};
-ghost use Rattle.quorum_packet.specs.Unseen.{AreUnseen, IsUnseen, MayBeUnseen, AllSeen, StopsAt, fields};
+ghost use Rattle.quorum_packet.specs.Unseen.{AreUnseen, AreUnseenEntries, IsUnseen, MayBeUnseen, acl_list, texts_left};
+ghost use Rattle.quorum_packet.specs.Unseen.{AllSeen, PacketSeen, ListSeen, fields, list_fields};
+ghost use Rattle.quorum_packet.specs.Unseen.{StopsAt, PacketStopsAt, ListStopsAt, EntryStopsAt};
 
+use crate::phase::Phase;
 use jute::{Reader, read_name};
+use snapshot_codec::PartPhase;
 use values::Fault;
 
 /// The texts of a packet's authinfo from a place on: where the first one begins, and how many there are.
@@ -15,13 +20,24 @@ pub struct Texts {
     count: u64,
 }
 
-/// What wasn't looked at of a packet that was met and found unfinished.
+/// The entries of an ACL list from a place on: where it begins, how many there are, and whether the first one was
+/// looked at up to its id.
+#[derive(Clone, Copy, Debug)]
+pub struct Entries {
+    start: usize,
+    count: u32,
+    scheme_seen: bool,
+}
+
+/// What wasn't looked at of something that was met and found unfinished.
 #[derive(Clone, Copy, Debug)]
 pub enum Unseen {
     /// All of it.
-    Fields,
-    /// Some texts, behind the other fields.
+    Whole,
+    /// Some texts of a packet, behind its other fields.
     Texts(Texts),
+    /// Some entries of an ACL list, behind its other fields.
+    Entries(Entries),
 }
 
 // Looks at the fields before the texts.
@@ -60,33 +76,120 @@ fn look_at_texts(bytes: &[u8], texts: &mut Texts) -> Result<(), Fault>
 }
 
 // Looks at what is in of the packet at the front. It answers the packet's refusal, if there is one.
-fn look(bytes: &[u8], unseen: &mut Unseen) -> Result<(), Fault>
+fn look_at_packet(bytes: &[u8], unseen: &mut Unseen) -> Result<(), Fault>
     requires { IsUnseen bytes.now unseen.old }
     ensures kept { IsUnseen bytes.now unseen.new }
-    ensures seen { OnOk result (AllSeen unseen.new) }
+    ensures seen { OnOk result (PacketSeen unseen.new) }
     ensures err { IfErr result (λ e. packet.read bytes.now ≡ Err e) }
-    ensures stops { IfErr result (StopsAt bytes.now unseen.new) }
+    ensures stops { IfErr result (PacketStopsAt bytes.now unseen.new) }
 {
     let mut texts = match *unseen {
-        Unseen::Fields => look_at_fields(bytes)?,
         Unseen::Texts(texts) => texts,
+        _ => {
+            *unseen = Unseen::Whole;
+            look_at_fields(bytes)?
+        }
     };
     let looked = look_at_texts(bytes, &mut texts);
     *unseen = Unseen::Texts(texts);
     looked
 }
 
-/// Looks at what came of the packet at the front, if it was met before. It answers the packet's refusal, if there is
-/// one.
-pub fn look_on(bytes: &[u8], unseen: &mut Option<Unseen>) -> Result<(), Fault>
+// Looks at the fields before the entries.
+#[tactic(auto, unfolding(jute::specs::Format::vector_at))]
+fn look_at_list_fields(bytes: &[u8]) -> Result<Entries, Fault>
+    ensures ok { IfOk result (AreUnseenEntries bytes.now) }
+    ensures err { IfErr result (λ e. acl_list.read bytes.now ≡ Err e) }
+    ensures stops { IfErr result (λ e. list_fields.read bytes.now ≡ Err e) }
+{
+    let mut ahead = Reader::new(bytes);
+    ahead.read_long()?;
+    let count = ahead.read_count()?.unwrap_or(0);
+    Ok(Entries {
+        start: bytes.len() - ahead.rest().len(),
+        count,
+        scheme_seen: false,
+    })
+}
+
+// Looks at the next text of the entries, and at the number before a scheme.
+fn look_at_entry(bytes: &[u8], entries: &mut Entries) -> Result<(), Fault>
+    requires unseen { AreUnseenEntries bytes.now entries.old }
+    requires some { 0 < entries.old.count }
+    ensures kept { AreUnseenEntries bytes.now entries.new }
+    ensures less { OnOk result (texts_left entries.new < texts_left entries.old) }
+    ensures err { IfErr result (λ e. acl_list.read bytes.now ≡ Err e) }
+    ensures stops { IfErr result (λ e. EntryStopsAt entries.new.scheme_seen (drop entries.new.start bytes.now) e) }
+{
+    let mut ahead = Reader::new(&bytes[entries.start..]);
+    if entries.scheme_seen {
+        read_name(&mut ahead)?;
+        *entries = Entries {
+            start: bytes.len() - ahead.rest().len(),
+            count: entries.count - 1,
+            scheme_seen: false,
+        };
+        return Ok(());
+    }
+    ahead.read_int()?;
+    read_name(&mut ahead)?;
+    *entries = Entries {
+        start: bytes.len() - ahead.rest().len(),
+        count: entries.count,
+        scheme_seen: true,
+    };
+    Ok(())
+}
+
+// Looks at the entries that are whole.
+fn look_at_entries(bytes: &[u8], entries: &mut Entries) -> Result<(), Fault>
+    requires { AreUnseenEntries bytes.now entries.old }
+    ensures kept { AreUnseenEntries bytes.now entries.new }
+    ensures seen { OnOk result (entries.new.count ≡ 0) }
+    ensures err { IfErr result (λ e. acl_list.read bytes.now ≡ Err e) }
+    ensures stops { IfErr result (λ e. EntryStopsAt entries.new.scheme_seen (drop entries.new.start bytes.now) e) }
+{
+    while entries.count > 0 {
+        look_at_entry(bytes, entries)?;
+    }
+    Ok(())
+}
+
+// Looks at what is in of the ACL list at the front. It answers the list's refusal, if there is one.
+fn look_at_list(bytes: &[u8], unseen: &mut Unseen) -> Result<(), Fault>
+    requires { IsUnseen bytes.now unseen.old }
+    ensures kept { IsUnseen bytes.now unseen.new }
+    ensures seen { OnOk result (ListSeen unseen.new) }
+    ensures err { IfErr result (λ e. acl_list.read bytes.now ≡ Err e) }
+    ensures stops { IfErr result (ListStopsAt bytes.now unseen.new) }
+{
+    let mut entries = match *unseen {
+        Unseen::Entries(entries) => entries,
+        _ => {
+            *unseen = Unseen::Whole;
+            look_at_list_fields(bytes)?
+        }
+    };
+    let looked = look_at_entries(bytes, &mut entries);
+    *unseen = Unseen::Entries(entries);
+    looked
+}
+
+/// Looks at what came of what stands at the front, if it was met before. It answers its refusal, if there is one.
+#[tactic(auto, unfolding(jute::specs::Format::judged_at))]
+pub fn look_on(phase: &Phase, bytes: &[u8], unseen: &mut Option<Unseen>) -> Result<(), Fault>
     requires { MayBeUnseen bytes.now unseen.old }
     ensures kept { MayBeUnseen bytes.now unseen.new }
-    ensures seen { OnOk result (IfSome unseen.new AllSeen) }
-    ensures err { IfErr result (λ e. packet.read bytes.now ≡ Err e) }
-    ensures stops { IfErr result (λ e. IfSome unseen.new (λ u. StopsAt bytes.now u e)) }
+    ensures seen { OnOk result (IfSome unseen.new (AllSeen phase.now)) }
+    ensures err { IfErr result (λ e. (found_format phase.now).read bytes.now ≡ Err e) }
+    ensures stops { IfErr result (λ e. IfSome unseen.new (λ u. StopsAt phase.now bytes.now u e)) }
 {
-    match unseen {
-        None => Ok(()),
-        Some(unseen) => look(bytes, unseen),
+    let Some(unseen) = unseen else {
+        return Ok(());
+    };
+    match phase {
+        Phase::Packets => look_at_packet(bytes, unseen),
+        Phase::Image(PartPhase::Acls(_)) => look_at_list(bytes, unseen),
+        _ => Ok(()),
     }
 }

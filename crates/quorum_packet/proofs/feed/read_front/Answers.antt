@@ -1,23 +1,18 @@
 use Rattle.std.proofs.Common.{arith}
-use Rattle.quorum_packet.proofs.Fronts.{front, fits, read_writable}
+use Rattle.quorum_packet.proofs.Finding.{front_less, front_found, found_writable}
 use Rattle.quorum_packet.proofs.feed.read_front.Goals as goal
 
 pub overflow_sub-result : goal.overflow_sub-result
-overflow_sub-result c = omega (
-  arith,
-  fits c.args.bytes.now c.rest-left.result.now c.in_ok-packet.packet (rw (
-    c.rest-left.ensures,
-    ← c.new-ahead.ensures,
-  ) c.in_ok-packet.ensures),
-)
+overflow_sub-result c =
+    front_less c.args.phase.now c.read_found.new.phase c.args.bytes.now c.rest-left.result.now c.in_ok-found.found
+    (rw (c.rest-left.ensures, ← c.new-ahead.ensures) c.in_ok-found.ensures)
 
-pub returns : goal.returns
-returns c = (
-  front c.args.bytes.now c.rest-left.result.now c.in_ok-packet.packet (λ i. omega (
-    arith,
-    c.type_inv.bytes i,
-  )) (rw (c.rest-left.ensures, ← c.new-ahead.ensures) c.in_ok-packet.ensures),
-  omega arith,
-  read_writable c.args.bytes.now c.rest-left.result.now c.in_ok-packet.packet (λ i. omega (arith, c.type_inv.bytes i))
-      (rw (c.rest-left.ensures, ← c.new-ahead.ensures) c.in_ok-packet.ensures),
-)
+pub returns-clause-front : goal.returns-clause-front
+returns-clause-front c =
+    front_found c.args.phase.now c.read_found.new.phase c.args.bytes.now c.rest-left.result.now c.in_ok-found.found
+    (λ i. omega (arith, c.type_inv.bytes i)) (rw (c.rest-left.ensures, ← c.new-ahead.ensures) c.in_ok-found.ensures)
+
+pub returns-clause-writable : goal.returns-clause-writable
+returns-clause-writable c =
+    found_writable c.args.phase.now c.read_found.new.phase c.args.bytes.now c.rest-left.result.now c.in_ok-found.found
+    (λ i. omega (arith, c.type_inv.bytes i)) (rw (c.rest-left.ensures, ← c.new-ahead.ensures) c.in_ok-found.ensures)

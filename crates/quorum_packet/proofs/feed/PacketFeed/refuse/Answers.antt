@@ -1,17 +1,14 @@
-use Rattle.std.proofs.Common.{ap, refl}
+use Rattle.std.proofs.Common.{ap}
 use Rattle.jute.specs.Stream.{Place}
 use Rattle.quorum_packet.specs.declared.phase.Phase.{Phase}
-use Rattle.quorum_packet.proofs.Fronts.{short_at, refused_at}
+use Rattle.quorum_packet.proofs.Finding.{short_stops, refused_stops}
 use Rattle.quorum_packet.proofs.feed.PacketFeed.refuse.Goals as goal
 
-pub returns-in-Short-clause-first : goal.returns-in-Short-clause-first
-returns-in-Short-clause-first c =
-    short_at c.args.self.now.phase c.args.self.now.unread c.requires.packets (rw c.in-Short.is at c.requires.refused)
+pub returns-in-Short-clause-steps : goal.returns-in-Short-clause-steps
+returns-in-Short-clause-steps c =
+    short_stops c.args.self.now.phase c.args.self.now.unread (rw c.in-Short.is at c.requires)
 
-pub returns-in_default-clause-first : goal.returns-in_default-clause-first
-returns-in_default-clause-first c = (
-  rw (ap (λ (p : Place Phase). p.phase) c.self.view_is)
-      (refused_at c.args.self.now.phase c.args.self.now.unread c.args.fault c.requires.packets c.requires.refused
-      c.in_default.not-Short),
-  refl,
-)
+pub returns-in_default-clause-steps : goal.returns-in_default-clause-steps
+returns-in_default-clause-steps c =
+    rw (ap (λ (p : Place Phase). p.phase) c.self.view_is)
+    (refused_stops c.args.self.now.phase c.args.self.now.unread c.args.fault c.requires c.in_default.not-Short)

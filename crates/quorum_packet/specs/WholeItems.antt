@@ -1,0 +1,41 @@
+-- The leader's stream as packets and whole images: an image stands first exactly where one is owed, and directly behind
+-- each SNAP packet.
+use Rattle.std.specs.Prelude.{Bool, true, false, Option, Some, None}
+use Rattle.jute.specs.Format.{Format, case_of}
+use Rattle.jute.specs.Stream.{values, Phased}
+use Rattle.data_tree.specs.State.{State}
+use Rattle.snapshot_codec.specs.Image.{image}
+use Rattle.quorum_packet.specs.declared.packet.QuorumPacket.{QuorumPacket}
+use Rattle.quorum_packet.specs.declared.phase.Phase.{Phase}
+use Rattle.quorum_packet.specs.declared.phase.Phase.TheVariants.{Packets, Image}
+use Rattle.quorum_packet.specs.Items.{phase_behind}
+use Rattle.quorum_packet.specs.Kinds.{kind_of}
+use Rattle.quorum_packet.specs.Packet.{packet}
+
+pub data WholeItem : Type 0 where
+  OnePacket : (packet : QuorumPacket) → WholeItem
+  OneImage : (state : State) → WholeItem
+
+abbrev pub one_packet_back : WholeItem → Option QuorumPacket
+one_packet_back (OnePacket p) = Some p
+one_packet_back (OneImage s) = None
+
+abbrev pub one_image_back : WholeItem → Option State
+one_image_back (OneImage s) = Some s
+one_image_back (OnePacket p) = None
+
+abbrev pub whole_format : Bool → Format WholeItem
+whole_format false = case_of (λ p. OnePacket p) one_packet_back packet
+whole_format true = case_of (λ s. OneImage s) one_image_back image
+
+abbrev pub is_owed : Phase → Bool
+is_owed Packets = false
+is_owed (Image phase) = true
+
+abbrev pub owed_after : Bool → WholeItem → Bool
+owed_after owed (OnePacket p) = is_owed (phase_behind (kind_of p.kind))
+owed_after owed (OneImage s) = false
+
+-- the phase is whether an image is owed
+abbrev pub whole_items : Phased Bool WholeItem
+whole_items = record { reading = λ owed. values (whole_format owed); after = owed_after }
