@@ -12,6 +12,7 @@
 #![tactic(auto)]
 
 mod feed;
+mod item;
 mod kind;
 mod law;
 mod packet;
@@ -20,6 +21,7 @@ mod skip;
 mod unseen;
 
 pub use feed::PacketFeed;
+pub use item::Item;
 pub use kind::PacketKind;
 pub use law::packet_stream;
 pub use packet::{QuorumPacket, write_packet};
