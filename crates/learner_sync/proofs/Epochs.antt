@@ -47,7 +47,10 @@ inform-holds l bytes = by (whole txn bytes)
 propose-holds : (l : Learner) (bytes : List ℕ) → Holds l.accepted_epoch (propose l bytes)
 propose-holds l bytes = by (whole txn bytes)
   where
-    by : (r : Result Txn Fault) → Holds l.accepted_epoch (r >>= λ t. Ok (quiet (record l { proposals = l.proposals ++ t ∷ [] })))
+    by : (r : Result Txn Fault) → Holds l.accepted_epoch (r >>= λ t. Ok (quiet (record l {
+      proposals =
+          l.proposals ++ t ∷ [];
+    })))
     by (Ok t) = le_refl l.accepted_epoch
     by (Err e) = tt
 
@@ -76,7 +79,8 @@ info-holds l epoch bytes = by (int_lt epoch l.accepted_epoch)
     read (Ok version) = greeted-holds l epoch
     read (Err e) = tt
 
-    by : (b : Bool) → Holds l.accepted_epoch (cond b (Err EpochTooSmall) (int.read bytes >>= λ version. Ok (greeted l epoch)))
+    by : (b : Bool) → Holds l.accepted_epoch
+        (cond b (Err EpochTooSmall) (int.read bytes >>= λ version. Ok (greeted l epoch)))
     by true = tt
     by false = read (int.read bytes)
 
@@ -87,7 +91,8 @@ hello-holds k l p = tt
 truncate-holds : (l : Learner) (zxid : ℤ) → Holds l.accepted_epoch (truncate l zxid)
 truncate-holds l zxid = by (int_lt zxid l.base_zxid)
   where
-    by : (b : Bool) → Holds l.accepted_epoch (cond b (Err CannotTruncate) (Ok (one (act.Truncate zxid) (truncated l (up_to zxid l.log)))))
+    by : (b : Bool) → Holds l.accepted_epoch
+        (cond b (Err CannotTruncate) (Ok (one (act.Truncate zxid) (truncated l (up_to zxid l.log)))))
     by true = tt
     by false = le_refl l.accepted_epoch
 
@@ -137,7 +142,8 @@ learn-holds : (l : Learner) (i : Item) → Holds l.accepted_epoch (learn l i)
 learn-holds l (item.Packet p) = packet-holds l.phase l p
 learn-holds l (item.Part p) = part-holds l.phase l p
 
-start-holds : (ph : Phase) (l : Learner) (server_id : ℤ) → (start_in ph l server_id).after.accepted_epoch ≡ l.accepted_epoch
+start-holds : (ph : Phase) (l : Learner) (server_id : ℤ)
+    → (start_in ph l server_id).after.accepted_epoch ≡ l.accepted_epoch
 start-holds phase.Down l server_id = refl
 start-holds ph l server_id = refl
 

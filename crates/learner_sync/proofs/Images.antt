@@ -41,18 +41,21 @@ all-load l last after inner ends (p ∷ parts) h =
 at : (l : Learner) (ph : Phase) (p : ImagePart) → l.phase ≡ ph → learn l (item.Part p) ≡ part_in ph l p
 at l ph p e = ap (λ x. part_in x l p) e
 
-all-drop : (l : Learner) → ((p : ImagePart) → learn l (item.Part p) ≡ Ok (pass_over p l)) → (parts : List ImagePart) → AreInner parts
+all-drop : (l : Learner) → ((p : ImagePart) → learn l (item.Part p) ≡ Ok (pass_over p l))
+    → (parts : List ImagePart) → AreInner parts
     → learn_all l (items_of parts) ≡ Ok (record { acts = loads parts act.DropImage; after = l })
 all-drop l drops parts h =
     all-load l act.DropImage l
     (λ p inner. drops p ∙ ap (λ acts. Ok (record { acts = acts; after = l })) (drop-inner p inner))
     (drops part.End) parts h
 
-all-quiet : (l : Learner) → l.phase ≡ phase.Down → (items : List ImagePart) → learn_all l (map item.Part items ++ item.Part part.End ∷ []) ≡ Ok (quiet l)
+all-quiet : (l : Learner) → l.phase ≡ phase.Down → (items : List ImagePart)
+    → learn_all l (map item.Part items ++ item.Part part.End ∷ []) ≡ Ok (quiet l)
 all-quiet l e [] = ap (then l []) (at l phase.Down part.End e)
 all-quiet l e (p ∷ parts) = ap (then l (items_of parts)) (at l phase.Down p e) ∙ ap (behind []) (all-quiet l e parts)
 
-all-refused : (l : Learner) (e : Fault) → ((p : ImagePart) → learn l (item.Part p) ≡ Err e) → (parts : List ImagePart) → learn_all l (items_of parts) ≡ Err e
+all-refused : (l : Learner) (e : Fault) → ((p : ImagePart) → learn l (item.Part p) ≡ Err e)
+    → (parts : List ImagePart) → learn_all l (items_of parts) ≡ Err e
 all-refused l e refuses [] = ap (then l []) (refuses part.End)
 all-refused l e refuses (p ∷ parts) = ap (then l (items_of parts)) (refuses p)
 

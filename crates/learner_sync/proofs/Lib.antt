@@ -12,3 +12,5 @@ pub mod Serving
 pub mod Images
 -- worked steps
 pub mod Rows
+-- what is to be done
+pub mod Acts

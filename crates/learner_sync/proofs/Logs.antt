@@ -38,16 +38,19 @@ moved l ph s f = record { rising = f.rising; last = f.last; based = f.based; sta
 
 -- ---- transactions
 
-above : (ph : Phase) (log : List Txn) (last zxid : ℤ) → Stands ph log → zxid_after (pos 0) log ≤ℤ last → floor_in ph last <ℤ zxid → zxid_after (pos 0) log <ℤ zxid
+above : (ph : Phase) (log : List Txn) (last zxid : ℤ) → Stands ph log → zxid_after (pos 0) log ≤ℤ last
+    → floor_in ph last <ℤ zxid → zxid_after (pos 0) log <ℤ zxid
 above (phase.ReplayOnImage applied) log last zxid s le lt = subst (λ a. a <ℤ zxid) s lt
 above ph log last zxid s le lt = le_lt (zxid_after (pos 0) log) last zxid le lt
 
-stands-push : (ph : Phase) (log : List Txn) (t : Txn) → Stands ph log → Stands (phase_behind ph t.header.zxid) (log ++ t ∷ [])
+stands-push : (ph : Phase) (log : List Txn) (t : Txn) → Stands ph log
+    → Stands (phase_behind ph t.header.zxid) (log ++ t ∷ [])
 stands-push (phase.ReplayOnImage applied) log t s = sym (zxid-push (pos 0) log t)
 stands-push (phase.Image zxid) log t s = s
 stands-push ph log t s = tt
 
-applied-follows : (l : Learner) (t : Txn) → floor_in l.phase l.last_zxid <ℤ t.header.zxid → FollowsItsLog l → FollowsItsLog (with_applied l t)
+applied-follows : (l : Learner) (t : Txn) → floor_in l.phase l.last_zxid <ℤ t.header.zxid → FollowsItsLog l
+    → FollowsItsLog (with_applied l t)
 applied-follows l t lt f =
     let below : zxid_after (pos 0) l.log ≤ℤ l.last_zxid =
     subst (λ z. zxid_after (pos 0) l.log ≤ℤ z) (sym f.last) (below_max l.base_zxid (zxid_after (pos 0) l.log)) in
@@ -65,7 +68,8 @@ applied-follows l t lt f =
 apply-follows : (l : Learner) (t : Txn) → FollowsItsLog l → Follows (apply l t)
 apply-follows l t f = by (int_lt (floor_in l.phase l.last_zxid) t.header.zxid) refl
   where
-    by : (b : Bool) → int_lt (floor_in l.phase l.last_zxid) t.header.zxid ≡ b → Follows (cond b (Ok (one act.Apply (with_applied l t))) (Err OutOfOrder))
+    by : (b : Bool) → int_lt (floor_in l.phase l.last_zxid) t.header.zxid ≡ b
+        → Follows (cond b (Ok (one act.Apply (with_applied l t))) (Err OutOfOrder))
     by true e = applied-follows l t (lt_of _ _ e) f
     by false e = tt
 
@@ -88,7 +92,13 @@ commit-follows l [] zxid f = tt
 commit-follows l (t ∷ others) zxid f = by (int_eq t.header.zxid zxid)
   where
     by : (b : Bool) → Follows (cond b (apply (record l { proposals = others }) t) (Err CommitMismatch))
-    by true = apply-follows (record l { proposals = others }) t (record { rising = f.rising; last = f.last; based = f.based; stands = f.stands })
+    by true = apply-follows (record l { proposals = others }) t (record {
+      rising = f.rising;
+      last = f.last;
+      based =
+          f.based;
+      stands = f.stands;
+    })
     by false = tt
 
 -- ---- hello and sync
@@ -118,14 +128,16 @@ hello-follows : (k : Option PacketKind) (l : Learner) (p : QuorumPacket) → Fol
 hello-follows (Some kinds.LeaderInfo) l p f = info-follows l (epoch_of p.zxid) (carried_bytes p.bytes) f
 hello-follows k l p f = tt
 
-last-kept : (base : ℤ) (kept : List Txn) → pos 0 ≤ℤ base → int_max base (zxid_after base kept) ≡ int_max base (zxid_after (pos 0) kept)
+last-kept : (base : ℤ) (kept : List Txn) → pos 0 ≤ℤ base
+    → int_max base (zxid_after base kept) ≡ int_max base (zxid_after (pos 0) kept)
 last-kept base [] le = max_same base ∙ sym (max_left base (pos 0) le)
 last-kept base (t ∷ kept) le = refl
 
 truncate-follows : (l : Learner) (zxid : ℤ) → FollowsItsLog l → Follows (truncate l zxid)
 truncate-follows l zxid f = by (int_lt zxid l.base_zxid)
   where
-    by : (b : Bool) → Follows (cond b (Err CannotTruncate) (Ok (one (act.Truncate zxid) (truncated l (up_to zxid l.log)))))
+    by : (b : Bool) → Follows
+        (cond b (Err CannotTruncate) (Ok (one (act.Truncate zxid) (truncated l (up_to zxid l.log)))))
     by true = tt
     by false = record {
       rising = rises-up_to zxid (pos 0) l.log f.rising;
@@ -137,7 +149,8 @@ truncate-follows l zxid f = by (int_lt zxid l.base_zxid)
 await-follows : (l : Learner) (zxid : ℤ) → FollowsItsLog l → Follows (await_image l zxid)
 await-follows l zxid f = by (int_lt zxid (pos 0)) refl
   where
-    by : (b : Bool) → int_lt zxid (pos 0) ≡ b → Follows (cond b (Err OutOfOrder) (Ok (quiet (at_phase l (phase.Image zxid)))))
+    by : (b : Bool) → int_lt zxid (pos 0) ≡ b
+        → Follows (cond b (Err OutOfOrder) (Ok (quiet (at_phase l (phase.Image zxid)))))
     by true e = tt
     by false e = moved l (phase.Image zxid) (le_of zxid (pos 0) e) f
 
@@ -153,7 +166,13 @@ replay-follows : (k : Option PacketKind) (l : Learner) (p : QuorumPacket) → Fo
 replay-follows (Some kinds.Proposal) l p f = propose-follows l (carried_bytes p.bytes) f
 replay-follows (Some kinds.Commit) l p f = commit-follows l l.proposals p.zxid f
 replay-follows (Some kinds.Inform) l p f = inform-follows l (carried_bytes p.bytes) f
-replay-follows (Some kinds.NewLeader) l p f = record { rising = f.rising; last = f.last; based = f.based; stands = f.stands }
+replay-follows (Some kinds.NewLeader) l p f = record {
+  rising = f.rising;
+  last = f.last;
+  based = f.based;
+  stands =
+      f.stands;
+}
 replay-follows (Some kinds.UpToDate) l p f = record { rising = f.rising; last = f.last; based = f.based; stands = tt }
 replay-follows k l p f = f
 
@@ -164,8 +183,15 @@ serve-follows k l p f = f
 
 -- ---- images
 
-load-follows : (p : ImagePart) (l : Learner) (zxid : ℤ) → pos 0 ≤ℤ zxid → FollowsItsLog l → FollowsItsLog (load p l zxid).after
-load-follows part.End l zxid le f = record { rising = tt; last = sym (max_left zxid (pos 0) le); based = le; stands = refl }
+load-follows : (p : ImagePart) (l : Learner) (zxid : ℤ) → pos 0 ≤ℤ zxid → FollowsItsLog l
+    → FollowsItsLog (load p l zxid).after
+load-follows part.End l zxid le f = record {
+  rising = tt;
+  last = sym (max_left zxid (pos 0) le);
+  based =
+      le;
+  stands = refl;
+}
 load-follows p l zxid le f = f
 
 -- ---- all of it
@@ -192,7 +218,8 @@ learn-follows : (l : Learner) (i : Item) → FollowsItsLog l → Follows (learn 
 learn-follows l (item.Packet p) f = packet-follows l.phase l p f
 learn-follows l (item.Part p) f = part-follows l.phase l p f.stands f
 
-start-follows : (ph : Phase) (l : Learner) (server_id : ℤ) → FollowsItsLog l → FollowsItsLog (start_in ph l server_id).after
+start-follows : (ph : Phase) (l : Learner) (server_id : ℤ) → FollowsItsLog l
+    → FollowsItsLog (start_in ph l server_id).after
 start-follows phase.Down l server_id f = moved l phase.Hello tt f
 start-follows ph l server_id f = f
 

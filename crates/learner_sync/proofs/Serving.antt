@@ -29,21 +29,24 @@ Goes l (Err e) = Unit {0}
 abbrev with_last : Learner → Txn → Phase → ℤ → Learned
 with_last l t ph last = one act.Apply (record l { phase = ph; last_zxid = last; log = l.log ++ t ∷ [] })
 
-one-more : (l : Learner) (t : Txn) → l.phase ≡ phase.Serving → floor_in l.phase l.last_zxid <ℤ t.header.zxid → IsOneMore l (one act.Apply (with_applied l t))
+one-more : (l : Learner) (t : Txn) → l.phase ≡ phase.Serving → floor_in l.phase l.last_zxid <ℤ t.header.zxid
+    → IsOneMore l (one act.Apply (with_applied l t))
 one-more l t e above =
     let over : l.last_zxid <ℤ t.header.zxid = subst (λ ph. floor_in ph l.last_zxid <ℤ t.header.zxid) e above in
     record {
       txn = t;
       above = over;
       learnt =
-          ap (λ ph. with_last l t ph (int_max l.last_zxid t.header.zxid)) (ap (λ ph. phase_behind ph t.header.zxid) e ∙ sym e)
+          ap (λ ph. with_last l t ph (int_max l.last_zxid t.header.zxid))
+          (ap (λ ph. phase_behind ph t.header.zxid) e ∙ sym e)
           ∙ ap (λ z. with_last l t l.phase z) (max_right l.last_zxid t.header.zxid over);
     }
 
 apply-goes : (l : Learner) (t : Txn) → l.phase ≡ phase.Serving → Goes l (apply l t)
 apply-goes l t e = by (int_lt (floor_in l.phase l.last_zxid) t.header.zxid) refl
   where
-    by : (b : Bool) → int_lt (floor_in l.phase l.last_zxid) t.header.zxid ≡ b → Goes l (cond b (Ok (one act.Apply (with_applied l t))) (Err OutOfOrder))
+    by : (b : Bool) → int_lt (floor_in l.phase l.last_zxid) t.header.zxid ≡ b
+        → Goes l (cond b (Ok (one act.Apply (with_applied l t))) (Err OutOfOrder))
     by true lt = inr (one-more l t e (lt_of _ _ lt))
     by false lt = tt
 

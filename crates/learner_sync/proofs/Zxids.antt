@@ -53,7 +53,8 @@ pub zxid-push : (zxid : ℤ) (log : List Txn) (t : Txn) → zxid_after zxid (log
 zxid-push zxid [] t = refl
 zxid-push zxid (u ∷ log) t = zxid-push u.header.zxid log t
 
-pub rises-push : (zxid : ℤ) (log : List Txn) (t : Txn) → Rises zxid log → zxid_after zxid log <ℤ t.header.zxid → Rises zxid (log ++ t ∷ [])
+pub rises-push : (zxid : ℤ) (log : List Txn) (t : Txn) → Rises zxid log → zxid_after zxid log <ℤ t.header.zxid
+    → Rises zxid (log ++ t ∷ [])
 rises-push zxid [] t r lt = (lt, tt)
 rises-push zxid (u ∷ log) t r lt = (r.0, rises-push u.header.zxid log t r.1 lt)
 
@@ -97,7 +98,8 @@ abbrev zxid_in : Option Txn → ℤ → ℤ
 zxid_in None zxid = zxid
 zxid_in (Some t) zxid = t.header.zxid
 
-pub zxid-last : (zxid : ℤ) (log : List Txn) (t : Txn) → Some t ≡ slice_get log (length log - 1) → zxid_after zxid log ≡ t.header.zxid
+pub zxid-last : (zxid : ℤ) (log : List Txn) (t : Txn) → Some t ≡ slice_get log (length log - 1)
+    → zxid_after zxid log ≡ t.header.zxid
 zxid-last zxid [] t e = cc
 zxid-last zxid (u ∷ []) t e = ap (λ o. zxid_in o zxid) (sym e)
 zxid-last zxid (u ∷ v ∷ log) t e =

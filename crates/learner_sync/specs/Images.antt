@@ -52,4 +52,5 @@ learn_image l parts = image_in l.phase l parts
 
 -- the parts of an image, one behind the other, do what the whole image does
 abbrev pub PartsAreTheImage : Type 0
-PartsAreTheImage = (l : Learner) (parts : List ImagePart) → AreInner parts → learn_all l (items_of parts) ≡ learn_image l parts
+PartsAreTheImage =
+    (l : Learner) (parts : List ImagePart) → AreInner parts → learn_all l (items_of parts) ≡ learn_image l parts

@@ -6,6 +6,7 @@ use Rattle.quorum_packet.specs.declared.item.Item.{Item}
 use Rattle.txn_codec.specs.declared.txn.Txn.{Txn}
 use Rattle.learner_sync.specs.Learner.{Learner, new_learner, primed_learner}
 use Rattle.learner_sync.specs.Learn.{Learned, one, start, end, checkpoint, up_to, zxid_after, learn}
+use Rattle.learner_sync.specs.declared.act.Act.{Act}
 use Rattle.learner_sync.specs.declared.act.Act.TheVariants as act
 use Rattle.learner_sync.specs.declared.phase.Phase.{Phase}
 use Rattle.learner_sync.specs.declared.phase.Phase.TheVariants as phase
@@ -63,4 +64,18 @@ pub record IsOneMore (l : Learner) (x : Learned) : Type 0 where
 
 -- while clients are served, what is learnt leaves the learner as it is, or is one transaction more
 abbrev pub ServingRises : Type 0
-ServingRises = (l : Learner) (i : Item) (x : Learned) → l.phase ≡ phase.Serving → learn l i ≡ Ok x → (x.after ≡ l) ⊎ IsOneMore l x
+ServingRises =
+    (l : Learner) (i : Item) (x : Learned) → l.phase ≡ phase.Serving → learn l i ≡ Ok x → (x.after ≡ l) ⊎ IsOneMore l x
+
+-- ---- what is to be done
+
+-- What is to be done tells what becomes of the log and its base: one transaction more, those up to a zxid, or none on a
+-- new base. If it tells nothing of them, they stay.
+abbrev pub Tells : List Act → Learner → Learner → Type 0
+Tells (act.Apply ∷ []) l after = (t : Txn) × (after.log ≡ l.log ++ t ∷ []) × (after.base_zxid ≡ l.base_zxid)
+Tells (act.Truncate zxid ∷ []) l after = (after.log ≡ up_to zxid l.log) × (after.base_zxid ≡ l.base_zxid)
+Tells (act.LoadImage ∷ []) l after = (after.log ≡ []) × (after.base_zxid ≡ after.last_zxid)
+Tells acts l after = (after.log ≡ l.log) × (after.base_zxid ≡ l.base_zxid)
+
+abbrev pub ActsTell : Type 0
+ActsTell = (l : Learner) (i : Item) (x : Learned) → learn l i ≡ Ok x → Tells x.acts l x.after

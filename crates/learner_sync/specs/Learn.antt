@@ -1,6 +1,6 @@
--- What is learnt of an item of the leader's stream: what is to be done, and what the learner knows then; or the fault for
--- which the item is refused. In one packet a wrong kind comes first, then a zxid that is out of place, then what the packet
--- carries, then a commit of another proposal, and last a transaction that is out of order.
+-- What is learnt of an item of the leader's stream: what is to be done, and what the learner knows then; or the fault
+-- for which the item is refused. In one packet a wrong kind comes first, then a zxid that is out of place, then what the
+-- packet carries, then a commit of another proposal, and last a transaction that is out of order.
 use Rattle.std.specs.Prelude.{◌≡◌, ℕ, ℤ, pos, negsuc, false, List, [], ◌∷◌, ◌++◌, filter, int_lt, int_le, Option, Some, None, Result, Ok, Err, if◌then◌else◌}
 use Rattle.std.specs.Int.{int_max}
 use Rattle.std.specs.Ordering.{int_eq}
@@ -105,7 +105,8 @@ truncated l kept = record l {
 
 abbrev pub truncate : Learner → ℤ → Result Learned Fault
 truncate l zxid =
-    if int_lt zxid l.base_zxid then Err CannotTruncate else Ok (one (act.Truncate zxid) (truncated l (up_to zxid l.log)))
+    if int_lt zxid l.base_zxid then Err CannotTruncate
+    else Ok (one (act.Truncate zxid) (truncated l (up_to zxid l.log)))
 
 -- until the image is whole all stays as it was
 abbrev pub await_image : Learner → ℤ → Result Learned Fault
@@ -119,8 +120,8 @@ sync kind l p = Err UnexpectedPacket
 
 -- ---- transactions
 
--- The zxid that a transaction must be above: the last one. A leader writes an image while its tree goes on changing, so what
--- it sends next may be in the image already: that needs only be in order.
+-- The zxid that a transaction must be above: the last one. A leader writes an image while its tree goes on changing, so
+-- what it sends next may be in the image already: that needs only be in order.
 abbrev pub floor_in : Phase → ℤ → ℤ
 floor_in (phase.ReplayOnImage applied) last_zxid = applied
 floor_in phase last_zxid = last_zxid
@@ -139,7 +140,8 @@ with_applied l t = passed (record l { log = l.log ++ t ∷ [] }) t.header.zxid
 
 abbrev pub apply : Learner → Txn → Result Learned Fault
 apply l t =
-    if int_lt (floor_in l.phase l.last_zxid) t.header.zxid then Ok (one act.Apply (with_applied l t)) else Err OutOfOrder
+    if int_lt (floor_in l.phase l.last_zxid) t.header.zxid then Ok (one act.Apply (with_applied l t))
+    else Err OutOfOrder
 
 -- a transaction that is proposed and committed in one; open proposals stay
 abbrev pub inform : Learner → List ℕ → Result Learned Fault
@@ -251,8 +253,8 @@ checkpoint l = checkpoint_in l.phase l
 abbrev pub whole_log : Learner → Option (List Txn)
 whole_log l = if l.is_complete then Some l.log else None
 
--- What a step answers and leaves: what is to be done, and the learner that knows more. Or the item is refused for its fault,
--- or memory was, and the learner is as it was.
+-- What a step answers and leaves: what is to be done, and the learner that knows more. Or the item is refused for its
+-- fault, or memory was, and the learner is as it was.
 abbrev pub Learns : Result (List Act) ReadError → Result Learned Fault → Learner → Learner → Type 0
 Learns (Ok acts) learned old new = learned ≡ Ok (record { acts = acts; after = new })
 Learns (Err e) learned old new = Failed e learned × (new ≡ old)

@@ -49,7 +49,22 @@ learner_code phase txn =
     code_by (Phase × (ℤ × (ℤ × (ℤ × (ℤ × (List Txn × (List Txn × Bool)))))))
     (coded× phase (coded× coded_ℤ (coded× coded_ℤ (coded× coded_ℤ (coded× coded_ℤ
     (coded× (coded_list txn) (coded× (coded_list txn) coded_bool)))))))
-    (λ l. (l.phase, (l.accepted_epoch, (l.current_epoch, (l.last_zxid, (l.base_zxid, (l.log, (l.proposals, l.is_complete))))))))
+    (λ l. (
+      l.phase,
+      (
+        l.accepted_epoch,
+        (
+          l.current_epoch,
+          (
+            l.last_zxid,
+            (
+              l.base_zxid,
+              (l.log, (l.proposals, l.is_complete)),
+            ),
+          ),
+        ),
+      ),
+    ))
     (λ p. record {
       phase = p.0;
       accepted_epoch = p.1.0;

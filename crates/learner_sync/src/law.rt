@@ -2,7 +2,7 @@
 
 ghost use Rattle.jute.specs.Laws.{Sound};
 ghost use Rattle.learner_sync.specs.Images.{PartsAreTheImage};
-ghost use Rattle.learner_sync.specs.Laws.{LogsAreFollowed, TruncatesToFronts, EpochsDontFall, ServingRises};
+ghost use Rattle.learner_sync.specs.Laws.{LogsAreFollowed, TruncatesToFronts, EpochsDontFall, ServingRises, ActsTell};
 ghost use Rattle.learner_sync.specs.Records.{learner_info};
 ghost use Rattle.learner_sync.specs.Rows.{WorkedRows};
 
@@ -26,6 +26,11 @@ pub fn epochs()
 /// While clients are served, each transaction has a zxid above the last one, and nothing else changes the learner.
 pub fn serving()
     ensures { ServingRises }
+{}
+
+/// What is to be done tells what becomes of the log and of its base.
+pub fn acts()
+    ensures { ActsTell }
 {}
 
 /// A whole image does what its parts do, one behind the other.

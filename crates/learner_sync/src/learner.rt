@@ -83,8 +83,8 @@ impl Learner {
         }
     }
 
-    /// A leader is there: what is to be done, which is to send the packet by which the server introduces itself; nothing
-    /// while there is one already. Refused memory leaves the learner as it was.
+    /// A leader is there: what is to be done, which is to send the packet by which the server introduces itself;
+    /// nothing while there is one already. Refused memory leaves the learner as it was.
     pub fn start(&mut self, alloc: Global, server_id: ServerId) -> Result<Listed<Act>, NoMemory>
         ensures ok { IfOk result (λ acts. start self.old server_id ≡ record { acts = acts; after = self.new }) }
         ensures err { OnErr result (self.new ≡ self.old) }

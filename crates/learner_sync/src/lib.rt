@@ -1,9 +1,9 @@
 //! How an observer follows its leader: what each packet, and each part of an image, has it do.
 //!
 //! A `Learner` knows how far a leader was followed: in which phase the two are, the epochs, the last zxid, and the
-//! transactions that were applied since the base. `step` takes the next item of the leader's stream, and answers what is
-//! to be done, in order; or it refuses the item and is as it was. The tree stands elsewhere: an `Apply` means the log's last
-//! transaction, and an image is loaded by its parts.
+//! transactions that were applied since the base. `step` takes the next item of the leader's stream, and answers what
+//! is to be done, in order; or it refuses the item and is as it was. The tree stands elsewhere: an `Apply` means the
+//! log's last transaction, and an image is loaded by its parts.
 //!
 //! ```text
 //! send(learner.start(alloc, server_id)?);                        // a leader is there

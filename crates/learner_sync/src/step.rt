@@ -66,8 +66,8 @@ impl Learner {
     }
 
     /// The next item of the leader's stream: what is to be done, in order. The faults are those of the learner's rules:
-    /// `UnexpectedPacket`, `EpochTooSmall`, `CannotTruncate`, `OutOfOrder` and `CommitMismatch`, and those of what a packet
-    /// carries. A refused item, or refused memory, leaves the learner as it was.
+    /// `UnexpectedPacket`, `EpochTooSmall`, `CannotTruncate`, `OutOfOrder` and `CommitMismatch`, and those of what a
+    /// packet carries. A refused item, or refused memory, leaves the learner as it was.
     pub fn step(&mut self, alloc: Global, item: Item) -> Result<Listed<Act>, ReadError>
         ensures { Learns result (learn self.old item) self.old self.new }
     {
