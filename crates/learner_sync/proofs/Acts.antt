@@ -1,0 +1,150 @@
+-- What is to be done tells what becomes of the log and its base.
+use Rattle.std.proofs.Common.{ℕ, ℤ, List, [], ◌∷◌, ◌++◌, Option, Some, Result, Ok, Err, Bool, true, false, cond, refl, subst, int_lt}
+use Rattle.std.specs.Prelude.{pos, negsuc}
+use Rattle.std.specs.Ordering.{int_eq}
+use Rattle.values.specs.declared.fault.Fault.{Fault}
+use Rattle.values.specs.declared.fault.Fault.TheVariants.{OutOfOrder, CommitMismatch, CannotTruncate, EpochTooSmall}
+use Rattle.jute.specs.Format.{int, ◌>>=◌}
+use Rattle.quorum_packet.specs.declared.item.Item.{Item}
+use Rattle.quorum_packet.specs.declared.item.Item.TheVariants as item
+use Rattle.quorum_packet.specs.declared.packet.QuorumPacket.{QuorumPacket}
+use Rattle.quorum_packet.specs.declared.kind.PacketKind.{PacketKind}
+use Rattle.quorum_packet.specs.declared.kind.PacketKind.TheVariants as kinds
+use Rattle.quorum_packet.specs.Kinds.{kind_of}
+use Rattle.snapshot_codec.specs.declared.part.ImagePart.{ImagePart}
+use Rattle.snapshot_codec.specs.declared.part.ImagePart.TheVariants as part
+use Rattle.txn_codec.specs.Spelling.{txn, whole}
+use Rattle.txn_codec.specs.declared.txn.Txn.{Txn}
+use Rattle.learner_sync.specs.Answers.{epoch_answer}
+use Rattle.learner_sync.specs.Learner.{Learner}
+use Rattle.learner_sync.specs.Zxids.{epoch_of}
+use Rattle.learner_sync.specs.Learn.{Learned, quiet, one, at_phase, carried_bytes, greeted, leader_info, hello, up_to, truncated, truncate, await_image, sync, floor_in, with_applied, apply, inform, propose, commit_of, replay, serve, load, pass_over, packet_in, part_in, learn}
+use Rattle.learner_sync.specs.Laws.{Tells, ActsTell}
+use Rattle.learner_sync.specs.declared.act.Act.TheVariants as act
+use Rattle.learner_sync.specs.declared.phase.Phase.{Phase}
+use Rattle.learner_sync.specs.declared.phase.Phase.TheVariants as phase
+
+-- what isn't refused tells it
+abbrev Holds : Learner → Result Learned Fault → Type 0
+Holds l (Ok x) = Tells x.acts l x.after
+Holds l (Err e) = Unit {0}
+
+apply-holds : (l : Learner) (ts : List Txn) (t : Txn) → Holds l (apply (record l { proposals = ts }) t)
+apply-holds l ts t = by (int_lt (floor_in l.phase l.last_zxid) t.header.zxid)
+  where
+    by : (b : Bool) → Holds l
+        (cond b (Ok (one act.Apply (with_applied (record l { proposals = ts }) t))) (Err OutOfOrder))
+    by true = (t, refl, refl)
+    by false = tt
+
+inform-holds : (l : Learner) (bytes : List ℕ) → Holds l (inform l bytes)
+inform-holds l bytes = by (whole txn bytes)
+  where
+    by : (r : Result Txn Fault) → Holds l (r >>= λ t. apply l t)
+    by (Ok t) = apply-holds l l.proposals t
+    by (Err e) = tt
+
+propose-holds : (l : Learner) (bytes : List ℕ) → Holds l (propose l bytes)
+propose-holds l bytes = by (whole txn bytes)
+  where
+    by : (r : Result Txn Fault) → Holds l (r >>= λ t. Ok (quiet (record l { proposals = l.proposals ++ t ∷ [] })))
+    by (Ok t) = (refl, refl)
+    by (Err e) = tt
+
+commit-holds : (l : Learner) (ts : List Txn) (zxid : ℤ) → Holds l (commit_of l ts zxid)
+commit-holds l [] zxid = tt
+commit-holds l (t ∷ others) zxid = by (int_eq t.header.zxid zxid)
+  where
+    by : (b : Bool) → Holds l (cond b (apply (record l { proposals = others }) t) (Err CommitMismatch))
+    by true = apply-holds l others t
+    by false = tt
+
+greeted-holds : (l : Learner) (epoch : ℤ) → Tells (greeted l epoch).acts l (greeted l epoch).after
+greeted-holds l epoch = by (int_lt l.accepted_epoch epoch)
+  where
+    answered : Bool → Learned
+    answered b = cond b (record {
+      acts = act.Epochs ∷ act.Send (epoch_answer l l.current_epoch) ∷ [];
+      after = record l { phase = phase.Sync; accepted_epoch = epoch };
+    }) (one (act.Send (epoch_answer l (negsuc 0))) (at_phase l phase.Sync))
+
+    by : (b : Bool) → Tells (answered b).acts l (answered b).after
+    by true = (refl, refl)
+    by false = (refl, refl)
+
+info-holds : (l : Learner) (epoch : ℤ) (bytes : List ℕ) → Holds l (leader_info l epoch bytes)
+info-holds l epoch bytes = by (int_lt epoch l.accepted_epoch)
+  where
+    read : (r : Result (ℤ × List ℕ) Fault) → Holds l (r >>= λ version. Ok (greeted l epoch))
+    read (Ok version) = greeted-holds l epoch
+    read (Err e) = tt
+
+    by : (b : Bool) → Holds l (cond b (Err EpochTooSmall) (int.read bytes >>= λ version. Ok (greeted l epoch)))
+    by true = tt
+    by false = read (int.read bytes)
+
+hello-holds : (k : Option PacketKind) (l : Learner) (p : QuorumPacket) → Holds l (hello k l p)
+hello-holds (Some kinds.LeaderInfo) l p = info-holds l (epoch_of p.zxid) (carried_bytes p.bytes)
+hello-holds k l p = tt
+
+truncate-holds : (l : Learner) (zxid : ℤ) → Holds l (truncate l zxid)
+truncate-holds l zxid = by (int_lt zxid l.base_zxid)
+  where
+    by : (b : Bool) → Holds l
+        (cond b (Err CannotTruncate) (Ok (one (act.Truncate zxid) (truncated l (up_to zxid l.log)))))
+    by true = tt
+    by false = (refl, refl)
+
+await-holds : (l : Learner) (zxid : ℤ) → Holds l (await_image l zxid)
+await-holds l zxid = by (int_lt zxid (pos 0))
+  where
+    by : (b : Bool) → Holds l (cond b (Err OutOfOrder) (Ok (quiet (at_phase l (phase.Image zxid)))))
+    by true = tt
+    by false = (refl, refl)
+
+sync-holds : (k : Option PacketKind) (l : Learner) (p : QuorumPacket) → Holds l (sync k l p)
+sync-holds (Some kinds.Diff) l p = (refl, refl)
+sync-holds (Some kinds.Trunc) l p = truncate-holds l p.zxid
+sync-holds (Some kinds.Snap) l p = await-holds l p.zxid
+sync-holds k l p = tt
+
+replay-holds : (k : Option PacketKind) (l : Learner) (p : QuorumPacket) → Holds l (replay k l p)
+replay-holds (Some kinds.Proposal) l p = propose-holds l (carried_bytes p.bytes)
+replay-holds (Some kinds.Commit) l p = commit-holds l l.proposals p.zxid
+replay-holds (Some kinds.Inform) l p = inform-holds l (carried_bytes p.bytes)
+replay-holds k l p = (refl, refl)
+
+serve-holds : (k : Option PacketKind) (l : Learner) (p : QuorumPacket) → Holds l (serve k l p)
+serve-holds (Some kinds.Inform) l p = inform-holds l (carried_bytes p.bytes)
+serve-holds k l p = (refl, refl)
+
+load-holds : (p : ImagePart) (l : Learner) (zxid : ℤ) → Holds l (Ok (load p l zxid))
+load-holds part.End l zxid = (refl, refl)
+load-holds p l zxid = (refl, refl)
+
+pass-holds : (p : ImagePart) (l : Learner) → Holds l (Ok (pass_over p l))
+pass-holds part.End l = (refl, refl)
+pass-holds p l = (refl, refl)
+
+packet-holds : (ph : Phase) (l : Learner) (p : QuorumPacket) → Holds l (packet_in ph l p)
+packet-holds phase.Down l p = (refl, refl)
+packet-holds phase.Hello l p = hello-holds (kind_of p.kind) l p
+packet-holds phase.Sync l p = sync-holds (kind_of p.kind) l p
+packet-holds (phase.Image zxid) l p = tt
+packet-holds (phase.ReplayOnImage applied) l p = replay-holds (kind_of p.kind) l p
+packet-holds phase.Replay l p = replay-holds (kind_of p.kind) l p
+packet-holds phase.Serving l p = serve-holds (kind_of p.kind) l p
+
+part-holds : (ph : Phase) (l : Learner) (p : ImagePart) → Holds l (part_in ph l p)
+part-holds phase.Down l p = (refl, refl)
+part-holds phase.Hello l p = tt
+part-holds phase.Sync l p = tt
+part-holds (phase.Image zxid) l p = load-holds p l zxid
+part-holds ph l p = pass-holds p l
+
+learn-holds : (l : Learner) (i : Item) → Holds l (learn l i)
+learn-holds l (item.Packet p) = packet-holds l.phase l p
+learn-holds l (item.Part p) = part-holds l.phase l p
+
+pub acts_tell : ActsTell
+acts_tell l i x e = subst (Holds l) e (learn-holds l i)

@@ -1,0 +1,31 @@
+-- The worked steps, by evaluation.
+use Rattle.std.proofs.Common.{refl}
+use Rattle.jute.specs.Format.{number_bytes}
+use Rattle.quorum_packet.specs.Kinds.{kind_of}
+use Rattle.learner_sync.specs.Records.{learner_info}
+use Rattle.learner_sync.specs.Rows.{WorkedRows}
+
+pub worked_rows : WorkedRows
+unfolding kind_of learner_info number_bytes
+worked_rows = record {
+  introduced = refl;
+  same_epoch = refl;
+  greater_epoch = refl;
+  smaller_epoch = refl;
+  no_version = refl;
+  too_early = refl;
+  truncated_to_base = refl;
+  one_kept = refl;
+  below_base = refl;
+  base_is_greater = refl;
+  below_zero = refl;
+  image_comes = refl;
+  image_is_whole = refl;
+  in_the_image = refl;
+  out_of_order = refl;
+  other_commit = refl;
+  oldest_commit = refl;
+  none_proposed = refl;
+  up_to_date = refl;
+  ping = refl;
+}

@@ -1,0 +1,43 @@
+-- What a learner sends to its leader.
+use Rattle.std.specs.Prelude.{ℤ, pos, [], Some, None}
+use Rattle.jute.specs.Format.{int}
+use Rattle.quorum_packet.specs.declared.packet.QuorumPacket.{QuorumPacket}
+use Rattle.quorum_packet.specs.declared.kind.PacketKind.TheVariants as kinds
+use Rattle.quorum_packet.specs.Kinds.{code_of}
+use Rattle.learner_sync.specs.Learner.{Learner}
+use Rattle.learner_sync.specs.Records.{learner_info}
+use Rattle.learner_sync.specs.Zxids.{first_zxid}
+
+abbrev pub protocol_version : ℤ
+protocol_version = pos 0x10000
+
+-- a learner introduces itself, with the epoch that it has accepted
+abbrev pub introduction : Learner → ℤ → QuorumPacket
+introduction l server_id = record {
+  kind = code_of kinds.ObserverInfo;
+  zxid = first_zxid l.accepted_epoch;
+  bytes = Some (learner_info.written (record { server_id = server_id; protocol_version = protocol_version }));
+  authinfo = None;
+}
+
+-- the leader's epoch is answered with how far the learner is, and an epoch
+abbrev pub epoch_answer : Learner → ℤ → QuorumPacket
+epoch_answer l epoch = record {
+  kind = code_of kinds.AckEpoch;
+  zxid = l.last_zxid;
+  bytes = Some (int.written epoch);
+  authinfo = None;
+}
+
+-- the leader's epoch is acknowledged
+abbrev pub acknowledgement : Learner → QuorumPacket
+acknowledgement l = record {
+  kind = code_of kinds.Ack;
+  zxid = first_zxid l.accepted_epoch;
+  bytes = None;
+  authinfo = None;
+}
+
+-- a PING comes back as it is, but without what it carried
+abbrev pub ping_answer : QuorumPacket → QuorumPacket
+ping_answer p = record p { bytes = Some [] }

@@ -1,0 +1,78 @@
+-- What a learner knows.
+use Rattle.std.specs.Prelude.{refl, ℤ, pos, List, [], Bool, true}
+use Rattle.std.specs.Coded.{Coded, code_by, coded×, coded_ℤ, coded_bool, coded_list}
+use Rattle.settings.specs.Settings.{EpochPair}
+use Rattle.txn_codec.specs.declared.txn.Txn.{Txn}
+use Rattle.learner_sync.specs.declared.phase.Phase.{Phase}
+use Rattle.learner_sync.specs.declared.phase.Phase.TheVariants as phase
+
+pub record Learner : Type 0 where
+  -- where it stands with its leader
+  pub phase : Phase
+  -- the greatest epoch that a leader was accepted with; from its LEADERINFO on that of the leader
+  pub accepted_epoch : ℤ
+  -- the epoch of the last leader that was followed
+  pub current_epoch : ℤ
+  -- the greatest zxid so far
+  pub last_zxid : ℤ
+  -- the zxid of the base, which is a state that is kept elsewhere
+  pub base_zxid : ℤ
+  -- the transactions that were applied since the base
+  pub log : List Txn
+  -- the transactions that wait for their commit, the oldest first
+  pub proposals : List Txn
+  -- no image, no TRUNC and no checkpoint has taken effect, so that the log has all transactions
+  pub is_complete : Bool
+
+-- before any leader: the base is the tree before any transaction
+abbrev pub new_learner : EpochPair → Learner
+new_learner epochs = record {
+  phase = phase.Down;
+  accepted_epoch = epochs.accepted;
+  current_epoch = epochs.current;
+  last_zxid = pos 0;
+  base_zxid = pos 0;
+  log = [];
+  proposals = [];
+  is_complete = true;
+}
+
+-- one that serves, in the first epoch
+abbrev pub primed_learner : Learner
+primed_learner =
+    record (new_learner (record { accepted = pos 1; current = pos 1 })) { phase = phase.Serving }
+
+-- ---- code
+
+abbrev pub learner_code : Coded Phase → Coded Txn → Coded Learner
+learner_code phase txn =
+    code_by (Phase × (ℤ × (ℤ × (ℤ × (ℤ × (List Txn × (List Txn × Bool)))))))
+    (coded× phase (coded× coded_ℤ (coded× coded_ℤ (coded× coded_ℤ (coded× coded_ℤ
+    (coded× (coded_list txn) (coded× (coded_list txn) coded_bool)))))))
+    (λ l. (
+      l.phase,
+      (
+        l.accepted_epoch,
+        (
+          l.current_epoch,
+          (
+            l.last_zxid,
+            (
+              l.base_zxid,
+              (l.log, (l.proposals, l.is_complete)),
+            ),
+          ),
+        ),
+      ),
+    ))
+    (λ p. record {
+      phase = p.0;
+      accepted_epoch = p.1.0;
+      current_epoch = p.1.1.0;
+      last_zxid = p.1.1.1.0;
+      base_zxid = p.1.1.1.1.0;
+      log = p.1.1.1.1.1.0;
+      proposals = p.1.1.1.1.1.1.0;
+      is_complete = p.1.1.1.1.1.1.1;
+    })
+    (λ _. refl)

@@ -1,0 +1,92 @@
+//! What a learner sends to its leader, and acts in a list.
+
+ghost use Rattle.std.specs.Prelude.{◌≡◌, ◌∷◌, [], IfOk};
+ghost use Rattle.learner_sync.specs.Answers.{introduction, epoch_answer, acknowledgement, ping_answer};
+
+use crate::act::Act;
+use crate::learner::Learner;
+use crate::record::LearnerInfo;
+use crate::zxid::first_zxid;
+use jute::{WriteRecord, put_int};
+use quorum_packet::{PacketKind, QuorumPacket};
+use settings::ServerId;
+use std::alloc::Global;
+use values::{Blob, Listed, NoMemory};
+
+// The form of the protocol that a learner speaks.
+const PROTOCOL_VERSION: i32 = 0x1_0000;
+
+// A list of one act.
+pub fn one(alloc: Global, act: Act) -> Result<Listed<Act>, NoMemory>
+    ensures { IfOk result (λ acts. acts ≡ act ∷ []) }
+{
+    Ok(Listed::from_vec(vec![in alloc; act]?))
+}
+
+// A list of no act, which takes no memory.
+pub fn none(alloc: Global) -> Listed<Act>
+    ensures { result ≡ [] }
+{
+    Listed::from_vec(Vec::new(alloc))
+}
+
+impl Learner {
+    // The packet by which the learner introduces itself.
+    #[tactic(auto, unfolding(crate::specs::Records::learner_info))]
+    pub(crate) fn introduction(
+        &self,
+        alloc: Global,
+        server_id: ServerId,
+    ) -> Result<QuorumPacket, NoMemory>
+        ensures { IfOk result (λ p. p ≡ introduction self.now server_id) }
+    {
+        let info = LearnerInfo {
+            server_id: i64::from(server_id.number()),
+            protocol_version: PROTOCOL_VERSION,
+        };
+        let mut bytes = Vec::with_capacity(alloc, 12)?;
+        info.write(&mut bytes)?;
+        Ok(QuorumPacket {
+            kind: PacketKind::ObserverInfo.code(),
+            zxid: first_zxid(self.accepted_epoch),
+            bytes: Some(Blob::from_vec(bytes)),
+            authinfo: None,
+        })
+    }
+
+    // The answer to the leader's epoch, with the learner's current one or -1.
+    pub(crate) fn epoch_answer(&self, alloc: Global, epoch: i32) -> Result<QuorumPacket, NoMemory>
+        ensures { IfOk result (λ p. p ≡ epoch_answer self.now epoch) }
+    {
+        let mut bytes = Vec::with_capacity(alloc, 4)?;
+        put_int(&mut bytes, epoch)?;
+        Ok(QuorumPacket {
+            kind: PacketKind::AckEpoch.code(),
+            zxid: self.last_zxid,
+            bytes: Some(Blob::from_vec(bytes)),
+            authinfo: None,
+        })
+    }
+
+    // The packet that acknowledges the leader's epoch.
+    pub(crate) fn acknowledgement(&self) -> QuorumPacket
+        ensures { result ≡ acknowledgement self.now }
+    {
+        QuorumPacket {
+            kind: PacketKind::Ack.code(),
+            zxid: first_zxid(self.accepted_epoch),
+            bytes: None,
+            authinfo: None,
+        }
+    }
+}
+
+// The answer to a PING, which takes no memory.
+pub fn ping_answer(alloc: Global, packet: QuorumPacket) -> QuorumPacket
+    ensures { result ≡ ping_answer packet }
+{
+    QuorumPacket {
+        bytes: Some(Blob::from_vec(Vec::new(alloc))),
+        ..packet
+    }
+}

@@ -1,0 +1,151 @@
+//! What a leader says before it brings a learner up to date.
+
+ghost use Rattle.std.specs.Prelude.{◌≡◌};
+ghost use Rattle.quorum_packet.specs.Kinds.{kind_of};
+ghost use Rattle.learner_sync.specs.Learn.{Learns, carried_bytes, leader_info, hello, truncate, await_image, sync};
+
+use crate::act::Act;
+use crate::answers::{none, one};
+use crate::learner::Learner;
+use crate::logged::{keep_up_to, zxid_after};
+use crate::phase::Phase;
+use crate::zxid::epoch_of;
+use jute::Reader;
+use quorum_packet::{PacketKind, QuorumPacket};
+use std::alloc::Global;
+use values::{Fault, Listed, ReadError};
+
+// The bytes that a packet carries; null reads as empty.
+pub fn carried_bytes(packet: &QuorumPacket) -> &[u8]
+    ensures { result.now ≡ carried_bytes packet.now.bytes }
+{
+    match &packet.bytes {
+        None => &[],
+        Some(bytes) => bytes.as_slice(),
+    }
+}
+
+impl Learner {
+    // The leader names its epoch; in the bytes stands a version.
+    fn leader_info(
+        &mut self,
+        alloc: Global,
+        epoch: i32,
+        bytes: &[u8],
+    ) -> Result<Listed<Act>, ReadError>
+        ensures { Learns result (leader_info self.old epoch bytes.now) self.old self.new }
+    {
+        if epoch < self.accepted_epoch {
+            return Err(ReadError::Fault(Fault::EpochTooSmall));
+        }
+        let mut reader = Reader::new(bytes);
+        reader.read_int()?;
+        if self.accepted_epoch < epoch {
+            let answer = self.epoch_answer(alloc, self.current_epoch)?;
+            let acts = vec![in alloc; Act::Epochs, Act::Send(answer)]?;
+            self.phase = Phase::Sync;
+            self.accepted_epoch = epoch;
+            return Ok(Listed::from_vec(acts));
+        }
+        let answer = self.epoch_answer(alloc, -1)?;
+        let acts = one(alloc, Act::Send(answer))?;
+        self.phase = Phase::Sync;
+        Ok(acts)
+    }
+
+    /// The leader is to name its epoch.
+    pub(crate) fn hello(
+        &mut self,
+        alloc: Global,
+        packet: &QuorumPacket,
+    ) -> Result<Listed<Act>, ReadError>
+        ensures { Learns result (hello (kind_of packet.now.kind) self.old packet.now) self.old self.new }
+    {
+        match PacketKind::from_code(packet.kind) {
+            Some(PacketKind::LeaderInfo) => {
+                self.leader_info(alloc, epoch_of(packet.zxid), carried_bytes(packet))
+            }
+            None
+            | Some(
+                PacketKind::Request
+                | PacketKind::Proposal
+                | PacketKind::Ack
+                | PacketKind::Commit
+                | PacketKind::Ping
+                | PacketKind::Revalidate
+                | PacketKind::Sync
+                | PacketKind::Inform
+                | PacketKind::NewLeader
+                | PacketKind::FollowerInfo
+                | PacketKind::UpToDate
+                | PacketKind::Diff
+                | PacketKind::Trunc
+                | PacketKind::Snap
+                | PacketKind::ObserverInfo
+                | PacketKind::AckEpoch,
+            ) => Err(ReadError::Fault(Fault::UnexpectedPacket)),
+        }
+    }
+
+    // The transactions above the zxid are forgotten.
+    fn truncate(&mut self, alloc: Global, zxid: i64) -> Result<Listed<Act>, ReadError>
+        ensures { Learns result (truncate self.old zxid) self.old self.new }
+    {
+        if zxid < self.base_zxid {
+            return Err(ReadError::Fault(Fault::CannotTruncate));
+        }
+        let acts = one(alloc, Act::Truncate(zxid))?;
+        keep_up_to(&mut self.log, zxid);
+        let last_kept = zxid_after(self.base_zxid, self.log.as_slice());
+        self.last_zxid = self.base_zxid.max(last_kept);
+        self.phase = Phase::Replay;
+        self.is_complete = false;
+        Ok(acts)
+    }
+
+    // An image is to come.
+    fn await_image(&mut self, alloc: Global, zxid: i64) -> Result<Listed<Act>, ReadError>
+        ensures { Learns result (await_image self.old zxid) self.old self.new }
+    {
+        if zxid < 0 {
+            return Err(ReadError::Fault(Fault::OutOfOrder));
+        }
+        self.phase = Phase::Image(zxid);
+        Ok(none(alloc))
+    }
+
+    /// The leader is to say how it brings the learner up to date.
+    pub(crate) fn sync(
+        &mut self,
+        alloc: Global,
+        packet: &QuorumPacket,
+    ) -> Result<Listed<Act>, ReadError>
+        ensures { Learns result (sync (kind_of packet.now.kind) self.old packet.now) self.old self.new }
+    {
+        match PacketKind::from_code(packet.kind) {
+            Some(PacketKind::Diff) => {
+                self.phase = Phase::Replay;
+                Ok(none(alloc))
+            }
+            Some(PacketKind::Trunc) => self.truncate(alloc, packet.zxid),
+            Some(PacketKind::Snap) => self.await_image(alloc, packet.zxid),
+            None
+            | Some(
+                PacketKind::Request
+                | PacketKind::Proposal
+                | PacketKind::Ack
+                | PacketKind::Commit
+                | PacketKind::Ping
+                | PacketKind::Revalidate
+                | PacketKind::Sync
+                | PacketKind::Inform
+                | PacketKind::NewLeader
+                | PacketKind::FollowerInfo
+                | PacketKind::UpToDate
+                | PacketKind::ObserverInfo
+                | PacketKind::LeaderInfo
+                | PacketKind::AckEpoch,
+            ) => Err(ReadError::Fault(Fault::UnexpectedPacket)),
+        }
+    }
+}

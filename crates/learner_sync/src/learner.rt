@@ -1,0 +1,174 @@
+//! How far a leader was followed.
+
+ghost use Rattle.std.specs.Prelude.{◌≡◌, IfOk, OnErr, length};
+ghost use Rattle.std.specs.Option.{option_map};
+ghost use Rattle.settings.specs.Settings.{epoch_pair};
+ghost use Rattle.learner_sync.specs.Learner.{new_learner, primed_learner};
+ghost use Rattle.learner_sync.specs.Learn.{start, end, checkpoint, whole_log};
+
+use crate::act::Act;
+use crate::answers::{none, one};
+use crate::phase::Phase;
+use settings::{Epochs, ServerId};
+use std::alloc::Global;
+use std::collections::VecDeque;
+use std::marker::Model;
+use txn_codec::Txn;
+use values::{Listed, NoMemory};
+
+/// How far a leader was followed, and where the two stand.
+#[derive(Drop)]
+pub struct Learner {
+    pub(crate) phase: Phase,
+    pub(crate) accepted_epoch: i32,
+    pub(crate) current_epoch: i32,
+    pub(crate) last_zxid: i64,
+    pub(crate) base_zxid: i64,
+    pub(crate) log: Vec<Txn>,
+    pub(crate) proposals: VecDeque<Txn>,
+    pub(crate) is_complete: bool,
+}
+
+impl Model for Learner {
+    ghost use Rattle.txn_codec.specs.contracts.txn.Txn as of_txn;
+    ghost use Rattle.learner_sync.specs.contracts.phase.Phase as of_phase;
+    ghost use Rattle.learner_sync.specs.Learner.{Learner as TheLearner, learner_code};
+
+    ghost Value = { TheLearner };
+
+    ghost coded = { learner_code of_phase.the_row.coded of_txn.the_row.coded };
+
+    ghost view = { λ l. record {
+      phase = l.phase;
+      accepted_epoch = l.accepted_epoch;
+      current_epoch = l.current_epoch;
+      last_zxid = l.last_zxid;
+      base_zxid = l.base_zxid;
+      log = l.log.items;
+      proposals = l.proposals.items;
+      is_complete = l.is_complete;
+    } };
+}
+
+impl Learner {
+    /// One that followed no leader yet. It takes no memory.
+    pub fn new(alloc: Global, epochs: Epochs) -> Learner
+        ensures { result ≡ new_learner epochs }
+    {
+        Learner {
+            phase: Phase::Down,
+            accepted_epoch: epochs.accepted(),
+            current_epoch: epochs.current(),
+            last_zxid: 0,
+            base_zxid: 0,
+            log: Vec::new(alloc),
+            proposals: VecDeque::new(alloc),
+            is_complete: true,
+        }
+    }
+
+    /// One that serves in the first epoch, and has no transaction yet. It takes no memory.
+    pub fn primed(alloc: Global) -> Learner
+        ensures { result ≡ primed_learner }
+    {
+        Learner {
+            phase: Phase::Serving,
+            accepted_epoch: 1,
+            current_epoch: 1,
+            last_zxid: 0,
+            base_zxid: 0,
+            log: Vec::new(alloc),
+            proposals: VecDeque::new(alloc),
+            is_complete: true,
+        }
+    }
+
+    /// A leader is there: what is to be done, which is to send the packet by which the server introduces itself;
+    /// nothing while there is one already. Refused memory leaves the learner as it was.
+    pub fn start(&mut self, alloc: Global, server_id: ServerId) -> Result<Listed<Act>, NoMemory>
+        ensures ok { IfOk result (λ acts. start self.old server_id ≡ record { acts = acts; after = self.new }) }
+        ensures err { OnErr result (self.new ≡ self.old) }
+    {
+        match self.phase {
+            Phase::Down => {
+                let introduction = self.introduction(alloc, server_id)?;
+                let acts = one(alloc, Act::Send(introduction))?;
+                self.phase = Phase::Hello;
+                return Ok(acts);
+            }
+            Phase::Hello
+            | Phase::Sync
+            | Phase::Image(_)
+            | Phase::ReplayOnImage(_)
+            | Phase::Replay
+            | Phase::Serving => return Ok(none(alloc)),
+        }
+    }
+
+    /// The leader is gone, or what it sent was refused. The transactions that wait for their commit are forgotten.
+    pub fn end(&mut self)
+        ensures { self.new ≡ end self.old }
+    {
+        self.phase = Phase::Down;
+        self.proposals.clear();
+    }
+
+    /// While clients are served, the state is the new base, and the log is empty. Otherwise nothing happens.
+    pub fn checkpoint(&mut self)
+        ensures { self.new ≡ checkpoint self.old }
+    {
+        match self.phase {
+            Phase::Serving => {
+                self.base_zxid = self.last_zxid;
+                self.log.clear();
+                self.is_complete = false;
+                return;
+            }
+            Phase::Down
+            | Phase::Hello
+            | Phase::Sync
+            | Phase::Image(_)
+            | Phase::ReplayOnImage(_)
+            | Phase::Replay => return,
+        }
+    }
+
+    /// Where the learner and its leader stand.
+    pub fn phase(&self) -> Phase
+        ensures { result ≡ self.now.phase }
+    {
+        self.phase
+    }
+
+    /// The greatest epoch that a leader was accepted with, and the epoch of the last leader that was followed.
+    pub fn epochs(&self) -> (i32, i32)
+        ensures accepted { result.0 ≡ self.now.accepted_epoch }
+        ensures current { result.1 ≡ self.now.current_epoch }
+    {
+        (self.accepted_epoch, self.current_epoch)
+    }
+
+    /// The greatest zxid so far.
+    pub fn last_zxid(&self) -> i64
+        ensures { result ≡ self.now.last_zxid }
+    {
+        self.last_zxid
+    }
+
+    /// The transactions that were applied since the base.
+    pub fn since_base(&self) -> &[Txn]
+        ensures { result.now ≡ self.now.log }
+    {
+        self.log.as_slice()
+    }
+
+    /// All transactions, from the tree before any on; `None` once an image, a TRUNC or a checkpoint took effect.
+    pub fn log(&self) -> Option<&[Txn]>
+        ensures { option_map (λ txns. txns.now) result ≡ whole_log self.now }
+    {
+        if !self.is_complete {
+            return None;
+        }
+        Some(self.log.as_slice())
+    }
+}

@@ -1,0 +1,23 @@
+//! Transactions that were applied, in order.
+
+ghost use Rattle.std.specs.Prelude.{◌≡◌};
+ghost use Rattle.learner_sync.specs.Learn.{up_to, zxid_after};
+
+use txn_codec::Txn;
+
+/// The zxid of the last transaction; the given one where there is none.
+pub fn zxid_after(zxid: i64, log: &[Txn]) -> i64
+    ensures { result ≡ zxid_after zxid log.now }
+{
+    match log.last() {
+        None => return zxid,
+        Some(txn) => return txn.header.zxid,
+    }
+}
+
+/// Keeps the transactions up to a zxid.
+pub fn keep_up_to(log: &mut Vec<Txn>, zxid: i64)
+    ensures { log.new.items ≡ up_to zxid log.old.items }
+{
+    log.retain(|txn| txn.header.zxid <= zxid);
+}

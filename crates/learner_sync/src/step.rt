@@ -1,0 +1,79 @@
+//! What is learnt of an item of the leader's stream.
+
+ghost use Rattle.std.specs.Prelude.{◌≡◌, IfOk, Ok};
+ghost use Rattle.learner_sync.specs.Learn.{Learns, packet_in, part_in, load, acts_to_drop, learn};
+
+use crate::act::Act;
+use crate::answers::{none, one};
+use crate::learner::Learner;
+use crate::phase::Phase;
+use quorum_packet::{Item, QuorumPacket};
+use snapshot_codec::ImagePart;
+use std::alloc::Global;
+use values::{Fault, Listed, NoMemory, ReadError};
+
+// A part of an image that wasn't asked for.
+fn pass_over(alloc: Global, part: ImagePart) -> Result<Listed<Act>, NoMemory>
+    ensures { IfOk result (λ acts. acts ≡ acts_to_drop part) }
+{
+    match part {
+        ImagePart::End => return one(alloc, Act::DropImage),
+        part => return one(alloc, Act::LoadPart(part)),
+    }
+}
+
+impl Learner {
+    // A part of the image that the SNAP packet of this zxid announced.
+    fn load(&mut self, alloc: Global, part: ImagePart, zxid: i64) -> Result<Listed<Act>, ReadError>
+        ensures { Learns result (Ok (load part self.old zxid)) self.old self.new }
+    {
+        if !part.is_end() {
+            return Ok(one(alloc, Act::LoadPart(part))?);
+        }
+        let acts = one(alloc, Act::LoadImage)?;
+        self.phase = Phase::ReplayOnImage(0);
+        self.last_zxid = zxid;
+        self.base_zxid = zxid;
+        self.log.clear();
+        self.is_complete = false;
+        Ok(acts)
+    }
+
+    fn step_packet(&mut self, alloc: Global, packet: QuorumPacket) -> Result<Listed<Act>, ReadError>
+        ensures { Learns result (packet_in self.old.phase self.old packet) self.old self.new }
+    {
+        match self.phase {
+            Phase::Down => Ok(none(alloc)),
+            Phase::Hello => self.hello(alloc, &packet),
+            Phase::Sync => self.sync(alloc, &packet),
+            Phase::Image(_) => Err(ReadError::Fault(Fault::UnexpectedPacket)),
+            Phase::ReplayOnImage(_) | Phase::Replay => self.replay(alloc, &packet),
+            Phase::Serving => self.serve(alloc, packet),
+        }
+    }
+
+    fn step_part(&mut self, alloc: Global, part: ImagePart) -> Result<Listed<Act>, ReadError>
+        ensures { Learns result (part_in self.old.phase self.old part) self.old self.new }
+    {
+        match self.phase {
+            Phase::Down => Ok(none(alloc)),
+            Phase::Hello | Phase::Sync => Err(ReadError::Fault(Fault::UnexpectedPacket)),
+            Phase::Image(zxid) => self.load(alloc, part, zxid),
+            Phase::ReplayOnImage(_) | Phase::Replay | Phase::Serving => {
+                Ok(pass_over(alloc, part)?)
+            }
+        }
+    }
+
+    /// The next item of the leader's stream: what is to be done, in order. The faults are those of the learner's rules:
+    /// `UnexpectedPacket`, `EpochTooSmall`, `CannotTruncate`, `OutOfOrder` and `CommitMismatch`, and those of what a
+    /// packet carries. A refused item, or refused memory, leaves the learner as it was.
+    pub fn step(&mut self, alloc: Global, item: Item) -> Result<Listed<Act>, ReadError>
+        ensures { Learns result (learn self.old item) self.old self.new }
+    {
+        match item {
+            Item::Packet(packet) => self.step_packet(alloc, packet),
+            Item::Part(part) => self.step_part(alloc, part),
+        }
+    }
+}
