@@ -13,8 +13,6 @@ use std::time::Instant;
 struct Nothing;
 
 impl Yields<Nothing> for Nothing {
-    ghost use Rattle.std.specs.Prelude.{Unit};
-
     ghost gives = { λ _ _. Unit };
 }
 
