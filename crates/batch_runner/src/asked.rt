@@ -1,7 +1,7 @@
 //! What the command line may ask for.
 
 /// Which transactions are made.
-#[derive(Clone, Copy, Debug)]
+#[derive(Clone, Copy)]
 pub enum Kind {
     /// Creates of nodes below each parent in turn.
     Creates,
@@ -14,7 +14,7 @@ pub enum Kind {
 }
 
 /// How much is to be done.
-#[derive(Clone, Copy, Debug)]
+#[derive(Clone, Copy)]
 pub struct Load {
     pub kind: Kind,
     /// How many transactions are made.

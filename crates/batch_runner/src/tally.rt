@@ -5,7 +5,7 @@ use std::rt::Clock;
 use std::time::{Duration, Instant};
 
 /// What was done, and what it took by the clock.
-#[derive(Clone, Copy, Debug)]
+#[derive(Clone, Copy)]
 pub struct Tally {
     /// How many transactions were cut or done, or works claimed.
     pub done: u64,
