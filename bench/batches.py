@@ -1,0 +1,165 @@
+#!/usr/bin/env python3
+"""Measures batches, groups and the board, by the loads of crates/batch_runner.
+
+    bench/batches.py BATCH_RUNNER           as bench/batches.py crates/batch_runner/out/batch_runner
+
+The program measures itself by the clock, without making the transactions and the tree, and says how long it cut and how
+long it worked. All loads take turns, several times, and the least time of each is taken; what is compared is done in one
+run of this script. What a load prints must be what it asks for. Batches have 256 transactions, in 64 groups where nothing
+else is said. The machine's load, and how much of its processors' time others were given (steal), is printed before and
+after. The exit status is 0 where every figure is met that has a bound.
+"""
+import argparse
+import os
+import re
+import subprocess
+import sys
+
+sys.dont_write_bytecode = True
+from run import MOST_SECONDS, machine  # noqa: E402
+
+LENGTH, PARENTS, LEAVES = 256, 64, 8
+# Transactions of 16 bytes of data, and how often all of them are done: the nodes are made once.
+SMALL, CREATES, SETS, TIMES = 16, 262_144, 16_384, 16
+# The bytes of a node's data; how many transactions there are, and how often they are done.
+SIZES = {64: (16_384, 8), 1024: (16_384, 8), 4096: (4096, 16), 65_536: (1024, 4)}
+LONG, LONG_MULTIS, LONG_TIMES = 4096, 1024, 8
+WORKS, WORK_TIMES = 65_536, 16
+WORKERS = (1, 2, 4)
+PER_SECOND, PLAIN, SPEEDUP, MICROSECOND = 1_000_000, 1.3, 1.5, 1000
+
+
+class Load:
+    """A load, what it must print, and the least nanoseconds in which it cut and worked."""
+
+    def __init__(self, words, done, batches, groups):
+        self.words = [str(it) for it in words]
+        self.wanted = f"done={done} errors=0 batches={batches} groups={groups}\n"
+        self.cut, self.worked, self.whole = float("inf"), float("inf"), float("inf")
+
+    def once(self, program):
+        ran = subprocess.run([program] + self.words, stdout=subprocess.PIPE, stderr=subprocess.PIPE, timeout=MOST_SECONDS)
+        told = re.fullmatch(r"cut=(\d+) worked=(\d+)\n", ran.stderr.decode(errors="replace"))
+        if ran.returncode or not told or ran.stdout.decode(errors="replace") != self.wanted:
+            sys.exit(f"{' '.join(self.words)}: status {ran.returncode}, {ran.stdout!r}, {ran.stderr!r}, wanted {self.wanted!r}")
+        cut, worked = int(told.group(1)), int(told.group(2))
+        self.cut, self.worked, self.whole = min(self.cut, cut), min(self.worked, worked), min(self.whole, cut + worked)
+
+
+class Txns:
+    """Transactions of a kind, with so many bytes of data for a node, done so many times."""
+
+    def __init__(self, kind, count, size, times):
+        self.words, self.done = [kind, count, size, times], count * times
+        self.batches = times * count // LENGTH
+        self.groups = self.batches * (LENGTH if kind == "leaves" else PARENTS)
+
+    def cut(self):
+        return Load(["cut"] + self.words, 0, self.batches, self.groups)
+
+    def plain(self):
+        return Load(["apply"] + self.words, self.done, 0, 0)
+
+    def batch(self, workers):
+        return Load(["batch"] + self.words + [workers], self.done, self.batches, self.groups)
+
+
+def small():
+    return {
+        "creates": Txns("creates", CREATES, SMALL, 1),
+        "sets": Txns("sets", SETS, SMALL, TIMES),
+        "leaves": Txns("leaves", SETS, SMALL, TIMES),
+    }
+
+
+def sized():
+    works = {(f"sets of {size:,} bytes", size): Txns("sets", *_spread(size)) for size in SIZES}
+    works[(f"multis of {LEAVES} sets of {LONG:,} bytes", LONG)] = Txns("multis", LONG_MULTIS, LONG, LONG_TIMES)
+    return works
+
+
+def _spread(size):
+    count, times = SIZES[size]
+    return count, size, times
+
+
+def boards():
+    return {it: Load(["board", WORKS, WORK_TIMES, it], WORKS * WORK_TIMES, 0, 0) for it in WORKERS}
+
+
+def measured(program, rounds):
+    """Runs every load in turns. Returns for each kind its transactions with their loads: cut, plain, and by workers."""
+    both = {**small(), **{name: txns for (name, _), txns in sized().items()}}
+    loads = {name: (txns, txns.cut(), txns.plain(), {it: txns.batch(it) for it in WORKERS}) for name, txns in both.items()}
+    seats = boards()
+    for _ in range(rounds):
+        for _, cut, plain, by in loads.values():
+            for load in [cut, plain] + list(by.values()):
+                load.once(program)
+        for load in seats.values():
+            load.once(program)
+    return loads, seats
+
+
+def table(loads):
+    """Prints nanoseconds a transaction: cut alone, plain, and what workers took without cutting."""
+    head = "".join(f"{f'{it} workers':>12}" for it in WORKERS)
+    print(f"{'nanoseconds a transaction':<34}{'cut':>10}{'plain':>10}{head}{'4 against 1':>13}{'against plain':>15}")
+    for name, (txns, cut, plain, by) in loads.items():
+        times = "".join(f"{by[it].worked / txns.done:>12,.0f}" for it in WORKERS)
+        gain, over = by[1].worked / by[4].worked, plain.worked / min(by[it].whole for it in WORKERS)
+        print(f"{name:<34}{cut.cut / txns.done:>10,.0f}{plain.worked / txns.done:>10,.0f}{times}{gain:>13.2f}{over:>15.2f}")
+    print("against plain: how many times as fast the best number of workers is as one after the other, cutting included")
+
+
+def figures(loads, seats):
+    """Returns what each figure is about, the figure, its bound, and whether that is the most it may be."""
+    found = []
+    for name in ("creates", "sets", "leaves"):
+        txns, cut, plain, by = loads[name]
+        found.append((f"{name} cut a second", txns.done / cut.cut * 1e9, PER_SECOND, False))
+        if name != "leaves":
+            found.append((f"{name}: one worker against plain, without cutting", by[1].worked / plain.worked, PLAIN, True))
+        found.append((f"{name}: one worker against plain, cutting included", by[1].whole / plain.worked, None, True))
+    _, _, _, by = loads[f"multis of {LEAVES} sets of {LONG:,} bytes"]
+    found.append(("multis: times as fast with 4 workers as with one", by[1].worked / by[4].worked, SPEEDUP, False))
+    found.append(("the same, cutting included", by[1].whole / by[4].whole, None, False))
+    for it, load in seats.items():
+        found.append((f"nanoseconds a claim and a give, {it} workers", load.worked / (WORKS * WORK_TIMES), MICROSECOND, True))
+    return found
+
+
+def verdict(what, figure, bound, is_most):
+    if bound is None:
+        print(f"      {what}: {figure:,.2f}", flush=True)
+        return True
+    met = figure <= bound if is_most else figure >= bound
+    print(f"{'PASS' if met else 'FAIL'}  {what}: {figure:,.2f} (at {'most' if is_most else 'least'} {bound:,})", flush=True)
+    return met
+
+
+def jiffies():
+    """Returns the time that all processors counted, and how much of it was steal."""
+    with open("/proc/stat", encoding="ascii") as stat:
+        counts = [int(it) for it in stat.readline().split()[1:9]]
+    return sum(counts), counts[7]
+
+
+def main():
+    parser = argparse.ArgumentParser(description=__doc__, formatter_class=argparse.RawDescriptionHelpFormatter)
+    parser.add_argument("--rounds", type=int, default=5, help="how often each load is run (5)")
+    parser.add_argument("program")
+    options = parser.parse_args()
+    machine("before")
+    before = jiffies()
+    loads, seats = measured(os.path.abspath(options.program), options.rounds)
+    after = jiffies()
+    table(loads)
+    passes = [verdict(*it) for it in figures(loads, seats)]
+    machine("after")
+    print(f"steal meanwhile: {100 * (after[1] - before[1]) / max(1, after[0] - before[0]):.1f}%")
+    return 0 if all(passes) else 1
+
+
+if __name__ == "__main__":
+    sys.exit(main())

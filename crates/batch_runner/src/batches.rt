@@ -1,0 +1,86 @@
+//! Batches that are done by workers.
+
+use crate::making::tree;
+use crate::tally::Tally;
+use anyhow::{Result, ensure};
+use apply_workers::{OpenGate, apply_batch};
+use batcher::{Batch, Limits, cut};
+use data_tree::Tree;
+use std::alloc::Global;
+use std::rt::Clock;
+use std::thread::Threads;
+use std::time::Instant;
+use txn_codec::Txn;
+
+/// The most transactions of a batch.
+pub const LENGTH: usize = 256;
+
+/// The most groups of a batch.
+pub const GROUPS: usize = 256;
+
+// Cuts the batch that all of these transactions are.
+fn cut_one(
+    rt: &impl Clock,
+    alloc: Global,
+    txns: &[Txn],
+    limits: &Limits,
+    tally: &mut Tally,
+) -> Result<Batch> {
+    let since = Instant::now(rt)?;
+    let batch = cut(alloc, txns, limits)?;
+    tally.end_cut(rt, since)?;
+    ensure!(batch.len() == txns.len(), "a batch is too short");
+    tally.count_batch(batch.groups().len());
+    Ok(batch)
+}
+
+// Does a batch.
+fn do_one<R: Threads + Clock + Sync>(
+    rt: &R,
+    alloc: Global,
+    tree: &mut Tree,
+    batch: Batch,
+    limits: &Limits,
+    tally: &mut Tally,
+) -> Result<()> {
+    let since = Instant::now(rt)?;
+    let outcomes = apply_batch(rt, alloc, tree, batch, limits.workers(), &OpenGate)?;
+    for outcome in &outcomes {
+        tally.count(outcome.err);
+    }
+    drop(outcomes);
+    tally.end_work(rt, since)
+}
+
+// Cuts and does all of them once.
+fn do_all<R: Threads + Clock + Sync>(
+    rt: &R,
+    alloc: Global,
+    tree: &mut Tree,
+    txns: &[Txn],
+    limits: &Limits,
+    tally: &mut Tally,
+) -> Result<()> {
+    for front in txns.chunks(LENGTH) {
+        let batch = cut_one(rt, alloc, front, limits, tally)?;
+        do_one(rt, alloc, tree, batch, limits, tally)?;
+    }
+    Ok(())
+}
+
+/// Cuts the transactions into batches and does these in a tree, by up to so many workers, so many times.
+pub fn by_workers<R: Threads + Clock + Sync>(
+    rt: &R,
+    alloc: Global,
+    txns: &[Txn],
+    times: u32,
+    workers: usize,
+) -> Result<Tally> {
+    let limits = Limits::new(workers, LENGTH, GROUPS)?;
+    let mut tally = Tally::new();
+    let mut tree = tree(alloc)?;
+    for _ in 0..times {
+        do_all(rt, alloc, &mut tree, txns, &limits, &mut tally)?;
+    }
+    Ok(tally)
+}

@@ -1,0 +1,124 @@
+//! Cuts and does batches of transactions that are made in memory, so that they can be timed. Counts
+//! stand on standard output; how many nanoseconds by the clock was cut and was worked, on standard
+//! error: making the transactions and the tree isn't in them.
+//!
+//! `batch_runner cut KIND COUNT BYTES TIMES`: COUNT transactions are cut into batches.
+//!
+//! `batch_runner apply KIND COUNT BYTES TIMES`: they are done in a tree, one after the other.
+//!
+//! `batch_runner batch KIND COUNT BYTES TIMES WORKERS`: they are cut into batches, and each batch is
+//! done by up to WORKERS workers.
+//!
+//! `batch_runner board WORKS TIMES WORKERS`: WORKS works in which there is nothing to do are claimed
+//! at a board and given back, by up to WORKERS workers.
+//!
+//! All of that is done TIMES times. KIND is `creates` (of nodes below 64 parents in turn), `sets` (of the
+//! data of these parents in turn), `leaves` (sets of 8 nodes below each of them in turn) or `multis`
+//! (of 8 such sets each, of the nodes below one parent). A node has BYTES bytes of data.
+#![tactic(auto)]
+
+mod asked;
+mod batches;
+mod cutting;
+mod making;
+mod plain;
+mod tally;
+mod works;
+
+use anyhow::{Context, Error, Result, bail};
+use asked::{Load, kind_of};
+use batches::by_workers;
+use cutting::cut_all;
+use making::txns;
+use plain::one_by_one;
+use std::alloc::{AllocError, Global};
+use std::env;
+use std::process::ExitCode;
+use std::rt::Clock;
+use std::thread::Threads;
+use tally::Tally;
+use works::claimed;
+
+const USAGE: &str = "wanted: cut KIND COUNT BYTES TIMES, or apply KIND COUNT BYTES TIMES, \
+    or batch KIND COUNT BYTES TIMES WORKERS, or board WORKS TIMES WORKERS";
+
+// The words behind the program's name.
+fn words(rt: &HostRuntime) -> Result<Vec<String>> {
+    let mut words = Vec::new(rt.alloc());
+    for word in env::args(rt)?.skip(1) {
+        words.push(word).map_err(AllocError::from)?;
+    }
+    Ok(words)
+}
+
+// One of the numbers of the command line.
+fn number(words: &[String], place: usize) -> Result<u32> {
+    let text = words.get(place).context(USAGE)?;
+    text.as_str().parse::<u32>().context("no number of 32 bits")
+}
+
+fn load_of(words: &[String]) -> Result<Load> {
+    let kind = words.get(1).context(USAGE)?;
+    Ok(Load {
+        kind: kind_of(kind.as_str()).context(USAGE)?,
+        count: number(words, 2)?,
+        bytes: number(words, 3)? as usize,
+        times: number(words, 4)?,
+    })
+}
+
+// Does what the words ask for.
+fn run<R: Threads + Clock + Sync>(rt: &R, alloc: Global, words: &[String]) -> Result<Tally> {
+    let word = words.first().context(USAGE)?.as_str();
+    if word == "board" {
+        let workers = number(words, 3)? as usize;
+        return claimed(rt, alloc, number(words, 1)?, number(words, 2)?, workers);
+    }
+    let load = load_of(words)?;
+    let txns = txns(alloc, &load)?;
+    if word == "cut" {
+        return cut_all(rt, alloc, txns.as_slice(), load.times);
+    }
+    if word == "apply" {
+        return one_by_one(rt, alloc, txns.as_slice(), load.times);
+    }
+    if word == "batch" {
+        let workers = number(words, 5)? as usize;
+        return by_workers(rt, alloc, txns.as_slice(), load.times, workers);
+    }
+    bail!("{USAGE}")
+}
+
+// Prints the counts, and what was measured.
+fn print(rt: &HostRuntime, tally: &Tally) -> Result<()> {
+    let done = tally.done;
+    let errors = tally.errors;
+    let batches = tally.batches;
+    let groups = tally.groups;
+    println!(rt; "done={done} errors={errors} batches={batches} groups={groups}")?;
+    let cut = tally.cut.as_nanos();
+    let worked = tally.worked.as_nanos();
+    eprintln!(rt; "cut={cut} worked={worked}")?;
+    Ok(())
+}
+
+// Where nothing was measured.
+fn fail(rt: &HostRuntime, error: &Error) -> ExitCode {
+    let _ = eprintln!(rt; "{error}");
+    ExitCode::FAILURE
+}
+
+fn main(rt: HostRuntime) -> ExitCode {
+    let words = match words(&rt) {
+        Ok(words) => words,
+        Err(error) => return fail(&rt, &error),
+    };
+    let tally = match run(&rt, rt.alloc(), words.as_slice()) {
+        Ok(tally) => tally,
+        Err(error) => return fail(&rt, &error),
+    };
+    match print(&rt, &tally) {
+        Ok(()) => ExitCode::SUCCESS,
+        Err(error) => fail(&rt, &error),
+    }
+}
