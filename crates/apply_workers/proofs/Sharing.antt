@@ -1,23 +1,21 @@
 -- Groups that come home from steps: what is put together of them.
-use Rattle.std.proofs.Common.{◌≡◌, ℕ, zero, suc, ◌+◌, ◌<◌, ◌≤◌, ◌==◌, ◌||◌, List, [], ◌∷◌, ◌++◌, Bool, true, false, true≢false, cond, Option, Some, None, map, length, take, drop, All, refl, sym, ap, ◌∙◌, subst, arith, inl, inr, ◌⊎◌, length-append, length-drop}
-use Rattle.std.specs.List.{range_with_len, AllByRecursion}
+use Rattle.std.proofs.Common.{◌≡◌, ℕ, zero, suc, ◌+◌, ◌<◌, ◌≤◌, ◌==◌, List, [], ◌∷◌, ◌++◌, Bool, true, false, true≢false, cond, Option, Some, None, map, length, take, drop, All, refl, sym, ap, ◌∙◌, subst, arith, inl, inr, ◌⊎◌, length-append, length-drop}
+use Rattle.std.specs.List.{AllByRecursion}
 use Rattle.std.specs.Option.{option_and_then}
 use Rattle.std.proofs.lemmas.List.Elements.{All-drop}
 use Rattle.std.proofs.lemmas.Bool.{eq-eqb, eqb-true, eqb-false, cases_lt}
 use Rattle.txn_codec.specs.declared.txn.Txn.{Txn}
 use Rattle.data_tree.specs.State.{State}
-use Rattle.data_tree.specs.Meaning.{answer_of}
 use Rattle.data_tree.specs.Cells.{mean_in_cells, outcomes_in_cells}
 use Rattle.data_tree.specs.Footprint.{footprint}
 use Rattle.data_tree.specs.Commuting.{Tagged, of_group, at_group, batch_of}
 use Rattle.data_tree.specs.declared.outcome.Outcome.{Outcome}
-use Rattle.batcher.specs.Class.{Class}
 use Rattle.batcher.specs.Cut.{groups_of, listed, is_batch, is_barrier_alone}
 use Rattle.batcher.specs.Groups.{opened, grouped, grouped_behind, group_for, places_from, class_of, classes_of}
 use Rattle.batcher.specs.Laws.{EachIsInAGroup}
 use Rattle.apply_workers.specs.Places.{at_places}
 use Rattle.apply_workers.specs.Homing.{at_each, with_each, timed, AreShares}
-use Rattle.apply_workers.specs.Schedule.{GroupState, finished, outcomes_of, in_batch_order, BatchDone, ended_with, ended}
+use Rattle.apply_workers.specs.Schedule.{GroupState, finished, outcomes_of, in_batch_order, ended_with, ended}
 use Rattle.apply_workers.specs.Schedules.{one_by_one}
 use Rattle.apply_workers.specs.Hands.{InHand, shown, all_shown, AreHeld}
 use Rattle.apply_workers.proofs.BatchPaths.{nothing_at}

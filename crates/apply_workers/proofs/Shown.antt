@@ -12,7 +12,7 @@ use Rattle.data_tree.specs.declared.outcome.Outcome.{Outcome}
 use Rattle.data_tree.specs.Commuting.{Tagged, batch_of}
 use Rattle.batcher.specs.Class.{Class, no_member}
 use Rattle.batcher.specs.Cut.{groups_of, listed}
-use Rattle.batcher.specs.Groups.{opened, grouped, class_of, classes_of}
+use Rattle.batcher.specs.Groups.{opened, grouped, classes_of}
 use Rattle.batcher.specs.Laws.{EachIsInAGroup}
 use Rattle.apply_workers.specs.Places.{at_places}
 use Rattle.apply_workers.specs.declared.holder.Holder.{Holder}

@@ -1,16 +1,15 @@
 -- What is taken from a state one group after the other is each group's cells of that state.
-use Rattle.std.proofs.Common.{◌≡◌, ◌⊎◌, ℕ, zero, suc, ◌+◌, ◌<◌, ◌≤◌, List, [], ◌∷◌, Bool, true, false, true≢false, Option, Some, None, map, inl, inr, refl, sym, ◌∙◌, arith}
-use Rattle.std.specs.List.{flat_map, range_with_len}
+use Rattle.std.proofs.Common.{◌≡◌, ◌⊎◌, ℕ, zero, suc, ◌+◌, List, [], ◌∷◌, Bool, true, false, true≢false, Option, Some, None, map, inl, inr, refl, sym, ◌∙◌, arith}
+use Rattle.std.specs.List.{flat_map}
 use Rattle.std.specs.FinSet as set
 use Rattle.ephemerals.specs.Orders.{Bytes, Names}
 use Rattle.ephemerals.proofs.Totals.{path_total}
-use Rattle.txn_codec.specs.declared.txn.Txn.{Txn}
 use Rattle.data_tree.specs.State.{State}
 use Rattle.data_tree.specs.Cells.{cells_at, without_cells, IsEmptyCell}
 use Rattle.data_tree.specs.Footprint.{touches, footprint, IsSameCell}
 use Rattle.data_tree.specs.Commuting.{Tagged, batch_of, AreDisjoint, CellsPutBackAreTheBatch}
 use Rattle.batcher.specs.Class.{Class}
-use Rattle.batcher.specs.Cut.{groups_of, listed}
+use Rattle.batcher.specs.Cut.{listed}
 use Rattle.batcher.specs.Groups.{opened, grouped, paths_in, class_of, classes_of}
 use Rattle.apply_workers.specs.Taking.{cells_of_each, without_each}
 use Rattle.apply_workers.specs.Schedule.{beside, left_with}

@@ -41,7 +41,8 @@ impl Model for Groups {
 
     ghost Value = { Underway };
 
-    ghost coded = { underway_code of_holder.the_row.coded (state_code of_node.the_row.coded) of_txn.the_row.coded of_outcome.the_row.coded };
+    ghost coded = { underway_code of_holder.the_row.coded (state_code of_node.the_row.coded)
+        of_txn.the_row.coded of_outcome.the_row.coded };
 
     ghost view = { λ g. record {
       batch = g.batch;
@@ -176,7 +177,7 @@ impl Groups {
 
     /// Takes the step, and says whether it could be taken: a claim by a worker that has no group, where one is left; a
     /// transaction of the worker's group, where one is left; a giving back where none is. A step that can't be taken
-    /// changes nothing. Refused memory, it leaves groups that are only to be dropped.
+    /// changes nothing. Refused memory, it leaves groups and a tree that are only to be dropped.
     pub fn step(&mut self, alloc: Global, step: Step) -> Result<bool, NoMemory>
         ensures taken { IfOk result (λ taken. taken ≡ can_be_taken self.old.progress step) }
         ensures groups { OnOk result
@@ -189,10 +190,10 @@ impl Groups {
         }
     }
 
-    /// Does what is left, group by group, puts the cells back into the tree from which they were taken, sets the timeouts
-    /// of the sessions that the batch creates, and answers the outcomes, both in the batch's order. A batch that has no
-    /// groups, as a barrier alone, is done on the tree itself. Refused memory, it leaves a tree that is only to be
-    /// dropped.
+    /// Does what is left, group by group, puts the cells back into the tree from which they were taken, sets the
+    /// timeouts of the sessions that the batch creates, and answers the outcomes, both in the batch's order. A batch
+    /// that has no groups, as a barrier alone, is done on the tree itself. Refused memory, it leaves a tree that is only
+    /// to be dropped.
     pub fn home(self, alloc: Global, tree: &mut Tree) -> Result<Vec<Outcome>, NoMemory>
         ensures tree { OnOk result
             (tree.new ≡ (ended tree.old self.batch self.progress.groups).state) }

@@ -31,9 +31,9 @@ fn create_of(alloc: Global, path: &str, ephemeral: bool) -> Result<Operation, Re
     }))
 }
 
-/// The transaction that a word stands for: a create of the path "/..", one of an ephemeral node at the path behind "!", a
-/// multi of creates of the paths behind "+", a check of the path behind "?", or that a session begins ("open") or ends
-/// ("close").
+/// The transaction that a word stands for: a create of the path "/..", one of an ephemeral node at the path
+/// behind "!", a multi of creates of the paths behind "+", a check of the path behind "?", or that a session
+/// begins ("open") or ends ("close").
 pub fn read_txn(alloc: Global, word: &str) -> Result<Txn, ReadError> {
     if word == "open" {
         return Ok(txn_of(Body::CreateSession(5000)));

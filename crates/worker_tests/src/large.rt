@@ -54,8 +54,8 @@ fn parents(alloc: Global) -> Result<Tree, Fail> {
     Ok(tree)
 }
 
-// What 64 workers answer to a child of each node, and then another of each, and so on, and how many nodes there are then;
-// with the groups of the batch.
+// How many groups and transactions a batch has that makes a child of each node, then another of each, and so on; how
+// many nodes there are when 64 workers have done it; and what it answers.
 fn held<R: Threads + Sync>(rt: &R, alloc: Global, greater_first: bool) -> Result<String, Fail> {
     let mut txns = Vec::new(alloc);
     for child in 0..OF_EACH {

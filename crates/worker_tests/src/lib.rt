@@ -33,7 +33,8 @@ pub fn batch_of(alloc: Global, words: &str) -> Result<Batch, Fail> {
     Ok(cut(alloc, read_txns(alloc, words)?.as_slice(), &limits)?)
 }
 
-/// All batches that are cut from the transactions of these words, one behind the other; of no transaction the empty one.
+/// All batches that are cut from the transactions of these words, one behind the other; of no transaction the empty
+/// one.
 pub fn batches_of(alloc: Global, words: &str) -> Result<Vec<Batch>, Fail> {
     let limits = Limits::new(4, 256, 64)?;
     let txns = read_txns(alloc, words)?;

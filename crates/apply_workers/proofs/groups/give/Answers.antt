@@ -39,9 +39,12 @@ loop-place-preserved c =
       | then-taken w ↦ w.taken-is ∙ w.if-taken.true ∙ ap (λ b. b || c.give-given.result) (sym w.if-taken.true)
       | else-taken w ↦ w.taken-is ∙ ap (λ b. b || c.give-given.result) (sym w.if-taken.false)
     ] in
-    subst (λ b. DoneTo txns groups (is_finished_by c.args.worker) (given_by c.args.worker) c.args.hands.now (at.place + 1) new b)
+    subst
+    (λ b. DoneTo txns groups (is_finished_by c.args.worker) (given_by c.args.worker) c.args.hands.now (at.place + 1) new
+    b)
     (sym both)
-    (done_goes_on txns groups (is_finished_by c.args.worker) (given_by c.args.worker) c.args.hands.now at.hands at.place at.taken
+    (done_goes_on txns groups (is_finished_by c.args.worker) (given_by c.args.worker) c.args.hands.now at.hands at.place
+    at.taken
     c.give-given.result c.index-groups-place.result c.index-hands-place.result c.give-given.new.self at.invariant
     (omega arith) c.index-groups-place.is c.give-given.ensures.taken c.give-given.ensures.group
     (λ fits. subst (λ os. length os ≤ length c.index-groups-place.result.members) (sym c.give-given.ensures.count) fits))
