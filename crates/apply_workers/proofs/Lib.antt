@@ -14,3 +14,6 @@ pub mod Places
 pub mod Returning
 pub mod Loops
 pub mod CameHome
+pub mod Taken
+pub mod Shown
+pub mod Sharing

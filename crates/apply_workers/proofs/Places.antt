@@ -39,7 +39,7 @@ pub at_its_places : {A : Type 0} (k : ℕ) (ts : List Tagged) (xs : List A) → 
     → at_places xs (places_from 0 k ts) ≡ at_group k ts xs
 at_its_places k ts xs l = at_places_behind k 0 ts [] xs refl l
 
-own_txns : (k : ℕ) (ts : List Tagged) → at_group k ts (batch_of ts) ≡ of_group k ts
+pub own_txns : (k : ℕ) (ts : List Tagged) → at_group k ts (batch_of ts) ≡ of_group k ts
 own_txns k [] = refl
 own_txns k (t ∷ ts) = by (t.0 == k) (own_txns k ts)
   where
@@ -63,7 +63,7 @@ begins : (m n : ℕ) (ps : List ℕ) → n < m → All (λ p. p < m) ps → All 
 begins m n ps l h zero d i = l
 begins m n ps l h (suc j) d i = h j d (omega arith)
 
-places_below : (n k : ℕ) (ts : List Tagged) → All (λ p. p < n + length ts) (places_from n k ts)
+pub places_below : (n k : ℕ) (ts : List Tagged) → All (λ p. p < n + length ts) (places_from n k ts)
 places_below n k [] = λ i d l. absurd (omega arith)
 places_below n k (t ∷ ts) = by (t.0 == k)
     (λ i d l. let h = places_below (n + 1) k ts i d l in omega arith)

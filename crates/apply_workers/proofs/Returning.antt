@@ -37,17 +37,17 @@ pub record Laws : Type 0 where
   pub cover : GroupsCoverTheirPaths
 
 -- what holds of tagged transactions that are a batch
-record AreGroups (ts : List Tagged) : Type 0 where
-  apart : AreDisjoint (λ k. paths_in k ts)
-  keeps : KeepsTo (λ k. paths_in k ts) ts
-  below : AllByRecursion (λ (t : Tagged). t.0 < opened ts) ts
+pub record AreGroups (ts : List Tagged) : Type 0 where
+  pub apart : AreDisjoint (λ k. paths_in k ts)
+  pub keeps : KeepsTo (λ k. paths_in k ts) ts
+  pub below : AllByRecursion (λ (t : Tagged). t.0 < opened ts) ts
 
 -- ---- cells
 
-same_sym : (s t : State) (p : Bytes) → IsSameCell s t p → IsSameCell t s p
+pub same_sym : (s t : State) (p : Bytes) → IsSameCell s t p → IsSameCell t s p
 same_sym s t p h = record { node = sym h.node; owners = λ o. sym (h.owners o) }
 
-same_trans : (s t u : State) (p : Bytes) → IsSameCell s t p → IsSameCell t u p → IsSameCell s u p
+pub same_trans : (s t u : State) (p : Bytes) → IsSameCell s t p → IsSameCell t u p → IsSameCell s u p
 same_trans s t u p h k = record { node = h.node ∙ k.node; owners = λ o. h.owners o ∙ k.owners o }
 
 empty_same : (s t : State) (p : Bytes) → IsEmptyCell t p → IsSameCell s t p → IsEmptyCell s p
@@ -68,7 +68,7 @@ before ts apart j k p l at = apart k j (λ e. absurd (omega arith)) p at
 
 -- ---- what is left of the state
 
-left_elsewhere : Laws → (ts : List Tagged) (j m : ℕ) (s : State) (p : Bytes)
+pub left_elsewhere : Laws → (ts : List Tagged) (j m : ℕ) (s : State) (p : Bytes)
     → ((k : ℕ) → j ≤ k → touches (paths_in k ts) p ≡ false)
     → IsSameCell (without_each (map (class_of ts) (range_with_len j m)) s) s p
 left_elsewhere laws ts j zero s p out = record { node = refl; owners = λ o. refl }
@@ -78,7 +78,7 @@ left_elsewhere laws ts j (suc m) s p out =
     (left_elsewhere laws ts (j + 1) m u p (λ k l. out k (omega arith)))
     ((laws.moved (class_of ts j).paths s).left p (in_class ts j p false (out j (omega arith))))
 
-left_empty : Laws → (ts : List Tagged) → AreDisjoint (λ k. paths_in k ts) → (j m : ℕ) (s : State) (k : ℕ) (p : Bytes)
+pub left_empty : Laws → (ts : List Tagged) → AreDisjoint (λ k. paths_in k ts) → (j m : ℕ) (s : State) (k : ℕ) (p : Bytes)
     → j ≤ k → k < j + m → touches (paths_in k ts) p ≡ true
     → IsEmptyCell (without_each (map (class_of ts) (range_with_len j m)) s) p
 left_empty laws ts apart j zero s k p l n at = absurd (omega arith)
@@ -135,11 +135,11 @@ put_home laws ts apart whole j (c ∷ cs) h t k p l n at empty = by (eq-or-lt_of
 
 -- ---- groups that are done
 
-abbrev classes_from : List Tagged → ℕ → ℕ → List Class
+abbrev pub classes_from : List Tagged → ℕ → ℕ → List Class
 classes_from ts j m = map (class_of ts) (range_with_len j m)
 
 -- the state u has the old cells of the group j and of those behind
-abbrev IsNear : List Tagged → State → ℕ → State → Type 0
+abbrev pub IsNear : List Tagged → State → ℕ → State → Type 0
 IsNear ts s j u = (k : ℕ) (p : Bytes) → j ≤ k → touches (paths_in k ts) p ≡ true → IsSameCell u s p
 
 taken_same : Laws → (ts : List Tagged) (s : State) (j : ℕ) (u : State) → IsNear ts s j u
@@ -148,7 +148,7 @@ taken_same laws ts s j u near p at =
     same_trans (cells_at (class_of ts j).paths u) u s p
     ((laws.moved (class_of ts j).paths u).taken p (in_class ts j p true at)) (near j p (omega arith) at)
 
-near_next : Laws → (ts : List Tagged) → AreDisjoint (λ k. paths_in k ts) → (s : State) (j : ℕ) (u : State)
+pub near_next : Laws → (ts : List Tagged) → AreDisjoint (λ k. paths_in k ts) → (s : State) (j : ℕ) (u : State)
     → IsNear ts s j u → IsNear ts s (j + 1) (without_cells (class_of ts j).paths u)
 near_next laws ts apart s j u near k p l at =
     same_trans (without_cells (class_of ts j).paths u) u s p
@@ -209,7 +209,7 @@ put_sessions : (cs : List State) (t : State) → (with_each cs t).sessions ≡ t
 put_sessions [] t = refl
 put_sessions (c ∷ cs) t = put_sessions cs (with_cells c t)
 
-left_sessions : (cs : List Class) (s : State) → (without_each cs s).sessions ≡ s.sessions
+pub left_sessions : (cs : List Class) (s : State) → (without_each cs s).sessions ≡ s.sessions
 left_sessions [] s = refl
 left_sessions (c ∷ cs) s = left_sessions cs (without_cells c.paths s)
 
@@ -244,7 +244,7 @@ find_below ts p (suc n) = by (touches (paths_in n ts) p) refl (find_below ts p n
     by false e (inr out) = inr (λ k l. last e out k (eq-or-lt_of_le (omega arith)))
 
 -- each path is of a group or of none
-find_group : (ts : List Tagged) → AllByRecursion (λ (t : Tagged). t.0 < opened ts) ts → (p : Bytes)
+pub find_group : (ts : List Tagged) → AllByRecursion (λ (t : Tagged). t.0 < opened ts) ts → (p : Bytes)
     → ((k : ℕ) × (touches (paths_in k ts) p ≡ true)) ⊎ ((k : ℕ) → touches (paths_in k ts) p ≡ false)
 find_group ts below p = by (find_below ts p (opened ts))
   where
@@ -289,7 +289,7 @@ keep_to_groups : (paths : ℕ → List Bytes) (us : List Tagged)
 keep_to_groups paths [] among keep = tt
 keep_to_groups paths (u ∷ us) among keep = ((keep.0, among.0), keep_to_groups paths us among.1 keep.1)
 
-are_groups : Laws → (txns : List Txn) (ts : List Tagged) → grouped txns ≡ Some ts → AreGroups ts
+pub are_groups : Laws → (txns : List Txn) (ts : List Tagged) → grouped txns ≡ Some ts → AreGroups ts
 are_groups laws txns ts is = record {
   apart = laws.apart txns ts is;
   keeps = keep_to_groups (λ k. paths_in k ts) ts (laws.cover ts)

@@ -18,7 +18,7 @@ use Rattle.data_tree.specs.Commuting.{Tagged, of_group, at_group, batch_of, with
 use Rattle.batcher.specs.Groups.{opened, grouped, paths_in}
 use Rattle.batcher.specs.Laws.{AreAmong, GroupsAreApart, EachIsInAGroup, GroupsCoverTheirPaths}
 use Rattle.apply_workers.specs.declared.step.Step.{Step}
-use Rattle.apply_workers.specs.Schedule.{GroupState, opened_group, opened_groups, at_start, beside, run, finished, put_back, outcomes_of, in_batch_order, put_together, scheduled_in}
+use Rattle.apply_workers.specs.Schedule.{GroupState, opened_group, opened_groups, at_start, beside, run, finished, put_back, outcomes_of, in_batch_order, put_together, started_with, left_with, ended_with}
 use Rattle.apply_workers.specs.Schedules.{one_by_one, SchedulesAreTheBatch, PathsAreWithOneGroup}
 use Rattle.apply_workers.proofs.BatchPaths.{all_free, keeps_to, HasGroup, group_of, in_batch, is_below, nothing_at}
 use Rattle.apply_workers.proofs.Stepping.{run_same, count_finished, IsLeft, IsApart, same_empty, run_apart}
@@ -230,7 +230,8 @@ together laws s batch of = λ i. record { state = state_is laws s batch of i; ou
 pub schedules_are_the_batch : Laws → SchedulesAreTheBatch
 schedules_are_the_batch laws s txns steps = by (grouped txns) refl
   where
-    by : (o : Option (List Tagged)) → grouped txns ≡ o → scheduled_in s txns o steps ≡ one_by_one s txns
+    by : (o : Option (List Tagged)) → grouped txns ≡ o
+        → ended_with (left_with s o) txns o (run (started_with s o) steps).groups ≡ one_by_one s txns
     by None is = refl
     by (Some batch) is =
         ap (put_together (beside s batch) batch) (finished_are s batch steps)

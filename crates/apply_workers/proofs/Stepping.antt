@@ -14,7 +14,8 @@ use Rattle.data_tree.specs.Cells.{mean_in_cells, outcomes_in_cells, IsEmptyCell}
 use Rattle.data_tree.specs.Commuting.{TransactionsKeepToTheirFootprints}
 use Rattle.apply_workers.specs.declared.step.Step.{Step}
 use Rattle.apply_workers.specs.declared.step.Step.TheVariants.{Claim, Do, Give}
-use Rattle.apply_workers.specs.Schedule.{Held, Home, GroupState, Progress, can_be_taken, has_work, is_finished_by, claimed, with_next_done, done_by, given_by, taken, step, run, finished}
+use Rattle.apply_workers.specs.declared.holder.Holder.TheVariants.{Held, Home}
+use Rattle.apply_workers.specs.Schedule.{GroupState, Progress, can_be_taken, has_work, is_finished_by, claimed, with_next_done, done_by, given_by, taken, step, run, finished}
 
 -- ---- what is made of a group
 

@@ -7,3 +7,5 @@ pub mod Places
 pub mod Works
 pub mod Taking
 pub mod Homing
+pub mod Underway
+pub mod Hands

@@ -7,18 +7,15 @@ use Rattle.txn_codec.specs.declared.txn.Txn.{Txn}
 use Rattle.data_tree.specs.State.{State}
 use Rattle.data_tree.specs.Meaning.{after, outcomes, answer_of}
 use Rattle.data_tree.specs.Footprint.{footprint}
-use Rattle.data_tree.specs.Cells.{cells_at, without_cells, with_cells, mean_in_cells, after_in_cells, outcomes_in_cells}
-use Rattle.data_tree.specs.Commuting.{Tagged, of_group, batch_of, with_timeouts}
+use Rattle.data_tree.specs.Cells.{cells_at, without_cells, mean_in_cells, after_in_cells, outcomes_in_cells}
+use Rattle.data_tree.specs.Commuting.{Tagged, of_group, batch_of}
 use Rattle.data_tree.specs.declared.outcome.Outcome.{Outcome}
 use Rattle.batcher.specs.Groups.{opened, grouped, paths_in}
+use Rattle.apply_workers.specs.Homing.{with_each, timed}
+use Rattle.apply_workers.specs.declared.holder.Holder.{Holder}
+use Rattle.apply_workers.specs.declared.holder.Holder.TheVariants.{Waiting, Held, Home}
 use Rattle.apply_workers.specs.declared.step.Step.{Step}
 use Rattle.apply_workers.specs.declared.step.Step.TheVariants.{Claim, Do, Give}
-
--- who has a group
-pub data Holder : Type 0 where
-  Waiting : Holder
-  Held : (worker : ℕ) → Holder
-  Home : Holder
 
 -- a group by its number: its paths and the cells there, the transactions that aren't done yet, and what those that are
 -- done answered
@@ -130,8 +127,7 @@ finished g =
 
 -- the groups' cells go back, in the order of the groups
 abbrev pub put_back : State → List GroupState → State
-put_back s [] = s
-put_back s (g ∷ gs) = put_back (with_cells g.cells s) gs
+put_back s groups = with_each (map (λ (g : GroupState). g.cells) groups) s
 
 abbrev pub outcomes_of : ℕ → List GroupState → List Outcome
 outcomes_of k [] = []
@@ -151,22 +147,41 @@ pub record BatchDone : Type 0 where
 -- groups that are done, put together: the cells go back, and the timeouts are set in the order of the batch, in which
 -- the outcomes stand too
 abbrev pub put_together : State → List Tagged → List GroupState → BatchDone
-put_together tree batch done =
-    let put = put_back tree done in
-    record {
-      state = record put { sessions = with_timeouts put.sessions (batch_of batch) };
-      outcomes = in_batch_order batch (λ k. outcomes_of k done);
-    }
+put_together tree batch done = record {
+  state = timed (batch_of batch) (put_back tree done);
+  outcomes = in_batch_order batch (λ k. outcomes_of k done);
+}
 
 -- what the steps left undone is done first
 abbrev pub home : State → List Tagged → List GroupState → BatchDone
 home tree batch groups = put_together tree batch (map finished groups)
 
--- a batch that has no groups, as a barrier alone, is done on the tree itself
-abbrev pub scheduled_in : State → List Txn → Option (List Tagged) → List Step → BatchDone
-scheduled_in s txns None steps = record { state = after s txns; outcomes = outcomes s txns }
-scheduled_in s txns (Some batch) steps = home (beside s batch) batch (run (at_start s batch) steps).groups
+-- ---- a batch with its groups, or one that has none, as a barrier alone
+
+-- where there are no groups there is nothing to claim
+abbrev pub started_with : State → Option (List Tagged) → Progress
+started_with s None = record { next = 0; groups = [] }
+started_with s (Some batch) = at_start s batch
+
+abbrev pub started : State → List Txn → Progress
+started s txns = started_with s (grouped txns)
+
+-- what is left of the state while the groups have their cells
+abbrev pub left_with : State → Option (List Tagged) → State
+left_with s None = s
+left_with s (Some batch) = beside s batch
+
+abbrev pub left_by : State → List Txn → State
+left_by s txns = left_with s (grouped txns)
+
+-- a batch without groups is done on the tree itself
+abbrev pub ended_with : State → List Txn → Option (List Tagged) → List GroupState → BatchDone
+ended_with tree txns None groups = record { state = after tree txns; outcomes = outcomes tree txns }
+ended_with tree txns (Some batch) groups = home tree batch groups
+
+abbrev pub ended : State → List Txn → List GroupState → BatchDone
+ended tree txns groups = ended_with tree txns (grouped txns) groups
 
 -- the batch, done by these steps and then what they leave undone
 abbrev pub scheduled : State → List Txn → List Step → BatchDone
-scheduled s txns steps = scheduled_in s txns (grouped txns) steps
+scheduled s txns steps = ended (left_by s txns) txns (run (started s txns) steps).groups

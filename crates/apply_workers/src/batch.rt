@@ -14,8 +14,8 @@ use std::thread::Threads;
 use txn_codec::Txn;
 use values::NoMemory;
 
-// Does the transactions on the tree itself, one after the other.
-fn apply_each(alloc: Global, tree: &mut Tree, txns: &[Txn]) -> Result<Vec<Outcome>, NoMemory>
+/// Does the transactions on the tree itself, one after the other.
+pub fn apply_each(alloc: Global, tree: &mut Tree, txns: &[Txn]) -> Result<Vec<Outcome>, NoMemory>
     ensures tree { OnOk result (tree.new ≡ after tree.old txns.now) }
     ensures outcomes { IfOk result (λ v. v.items ≡ outcomes tree.old txns.now) }
 {

@@ -6,6 +6,10 @@
 //! What workers do with the groups of a batch is a definition, step by step (`specs/Schedule.antt`); that it is what the
 //! batch does, whichever `Step`s are taken, is `law::every_schedule`.
 //!
+//! `Groups` does a batch by such steps: `open` takes the groups' cells out of the tree, `step` takes a step or passes it
+//! over, and `home` does what is left and puts all back. `apply_inline` is these calls one after the other; whichever
+//! steps it is given, it leaves and answers what the transactions do one after the other.
+//!
 //! `apply_batch` does a batch of transactions so: each group's cells are taken out of the tree, each group is a work on
 //! its cells (`Work`, `Finished`), and when all are home the cells are put back, the timeouts of new sessions are set
 //! and the outcomes stand in the batch's order. It leaves and answers what the transactions do one after the other,
@@ -22,8 +26,12 @@ mod crew;
 mod gate;
 mod group_job;
 mod group_work;
+mod groups;
+mod hand;
+mod holder;
 mod home;
 mod home_law;
+mod inline;
 mod job;
 pub mod law;
 mod step;
@@ -33,6 +41,9 @@ pub use batch::apply_batch;
 pub use crew::run;
 pub use gate::{Gate, OpenGate};
 pub use group_work::{Finished, Work};
+pub use groups::Groups;
+pub use holder::Holder;
 pub use home_law::groups_come_home;
+pub use inline::apply_inline;
 pub use job::{Job, work};
 pub use step::Step;

@@ -21,18 +21,19 @@ fn txn_of(body: Body) -> Txn {
 }
 
 // A create of the path.
-fn create_of(alloc: Global, path: &str) -> Result<Operation, ReadError> {
+fn create_of(alloc: Global, path: &str, ephemeral: bool) -> Result<Operation, ReadError> {
     Ok(Operation::Create(Create {
         path: Path::new(alloc, path)?,
         bytes: None,
         acl: None,
-        ephemeral: false,
+        ephemeral,
         parent_cversion: -1,
     }))
 }
 
-/// The transaction that a word stands for: a create of the path "/..", a multi of creates of the paths
-/// behind "+", a check of the path behind "?", or that a session begins ("open") or ends ("close").
+/// The transaction that a word stands for: a create of the path "/..", one of an ephemeral node at the path
+/// behind "!", a multi of creates of the paths behind "+", a check of the path behind "?", or that a session
+/// begins ("open") or ends ("close").
 pub fn read_txn(alloc: Global, word: &str) -> Result<Txn, ReadError> {
     if word == "open" {
         return Ok(txn_of(Body::CreateSession(5000)));
@@ -44,14 +45,17 @@ pub fn read_txn(alloc: Global, word: &str) -> Result<Txn, ReadError> {
         let path = Path::new(alloc, path)?;
         return Ok(txn_of(Body::Single(Operation::Check(Check { path, version: 1 }))));
     }
+    if let Some(path) = word.strip_prefix('!') {
+        return Ok(txn_of(Body::Single(create_of(alloc, path, true)?)));
+    }
     if let Some(paths) = word.strip_prefix('+') {
         let mut parts = Vec::new(alloc);
         for path in paths.split(',') {
-            parts.push(create_of(alloc, path)?)?;
+            parts.push(create_of(alloc, path, false)?)?;
         }
         return Ok(txn_of(Body::Multi(Listed::from_vec(parts))));
     }
-    Ok(txn_of(Body::Single(create_of(alloc, word)?)))
+    Ok(txn_of(Body::Single(create_of(alloc, word, false)?)))
 }
 
 /// The transactions of words between blanks.

@@ -6,6 +6,10 @@
 #[cfg(test)]
 mod batches;
 #[cfg(test)]
+mod large;
+#[cfg(test)]
+mod schedules;
+#[cfg(test)]
 mod threads;
 
 use batch_tests::read_txns;
@@ -27,6 +31,36 @@ pub fn tree_behind(alloc: Global, words: &str) -> Result<Tree, Fail> {
 pub fn batch_of(alloc: Global, words: &str) -> Result<Batch, Fail> {
     let limits = Limits::new(4, 256, 64)?;
     Ok(cut(alloc, read_txns(alloc, words)?.as_slice(), &limits)?)
+}
+
+/// All batches that are cut from the transactions of these words, one behind the other; of no transaction the empty
+/// one.
+pub fn batches_of(alloc: Global, words: &str) -> Result<Vec<Batch>, Fail> {
+    let limits = Limits::new(4, 256, 64)?;
+    let txns = read_txns(alloc, words)?;
+    let mut rest = txns.as_slice();
+    let mut batches = Vec::new(alloc);
+    for _ in 0..=txns.len() {
+        let batch = cut(alloc, rest, &limits)?;
+        if batch.len() <= rest.len() {
+            rest = &rest[batch.len()..];
+        }
+        batches.push(batch)?;
+        if rest.is_empty() {
+            return Ok(batches);
+        }
+    }
+    Ok(batches)
+}
+
+/// How many transactions the batches have.
+pub fn sizes(alloc: Global, batches: &[Batch]) -> Result<String, Fail> {
+    let mut text = String::new(alloc);
+    for batch in batches {
+        let size = batch.len();
+        text.push_str(format!(in alloc; "{size} ")?.as_str())?;
+    }
+    Ok(text)
 }
 
 // A sign and the path of what watchers are told.

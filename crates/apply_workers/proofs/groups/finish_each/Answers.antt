@@ -1,0 +1,38 @@
+use Rattle.std.proofs.Common.{rules, ◌≡◌, ◌<◌, length, sym, ap₂, ◌∙◌, subst}
+use Rattle.std.specs.Vec.Iter.{into_iter_items, into_iter_len}
+use Rattle.apply_workers.specs.Hands.{all_shown}
+use Rattle.apply_workers.proofs.Loops.{nothing_left}
+use Rattle.apply_workers.proofs.Shown.{within_batch, one_left, AllFinished, finish_ends, cells_left, all_answers}
+use Rattle.apply_workers.proofs.groups.finish_each.Goals as goal
+
+pub finish-requires-clause-within : goal.finish-requires-clause-within
+finish-requires-clause-within c =
+    let at = c.loop-hand in
+    let groups = c.groups-groups.result.now in
+    let l : length at.cells.items < length groups =
+    one_left (length at.cells.items) groups (into_iter_items at.hand-iterator) c.in-Some.hand _
+    at.invariant.finished.held c.in-Some.ensures.steps.0 in
+    let same : length at.cells.items ≡ c.len.result = search rules in
+    within_batch c.args.batch.now c.txns-txns.result.now groups c.len.result c.index-groups-len.result
+    c.txns-txns.ensures.txns c.groups-groups.ensures c.index-groups-len.is
+    (subst (λ n. n < length groups) same l)
+
+all_finished : (c : goal.After-drop-hand-iterator-2)
+    → AllFinished c.txns-txns.result.now c.groups-groups.result.now c.args.hands.items c.loop-hand.cells.items
+    c.loop-hand.outcomes.items
+all_finished c =
+    let at = c.loop-hand in
+    let none : into_iter_len at.hand-iterator ≡ 0 = search rules in
+    let empty = nothing_left (into_iter_items at.hand-iterator) (sym at.invariant.len ∙ none) in
+    finish_ends c.txns-txns.result.now c.groups-groups.result.now c.args.hands.items (into_iter_items at.hand-iterator)
+    (length at.cells.items) at.cells.items at.outcomes.items at.invariant.finished empty
+
+pub returns-clause-cells : goal.returns-clause-cells
+returns-clause-cells c =
+    (all_finished c).cells_are
+    ∙ ap₂ (λ ts cs. cells_left (all_shown ts 0 cs c.args.hands.items)) c.txns-txns.ensures.txns c.groups-groups.ensures
+
+pub returns-clause-outcomes : goal.returns-clause-outcomes
+returns-clause-outcomes c =
+    (all_finished c).answers_are
+    ∙ ap₂ (λ ts cs. all_answers (all_shown ts 0 cs c.args.hands.items)) c.txns-txns.ensures.txns c.groups-groups.ensures

@@ -1,0 +1,211 @@
+//! The groups of a batch, done one step at a time.
+ghost use Rattle.std.specs.Prelude.{◌≡◌, ◌<◌, IfOk, OnOk, map, length, false};
+ghost use Rattle.std.specs.List.{list_any};
+ghost use Rattle.batcher.specs.Cut.{groups_of, is_barrier_alone};
+ghost use Rattle.apply_workers.specs.Hands.{all_shown, AreHeld, untouched};
+ghost use Rattle.apply_workers.specs.Schedule.{GroupState, is_held_by, has_work, is_finished_by, done_by, given_by, claimed, finished, can_be_taken, started, left_by, ended};
+ghost use Rattle.apply_workers.specs.Schedule.{step as stepped};
+ghost use Rattle.apply_workers.specs.Underway.{opened_on};
+ghost use Rattle.apply_workers.specs.declared.step.Step.TheVariants.{Claim};
+
+use crate::batch::apply_each;
+use crate::hand::Hand;
+use crate::home::{Done, home};
+use crate::law::groups_are_taken;
+use crate::step::Step;
+use crate::taking::take_each;
+use batcher::Batch;
+use data_tree::{Cells, Outcome, Tree};
+use std::alloc::Global;
+use std::marker::Model;
+use values::{Listed, NoMemory};
+
+/// A batch whose groups are done one step at a time, in any order. It is seen as its transactions, the number of the
+/// group that is claimed next, and each group with who has it, its cells, what is left to do and what was answered.
+#[derive(Drop)]
+pub struct Groups {
+    batch: Batch,
+    next: usize,
+    hands: Vec<Hand>,
+}
+
+impl Model for Groups {
+    ghost use Rattle.txn_codec.specs.contracts.txn.Txn as of_txn;
+    ghost use Rattle.data_tree.specs.State.{state_code};
+    ghost use Rattle.data_tree.specs.contracts.node.Node as of_node;
+    ghost use Rattle.data_tree.specs.contracts.outcome.Outcome as of_outcome;
+    ghost use Rattle.batcher.specs.Cut.{groups_of};
+    ghost use Rattle.apply_workers.specs.contracts.holder.Holder as of_holder;
+    ghost use Rattle.apply_workers.specs.Hands.{all_shown, AreHeld};
+    ghost use Rattle.apply_workers.specs.Underway.{Underway, underway_code};
+
+    ghost Value = { Underway };
+
+    ghost coded = { underway_code of_holder.the_row.coded (state_code of_node.the_row.coded)
+        of_txn.the_row.coded of_outcome.the_row.coded };
+
+    ghost view = { λ g. record {
+      batch = g.batch;
+      progress = record {
+        next = g.next;
+        groups = all_shown g.batch 0 (groups_of g.batch) g.hands.items;
+      };
+    } };
+
+    ghost invariant = { λ g. AreHeld (groups_of g.batch) g.hands.items };
+}
+
+// Hands that hold these cells, of groups that nobody has claimed.
+fn waiting(alloc: Global, each: Vec<Cells>) -> Result<Vec<Hand>, NoMemory>
+    ensures { IfOk result (λ v. v.items ≡ map untouched each.items) }
+{
+    let mut hands = Vec::with_capacity(alloc, each.len())?;
+    for cells in each {
+        hands.push_reserved(Hand::new(alloc, cells));
+    }
+    Ok(hands)
+}
+
+// Whether the worker has a group.
+fn has_group(hands: &[Hand], worker: usize) -> bool
+    ensures { result ≡ list_any (λ h. is_held_by worker h.holder) hands.now }
+{
+    for hand in hands {
+        if hand.is_held_by(worker) {
+            return true;
+        }
+    }
+    false
+}
+
+// Does the next transaction of the worker's group, and says whether there was one. A worker has one group at most.
+fn do_next(
+    hands: &mut [Hand],
+    alloc: Global,
+    batch: &Batch,
+    worker: usize,
+) -> Result<bool, NoMemory>
+    requires { AreHeld (groups_of batch.now) hands.old }
+    ensures held { AreHeld (groups_of batch.now) hands.new }
+    ensures taken { IfOk result (λ taken. taken
+        ≡ list_any (has_work worker) (all_shown batch.now 0 (groups_of batch.now) hands.old)) }
+    ensures groups { OnOk result (all_shown batch.now 0 (groups_of batch.now) hands.new
+        ≡ map (done_by worker) (all_shown batch.now 0 (groups_of batch.now) hands.old)) }
+{
+    let groups = batch.groups();
+    let txns = batch.txns();
+    let mut taken = false;
+    for place in 0..hands.len() {
+        let done = hands[place].do_next(alloc, worker, txns, &groups[place])?;
+        taken = taken || done;
+    }
+    Ok(taken)
+}
+
+// Gives the worker's group back, if all its transactions are done, and says whether there was one.
+fn give(hands: &mut [Hand], batch: &Batch, worker: usize) -> bool
+    requires { AreHeld (groups_of batch.now) hands.old }
+    ensures held { AreHeld (groups_of batch.now) hands.new }
+    ensures taken { result
+        ≡ list_any (is_finished_by worker) (all_shown batch.now 0 (groups_of batch.now) hands.old) }
+    ensures groups { all_shown batch.now 0 (groups_of batch.now) hands.new
+        ≡ map (given_by worker) (all_shown batch.now 0 (groups_of batch.now) hands.old) }
+{
+    let groups = batch.groups();
+    let txns = batch.txns();
+    let mut taken = false;
+    for place in 0..hands.len() {
+        let given = hands[place].give(worker, txns, &groups[place]);
+        taken = taken || given;
+    }
+    taken
+}
+
+// Does what is left of each group.
+fn finish_each(alloc: Global, batch: &Batch, hands: Vec<Hand>) -> Result<Done, NoMemory>
+    requires { AreHeld (groups_of batch.now) hands.items }
+    ensures cells { IfOk result (λ done. done.cells.items ≡ map (λ g. g.cells)
+        (map finished (all_shown batch.now 0 (groups_of batch.now) hands.items))) }
+    ensures outcomes { IfOk result (λ done. done.outcomes.items ≡ map (λ g. g.outcomes)
+        (map finished (all_shown batch.now 0 (groups_of batch.now) hands.items))) }
+{
+    let groups = batch.groups();
+    let txns = batch.txns();
+    let mut cells = Vec::new(alloc);
+    let mut outcomes = Vec::new(alloc);
+    for hand in hands {
+        let (left, answered) = hand.finish(alloc, txns, &groups[cells.len()])?;
+        cells.push(left)?;
+        outcomes.push(Listed::from_vec(answered))?;
+    }
+    Ok(Done { cells, outcomes })
+}
+
+impl Groups {
+    /// Takes from the tree the cells of each group's paths, and no other; no group is claimed. Refused, it leaves a
+    /// tree that is only to be dropped.
+    pub fn open(alloc: Global, tree: &mut Tree, batch: Batch) -> Result<Groups, NoMemory>
+        ensures groups { IfOk result (λ groups. groups ≡ opened_on tree.old batch) }
+        ensures tree { OnOk result (tree.new ≡ left_by tree.old batch) }
+    {
+        batcher::law::groups();
+        groups_are_taken();
+        let cells = take_each(alloc, tree, batch.groups())?;
+        let hands = waiting(alloc, cells)?;
+        Ok(Groups {
+            batch,
+            next: 0,
+            hands,
+        })
+    }
+
+    // The worker claims the next group, if it has none and one is left, and says whether it did.
+    fn claim(&mut self, worker: usize) -> bool
+        ensures taken { result ≡ can_be_taken self.old.progress (Claim worker) }
+        ensures groups { self.new ≡ record self.old { progress = stepped self.old.progress (Claim worker) } }
+    {
+        if self.next >= self.hands.len() {
+            return false;
+        }
+        if has_group(self.hands.as_slice(), worker) {
+            return false;
+        }
+        self.hands[self.next].claim(worker);
+        self.next += 1;
+        true
+    }
+
+    /// Takes the step, and says whether it could be taken: a claim by a worker that has no group, where one is left; a
+    /// transaction of the worker's group, where one is left; a giving back where none is. A step that can't be taken
+    /// changes nothing. Refused memory, it leaves groups and a tree that are only to be dropped.
+    pub fn step(&mut self, alloc: Global, step: Step) -> Result<bool, NoMemory>
+        ensures taken { IfOk result (λ taken. taken ≡ can_be_taken self.old.progress step) }
+        ensures groups { OnOk result
+            (self.new ≡ record self.old { progress = stepped self.old.progress step }) }
+    {
+        match step {
+            Step::Claim(worker) => Ok(self.claim(worker)),
+            Step::Do(worker) => do_next(self.hands.as_mut_slice(), alloc, &self.batch, worker),
+            Step::Give(worker) => Ok(give(self.hands.as_mut_slice(), &self.batch, worker)),
+        }
+    }
+
+    /// Does what is left, group by group, puts the cells back into the tree from which they were taken, sets the
+    /// timeouts of the sessions that the batch creates, and answers the outcomes, both in the batch's order. A batch
+    /// that has no groups, as a barrier alone, is done on the tree itself. Refused memory, it leaves a tree that is only
+    /// to be dropped.
+    pub fn home(self, alloc: Global, tree: &mut Tree) -> Result<Vec<Outcome>, NoMemory>
+        ensures tree { OnOk result
+            (tree.new ≡ (ended tree.old self.batch self.progress.groups).state) }
+        ensures outcomes { IfOk result
+            (λ v. v.items ≡ (ended tree.old self.batch self.progress.groups).outcomes) }
+    {
+        let Groups { batch, hands, .. } = self;
+        if batch.is_barrier() {
+            return apply_each(alloc, tree, batch.txns());
+        }
+        batcher::law::groups();
+        let done = finish_each(alloc, &batch, hands)?;
+        home(alloc, tree, &batch, done)
+    }
+}
