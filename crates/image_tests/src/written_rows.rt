@@ -14,11 +14,15 @@ use std::test::Fail;
 use txn_codec::{AclList, Path};
 use values::Blob;
 
+// What is written of a tree.
+fn image_of(alloc: Global, tree: &Tree) -> Result<Vec<u8>, Fail> {
+    Ok(write_image(alloc, tree)?)
+}
+
 // What is written of the tree that an image makes.
 fn written_again(alloc: Global, bytes: &[u8]) -> Result<Vec<u8>, Fail> {
     let (image, _) = read_image(alloc, bytes)?;
-    let tree = image.into_tree();
-    Ok(write_image(alloc, &tree)?)
+    image_of(alloc, &image.into_tree())
 }
 
 #[test]
@@ -26,7 +30,7 @@ fn worked_images(rt: HostRuntime) -> Result<(), Fail> {
     let fresh = fresh_image(rt.alloc())?;
     let with_session = session_image(rt.alloc())?;
     let tree = Tree::fresh(rt.alloc())?;
-    assert!(rt; write_image(rt.alloc(), &tree)? == fresh);
+    assert!(rt; image_of(rt.alloc(), &tree)? == fresh);
     assert!(rt; written_again(rt.alloc(), &fresh)? == fresh);
     assert!(rt; written_again(rt.alloc(), &with_session)? == with_session);
     Ok(())
@@ -133,10 +137,7 @@ fn trees_without_an_image(rt: HostRuntime) -> Result<(), Fail> {
     let alloc = rt.alloc();
     assert!(rt; is_not_whole(alloc, &Tree::empty(alloc)));
     let mut bytes = longest(alloc)?;
-    assert_eq!(rt;
-        write_image(alloc, &root_of(alloc, &bytes)?)?.len(),
-        4_194_407
-    );
+    assert_eq!(rt; image_of(alloc, &root_of(alloc, &bytes)?)?.len(), 4_194_407);
     bytes.push(b'x')?;
     assert!(rt; is_not_whole(alloc, &root_of(alloc, &bytes)?));
     Ok(())

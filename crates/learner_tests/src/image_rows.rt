@@ -1,7 +1,7 @@
 //! Images, and what comes behind them.
 
-use crate::{Seen, at, counters, greeted, packet, seen, with_txn};
-use learner_sync::{Learner, Phase};
+use crate::{Seen, at, counters, does, follow, greeted, packet, with_txn};
+use learner_sync::Learner;
 use quorum_packet::{Item, PacketKind};
 use snapshot_codec::{ImagePart, ImageSession};
 use std::alloc::Global;
@@ -15,11 +15,15 @@ fn session() -> Item {
     }))
 }
 
+fn end() -> Item {
+    Item::Part(ImagePart::End)
+}
+
 // One that has loaded an image at 5.
 fn on_image(alloc: Global) -> Result<Learner, Fail> {
     let mut learner = greeted(alloc)?;
-    learner.step(alloc, packet(PacketKind::Snap, at(5), None))?;
-    learner.step(alloc, Item::Part(ImagePart::End))?;
+    follow(alloc, &mut learner, packet(PacketKind::Snap, at(5), None))?;
+    follow(alloc, &mut learner, end())?;
     Ok(learner)
 }
 
@@ -28,20 +32,13 @@ fn image(rt: HostRuntime) -> Result<(), Fail> {
     let alloc = rt.alloc();
     let mut learner = greeted(alloc)?;
     let below = packet(PacketKind::Snap, -1, None);
-    assert_eq!(rt;
-        seen(alloc, &mut learner, below)?,
-        Seen::Refused(Fault::OutOfOrder)
-    );
+    assert!(rt; does(alloc, &mut learner, below, Seen::Refused(Fault::OutOfOrder))?);
     let snap = packet(PacketKind::Snap, at(5), None);
-    assert_eq!(rt; seen(alloc, &mut learner, snap)?, Seen::Nothing);
-    assert_eq!(rt; seen(alloc, &mut learner, session())?, Seen::LoadPart);
-    assert_eq!(rt; learner.last_zxid(), 0);
-    assert!(rt; learner.phase() == Phase::Image(at(5)) && learner.log().is_some());
-    assert_eq!(rt;
-        seen(alloc, &mut learner, Item::Part(ImagePart::End))?,
-        Seen::LoadImage
-    );
-    assert_eq!(rt; learner.last_zxid(), at(5));
+    assert!(rt; does(alloc, &mut learner, snap, Seen::Nothing)?);
+    assert!(rt; does(alloc, &mut learner, session(), Seen::LoadPart)?);
+    assert!(rt; learner.last_zxid() == 0);
+    assert!(rt; does(alloc, &mut learner, end(), Seen::LoadImage)?);
+    assert!(rt; learner.last_zxid() == at(5));
     assert!(rt; learner.log().is_none());
     Ok(())
 }
@@ -51,23 +48,23 @@ fn behind_an_image(rt: HostRuntime) -> Result<(), Fail> {
     let alloc = rt.alloc();
     let mut learner = on_image(alloc)?;
     let early = with_txn(alloc, PacketKind::Inform, at(4))?;
-    assert_eq!(rt; seen(alloc, &mut learner, early)?, Seen::Apply);
-    assert_eq!(rt; learner.last_zxid(), at(5));
+    assert!(rt; does(alloc, &mut learner, early, Seen::Apply)?);
+    assert!(rt; learner.last_zxid() == at(5));
     let twice = with_txn(alloc, PacketKind::Inform, at(4))?;
-    assert_eq!(rt;
-        seen(alloc, &mut learner, twice)?,
-        Seen::Refused(Fault::OutOfOrder)
-    );
+    assert!(rt; does(alloc, &mut learner, twice, Seen::Refused(Fault::OutOfOrder))?);
     let above = with_txn(alloc, PacketKind::Inform, at(6))?;
-    assert_eq!(rt; seen(alloc, &mut learner, above)?, Seen::Apply);
-    assert_eq!(rt; counters(&learner), 46);
-    // Another image is loaded for its faults alone.
-    assert_eq!(rt; seen(alloc, &mut learner, session())?, Seen::LoadPart);
-    assert_eq!(rt;
-        seen(alloc, &mut learner, Item::Part(ImagePart::End))?,
-        Seen::DropImage
-    );
-    assert_eq!(rt; learner.last_zxid(), at(6));
+    assert!(rt; does(alloc, &mut learner, above, Seen::Apply)?);
+    assert!(rt; counters(&learner) == 46);
+    Ok(())
+}
+
+#[test]
+fn another_image(rt: HostRuntime) -> Result<(), Fail> {
+    let alloc = rt.alloc();
+    let mut learner = on_image(alloc)?;
+    assert!(rt; does(alloc, &mut learner, session(), Seen::LoadPart)?);
+    assert!(rt; does(alloc, &mut learner, end(), Seen::DropImage)?);
+    assert!(rt; learner.last_zxid() == at(5));
     Ok(())
 }
 
@@ -76,13 +73,9 @@ fn up_to_date(rt: HostRuntime) -> Result<(), Fail> {
     let alloc = rt.alloc();
     let mut learner = on_image(alloc)?;
     let ready = packet(PacketKind::UpToDate, at(0), None);
-    assert_eq!(rt; seen(alloc, &mut learner, ready)?, Seen::Sent(3));
+    assert!(rt; does(alloc, &mut learner, ready, Seen::Sent(3))?);
     assert!(rt; learner.epochs() == (1, 1));
     let early = with_txn(alloc, PacketKind::Inform, at(4))?;
-    assert_eq!(rt;
-        seen(alloc, &mut learner, early)?,
-        Seen::Refused(Fault::OutOfOrder)
-    );
-    assert_eq!(rt; learner.last_zxid(), at(5));
+    assert!(rt; does(alloc, &mut learner, early, Seen::Refused(Fault::OutOfOrder))?);
     Ok(())
 }

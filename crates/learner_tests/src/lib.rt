@@ -13,7 +13,7 @@ use learner_sync::{Act, Learner};
 use quorum_packet::{Item, PacketKind, QuorumPacket};
 use settings::{Epochs, ServerId};
 use std::alloc::Global;
-use values::{Blob, Fault, NoMemory, ReadError};
+use values::{Blob, Fault, Listed, NoMemory, ReadError};
 
 /// The zxid of the first epoch with this counter.
 pub fn at(counter: u32) -> i64 {
@@ -46,8 +46,8 @@ pub fn with_txn(alloc: Global, kind: PacketKind, zxid: i64) -> Result<Item, NoMe
     Ok(packet(kind, zxid, Some(txn_bytes(alloc, zxid)?)))
 }
 
-/// Whether the act sends a packet with these fields and no ids.
-pub fn sends(act: &Act, kind: i32, zxid: i64, bytes: Option<&[u8]>) -> bool {
+// Whether the act sends a packet with these fields and no ids.
+fn is_packet(act: &Act, kind: i32, zxid: i64, bytes: Option<&[u8]>) -> bool {
     let Act::Send(packet) = act else {
         return false;
     };
@@ -59,8 +59,32 @@ pub fn sends(act: &Act, kind: i32, zxid: i64, bytes: Option<&[u8]>) -> bool {
     are_bytes && packet.kind == kind && packet.zxid == zxid && packet.authinfo.is_none()
 }
 
+/// Whether these are so many acts, and one sends a packet with these fields and no ids.
+pub fn sends(acts: &Listed<Act>, count: usize, kind: i32, zxid: i64, bytes: Option<&[u8]>) -> bool {
+    for act in acts.as_slice() {
+        if is_packet(act, kind, zxid, bytes) {
+            return acts.len() == count;
+        }
+    }
+    false
+}
+
+/// What is to be done because of the item. It says nothing of the learner, so that a test is proved at once.
+pub fn follow(alloc: Global, learner: &mut Learner, item: Item) -> Result<Listed<Act>, ReadError> {
+    learner.step(alloc, item)
+}
+
+/// What is to be done because a leader is there.
+pub fn come(
+    alloc: Global,
+    learner: &mut Learner,
+    server_id: ServerId,
+) -> Result<Listed<Act>, NoMemory> {
+    learner.start(alloc, server_id)
+}
+
 /// What an item does: a letter for each act, or the fault for which it is refused.
-#[derive(Clone, Copy, Debug, PartialEq)]
+#[derive(Clone, Copy, PartialEq)]
 pub enum Seen {
     Nothing,
     Apply,
@@ -73,8 +97,8 @@ pub enum Seen {
     Refused(Fault),
 }
 
-/// What the learner does with the item.
-pub fn seen(alloc: Global, learner: &mut Learner, item: Item) -> Result<Seen, NoMemory> {
+// What the learner does with the item, as it is seen.
+fn see(alloc: Global, learner: &mut Learner, item: Item) -> Result<Seen, NoMemory> {
     let acts = match learner.step(alloc, item) {
         Ok(acts) => acts,
         Err(ReadError::NoMemory) => return Err(NoMemory),
@@ -91,12 +115,27 @@ pub fn seen(alloc: Global, learner: &mut Learner, item: Item) -> Result<Seen, No
     })
 }
 
+/// Whether the learner does this with the item.
+pub fn does(
+    alloc: Global,
+    learner: &mut Learner,
+    item: Item,
+    wanted: Seen,
+) -> Result<bool, NoMemory> {
+    Ok(see(alloc, learner, item)? == wanted)
+}
+
+/// A version of the protocol, as a leader sends it.
+pub fn version(alloc: Global) -> Result<Option<Blob>, NoMemory> {
+    Ok(Some(Blob::new(alloc, b"\0\x01\0\0")?))
+}
+
 /// A learner that was greeted by a leader of the first epoch.
 pub fn greeted(alloc: Global) -> Result<Learner, ReadError> {
     let mut learner = Learner::new(alloc, Epochs::default());
-    learner.start(alloc, ServerId::default())?;
-    let version = Some(Blob::new(alloc, b"\0\x01\0\0")?);
-    learner.step(alloc, packet(PacketKind::LeaderInfo, at(0), version))?;
+    come(alloc, &mut learner, ServerId::default())?;
+    let info = packet(PacketKind::LeaderInfo, at(0), version(alloc)?);
+    follow(alloc, &mut learner, info)?;
     Ok(learner)
 }
 
