@@ -12,12 +12,14 @@ use Rattle.values.specs.declared.fault.Fault.{Fault}
 use Rattle.settings.specs.Settings.{is_server_id}
 use Rattle.jute.specs.Stream.{Place, Unread, items, add, place_at}
 use Rattle.jute.specs.declared.codes.TheConstants.{BAD_ARGUMENTS}
+use Rattle.quorum_packet.specs.declared.item.Item.{Item}
+use Rattle.quorum_packet.specs.declared.item.Item.TheVariants as item
 use Rattle.quorum_packet.specs.declared.packet.QuorumPacket.{QuorumPacket}
 use Rattle.quorum_packet.specs.declared.phase.Phase.{Phase}
 use Rattle.quorum_packet.specs.declared.kind.PacketKind.{PacketKind}
 use Rattle.quorum_packet.specs.declared.kind.PacketKind.TheVariants as kinds
 use Rattle.quorum_packet.specs.Kinds.{kind_of}
-use Rattle.quorum_packet.specs.Packets.{packets}
+use Rattle.quorum_packet.specs.Items.{shows}
 use Rattle.txn_codec.specs.Spelling.{txn, whole}
 use Rattle.txn_codec.specs.declared.txn.Txn.{Txn}
 use Rattle.data_tree.specs.Meaning.{mean}
@@ -48,7 +50,7 @@ use Rattle.observer_core.specs.declared.event.Event.TheVariants as event
 use Rattle.observer_core.specs.Machine.{Connection, Clients, World, Machine}
 use Rattle.observer_core.specs.Steps.{Happened, happening}
 use Rattle.observer_core.specs.Clients.{at_rest, is_open, with_connection, without, without_each}
-use Rattle.observer_core.specs.Leader.{carried_bytes, with_meant, tell, inform, receive_as, receive, Delivery, deliver_as, deliver, is_refused, deliver_all, end_at, leave_leader, take_leader_bytes}
+use Rattle.observer_core.specs.Leader.{carried_bytes, with_meant, tell, inform, receive_as, receive, receive_item, Delivery, deliver_as, deliver, is_refused, deliver_all, end_at, leave_leader, take_leader_bytes}
 use Rattle.observer_core.specs.Serve.{close_client, send, send_last, watching, watched_if, watched_each, renewed, with_sessions, shown, ended, end_session, close_left, greet, connected, may_connect, join, call, serve_as, serve_by, serve, is_closed, keep, wait_if_open, frames, take_client_bytes}
 use Rattle.observer_core.specs.Play.{serving, happen, no_clients, first_request, new_machine, primed_machine}
 use Rattle.observer_core.specs.Agreement.{ClientsAgree, OneSessionEach, ConnectionsAgree}
@@ -303,8 +305,12 @@ module _ (kept : AgreementIsKept) (told : OnlyWatchersAreTold) (dropped : Droppe
       by (Some kinds.Inform) = inform_agrees w (whole txn (carried_bytes p.bytes)) a
       by k = a
 
-  deliver_agrees : (d : Delivery) (p : QuorumPacket) → Agreeing d.world → Agreeing (deliver d p).after.world
-  deliver_agrees d p a = by (receive d.world p) (receive_agrees d.world p a)
+  item_agrees : (w : World) (i : Item) → Agreeing w → Taken (receive_item w i)
+  item_agrees w (item.Packet p) a = receive_agrees w p a
+  item_agrees w (item.Part part) a = a
+
+  deliver_agrees : (d : Delivery) (i : Item) → Agreeing d.world → Agreeing (deliver d i).after.world
+  deliver_agrees d i a = by (receive_item d.world i) (item_agrees d.world i a)
     where
       by : (r : Result (Happened World) Fault) → Taken r → Agreeing (deliver_as r d.world).after.world
       by (Ok h) now = now
@@ -319,7 +325,7 @@ module _ (kept : AgreementIsKept) (told : OnlyWatchersAreTold) (dropped : Droppe
       → Agreeing (take_leader_bytes leader w bytes).after.world
   leader_agrees None w bytes a = a
   leader_agrees (Some place) w bytes a =
-      let found = items packets (add place bytes) in
+      let found = shows (add place bytes) in
       let d = (deliver_all w found.found).after in
       leave_agrees d.world (end_at found.left d.fault)
       (happening_keeps (λ (d : Delivery). Agreeing d.world) is_refused deliver (λ d p _. deliver_agrees d p)

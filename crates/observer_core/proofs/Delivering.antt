@@ -1,4 +1,4 @@
--- What the loops over the leader's packets and over the connections do at each turn.
+-- What the loops over the leader's packets and parts and over the connections do at each turn.
 use Rattle.std.proofs.Common.{◌≡◌, ℕ, List, [], ◌∷◌, ◌++◌, false, Result, Ok, Err, Option, Some, None, refl, sym, ap, subst, ◌∙◌}
 use Rattle.std.specs.Prelude.{is_err}
 use Rattle.std.specs.FinMap as finmap
@@ -9,36 +9,36 @@ use Rattle.values.specs.declared.fault.NoMemory.{NoMemory}
 use Rattle.values.specs.declared.fault.ReadError.TheVariants as errors
 use Rattle.values.specs.Gains.{Gains}
 use Rattle.values.proofs.Gaining.{gains_nothing, gains_behind}
-use Rattle.jute.specs.Stream.{Place, Items, Unread, before, nothing, items, add}
-use Rattle.quorum_packet.specs.declared.packet.QuorumPacket.{QuorumPacket}
+use Rattle.jute.specs.Stream.{Place, Items, Unread, before, nothing, add}
+use Rattle.quorum_packet.specs.declared.item.Item.{Item}
 use Rattle.quorum_packet.specs.declared.phase.Phase.{Phase}
-use Rattle.quorum_packet.specs.Packets.{packets}
+use Rattle.quorum_packet.specs.Items.{shows}
 use Rattle.observer_core.specs.declared.event.Output.{Output}
 use Rattle.observer_core.specs.declared.event.Output.TheVariants.{CloseLeader, CloseClient}
 use Rattle.observer_core.specs.Machine.{Connection, Connections, Clients, World, Machine}
 use Rattle.observer_core.specs.Steps.{Happened, behind, quiet, and_then, happening}
 use Rattle.observer_core.specs.Clients.{without, closing, closing_all}
-use Rattle.observer_core.specs.Leader.{receive, Delivery, deliver_as, deliver, is_refused, stand_at, end_at, beside, disconnected, leave_leader, take_leader_bytes}
+use Rattle.observer_core.specs.Leader.{receive_item, Delivery, deliver_as, deliver, is_refused, stand_at, end_at, beside, disconnected, leave_leader, take_leader_bytes}
 use Rattle.observer_core.specs.Inner.{Meets, Receives, Arrival, arrive}
 use Rattle.observer_core.proofs.Steps.{SoFar, steps, ends, stops, stops_in_step, passed_over, behind_behind, then_meets}
 use Rattle.observer_core.proofs.NatMaps.{keys-empty}
 
-abbrev arrived : Items Phase QuorumPacket → Happened Delivery → Happened Arrival
+abbrev arrived : Items Phase Item → Happened Delivery → Happened Arrival
 arrived i h = record { outputs = h.outputs; after = record { world = h.after.world; leader = end_at i.left h.after.fault } }
 
-abbrev first_taken : World → Items Phase QuorumPacket → Result (Happened World) Fault → Happened Arrival
+abbrev first_taken : World → Items Phase Item → Result (Happened World) Fault → Happened Arrival
 first_taken w i r = arrived i (and_then (deliver_as r w) (λ d. happening is_refused deliver d i.found))
 
 -- nothing is put out on the way there
 abbrev pub quietly : World → Result (Place Phase) Fault → Happened Arrival
 quietly w leader = quiet (record { world = w; leader = leader })
 
-module _ (w : World) (found : Items Phase QuorumPacket) where
-  pub taken_first : (p : QuorumPacket) (others : Items Phase QuorumPacket) (h : Happened World) → found ≡ before p others → receive w p ≡ Ok h
+module _ (w : World) (found : Items Phase Item) where
+  pub taken_first : (p : Item) (others : Items Phase Item) (h : Happened World) → found ≡ before p others → receive_item w p ≡ Ok h
       → arrive w found ≡ behind h.outputs (arrive h.after others)
   taken_first p others h is taken = ap (arrive w) is ∙ ap (first_taken w others) taken
 
-  pub refused_first : (p : QuorumPacket) (others : Items Phase QuorumPacket) (e : Fault) → found ≡ before p others → receive w p ≡ Err e → arrive w found ≡ quietly w (Err e)
+  pub refused_first : (p : Item) (others : Items Phase Item) (e : Fault) → found ≡ before p others → receive_item w p ≡ Err e → arrive w found ≡ quietly w (Err e)
   refused_first p others e is refused =
       ap (arrive w) is ∙ ap (first_taken w others) refused
       ∙ ap (arrived others) (passed_over is_refused deliver (record { world = w; fault = Some e }) others.found refl)
@@ -53,28 +53,28 @@ module _ (w : World) (found : Items Phase QuorumPacket) where
   pub fault_found : (place : Place Phase) (e : Fault) → found ≡ nothing place → place.unread ≡ Err e → arrive w found ≡ quietly w (Err e)
   fault_found place e is fault = ap (arrive w) is ∙ ap (λ (u : Unread). quietly w (stand_at place u)) fault
 
--- ---- one packet more
+-- ---- one packet or part more
 
-module _ (old now new : List Output) (whole : Happened Arrival) (w after : World) (found others : Items Phase QuorumPacket) (p : QuorumPacket)
+module _ (old now new : List Output) (whole : Happened Arrival) (w after : World) (found others : Items Phase Item) (p : Item)
     (is : found ≡ before p others) (s : SoFar old whole now (arrive w found)) where
   -- it was taken
-  pub packet_taken : Receives (Ok tt) now (receive w p) w new after → SoFar old whole new (arrive after others)
-  packet_taken received = by (receive w p) refl received
+  pub packet_taken : Receives (Ok tt) now (receive_item w p) w new after → SoFar old whole new (arrive after others)
+  packet_taken received = by (receive_item w p) refl received
     where
-      by : (m : Result (Happened World) Fault) → receive w p ≡ m → Receives (Ok tt) now m w new after → SoFar old whole new (arrive after others)
+      by : (m : Result (Happened World) Fault) → receive_item w p ≡ m → Receives (Ok tt) now m w new after → SoFar old whole new (arrive after others)
       by (Ok h) taken made = steps old whole now new (arrive w found) h (λ (v : World). arrive v others) after (taken_first w found p others h is taken) made s
       by (Err e) refused none = absurd none
 
   -- memory was refused in it
-  pub packet_stops : Receives (Err errors.NoMemory) now (receive w p) w new after → Gains old whole.outputs new
-  packet_stops received = by (receive w p) refl received
+  pub packet_stops : Receives (Err errors.NoMemory) now (receive_item w p) w new after → Gains old whole.outputs new
+  packet_stops received = by (receive_item w p) refl received
     where
-      by : (m : Result (Happened World) Fault) → receive w p ≡ m → Receives (Err errors.NoMemory) now m w new after → Gains old whole.outputs new
+      by : (m : Result (Happened World) Fault) → receive_item w p ≡ m → Receives (Err errors.NoMemory) now m w new after → Gains old whole.outputs new
       by (Ok h) taken g = stops_in_step old whole now new (arrive w found) h (λ (v : World). arrive v others) (taken_first w found p others h is taken) g s
       by (Err e) refused same = stops old whole now new (arrive w found) (rw same (gains_nothing now (arrive w found).outputs)) s
 
   -- it was refused
-  pub packet_refused : (e : Fault) → Receives (Err (errors.Fault e)) now (receive w p) w new after
+  pub packet_refused : (e : Fault) → Receives (Err (errors.Fault e)) now (receive_item w p) w new after
       → behind old whole ≡ record { outputs = new; after = record { world = after; leader = Err e } }
   packet_refused e received =
       ends old whole now (arrive w found) (record { world = w; leader = Err e }) (refused_first w found p others e is received.0) s
@@ -101,7 +101,7 @@ disconnects (Err e) old new w clients m = m
 
 module _ (old : List Output) (leader : Option (Place Phase)) (place : Place Phase) (w : World) (bytes : List ℕ) (leads : leader ≡ Some place) where
   abbrev came : Happened Arrival
-  came = arrive w (items packets (add place bytes))
+  came = arrive w (shows (add place bytes))
 
   abbrev leaving : Arrival → Happened Machine
   leaving a = leave_leader a.world a.leader

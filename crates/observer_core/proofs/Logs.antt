@@ -7,12 +7,14 @@ use lib.Signed.{lt_z_yes}
 use Rattle.values.specs.declared.fault.Fault.{Fault}
 use Rattle.values.specs.declared.fault.Fault.TheVariants.{OutOfOrder}
 use Rattle.jute.specs.Stream.{Place, Unread, items, add, place_at}
+use Rattle.quorum_packet.specs.declared.item.Item.{Item}
+use Rattle.quorum_packet.specs.declared.item.Item.TheVariants as item
 use Rattle.quorum_packet.specs.declared.packet.QuorumPacket.{QuorumPacket}
 use Rattle.quorum_packet.specs.declared.phase.Phase.{Phase}
 use Rattle.quorum_packet.specs.declared.kind.PacketKind.{PacketKind}
 use Rattle.quorum_packet.specs.declared.kind.PacketKind.TheVariants as kinds
 use Rattle.quorum_packet.specs.Kinds.{kind_of}
-use Rattle.quorum_packet.specs.Packets.{packets}
+use Rattle.quorum_packet.specs.Items.{shows}
 use Rattle.txn_codec.specs.Spelling.{txn, whole}
 use Rattle.txn_codec.specs.declared.txn.Txn.{Txn}
 use Rattle.client_records.specs.declared.codes.TheConstants.{OK, UNIMPLEMENTED, AUTH_FAILED, NOT_READ_ONLY, PING_XID}
@@ -35,7 +37,7 @@ use Rattle.client_frames.specs.Call.{call_in}
 use Rattle.client_frames.specs.Connect.{connecting_in, session_request, answer_to_connect}
 use Rattle.observer_core.specs.Steps.{Happened, happening}
 use Rattle.observer_core.specs.Clients.{at_rest, is_open, with_connection, without}
-use Rattle.observer_core.specs.Leader.{carried_bytes, with_meant, tell, apply, inform, receive_as, receive, Delivery, deliver_as, deliver, is_refused, deliver_all, end_at, leave_leader, take_leader_bytes}
+use Rattle.observer_core.specs.Leader.{carried_bytes, with_meant, tell, apply, inform, receive_as, receive, receive_item, Delivery, deliver_as, deliver, is_refused, deliver_all, end_at, leave_leader, take_leader_bytes}
 use Rattle.observer_core.specs.Serve.{close_client, send, send_last, answer_last, watching, watched_if, watched_each, renewed, with_sessions, shown, ended, end_session, close_left, greet, connected, may_connect, join, call, serve_as, serve_by, serve, is_closed, keep, wait_if_open, wait_at, frames, take_client_bytes, open_client, end_client, expire_session}
 use Rattle.observer_core.specs.Play.{serving, happen}
 use Rattle.observer_core.specs.Logs.{zxid_after, Rises, FollowsItsLog, LogsAreFollowed}
@@ -99,8 +101,12 @@ receive-follows w p f = by (kind_of p.kind)
     by (Some kinds.Inform) = inform-follows w (whole txn (carried_bytes p.bytes)) f
     by k = f
 
-deliver-follows : (d : Delivery) (p : QuorumPacket) → FollowsItsLog d.world → FollowsItsLog (deliver d p).after.world
-deliver-follows d p f = by (receive d.world p) (receive-follows d.world p f)
+item-follows : (w : World) (i : Item) → FollowsItsLog w → Follows (receive_item w i)
+item-follows w (item.Packet p) f = receive-follows w p f
+item-follows w (item.Part part) f = f
+
+deliver-follows : (d : Delivery) (i : Item) → FollowsItsLog d.world → FollowsItsLog (deliver d i).after.world
+deliver-follows d i f = by (receive_item d.world i) (item-follows d.world i f)
   where
     by : (r : Result (Happened World) Fault) → Follows r → FollowsItsLog (deliver_as r d.world).after.world
     by (Ok h) now = now
@@ -113,7 +119,7 @@ leave-follows w (Err e) f = record { tree = f.tree; last = f.last; rising = f.ri
 leader-follows : (leader : Option (Place Phase)) (w : World) (bytes : List ℕ) → FollowsItsLog w → FollowsItsLog (take_leader_bytes leader w bytes).after.world
 leader-follows None w bytes f = f
 leader-follows (Some place) w bytes f =
-    let found = items packets (add place bytes) in
+    let found = shows (add place bytes) in
     let h = deliver_all w found.found in
     leave-follows h.after.world (end_at found.left h.after.fault)
     (happening_keeps (λ (d : Delivery). FollowsItsLog d.world) is_refused deliver (λ d p _. deliver-follows d p) (record { world = w; fault = None }) found.found f)

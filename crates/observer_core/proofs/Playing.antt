@@ -7,10 +7,10 @@ use Rattle.std.specs.FinMap as finmap
 use Rattle.values.specs.declared.fault.Fault.{Fault}
 use Rattle.jute.specs.Stream.{Unread, Place, Items, items, add, place_at}
 use Rattle.jute.proofs.Public.{comes_in_pieces}
-use Rattle.quorum_packet.specs.declared.packet.QuorumPacket.{QuorumPacket}
+use Rattle.quorum_packet.specs.declared.item.Item.{Item}
 use Rattle.quorum_packet.specs.declared.phase.Phase.{Phase}
-use Rattle.quorum_packet.specs.Packets.{packets}
-use Rattle.quorum_packet.proofs.PacketFormat.{packets_streamed}
+use Rattle.quorum_packet.specs.Items.{shows}
+use Rattle.quorum_packet.proofs.Streams.{shows_pieces}
 use Rattle.observer_core.specs.declared.event.Event.{Event}
 use Rattle.observer_core.specs.declared.event.Event.TheVariants.{LeaderBytes, ClientBytes}
 use Rattle.observer_core.specs.declared.event.Output.{Output}
@@ -51,23 +51,23 @@ lost_then w e more = ap (λ (o : List Output). record { outputs = o; after = (le
 
 finished_on : (fault : Option Fault) (w : World) (phase : Phase) (unread : Unread) (more : List ℕ) →
     let left : Place Phase = record { phase = phase; unread = unread } in
-    let j = items packets (add left more) in
+    let j = shows (add left more) in
     finish (happening is_refused deliver (record { world = w; fault = fault }) j.found) j.left ≡ then_leader (leave_leader w (end_at left fault)) more
 finished_on None w phase (Ok bytes) more = refl
 finished_on None w phase (Err e) more = lost_then w e more
 finished_on (Some e) w phase unread more =
     let left : Place Phase = record { phase = phase; unread = unread } in
-    let j = items packets (add left more) in
+    let j = shows (add left more) in
     ap (λ (h : Happened Delivery). finish h j.left) (passed_over is_refused deliver (record { world = w; fault = Some e }) j.found refl) ∙ lost_then w e more
 
 leader_cut : (leader : Option (Place Phase)) (w : World) (a b : List ℕ) → take_leader_bytes leader w (a ++ b) ≡ then_leader (take_leader_bytes leader w a) b
 leader_cut None w a b = refl
 leader_cut (Some place) w a b =
-    let i = items packets (add place a) in
-    let j = items packets (add i.left b) in
+    let i = shows (add place a) in
+    let j = shows (add i.left b) in
     let h = deliver_all w i.found in
-    ap (λ (p : Place Phase). finish (deliver_all w (items packets p).found) (items packets p).left) (add_add place.phase place.unread a b)
-    ∙ ap (λ (k : Items Phase QuorumPacket). finish (deliver_all w k.found) k.left) (comes_in_pieces packets packets_streamed (add place a) b)
+    ap (λ (p : Place Phase). finish (deliver_all w (shows p).found) (shows p).left) (add_add place.phase place.unread a b)
+    ∙ ap (λ (k : Items Phase Item). finish (deliver_all w k.found) k.left) (shows_pieces (add place a) b)
     ∙ ap (λ (g : Happened Delivery). finish g j.left) (happening_on is_refused deliver (record { world = w; fault = None }) i.found j.found)
     ∙ sym (behind_behind h.outputs (happening is_refused deliver h.after j.found).outputs
     (leave_leader (happening is_refused deliver h.after j.found).after.world (end_at j.left (happening is_refused deliver h.after j.found).after.fault)))

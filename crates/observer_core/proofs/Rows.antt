@@ -26,12 +26,14 @@ use Rattle.client_records.specs.Responses.{get_data_response, watcher_event}
 use Rattle.client_records.specs.declared.codes.TheConstants.{NOTIFICATION_XID}
 use Rattle.jute.specs.declared.codes.TheConstants.{NO_NODE}
 use Rattle.jute.specs.Stream.{items_within, items, Items, place_at}
+use Rattle.quorum_packet.specs.declared.item.Item.{Item}
+use Rattle.quorum_packet.specs.declared.item.Item.TheVariants as item
 use Rattle.quorum_packet.specs.declared.packet.QuorumPacket.{QuorumPacket}
 use Rattle.quorum_packet.specs.declared.phase.Phase.{Phase}
 use Rattle.quorum_packet.specs.declared.phase.Phase.TheVariants.{Packets}
 use Rattle.quorum_packet.specs.Kinds.{kind_of}
 use Rattle.quorum_packet.specs.Packet.{packet}
-use Rattle.quorum_packet.specs.Packets.{packets}
+use Rattle.quorum_packet.specs.Items.{shows}
 use Rattle.txn_codec.specs.declared.txn.TxnHeader.{TxnHeader}
 use Rattle.txn_codec.specs.declared.txn.Create.{Create}
 use Rattle.txn_codec.specs.declared.txn.SetData.{SetData}
@@ -173,14 +175,14 @@ abbrev packet_of : ℤ → List ℕ → QuorumPacket
 packet_of zxid bytes = record { kind = pos 8; zxid = zxid; bytes = Some bytes; authinfo = None }
 
 -- one packet, and nothing behind it
-abbrev one_packet : QuorumPacket → Items Phase QuorumPacket
-one_packet p = record { found = p ∷ []; left = place_at Packets [] }
+abbrev one_packet : QuorumPacket → Items Phase Item
+one_packet p = record { found = item.Packet p ∷ []; left = place_at Packets [] }
 
-create_found : items packets (place_at Packets inform_of_create) ≡ one_packet (packet_of (pos 4294967297) (txn.written create_txn))
+create_found : shows (place_at Packets inform_of_create) ≡ one_packet (packet_of (pos 4294967297) (txn.written create_txn))
 unfolding items_within packet kind_of judged_at buffer_at vector_at times number_bytes acl id
 create_found = refl
 
-set_found : items packets (place_at Packets inform_of_set_data) ≡ one_packet (packet_of (pos 4294967298) (txn.written set_txn))
+set_found : shows (place_at Packets inform_of_set_data) ≡ one_packet (packet_of (pos 4294967298) (txn.written set_txn))
 unfolding items_within packet kind_of judged_at buffer_at vector_at times number_bytes
 set_found = refl
 
@@ -325,10 +327,10 @@ one_delivered w r =
 
 -- one INFORM comes
 inform_comes : (again : ReadAgain) (w : World) (bytes : List ℕ) (zxid : ℤ) (t : Txn) → txn.Fits t
-    → items packets (place_at Packets bytes) ≡ one_packet (packet_of zxid (txn.written t))
+    → shows (place_at Packets bytes) ≡ one_packet (packet_of zxid (txn.written t))
     → take_leader_bytes (Some (place_at Packets [])) w bytes ≡ one_delivered w (apply w t)
 inform_comes again w bytes zxid t fits found =
-    ap (λ (i : Items Phase QuorumPacket). let h = happening is_refused deliver (record { world = w; fault = None }) i.found in behind h.outputs (leave_leader h.after.world (end_at i.left h.after.fault))) found
+    ap (λ (i : Items Phase Item). let h = happening is_refused deliver (record { world = w; fault = None }) i.found in behind h.outputs (leave_leader h.after.world (end_at i.left h.after.fault))) found
     ∙ ap (one_delivered w) (informed_of again w zxid t fits)
 
 abbrev after_create : Config → List ℕ → Machine

@@ -9,7 +9,7 @@ use Rattle.values.specs.declared.fault.ReadError.{ReadError}
 use Rattle.values.specs.declared.fault.ReadError.TheVariants as errors
 use Rattle.jute.specs.Stream.{Place, Items, place_at, items, before, nothing}
 use Rattle.quorum_packet.specs.declared.phase.Phase.{Phase}
-use Rattle.quorum_packet.specs.declared.packet.QuorumPacket.{QuorumPacket}
+use Rattle.quorum_packet.specs.declared.item.Item.{Item}
 use Rattle.observer_core.specs.declared.event.Output.{Output}
 use Rattle.observer_core.specs.Machine.{Connection, Connections, World}
 use Rattle.observer_core.specs.Steps.{Happened, behind}
@@ -21,7 +21,7 @@ abbrev pub Meets : {S : Type 0} → Result (Unit {0}) NoMemory → List Output �
 Meets (Ok u) old whole new after = behind old whole ≡ record { outputs = new; after = after }
 Meets (Err e) old whole new after = Gains old whole.outputs new
 
--- A packet was taken; or it was refused, and nothing was changed; or memory was.
+-- A packet or part was taken; or it was refused, and nothing was changed; or memory was.
 abbrev pub Receives : Result (Unit {0}) ReadError → List Output → Result (Happened World) Fault → World → List Output → World → Type 0
 Receives (Ok u) old (Ok h) before new after = Meets (Ok u) old h new after
 Receives (Ok u) old (Err e) before new after = ⊥
@@ -29,17 +29,17 @@ Receives (Err errors.NoMemory) old (Ok h) before new after = Gains old h.outputs
 Receives (Err errors.NoMemory) old (Err e) before new after = new ≡ old
 Receives (Err (errors.Fault e)) old meant before new after = (meant ≡ Err e) × ((new ≡ old) × (after ≡ before))
 
--- what the packets that were found put out, the world behind them, and where the stream stands then
+-- what the packets and parts that were found put out, the world behind them, and where the stream stands then
 pub record Arrival : Type 0 where
   pub world : World
   pub leader : Result (Place Phase) Fault
 
-abbrev pub arrive : World → Items Phase QuorumPacket → Happened Arrival
+abbrev pub arrive : World → Items Phase Item → Happened Arrival
 arrive w found =
     let h = deliver_all w found.found in
     record { outputs = h.outputs; after = record { world = h.after.world; leader = end_at found.left h.after.fault } }
 
--- The packets were delivered, and the stream goes on, or ended with a fault.
+-- Packets and parts were delivered, and the stream goes on, or ended with a fault.
 abbrev pub Delivers : Result (Option Fault) NoMemory → List Output → Happened Arrival → List Output → Place Phase → World → Type 0
 Delivers (Ok None) old whole new leader world = Meets (Ok tt) old whole new (record { world = world; leader = Ok leader })
 Delivers (Ok (Some e)) old whole new leader world = Meets (Ok tt) old whole new (record { world = world; leader = Err e })

@@ -1,14 +1,16 @@
--- What the packets of a leader do.
+-- What stands in a leader's stream, and what it does.
 use Rattle.std.specs.Prelude.{ℕ, List, [], ◌∷◌, ◌++◌, Option, Some, None, is_some, Result, Ok, Err, Bool, int_lt, if◌then◌else◌}
 use Rattle.values.specs.declared.fault.Fault.{Fault}
 use Rattle.values.specs.declared.fault.Fault.TheVariants.{OutOfOrder}
-use Rattle.jute.specs.Stream.{Place, Unread, add, items}
+use Rattle.jute.specs.Stream.{Place, Unread, add}
+use Rattle.quorum_packet.specs.declared.item.Item.{Item}
+use Rattle.quorum_packet.specs.declared.item.Item.TheVariants as item
 use Rattle.quorum_packet.specs.declared.packet.QuorumPacket.{QuorumPacket}
 use Rattle.quorum_packet.specs.declared.phase.Phase.{Phase}
 use Rattle.quorum_packet.specs.declared.kind.PacketKind.{PacketKind}
 use Rattle.quorum_packet.specs.declared.kind.PacketKind.TheVariants as kinds
 use Rattle.quorum_packet.specs.Kinds.{kind_of}
-use Rattle.quorum_packet.specs.Packets.{packets}
+use Rattle.quorum_packet.specs.Items.{shows}
 use Rattle.txn_codec.specs.Spelling.{txn, whole}
 use Rattle.txn_codec.specs.declared.txn.Txn.{Txn}
 use Rattle.data_tree.specs.Meaning.{Meant, mean}
@@ -78,6 +80,12 @@ receive_as (Some kinds.AckEpoch) w bytes = Ok (quiet w)
 abbrev pub receive : World → QuorumPacket → Result (Happened World) Fault
 receive w p = receive_as (kind_of p.kind) w p.bytes
 
+-- A part of an image is passed over, since a SNAP packet is: it is read, and refused for what stands in its own fields.
+-- Whether it goes with the parts before it, as an id that stands twice or a node without its parent, isn't looked at yet.
+abbrev pub receive_item : World → Item → Result (Happened World) Fault
+receive_item w (item.Packet p) = receive w p
+receive_item w (item.Part part) = Ok (quiet w)
+
 -- the world, and the fault of the packet that was refused
 pub record Delivery : Type 0 where
   pub world : World
@@ -88,16 +96,16 @@ abbrev pub deliver_as : Result (Happened World) Fault → World → Happened Del
 deliver_as (Ok h) w = record { outputs = h.outputs; after = record { world = h.after; fault = None } }
 deliver_as (Err e) w = quiet (record { world = w; fault = Some e })
 
-abbrev pub deliver : Delivery → QuorumPacket → Happened Delivery
-deliver d p = deliver_as (receive d.world p) d.world
+abbrev pub deliver : Delivery → Item → Happened Delivery
+deliver d i = deliver_as (receive_item d.world i) d.world
 
 abbrev pub is_refused : Delivery → Bool
 is_refused d = is_some d.fault
 
-abbrev pub deliver_all : World → List QuorumPacket → Happened Delivery
-deliver_all w ps = happening is_refused deliver (record { world = w; fault = None }) ps
+abbrev pub deliver_all : World → List Item → Happened Delivery
+deliver_all w is = happening is_refused deliver (record { world = w; fault = None }) is
 
--- the place behind the packets, unless the stream has a fault there
+-- the place behind packets and parts, unless the stream has a fault there
 abbrev pub stand_at : Place Phase → Unread → Result (Place Phase) Fault
 stand_at place (Ok bytes) = Ok place
 stand_at place (Err e) = Err e
@@ -125,5 +133,5 @@ leave_leader w (Err e) = behind (CloseLeader e ∷ []) (beside None (disconnecte
 abbrev pub take_leader_bytes : Option (Place Phase) → World → List ℕ → Happened Machine
 take_leader_bytes None w bytes = quiet (record { leader = None; world = w })
 take_leader_bytes (Some place) w bytes =
-    let found = items packets (add place bytes) in
+    let found = shows (add place bytes) in
     and_then (deliver_all w found.found) (λ d. leave_leader d.world (end_at found.left d.fault))

@@ -2,7 +2,7 @@
 use Rattle.std.specs.Prelude.{◌≡◌, ℤ, List, [], ◌∷◌, ◌<ℤ◌, Option, Some, Err}
 use Rattle.jute.specs.Stream.{Place}
 use Rattle.values.specs.declared.fault.Fault.{Fault}
-use Rattle.quorum_packet.specs.declared.packet.QuorumPacket.{QuorumPacket}
+use Rattle.quorum_packet.specs.declared.item.Item.{Item}
 use Rattle.quorum_packet.specs.declared.phase.Phase.{Phase}
 use Rattle.txn_codec.specs.declared.txn.Txn.{Txn}
 use Rattle.data_tree.specs.State.{State}
@@ -11,7 +11,7 @@ use Rattle.observer_core.specs.declared.config.Config.{Config}
 use Rattle.observer_core.specs.declared.event.Event.{Event}
 use Rattle.observer_core.specs.Machine.{Clients, World, Machine}
 use Rattle.observer_core.specs.Steps.{quiet}
-use Rattle.observer_core.specs.Leader.{receive, Delivery, deliver}
+use Rattle.observer_core.specs.Leader.{receive_item, Delivery, deliver}
 use Rattle.observer_core.specs.Play.{play, started_machine}
 
 -- the zxid of the last transaction; that of the base where there is none
@@ -37,7 +37,7 @@ pub record LogsAreFollowed : Type 0 where
       → FollowsItsLog (started_machine config accepted current tree leader clients).world
   pub plays : (m : Machine) (events : List Event) → FollowsItsLog m.world → FollowsItsLog (play m events).after.world
 
--- a packet that is refused puts nothing out, changes nothing of the world, and ends the stream with its fault
+-- a packet or part that is refused puts nothing out, changes nothing of the world, and ends the stream with its fault
 abbrev pub RefusalsChangeNothing : Type 0
-RefusalsChangeNothing = (d : Delivery) (p : QuorumPacket) (e : Fault)
-    → receive d.world p ≡ Err e → deliver d p ≡ quiet (record { world = d.world; fault = Some e })
+RefusalsChangeNothing = (d : Delivery) (i : Item) (e : Fault)
+    → receive_item d.world i ≡ Err e → deliver d i ≡ quiet (record { world = d.world; fault = Some e })

@@ -33,7 +33,7 @@ pub fn logs_are_followed()
     ensures { LogsAreFollowed }
 {}
 
-/// A packet that is refused leaves the world as the packets before it left it.
+/// A packet or part that is refused leaves the world as what stands before it left it.
 pub fn refusals_change_nothing()
     ensures { RefusalsChangeNothing }
 {}

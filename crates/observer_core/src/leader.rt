@@ -1,11 +1,10 @@
 //! What the leader's bytes do.
 
 ghost use Rattle.std.specs.Prelude.{◌≡◌};
-ghost use Rattle.jute.specs.Stream.{items};
-ghost use Rattle.quorum_packet.specs.Packets.{packets};
+ghost use Rattle.quorum_packet.specs.Items.{shows};
 ghost use Rattle.txn_codec.specs.Spelling.{txn, whole};
 ghost use Rattle.observer_core.specs.Clients.{closing_all};
-ghost use Rattle.observer_core.specs.Leader.{carried_bytes, tell, apply, inform, receive, disconnected, take_leader_bytes};
+ghost use Rattle.observer_core.specs.Leader.{carried_bytes, tell, apply, inform, receive, receive_item, disconnected, take_leader_bytes};
 ghost use Rattle.observer_core.specs.Inner.{Meets, Receives, Delivers, arrive};
 
 use crate::clients::Clients;
@@ -13,7 +12,7 @@ use crate::event::Output;
 use crate::machine::{Machine, World};
 use crate::notice::notify_each;
 use data_tree::Trigger;
-use quorum_packet::{PacketFeed, PacketKind, QuorumPacket};
+use quorum_packet::{Item, PacketFeed, PacketKind, QuorumPacket};
 use std::alloc::Global;
 use txn_codec::{Txn, decode_txn};
 use values::{Fault, NoMemory, ReadError};
@@ -113,7 +112,24 @@ fn receive(
     }
 }
 
-// Takes the packets that are whole. Answers the fault that ends the stream, if one does.
+// Takes a packet or a part. Parts are passed over yet.
+fn receive_item(
+    alloc: Global,
+    world: &mut World,
+    item: &Item,
+    outputs: &mut Vec<Output>,
+) -> Result<(), ReadError>
+    ensures { Receives result outputs.old.items
+        (receive_item world.old item.now)
+        world.old outputs.new.items world.new }
+{
+    match item {
+        Item::Packet(packet) => receive(alloc, world, packet, outputs),
+        Item::Part(_) => Ok(()),
+    }
+}
+
+// Takes the packets and parts that are whole. Answers the fault that ends the stream, if one does.
 fn drain(
     alloc: Global,
     feed: &mut PacketFeed,
@@ -121,13 +137,13 @@ fn drain(
     outputs: &mut Vec<Output>,
 ) -> Result<Option<Fault>, NoMemory>
     ensures { Delivers result outputs.old.items
-        (arrive world.old (items packets feed.old))
+        (arrive world.old (shows feed.old))
         outputs.new.items feed.new world.new }
 {
     loop {
         match feed.next(alloc) {
             Ok(None) => return Ok(None),
-            Ok(Some(packet)) => match receive(alloc, world, &packet, outputs) {
+            Ok(Some(item)) => match receive_item(alloc, world, &item, outputs) {
                 Ok(()) => {}
                 Err(ReadError::NoMemory) => return Err(NoMemory),
                 Err(ReadError::Fault(fault)) => return Ok(Some(fault)),
@@ -177,6 +193,7 @@ pub fn take_leader_bytes(
             Ok(())
         }
         Some(fault) => {
+            drop(feed);
             outputs.push(Output::CloseLeader(fault))?;
             disconnect(&mut machine.world, outputs)
         }
