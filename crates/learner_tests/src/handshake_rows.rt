@@ -120,6 +120,7 @@ fn diff(rt: HostRuntime) -> Result<(), Fail> {
 }
 
 #[test]
+#[tactic(auto, unfolding(learner_sync::specs::Records::learner_info))]
 fn info(rt: HostRuntime) -> Result<(), Fail> {
     let info = LearnerInfo {
         server_id: 3,
