@@ -59,7 +59,10 @@ fn take_all(
     feed: &mut PacketFeed,
     taken: &mut Vec<(i32, i64)>,
 ) -> Result<(), ReadError> {
-    while let Some(item) = feed.next(alloc)? {
+    for _ in 0..u64::MAX {
+        let Some(item) = feed.next(alloc)? else {
+            return Ok(());
+        };
         taken.push(outline(&item))?;
     }
     Ok(())

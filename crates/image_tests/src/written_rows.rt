@@ -12,7 +12,7 @@ use snapshot_codec::{WriteError, read_image, write_image};
 use std::alloc::Global;
 use std::test::Fail;
 use txn_codec::{AclList, Path};
-use values::Blob;
+use values::{Blob, NoMemory};
 
 // What is written of a tree.
 fn image_of(alloc: Global, tree: &Tree) -> Result<Vec<u8>, Fail> {
@@ -36,14 +36,23 @@ fn worked_images(rt: HostRuntime) -> Result<(), Fail> {
     Ok(())
 }
 
+/// The session of the least id, with timeout 1.
+const LEAST: &[u8] = b"\x80\0\0\0\0\0\0\0\0\0\0\x01";
+
+// An image of two sessions and a root.
+fn with_sessions(alloc: Global, first: &[u8], second: &[u8]) -> Result<Vec<u8>, NoMemory> {
+    joined(
+        alloc,
+        &[TWO, first, second, NONE, ROOT, BARE, CLOSE, SIGNATURE],
+    )
+}
+
 // Sessions stand in ascending id, and the least is below 0.
 #[test]
 fn sessions_in_order(rt: HostRuntime) -> Result<(), Fail> {
     let alloc = rt.alloc();
-    let least: &[u8] = b"\x80\0\0\0\0\0\0\0\0\0\0\x01";
-    let end = joined(alloc, &[NONE, ROOT, BARE, CLOSE, SIGNATURE])?;
-    let read = joined(alloc, &[TWO, SESSION, least, &end])?;
-    let written = joined(alloc, &[TWO, least, SESSION, &end])?;
+    let read = with_sessions(alloc, SESSION, LEAST)?;
+    let written = with_sessions(alloc, LEAST, SESSION)?;
     assert!(rt; written_again(alloc, &read)? == written);
     Ok(())
 }
