@@ -57,6 +57,9 @@ class Txns:
     def cut(self):
         return Load(["cut"] + self.words, 0, self.batches, self.groups)
 
+    def move(self):
+        return Load(["move"] + self.words, 0, self.batches, self.groups)
+
     def plain(self):
         return Load(["apply"] + self.words, self.done, 0, 0)
 
@@ -90,11 +93,13 @@ def boards():
 def measured(program, rounds):
     """Runs every load in turns. Returns for each kind its transactions with their loads: cut, plain, and by workers."""
     both = {**small(), **{name: txns for (name, _), txns in sized().items()}}
-    loads = {name: (txns, txns.cut(), txns.plain(), {it: txns.batch(it) for it in WORKERS}) for name, txns in both.items()}
+    loads = {}
+    for name, txns in both.items():
+        loads[name] = (txns, txns.cut(), txns.move(), txns.plain(), {it: txns.batch(it) for it in WORKERS})
     seats = boards()
     for _ in range(rounds):
-        for _, cut, plain, by in loads.values():
-            for load in [cut, plain] + list(by.values()):
+        for _, cut, move, plain, by in loads.values():
+            for load in [cut, move, plain] + list(by.values()):
                 load.once(program)
         for load in seats.values():
             load.once(program)
@@ -102,13 +107,15 @@ def measured(program, rounds):
 
 
 def table(loads):
-    """Prints nanoseconds a transaction: cut alone, plain, and what workers took without cutting."""
+    """Prints nanoseconds a transaction: cut alone, moved alone, plain, and what workers took without cutting."""
     head = "".join(f"{f'{it} workers':>12}" for it in WORKERS)
-    print(f"{'nanoseconds a transaction':<34}{'cut':>10}{'plain':>10}{head}{'4 against 1':>13}{'against plain':>15}")
-    for name, (txns, cut, plain, by) in loads.items():
+    alone = "".join(f"{it:>10}" for it in ("cut", "moved", "plain"))
+    print(f"{'nanoseconds a transaction':<34}{alone}{head}{'4 against 1':>13}{'against plain':>15}")
+    for name, (txns, cut, move, plain, by) in loads.items():
         times = "".join(f"{by[it].worked / txns.done:>12,.0f}" for it in WORKERS)
         gain, over = by[1].worked / by[4].worked, plain.worked / min(by[it].whole for it in WORKERS)
-        print(f"{name:<34}{cut.cut / txns.done:>10,.0f}{plain.worked / txns.done:>10,.0f}{times}{gain:>13.2f}{over:>15.2f}")
+        alone = "".join(f"{it / txns.done:>10,.0f}" for it in (cut.cut, move.cut, plain.worked))
+        print(f"{name:<34}{alone}{times}{gain:>13.2f}{over:>15.2f}")
     print("against plain: how many times as fast the best number of workers is as one after the other, cutting included")
 
 
@@ -116,12 +123,13 @@ def figures(loads, seats):
     """Returns what each figure is about, the figure, its bound, and whether that is the most it may be."""
     found = []
     for name in ("creates", "sets", "leaves"):
-        txns, cut, plain, by = loads[name]
-        found.append((f"{name} cut a second", txns.done / cut.cut * 1e9, PER_SECOND, False))
+        txns, cut, move, plain, by = loads[name]
+        found.append((f"{name} moved into batches a second", txns.done / move.cut * 1e9, PER_SECOND, False))
+        found.append((f"{name} cut as copies a second", txns.done / cut.cut * 1e9, None, False))
         if name != "leaves":
             found.append((f"{name}: one worker against plain, without cutting", by[1].worked / plain.worked, PLAIN, True))
         found.append((f"{name}: one worker against plain, cutting included", by[1].whole / plain.worked, None, True))
-    _, _, _, by = loads[f"multis of {LEAVES} sets of {LONG:,} bytes"]
+    _, _, _, _, by = loads[f"multis of {LEAVES} sets of {LONG:,} bytes"]
     found.append(("multis: times as fast with 4 workers as with one", by[1].worked / by[4].worked, SPEEDUP, False))
     found.append(("the same, cutting included", by[1].whole / by[4].whole, None, False))
     for it, load in seats.items():

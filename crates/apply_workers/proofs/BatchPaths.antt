@@ -1,7 +1,6 @@
 -- Transactions that came into groups, and their paths.
-use Rattle.std.proofs.Common.{◌≡◌, ℕ, ◌<◌, ◌≤◌, nat_eq, List, [], ◌∷◌, ◌++◌, Bool, true, false, cond, ◌||◌, Option, Some, None, refl, sym, ap, ◌∙◌, subst, arith}
+use Rattle.std.proofs.Common.{◌≡◌, ℕ, ◌<◌, ◌≤◌, nat_eq, List, [], ◌∷◌, ◌++◌, Bool, true, false, cond, ◌||◌, refl, sym, ap, ◌∙◌, subst, arith}
 use Rattle.std.specs.List.{flat_map, AllByRecursion}
-use Rattle.std.specs.Option.{option_and_then}
 use Rattle.std.specs.Ordering.{eq_by_cmp}
 use Rattle.std.proofs.lemmas.Bool.{eqb-true}
 use Rattle.std.proofs.lemmas.List.Folds.{list_any-append}
@@ -14,11 +13,8 @@ use Rattle.txn_codec.specs.declared.txn.Body.TheVariants as body
 use Rattle.data_tree.specs.Footprint.{touches, footprint, KeepsToCells}
 use Rattle.data_tree.specs.Commuting.{Tagged, of_group, batch_of, KeepsTo, at_group}
 use Rattle.footprint.specs.Footprints.{is_barrier}
-use Rattle.batcher.specs.Groups.{group_for, grouped_behind, paths_in}
+use Rattle.batcher.specs.Groups.{paths_in}
 use Rattle.batcher.specs.Laws.{AreAmong}
-
-none : {A : Type 0} (x : A) → Some x ≡ None → ⊥
-none x e = cc
 
 -- ---- none of them is a barrier
 
@@ -33,25 +29,9 @@ free t = by t.header t.body
     by h (body.CreateSession timeout) e = tt
     by h body.CloseSession e = absurd (true≢false e)
 
-pub all_free : (before : List Tagged) (txns : List Txn) (batch : List Tagged) → grouped_behind before txns ≡ Some batch
-    → AllByRecursion KeepsToCells txns
-all_free before [] batch is = tt
-all_free before (t ∷ txns) batch is =
-    by (λ k. all_free (before ++ (k, t) ∷ []) txns batch) (is_barrier t) refl is
-  where
-    into : ((k : ℕ) → grouped_behind (before ++ (k, t) ∷ []) txns ≡ Some batch → AllByRecursion KeepsToCells txns)
-        → (o : Option ℕ) → option_and_then (λ k. grouped_behind (before ++ (k, t) ∷ []) txns) o ≡ Some batch
-        → AllByRecursion KeepsToCells txns
-    into others None is = absurd (none batch (sym is))
-    into others (Some k) is = others k is
-
-    by : ((k : ℕ) → grouped_behind (before ++ (k, t) ∷ []) txns ≡ Some batch → AllByRecursion KeepsToCells txns)
-        → (b : Bool) → is_barrier t ≡ b
-        → option_and_then (λ k. grouped_behind (before ++ (k, t) ∷ []) txns)
-        (cond b None (group_for before (footprint t))) ≡ Some batch
-        → KeepsToCells t × AllByRecursion KeepsToCells txns
-    by others true e is = absurd (none batch (sym is))
-    by others false e is = (free t e, into others (group_for before (footprint t)) is)
+pub all_free : (txns : List Txn) → AllByRecursion (λ t. is_barrier t ≡ false) txns → AllByRecursion KeepsToCells txns
+all_free [] none = tt
+all_free (t ∷ txns) none = (free t none.0, all_free txns none.1)
 
 pub keeps_to : (paths : ℕ → List Bytes) (batch : List Tagged) → AllByRecursion KeepsToCells (batch_of batch)
     → AllByRecursion (λ (t : Tagged). AreAmong (footprint t.1) (paths t.0)) batch → KeepsTo paths batch

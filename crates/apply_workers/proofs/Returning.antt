@@ -1,29 +1,24 @@
 -- Groups that are done apart and come home leave what the batch leaves.
-use Rattle.std.proofs.Common.{◌≡◌, ◌⊎◌, ℕ, zero, suc, ◌+◌, ◌<◌, ◌≤◌, List, [], ◌∷◌, ◌++◌, Bool, true, false, true≢false, cond, ◌==◌, ◌||◌, Option, Some, None, is_some, map, length, inl, inr, refl, sym, ap, ◌∙◌, subst, subst₂, arith, eq-or-lt_of_le}
+use Rattle.std.proofs.Common.{◌≡◌, ◌⊎◌, ℕ, zero, suc, ◌+◌, ◌<◌, ◌≤◌, List, [], ◌∷◌, Bool, true, false, true≢false, cond, ◌==◌, ◌||◌, Option, Some, None, is_some, map, length, inl, inr, refl, sym, ap, ◌∙◌, subst, subst₂, arith, eq-or-lt_of_le}
 use Rattle.std.proofs.lemmas.Bool.{eqb-true}
-use Rattle.std.proofs.lemmas.Option.{none-some}
-use Rattle.std.specs.Option.{option_and_then}
 use Rattle.std.specs.List.{range_with_len, flat_map, AllByRecursion}
 use Rattle.std.specs.FinSet as set
 use Rattle.ephemerals.specs.Orders.{Bytes}
 use Rattle.ephemerals.proofs.Totals.{path_total}
 use Rattle.txn_codec.specs.declared.txn.Txn.{Txn}
-use Rattle.txn_codec.specs.declared.txn.TxnHeader.{TxnHeader}
-use Rattle.txn_codec.specs.declared.txn.Body.{Body}
-use Rattle.txn_codec.specs.declared.txn.Body.TheVariants as body
 use Rattle.data_tree.specs.State.{State}
 use Rattle.data_tree.specs.Meaning.{mean, after, outcomes}
 use Rattle.data_tree.specs.Cells.{cells_at, without_cells, with_cells, after_in_cells, outcomes_in_cells, IsEmptyCell, TakenCellsMove, CellsComeToEmptyCells}
 use Rattle.data_tree.specs.Footprint.{touches, footprint, KeepsToCells, IsSameCell, AreSameAt}
 use Rattle.data_tree.specs.Commuting.{Tagged, of_group, batch_of, KeepsTo, AreDisjoint, with_timeouts, GroupsAreTheBatch, CellsPutBackAreTheBatch}
-use Rattle.footprint.specs.Footprints.{is_barrier}
 use Rattle.batcher.specs.Class.{Class}
-use Rattle.batcher.specs.Groups.{opened, grouped, grouped_behind, group_for, places_from, paths_in, class_of, classes_of}
+use Rattle.batcher.specs.Groups.{opened, grouped, places_from, paths_in, class_of, classes_of}
 use Rattle.batcher.specs.Cut.{groups_of, listed, is_batch, is_barrier_alone}
-use Rattle.batcher.specs.Laws.{AreAmong, GroupsAreApart, EachIsInAGroup, GroupsCoverTheirPaths}
+use Rattle.batcher.specs.Laws.{GroupsAreApart, EachIsInAGroup, NoneIsABarrier, GroupsCoverTheirPaths}
 use Rattle.apply_workers.specs.Places.{at_places}
 use Rattle.apply_workers.specs.Taking.{cells_of_each, without_each}
 use Rattle.apply_workers.specs.Homing.{at_each, after_each, outcomes_of_each, with_each, timed, IsTheBatch, GroupsComeHome}
+use Rattle.apply_workers.proofs.BatchPaths.{all_free, keeps_to}
 use Rattle.apply_workers.proofs.Places.{at_its_places, txns_at_places, batch_length}
 
 -- what is known of cells and of groups
@@ -34,6 +29,7 @@ pub record Laws : Type 0 where
   pub put : CellsComeToEmptyCells
   pub apart : GroupsAreApart
   pub each : EachIsInAGroup
+  pub barriers : NoneIsABarrier
   pub cover : GroupsCoverTheirPaths
 
 -- what holds of tagged transactions that are a batch
@@ -260,40 +256,12 @@ find_group ts below p = by (find_below ts p (opened ts))
 
 -- ---- what is known of a batch
 
-keeps_to_cells : (header : TxnHeader) (b : Body) → is_barrier (record { header = header; body = b }) ≡ false
-    → KeepsToCells (record { header = header; body = b })
-keeps_to_cells header (body.Single operation) e = tt
-keeps_to_cells header (body.SetAcl set_acl) e = tt
-keeps_to_cells header (body.Multi parts) e = tt
-keeps_to_cells header (body.CreateSession timeout) e = tt
-keeps_to_cells header body.CloseSession e = absurd (true≢false e)
-
--- what comes into a group keeps to cells
-all_keep : (before : List Tagged) (txns : List Txn) (ts : List Tagged) → grouped_behind before txns ≡ Some ts
-    → AllByRecursion KeepsToCells txns
-all_keep before [] ts e = tt
-all_keep before (t ∷ txns) ts e =
-    by (λ k. all_keep (before ++ (k, t) ∷ []) txns ts) (is_barrier t) refl (group_for before (footprint t)) e
-  where
-    by : ((k : ℕ) → grouped_behind (before ++ (k, t) ∷ []) txns ≡ Some ts → AllByRecursion KeepsToCells txns)
-        → (b : Bool) → is_barrier t ≡ b → (o : Option ℕ)
-        → option_and_then (λ k. grouped_behind (before ++ (k, t) ∷ []) txns) (cond b None o) ≡ Some ts
-        → AllByRecursion KeepsToCells (t ∷ txns)
-    by rest true b o is = absurd (none-some ts is)
-    by rest false b None is = absurd (none-some ts is)
-    by rest false b (Some k) is = (keeps_to_cells t.header t.body b, rest k is)
-
-keep_to_groups : (paths : ℕ → List Bytes) (us : List Tagged)
-    → AllByRecursion (λ (t : Tagged). AreAmong (footprint t.1) (paths t.0)) us
-    → AllByRecursion KeepsToCells (batch_of us) → KeepsTo paths us
-keep_to_groups paths [] among keep = tt
-keep_to_groups paths (u ∷ us) among keep = ((keep.0, among.0), keep_to_groups paths us among.1 keep.1)
-
 pub are_groups : Laws → (txns : List Txn) (ts : List Tagged) → grouped txns ≡ Some ts → AreGroups ts
 are_groups laws txns ts is = record {
   apart = laws.apart txns ts is;
-  keeps = keep_to_groups (λ k. paths_in k ts) ts (laws.cover ts)
-      (subst (AllByRecursion KeepsToCells) (sym (laws.each txns ts is).0) (all_keep [] txns ts is));
+  keeps = keeps_to (λ k. paths_in k ts) ts
+      (subst (AllByRecursion KeepsToCells) (sym (laws.each txns ts is).0) (all_free txns (laws.barriers txns ts is)))
+      (laws.cover ts);
   below = (laws.each txns ts is).1;
 }
 

@@ -16,7 +16,7 @@ use Rattle.data_tree.specs.Footprint.{touches, footprint, KeepsToCells, IsSameCe
 use Rattle.data_tree.specs.Cells.{cells_at, IsEmptyCell, TakenCellsMove, CellsComeToEmptyCells}
 use Rattle.data_tree.specs.Commuting.{Tagged, of_group, at_group, batch_of, with_timeouts, KeepsTo, AreDisjoint, IsOfTheBatch, GroupsAreTheBatch, CellsPutBackAreTheBatch, TransactionsKeepToTheirFootprints}
 use Rattle.batcher.specs.Groups.{opened, grouped, paths_in}
-use Rattle.batcher.specs.Laws.{AreAmong, GroupsAreApart, EachIsInAGroup, GroupsCoverTheirPaths}
+use Rattle.batcher.specs.Laws.{AreAmong, GroupsAreApart, EachIsInAGroup, NoneIsABarrier, GroupsCoverTheirPaths}
 use Rattle.apply_workers.specs.declared.step.Step.{Step}
 use Rattle.apply_workers.specs.Schedule.{GroupState, opened_group, opened_groups, at_start, beside, run, finished, put_back, outcomes_of, in_batch_order, put_together, started_with, left_with, ended_with}
 use Rattle.apply_workers.specs.Schedules.{one_by_one, SchedulesAreTheBatch, PathsAreWithOneGroup}
@@ -35,6 +35,7 @@ pub record Laws : Type 0 where
   pub come : CellsComeToEmptyCells
   pub apart : GroupsAreApart
   pub each : EachIsInAGroup
+  pub barriers : NoneIsABarrier
   pub cover : GroupsCoverTheirPaths
 
 record OfBatch (batch : List Tagged) : Type 0 where
@@ -50,7 +51,7 @@ of_batch laws txns batch is =
       disjoint = laws.apart txns batch is;
       below = each.1;
       among = laws.cover batch;
-      free = subst (AllByRecursion KeepsToCells) (sym each.0) (all_free [] txns batch is);
+      free = subst (AllByRecursion KeepsToCells) (sym each.0) (all_free txns (laws.barriers txns batch is));
     }
 
 keeps : (batch : List Tagged) → OfBatch batch → KeepsTo (λ k. paths_in k batch) batch

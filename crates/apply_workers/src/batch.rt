@@ -1,5 +1,5 @@
-//! A batch that is done on threads.
-ghost use Rattle.std.specs.Prelude.{◌≡◌, ◌<◌, ◌≤◌, IfOk, OnOk};
+//! A batch that is done on threads, or on the tree itself.
+ghost use Rattle.std.specs.Prelude.{◌≡◌, ◌↔◌, ◌<◌, ◌≤◌, IfOk, OnOk, IsTrue, Some, slice_get};
 ghost use Rattle.data_tree.specs.Meaning.{after, outcomes};
 
 use crate::crew::run;
@@ -7,7 +7,7 @@ use crate::gate::Gate;
 use crate::home::{all_done, home};
 use crate::home_law::groups_come_home;
 use crate::taking::{take_each, works};
-use batcher::Batch;
+use batcher::{Batch, Group};
 use data_tree::{Outcome, Tree};
 use std::alloc::Global;
 use std::thread::Threads;
@@ -26,10 +26,47 @@ pub fn apply_each(alloc: Global, tree: &mut Tree, txns: &[Txn]) -> Result<Vec<Ou
     Ok(outcomes)
 }
 
+// Whether the group's first transaction stands at the place.
+fn begins_at(group: &Group, place: usize) -> bool
+    ensures { IsTrue result ↔ (slice_get group.now.members 0 ≡ Some place) }
+{
+    match group.members().first() {
+        None => false,
+        Some(first) => *first == place,
+    }
+}
+
+// Does a batch on the tree itself. The only worker passes the gate for each group where its first transaction comes, so
+// in the order of the groups.
+fn apply_alone<G: Gate>(
+    alloc: Global,
+    tree: &mut Tree,
+    batch: &Batch,
+    gate: &G,
+) -> Result<Vec<Outcome>, NoMemory>
+    ensures tree { OnOk result (tree.new ≡ after tree.old batch.now) }
+    ensures outcomes { IfOk result (λ v. v.items ≡ outcomes tree.old batch.now) }
+{
+    let groups = batch.groups();
+    let txns = batch.txns();
+    let mut outcomes = Vec::with_capacity(alloc, txns.len())?;
+    let mut next = 0;
+    for txn in txns {
+        if let Some(group) = groups.get(next) {
+            if begins_at(group, outcomes.len()) {
+                gate.pass(0, next);
+                next += 1;
+            }
+        }
+        outcomes.push(tree.apply(alloc, txn)?)?;
+    }
+    Ok(outcomes)
+}
+
 /// Does a batch by up to so many workers (1 to 64), each group on its own cells, and answers what its transactions
 /// answer, in order: the tree and the answers are those of the transactions done one after the other, however many
-/// workers there are. It waits for the workers, of which the first is the calling thread. Refused memory, it leaves a
-/// tree that is only to be dropped.
+/// workers there are. It waits for the workers, of which the first is the calling thread. One worker, or one group alone,
+/// is done on the tree itself. Refused memory, it leaves a tree that is only to be dropped.
 pub fn apply_batch<G: Gate + Sync, R: Threads + Sync>(
     rt: &R,
     alloc: Global,
@@ -42,12 +79,14 @@ pub fn apply_batch<G: Gate + Sync, R: Threads + Sync>(
     ensures tree { OnOk result (tree.new ≡ after tree.old batch) }
     ensures outcomes { IfOk result (λ v. v.items ≡ outcomes tree.old batch) }
 {
-    if batch.is_barrier() {
-        return apply_each(alloc, tree, batch.txns());
+    // More workers than groups would only be started in vain.
+    let most = workers.min(batch.groups().len());
+    if most <= 1 || batch.is_barrier() {
+        return apply_alone(alloc, tree, &batch, gate);
     }
     groups_come_home();
     let cells = take_each(alloc, tree, batch.groups())?;
-    let groups = run(rt, alloc, works(alloc, &batch, cells)?, workers, gate)?;
+    let groups = run(rt, alloc, works(alloc, &batch, cells)?, most, gate)?;
     let done = all_done(alloc, groups)?;
     home(alloc, tree, &batch, done)
 }

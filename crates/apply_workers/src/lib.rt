@@ -13,7 +13,8 @@
 //! `apply_batch` does a batch of transactions so: each group's cells are taken out of the tree, each group is a work on
 //! its cells (`Work`, `Finished`), and when all are home the cells are put back, the timeouts of new sessions are set
 //! and the outcomes stand in the batch's order. It leaves and answers what the transactions do one after the other,
-//! since groups have no cell in common (`groups_come_home` is that law).
+//! since groups have no cell in common (`groups_come_home` is that law). One worker moves nothing: it does the
+//! transactions on the tree, and passes the gate for each group at its first one.
 //!
 //! ```text
 //! let batch = cut(alloc, txns, &limits)?;

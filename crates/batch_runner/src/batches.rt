@@ -4,9 +4,10 @@ use crate::making::tree;
 use crate::tally::Tally;
 use anyhow::{Result, ensure};
 use apply_workers::{OpenGate, apply_batch};
-use batcher::{Batch, Limits, cut};
+use batcher::{Batch, Limits, cut_front};
 use data_tree::Tree;
 use std::alloc::Global;
+use std::collections::VecDeque;
 use std::rt::Clock;
 use std::thread::Threads;
 use std::time::Instant;
@@ -18,18 +19,28 @@ pub const LENGTH: usize = 256;
 /// The most groups of a batch.
 pub const GROUPS: usize = 256;
 
-// Cuts the batch that all of these transactions are.
-fn cut_one(
+/// Copies of the transactions, in a queue.
+pub fn queued(alloc: Global, txns: &[Txn]) -> Result<VecDeque<Txn>> {
+    let mut queue = VecDeque::new(alloc);
+    for txn in txns {
+        queue.push_back(txn.clone()?)?;
+    }
+    Ok(queue)
+}
+
+/// Cuts the batch in front, which takes LENGTH transactions or all that are left.
+pub fn cut_one(
     rt: &impl Clock,
     alloc: Global,
-    txns: &[Txn],
+    queue: &mut VecDeque<Txn>,
     limits: &Limits,
     tally: &mut Tally,
 ) -> Result<Batch> {
+    let wanted = queue.len().min(LENGTH);
     let since = Instant::now(rt)?;
-    let batch = cut(alloc, txns, limits)?;
+    let batch = cut_front(alloc, queue, limits)?;
     tally.end_cut(rt, since)?;
-    ensure!(batch.len() == txns.len(), "a batch is too short");
+    ensure!(batch.len() == wanted, "a batch is too short");
     tally.count_batch(batch.groups().len());
     Ok(batch)
 }
@@ -61,8 +72,9 @@ fn do_all<R: Threads + Clock + Sync>(
     limits: &Limits,
     tally: &mut Tally,
 ) -> Result<()> {
-    for front in txns.chunks(LENGTH) {
-        let batch = cut_one(rt, alloc, front, limits, tally)?;
+    let mut queue = queued(alloc, txns)?;
+    for _ in txns.chunks(LENGTH) {
+        let batch = cut_one(rt, alloc, &mut queue, limits, tally)?;
         do_one(rt, alloc, tree, batch, limits, tally)?;
     }
     Ok(())

@@ -1,6 +1,6 @@
 //! Transactions that are cut into batches.
 
-use crate::batches::{GROUPS, LENGTH};
+use crate::batches::{GROUPS, LENGTH, cut_one, queued};
 use crate::tally::Tally;
 use anyhow::{Result, ensure};
 use batcher::{Limits, cut};
@@ -9,24 +9,55 @@ use std::rt::Clock;
 use std::time::Instant;
 use txn_codec::Txn;
 
-// Cuts all of them once.
-fn cut_once(alloc: Global, txns: &[Txn], limits: &Limits, tally: &mut Tally) -> Result<()> {
+// Cuts copies of all of them once.
+fn cut_once(
+    rt: &impl Clock,
+    alloc: Global,
+    txns: &[Txn],
+    limits: &Limits,
+    tally: &mut Tally,
+) -> Result<()> {
     for front in txns.chunks(LENGTH) {
+        let since = Instant::now(rt)?;
         let batch = cut(alloc, front, limits)?;
+        tally.end_cut(rt, since)?;
         ensure!(batch.len() == front.len(), "a batch is too short");
         tally.count_batch(batch.groups().len());
     }
     Ok(())
 }
 
-/// Cuts the transactions into batches, so many times, and drops these.
+// Moves all of them out of a queue once.
+fn move_once(
+    rt: &impl Clock,
+    alloc: Global,
+    txns: &[Txn],
+    limits: &Limits,
+    tally: &mut Tally,
+) -> Result<()> {
+    let mut queue = queued(alloc, txns)?;
+    for _ in txns.chunks(LENGTH) {
+        cut_one(rt, alloc, &mut queue, limits, tally)?;
+    }
+    Ok(())
+}
+
+/// Cuts copies of the transactions into batches, so many times.
 pub fn cut_all(rt: &impl Clock, alloc: Global, txns: &[Txn], times: u32) -> Result<Tally> {
     let limits = Limits::new(1, LENGTH, GROUPS)?;
     let mut tally = Tally::new();
     for _ in 0..times {
-        let since = Instant::now(rt)?;
-        cut_once(alloc, txns, &limits, &mut tally)?;
-        tally.end_cut(rt, since)?;
+        cut_once(rt, alloc, txns, &limits, &mut tally)?;
+    }
+    Ok(tally)
+}
+
+/// Moves the transactions out of a queue into batches, so many times.
+pub fn move_all(rt: &impl Clock, alloc: Global, txns: &[Txn], times: u32) -> Result<Tally> {
+    let limits = Limits::new(1, LENGTH, GROUPS)?;
+    let mut tally = Tally::new();
+    for _ in 0..times {
+        move_once(rt, alloc, txns, &limits, &mut tally)?;
     }
     Ok(tally)
 }

@@ -2,11 +2,13 @@
 //! stand on standard output; how many nanoseconds by the clock was cut and was worked, on standard
 //! error: making the transactions and the tree isn't in them.
 //!
-//! `batch_runner cut KIND COUNT BYTES TIMES`: COUNT transactions are cut into batches.
+//! `batch_runner cut KIND COUNT BYTES TIMES`: COUNT transactions are cut into batches, which own copies of them.
+//!
+//! `batch_runner move KIND COUNT BYTES TIMES`: they are moved out of a queue into batches.
 //!
 //! `batch_runner apply KIND COUNT BYTES TIMES`: they are done in a tree, one after the other.
 //!
-//! `batch_runner batch KIND COUNT BYTES TIMES WORKERS`: they are cut into batches, and each batch is
+//! `batch_runner batch KIND COUNT BYTES TIMES WORKERS`: they are moved so, and each batch is
 //! done by up to WORKERS workers.
 //!
 //! `batch_runner board WORKS TIMES WORKERS`: WORKS works in which there is nothing to do are claimed
@@ -28,7 +30,7 @@ mod works;
 use anyhow::{Context, Error, Result, bail};
 use asked::{Load, kind_of};
 use batches::by_workers;
-use cutting::cut_all;
+use cutting::{cut_all, move_all};
 use making::txns;
 use plain::one_by_one;
 use std::alloc::{AllocError, Global};
@@ -39,7 +41,8 @@ use std::thread::Threads;
 use tally::Tally;
 use works::claimed;
 
-const USAGE: &str = "wanted: cut KIND COUNT BYTES TIMES, or apply KIND COUNT BYTES TIMES, \
+const USAGE: &str =
+    "wanted: cut KIND COUNT BYTES TIMES, or move KIND COUNT BYTES TIMES, or apply KIND COUNT BYTES TIMES, \
     or batch KIND COUNT BYTES TIMES WORKERS, or board WORKS TIMES WORKERS";
 
 // The words behind the program's name.
@@ -78,6 +81,9 @@ fn run<R: Threads + Clock + Sync>(rt: &R, alloc: Global, words: &[String]) -> Re
     let txns = txns(alloc, &load)?;
     if word == "cut" {
         return cut_all(rt, alloc, txns.as_slice(), load.times);
+    }
+    if word == "move" {
+        return move_all(rt, alloc, txns.as_slice(), load.times);
     }
     if word == "apply" {
         return one_by_one(rt, alloc, txns.as_slice(), load.times);

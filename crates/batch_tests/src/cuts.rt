@@ -1,8 +1,9 @@
 //! What is cut from the front of a list.
 
 use crate::{read_txn, read_txns};
-use batcher::{Batch, Limits, cut};
+use batcher::{Batch, Limits, cut, cut_front};
 use std::alloc::Global;
+use std::collections::VecDeque;
 use std::test::Fail;
 use txn_codec::Txn;
 
@@ -37,6 +38,23 @@ fn cut_of(alloc: Global, words: &str, batch: usize, groups: usize) -> Result<Str
 // What is cut with limits that are usual.
 fn usual(alloc: Global, words: &str) -> Result<String, Fail> {
     cut_of(alloc, words, 256, 64)
+}
+
+// Puts the transactions of these words into the queue.
+fn queue_up(alloc: Global, queue: &mut VecDeque<Txn>, words: &str) -> Result<(), Fail> {
+    for txn in read_txns(alloc, words)? {
+        queue.push_back(txn)?;
+    }
+    Ok(())
+}
+
+// What is moved out of the queue with usual limits, and how many transactions are left there.
+fn moved(alloc: Global, queue: &mut VecDeque<Txn>) -> Result<String, Fail> {
+    let batch = cut_front(alloc, queue, &Limits::new(4, 256, 64)?)?;
+    let text = shown(alloc, &batch)?;
+    let text = text.as_str();
+    let left = queue.len();
+    Ok(format!(in alloc; "{text} ({left})")?)
 }
 
 // So many checks.
@@ -145,5 +163,22 @@ fn limits_are_within_their_bounds(rt: HostRuntime) -> Result<(), Fail> {
     assert!(rt; !are_limits(0, 1, 1) && !are_limits(65, 1, 1));
     assert!(rt; !are_limits(1, 0, 1) && !are_limits(1, 4097, 1));
     assert!(rt; !are_limits(1, 1, 0) && !are_limits(1, 1, 257));
+    Ok(())
+}
+
+#[test]
+fn a_queue_keeps_what_is_behind_the_batch(rt: HostRuntime) -> Result<(), Fail> {
+    let alloc = rt.alloc();
+    let mut queue = VecDeque::new(alloc);
+    queue_up(alloc, &mut queue, "/a/x close /b/y")?;
+    assert_eq!(rt; moved(alloc, &mut queue)?.as_str(), "1; 0 /a /a/x (2)");
+    // Now the queue goes round its end.
+    queue_up(alloc, &mut queue, "/b/z /c")?;
+    assert_eq!(rt; moved(alloc, &mut queue)?.as_str(), "1 barrier (3)");
+    assert_eq!(rt;
+        moved(alloc, &mut queue)?.as_str(),
+        "3; 0 1 /b /b/y /b/z; 2 / /c (0)"
+    );
+    assert_eq!(rt; moved(alloc, &mut queue)?.as_str(), "0 (0)");
     Ok(())
 }

@@ -1,19 +1,16 @@
 -- A draft that gains a transaction.
-use Rattle.std.proofs.Common.{◌≡◌, ℕ, zero, suc, ◌+◌, ◌-◌, ◌<◌, ◌≤◌, nat_eq, nat_lt, List, [], ◌∷◌, ◌++◌, Bool, true, false, cond, ◌||◌, Option, Some, None, is_some, Result, Ok, Err, OnOk, set, get_or, refl, sym, ap, ◌∙◌, subst, arith, length, drop}
+use Rattle.std.proofs.Common.{◌≡◌, ◌≢◌, ℕ, zero, suc, ◌+◌, ◌-◌, ◌<◌, ◌≤◌, nat_eq, nat_lt, List, [], ◌∷◌, ◌++◌, Bool, true, false, cond, ◌||◌, Option, Some, None, is_some, Result, Ok, Err, OnOk, set, get_or, refl, sym, ap, ◌∙◌, subst, arith, length, drop, take, map, Bor}
 use Rattle.std.specs.List.{zip}
 use Rattle.std.specs.Option.{option_map_or}
 use Rattle.std.specs.BTreeMap.{get_by_text}
 use Rattle.std.proofs.lemmas.Bool.Decides.{nat_tests}
-use Rattle.std.proofs.lemmas.Bool.{eqb-true}
 use mathlib.Core.Bool.{true≢false}
-use Rattle.std.proofs.lemmas.List.{length-append}
-use Rattle.ephemerals.specs.Orders.{Bytes, in_order}
+use Rattle.std.proofs.lemmas.List.{length-append, length-map, length-take, map-append}
+use Rattle.ephemerals.specs.Orders.{Bytes}
 use Rattle.txn_codec.specs.declared.txn.Txn.{Txn}
 use Rattle.data_tree.specs.Footprint.{touches, footprint}
 use Rattle.data_tree.specs.Commuting.{Tagged, batch_of}
-use Rattle.footprint.specs.declared.cover.Footprint.TheVariants.{Barrier, Paths}
-use Rattle.footprint.specs.Footprints.{is_barrier, paths_of, footprint_of}
-use Rattle.footprint.proofs.Ascending.{paths_are_the_cells}
+use Rattle.footprint.specs.Footprints.{is_barrier}
 use Rattle.batcher.specs.Class.{Class, no_member}
 use Rattle.batcher.specs.Limits.{LimitNumbers, are_limits}
 use Rattle.batcher.specs.declared.draft.Draft.{Draft}
@@ -22,12 +19,12 @@ use Rattle.batcher.specs.Groups.{group_with, opened, group_for, group_next, grou
 use Rattle.batcher.specs.Cut.{cut, is_barrier_alone, is_batch, listed, groups_of}
 use Rattle.batcher.specs.Inner.Joining.{joined, with_member, all_met, met_group}
 use Rattle.batcher.specs.Inner.Taking.{within, group_taken, taken_behind, HasTaken, BeginsWithBarrier}
-use Rattle.batcher.specs.Inner.Drafts.{taken_in, IsDraft}
+use Rattle.batcher.specs.Inner.Drafts.{txns_in, taken_in, IsDraft}
 use Rattle.batcher.proofs.Steps.{IsNext}
 use Rattle.batcher.proofs.Owning.{none, group_with-behind, or_else, met_or_new}
 use Rattle.batcher.proofs.Members.{classes_of-behind, length-classes_of}
-use Rattle.batcher.proofs.Taking.{begins_with_barrier, taken_is_cut, taken_is_grouped}
-use Rattle.batcher.proofs.Meeting.{or_true, met_is, same_group_for, group_for-below}
+use Rattle.batcher.proofs.Taking.{begins_with_barrier, taken_is_cut, taken_is_front, taken_is_grouped}
+use Rattle.batcher.proofs.Meeting.{or_true, met_is, group_for-below}
 
 -- ---- transactions with their groups
 
@@ -50,11 +47,20 @@ length-zip [] (u ∷ us) same = absurd (omega arith)
 length-zip (j ∷ js) [] same = absurd (omega arith)
 length-zip (j ∷ js) (u ∷ us) same = ap suc (length-zip js us (omega arith))
 
-pub batch_in : (draft : Draft) → IsDraft draft → batch_of (taken_in draft) ≡ draft.txns.items
-batch_in draft is = batch_of-zip draft.numbers.items draft.txns.items is.numbers
+pub batch_in : (draft : Draft) → IsDraft draft → batch_of (taken_in draft) ≡ txns_in draft
+batch_in draft is = batch_of-zip draft.numbers.items (txns_in draft) is.numbers
 
-pub length_in : (draft : Draft) → IsDraft draft → length (taken_in draft) ≡ length draft.txns.items
-length_in draft is = length-zip draft.numbers.items draft.txns.items is.numbers
+pub length_in : (draft : Draft) → IsDraft draft → length (taken_in draft) ≡ length (txns_in draft)
+length_in draft is = length-zip draft.numbers.items (txns_in draft) is.numbers
+
+-- as many as are kept
+pub count_in : (draft : Draft) → length (txns_in draft) ≡ length draft.txns.items
+count_in draft = length-map draft.txns.items (λ t. t.now)
+
+-- one more is kept
+pub txns_more : (old new : Draft) (t : Bor Txn) → new.txns.items ≡ old.txns.items ++ t ∷ []
+    → txns_in new ≡ txns_in old ++ t.now ∷ []
+txns_more old new t is = ap (map (λ (t : Bor Txn). t.now)) is ∙ map-append (λ (t : Bor Txn). t.now) old.txns.items (t ∷ [])
 
 pub opened_in : (draft : Draft) → IsDraft draft → length draft.groups.items ≡ opened (taken_in draft)
 opened_in draft is = ap length is.groups ∙ length-classes_of (taken_in draft)
@@ -77,32 +83,9 @@ for_paths draft is (p ∷ ps) e =
     ap (λ n. met_group n (all_met (get_by_text draft.owners) Nothing (p ∷ ps))) (opened_in draft is)
     ∙ met_is (taken_in draft) (get_by_text draft.owners) is.owners p ps
 
--- no barrier has a list of paths
-not_barrier : (t : Txn) (paths : List Bytes) → footprint_of t ≡ Paths paths → is_barrier t ≡ false
-not_barrier t paths = by (is_barrier t)
-  where
-    by : (b : Bool) → cond b Barrier (Paths (in_order (paths_of t))) ≡ Paths paths → b ≡ false
-    by true e = absurd (other e)
-      where
-        other : Barrier ≡ Paths paths → ⊥
-        other e = cc
-    by false e = refl
-
-a_barrier : (t : Txn) → footprint_of t ≡ Barrier → is_barrier t ≡ true
-a_barrier t = by (is_barrier t)
-  where
-    by : (b : Bool) → cond b Barrier (Paths (in_order (paths_of t))) ≡ Barrier → b ≡ true
-    by true e = refl
-    by false e = absurd (other e)
-      where
-        other : Paths (in_order (paths_of t)) ≡ Barrier → ⊥
-        other e = cc
-
-by_the_paths : (before : List Tagged) (t : Txn) (paths : List Bytes) → footprint_of t ≡ Paths paths
-    → group_next before t ≡ group_for before paths
-by_the_paths before t paths is =
-    ap (λ b. cond b None (group_for before (footprint t))) (not_barrier t paths is)
-    ∙ sym (same_group_for before paths (footprint t) (paths_are_the_cells t paths is))
+by_the_paths : (before : List Tagged) (t : Txn) → is_barrier t ≡ false
+    → group_next before t ≡ group_for before (footprint t)
+by_the_paths before t free = ap (λ b. cond b None (group_for before (footprint t))) free
 
 lt_test : (a b : ℕ) → a < b → nat_lt a b ≡ true
 lt_test a b h = grind (arith, nat_tests)
@@ -117,23 +100,25 @@ module _ (limits : LimitNumbers) (draft : Draft) (is : IsDraft draft) (t : Txn) 
 
   pub full_takes_none : limits.batch ≤ length draft.txns.items → group_taken limits (taken_in draft) t ≡ None
   full_takes_none full =
-      let long = length_in draft is in
+      let long = length_in draft is ∙ count_in draft in
       taken_when false (ge_test (length (taken_in draft)) limits.batch (omega arith))
 
   module _ (room : length draft.txns.items < limits.batch) where
     with_room : group_taken limits (taken_in draft) t ≡ within limits.groups (group_next (taken_in draft) t)
     with_room =
-        let long = length_in draft is in
+        let long = length_in draft is ∙ count_in draft in
         taken_when true (lt_test (length (taken_in draft)) limits.batch (omega arith))
 
-    pub barrier_not_taken : footprint_of t ≡ Barrier → group_taken limits (taken_in draft) t ≡ None
+    pub barrier_not_taken : is_barrier t ≡ true → group_taken limits (taken_in draft) t ≡ None
     barrier_not_taken e =
-        with_room
-        ∙ ap (λ b. within limits.groups (cond b None (group_for (taken_in draft) (footprint t)))) (a_barrier t e)
+        with_room ∙ ap (λ b. within limits.groups (cond b None (group_for (taken_in draft) (footprint t)))) e
 
-    module _ (paths : List Bytes) (has : footprint_of t ≡ Paths paths) where
+    module _ (free : is_barrier t ≡ false) (paths : List Bytes) (has : paths ≡ footprint t) where
       by_paths : group_taken limits (taken_in draft) t ≡ within limits.groups (group_for (taken_in draft) paths)
-      by_paths = with_room ∙ ap (within limits.groups) (by_the_paths (taken_in draft) t paths has)
+      by_paths =
+          with_room
+          ∙ ap (within limits.groups) (by_the_paths (taken_in draft) t free)
+          ∙ ap (λ ps. within limits.groups (group_for (taken_in draft) ps)) (sym has)
 
       pub without_group : group_for (taken_in draft) paths ≡ None → group_taken limits (taken_in draft) t ≡ None
       without_group e = by_paths ∙ ap (within limits.groups) e
@@ -172,22 +157,22 @@ pub record Gained (old new : Draft) (k : ℕ) (t : Txn) : Type 0 where
   pub taken : taken_in new ≡ taken_in old ++ (k, t) ∷ []
 
 pub gained : (old new : Draft) (k : ℕ) (t : Txn) (paths : List Bytes) → IsDraft old
-    → group_for (taken_in old) paths ≡ Some k → footprint_of t ≡ Paths paths
-    → new.numbers.items ≡ old.numbers.items ++ k ∷ [] → new.txns.items ≡ old.txns.items ++ t ∷ []
+    → group_for (taken_in old) paths ≡ Some k → paths ≡ footprint t
+    → new.numbers.items ≡ old.numbers.items ++ k ∷ [] → txns_in new ≡ txns_in old ++ t ∷ []
     → ((q : Bytes) → get_by_text new.owners q ≡ cond (touches paths q) (Some k) (get_by_text old.owners q))
-    → new.groups.items ≡ with_member old.groups.items k (length old.txns.items) paths → Gained old new k t
+    → new.groups.items ≡ with_member old.groups.items k (length (txns_in old)) paths → Gained old new k t
 gained old new k t paths is for has numbers txns owners groups =
     record {
       draft = record {
         numbers = let m = ap length numbers in let n = ap length txns in
-            let o = length-append old.numbers.items (k ∷ []) in let p = length-append old.txns.items (t ∷ []) in
+            let o = length-append old.numbers.items (k ∷ []) in let p = length-append (txns_in old) (t ∷ []) in
             let q = is.numbers in omega arith;
         owners = λ q.
             owners q ∙ ap (cond (touches paths q) (Some k)) (is.owners q)
             ∙ owner_now (taken_in old) k t paths for cells q
             ∙ ap (λ ts. group_with ts q) (sym taken);
         groups = groups
-            ∙ ap (λ cs. with_member cs k (length old.txns.items) paths) is.groups
+            ∙ ap (λ cs. with_member cs k (length (txns_in old)) paths) is.groups
             ∙ ap (λ n. with_member (classes_of (taken_in old)) k n paths) (sym (length_in old is))
             ∙ sym (classes_of-behind (taken_in old) k t paths cells (group_for-below (taken_in old) paths k for))
             ∙ ap classes_of (sym taken);
@@ -196,10 +181,10 @@ gained old new k t paths is for has numbers txns owners groups =
     }
   where
     cells : (q : Bytes) → touches paths q ≡ touches (footprint t) q
-    cells = paths_are_the_cells t paths has
+    cells q = ap (λ ps. touches ps q) has
 
     taken : taken_in new ≡ taken_in old ++ (k, t) ∷ []
-    taken = (λ i. zip (numbers i) (txns i)) ∙ zip-behind old.numbers.items old.txns.items k t is.numbers
+    taken = (λ i. zip (numbers i) (txns i)) ∙ zip-behind old.numbers.items (txns_in old) k t is.numbers
 
 -- ---- a list of transactions
 
@@ -237,34 +222,56 @@ module _ (limits : LimitNumbers) (txns : List Txn) (i : ℕ) (t : Txn) (next : I
 
 module _ (limits : LimitNumbers) (txns : List Txn) (draft : Draft) (is : IsDraft draft) where
   module _ (taken : taken_in draft ≡ taken_behind limits [] txns) (ok : are_limits limits ≡ true) where
-    txns_are : draft.txns.items ≡ batch_of (taken_behind limits [] txns)
+    txns_are : (txns_in draft) ≡ batch_of (taken_behind limits [] txns)
     txns_are = sym (batch_in draft is) ∙ ap batch_of taken
 
-    grouped_are : grouped draft.txns.items ≡ Some (taken_behind limits [] txns)
+    grouped_are : grouped (txns_in draft) ≡ Some (taken_behind limits [] txns)
     grouped_are = ap grouped txns_are ∙ taken_is_grouped limits txns ok
 
-    pub groups_are : draft.groups.items ≡ groups_of draft.txns.items
+    groups_are : draft.groups.items ≡ groups_of (txns_in draft)
     groups_are = is.groups ∙ ap classes_of taken ∙ sym (ap listed grouped_are)
 
-    pub are_a_batch : is_batch draft.txns.items ≡ true
+    are_a_batch : is_batch (txns_in draft) ≡ true
     are_a_batch =
-        ap (λ o. is_barrier_alone draft.txns.items || is_some o) grouped_are
-        ∙ or_true (is_barrier_alone draft.txns.items)
+        ap (λ o. is_barrier_alone (txns_in draft) || is_some o) grouped_are
+        ∙ or_true (is_barrier_alone (txns_in draft))
 
-    long : length (taken_behind limits [] txns) ≡ length draft.txns.items
+    long : length (taken_behind limits [] txns) ≡ length (txns_in draft)
     long = ap length (sym taken) ∙ length_in draft is
 
-    pub nothing_but_barrier : (n : ℕ) → n ≡ length draft.txns.items → nat_eq n 0 ≡ true → BeginsWithBarrier txns
-    nothing_but_barrier n is none =
-        begins_with_barrier limits txns ok (long ∙ sym is ∙ eqb-true n 0 none)
+    pub nothing_but_barrier : (n : ℕ) → n ≡ length draft.txns.items → n ≡ 0 → BeginsWithBarrier txns
+    nothing_but_barrier n is none = begins_with_barrier limits txns ok (long ∙ count_in draft ∙ sym is ∙ none)
 
-    pub the_cut : (n : ℕ) → n ≡ length draft.txns.items → nat_eq n 0 ≡ false → draft.txns.items ≡ cut limits txns
-    the_cut n is some =
-        let above : 1 ≤ n = not_zero n some in
-        txns_are ∙ taken_is_cut limits txns ok (subst (λ m. 1 ≤ m) (is ∙ sym long) above)
-      where
-        not_zero : (n : ℕ) → nat_eq n 0 ≡ false → 1 ≤ n
-        not_zero n e = grind (arith, nat_tests)
+    module _ (n : ℕ) (count : n ≡ length draft.txns.items) (some : n ≢ 0) where
+      the_cut : txns_in draft ≡ cut limits txns
+      the_cut =
+          let above : 1 ≤ n = not_zero n some in
+          txns_are
+          ∙ taken_is_cut limits txns ok (subst (λ m. 1 ≤ m) (count ∙ sym (count_in draft) ∙ sym long) above)
+        where
+          not_zero : (n : ℕ) → n ≢ 0 → 1 ≤ n
+          not_zero zero some = absurd (some refl)
+          not_zero (suc n) some = omega arith
+
+      -- the draft's transactions stand in front of the list
+      pub front_is : take n txns ≡ cut limits txns
+      front_is =
+          ap (λ m. take m txns) (count ∙ sym (count_in draft) ∙ ap length txns_are)
+          ∙ taken_is_front limits txns ok
+          ∙ sym txns_are
+          ∙ the_cut
+
+      pub front_within : n ≤ length txns
+      front_within =
+          let all = length-take n txns in
+          let same = ap length front_is ∙ ap length (sym the_cut) ∙ count_in draft ∙ sym count in
+          omega arith
+
+      pub front_groups : draft.groups.items ≡ groups_of (cut limits txns)
+      front_groups = groups_are ∙ ap groups_of the_cut
+
+      pub front_batch : is_batch (cut limits txns) ≡ true
+      front_batch = ap is_batch (sym the_cut) ∙ are_a_batch
 
 -- ---- a group in a list of groups
 

@@ -12,7 +12,7 @@ use Rattle.data_tree.specs.Commuting.{Tagged}
 use Rattle.batcher.specs.declared.met.Met.TheVariants.{Nothing, Group, Several}
 use Rattle.batcher.specs.Groups.{group_with, opened, only_group, group_for}
 use Rattle.batcher.specs.Inner.Joining.{also, all_met, met_group}
-use Rattle.batcher.proofs.Owning.{same, none, only_one, met_one}
+use Rattle.batcher.proofs.Owning.{same, none}
 
 -- ---- what is met path by path
 
@@ -107,58 +107,6 @@ met_from owner j (p ∷ ps) h = by (met_from owner j ps) (owner p) refl h
         → is_one j (cons_option o (filter_map owner ps)) ≡ true → Has owner j (p ∷ ps)
     by rest None e h = later (rest h)
     by rest (Some k) e h = here rest k e (nat_eq k j) refl h
-
-all_are : (k : ℕ) (ks : List ℕ) → ((j : ℕ) → is_one j ks ≡ true → j ≡ k) → list_all (λ i. nat_eq i k) ks ≡ true
-all_are k [] are = refl
-all_are k (i ∷ is) are =
-    ap (λ b. b && list_all (λ i. nat_eq i k) is) (eq-eqb i k (are i (ap (λ b. b || is_one i is) (eq-eqb i i refl))))
-    ∙ all_are k is (λ j h. are j (ap (λ b. nat_eq i j || b) h ∙ or_true (nat_eq i j)))
-
--- the only one of these is the only one of others that are among them
-stays : (new k : ℕ) (ks : List ℕ) (l : ℕ) (ls : List ℕ) → only_group new ks ≡ Some k
-    → ((j : ℕ) → is_one j (l ∷ ls) ≡ true → is_one j ks ≡ true) → only_group new (l ∷ ls) ≡ Some k
-stays new k ks l ls is among =
-    ap (λ b. cond b (Some l) None)
-    (all_are l ls (λ j h. are j (ap (λ b. nat_eq l j || b) h ∙ or_true (nat_eq l j)) ∙ sym first))
-    ∙ ap Some first
-  where
-    are : (j : ℕ) → is_one j (l ∷ ls) ≡ true → j ≡ k
-    are j h = only_one new ks k j is (among j h)
-
-    first : l ≡ k
-    first = are l (ap (λ b. b || is_one l ls) (eq-eqb l l refl))
-
-same_only : (new : ℕ) (ks ls : List ℕ) → ((j : ℕ) → is_one j ks ≡ true → is_one j ls ≡ true)
-    → ((j : ℕ) → is_one j ls ≡ true → is_one j ks ≡ true) → only_group new ks ≡ only_group new ls
-same_only new [] [] there back = refl
-same_only new [] (l ∷ ls) there back =
-    absurd (true≢false (sym (back l (ap (λ b. b || is_one l ls) (eq-eqb l l refl)))))
-same_only new (k ∷ ks) [] there back =
-    absurd (true≢false (sym (there k (ap (λ b. b || is_one k ks) (eq-eqb k k refl)))))
-same_only new (k ∷ ks) (l ∷ ls) there back = by (only_group new (k ∷ ks)) refl (only_group new (l ∷ ls)) refl
-  where
-    by : (x : Option ℕ) → only_group new (k ∷ ks) ≡ x → (y : Option ℕ) → only_group new (l ∷ ls) ≡ y → x ≡ y
-    by (Some i) ex y ey = sym (stays new i (k ∷ ks) l ls ex back) ∙ ey
-    by None ex (Some j) ey = sym ex ∙ stays new j (l ∷ ls) k ks ey there
-    by None ex None ey = refl
-
-pub same_group_for : (before : List Tagged) (ps qs : List Bytes) → ((path : Bytes) → touches ps path ≡ touches qs path)
-    → group_for before ps ≡ group_for before qs
-same_group_for before [] [] is = refl
-same_group_for before [] (q ∷ qs) is =
-    absurd (true≢false (sym (is q ∙ ap (λ b. b || touches qs q) (reflexive q))))
-same_group_for before (p ∷ ps) [] is =
-    absurd (true≢false (sym (ap (λ b. b || touches ps p) (reflexive p)) ∙ is p))
-same_group_for before (p ∷ ps) (q ∷ qs) is =
-    same_only (opened before) (filter_map (group_with before) (p ∷ ps)) (filter_map (group_with before) (q ∷ qs))
-    (λ j h. moved j (p ∷ ps) (q ∷ qs) is h)
-    (λ j h. moved j (q ∷ qs) (p ∷ ps) (λ path. sym (is path)) h)
-  where
-    moved : (j : ℕ) (xs ys : List Bytes) → ((path : Bytes) → touches xs path ≡ touches ys path)
-        → is_one j (filter_map (group_with before) xs) ≡ true → is_one j (filter_map (group_with before) ys) ≡ true
-    moved j xs ys is h =
-        let has = met_from (group_with before) j xs h in
-        met_one (group_with before) has.path j has.own ys (sym (is has.path) ∙ has.there)
 
 -- ---- a group that is met was opened
 

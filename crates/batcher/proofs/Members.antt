@@ -16,9 +16,10 @@ use Rattle.ephemerals.proofs.Totals.{path_total}
 use Rattle.txn_codec.specs.declared.txn.Txn.{Txn}
 use Rattle.data_tree.specs.Footprint.{touches, footprint}
 use Rattle.data_tree.specs.Commuting.{Tagged, of_group, batch_of}
+use Rattle.footprint.specs.Footprints.{is_barrier}
 use Rattle.batcher.specs.Class.{Class, no_member}
-use Rattle.batcher.specs.Groups.{opened, group_next, grouped_behind, places_from, paths_in, class_of, classes_of}
-use Rattle.batcher.specs.Laws.{AreAmong, EachIsInAGroup, GroupsCoverTheirPaths, PlacesNameTheGroup}
+use Rattle.batcher.specs.Groups.{opened, group_for, group_next, grouped_behind, places_from, paths_in, class_of, classes_of}
+use Rattle.batcher.specs.Laws.{AreAmong, EachIsInAGroup, NoneIsABarrier, GroupsCoverTheirPaths, PlacesNameTheGroup}
 use Rattle.batcher.specs.Inner.Joining.{joined, with_member}
 use Rattle.batcher.proofs.Owning.{same, none, opened-behind}
 
@@ -49,6 +50,26 @@ opened_above (t ∷ ts) n h = (omega arith, opened_above ts n (omega arith))
 
 pub each_is_in_a_group : EachIsInAGroup
 each_is_in_a_group txns ts is = (batch_is [] txns ts is, opened_above ts (opened ts) (omega arith))
+
+-- ---- none is a barrier
+
+no_barrier : (before : List Tagged) (txns : List Txn) (ts : List Tagged) → grouped_behind before txns ≡ Some ts
+    → AllByRecursion (λ t. is_barrier t ≡ false) txns
+no_barrier before [] ts is = tt
+no_barrier before (t ∷ txns) ts is =
+    by (λ k. no_barrier (before ++ (k, t) ∷ []) txns ts) (is_barrier t) refl (group_for before (footprint t)) is
+  where
+    by : ((k : ℕ) → grouped_behind (before ++ (k, t) ∷ []) txns ≡ Some ts
+        → AllByRecursion (λ t. is_barrier t ≡ false) txns)
+        → (b : Bool) → is_barrier t ≡ b → (o : Option ℕ)
+        → option_and_then (λ k. grouped_behind (before ++ (k, t) ∷ []) txns) (cond b None o) ≡ Some ts
+        → AllByRecursion (λ t. is_barrier t ≡ false) (t ∷ txns)
+    by rest true e o is = absurd (none ts (sym is))
+    by rest false e None is = absurd (none ts (sym is))
+    by rest false e (Some k) is = (e, rest k is)
+
+pub none_is_a_barrier : NoneIsABarrier
+none_is_a_barrier txns ts is = no_barrier [] txns ts is
 
 -- ---- whose paths are covered
 

@@ -1,6 +1,6 @@
 -- What is taken one after the other: paths, and transactions.
-use Rattle.std.proofs.Common.{◌≡◌, ℕ, suc, ◌+◌, ◌<◌, ◌≤◌, List, ◌∷◌, Bool, true, false, cond, ◌||◌, Option, Some, refl, sym, ap, ◌∙◌, arith, length, drop, get_or, string_bytes}
-use Rattle.std.proofs.Math.Seq.{drop-cons}
+use Rattle.std.proofs.Common.{◌≡◌, ℕ, zero, suc, ◌+◌, ◌<◌, ◌≤◌, List, [], ◌∷◌, ◌++◌, Bool, true, false, cond, ◌||◌, Option, Some, refl, sym, ap, ◌∙◌, arith, length, drop, take, map, get_or, string_bytes}
+use Rattle.std.proofs.Math.Seq.{drop-cons, take-suc}
 use Rattle.std.proofs.Math.ListN.{drop_of_length-le}
 use Rattle.std.proofs.Math.Bool.{or_comm}
 use Rattle.std.specs.BTreeMap as tree
@@ -11,8 +11,11 @@ use Rattle.std.specs.Cmp.Lexicographic.{slice_cmp}
 use Rattle.std.specs.String.{string_cmp}
 use Rattle.std.specs.declared.string.String.{String}
 use Rattle.std.specs.FinSet as set
+use Rattle.std.proofs.lemmas.List.{get_or-map}
+use Rattle.std.proofs.lemmas.List.Folds.{list_any-append}
 use Rattle.std.proofs.lemmas.Map.Text.{btree_map_updates_text}
 use Rattle.std.proofs.lemmas.Map.Lookups.{exact_bytes}
+use Rattle.std.proofs.lemmas.Map.Views.{tells_apart}
 use Rattle.ephemerals.specs.Orders.{Bytes, Names, path_cmp}
 use Rattle.ephemerals.proofs.Totals.{path_total}
 use Rattle.ephemerals.proofs.TextKeys.{query, same_test}
@@ -36,6 +39,15 @@ one_less true true c = refl
 one_less true false c = refl
 one_less false b c = refl
 
+-- a set that has a path gains nothing by it
+pub gained_before : (s : Names) (p : Bytes) → set.contains s p ≡ true → s ≡ set.insert s p
+gained_before s p is = set.same_set path_total exact_bytes _ _ (λ q.
+    by q (eq_by_cmp path_cmp q p) refl ∙ sym (set.contains-insert path_total s p q))
+  where
+    by : (q : Bytes) (b : Bool) → eq_by_cmp path_cmp q p ≡ b → set.contains s q ≡ (b || set.contains s q)
+    by q true e = ap (set.contains s) (tells_apart exact_bytes q p e) ∙ is
+    by q false e = refl
+
 pub gained_step : (paths : List Bytes) (i : ℕ) (p : Bytes) → IsNext paths i p → (old new : Names)
     → new ≡ set.insert old p → (q : Bytes) (all : Bool) → (touches (drop i paths) q || set.contains old q) ≡ all
     → (touches (drop (i + 1) paths) q || set.contains new q) ≡ all
@@ -56,26 +68,85 @@ gained_all paths i past old new gained = set.same_set path_total exact_bytes _ _
     ∙ ap (λ b. set.contains old q || b) (sym (set.contains-from_list path_total paths q))
     ∙ sym (set.contains-union path_total old (set.from_list paths) q))
 
-one_less_of : {A : Type 0} (a b : Bool) (x y : A) → cond (a || b) x y ≡ cond b x (cond a x y)
-one_less_of true true x y = refl
-one_less_of true false x y = refl
-one_less_of false b x y = refl
-
-pub owned_step : {Z : Type 0} (paths : List Bytes) (i : ℕ) (p : Bytes) → IsNext paths i p
-    → (m n : BTreeMap (String Z) ℕ) (k : ℕ) (bs : Bytes) → bs ≡ p
+-- what is owned where a path is given to the group
+pub owned_now : {Z : Type 0} (m n : BTreeMap (String Z) ℕ) (k : ℕ) (bs p : Bytes) → bs ≡ p
     → tree.UpdatesBy string_cmp (λ (s : String Z). slice_cmp nat_cmp bs (string_bytes s)) m n (Some k)
-    → (q : Bytes) (all : Option ℕ) → cond (touches (drop i paths) q) (Some k) (get_by_text m q) ≡ all
-    → cond (touches (drop (i + 1) paths) q) (Some k) (get_by_text n q) ≡ all
-owned_step paths i p next m n k bs is updates q all before =
-    ap (cond (touches (drop (i + 1) paths) q) (Some k))
-    (btree_map_updates_text bs m n (Some k) updates q
-    ∙ ap (λ b. cond b (Some k) (lookup (query q) m.entries)) (same_test q bs ∙ ap (eq_by_cmp path_cmp q) is))
-    ∙ sym (one_less_of (eq_by_cmp path_cmp q p) (touches (drop (i + 1) paths) q) (Some k) (get_by_text m q))
-    ∙ sym (ap (λ ps. cond (touches ps q) (Some k) (get_by_text m q)) next)
-    ∙ before
+    → (q : Bytes) → get_by_text n q ≡ cond (eq_by_cmp path_cmp q p) (Some k) (get_by_text m q)
+owned_now m n k bs p is updates q =
+    btree_map_updates_text bs m n (Some k) updates q
+    ∙ ap (λ b. cond b (Some k) (lookup (query q) m.entries)) (same_test q bs ∙ ap (eq_by_cmp path_cmp q) is)
 
-pub owned_all : {Z : Type 0} (paths : List Bytes) (i : ℕ) → length paths ≤ i → (n : BTreeMap (String Z) ℕ) (k : ℕ)
-    (q : Bytes) (all : Option ℕ) → cond (touches (drop i paths) q) (Some k) (get_by_text n q) ≡ all
-    → get_by_text n q ≡ all
-owned_all paths i past n k q all is =
-    sym (ap (λ ps. cond (touches ps q) (Some k) (get_by_text n q)) (drop_of_length-le paths past)) ∙ is
+-- and where it is the group's already
+owned_before : (m : Bytes → Option ℕ) (k : ℕ) (p : Bytes) → m p ≡ Some k
+    → (q : Bytes) → m q ≡ cond (eq_by_cmp path_cmp q p) (Some k) (m q)
+owned_before m k p is q = by (eq_by_cmp path_cmp q p) refl
+  where
+    by : (b : Bool) → eq_by_cmp path_cmp q p ≡ b → m q ≡ cond b (Some k) (m q)
+    by true e = ap m (tells_apart exact_bytes q p e) ∙ is
+    by false e = refl
+
+-- the first n of these paths are the group's, and all others whose they were
+abbrev pub IsOwned : (Bytes → Option ℕ) → (Bytes → Option ℕ) → ℕ → List Bytes → ℕ → Type 0
+IsOwned old now k paths n = (q : Bytes) → now q ≡ cond (touches (take n paths) q) (Some k) (old q)
+
+module _ (paths : List Bytes) (i : ℕ) (p : Bytes) (within : i < length paths) (is : p ≡ get_or paths i p) where
+  one_more : (q : Bytes) → touches (take (i + 1) paths) q ≡ (touches (take i paths) q || eq_by_cmp path_cmp q p)
+  one_more q =
+      ap (λ n. touches (take n paths) q) (more i)
+      ∙ ap (λ ps. touches ps q) (take-suc paths i p within)
+      ∙ ap (λ x. touches (take i paths ++ x ∷ []) q) (sym is)
+      ∙ list_any-append (eq_by_cmp path_cmp q) (take i paths) (p ∷ [])
+      ∙ ap (λ b. touches (take i paths) q || b) (or_false (eq_by_cmp path_cmp q p))
+    where
+      more : (i : ℕ) → i + 1 ≡ suc i
+      more i = omega arith
+
+      or_false : (b : Bool) → (b || false) ≡ b
+      or_false true = refl
+      or_false false = refl
+
+  pub owned_next : (old m n : Bytes → Option ℕ) (k : ℕ) → IsOwned old m k paths i
+      → ((q : Bytes) → n q ≡ cond (eq_by_cmp path_cmp q p) (Some k) (m q)) → IsOwned old n k paths (i + 1)
+  owned_next old m n k before is q =
+      is q
+      ∙ ap (cond (eq_by_cmp path_cmp q p) (Some k)) (before q)
+      ∙ both (eq_by_cmp path_cmp q p) (touches (take i paths) q)
+      ∙ ap (λ b. cond b (Some k) (old q)) (sym (one_more q))
+    where
+      both : (e t : Bool) → cond e (Some k) (cond t (Some k) (old q)) ≡ cond (t || e) (Some k) (old q)
+      both true true = refl
+      both true false = refl
+      both false true = refl
+      both false false = refl
+
+  -- what was the group's from the beginning is so still
+  pub owned_still : (old m : Bytes → Option ℕ) (k : ℕ) → IsOwned old m k paths i → old p ≡ Some k
+      → IsOwned old m k paths (i + 1)
+  owned_still old m k before was =
+      owned_next old m m k before
+      (owned_before m k p (before p ∙ ap (cond (touches (take i paths) p) (Some k)) was ∙ same (touches (take i paths) p)))
+    where
+      same : (b : Bool) → cond b (Some k) (Some k) ≡ Some k
+      same true = refl
+      same false = refl
+
+take_all : (paths : List Bytes) (n : ℕ) → length paths ≤ n → take n paths ≡ paths
+take_all [] zero past = refl
+take_all [] (suc n) past = refl
+take_all (p ∷ ps) zero past = absurd (omega arith)
+take_all (p ∷ ps) (suc n) past = ap (λ r. p ∷ r) (take_all ps n (omega arith))
+
+pub owned_all : (old m : Bytes → Option ℕ) (k : ℕ) (paths : List Bytes) (n : ℕ) → length paths ≤ n
+    → IsOwned old m k paths n → (q : Bytes) → m q ≡ cond (touches paths q) (Some k) (old q)
+owned_all old m k paths n past before q =
+    before q ∙ ap (λ ps. cond (touches ps q) (Some k) (old q)) (take_all paths n past)
+
+pub found_at : (f : Bytes → Option ℕ) (paths : List Bytes) (found : List (Option ℕ)) (i k : ℕ) (none : Option ℕ)
+    → found ≡ map f paths → i < length paths → get_or found i none ≡ Some k → f (get_or paths i []) ≡ Some k
+found_at f paths found i k none is within at =
+    sym (get_or-map f paths i [] none within) ∙ ap (λ l. get_or l i none) (sym is) ∙ at
+
+pub there : (paths : List Bytes) (i : ℕ) → i < length paths → get_or paths i [] ≡ get_or paths i (get_or paths i [])
+there [] i within = absurd (omega arith)
+there (p ∷ ps) zero within = refl
+there (p ∷ ps) (suc i) within = there ps i (omega arith)

@@ -1,5 +1,5 @@
 -- The longest front that is taken.
-use Rattle.std.proofs.Common.{◌≡◌, ◌≢◌, ℕ, zero, suc, ◌+◌, ◌-◌, ◌<◌, ◌≤◌, nat_eq, nat_lt, nat_le, List, [], ◌∷◌, ◌++◌, Bool, true, false, cond, not, ◌||◌, ◌&&◌, Option, Some, None, is_some, refl, sym, ap, ◌∙◌, subst, arith, length, take, append_assoc}
+use Rattle.std.proofs.Common.{◌≡◌, ◌≢◌, ℕ, zero, suc, ◌+◌, ◌-◌, ◌<◌, ◌≤◌, nat_eq, nat_lt, nat_le, List, [], ◌∷◌, ◌++◌, Bool, true, false, cond, not, ◌||◌, ◌&&◌, Option, Some, None, is_some, refl, sym, ap, ◌∙◌, subst, arith, length, take, append_assoc, min}
 use Rattle.std.specs.List.{filter_map}
 use Rattle.std.specs.Option.{option_and_then, option_map_or}
 use Rattle.std.proofs.lemmas.Bool.Decides.{nat_tests}
@@ -375,11 +375,43 @@ taken_is_cut limits (t ∷ ts) ok some = by (is_barrier t) refl
     by true e = let few = ap length (nothing e) in absurd (omega arith)
     by false e = sym (cut_is limits t ts ok e)
 
+-- what is taken is a front
+pub taken_is_front : (limits : LimitNumbers) (txns : List Txn) → are_limits limits ≡ true
+    → take (length (batch_of (taken_behind limits [] txns))) txns ≡ batch_of (taken_behind limits [] txns)
+taken_is_front limits txns ok =
+    (ends_longest limits txns (taken_behind limits [] txns) (taken_ends limits [] txns (nothing_taken limits ok))).of
+
 pub taken_is_grouped : (limits : LimitNumbers) (txns : List Txn) → are_limits limits ≡ true
     → grouped (batch_of (taken_behind limits [] txns)) ≡ Some (taken_behind limits [] txns)
 taken_is_grouped limits txns ok = (taken_ends limits [] txns (nothing_taken limits ok)).taken.grouped_is
 
 -- ---- a barrier alone
+
+-- where nothing can be taken, what is cut is the first transaction, if there is one
+pub record IsAlone (limits : LimitNumbers) (txns : List Txn) (n : ℕ) : Type 0 where
+  pub taken : take n txns ≡ cut limits txns
+  pub no_groups : [] ≡ groups_of (cut limits txns)
+  pub allowed : is_batch (cut limits txns) ≡ true
+
+pub alone : (limits : LimitNumbers) (txns : List Txn) (n : ℕ) → n ≡ min (length txns) 1 → BeginsWithBarrier txns
+    → IsAlone limits txns n
+alone limits [] n is barrier = record { taken = ap (λ j. take j []) is; no_groups = refl; allowed = refl }
+alone limits (t ∷ ts) n is barrier =
+    record {
+      taken = ap (λ j. take j (t ∷ ts)) one ∙ sym first;
+      no_groups = sym (ap groups_of first ∙ ap (λ b. listed (of_first b)) barrier);
+      allowed = ap is_batch first ∙ ap (λ b. b || is_some (grouped (t ∷ []))) barrier;
+    }
+  where
+    one : n ≡ 1
+    one = omega arith
+
+    of_first : Bool → Option (List Tagged)
+    of_first b =
+        option_and_then (λ k. Some ((k, t) ∷ [])) (cond b None (group_for [] (footprint t)))
+
+    first : cut limits (t ∷ ts) ≡ t ∷ []
+    first = ap (λ b. cond b (t ∷ []) (longest_of (is_allowed limits) (t ∷ ts) (length (t ∷ ts)))) barrier
 
 alone_when_empty : (txns : List Txn) (n : ℕ) → n ≡ length txns → groups_of txns ≡ [] → is_batch txns ≡ true
     → not (nat_eq n 0) ≡ is_barrier_alone txns

@@ -24,6 +24,11 @@ EachIsInAGroup =
     (txns : List Txn) (ts : List Tagged) → grouped txns ≡ Some ts
     → (batch_of ts ≡ txns) × AllByRecursion (λ (t : Tagged). t.0 < opened ts) ts
 
+-- none of them is a barrier
+abbrev pub NoneIsABarrier : Type 0
+NoneIsABarrier =
+    (txns : List Txn) (ts : List Tagged) → grouped txns ≡ Some ts → AllByRecursion (λ t. is_barrier t ≡ false) txns
+
 -- a group has the paths of its transactions
 abbrev pub GroupsCoverTheirPaths : Type 0
 GroupsCoverTheirPaths =

@@ -1,29 +1,42 @@
 //! What is cut from the front of a list.
 
-ghost use Rattle.std.specs.Prelude.{◌≡◌, IfOk, IsTrue, List};
+ghost use Rattle.std.specs.Prelude.{◌≡◌, ◌≤◌, IfOk, OnOk, OnErr, take, drop, length};
 ghost use Rattle.batcher.specs.Cut.{cut};
-ghost use Rattle.batcher.specs.Inner.Taking.{BeginsWithBarrier};
 
 use crate::batch::Batch;
-use crate::draft::Draft;
+use crate::front::front_of;
 use crate::limits::Limits;
 use std::alloc::Global;
+use std::collections::VecDeque;
 use txn_codec::Txn;
 use values::NoMemory;
 
-// The first transaction alone, if there is one.
-fn alone(alloc: Global, txns: &[Txn], limits: &Limits) -> Result<Batch, NoMemory>
-    requires { BeginsWithBarrier txns.now }
-    ensures { IfOk result (λ batch. batch ≡ cut limits.now txns.now) }
+// Copies of the transactions.
+fn copied(alloc: Global, txns: &[Txn]) -> Result<Vec<Txn>, NoMemory>
+    ensures { IfOk result (λ copies. copies.items ≡ txns.now) }
 {
-    let mut batch = Vec::new(alloc);
-    match txns.first() {
-        None => return Ok(Batch::new(batch, Vec::new(alloc))),
-        Some(first) => {
-            batch.push(first.clone()?)?;
-            Ok(Batch::new(batch, Vec::new(alloc)))
-        }
+    let mut copies = Vec::with_capacity(alloc, txns.len())?;
+    for txn in txns {
+        copies.push(txn.clone()?)?;
     }
+    Ok(copies)
+}
+
+// Moves so many transactions out of the front.
+fn moved(alloc: Global, txns: &mut VecDeque<Txn>, count: usize) -> Result<Vec<Txn>, NoMemory>
+    requires { count ≤ length txns.old.items }
+    ensures front { IfOk result (λ front. front.items ≡ take count txns.old.items) }
+    ensures rest { OnOk result (txns.new.items ≡ drop count txns.old.items) }
+    ensures refused { OnErr result (txns.new.items ≡ txns.old.items) }
+{
+    let mut front = Vec::with_capacity(alloc, count)?;
+    for _ in 0..count {
+        let Some(txn) = txns.pop_front() else {
+            return Ok(front);
+        };
+        front.push_reserved(txn);
+    }
+    Ok(front)
 }
 
 /// The batch at the front of the list: the longest front that the limits and the groups allow, or a
@@ -32,10 +45,20 @@ fn alone(alloc: Global, txns: &[Txn], limits: &Limits) -> Result<Batch, NoMemory
 pub fn cut(alloc: Global, txns: &[Txn], limits: &Limits) -> Result<Batch, NoMemory>
     ensures { IfOk result (λ batch. batch ≡ cut limits.now txns.now) }
 {
-    let draft = Draft::of_front(alloc, txns, limits)?;
-    // With no other before it only a barrier may not be taken.
-    if draft.txns.is_empty() {
-        return alone(alloc, txns, limits);
-    }
-    Ok(Batch::new(draft.txns, draft.groups))
+    let front = front_of(alloc, txns, limits)?;
+    Ok(Batch::new(copied(alloc, &txns[..front.count])?, front.groups))
+}
+
+/// The same, moved out of the front of a queue and not copied. Refused memory, it leaves the queue as it was.
+pub fn cut_front(
+    alloc: Global,
+    txns: &mut VecDeque<Txn>,
+    limits: &Limits,
+) -> Result<Batch, NoMemory>
+    ensures batch { IfOk result (λ batch. batch ≡ cut limits.now txns.old.items) }
+    ensures rest { IfOk result (λ batch. txns.new.items ≡ drop (length batch) txns.old.items) }
+    ensures refused { OnErr result (txns.new.items ≡ txns.old.items) }
+{
+    let front = front_of(alloc, txns.make_contiguous(), limits)?;
+    Ok(Batch::new(moved(alloc, txns, front.count)?, front.groups))
 }

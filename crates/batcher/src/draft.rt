@@ -1,11 +1,10 @@
 //! A batch while it grows.
 
-ghost use Rattle.std.specs.Prelude.{◌≡◌, ◌++◌, ◌∷◌, [], Option, Some, None, IfOk, OnOk, IsTrue, if◌then◌else◌};
+ghost use Rattle.std.specs.Prelude.{◌≡◌, ◌↔◌, ◌++◌, ◌∷◌, [], Option, Some, None, IfOk, OnOk, IsTrue, map, if◌then◌else◌};
 ghost use Rattle.std.specs.BTreeMap.{get_by_text};
-ghost use Rattle.ephemerals.specs.Orders.{Bytes};
-ghost use Rattle.data_tree.specs.Footprint.{touches};
-ghost use Rattle.footprint.specs.Footprints.{footprint_of};
-ghost use Rattle.footprint.specs.declared.cover.Footprint.TheVariants as cover;
+ghost use Rattle.std.specs.Ordering.{eq_by_cmp};
+ghost use Rattle.ephemerals.specs.Orders.{Bytes, path_cmp};
+ghost use Rattle.data_tree.specs.Footprint.{touches, footprint};
 ghost use Rattle.batcher.specs.Limits.{are_limits};
 ghost use Rattle.batcher.specs.Groups.{group_for};
 ghost use Rattle.batcher.specs.Inner.Joining.{with_member, met_group};
@@ -15,16 +14,16 @@ ghost use Rattle.batcher.specs.Inner.Drafts.{taken_in, IsDraft};
 use crate::group::Group;
 use crate::limits::Limits;
 use crate::met::{Met, met_by};
-use footprint::{Footprint, footprint};
+use footprint::{borrow_paths, is_barrier};
 use std::alloc::Global;
 use std::collections::BTreeMap;
 use txn_codec::Txn;
-use values::{NoMemory, Text};
+use values::{NoMemory, Str};
 
-/// The transactions that were taken, and their groups.
+/// The transactions that were taken, where they stand, and their groups.
 #[derive(Drop)]
-pub struct Draft {
-    pub txns: Vec<Txn>,
+pub struct Draft<'a> {
+    pub txns: Vec<&'a Txn>,
     /// The group of each.
     pub numbers: Vec<usize>,
     /// The group that has a path, so that what a transaction meets is found by its own paths.
@@ -32,18 +31,46 @@ pub struct Draft {
     pub groups: Vec<Group>,
 }
 
-// Gives the paths to a group.
+// Whether the owner that was found is the group.
+fn is_group(found: Option<usize>, group: usize) -> bool
+    ensures { IsTrue result ↔ (found ≡ Some group) }
+{
+    match found {
+        None => false,
+        Some(other) => other == group,
+    }
+}
+
+// Gives the path to a group.
+fn own_path(
+    owners: &mut BTreeMap<String, usize>,
+    alloc: Global,
+    group: usize,
+    path: &str,
+) -> Result<(), NoMemory>
+    ensures { OnOk result ((q : Bytes) → get_by_text owners.new q
+        ≡ (if eq_by_cmp path_cmp q path.now then Some group else get_by_text owners.old q)) }
+{
+    owners.insert(String::from_str(alloc, path)?, group)?;
+    Ok(())
+}
+
+// Gives the paths, of which these owners were found, to a group. Only a path that isn't the group's takes memory.
 fn own(
     owners: &mut BTreeMap<String, usize>,
     alloc: Global,
     group: usize,
-    paths: &[Text],
+    paths: &[Str<'_>],
+    found: &[Option<usize>],
 ) -> Result<(), NoMemory>
+    requires { found.now ≡ map (get_by_text owners.old) paths.now }
     ensures { OnOk result ((path : Bytes) → get_by_text owners.new path
         ≡ (if touches paths.now path then Some group else get_by_text owners.old path)) }
 {
-    for path in paths {
-        owners.insert(String::from_str(alloc, path.as_str())?, group)?;
+    for place in 0..paths.len() {
+        if !is_group(found[place], group) {
+            own_path(owners, alloc, group, paths[place].as_str())?;
+        }
     }
     Ok(())
 }
@@ -54,7 +81,7 @@ fn add_to(
     alloc: Global,
     group: usize,
     place: usize,
-    paths: &[Text],
+    paths: &[Str<'_>],
 ) -> Result<(), NoMemory>
     ensures { OnOk result
         (groups.new.items ≡ with_member groups.old.items group place paths.now) }
@@ -79,56 +106,72 @@ fn met_group(met: Met, new: usize) -> Option<usize>
     }
 }
 
-impl Draft {
-    // No transaction, and room for so many numbers.
-    fn with_capacity(alloc: Global, most: usize) -> Result<Draft, NoMemory>
+impl<'a> Draft<'a> {
+    // No transaction, and room for so many.
+    fn with_capacity(alloc: Global, most: usize) -> Result<Draft<'a>, NoMemory>
         ensures draft { IfOk result IsDraft }
         ensures taken { IfOk result (λ draft. taken_in draft ≡ []) }
     {
         Ok(Draft {
-            txns: Vec::new(alloc),
+            txns: Vec::with_capacity(alloc, most)?,
             numbers: Vec::with_capacity(alloc, most)?,
             owners: BTreeMap::new(alloc),
             groups: Vec::new(alloc),
         })
     }
 
-    // The group of a transaction with these paths, if there is one for it.
-    fn group_for(&self, paths: &[Text]) -> Option<usize>
+    // The group of a transaction with these paths, if there is one for it; and the owner of each path.
+    fn group_for(
+        &self,
+        paths: &[Str<'_>],
+        found: &mut Vec<Option<usize>>,
+    ) -> Result<Option<usize>, NoMemory>
         requires { IsDraft self.now }
-        ensures { result ≡ group_for (taken_in self.now) paths.now }
+        ensures group { IfOk result (λ group. group ≡ group_for (taken_in self.now) paths.now) }
+        ensures found { OnOk result (found.new.items ≡ map (get_by_text self.now.owners) paths.now) }
     {
+        let met = met_by(&self.owners, paths, found)?;
         if paths.is_empty() {
-            return Some(self.groups.len().saturating_sub(1));
+            return Ok(Some(self.groups.len().saturating_sub(1)));
         }
-        met_group(met_by(&self.owners, paths), self.groups.len())
+        Ok(met_group(met, self.groups.len()))
     }
 
-    // Adds a transaction with these paths to a group.
+    // Adds a transaction with these paths, of which these owners were found, to a group.
     fn add(
         &mut self,
         alloc: Global,
         group: usize,
-        txn: &Txn,
-        paths: &[Text],
+        txn: &'a Txn,
+        paths: &[Str<'_>],
+        found: &[Option<usize>],
     ) -> Result<(), NoMemory>
         requires draft { IsDraft self.old }
         requires group { group_for (taken_in self.old) paths.now ≡ Some group }
-        requires paths { footprint_of txn.now ≡ cover.Paths paths.now }
+        requires paths { paths.now ≡ footprint txn.now }
+        requires found { found.now ≡ map (get_by_text self.old.owners) paths.now }
         ensures draft { OnOk result (IsDraft self.new) }
         ensures taken { OnOk result
             (taken_in self.new ≡ taken_in self.old ++ (group, txn.now) ∷ []) }
     {
         add_to(&mut self.groups, alloc, group, self.txns.len(), paths)?;
-        own(&mut self.owners, alloc, group, paths)?;
+        own(&mut self.owners, alloc, group, paths, found)?;
         self.numbers.push(group)?;
-        self.txns.push(txn.clone()?)?;
+        self.txns.push(txn)?;
         Ok(())
     }
 
-    // Takes the transaction, if it may be taken, and says whether it was.
-    fn take(&mut self, alloc: Global, txn: &Txn, limits: &Limits) -> Result<bool, NoMemory>
-        requires { IsDraft self.old }
+    // Takes the transaction with these paths, if it may be taken, and says whether it was.
+    fn take(
+        &mut self,
+        alloc: Global,
+        txn: &'a Txn,
+        paths: &[Str<'_>],
+        found: &mut Vec<Option<usize>>,
+        limits: &Limits,
+    ) -> Result<bool, NoMemory>
+        requires draft { IsDraft self.old }
+        requires paths { paths.now ≡ footprint txn.now }
         ensures draft { OnOk result (IsDraft self.new) }
         ensures taken { IfOk result (λ taken.
             HasTaken limits.now (taken_in self.old) txn.now taken (taken_in self.new)) }
@@ -136,25 +179,23 @@ impl Draft {
         if self.txns.len() >= limits.batch() {
             return Ok(false);
         }
-        let paths = match footprint(alloc, txn)? {
-            Footprint::Barrier => return Ok(false),
-            Footprint::Paths(paths) => paths,
-        };
-        let paths = paths.as_slice();
-        match self.group_for(paths) {
+        if is_barrier(alloc, txn, paths)? {
+            return Ok(false);
+        }
+        match self.group_for(paths, found)? {
             None => return Ok(false),
             Some(group) => {
                 if group >= limits.groups() {
                     return Ok(false);
                 }
-                self.add(alloc, group, txn, paths)?;
+                self.add(alloc, group, txn, paths, found.as_slice())?;
                 Ok(true)
             }
         }
     }
 
     /// The transactions that may be done at once, from the front on.
-    pub fn of_front(alloc: Global, txns: &[Txn], limits: &Limits) -> Result<Draft, NoMemory>
+    pub fn of_front(alloc: Global, txns: &'a [Txn], limits: &Limits) -> Result<Draft<'a>, NoMemory>
         ensures draft { IfOk result IsDraft }
         ensures taken { IfOk result
             (λ draft. taken_in draft ≡ taken_behind limits.now [] txns.now) }
@@ -162,8 +203,13 @@ impl Draft {
     {
         let most = limits.batch().min(txns.len());
         let mut draft = Draft::with_capacity(alloc, most)?;
+        // Room for one transaction's paths and their owners, used for each.
+        let mut paths = Vec::new(alloc);
+        let mut found = Vec::new(alloc);
         for txn in txns {
-            if !draft.take(alloc, txn, limits)? {
+            paths.clear();
+            borrow_paths(txn, &mut paths)?;
+            if !draft.take(alloc, txn, paths.as_slice(), &mut found, limits)? {
                 return Ok(draft);
             }
         }

@@ -8,7 +8,7 @@ ghost use Rattle.batcher.specs.Inner.Joining.{joined};
 use ephemerals::TextSet;
 use std::alloc::Global;
 use std::marker::Model;
-use values::{NoMemory, Text};
+use values::{NoMemory, Str};
 
 /// Transactions of a batch that are done one after the other, by their places in it, and the paths that
 /// they may touch.
@@ -28,12 +28,23 @@ impl Model for Group {
     ghost view = { λ g. record { members = g.members.items; paths = g.paths } };
 }
 
+// Adds a path to a set. Only a new one takes memory.
+fn add_path(alloc: Global, names: &mut TextSet, path: &str) -> Result<(), NoMemory>
+    ensures { OnOk result (names.new ≡ set.insert names.old path.now) }
+{
+    if names.contains(path) {
+        return Ok(());
+    }
+    names.insert(String::from_str(alloc, path)?)?;
+    Ok(())
+}
+
 // Adds paths to a set.
-fn add_paths(alloc: Global, names: &mut TextSet, paths: &[Text]) -> Result<(), NoMemory>
+fn add_paths(alloc: Global, names: &mut TextSet, paths: &[Str<'_>]) -> Result<(), NoMemory>
     ensures { OnOk result (names.new ≡ set.union names.old (set.from_list paths.now)) }
 {
     for path in paths {
-        names.insert(String::from_str(alloc, path.as_str())?)?;
+        add_path(alloc, names, path.as_str())?;
     }
     Ok(())
 }
@@ -68,7 +79,7 @@ impl Group {
         &mut self,
         alloc: Global,
         place: usize,
-        paths: &[Text],
+        paths: &[Str<'_>],
     ) -> Result<(), NoMemory>
         ensures { OnOk result (self.new ≡ joined self.old place paths.now) }
     {

@@ -1,13 +1,14 @@
 //! Laws of cuts and groups. Each is the contract of a function that does nothing.
 
-ghost use Rattle.batcher.specs.Laws.{GroupsAreApart, EachIsInAGroup, GroupsCoverTheirPaths, PlacesNameTheGroup, CutsAreLongest};
+ghost use Rattle.batcher.specs.Laws.{GroupsAreApart, EachIsInAGroup, NoneIsABarrier, GroupsCoverTheirPaths, PlacesNameTheGroup, CutsAreLongest};
 ghost use Rattle.batcher.specs.Rows.{CutsAreWorked};
 
 /// No two groups have a path in common; each transaction, in its order, is in just one group, whose paths
-/// cover its own; and a group's places name its transactions in order.
+/// cover its own, and is no barrier; and a group's places name its transactions in order.
 pub fn groups()
     ensures apart { GroupsAreApart }
     ensures each { EachIsInAGroup }
+    ensures barriers { NoneIsABarrier }
     ensures paths { GroupsCoverTheirPaths }
     ensures places { PlacesNameTheGroup }
 {}

@@ -15,17 +15,20 @@
 //!     group.paths()       // the paths whose cells they may touch
 //! }
 //! ```
+//!
+//! `cut` copies the transactions of its batch; who has them in a queue lets `cut_front` move them out of it.
 #![tactic(auto)]
 
 mod batch;
 mod cutting;
 mod draft;
+mod front;
 mod group;
 pub mod law;
 mod limits;
 mod met;
 
 pub use batch::Batch;
-pub use cutting::cut;
+pub use cutting::{cut, cut_front};
 pub use group::Group;
 pub use limits::{BadLimit, Limits};

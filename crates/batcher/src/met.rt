@@ -1,12 +1,12 @@
 //! Which groups a transaction meets.
 
-ghost use Rattle.std.specs.Prelude.{◌≡◌};
+ghost use Rattle.std.specs.Prelude.{◌≡◌, IfOk, OnOk, map};
 ghost use Rattle.std.specs.BTreeMap.{get_by_text};
 ghost use Rattle.batcher.specs.Inner.Joining.{also, all_met};
 ghost use Rattle.batcher.specs.declared.met.Met.TheVariants.{Nothing};
 
 use std::collections::BTreeMap;
-use values::Text;
+use values::{NoMemory, Str};
 
 /// The groups that have one of a transaction's paths.
 #[derive(Clone, Copy)]
@@ -43,13 +43,21 @@ fn also(met: Met, owner: Option<usize>) -> Met
     }
 }
 
-/// The groups that own one of the paths.
-pub fn met_by(owners: &BTreeMap<String, usize>, paths: &[Text]) -> Met
-    ensures { result ≡ all_met (get_by_text owners.now) Nothing paths.now }
+/// The groups that own one of the paths; and for each path the group that owns it, so that it is looked up once.
+pub fn met_by(
+    owners: &BTreeMap<String, usize>,
+    paths: &[Str<'_>],
+    found: &mut Vec<Option<usize>>,
+) -> Result<Met, NoMemory>
+    ensures met { IfOk result (λ met. met ≡ all_met (get_by_text owners.now) Nothing paths.now) }
+    ensures found { OnOk result (found.new.items ≡ map (get_by_text owners.now) paths.now) }
 {
+    found.clear();
     let mut met = Met::Nothing;
     for path in paths {
-        met = also(met, owner(owners, path.as_str()));
+        let group = owner(owners, path.as_str());
+        found.push(group)?;
+        met = also(met, group);
     }
-    met
+    Ok(met)
 }

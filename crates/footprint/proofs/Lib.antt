@@ -1,4 +1,4 @@
--- A set that gains paths
-mod Gaining
+-- A list of paths as a set
+mod Gathering
 -- The paths of a set as a list
 pub mod Ascending

@@ -10,12 +10,16 @@
 //!     Footprint::Paths(paths) => ..       // of a create of /a/b: "/a", "/a/b"
 //! }
 //! ```
+//!
+//! Who needs no order has the paths as the transaction names them: `borrow_paths` copies none of them, and `is_barrier` tells
+//! whether they are too many.
 #![tactic(auto)]
 
+mod borrowing;
 mod cover;
-mod gathering;
 pub mod law;
 mod listing;
 
+pub use borrowing::borrow_paths;
 pub use cover::Footprint;
-pub use listing::footprint;
+pub use listing::{footprint, is_barrier};

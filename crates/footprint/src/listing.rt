@@ -1,28 +1,47 @@
 //! The footprint of a transaction, its paths listed in ascending bytes.
 
 ghost use Rattle.std.specs.Prelude.{◌≡◌, IfOk};
+ghost use Rattle.std.specs.FinSet as set;
 ghost use Rattle.ephemerals.specs.Orders.{in_order};
-ghost use Rattle.footprint.specs.Footprints.{paths_of, is_barrier, footprint_of};
+ghost use Rattle.data_tree.specs.Footprint as cells;
+ghost use Rattle.footprint.specs.Footprints.{is_barrier, footprint_of};
 
+use crate::borrowing::borrow_paths;
 use crate::cover::Footprint;
-use crate::gathering::gathered;
 use ephemerals::TextSet;
 use std::alloc::Global;
 use txn_codec::{Body, Txn};
-use values::{Listed, NoMemory, Text};
+use values::{Listed, NoMemory, Str, Text};
 
 // A multi of more paths is done alone.
 const MOST_PATHS: usize = 16;
 
-// Whether a transaction with these paths is done alone.
-fn is_barrier(txn: &Txn, paths: &TextSet) -> bool
-    requires { paths.now ≡ paths_of txn.now }
-    ensures { result ≡ is_barrier txn.now }
+// The set of the paths.
+fn gathered(alloc: Global, paths: &[Str<'_>]) -> Result<TextSet, NoMemory>
+    ensures { IfOk result (λ names. names ≡ set.from_list paths.now) }
+{
+    let mut names = TextSet::new(alloc);
+    for path in paths {
+        names.insert(String::from_str(alloc, path.as_str())?)?;
+    }
+    Ok(names)
+}
+
+/// Whether a transaction with these paths is done alone.
+pub fn is_barrier(alloc: Global, txn: &Txn, paths: &[Str<'_>]) -> Result<bool, NoMemory>
+    requires { paths.now ≡ cells.footprint txn.now }
+    ensures { IfOk result (λ barrier. barrier ≡ is_barrier txn.now) }
 {
     match &txn.body {
-        Body::CloseSession => true,
-        Body::Multi(_) => paths.len() > MOST_PATHS,
-        Body::Single(_) | Body::SetAcl(_) | Body::CreateSession(_) => false,
+        Body::CloseSession => Ok(true),
+        Body::Multi(_) => {
+            // As many paths as these aren't there, also if each is another.
+            if paths.len() <= MOST_PATHS {
+                return Ok(false);
+            }
+            Ok(gathered(alloc, paths)?.len() > MOST_PATHS)
+        }
+        Body::Single(_) | Body::SetAcl(_) | Body::CreateSession(_) => Ok(false),
     }
 }
 
@@ -42,9 +61,11 @@ fn listed(alloc: Global, paths: TextSet) -> Result<Listed<Text>, NoMemory>
 pub fn footprint(alloc: Global, txn: &Txn) -> Result<Footprint, NoMemory>
     ensures { IfOk result (λ footprint. footprint ≡ footprint_of txn.now) }
 {
-    let paths = gathered(alloc, txn)?;
-    if is_barrier(txn, &paths) {
+    let mut paths = Vec::new(alloc);
+    borrow_paths(txn, &mut paths)?;
+    if is_barrier(alloc, txn, paths.as_slice())? {
         return Ok(Footprint::Barrier);
     }
-    Ok(Footprint::Paths(listed(alloc, paths)?))
+    let names = gathered(alloc, paths.as_slice())?;
+    Ok(Footprint::Paths(listed(alloc, names)?))
 }

@@ -56,6 +56,46 @@ fn held<R: Threads + Sync>(
     answers(alloc, outcomes.as_slice())
 }
 
+// Counts the groups that worker 0 passes in their order, and all others.
+#[derive(Drop)]
+struct Counting {
+    in_order: AtomicU64,
+    others: AtomicU64,
+}
+
+impl Gate for Counting {
+    fn pass(&self, worker: usize, group: usize) {
+        if worker == 0 && self.in_order.load(Ordering::SeqCst) == group as u64 {
+            self.in_order.fetch_add(1, Ordering::SeqCst);
+            return;
+        }
+        self.others.fetch_add(1, Ordering::SeqCst);
+    }
+}
+
+// How many groups one worker passes in their order, and how many otherwise.
+fn passed<R: Threads + Sync>(rt: &R, alloc: Global, words: &str) -> Result<(u64, u64), Fail> {
+    let gate = Counting {
+        in_order: AtomicU64::new(0),
+        others: AtomicU64::new(0),
+    };
+    let mut tree = tree_behind(alloc, "/a /b /c")?;
+    let batch = batch_of(alloc, words)?;
+    let _outcomes = apply_batch(rt, alloc, &mut tree, batch, 1, &gate)?;
+    Ok((
+        gate.in_order.load(Ordering::SeqCst),
+        gate.others.load(Ordering::SeqCst),
+    ))
+}
+
+#[test]
+fn one_worker_passes_the_gate_once_for_each_group(rt: HostRuntime) -> Result<(), Fail> {
+    let alloc = rt.alloc();
+    assert!(rt; passed(&rt, alloc, "/a/x /b/y /a/z /c/w open /b/v")? == (3, 0));
+    assert!(rt; passed(&rt, alloc, "close")? == (0, 0));
+    Ok(())
+}
+
 #[test]
 fn a_held_group_holds_no_other(rt: HostRuntime) -> Result<(), Fail> {
     let alloc = rt.alloc();

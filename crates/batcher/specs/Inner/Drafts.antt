@@ -1,18 +1,23 @@
 -- What a draft of a batch holds.
-use Rattle.std.specs.Prelude.{◌≡◌, List, length}
+use Rattle.std.specs.Prelude.{◌≡◌, List, length, map}
 use Rattle.std.specs.List.{zip}
 use Rattle.std.specs.BTreeMap.{get_by_text}
 use Rattle.ephemerals.specs.Orders.{Bytes}
+use Rattle.txn_codec.specs.declared.txn.Txn.{Txn}
 use Rattle.data_tree.specs.Commuting.{Tagged}
 use Rattle.batcher.specs.declared.draft.Draft.{Draft}
 use Rattle.batcher.specs.Groups.{group_with, classes_of}
 
--- its transactions with their groups
+-- its transactions
+abbrev pub txns_in : Draft → List Txn
+txns_in draft = map (λ t. t.now) draft.txns.items
+
+-- with their groups
 abbrev pub taken_in : Draft → List Tagged
-taken_in draft = zip draft.numbers.items draft.txns.items
+taken_in draft = zip draft.numbers.items (txns_in draft)
 
 -- the groups, and what is kept to find them, are those of its transactions
 pub record IsDraft (draft : Draft) : Type 0 where
-  pub numbers : length draft.numbers.items ≡ length draft.txns.items
+  pub numbers : length draft.numbers.items ≡ length (txns_in draft)
   pub owners : (path : Bytes) → get_by_text draft.owners path ≡ group_with (taken_in draft) path
   pub groups : draft.groups.items ≡ classes_of (taken_in draft)

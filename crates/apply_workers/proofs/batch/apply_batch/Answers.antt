@@ -9,7 +9,7 @@ use Rattle.apply_workers.proofs.batch.apply_batch.Goals as goal
 
 pub works-requires : goal.works-requires
 works-requires g c =
-    ap length (c.in_ok-cells.ensures.cells ∙ ap (λ cs. cells_of_each cs c.args.tree.now) c.groups.ensures)
+    ap length (c.in_ok-cells.ensures.cells ∙ ap (λ cs. cells_of_each cs c.args.tree.now) c.groups-2.ensures)
     ∙ cells_length (groups_of c.args.batch) c.args.tree.now
 
 pub returns-clause-tree : goal.returns-clause-tree
@@ -21,9 +21,9 @@ returns-clause-tree g c =
     let back = came_home c.in_ok-works.field-0.items c.in_ok-groups.groups.items _ _ c.in_ok-done.done.cells.items
     c.in_ok-done.done.outcomes.items c.in_ok-groups.ensures.count c.in_ok-groups.ensures.home
     c.in_ok-done.ensures.homes c.in_ok-done.ensures.count
-    (c.in_ok-works.ensures.cells ∙ c.in_ok-cells.ensures.cells ∙ ap (λ cs. cells_of_each cs s) c.groups.ensures)
+    (c.in_ok-works.ensures.cells ∙ c.in_ok-cells.ensures.cells ∙ ap (λ cs. cells_of_each cs s) c.groups-2.ensures)
     c.in_ok-works.ensures.txns in
-    let left = c.in_ok-cells.ensures.rest ∙ ap (λ cs. without_each cs s) c.groups.ensures in
+    let left = c.in_ok-cells.ensures.rest ∙ ap (λ cs. without_each cs s) c.groups-2.ensures in
     on_ok_weaker c.home.result
     (λ h. h ∙ ap₂ (λ cs u. timed c.args.batch (with_each cs u)) back.left left ∙ law.state) c.home.ensures.tree
 
@@ -36,7 +36,7 @@ returns-clause-outcomes g c =
     let back = came_home c.in_ok-works.field-0.items c.in_ok-groups.groups.items _ _ c.in_ok-done.done.cells.items
     c.in_ok-done.done.outcomes.items c.in_ok-groups.ensures.count c.in_ok-groups.ensures.home
     c.in_ok-done.ensures.homes c.in_ok-done.ensures.count
-    (c.in_ok-works.ensures.cells ∙ c.in_ok-cells.ensures.cells ∙ ap (λ cs. cells_of_each cs s) c.groups.ensures)
+    (c.in_ok-works.ensures.cells ∙ c.in_ok-cells.ensures.cells ∙ ap (λ cs. cells_of_each cs s) c.groups-2.ensures)
     c.in_ok-works.ensures.txns in
     if_ok c.home.result (λ v h. h (outcomes s c.args.batch)
     (subst (λ shares. AreShares c.args.batch (outcomes s c.args.batch) shares) (sym back.answered) law.shares))

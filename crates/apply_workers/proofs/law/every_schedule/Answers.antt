@@ -11,6 +11,7 @@ returns c =
       come = c.moved_cells.ensures.put;
       apart = c.groups-2.ensures.apart;
       each = c.groups-2.ensures.each;
+      barriers = c.groups-2.ensures.barriers;
       cover = c.groups-2.ensures.paths;
     } in
     record { batch = schedules_are_the_batch laws; paths = paths_are_with_one_group laws }

@@ -11,5 +11,6 @@ returns c =
       put = c.moved_cells.ensures.put;
       apart = c.groups-2.ensures.apart;
       each = c.groups-2.ensures.each;
+      barriers = c.groups-2.ensures.barriers;
       cover = c.groups-2.ensures.paths;
     })

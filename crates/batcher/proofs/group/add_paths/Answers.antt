@@ -7,8 +7,8 @@ pub loop-path-preserved : goal.loop-path-preserved
 loop-path-preserved c q =
     gained_step c.args.paths.now c.loop-path.path-index c.path-item.result
     (next_is c.args.paths.now c.loop-path.path-index c.path-item.result c.loop-path-test.true c.path-item.is)
-    c.loop-path.names c.insert.new.self
-    (c.in_ok-insert.ensures.ok ∙ ap (set.insert c.loop-path.names) (c.in_ok-from_str.ensures.ok ∙ c.as_str.ensures)) q _
+    c.loop-path.names c.add_path.new.names
+    (c.in_ok-add_path.ensures ∙ ap (set.insert c.loop-path.names) c.as_str.ensures) q _
     (c.loop-path.invariant q)
 
 pub returns : goal.returns

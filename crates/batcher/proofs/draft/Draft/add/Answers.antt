@@ -1,25 +1,22 @@
-use Rattle.std.proofs.Common.{rules, ◌≡◌, ap, ◌∙◌, ◌++◌, ◌∷◌, []}
-use Rattle.txn_codec.specs.declared.txn.Txn.{Txn}
+use Rattle.std.proofs.Common.{sym, ap, ◌∙◌}
 use Rattle.batcher.specs.declared.draft.Draft.{Draft}
 use Rattle.batcher.specs.Inner.Joining.{with_member}
-use Rattle.batcher.proofs.Drafting.{gained}
+use Rattle.batcher.proofs.Drafting.{gained, txns_more, count_in}
 use Rattle.batcher.proofs.draft.Draft.add.Goals as goal
 
 pub returns : goal.returns
 returns c =
+    let old = c.args.self.now in
     let new : Draft = record {
       txns = c.push-2.new.self;
       numbers = c.push.new.self;
       owners = c.own.new.owners;
       groups = c.add_to.new.groups;
     } in
-    let copied : c.in_ok-clone.field-0 ≡ c.args.txn.now = search rules in
     let done =
-    gained c.args.self.now new c.args.group c.args.txn.now c.args.paths.now c.requires.draft c.requires.group
-    c.requires.paths c.in_ok-push.ensures.items
-    (c.in_ok-push-2.ensures.items ∙ ap (λ (t : Txn). c.args.self.now.txns.items ++ t ∷ []) copied)
-    c.in_ok-own.ensures
+    gained old new c.args.group c.args.txn.now c.args.paths.now c.requires.draft c.requires.group c.requires.paths
+    c.in_ok-push.ensures.items (txns_more old new c.args.txn c.in_ok-push-2.ensures.items) c.in_ok-own.ensures
     (c.in_ok-add_to.ensures
-    ∙ ap (λ place. with_member c.args.self.now.groups.items c.args.group place c.args.paths.now)
-    (c.len.ensures ∙ c.args.self.now.txns.ok.0)) in
+    ∙ ap (λ place. with_member old.groups.items c.args.group place c.args.paths.now)
+    (c.len.ensures ∙ old.txns.ok.0 ∙ sym (count_in old))) in
     record { draft = done.draft; taken = done.taken }

@@ -1,0 +1,88 @@
+//! The paths of a transaction, borrowed from it.
+
+ghost use Rattle.std.specs.Prelude.{◌≡◌, ◌++◌, ◌∷◌, [], OnOk, is_some};
+ghost use Rattle.txn_codec.specs.Paths.{parent_of};
+ghost use Rattle.data_tree.specs.Meaning.{error_of, has_error};
+ghost use Rattle.data_tree.specs.Footprint.{footprint_of, footprint_of_parts, footprint};
+
+use txn_codec::{Body, Operation, Path, Txn};
+use values::{NoMemory, Str};
+
+// Whether a part of a multi is an error part.
+fn is_error(part: &Operation) -> bool
+    ensures { result ≡ is_some (error_of part.now) }
+{
+    match part {
+        Operation::Error(_) => true,
+        Operation::Create(_) | Operation::Delete(_) | Operation::SetData(_) | Operation::Check(_) =>
+            false,
+    }
+}
+
+// Whether some part of a multi is an error part, so that nothing of it is done.
+fn has_error(parts: &[Operation]) -> bool
+    ensures { result ≡ has_error parts.now }
+{
+    for part in parts {
+        if is_error(part) {
+            return true;
+        }
+    }
+    false
+}
+
+// Adds a path.
+fn add<'a>(path: &'a str, paths: &mut Vec<Str<'a>>) -> Result<(), NoMemory>
+    ensures { OnOk result (paths.new.items ≡ paths.old.items ++ path.now ∷ []) }
+{
+    paths.push(Str::new(path))?;
+    Ok(())
+}
+
+// Adds a path, and the one above it.
+fn add_with_parent<'a>(path: &'a Path, paths: &mut Vec<Str<'a>>) -> Result<(), NoMemory>
+    ensures { OnOk result (paths.new.items ≡ paths.old.items ++ path.now ∷ parent_of path.now ∷ []) }
+{
+    add(path.as_str(), paths)?;
+    add(path.parent(), paths)
+}
+
+// Adds the paths of an operation.
+fn add_operation<'a>(operation: &'a Operation, paths: &mut Vec<Str<'a>>) -> Result<(), NoMemory>
+    ensures { OnOk result (paths.new.items ≡ paths.old.items ++ footprint_of operation.now) }
+{
+    match operation {
+        Operation::Create(create) => add_with_parent(&create.path, paths),
+        Operation::Delete(path) => add_with_parent(path, paths),
+        Operation::SetData(set_data) => add(set_data.path.as_str(), paths),
+        Operation::Check(_) | Operation::Error(_) => Ok(()),
+    }
+}
+
+// Adds the paths of a multi's parts.
+fn add_parts<'a>(parts: &'a [Operation], paths: &mut Vec<Str<'a>>) -> Result<(), NoMemory>
+    ensures { OnOk result (paths.new.items ≡ paths.old.items ++ footprint_of_parts parts.now) }
+{
+    for part in parts {
+        add_operation(part, paths)?;
+    }
+    Ok(())
+}
+
+/// Adds the paths of a transaction, as it names them: in no order, and some of a multi's more than once. A closeSession's
+/// are not told.
+pub fn borrow_paths<'a>(txn: &'a Txn, paths: &mut Vec<Str<'a>>) -> Result<(), NoMemory>
+    ensures { OnOk result (paths.new.items ≡ paths.old.items ++ footprint txn.now) }
+{
+    match &txn.body {
+        Body::Single(operation) => add_operation(operation, paths),
+        Body::SetAcl(set_acl) => add(set_acl.path.as_str(), paths),
+        Body::Multi(parts) => {
+            if has_error(parts.as_slice()) {
+                return Ok(());
+            }
+            add_parts(parts.as_slice(), paths)
+        }
+        Body::CreateSession(_) | Body::CloseSession => Ok(()),
+    }
+}
