@@ -1,10 +1,12 @@
--- What is to be done tells what becomes of the log and its base.
-use Rattle.std.proofs.Common.{ℕ, ℤ, List, [], ◌∷◌, ◌++◌, Option, Some, Result, Ok, Err, Bool, true, false, cond, refl, subst, int_lt}
+-- What is to be done tells what becomes of the log and its base, and what is sent can be written.
+use Rattle.std.proofs.Common.{◌≡◌, ℕ, ℤ, List, [], ◌∷◌, ◌++◌, Option, Some, Result, Ok, Err, Bool, true, false, cond, refl, subst, int_lt}
 use Rattle.std.specs.Prelude.{pos, negsuc}
+use Rattle.std.specs.List.{AllByRecursion}
 use Rattle.std.specs.Ordering.{int_eq}
 use Rattle.values.specs.declared.fault.Fault.{Fault}
 use Rattle.values.specs.declared.fault.Fault.TheVariants.{OutOfOrder, CommitMismatch, CannotTruncate, EpochTooSmall}
 use Rattle.jute.specs.Format.{int, ◌>>=◌}
+use Rattle.quorum_packet.specs.Feed.{CanBeWritten}
 use Rattle.quorum_packet.specs.declared.item.Item.{Item}
 use Rattle.quorum_packet.specs.declared.item.Item.TheVariants as item
 use Rattle.quorum_packet.specs.declared.packet.QuorumPacket.{QuorumPacket}
@@ -18,11 +20,14 @@ use Rattle.txn_codec.specs.declared.txn.Txn.{Txn}
 use Rattle.learner_sync.specs.Answers.{epoch_answer}
 use Rattle.learner_sync.specs.Learner.{Learner}
 use Rattle.learner_sync.specs.Zxids.{epoch_of}
-use Rattle.learner_sync.specs.Learn.{Learned, quiet, one, at_phase, carried_bytes, greeted, leader_info, hello, up_to, truncated, truncate, await_image, sync, floor_in, with_applied, apply, inform, propose, commit_of, replay, serve, load, pass_over, packet_in, part_in, learn}
-use Rattle.learner_sync.specs.Laws.{Tells, ActsTell}
+use Rattle.learner_sync.specs.Learn.{Learned, quiet, one, at_phase, carried_bytes, greeted, leader_info, hello, up_to, truncated, truncate, await_image, sync, floor_in, with_applied, apply, inform, propose, commit_of, replay, serve, load, pass_over, acts_to_drop, start_in, packet_in, part_in, learn}
+use Rattle.learner_sync.specs.Laws.{Tells, CanBeDone, is_of_image, ActsTell}
+use Rattle.learner_sync.specs.declared.act.Act.{Act}
 use Rattle.learner_sync.specs.declared.act.Act.TheVariants as act
 use Rattle.learner_sync.specs.declared.phase.Phase.{Phase}
 use Rattle.learner_sync.specs.declared.phase.Phase.TheVariants as phase
+use Rattle.learner_sync.proofs.Each.{packet-each}
+use Rattle.learner_sync.proofs.Sending.{introduction-writable, epoch-writable, acknowledgement-writable, ping-writable}
 
 -- what isn't refused tells it
 abbrev Holds : Learner → Result Learned Fault → Type 0
@@ -48,7 +53,7 @@ propose-holds : (l : Learner) (bytes : List ℕ) → Holds l (propose l bytes)
 propose-holds l bytes = by (whole txn bytes)
   where
     by : (r : Result Txn Fault) → Holds l (r >>= λ t. Ok (quiet (record l { proposals = l.proposals ++ t ∷ [] })))
-    by (Ok t) = (refl, refl)
+    by (Ok t) = (refl, refl, tt)
     by (Err e) = tt
 
 commit-holds : (l : Learner) (ts : List Txn) (zxid : ℤ) → Holds l (commit_of l ts zxid)
@@ -69,8 +74,8 @@ greeted-holds l epoch = by (int_lt l.accepted_epoch epoch)
     }) (one (act.Send (epoch_answer l (negsuc 0))) (at_phase l phase.Sync))
 
     by : (b : Bool) → Tells (answered b).acts l (answered b).after
-    by true = (refl, refl)
-    by false = (refl, refl)
+    by true = (refl, refl, (refl, (refl, tt)))
+    by false = (refl, refl, (refl, tt))
 
 info-holds : (l : Learner) (epoch : ℤ) (bytes : List ℕ) → Holds l (leader_info l epoch bytes)
 info-holds l epoch bytes = by (int_lt epoch l.accepted_epoch)
@@ -100,10 +105,10 @@ await-holds l zxid = by (int_lt zxid (pos 0))
   where
     by : (b : Bool) → Holds l (cond b (Err OutOfOrder) (Ok (quiet (at_phase l (phase.Image zxid)))))
     by true = tt
-    by false = (refl, refl)
+    by false = (refl, refl, tt)
 
 sync-holds : (k : Option PacketKind) (l : Learner) (p : QuorumPacket) → Holds l (sync k l p)
-sync-holds (Some kinds.Diff) l p = (refl, refl)
+sync-holds (Some kinds.Diff) l p = (refl, refl, tt)
 sync-holds (Some kinds.Trunc) l p = truncate-holds l p.zxid
 sync-holds (Some kinds.Snap) l p = await-holds l p.zxid
 sync-holds k l p = tt
@@ -112,22 +117,25 @@ replay-holds : (k : Option PacketKind) (l : Learner) (p : QuorumPacket) → Hold
 replay-holds (Some kinds.Proposal) l p = propose-holds l (carried_bytes p.bytes)
 replay-holds (Some kinds.Commit) l p = commit-holds l l.proposals p.zxid
 replay-holds (Some kinds.Inform) l p = inform-holds l (carried_bytes p.bytes)
-replay-holds k l p = (refl, refl)
+replay-holds (Some kinds.NewLeader) l p = (refl, refl, (refl, (refl, tt)))
+replay-holds (Some kinds.UpToDate) l p = (refl, refl, (refl, (refl, (refl, tt))))
+replay-holds k l p = (refl, refl, tt)
 
 serve-holds : (k : Option PacketKind) (l : Learner) (p : QuorumPacket) → Holds l (serve k l p)
 serve-holds (Some kinds.Inform) l p = inform-holds l (carried_bytes p.bytes)
-serve-holds k l p = (refl, refl)
+serve-holds (Some kinds.Ping) l p = (refl, refl, (refl, tt))
+serve-holds k l p = (refl, refl, tt)
 
 load-holds : (p : ImagePart) (l : Learner) (zxid : ℤ) → Holds l (Ok (load p l zxid))
 load-holds part.End l zxid = (refl, refl)
 load-holds p l zxid = (refl, refl)
 
 pass-holds : (p : ImagePart) (l : Learner) → Holds l (Ok (pass_over p l))
-pass-holds part.End l = (refl, refl)
+pass-holds part.End l = (refl, refl, (refl, tt))
 pass-holds p l = (refl, refl)
 
 packet-holds : (ph : Phase) (l : Learner) (p : QuorumPacket) → Holds l (packet_in ph l p)
-packet-holds phase.Down l p = (refl, refl)
+packet-holds phase.Down l p = (refl, refl, tt)
 packet-holds phase.Hello l p = hello-holds (kind_of p.kind) l p
 packet-holds phase.Sync l p = sync-holds (kind_of p.kind) l p
 packet-holds (phase.Image zxid) l p = tt
@@ -136,7 +144,6 @@ packet-holds phase.Replay l p = replay-holds (kind_of p.kind) l p
 packet-holds phase.Serving l p = serve-holds (kind_of p.kind) l p
 
 part-holds : (ph : Phase) (l : Learner) (p : ImagePart) → Holds l (part_in ph l p)
-part-holds phase.Down l p = (refl, refl)
 part-holds phase.Hello l p = tt
 part-holds phase.Sync l p = tt
 part-holds (phase.Image zxid) l p = load-holds p l zxid
@@ -146,5 +153,53 @@ learn-holds : (l : Learner) (i : Item) → Holds l (learn l i)
 learn-holds l (item.Packet p) = packet-holds l.phase l p
 learn-holds l (item.Part p) = part-holds l.phase l p
 
+-- ---- what is sent
+
+-- what isn't refused can be done
+abbrev CanBe : Result Learned Fault → Type 0
+CanBe (Ok x) = AllByRecursion CanBeDone x.acts
+CanBe (Err e) = Unit {0}
+
+drop-can-be : (p : ImagePart) → AllByRecursion CanBeDone (acts_to_drop p)
+drop-can-be part.End = (tt, tt)
+drop-can-be p = (tt, tt)
+
+load-can-be : (p : ImagePart) (l : Learner) (zxid : ℤ) → AllByRecursion CanBeDone (load p l zxid).acts
+load-can-be part.End l zxid = (tt, tt)
+load-can-be p l zxid = (tt, tt)
+
+part-can-be : (ph : Phase) (l : Learner) (p : ImagePart) → CanBe (part_in ph l p)
+part-can-be phase.Hello l p = tt
+part-can-be phase.Sync l p = tt
+part-can-be (phase.Image zxid) l p = load-can-be p l zxid
+part-can-be ph l p = drop-can-be p
+
+learn-can-be : (l : Learner) (i : Item) → CanBeWritten i → CanBe (learn l i)
+learn-can-be l (item.Packet p) w =
+    packet-each CanBeDone tt tt tt (λ zxid. tt) epoch-writable acknowledgement-writable l.phase l p (ping-writable p w)
+learn-can-be l (item.Part p) w = part-can-be l.phase l p
+
+start-can-be : (ph : Phase) (l : Learner) (server_id : ℤ) → AllByRecursion CanBeDone (start_in ph l server_id).acts
+start-can-be phase.Down l server_id = (introduction-writable l server_id, tt)
+start-can-be ph l server_id = tt
+
+-- ---- packets and images
+
+abbrev IsApart : Act → Type 0
+IsApart a = is_of_image a ≡ false
+
+abbrev Apart : Result Learned Fault → Type 0
+Apart (Ok x) = AllByRecursion IsApart x.acts
+Apart (Err e) = Unit {0}
+
+packet-apart : (l : Learner) (p : QuorumPacket) → Apart (learn l (item.Packet p))
+packet-apart l p =
+    packet-each IsApart refl refl refl (λ zxid. refl) (λ l epoch. refl) (λ l. refl) l.phase l p refl
+
 pub acts_tell : ActsTell
-acts_tell l i x e = subst (Holds l) e (learn-holds l i)
+acts_tell = record {
+  tells = λ l i x e. subst (Holds l) e (learn-holds l i);
+  packets = λ l p x e. subst Apart e (packet-apart l p);
+  sends = λ l i x e w. subst CanBe e (learn-can-be l i w);
+  introduces = λ l server_id. start-can-be l.phase l server_id;
+}

@@ -1,5 +1,5 @@
 -- The parts of an image, one behind the other.
-use Rattle.std.proofs.Common.{◌≡◌, ℤ, false, List, [], ◌∷◌, ◌++◌, map, Result, Ok, Err, refl, ap, ◌∙◌}
+use Rattle.std.proofs.Common.{◌≡◌, ℤ, false, List, [], ◌∷◌, Result, Ok, Err, refl, ap, ◌∙◌}
 use Rattle.values.specs.declared.fault.Fault.{Fault}
 use Rattle.jute.specs.Format.{◌>>=◌}
 use Rattle.quorum_packet.specs.declared.item.Item.{Item}
@@ -8,7 +8,7 @@ use Rattle.snapshot_codec.specs.Parts.{Part, is_end}
 use Rattle.snapshot_codec.specs.declared.part.ImagePart.{ImagePart}
 use Rattle.snapshot_codec.specs.declared.part.ImagePart.TheVariants as part
 use Rattle.learner_sync.specs.Learner.{Learner}
-use Rattle.learner_sync.specs.Learn.{Learned, quiet, one, with_image, load, pass_over, acts_to_drop, part_in, learn}
+use Rattle.learner_sync.specs.Learn.{Learned, one, with_image, load, pass_over, acts_to_drop, part_in, learn}
 use Rattle.learner_sync.specs.Images.{behind, learn_all, AreInner, items_of, loads, image_in, PartsAreTheImage}
 use Rattle.learner_sync.specs.declared.act.Act.{Act}
 use Rattle.learner_sync.specs.declared.act.Act.TheVariants as act
@@ -49,11 +49,6 @@ all-drop l drops parts h =
     (λ p inner. drops p ∙ ap (λ acts. Ok (record { acts = acts; after = l })) (drop-inner p inner))
     (drops part.End) parts h
 
-all-quiet : (l : Learner) → l.phase ≡ phase.Down → (items : List ImagePart)
-    → learn_all l (map item.Part items ++ item.Part part.End ∷ []) ≡ Ok (quiet l)
-all-quiet l e [] = ap (then l []) (at l phase.Down part.End e)
-all-quiet l e (p ∷ parts) = ap (then l (items_of parts)) (at l phase.Down p e) ∙ ap (behind []) (all-quiet l e parts)
-
 all-refused : (l : Learner) (e : Fault) → ((p : ImagePart) → learn l (item.Part p) ≡ Err e)
     → (parts : List ImagePart) → learn_all l (items_of parts) ≡ Err e
 all-refused l e refuses [] = ap (then l []) (refuses part.End)
@@ -63,7 +58,7 @@ pub parts_are_the_image : PartsAreTheImage
 parts_are_the_image l parts h = by l.phase refl
   where
     by : (ph : Phase) → l.phase ≡ ph → learn_all l (items_of parts) ≡ image_in ph l parts
-    by phase.Down e = all-quiet l e parts
+    by phase.Down e = all-drop l (λ p. at l phase.Down p e) parts h
     by phase.Hello e = all-refused l _ (λ p. at l phase.Hello p e) parts
     by phase.Sync e = all-refused l _ (λ p. at l phase.Sync p e) parts
     by (phase.Image zxid) e =

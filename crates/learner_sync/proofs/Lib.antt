@@ -14,3 +14,6 @@ pub mod Images
 pub mod Rows
 -- what is to be done
 pub mod Acts
+pub mod Each
+-- what is sent
+pub mod Sending

@@ -39,7 +39,7 @@ abbrev pub loads : List ImagePart → Act → List Act
 loads parts last = map act.LoadPart parts ++ last ∷ []
 
 abbrev pub image_in : Phase → Learner → List ImagePart → Result Learned Fault
-image_in phase.Down l parts = Ok (quiet l)
+image_in phase.Down l parts = Ok (record { acts = loads parts act.DropImage; after = l })
 image_in phase.Hello l parts = Err UnexpectedPacket
 image_in phase.Sync l parts = Err UnexpectedPacket
 image_in (phase.Image zxid) l parts = Ok (record { acts = loads parts act.LoadImage; after = with_image l zxid })

@@ -1,8 +1,13 @@
 -- What holds of every learner: at the start, and whatever it learns.
-use Rattle.std.specs.Prelude.{◌≡◌, ℤ, pos, List, [], ◌∷◌, ◌++◌, Ok, ◌<ℤ◌, ◌≤ℤ◌, ◌⊎◌}
+use Rattle.std.specs.Prelude.{◌≡◌, ℤ, pos, Bool, true, false, List, [], ◌∷◌, ◌++◌, Ok, ◌<ℤ◌, ◌≤ℤ◌, ◌⊎◌}
 use Rattle.std.specs.Int.{int_max}
+use Rattle.std.specs.List.{AllByRecursion}
 use Rattle.settings.specs.Settings.{EpochPair}
+use Rattle.quorum_packet.specs.Feed.{CanBeWritten}
+use Rattle.quorum_packet.specs.Packet.{packet}
 use Rattle.quorum_packet.specs.declared.item.Item.{Item}
+use Rattle.quorum_packet.specs.declared.item.Item.TheVariants as item
+use Rattle.quorum_packet.specs.declared.packet.QuorumPacket.{QuorumPacket}
 use Rattle.txn_codec.specs.declared.txn.Txn.{Txn}
 use Rattle.learner_sync.specs.Learner.{Learner, new_learner, primed_learner}
 use Rattle.learner_sync.specs.Learn.{Learned, one, start, end, checkpoint, up_to, zxid_after, learn}
@@ -69,13 +74,41 @@ ServingRises =
 
 -- ---- what is to be done
 
+-- these are all that is to be done for an item
+abbrev pub stands_alone : Act → Bool
+stands_alone act.Apply = true
+stands_alone (act.LoadPart part) = true
+stands_alone act.LoadImage = true
+stands_alone (act.Truncate zxid) = true
+stands_alone a = false
+
 -- What is to be done tells what becomes of the log and its base: one transaction more, those up to a zxid, or none on a
--- new base. If it tells nothing of them, they stay.
+-- new base. If it tells nothing of them, they stay; and a part that is to be loaded leaves the learner as it is.
 abbrev pub Tells : List Act → Learner → Learner → Type 0
 Tells (act.Apply ∷ []) l after = (t : Txn) × (after.log ≡ l.log ++ t ∷ []) × (after.base_zxid ≡ l.base_zxid)
 Tells (act.Truncate zxid ∷ []) l after = (after.log ≡ up_to zxid l.log) × (after.base_zxid ≡ l.base_zxid)
 Tells (act.LoadImage ∷ []) l after = (after.log ≡ []) × (after.base_zxid ≡ after.last_zxid)
-Tells acts l after = (after.log ≡ l.log) × (after.base_zxid ≡ l.base_zxid)
+Tells (act.LoadPart part ∷ acts) l after = (acts ≡ []) × (after ≡ l)
+Tells acts l after =
+    (after.log ≡ l.log) × (after.base_zxid ≡ l.base_zxid) × AllByRecursion (λ a. stands_alone a ≡ false) acts
 
-abbrev pub ActsTell : Type 0
-ActsTell = (l : Learner) (i : Item) (x : Learned) → learn l i ≡ Ok x → Tells x.acts l x.after
+-- what is done with an image
+abbrev pub is_of_image : Act → Bool
+is_of_image (act.LoadPart part) = true
+is_of_image act.LoadImage = true
+is_of_image act.DropImage = true
+is_of_image a = false
+
+-- what is sent can be written
+abbrev pub CanBeDone : Act → Type 0
+CanBeDone (act.Send p) = packet.Writable p
+CanBeDone a = Unit {0}
+
+pub record ActsTell : Type 0 where
+  pub tells : (l : Learner) (i : Item) (x : Learned) → learn l i ≡ Ok x → Tells x.acts l x.after
+  -- a packet does nothing with an image
+  pub packets : (l : Learner) (p : QuorumPacket) (x : Learned) → learn l (item.Packet p) ≡ Ok x
+      → AllByRecursion (λ a. is_of_image a ≡ false) x.acts
+  pub sends : (l : Learner) (i : Item) (x : Learned) → learn l i ≡ Ok x → CanBeWritten i
+      → AllByRecursion CanBeDone x.acts
+  pub introduces : (l : Learner) (server_id : ℤ) → AllByRecursion CanBeDone (start l server_id).acts

@@ -215,7 +215,7 @@ pass_over p l = record { acts = acts_to_drop p; after = l }
 
 -- ---- all of it
 
--- without a leader nothing comes; while an image is to come no packet does
+-- without a leader no packet does anything; while an image is to come no packet comes
 abbrev pub packet_in : Phase → Learner → QuorumPacket → Result Learned Fault
 packet_in phase.Down l p = Ok (quiet l)
 packet_in phase.Hello l p = hello (kind_of p.kind) l p
@@ -225,8 +225,9 @@ packet_in (phase.ReplayOnImage applied) l p = replay (kind_of p.kind) l p
 packet_in phase.Replay l p = replay (kind_of p.kind) l p
 packet_in phase.Serving l p = serve (kind_of p.kind) l p
 
+-- without a leader an image is passed over, as where none was asked for
 abbrev pub part_in : Phase → Learner → ImagePart → Result Learned Fault
-part_in phase.Down l p = Ok (quiet l)
+part_in phase.Down l p = Ok (pass_over p l)
 part_in phase.Hello l p = Err UnexpectedPacket
 part_in phase.Sync l p = Err UnexpectedPacket
 part_in (phase.Image zxid) l p = Ok (load p l zxid)

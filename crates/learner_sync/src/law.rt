@@ -28,7 +28,7 @@ pub fn serving()
     ensures { ServingRises }
 {}
 
-/// What is to be done tells what becomes of the log and of its base.
+/// What is to be done tells what becomes of the log and of its base, and what is sent can be written.
 pub fn acts()
     ensures { ActsTell }
 {}

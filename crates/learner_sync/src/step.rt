@@ -56,10 +56,9 @@ impl Learner {
         ensures { Learns result (part_in self.old.phase self.old part) self.old self.new }
     {
         match self.phase {
-            Phase::Down => Ok(none(alloc)),
             Phase::Hello | Phase::Sync => Err(ReadError::Fault(Fault::UnexpectedPacket)),
             Phase::Image(zxid) => self.load(alloc, part, zxid),
-            Phase::ReplayOnImage(_) | Phase::Replay | Phase::Serving => {
+            Phase::Down | Phase::ReplayOnImage(_) | Phase::Replay | Phase::Serving => {
                 Ok(pass_over(alloc, part)?)
             }
         }

@@ -1,0 +1,33 @@
+-- What is sent can be written.
+use Rattle.std.proofs.Common.{◌≡◌, ℤ, length, refl, arith}
+use Rattle.jute.specs.Format.{int, number_bytes}
+use Rattle.quorum_packet.specs.Packet.{packet}
+use Rattle.quorum_packet.specs.declared.packet.QuorumPacket.{QuorumPacket}
+use Rattle.learner_sync.specs.Answers.{protocol_version, introduction, epoch_answer, acknowledgement, ping_answer}
+use Rattle.learner_sync.specs.Learner.{Learner}
+use Rattle.learner_sync.specs.Records.{learner_info}
+
+info-length : (server_id : ℤ)
+    → length (learner_info.written (record { server_id = server_id; protocol_version = protocol_version })) ≡ 12
+unfolding learner_info number_bytes
+info-length server_id = refl
+
+int-length : (z : ℤ) → length (int.written z) ≡ 4
+unfolding number_bytes
+int-length z = refl
+
+pub introduction-writable : (l : Learner) (server_id : ℤ) → packet.Writable (introduction l server_id)
+unfolding packet
+introduction-writable l server_id = (tt, (tt, (omega (arith, info-length server_id), tt)))
+
+pub epoch-writable : (l : Learner) (epoch : ℤ) → packet.Writable (epoch_answer l epoch)
+unfolding packet
+epoch-writable l epoch = (tt, (tt, (omega (arith, int-length epoch), tt)))
+
+pub acknowledgement-writable : (l : Learner) → packet.Writable (acknowledgement l)
+unfolding packet
+acknowledgement-writable l = (tt, (tt, (tt, tt)))
+
+pub ping-writable : (p : QuorumPacket) → packet.Writable p → packet.Writable (ping_answer p)
+unfolding packet
+ping-writable p w = (tt, (tt, (omega arith, w.1.1.1)))

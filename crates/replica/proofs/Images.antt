@@ -1,0 +1,162 @@
+-- Images are loaded part by part.
+use Rattle.std.proofs.Common.{◌≡◌, ℤ, List, [], ◌∷◌, ◌++◌, Option, Some, None, Result, Ok, Err, Bool, true, false, cond, refl, sym, ap, subst, ◌∙◌, int_lt}
+use Rattle.std.specs.Prelude.{pos}
+use Rattle.std.specs.List.{AllByRecursion}
+use Rattle.values.specs.declared.fault.Fault.{Fault}
+use Rattle.values.specs.declared.fault.Fault.TheVariants.{OutOfOrder}
+use Rattle.jute.specs.Format.{◌>>=◌}
+use Rattle.txn_codec.specs.declared.txn.Txn.{Txn}
+use Rattle.snapshot_codec.specs.Made.{Loading, with_loaded}
+use Rattle.snapshot_codec.specs.Parts.{Part, is_end}
+use Rattle.snapshot_codec.specs.declared.part.ImagePart.{ImagePart}
+use Rattle.snapshot_codec.specs.declared.part.ImagePart.TheVariants as part
+use Rattle.quorum_packet.specs.WholeItems.{OnePacket, OneImage}
+use Rattle.quorum_packet.specs.declared.item.Item.TheVariants as item
+use Rattle.quorum_packet.specs.declared.kind.PacketKind.{PacketKind}
+use Rattle.quorum_packet.specs.declared.kind.PacketKind.TheVariants as kinds
+use Rattle.quorum_packet.specs.declared.packet.QuorumPacket.{QuorumPacket}
+use Rattle.quorum_packet.specs.Kinds.{kind_of}
+use Rattle.learner_sync.specs.Learner.{Learner}
+use Rattle.learner_sync.specs.Learn.{Learned, one, load, pass_over, hello, sync, await_image, at_phase, replay, serve, packet_in, part_in, learn}
+use Rattle.learner_sync.specs.Learn.{quiet as nothing_learnt}
+use Rattle.learner_sync.specs.Laws.{is_of_image, ActsTell}
+use Rattle.learner_sync.specs.declared.act.Act.{Act}
+use Rattle.learner_sync.specs.declared.act.Act.TheVariants as act
+use Rattle.learner_sync.specs.declared.phase.Phase.{Phase}
+use Rattle.learner_sync.specs.declared.phase.Phase.TheVariants as phase
+use Rattle.replica.specs.Replica.{Replica}
+use Rattle.replica.specs.Taking.{Taken, unloaded, quiet, last_of, apply, rebuild, carry_out_all, with_learner, take, loaded_with, take_whole}
+use Rattle.replica.specs.Laws.{awaits_image_in, awaits_image, with_loading, ImagesComeInParts}
+
+-- what is learnt is done
+abbrev carried : Loading → Replica → Result Learned Fault → Result Taken Fault
+carried loading r learnt = learnt >>= λ x. carry_out_all (quiet loading (with_learner r x)) x.acts
+
+-- ---- packets
+
+-- what doesn't concern an image leaves alone what is loaded
+apart : (loading : Loading) (t : Taken) (acts : List Act) → AllByRecursion (λ a. is_of_image a ≡ false) acts
+    → carry_out_all (with_loading loading t) acts ≡ (carry_out_all t acts >>= λ u. Ok (with_loading loading u))
+apart loading t [] h = refl
+apart loading t (act.Send p ∷ acts) h = apart loading (record t { replies = t.replies ++ p ∷ [] }) acts h.1
+apart loading t (act.Apply ∷ acts) h = by (last_of t.replica.learner.log) (λ u. apart loading u acts h.1)
+  where
+    by : (o : Option Txn)
+        → ((u : Taken)
+        → carry_out_all (with_loading loading u) acts
+        ≡ (carry_out_all u acts >>= λ u. Ok (with_loading loading u)))
+        → carry_out_all (apply (with_loading loading t) o) acts
+        ≡ (carry_out_all (apply t o) acts >>= λ u. Ok (with_loading loading u))
+    by None others = others t
+    by (Some txn) others = others (apply t (Some txn))
+apart loading t (act.Truncate zxid ∷ acts) h = apart loading (rebuild t) acts h.1
+apart loading t (act.Epochs ∷ acts) h = apart loading t acts h.1
+apart loading t (act.ServeFrom ∷ acts) h = apart loading t acts h.1
+apart loading t (act.LoadPart p ∷ acts) h = cc (h.0)
+apart loading t (act.LoadImage ∷ acts) h = cc (h.0)
+apart loading t (act.DropImage ∷ acts) h = cc (h.0)
+
+packets-apart : ActsTell → (loading : Loading) (r : Replica) (p : QuorumPacket)
+    → take loading r (item.Packet p) ≡ (take_whole r (OnePacket p) >>= λ t. Ok (with_loading loading t))
+packets-apart tells loading r p = by (learn r.learner (item.Packet p)) refl
+  where
+    by : (x : Result Learned Fault) → learn r.learner (item.Packet p) ≡ x
+        → carried loading r x ≡ (carried unloaded r x >>= λ t. Ok (with_loading loading t))
+    by (Ok x) e = apart loading (quiet unloaded (with_learner r x)) x.acts (tells.packets r.learner p x e)
+    by (Err fault) e = refl
+
+-- ---- an image is announced
+
+abbrev Awaits : Result Taken Fault → Type 0
+Awaits (Ok t) = awaits_image t.replica ≡ true
+Awaits (Err e) = Unit {0}
+
+awaited : (loading : Loading) (r : Replica) (zxid : ℤ) → Awaits (carried loading r (await_image r.learner zxid))
+awaited loading r zxid = by (int_lt zxid (pos 0))
+  where
+    by : (b : Bool) → Awaits (carried loading r
+        (cond b (Err OutOfOrder) (Ok (nothing_learnt (at_phase r.learner (phase.Image zxid))))))
+    by true = tt
+    by false = refl
+
+snap-awaits : (loading : Loading) (r : Replica) (p : QuorumPacket) → kind_of p.kind ≡ Some kinds.Snap
+    → Awaits (take loading r (item.Packet p))
+snap-awaits loading r p k = by r.learner.phase refl
+  where
+    by : (ph : Phase) → r.learner.phase ≡ ph → Awaits (carried loading r (packet_in ph r.learner p))
+    by phase.Down e = ap awaits_image_in e
+    by phase.Hello e = subst (λ (k : Option PacketKind). Awaits (carried loading r (hello k r.learner p))) (sym k) tt
+    by phase.Sync e =
+        subst (λ (k : Option PacketKind). Awaits (carried loading r (sync k r.learner p))) (sym k)
+        (awaited loading r p.zxid)
+    by (phase.Image zxid) e = tt
+    by (phase.ReplayOnImage applied) e =
+        subst (λ (k : Option PacketKind). Awaits (carried loading r (replay k r.learner p))) (sym k)
+        (ap awaits_image_in e)
+    by phase.Replay e =
+        subst (λ (k : Option PacketKind). Awaits (carried loading r (replay k r.learner p))) (sym k)
+        (ap awaits_image_in e)
+    by phase.Serving e =
+        subst (λ (k : Option PacketKind). Awaits (carried loading r (serve k r.learner p))) (sym k)
+        (ap awaits_image_in e)
+
+-- ---- parts
+
+load-inner : (p : ImagePart) (l : Learner) (zxid : ℤ) → is_end (Part p) ≡ false → load p l zxid ≡ one (act.LoadPart p) l
+load-inner part.End l zxid e = cc
+load-inner p l zxid e = refl
+
+pass-inner : (p : ImagePart) (l : Learner) → is_end (Part p) ≡ false → pass_over p l ≡ one (act.LoadPart p) l
+pass-inner part.End l e = cc
+pass-inner p l e = refl
+
+part-inner : (ph : Phase) (l : Learner) (p : ImagePart) → awaits_image_in ph ≡ true → is_end (Part p) ≡ false
+    → part_in ph l p ≡ Ok (one (act.LoadPart p) l)
+part-inner phase.Hello l p a e = cc
+part-inner phase.Sync l p a e = cc
+part-inner (phase.Image zxid) l p a e = ap (λ (x : Learned). Ok x) (load-inner p l zxid e)
+part-inner ph l p a e = ap (λ (x : Learned). Ok x) (pass-inner p l e)
+
+inner-loads : (loading : Loading) (r : Replica) (p : ImagePart) → awaits_image r ≡ true → is_end (Part p) ≡ false
+    → take loading r (item.Part p) ≡ (with_loaded loading p >>= λ loaded. Ok (quiet loaded r))
+inner-loads loading r p a e =
+    ap (carried loading r) (part-inner r.learner.phase r.learner p a e) ∙ by (with_loaded loading p)
+  where
+    by : (x : Result Loading Fault)
+        → ((x >>= λ loaded. Ok (record (quiet loading r) { loading = loaded })) >>= λ u. carry_out_all u [])
+        ≡ (x >>= λ loaded. Ok (quiet loaded r))
+    by (Ok loaded) = refl
+    by (Err fault) = refl
+
+end-is-image : (loading : Loading) (r : Replica)
+    → take loading r (item.Part part.End) ≡ take_whole r (OneImage loading.made.state)
+end-is-image loading r = by r.learner.phase
+  where
+    by : (ph : Phase) → carried loading r (part_in ph r.learner part.End)
+        ≡ carried (loaded_with loading.made.state) r (part_in ph r.learner part.End)
+    by phase.Hello = refl
+    by phase.Sync = refl
+    by (phase.Image zxid) = refl
+    by ph = refl
+
+abbrev Unloads : Result Taken Fault → Type 0
+Unloads (Ok t) = t.loading ≡ unloaded
+Unloads (Err e) = Unit {0}
+
+end-unloads : (loading : Loading) (r : Replica) → Unloads (take loading r (item.Part part.End))
+end-unloads loading r = by r.learner.phase
+  where
+    by : (ph : Phase) → Unloads (carried loading r (part_in ph r.learner part.End))
+    by phase.Hello = tt
+    by phase.Sync = tt
+    by (phase.Image zxid) = refl
+    by ph = refl
+
+pub images-come-in-parts : ActsTell → ImagesComeInParts
+images-come-in-parts tells = record {
+  packets = packets-apart tells;
+  announced = λ loading r p t k e. subst Awaits e (snap-awaits loading r p k);
+  inner = inner-loads;
+  ends = λ loading r a. end-is-image loading r;
+  unloads = λ loading r t a e. subst Unloads e (end-unloads loading r);
+}

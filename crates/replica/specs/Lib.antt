@@ -1,0 +1,4 @@
+pub mod Inner
+pub mod Laws
+pub mod Replica
+pub mod Taking

@@ -1,0 +1,31 @@
+-- A tree that follows a leader.
+use Rattle.std.specs.Prelude.{refl}
+use Rattle.std.specs.Coded.{Coded, code_by, coded×}
+use Rattle.settings.specs.Settings.{EpochPair}
+use Rattle.data_tree.specs.State.{State}
+use Rattle.data_tree.specs.Meaning.{fresh}
+use Rattle.learner_sync.specs.Learner.{Learner, new_learner, primed_learner}
+
+pub record Replica : Type 0 where
+  -- how far the leader was followed
+  pub learner : Learner
+  -- the state to which the log leads back
+  pub base : State
+  -- what a read shows
+  pub tree : State
+
+-- before any leader
+abbrev pub new_replica : EpochPair → Replica
+new_replica epochs = record { learner = new_learner epochs; base = fresh; tree = fresh }
+
+-- one that serves, in the first epoch
+abbrev pub primed_replica : Replica
+primed_replica = record { learner = primed_learner; base = fresh; tree = fresh }
+
+-- ---- code
+
+abbrev pub replica_code : Coded Learner → Coded State → Coded Replica
+replica_code learner state =
+    code_by (Learner × (State × State)) (coded× learner (coded× state state))
+    (λ r. (r.learner, (r.base, r.tree)))
+    (λ p. record { learner = p.0; base = p.1.0; tree = p.1.1 }) (λ _. refl)

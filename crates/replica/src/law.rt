@@ -1,0 +1,25 @@
+//! Laws of replicas.
+
+ghost use Rattle.replica.specs.Laws.{LogsAreFollowed, ImagesComeInParts, ServingStays};
+
+/// The tree is the base with the log applied: at the start, and whatever is taken.
+pub fn logs()
+    ensures { LogsAreFollowed }
+{
+    learner_sync::law::logs();
+    learner_sync::law::acts();
+}
+
+/// An image is loaded part by part, apart from the tree, and its end does what the whole image does.
+pub fn images()
+    ensures { ImagesComeInParts }
+{
+    learner_sync::law::acts();
+}
+
+/// Clients that are served stay so, until the leader goes.
+pub fn serving()
+    ensures { ServingStays }
+{
+    learner_sync::law::serving();
+}

@@ -1,0 +1,143 @@
+//! The items of a leader's stream.
+
+ghost use Rattle.std.specs.Prelude.{◌≡◌, OnOk, IfOk};
+ghost use Rattle.std.specs.List.{AllByRecursion};
+ghost use Rattle.quorum_packet.specs.Feed.{CanBeWritten};
+ghost use Rattle.quorum_packet.specs.Packet.{packet as packet_format};
+ghost use Rattle.data_tree.specs.Meaning.{after};
+ghost use Rattle.learner_sync.specs.Learn.{learn};
+ghost use Rattle.replica.specs.Taking.{Takes, unloaded, quiet, last_of, apply, carry_out_all, take};
+ghost use Rattle.replica.specs.Inner.{told, Learns, CarriesOut, PartStandsAlone};
+
+use crate::brought::Brought;
+use crate::replica::Replica;
+use data_tree::{Tree, Trigger};
+use learner_sync::Act;
+use quorum_packet::{Item, QuorumPacket};
+use snapshot_codec::{ImagePart, Loader};
+use std::alloc::Global;
+use std::mem;
+use values::{Listed, NoMemory, ReadError};
+
+impl Replica {
+    // What is learnt of an item.
+    fn learn(&mut self, alloc: Global, item: Item) -> Result<Listed<Act>, ReadError>
+        ensures { Learns result (learn self.old.learner item) self.old self.new }
+    {
+        self.learner.step(alloc, item)
+    }
+
+    // The log's last transaction is meant on the tree.
+    fn apply_last(&mut self, alloc: Global, triggers: &mut Listed<Trigger>) -> Result<(), NoMemory>
+        ensures { OnOk result
+            (apply (told triggers.old self.old) (last_of self.old.learner.log) ≡ told triggers.new self.new) }
+    {
+        let Some(txn) = self.learner.since_base().last() else {
+            return Ok(());
+        };
+        let outcome = self.tree.apply(alloc, txn)?;
+        *triggers = outcome.triggers;
+        Ok(())
+    }
+
+    // What was loaded takes the tree's place, and is the base.
+    fn load_image(&mut self, alloc: Global, loader: &mut Loader) -> Result<(), NoMemory>
+        ensures replica { OnOk result
+            (self.new ≡ record self.old { base = loader.old.made.state; tree = loader.old.made.state }) }
+        ensures loader { OnOk result (loader.new ≡ unloaded) }
+    {
+        match loader.part(alloc, ImagePart::End) {
+            Ok(()) => {
+                let loaded = mem::replace(loader, Loader::new(alloc));
+                // Tree and base go before the new base is made, so that no more than two trees are there.
+                self.base = Tree::empty(alloc);
+                self.tree = loaded.finish();
+                self.base = self.tree.copy()?;
+                return Ok(());
+            }
+            // The end goes with all parts: nothing but memory is refused.
+            Err(_) => return Err(NoMemory),
+        }
+    }
+
+    // The tree is made of the base and the log.
+    fn rebuild(&mut self, alloc: Global) -> Result<(), NoMemory>
+        ensures { OnOk result (self.new ≡ record self.old { tree = after self.old.base self.old.learner.log }) }
+    {
+        // The old tree goes first, so that no more than two are there.
+        self.tree = Tree::empty(alloc);
+        let mut tree = self.base.copy()?;
+        for txn in self.learner.since_base() {
+            tree.apply(alloc, txn)?;
+        }
+        self.tree = tree;
+        Ok(())
+    }
+
+    // Does one thing that was learnt.
+    fn carry_out(
+        &mut self,
+        alloc: Global,
+        loader: &mut Loader,
+        act: Act,
+        replies: &mut Vec<QuorumPacket>,
+        triggers: &mut Listed<Trigger>,
+    ) -> Result<(), ReadError>
+        ensures { CarriesOut result act
+            (record { replies = replies.old.items; triggers = triggers.old; loading = loader.old; replica = self.old })
+            (record { replies = replies.new.items; triggers = triggers.new; loading = loader.new; replica = self.new }) }
+    {
+        match act {
+            Act::Send(packet) => return Ok(replies.push(packet)?),
+            Act::Apply => return Ok(self.apply_last(alloc, triggers)?),
+            Act::LoadPart(part) => return loader.part(alloc, part),
+            Act::LoadImage => return Ok(self.load_image(alloc, loader)?),
+            Act::DropImage => {
+                *loader = Loader::new(alloc);
+                return Ok(());
+            }
+            Act::Truncate(_) => return Ok(self.rebuild(alloc)?),
+            Act::Epochs | Act::ServeFrom => return Ok(()),
+        }
+    }
+
+    // Does what was learnt, in order.
+    fn carry_out_all(
+        &mut self,
+        alloc: Global,
+        loader: &mut Loader,
+        acts: Listed<Act>,
+    ) -> Result<Brought, ReadError>
+        requires { PartStandsAlone acts }
+        ensures { Takes result (carry_out_all (quiet loader.old self.old) acts)
+            loader.old self.old loader.new self.new }
+    {
+        let mut replies = Vec::new(alloc);
+        let mut triggers = Listed::from_vec(Vec::new(alloc));
+        for act in acts.into_vec() {
+            self.carry_out(alloc, loader, act, &mut replies, &mut triggers)?;
+        }
+        Ok(Brought {
+            replies: Listed::from_vec(replies),
+            triggers,
+        })
+    }
+
+    /// Takes the next item of the leader's stream. The faults are those of `Learner::step`, and `BadImage` where a part
+    /// doesn't go with those before it. A refused item leaves loader and replica as they were. Where memory is refused,
+    /// they are only to be dropped.
+    pub fn take(
+        &mut self,
+        alloc: Global,
+        loader: &mut Loader,
+        item: Item,
+    ) -> Result<Brought, ReadError>
+        ensures takes { Takes result (take loader.old self.old item) loader.old self.old loader.new self.new }
+        ensures writable { CanBeWritten item
+            → IfOk result (λ brought. AllByRecursion packet_format.Writable brought.replies) }
+    {
+        learner_sync::law::acts();
+        let acts = self.learn(alloc, item)?;
+        self.carry_out_all(alloc, loader, acts)
+    }
+}
