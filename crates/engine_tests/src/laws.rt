@@ -1,8 +1,8 @@
 //! The laws, each called once. A law that is called in a test would bring its statement, rows of bytes among it, into
 //! the test's proof.
 use observer_core::{
-    clients_are_apart, connections_agree, cut_anywhere, logs_are_followed, plays_on,
-    refusals_change_nothing, worked_rows,
+    clients_are_apart, connections_agree, cut_anywhere, logs_are_followed, parts_are_whole_images,
+    plays_on, refusals_change_nothing, sessions_are_served, worked_rows,
 };
 
 pub fn call_plays_on() {
@@ -27,6 +27,14 @@ pub fn call_connections_agree() {
 
 pub fn call_refusals_change_nothing() {
     refusals_change_nothing();
+}
+
+pub fn call_parts_are_whole_images() {
+    parts_are_whole_images();
+}
+
+pub fn call_sessions_are_served() {
+    sessions_are_served();
 }
 
 pub fn call_worked_rows() {

@@ -2,9 +2,10 @@
 use super::*;
 use crate::laws::{
     call_clients_are_apart, call_connections_agree, call_cut_anywhere, call_logs_are_followed,
-    call_plays_on, call_refusals_change_nothing, call_worked_rows,
+    call_parts_are_whole_images, call_plays_on, call_refusals_change_nothing,
+    call_sessions_are_served, call_worked_rows,
 };
-use crate::rows::{create, get, reply_of_create, reply_of_set, set};
+use crate::rows::{create, get, introduction, reply_of_create, reply_of_set, set};
 use observer_core::CLIENT_FRAME_LIMIT;
 use std::test::*;
 use values::Fault;
@@ -129,6 +130,36 @@ fn expires(alloc: Global, engine: Engine) -> bool {
 fn passes_over(alloc: Global, engine: Engine) -> bool {
     let events = [told(create()), asked(get()), Event::Checkpoint];
     replies(alloc, engine, &events, &[], (0, 3))
+}
+
+// Whether the output is the packet by which the observer introduces itself.
+fn is_introduction(output: &Output) -> bool {
+    match output {
+        Output::ToLeader(packet) => packet.as_slice() == introduction(),
+        _ => false,
+    }
+}
+
+// A leader comes, and goes; another one comes.
+fn meets_two(alloc: Global, mut engine: Engine) -> bool {
+    let events = [
+        Event::LeaderUp,
+        Event::LeaderUp,
+        Event::LeaderEnd,
+        Event::LeaderUp,
+    ];
+    let mut outputs = Vec::new(alloc);
+    feed(alloc, &mut engine, &events, &mut outputs)
+        && outputs.len() == 2
+        && outputs.as_slice().iter().all(is_introduction)
+}
+
+#[test]
+fn two_leaders(rt: HostRuntime) -> Result<(), Fail> {
+    call_parts_are_whole_images();
+    call_sessions_are_served();
+    assert!(rt; meets_two(rt.alloc(), idle(rt.alloc())?));
+    Ok(())
 }
 
 #[test]

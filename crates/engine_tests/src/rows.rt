@@ -32,3 +32,8 @@ pub fn reply_of_set() -> &'static [u8] {
     \0\0\0\x01\0\0\0\x01\0\0\0\x01\0\0\0\x02\0\0\0\0\0\0\x03\xe8\0\0\0\0\0\0\x07\xd0\
     \0\0\0\x01\0\0\0\0\0\0\0\0\0\0\0\0\0\0\0\0\0\0\0\0\0\0\0\0\0\0\0\x01\0\0\0\x01"
 }
+
+/// The OBSERVERINFO of server 3, which has accepted no epoch yet.
+pub fn introduction() -> &'static [u8] {
+    b"\0\0\0\x10\0\0\0\0\0\0\0\0\0\0\0\x0c\0\0\0\0\0\0\0\x03\0\x01\0\0\xff\xff\xff\xff"
+}

@@ -1,5 +1,5 @@
 -- Whatever happens, sessions and watches name open connections, and no two connections have one session.
-use Rattle.std.proofs.Common.{◌≡◌, ℕ, ℤ, pos, Bool, true, false, cond, not, ◌||◌, List, [], ◌∷◌, ◌++◌, Option, Some, None, Result, Ok, Err, refl, sym, ap, ◌∙◌, int_lt}
+use Rattle.std.proofs.Common.{◌≡◌, ℕ, ℤ, pos, Bool, true, false, cond, not, ◌||◌, List, [], ◌∷◌, ◌++◌, Option, Some, None, Result, Ok, Err, refl, sym, ap, ◌∙◌}
 use Rattle.std.specs.Prelude.{is_some, IsTrue}
 use Rattle.std.specs.Option.{unwrap_or}
 use Rattle.std.specs.Ordering.{eq_by_cmp, nat_cmp, int_eq}
@@ -10,20 +10,13 @@ use Rattle.std.specs.FinSet as set
 use mathlib.Core.Bool.{true≢false}
 use Rattle.values.specs.declared.fault.Fault.{Fault}
 use Rattle.settings.specs.Settings.{is_server_id}
-use Rattle.jute.specs.Stream.{Place, Unread, items, add, place_at}
+use Rattle.jute.specs.Stream.{Unread, items, add, place_at}
 use Rattle.jute.specs.declared.codes.TheConstants.{BAD_ARGUMENTS}
 use Rattle.quorum_packet.specs.declared.item.Item.{Item}
-use Rattle.quorum_packet.specs.declared.item.Item.TheVariants as item
-use Rattle.quorum_packet.specs.declared.packet.QuorumPacket.{QuorumPacket}
-use Rattle.quorum_packet.specs.declared.phase.Phase.{Phase}
-use Rattle.quorum_packet.specs.declared.kind.PacketKind.{PacketKind}
-use Rattle.quorum_packet.specs.declared.kind.PacketKind.TheVariants as kinds
-use Rattle.quorum_packet.specs.Kinds.{kind_of}
 use Rattle.quorum_packet.specs.Items.{shows}
-use Rattle.txn_codec.specs.Spelling.{txn, whole}
-use Rattle.txn_codec.specs.declared.txn.Txn.{Txn}
-use Rattle.data_tree.specs.Meaning.{mean}
-use Rattle.data_tree.specs.declared.outcome.Trigger.{Trigger}
+use Rattle.quorum_packet.specs.Feed.{end_of}
+use Rattle.jute.specs.Format.{◌>>=◌}
+use Rattle.replica.specs.Taking.{Taken, take}
 use Rattle.client_records.specs.declared.codes.TheConstants.{OK, UNIMPLEMENTED, AUTH_FAILED, NOT_READ_ONLY, PING_XID}
 use Rattle.client_frames.specs.declared.call.Call.{Call}
 use Rattle.client_frames.specs.declared.call.CallBody.{CallBody}
@@ -47,10 +40,10 @@ use Rattle.read_processor.specs.Reply.{reply}
 use Rattle.observer_core.specs.declared.config.Config.{Config}
 use Rattle.observer_core.specs.declared.event.Event.{Event}
 use Rattle.observer_core.specs.declared.event.Event.TheVariants as event
-use Rattle.observer_core.specs.Machine.{Connection, Clients, World, Machine}
+use Rattle.observer_core.specs.Machine.{Connection, Clients, World, Leader, Machine}
 use Rattle.observer_core.specs.Steps.{Happened, happening}
 use Rattle.observer_core.specs.Clients.{at_rest, is_open, with_connection, without, without_each}
-use Rattle.observer_core.specs.Leader.{carried_bytes, with_meant, tell, inform, receive_as, receive, receive_item, Delivery, deliver_as, deliver, is_refused, deliver_all, end_at, leave_leader, take_leader_bytes}
+use Rattle.observer_core.specs.Leader.{Led, with_loading, tell, receive, Delivery, deliver_as, deliver, is_refused, deliver_all, end_at, by_parts, kept as kept_leader, meet_leader, disconnected, leave_leader, take_leader_bytes, end_as, end_leader}
 use Rattle.observer_core.specs.Serve.{close_client, send, send_last, watching, watched_if, watched_each, renewed, with_sessions, shown, ended, end_session, close_left, greet, connected, may_connect, join, call, serve_as, serve_by, serve, is_closed, keep, wait_if_open, frames, take_client_bytes}
 use Rattle.observer_core.specs.Play.{serving, happen, no_clients, first_request, new_machine, primed_machine}
 use Rattle.observer_core.specs.Agreement.{ClientsAgree, OneSessionEach, ConnectionsAgree}
@@ -140,10 +133,10 @@ module _ (kept : AgreementIsKept) (told : OnlyWatchersAreTold) (dropped : Droppe
 
   renewed_agrees : (n : ℕ) (w : World) (xid : ℤ) (r : Option Renewal) → IsOpen n w → Agreeing w
       → Agreeing (renewed n w xid r).after
-  renewed_agrees n w xid None here a = send_agrees n w (reply xid w.learner.last_zxid (without_body BAD_ARGUMENTS)) a
+  renewed_agrees n w xid None here a = send_agrees n w (reply xid w.replica.learner.last_zxid (without_body BAD_ARGUMENTS)) a
   renewed_agrees n w xid (Some r) here a =
       let watches = watched_each n w.clients.watches r.watches in
-      send_agrees n (watching w watches) (reply xid w.learner.last_zxid (without_body OK))
+      send_agrees n (watching w watches) (reply xid w.replica.learner.last_zxid (without_body OK))
       (watches_agree w watches
       (watched_each_passes (λ m. is_open m w.clients) n here w.clients.watches r.watches a.watching) a)
 
@@ -214,27 +207,27 @@ module _ (kept : AgreementIsKept) (told : OnlyWatchersAreTold) (dropped : Droppe
 
   call_agrees : (n : ℕ) (w : World) (xid : ℤ) (b : CallBody) → IsOpen n w → Agreeing w → Agreeing (call n w xid b).after
   call_agrees n w xid (bodies.Read r) here a =
-      let seen = look w.tree (ids_of w.clients.sessions n) r in
+      let seen = look w.replica.tree (ids_of w.clients.sessions n) r in
       let watch = watch_of r seen.error in
       let watches = watched_if n w.clients.watches watch in
-      send_agrees n (watching w watches) (reply xid w.learner.last_zxid seen)
+      send_agrees n (watching w watches) (reply xid w.replica.learner.last_zxid seen)
       (watches_agree w watches
       (watched_if_passes (λ m. is_open m w.clients) n here w.clients.watches watch a.watching) a)
-  call_agrees n w xid (bodies.SetWatches r) here a = renewed_agrees n w xid (renew w.tree r) here a
+  call_agrees n w xid (bodies.SetWatches r) here a = renewed_agrees n w xid (renew w.replica.tree r) here a
   call_agrees n w xid (bodies.Auth packet) here a =
       shown_agrees n w xid (auth w.clients.sessions n packet.scheme packet.auth)
       (auth_agrees n w packet.scheme packet.auth here a)
   call_agrees n w xid bodies.CloseSession here a =
       let v = end_session n w in
-      send_last_agrees n v (reply xid v.learner.last_zxid (without_body OK))
+      send_last_agrees n v (reply xid v.replica.learner.last_zxid (without_body OK))
       (ended_agrees w (session_of w.clients.sessions n) a)
   call_agrees n w xid bodies.Unreadable here a =
-      send_agrees n w (reply xid w.learner.last_zxid (without_body BAD_ARGUMENTS)) a
-  call_agrees n w xid bodies.Ping here a = send_agrees n w (reply PING_XID w.learner.last_zxid (without_body OK)) a
+      send_agrees n w (reply xid w.replica.learner.last_zxid (without_body BAD_ARGUMENTS)) a
+  call_agrees n w xid bodies.Ping here a = send_agrees n w (reply PING_XID w.replica.learner.last_zxid (without_body OK)) a
   call_agrees n w xid bodies.Write here a =
-      send_agrees n w (reply xid w.learner.last_zxid (without_body NOT_READ_ONLY)) a
+      send_agrees n w (reply xid w.replica.learner.last_zxid (without_body NOT_READ_ONLY)) a
   call_agrees n w xid bodies.Unknown here a =
-      send_last_agrees n w (reply xid w.learner.last_zxid (without_body UNIMPLEMENTED)) a
+      send_last_agrees n w (reply xid w.replica.learner.last_zxid (without_body UNIMPLEMENTED)) a
 
   no_session : (o : Option SessionConnection) → session_in o ≡ None → o ≡ None
   no_session None e = refl
@@ -281,70 +274,65 @@ module _ (kept : AgreementIsKept) (told : OnlyWatchersAreTold) (dropped : Droppe
 
   -- ---- the leader's packets
 
-  -- what was not refused
-  abbrev Taken : Result (Happened World) Fault → Type 0
-  Taken (Ok h) = Agreeing h.after
-  Taken (Err e) = Unit {0}
+  tell_agrees : (w : World) (t : Taken) → Agreeing w → Agreeing (tell w t).after
+  tell_agrees w t a =
+      watches_agree w (fire w.clients.watches t.triggers).left
+      (told (λ m. is_open m w.clients) w.clients.watches t.triggers a.watching).1 a
 
-  tell_agrees : (w : World) (triggers : List Trigger) → Agreeing w → Agreeing (tell w triggers).after
-  tell_agrees w triggers a =
-      watches_agree w (fire w.clients.watches triggers).left
-      (told (λ m. is_open m w.clients) w.clients.watches triggers a.watching).1 a
-
-  inform_agrees : (w : World) (x : Result Txn Fault) → Agreeing w → Taken (inform w x)
-  inform_agrees w (Ok t) a =
-      let meant = mean w.tree t in
-      cond_both (int_lt w.learner.last_zxid t.header.zxid) _ _ Taken
-      (λ _. tell_agrees (with_meant w t meant) meant.triggers a) (λ _. tt)
-  inform_agrees w (Err e) a = tt
-
-  receive_agrees : (w : World) (p : QuorumPacket) → Agreeing w → Taken (receive w p)
-  receive_agrees w p a = by (kind_of p.kind)
+  deliver_agrees : (d : Delivery Led) (i : Item) → Agreeing d.left.world → Agreeing (deliver receive d i).after.left.world
+  deliver_agrees d i a = by (take d.left.loading d.left.world.replica i)
     where
-      by : (k : Option PacketKind) → Taken (receive_as k w p.bytes)
-      by (Some kinds.Inform) = inform_agrees w (whole txn (carried_bytes p.bytes)) a
-      by k = a
+      by : (r : Result Taken Fault)
+          → Agreeing (deliver_as (r >>= λ t. Ok (with_loading t.loading (tell d.left.world t))) d.left).after.left.world
+      by (Ok t) = tell_agrees d.left.world t a
+      by (Err e) = a
 
-  item_agrees : (w : World) (i : Item) → Agreeing w → Taken (receive_item w i)
-  item_agrees w (item.Packet p) a = receive_agrees w p a
-  item_agrees w (item.Part part) a = a
+  gone_agrees : (w : World) → Agreeing w → Agreeing (disconnected w).after
+  gone_agrees w a = each_closed_agrees (finmap.keys w.clients.connections) w.clients a
 
-  deliver_agrees : (d : Delivery) (i : Item) → Agreeing d.world → Agreeing (deliver d i).after.world
-  deliver_agrees d i a = by (receive_item d.world i) (item_agrees d.world i a)
-    where
-      by : (r : Result (Happened World) Fault) → Taken r → Agreeing (deliver_as r d.world).after.world
-      by (Ok h) now = now
-      by (Err e) now = a
+  leave_agrees : (w : World) (leader : Result Leader Fault) → Agreeing w → Agreeing (leave_leader w leader).after.world
+  leave_agrees w (Ok l) a = a
+  leave_agrees w (Err e) a = gone_agrees w a
 
-  leave_agrees : (w : World) (leader : Result (Place Phase) Fault) → Agreeing w
-      → Agreeing (leave_leader w leader).after.world
-  leave_agrees w (Ok place) a = a
-  leave_agrees w (Err e) a = each_closed_agrees (finmap.keys w.clients.connections) w.clients a
-
-  leader_agrees : (leader : Option (Place Phase)) (w : World) (bytes : List ℕ) → Agreeing w
-      → Agreeing (take_leader_bytes leader w bytes).after.world
+  leader_agrees : (leader : Option Leader) (w : World) (bytes : List ℕ) → Agreeing w
+      → Agreeing (take_leader_bytes by_parts leader w bytes).after.world
   leader_agrees None w bytes a = a
-  leader_agrees (Some place) w bytes a =
-      let found = shows (add place bytes) in
-      let d = (deliver_all w found.found).after in
-      leave_agrees d.world (end_at found.left d.fault)
-      (happening_keeps (λ (d : Delivery). Agreeing d.world) is_refused deliver (λ d p _. deliver_agrees d p)
-      (record { world = w; fault = None }) found.found a)
+  leader_agrees (Some l) w bytes a =
+      let v : Led = record { loading = l.loading; world = w } in
+      let found = shows (add l.place bytes) in
+      let d = (deliver_all receive v found.found).after in
+      leave_agrees d.left.world (kept_leader d.left.loading (end_at found.left d.fault))
+      (happening_keeps (λ (d : Delivery Led). Agreeing d.left.world) is_refused (deliver receive) (λ d p _. deliver_agrees d p)
+      (record { left = v; fault = None }) found.found a)
+
+  meet_agrees : (leader : Option Leader) (w : World) → Agreeing w → Agreeing (meet_leader by_parts leader w).after.world
+  meet_agrees None w a = a
+  meet_agrees (Some l) w a = a
+
+  end_agrees : (leader : Option Leader) (w : World) → Agreeing w → Agreeing (end_leader by_parts leader w).after.world
+  end_agrees None w a = a
+  end_agrees (Some l) w a = by (end_of l.place)
+    where
+      by : (r : Result (Unit {0}) Fault) → Agreeing (end_as {L = Leader} r w).after.world
+      by (Ok u) = gone_agrees w a
+      by (Err e) = gone_agrees w a
 
   -- ---- events
 
   happen_agrees : (m : Machine) (e : Event) → Agreeing m.world → Agreeing (happen m e).after.world
+  happen_agrees m event.LeaderUp a = meet_agrees m.leader m.world a
   happen_agrees m (event.LeaderBytes bytes) a = leader_agrees m.leader m.world bytes a
+  happen_agrees m event.LeaderEnd a = end_agrees m.leader m.world a
   happen_agrees m (event.ClientUp n) a =
       cond_both (is_open n m.world.clients) _ _ Agreeing (λ _. a) (λ _. opened_agrees n at_rest m.world.clients a)
   happen_agrees m (event.ClientBytes n bytes) a =
-      client_agrees (serving m) n m.world (finmap.get m.world.clients.connections n) bytes a
+      client_agrees (serving m.world) n m.world (finmap.get m.world.clients.connections n) bytes a
   happen_agrees m (event.ClientEnd n) a =
       cond_both (is_open n m.world.clients) _ _ Agreeing (λ _. closed_agrees n m.world.clients a) (λ _. a)
   happen_agrees m (event.Expire session) a =
       let e = expire m.world.clients.sessions session in
       left_agrees (with_sessions m.world e.after) e.closed (expire_agrees m.world session a)
-  happen_agrees m e a = a
+  happen_agrees m event.Checkpoint a = a
 
   -- ---- the start
 

@@ -88,8 +88,7 @@ module _ (left : ℕ → Type 0) where
   then_apart : (n : ℕ) (w : World) (h : Happened World) (next : World → Happened World) → IsApart n left w h → IsApart n left h.after (next h.after) → IsApart n left w (and_then h next)
   then_apart n w h next a b = record {
     outputs = all_joined (IsOf n left) h.outputs (next h.after).outputs a.outputs b.outputs;
-    learner = b.learner ∙ a.learner;
-    tree = b.tree ∙ a.tree;
+    replica = b.replica ∙ a.replica;
     others = λ k other stays. untouched_on k w.clients h.after.clients (next h.after).after.clients
         (a.others k other (all_front (λ (o : Output). o ≢ CloseClient k) h.outputs (next h.after).outputs stays))
         (b.others k other (all_back (λ (o : Output). o ≢ CloseClient k) h.outputs (next h.after).outputs stays));
@@ -97,7 +96,7 @@ module _ (left : ℕ → Type 0) where
 
   -- the clients change, and nothing goes out
   changes : (n : ℕ) (w : World) (c : Clients) → ((k : ℕ) → k ≢ n → IsUntouched k w.clients c) → IsApart n left w (quiet (record w { clients = c }))
-  changes n w c alone = record { outputs = tt; learner = refl; tree = refl; others = λ k other stays. alone k other }
+  changes n w c alone = record { outputs = tt; replica = refl; others = λ k other stays. alone k other }
 
   stays_so : (n : ℕ) (w : World) → IsApart n left w (quiet w)
   stays_so n w = changes n w w.clients (λ k other. untouched k w.clients)
@@ -107,8 +106,7 @@ module _ (left : ℕ → Type 0) where
     close_apart : (n m : ℕ) (w : World) → (m ≡ n) ⊎ left m → IsApart n left w (close_client m w)
     close_apart n m w may = record {
       outputs = (may, tt);
-      learner = refl;
-      tree = refl;
+      replica = refl;
       others = λ k other stays. without_alone stay keep_watches m w.clients k (λ is. stays.0 (ap (λ (x : ℕ). CloseClient x) (sym is)));
     }
 
@@ -118,7 +116,7 @@ module _ (left : ℕ → Type 0) where
     send_apart : (n : ℕ) (w : World) (frame : Option (List ℕ)) → IsApart n left w (send n w frame)
     send_apart n w None = close_own n w
     send_apart n w (Some bytes) =
-        record { outputs = (refl, tt); learner = refl; tree = refl; others = λ k other stays. untouched k w.clients }
+        record { outputs = (refl, tt); replica = refl; others = λ k other stays. untouched k w.clients }
 
     send_last_apart : (n : ℕ) (w : World) (frame : Option (List ℕ)) → IsApart n left w (send_last n w frame)
     send_last_apart n w frame = then_apart n w (send n w frame) (close_client n) (send_apart n w frame) (close_own n (send n w frame).after)
@@ -161,14 +159,14 @@ module _ (left : ℕ → Type 0) where
         by (Some bytes) = (refl, tt)
 
     renewed_apart : (n : ℕ) (w : World) (xid : ℤ) (r : Option Renewal) → IsApart n left w (renewed n w xid r)
-    renewed_apart n w xid None = send_apart n w (reply xid w.learner.last_zxid (without_body BAD_ARGUMENTS))
+    renewed_apart n w xid None = send_apart n w (reply xid w.replica.learner.last_zxid (without_body BAD_ARGUMENTS))
     renewed_apart n w xid (Some r) =
         let watches = watched_each n w.clients.watches r.watches in
         let set_again = watching_apart n w watches (λ k other. each_same n k other w.clients.watches r.watches) in
         let told : Happened World = record { outputs = notices_to n r.events; after = watching w watches } in
-        let told_apart : IsApart n left w told = record { outputs = notices_of n r.events; learner = refl; tree = refl; others = λ k other stays. set_again.others k other tt } in
-        then_apart n w told (λ v. send n v (reply xid w.learner.last_zxid (without_body OK))) told_apart
-        (send_apart n (watching w watches) (reply xid w.learner.last_zxid (without_body OK)))
+        let told_apart : IsApart n left w told = record { outputs = notices_of n r.events; replica = refl; others = λ k other stays. set_again.others k other tt } in
+        then_apart n w told (λ v. send n v (reply xid w.replica.learner.last_zxid (without_body OK))) told_apart
+        (send_apart n (watching w watches) (reply xid w.replica.learner.last_zxid (without_body OK)))
 
     -- ---- sessions
 
@@ -241,8 +239,7 @@ module _ (left : ℕ → Type 0) where
             let closed = close_apart n j v (inr (may j is)) in
             record {
               outputs = closed.outputs;
-              learner = refl;
-              tree = refl;
+              replica = refl;
               others = λ k other stays. untouched_on k w.clients v.clients (close_client j v).after.clients
                   (alone k other (λ e. stays.0 (ap (λ (x : ℕ). CloseClient x) (some_is j k (sym is ∙ e))))) (closed.others k other stays);
             }
@@ -258,20 +255,20 @@ module _ (left : ℕ → Type 0) where
 
     call_apart : (n : ℕ) (w : World) (xid : ℤ) (b : CallBody) → Agrees w.clients.sessions → IsApart n left w (call n w xid b)
     call_apart n w xid (bodies.Read r) agree =
-        let seen = look w.tree (ids_of w.clients.sessions n) r in
+        let seen = look w.replica.tree (ids_of w.clients.sessions n) r in
         let watch = watch_of r seen.error in
         let watches = watched_if n w.clients.watches watch in
-        then_apart n w (quiet (watching w watches)) (λ v. send n v (reply xid w.learner.last_zxid seen))
-        (watching_apart n w watches (λ k other. if_same n k other w.clients.watches watch)) (send_apart n (watching w watches) (reply xid w.learner.last_zxid seen))
-    call_apart n w xid (bodies.SetWatches r) agree = renewed_apart n w xid (renew w.tree r)
+        then_apart n w (quiet (watching w watches)) (λ v. send n v (reply xid w.replica.learner.last_zxid seen))
+        (watching_apart n w watches (λ k other. if_same n k other w.clients.watches watch)) (send_apart n (watching w watches) (reply xid w.replica.learner.last_zxid seen))
+    call_apart n w xid (bodies.SetWatches r) agree = renewed_apart n w xid (renew w.replica.tree r)
     call_apart n w xid (bodies.Auth packet) agree = show_apart n w xid packet
     call_apart n w xid bodies.CloseSession agree =
         let v = end_session n w in
-        then_apart n w (quiet v) (λ u. answer_last n u xid (without_body OK)) (ended_apart n w agree) (send_last_apart n v (reply xid v.learner.last_zxid (without_body OK)))
-    call_apart n w xid bodies.Unreadable agree = send_apart n w (reply xid w.learner.last_zxid (without_body BAD_ARGUMENTS))
-    call_apart n w xid bodies.Ping agree = send_apart n w (reply PING_XID w.learner.last_zxid (without_body OK))
-    call_apart n w xid bodies.Write agree = send_apart n w (reply xid w.learner.last_zxid (without_body NOT_READ_ONLY))
-    call_apart n w xid bodies.Unknown agree = send_last_apart n w (reply xid w.learner.last_zxid (without_body UNIMPLEMENTED))
+        then_apart n w (quiet v) (λ u. answer_last n u xid (without_body OK)) (ended_apart n w agree) (send_last_apart n v (reply xid v.replica.learner.last_zxid (without_body OK)))
+    call_apart n w xid bodies.Unreadable agree = send_apart n w (reply xid w.replica.learner.last_zxid (without_body BAD_ARGUMENTS))
+    call_apart n w xid bodies.Ping agree = send_apart n w (reply PING_XID w.replica.learner.last_zxid (without_body OK))
+    call_apart n w xid bodies.Write agree = send_apart n w (reply xid w.replica.learner.last_zxid (without_body NOT_READ_ONLY))
+    call_apart n w xid bodies.Unknown agree = send_last_apart n w (reply xid w.replica.learner.last_zxid (without_body UNIMPLEMENTED))
 
     call_in_apart : (n : ℕ) (w : World) (c : Result Call Fault) → Agrees w.clients.sessions → IsApart n left w (serve_as n w c)
     call_in_apart n w (Ok c) agree = call_apart n w c.xid c.body agree
@@ -308,7 +305,7 @@ Nobody k = ⊥
 
 -- with more that may be closed
 wider : (n : ℕ) (p q : ℕ → Type 0) (w : World) (h : Happened World) → ((k : ℕ) → p k → q k) → IsApart n p w h → IsApart n q w h
-wider n p q w h more a = record { outputs = each h.outputs a.outputs; learner = a.learner; tree = a.tree; others = a.others }
+wider n p q w h more a = record { outputs = each h.outputs a.outputs; replica = a.replica; others = a.others }
   where
     of_closed : (k : ℕ) → (k ≡ n) ⊎ p k → (k ≡ n) ⊎ q k
     of_closed k (inl is) = inl is

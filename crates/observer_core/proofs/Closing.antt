@@ -41,9 +41,9 @@ send_last_closes : (n : ℕ) (w : World) (frame : Option (List ℕ)) → OnlyClo
 send_last_closes n w frame = then_closes w (send n w frame).after (send_last n w frame).after (send_closes n w frame) (close_closes n (send n w frame).after)
 
 renewed_closes : (n : ℕ) (w : World) (xid : ℤ) (r : Option Renewal) → OnlyCloses w (renewed n w xid r).after
-renewed_closes n w xid None = send_closes n w (reply xid w.learner.last_zxid (without_body BAD_ARGUMENTS))
+renewed_closes n w xid None = send_closes n w (reply xid w.replica.learner.last_zxid (without_body BAD_ARGUMENTS))
 renewed_closes n w xid (Some r) =
-    send_closes n (watching w (watched_each n w.clients.watches r.watches)) (reply xid w.learner.last_zxid (without_body OK))
+    send_closes n (watching w (watched_each n w.clients.watches r.watches)) (reply xid w.replica.learner.last_zxid (without_body OK))
 
 shown_closes : (n : ℕ) (w : World) (xid : ℤ) (shows : Shows) → OnlyCloses w (shown n w xid shows).after
 shown_closes n w xid shows = by shows.is_accepted
@@ -88,17 +88,17 @@ join_closes serving n w (Ok c) = by (may_connect serving w c.request)
 
 call_closes : (n : ℕ) (w : World) (xid : ℤ) (b : CallBody) → OnlyCloses w (call n w xid b).after
 call_closes n w xid (bodies.Read r) =
-    let seen = look w.tree (ids_of w.clients.sessions n) r in
-    send_closes n (watching w (watched_if n w.clients.watches (watch_of r seen.error))) (reply xid w.learner.last_zxid seen)
-call_closes n w xid (bodies.SetWatches r) = renewed_closes n w xid (renew w.tree r)
+    let seen = look w.replica.tree (ids_of w.clients.sessions n) r in
+    send_closes n (watching w (watched_if n w.clients.watches (watch_of r seen.error))) (reply xid w.replica.learner.last_zxid seen)
+call_closes n w xid (bodies.SetWatches r) = renewed_closes n w xid (renew w.replica.tree r)
 call_closes n w xid (bodies.Auth packet) = shown_closes n w xid (auth w.clients.sessions n packet.scheme packet.auth)
 call_closes n w xid bodies.CloseSession =
     then_closes w (end_session n w) (answer_last n (end_session n w) xid (without_body OK)).after (ended_closes w (session_of w.clients.sessions n))
-    (send_last_closes n (end_session n w) (reply xid (end_session n w).learner.last_zxid (without_body OK)))
-call_closes n w xid bodies.Unreadable = send_closes n w (reply xid w.learner.last_zxid (without_body BAD_ARGUMENTS))
-call_closes n w xid bodies.Ping = send_closes n w (reply PING_XID w.learner.last_zxid (without_body OK))
-call_closes n w xid bodies.Write = send_closes n w (reply xid w.learner.last_zxid (without_body NOT_READ_ONLY))
-call_closes n w xid bodies.Unknown = send_last_closes n w (reply xid w.learner.last_zxid (without_body UNIMPLEMENTED))
+    (send_last_closes n (end_session n w) (reply xid (end_session n w).replica.learner.last_zxid (without_body OK)))
+call_closes n w xid bodies.Unreadable = send_closes n w (reply xid w.replica.learner.last_zxid (without_body BAD_ARGUMENTS))
+call_closes n w xid bodies.Ping = send_closes n w (reply PING_XID w.replica.learner.last_zxid (without_body OK))
+call_closes n w xid bodies.Write = send_closes n w (reply xid w.replica.learner.last_zxid (without_body NOT_READ_ONLY))
+call_closes n w xid bodies.Unknown = send_last_closes n w (reply xid w.replica.learner.last_zxid (without_body UNIMPLEMENTED))
 
 pub serve_closes : (serving : Bool) (n : ℕ) (w : World) (frame : List ℕ) → OnlyCloses w (serve serving n w frame).after
 serve_closes serving n w frame = by (session_of w.clients.sessions n)

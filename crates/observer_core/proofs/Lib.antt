@@ -5,10 +5,14 @@ pub mod Delivering
 pub mod Serving
 pub mod Playing
 pub mod Keeping
+pub mod Unmoved
 pub mod Logs
+pub mod Simulation
+pub mod WholeImages
 pub mod Rows
 pub mod Closing
 pub mod Passing
 pub mod Agreeing
 pub mod Taking
 pub mod Apart
+pub mod Served

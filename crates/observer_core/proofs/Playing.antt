@@ -15,16 +15,19 @@ use Rattle.observer_core.specs.declared.event.Event.{Event}
 use Rattle.observer_core.specs.declared.event.Event.TheVariants.{LeaderBytes, ClientBytes}
 use Rattle.observer_core.specs.declared.event.Output.{Output}
 use Rattle.observer_core.specs.declared.event.Output.TheVariants.{CloseClient}
-use Rattle.observer_core.specs.Machine.{Connection, Connections, World, Machine}
+use Rattle.observer_core.specs.Machine.{Connection, Connections, World, Leader, Machine}
 use Rattle.observer_core.specs.Steps.{Happened, behind, quiet, and_then, happening}
 use Rattle.observer_core.specs.Clients.{at_rest}
-use Rattle.observer_core.specs.Leader.{Delivery, deliver, is_refused, end_at, deliver_all, beside, leave_leader, take_leader_bytes}
+use Rattle.observer_core.specs.Leader.{Led, receive, Delivery, deliver, is_refused, end_at, deliver_all, by_parts, kept, beside, leave_leader, take_leader_bytes}
 use Rattle.observer_core.specs.Serve.{close_client, serve, is_closed, keep, wait, wait_if_open, wait_at, frames, serve_all, take_client_bytes}
 use Rattle.observer_core.specs.Play.{serving, happen, play}
 use Rattle.observer_core.proofs.Closing.{serve_closes}
 use Rattle.observer_core.proofs.Steps.{behind_behind, passed_over, happening_on}
 use Rattle.observer_core.proofs.NatMaps.{get-inserted, get-removed, insert-insert, insert-same}
 use Rattle.observer_core.proofs.Streams.{frames_streamed}
+use Rattle.observer_core.proofs.Unmoved.{client_same}
+use Rattle.replica.specs.Replica.{Replica}
+use Rattle.replica.specs.Taking.{is_serving}
 
 pub play_on : (m : Machine) (a b : List Event) → play m (a ++ b) ≡ behind (play m a).outputs (play (play m a).after b)
 play_on m a b = happening_on (λ (m : Machine). false) happen m a b
@@ -39,41 +42,47 @@ some_is c k e = ap (λ (o : Option Connection). unwrap_or o c) e
 -- ---- the leader's bytes
 
 -- what the packets that came leave of the leader
-abbrev finish : Happened Delivery → Place Phase → Happened Machine
-finish h place = and_then h (λ d. leave_leader d.world (end_at place d.fault))
+abbrev finish : Happened (Delivery Led) → Place Phase → Happened Machine
+finish h place = and_then h (λ d. leave_leader d.left.world (kept d.left.loading (end_at place d.fault)))
 
 -- what further bytes of the leader bring
 abbrev then_leader : Happened Machine → List ℕ → Happened Machine
-then_leader h more = behind h.outputs (take_leader_bytes h.after.leader h.after.world more)
+then_leader h more = behind h.outputs (take_leader_bytes by_parts h.after.leader h.after.world more)
 
 lost_then : (w : World) (e : Fault) (more : List ℕ) → leave_leader w (Err e) ≡ then_leader (leave_leader w (Err e)) more
-lost_then w e more = ap (λ (o : List Output). record { outputs = o; after = (leave_leader w (Err e)).after }) (sym (append-nil (leave_leader w (Err e)).outputs))
+lost_then w e more =
+    let h : Happened Machine = leave_leader w (Err e) in
+    ap (λ (o : List Output). record { outputs = o; after = h.after }) (sym (append-nil h.outputs))
 
-finished_on : (fault : Option Fault) (w : World) (phase : Phase) (unread : Unread) (more : List ℕ) →
+finished_on : (fault : Option Fault) (w : Led) (phase : Phase) (unread : Unread) (more : List ℕ) →
     let left : Place Phase = record { phase = phase; unread = unread } in
     let j = shows (add left more) in
-    finish (happening is_refused deliver (record { world = w; fault = fault }) j.found) j.left ≡ then_leader (leave_leader w (end_at left fault)) more
+    finish (happening is_refused (deliver receive) (record { left = w; fault = fault }) j.found) j.left
+    ≡ then_leader (leave_leader w.world (kept w.loading (end_at left fault))) more
 finished_on None w phase (Ok bytes) more = refl
-finished_on None w phase (Err e) more = lost_then w e more
+finished_on None w phase (Err e) more = lost_then w.world e more
 finished_on (Some e) w phase unread more =
     let left : Place Phase = record { phase = phase; unread = unread } in
     let j = shows (add left more) in
-    ap (λ (h : Happened Delivery). finish h j.left) (passed_over is_refused deliver (record { world = w; fault = Some e }) j.found refl) ∙ lost_then w e more
+    ap (λ (h : Happened (Delivery Led)). finish h j.left) (passed_over is_refused (deliver receive) (record { left = w; fault = Some e }) j.found refl)
+    ∙ lost_then w.world e more
 
-leader_cut : (leader : Option (Place Phase)) (w : World) (a b : List ℕ) → take_leader_bytes leader w (a ++ b) ≡ then_leader (take_leader_bytes leader w a) b
+leader_cut : (leader : Option Leader) (w : World) (a b : List ℕ)
+    → take_leader_bytes by_parts leader w (a ++ b) ≡ then_leader (take_leader_bytes by_parts leader w a) b
 leader_cut None w a b = refl
-leader_cut (Some place) w a b =
-    let i = shows (add place a) in
+leader_cut (Some l) w a b =
+    let v : Led = record { loading = l.loading; world = w } in
+    let i = shows (add l.place a) in
     let j = shows (add i.left b) in
-    let h = deliver_all w i.found in
-    ap (λ (p : Place Phase). finish (deliver_all w (shows p).found) (shows p).left) (add_add place.phase place.unread a b)
-    ∙ ap (λ (k : Items Phase Item). finish (deliver_all w k.found) k.left) (shows_pieces (add place a) b)
-    ∙ ap (λ (g : Happened Delivery). finish g j.left) (happening_on is_refused deliver (record { world = w; fault = None }) i.found j.found)
-    ∙ sym (behind_behind h.outputs (happening is_refused deliver h.after j.found).outputs
-    (leave_leader (happening is_refused deliver h.after j.found).after.world (end_at j.left (happening is_refused deliver h.after j.found).after.fault)))
-    ∙ ap (behind h.outputs) (finished_on h.after.fault h.after.world i.left.phase i.left.unread b)
-    ∙ behind_behind h.outputs (leave_leader h.after.world (end_at i.left h.after.fault)).outputs
-    (take_leader_bytes (leave_leader h.after.world (end_at i.left h.after.fault)).after.leader (leave_leader h.after.world (end_at i.left h.after.fault)).after.world b)
+    let h = deliver_all receive v i.found in
+    let g = happening is_refused (deliver receive) h.after j.found in
+    let stood = leave_leader h.after.left.world (kept h.after.left.loading (end_at i.left h.after.fault)) in
+    ap (λ (p : Place Phase). finish (deliver_all receive v (shows p).found) (shows p).left) (add_add l.place.phase l.place.unread a b)
+    ∙ ap (λ (k : Items Phase Item). finish (deliver_all receive v k.found) k.left) (shows_pieces (add l.place a) b)
+    ∙ ap (λ (x : Happened (Delivery Led)). finish x j.left) (happening_on is_refused (deliver receive) (record { left = v; fault = None }) i.found j.found)
+    ∙ sym (behind_behind h.outputs g.outputs (leave_leader g.after.left.world (kept g.after.left.loading (end_at j.left g.after.fault))))
+    ∙ ap (behind h.outputs) (finished_on h.after.fault h.after.left i.left.phase i.left.unread b)
+    ∙ behind_behind h.outputs stood.outputs (take_leader_bytes by_parts stood.after.leader stood.after.world b)
 
 -- ---- both
 
@@ -159,7 +168,16 @@ module _ (serving : Bool) (n : ℕ) where
       ∙ ap (behind h.outputs) (served_on h.after (finmap.get h.after.clients.connections n) i.left b refl (all_taken v i.found t))
       ∙ behind_behind h.outputs waits.outputs (take_client_bytes serving n waits.after (finmap.get waits.after.clients.connections n) b)
 
-pub client_cut_anywhere : (m : Machine) (n : ℕ) (a b : List ℕ) (events : List Event) → play m (ClientBytes n (a ++ b) ∷ events) ≡ play m (ClientBytes n a ∷ ClientBytes n b ∷ events)
+pub client_cut_anywhere : (m : Machine) (n : ℕ) (a b : List ℕ) (events : List Event)
+    → play m (ClientBytes n (a ++ b) ∷ events) ≡ play m (ClientBytes n a ∷ ClientBytes n b ∷ events)
 client_cut_anywhere m n a b events =
     two_events m (ClientBytes n (a ++ b)) (ClientBytes n a) (ClientBytes n b) events
-    (ap (beside m.leader) (client_cut (serving m) n m.world (finmap.get m.world.clients.connections n) a b refl))
+    (ap (beside m.leader) (client_cut (serving m.world) n m.world (finmap.get m.world.clients.connections n) a b refl)
+    ∙ ap (λ (r : Replica). beside m.leader (then_served first (is_serving r) b))
+    (sym (client_same (serving m.world) n m.world (finmap.get m.world.clients.connections n) a)))
+  where
+    first : Happened World
+    first = take_client_bytes (serving m.world) n m.world (finmap.get m.world.clients.connections n) a
+
+    then_served : Happened World → Bool → List ℕ → Happened World
+    then_served h served more = and_then h (λ w. take_client_bytes served n w (finmap.get w.clients.connections n) more)

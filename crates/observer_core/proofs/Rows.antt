@@ -14,7 +14,7 @@ use Rattle.std.proofs.lemmas.Str.{is_utf8-from_IsUtf8}
 use Rattle.std.specs.Ordering.{nat_cmp}
 use Rattle.values.specs.declared.fault.Fault.{Fault}
 use Rattle.values.specs.declared.fault.Fault.TheVariants.{OutOfOrder}
-use Rattle.jute.specs.Format.{judged_at, buffer_at, buffer_limit, vector_at, text, times, number_bytes}
+use Rattle.jute.specs.Format.{◌>>=◌, judged_at, buffer_at, buffer_limit, vector_at, text, times, number_bytes}
 use Rattle.jute.specs.Codes.{open_acl}
 use Rattle.jute.specs.Frame.{frame_at}
 use Rattle.jute.specs.Owned.{id, acl}
@@ -73,11 +73,15 @@ use Rattle.read_processor.specs.Look.{look, without_body, look_at_node, shown_lo
 use Rattle.read_processor.specs.Reply.{reply}
 use Rattle.values.specs.Hex.{spelled}
 use Rattle.observer_core.specs.Rows.{WorkedRows, inform_of_create, inform_of_set_data, get_front, get_back, reply_of_create, reply_of_set_data, exists_request, reply_of_missing, event_of_create, created, overwritten, asked, awaited}
-use Rattle.observer_core.specs.Machine.{Connection, Connections, Clients, World, Machine}
+use Rattle.observer_core.specs.Machine.{Connection, Connections, Clients, World, Leader, Machine}
 use Rattle.client_frames.specs.Call.{call_in, call_behind, body_of, read_as, front_in}
 use Rattle.observer_core.specs.Steps.{Happened, behind, quiet, happening}
 use Rattle.observer_core.specs.Clients.{without, closing, sent_to, notices}
-use Rattle.observer_core.specs.Leader.{with_watches, with_meant, inform, apply, receive, deliver_as, deliver, is_refused, leave_leader, end_at, beside, take_leader_bytes}
+use Rattle.replica.specs.Replica.{Replica}
+use Rattle.replica.specs.Taking.{unloaded, quiet as unled, with_learner, carry_out_all, leave}
+use Rattle.learner_sync.specs.Learn.{Learned, apply}
+use Rattle.learner_sync.specs.declared.phase.Phase.TheVariants.{Serving}
+use Rattle.observer_core.specs.Leader.{Led, with_loading, tell, receive, deliver_as, deliver, is_refused, by_parts, kept, leave_leader, end_at, beside, take_leader_bytes}
 use Rattle.observer_core.specs.Serve.{send, answer, watched_if, watching, serve_as, serve_by, serve, is_closed, wait_if_open, frames, serve_all, take_client_bytes}
 use Rattle.observer_core.specs.Play.{happen, play, first_client, new_machine, primed_machine}
 use Rattle.observer_core.proofs.NatMaps.{get-inserted, get-removed, insert-insert, entries-empty}
@@ -252,16 +256,16 @@ shown_by w seen = answer 1 (watching w (watched_if 1 w.clients.watches (watch_of
 
 -- a world whose tree shows the node is answered with it
 answered_by : (w : World) (session : ℤ) (n : Node) (frame : List ℕ) → session_of w.clients.sessions 1 ≡ Some session → ids_of w.clients.sessions 1 ≡ []
-    → finmap.get w.tree.nodes (codes "/a") ≡ Some n → look_at_node [] wanted (Some n) ≡ shown_look (shown_body wanted n) → n.children ≡ set.empty
-    → reply_by w.learner.last_zxid n 0 ≡ Some frame → serve true 1 w get_frame ≡ record { outputs = ToClient 1 frame ∷ []; after = w }
+    → finmap.get w.replica.tree.nodes (codes "/a") ≡ Some n → look_at_node [] wanted (Some n) ≡ shown_look (shown_body wanted n) → n.children ≡ set.empty
+    → reply_by w.replica.learner.last_zxid n 0 ≡ Some frame → serve true 1 w get_frame ≡ record { outputs = ToClient 1 frame ∷ []; after = w }
 answered_by w session n frame joined no_ids there shows childless is =
     ap (serve_by true 1 w get_frame) joined
     ∙ ap (serve_as 1 w) call_read
-    ∙ ap (λ (ids : List Id). shown_by w (look w.tree ids wanted)) no_ids
+    ∙ ap (λ (ids : List Id). shown_by w (look w.replica.tree ids wanted)) no_ids
     ∙ ap (λ (o : Option Node). shown_by w (look_at_node [] wanted o)) there
     ∙ ap (shown_by w) shows
-    ∙ ap (λ (c : set.FinSet (slice_cmp nat_cmp)). send 1 w (reply_by w.learner.last_zxid n (set.len c))) childless
-    ∙ ap (λ (k : ℕ). send 1 w (reply_by w.learner.last_zxid n k)) no_children
+    ∙ ap (λ (c : set.FinSet (slice_cmp nat_cmp)). send 1 w (reply_by w.replica.learner.last_zxid n (set.len c))) childless
+    ∙ ap (λ (k : ℕ). send 1 w (reply_by w.replica.learner.last_zxid n k)) no_children
     ∙ ap (send 1 w) is
 
 -- ---- watches
@@ -302,36 +306,71 @@ joined_first config = ap session_in (get-inserted {X = SessionConnection} finmap
 no_ids_first : (config : Config) → ids_of (first_client config).sessions 1 ≡ []
 no_ids_first config = ap ids_in (get-inserted {X = SessionConnection} finmap.empty 1 (new_connection (first_session config)))
 
+-- a replica that serves in epoch 1
+abbrev replica_at : ℤ → List Txn → State → Replica
+replica_at zxid log s = record {
+  learner = record {
+    phase = Serving;
+    accepted_epoch = pos 1;
+    current_epoch = pos 1;
+    last_zxid = zxid;
+    base_zxid = pos 0;
+    log = log;
+    proposals = [];
+    is_complete = true;
+  };
+  base = fresh;
+  tree = s;
+}
+
+abbrev world_with : Config → ℤ → List Txn → State → Clients → World
+world_with config zxid log s clients = record { config = config; replica = replica_at zxid log s; clients = clients }
+
 -- a world in epoch 1, with the first connection open
 abbrev world_at : Config → ℤ → List Txn → State → List ℕ → World
-world_at config zxid log s rest = record {
-  config = config;
-  learner = record { accepted_epoch = pos 1; current_epoch = pos 1; last_zxid = zxid; base = record { zxid = pos 0; tree = fresh }; log = log };
-  tree = s;
-  clients = clients_at config rest;
-}
+world_at config zxid log s rest = world_with config zxid log s (clients_at config rest)
+
+-- a leader's stream of which nothing waits
+abbrev beginning : Leader
+beginning = record { place = place_at Packets []; loading = unloaded }
 
 -- a machine that follows a leader there
 abbrev following : Config → ℤ → List Txn → State → List ℕ → Machine
-following config zxid log s rest = record { leader = Some (place_at Packets []); world = world_at config zxid log s rest }
+following config zxid log s rest = record { leader = Some beginning; world = world_at config zxid log s rest }
 
-informed_of : (again : ReadAgain) (w : World) (zxid : ℤ) (t : Txn) → txn.Fits t → receive w (packet_of zxid (txn.written t)) ≡ apply w t
+-- no image is loaded beside it
+abbrev led : World → Led
+led w = record { loading = unloaded; world = w }
+
+-- what is done of what was learnt
+abbrev done : World → Result Learned Fault → Result (Happened Led) Fault
+done w r =
+    (r >>= λ x. carry_out_all (unled unloaded (with_learner w.replica x)) x.acts) >>= λ t. Ok (with_loading t.loading (tell w t))
+
+informed_of : (again : ReadAgain) (config : Config) (last : ℤ) (log : List Txn) (s : State) (clients : Clients) (zxid : ℤ) (t : Txn) → txn.Fits t →
+    let w = world_with config last log s clients in
+    receive (led w) (item.Packet (packet_of zxid (txn.written t))) ≡ done w (apply w.replica.learner t)
 unfolding kind_of
-informed_of again w zxid t fits = ap (inform w) (again t fits)
+informed_of again config last log s clients zxid t fits =
+    let w = world_with config last log s clients in
+    ap (λ (r : Result Txn Fault). done w (r >>= λ u. apply w.replica.learner u)) (again t fits)
 
 -- what one packet leaves
-abbrev one_delivered : World → Result (Happened World) Fault → Happened Machine
+abbrev one_delivered : World → Result (Happened Led) Fault → Happened Machine
 one_delivered w r =
-    let h = deliver_as r w in
-    behind (h.outputs ++ []) (leave_leader h.after.world (end_at (place_at Packets []) h.after.fault))
+    let h = deliver_as r (led w) in
+    behind (h.outputs ++ []) (leave_leader h.after.left.world (kept h.after.left.loading (end_at (place_at Packets []) h.after.fault)))
 
 -- one INFORM comes
-inform_comes : (again : ReadAgain) (w : World) (bytes : List ℕ) (zxid : ℤ) (t : Txn) → txn.Fits t
-    → shows (place_at Packets bytes) ≡ one_packet (packet_of zxid (txn.written t))
-    → take_leader_bytes (Some (place_at Packets [])) w bytes ≡ one_delivered w (apply w t)
-inform_comes again w bytes zxid t fits found =
-    ap (λ (i : Items Phase Item). let h = happening is_refused deliver (record { world = w; fault = None }) i.found in behind h.outputs (leave_leader h.after.world (end_at i.left h.after.fault))) found
-    ∙ ap (one_delivered w) (informed_of again w zxid t fits)
+inform_comes : (again : ReadAgain) (config : Config) (last : ℤ) (log : List Txn) (s : State) (clients : Clients) (bytes : List ℕ) (zxid : ℤ) (t : Txn) → txn.Fits t →
+    let w = world_with config last log s clients in
+    shows (place_at Packets bytes) ≡ one_packet (packet_of zxid (txn.written t))
+    → take_leader_bytes by_parts (Some beginning) w bytes ≡ one_delivered w (done w (apply w.replica.learner t))
+inform_comes again config last log s clients bytes zxid t fits found =
+    let w = world_with config last log s clients in
+    ap (λ (i : Items Phase Item). let h = happening is_refused (deliver receive) (record { left = led w; fault = None }) i.found in
+    behind h.outputs (leave_leader h.after.left.world (kept h.after.left.loading (end_at i.left h.after.fault)))) found
+    ∙ ap (one_delivered w) (informed_of again config last log s clients zxid t fits)
 
 abbrev after_create : Config → List ℕ → Machine
 after_create config rest = following config (pos 4294967297) (create_txn ∷ []) made rest
@@ -339,27 +378,40 @@ after_create config rest = following config (pos 4294967297) (create_txn ∷ [])
 abbrev after_set : Config → Machine
 after_set config = following config (pos 4294967298) (create_txn ∷ set_txn ∷ []) written []
 
+abbrev with_watches : World → Watching → World
+with_watches w watches = record w { clients = record w.clients { watches = watches } }
+
 -- what a transaction triggered is told
-abbrev told_by : World → Fired → Result (Happened World) Fault
-told_by w fired = Ok (record { outputs = notices fired.events; after = with_watches w fired.left })
+abbrev told_by : World → Fired → Result (Happened Led) Fault
+told_by w fired = Ok (record { outputs = notices fired.events; after = led (with_watches w fired.left) })
+
+-- the create is meant, and the setData behind it
+abbrev meant_create : Config → Clients → World
+meant_create config clients = world_with config (pos 4294967297) (create_txn ∷ []) (mean fresh create_txn).state clients
+
+abbrev meant_set : Config → Clients → World
+meant_set config clients = world_with config (pos 4294967298) (create_txn ∷ set_txn ∷ []) (mean made set_txn).state clients
 
 create_comes : (again : ReadAgain) (nobody : NobodyTold) (config : Config) (rest : List ℕ) → happen (following config (pos 0) [] fresh rest) created ≡ quiet (after_create config rest)
 create_comes again nobody config rest =
-    let w = world_at config (pos 0) [] fresh rest in
-    inform_comes again w inform_of_create (pos 4294967297) create_txn create_fits create_found
-    ∙ ap (λ (f : Fired). one_delivered w (told_by (with_meant w create_txn (mean fresh create_txn)) f)) (nobody (mean fresh create_txn).triggers)
+    let clients = clients_at config rest in
+    let w = world_with config (pos 0) [] fresh clients in
+    inform_comes again config (pos 0) [] fresh clients inform_of_create (pos 4294967297) create_txn create_fits create_found
+    ∙ ap (λ (f : Fired). one_delivered w (told_by (meant_create config clients) f)) (nobody (mean fresh create_txn).triggers)
     ∙ ap (λ (s : State). quiet (following config (pos 4294967297) (create_txn ∷ []) s rest)) made-is
 
 set_comes : (again : ReadAgain) (nobody : NobodyTold) (config : Config) → happen (after_create config []) overwritten ≡ quiet (after_set config)
 set_comes again nobody config =
+    let clients = clients_at config [] in
     let w = (after_create config []).world in
-    inform_comes again w inform_of_set_data (pos 4294967298) set_txn set_fits set_found
-    ∙ ap (λ (f : Fired). one_delivered w (told_by (with_meant w set_txn (mean made set_txn)) f)) (nobody (mean made set_txn).triggers)
+    inform_comes again config (pos 4294967297) (create_txn ∷ []) made clients inform_of_set_data (pos 4294967298) set_txn set_fits set_found
+    ∙ ap (λ (f : Fired). one_delivered w (told_by (meant_set config clients) f)) (nobody (mean made set_txn).triggers)
     ∙ ap (λ (s : State). quiet (following config (pos 4294967298) (create_txn ∷ set_txn ∷ []) s [])) written-is
 
 abbrev closed : Config → Machine
 closed config =
-    record { leader = None; world = record (after_create config []).world { clients = without 1 (clients_at config []) } }
+    let w = (after_create config []).world in
+    record { leader = None; world = record w { replica = leave w.replica; clients = without 1 (clients_at config []) } }
 
 abbrev refusing : Config → Happened Machine
 refusing config = record { outputs = CloseLeader OutOfOrder ∷ CloseClient 1 ∷ []; after = closed config }
@@ -371,28 +423,28 @@ keys-first = ap (λ (es : List (ℕ × Connection)). map (λ (e : ℕ × Connect
 -- its zxid isn't above the last one
 create_comes_again : (again : ReadAgain) (config : Config) → happen (after_create config []) created ≡ refusing config
 create_comes_again again config =
-    inform_comes again (after_create config []).world inform_of_create (pos 4294967297) create_txn create_fits create_found
+    inform_comes again config (pos 4294967297) (create_txn ∷ []) made (clients_at config []) inform_of_create (pos 4294967297) create_txn create_fits create_found
     ∙ ap (λ (ks : List ℕ). lost (closing ks (clients_at config []))) keys-first
   where
     w : World
     w = (after_create config []).world
 
     lost : Happened Clients → Happened Machine
-    lost h = behind (CloseLeader OutOfOrder ∷ []) (beside None (record { outputs = h.outputs; after = record w { clients = h.after } }))
+    lost h = behind (CloseLeader OutOfOrder ∷ []) (beside {L = Leader} None (record { outputs = h.outputs; after = record w { replica = leave w.replica; clients = h.after } }))
 
 abbrev replying : List ℕ → Machine → Happened Machine
 replying frame m = record { outputs = ToClient 1 frame ∷ []; after = m }
 
 -- what the first connection's bytes do, by the frames that they make
 abbrev at_frames : World → Items (Unit {0}) (List ℕ) → Happened Machine
-at_frames w i = beside (Some (place_at Packets [])) (serve_all true 1 w i)
+at_frames w i = beside (Some beginning) (serve_all true 1 w i)
 
 -- the bytes of the first connection are taken to hand
 in_hand : (config : Config) (zxid : ℤ) (log : List Txn) (s : State) (rest bytes : List ℕ)
     → happen (following config zxid log s rest) (ClientBytes 1 bytes) ≡ at_frames (world_at config zxid log s []) (items frames (place_at tt (rest ++ bytes)))
 in_hand config zxid log s rest bytes =
     let w = world_at config zxid log s rest in
-    ap (λ (o : Option Connection). beside (Some (place_at Packets [])) (take_client_bytes true 1 w o bytes)) (get-inserted finmap.empty 1 (record { rest = rest }))
+    ap (λ (o : Option Connection). beside (Some beginning) (take_client_bytes true 1 w o bytes)) (get-inserted finmap.empty 1 (record { rest = rest }))
     ∙ ap (λ (c : Connections). at_frames (record w { clients = record w.clients { connections = c } }) (items frames (place_at tt (rest ++ bytes)))) (insert-insert finmap.empty 1 (record { rest = [] }) (record { rest = rest }))
 
 -- the bytes that are left wait
@@ -412,17 +464,17 @@ get_comes config zxid log s rest bytes frame found replies =
     let w = world_at config zxid log s [] in
     in_hand config zxid log s rest bytes
     ∙ ap (at_frames w) found
-    ∙ ap (λ (h : Happened World). beside (Some (place_at Packets [])) (behind h.outputs (wait_if_open 1 h.after (finmap.get h.after.clients.connections 1) (Ok []))))
+    ∙ ap (λ (h : Happened World). beside (Some beginning) (behind h.outputs (wait_if_open 1 h.after (finmap.get h.after.clients.connections 1) (Ok []))))
     (goes_on (is_closed 1) (serve true 1) w get_frame [] (ap (λ (o : Option Connection). not (is_some o)) (get-inserted finmap.empty 1 (record { rest = [] }))))
-    ∙ ap (λ (h : Happened World). beside (Some (place_at Packets [])) (behind (h.outputs ++ []) (wait_if_open 1 h.after (finmap.get h.after.clients.connections 1) (Ok [])))) replies
-    ∙ ap (λ (h : Happened World). beside (Some (place_at Packets [])) (behind (ToClient 1 frame ∷ []) h)) (left_waiting config zxid log s [])
+    ∙ ap (λ (h : Happened World). beside (Some beginning) (behind (h.outputs ++ []) (wait_if_open 1 h.after (finmap.get h.after.clients.connections 1) (Ok [])))) replies
+    ∙ ap (λ (h : Happened World). beside (Some beginning) (behind (ToClient 1 frame ∷ []) h)) (left_waiting config zxid log s [])
 
 -- a part of a request comes
 front_comes : (config : Config) → happen (following config (pos 0) [] fresh []) (ClientBytes 1 get_front) ≡ quiet (following config (pos 0) [] fresh get_front)
 front_comes config =
     in_hand config (pos 0) [] fresh [] get_front
     ∙ ap (at_frames (world_at config (pos 0) [] fresh [])) get_waits
-    ∙ ap (λ (h : Happened World). beside (Some (place_at Packets [])) h) (left_waiting config (pos 0) [] fresh get_front)
+    ∙ ap (λ (h : Happened World). beside (Some beginning) h) (left_waiting config (pos 0) [] fresh get_front)
 
 get_after_create : (config : Config) (rest bytes : List ℕ) → items frames (place_at tt (rest ++ bytes)) ≡ one_frame get_frame
     → happen (after_create config rest) (ClientBytes 1 bytes) ≡ replying reply_of_create (after_create config [])
@@ -486,7 +538,7 @@ exists_served : (config : Config) → serve true 1 (world_at config (pos 0) [] f
 exists_served config =
     ap (serve_by true 1 w exists_frame) (joined_first config)
     ∙ ap (serve_as 1 w) exists_read
-    ∙ ap (λ (ids : List Id). looked (look w.tree ids watch_wanted)) (no_ids_first config)
+    ∙ ap (λ (ids : List Id). looked (look w.replica.tree ids watch_wanted)) (no_ids_first config)
     ∙ ap (λ (o : Option Node). looked (look_at_node [] watch_wanted o)) nothing_there
     ∙ ap (send 1 (waiting config)) missing_replied
   where
@@ -497,7 +549,7 @@ exists_served config =
     looked seen = answer 1 (watching w (watched_if 1 w.clients.watches (watch_of watch_wanted seen.error))) (pos 2) seen
 
 abbrev awaiting : Config → Machine
-awaiting config = record { leader = Some (place_at Packets []); world = waiting config }
+awaiting config = record { leader = Some beginning; world = waiting config }
 
 exists_comes : (config : Config) → happen (primed_machine config) awaited ≡ replying reply_of_missing (awaiting config)
 exists_comes config =
@@ -505,11 +557,11 @@ exists_comes config =
     let open_ = get-inserted finmap.empty 1 (record { rest = [] }) in
     in_hand config (pos 0) [] fresh [] exists_request
     ∙ ap (at_frames w) exists_found
-    ∙ ap (λ (h : Happened World). beside (Some (place_at Packets [])) (behind h.outputs (wait_if_open 1 h.after (finmap.get h.after.clients.connections 1) (Ok []))))
+    ∙ ap (λ (h : Happened World). beside (Some beginning) (behind h.outputs (wait_if_open 1 h.after (finmap.get h.after.clients.connections 1) (Ok []))))
     (goes_on (is_closed 1) (serve true 1) w exists_frame [] (ap (λ (o : Option Connection). not (is_some o)) open_))
-    ∙ ap (λ (h : Happened World). beside (Some (place_at Packets [])) (behind (h.outputs ++ []) (wait_if_open 1 h.after (finmap.get h.after.clients.connections 1) (Ok [])))) (exists_served config)
-    ∙ ap (λ (o : Option Connection). beside (Some (place_at Packets [])) (behind (ToClient 1 reply_of_missing ∷ []) (wait_if_open 1 (waiting config) o (Ok [])))) open_
-    ∙ ap (λ (c : Connections). replying reply_of_missing (record { leader = Some (place_at Packets []); world = record (waiting config) { clients = record (waiting config).clients { connections = c } } })) (insert-insert finmap.empty 1 (record { rest = [] }) (record { rest = [] }))
+    ∙ ap (λ (h : Happened World). beside (Some beginning) (behind (h.outputs ++ []) (wait_if_open 1 h.after (finmap.get h.after.clients.connections 1) (Ok [])))) (exists_served config)
+    ∙ ap (λ (o : Option Connection). beside (Some beginning) (behind (ToClient 1 reply_of_missing ∷ []) (wait_if_open 1 (waiting config) o (Ok [])))) open_
+    ∙ ap (λ (c : Connections). replying reply_of_missing (record { leader = Some beginning; world = record (waiting config) { clients = record (waiting config).clients { connections = c } } })) (insert-insert finmap.empty 1 (record { rest = [] }) (record { rest = [] }))
 
 -- what the create triggers
 create_triggers : (mean fresh create_txn).triggers ≡ Created (codes "/a") ∷ ChildrenChanged (codes "/") ∷ []
@@ -528,9 +580,10 @@ watched_create_comes : (again : ReadAgain) (rows : FiringRows) (config : Config)
     → happen (awaiting config) created ≡ replying event_of_create (after_create config [])
 watched_create_comes again rows config =
     let w = waiting config in
-    inform_comes again w inform_of_create (pos 4294967297) create_txn create_fits create_found
-    ∙ ap (λ (f : Fired). one_delivered w (told_by (with_meant w create_txn (mean fresh create_txn)) f)) (ap (fire one_watch) create_triggers ∙ rows.created)
-    ∙ ap (λ (frame : Option (List ℕ)). one_delivered w (Ok (record { outputs = sent_to 1 frame ++ []; after = with_watches (with_meant w create_txn (mean fresh create_txn)) no_watch }))) event_sent
+    let clients = w.clients in
+    inform_comes again config (pos 0) [] fresh clients inform_of_create (pos 4294967297) create_txn create_fits create_found
+    ∙ ap (λ (f : Fired). one_delivered w (told_by (meant_create config clients) f)) (ap (fire one_watch) create_triggers ∙ rows.created)
+    ∙ ap (λ (frame : Option (List ℕ)). one_delivered w (Ok (record { outputs = sent_to 1 frame ++ []; after = led (with_watches (meant_create config clients) no_watch) }))) event_sent
     ∙ ap (λ (s : State). replying event_of_create (following config (pos 4294967297) (create_txn ∷ []) s [])) made-is
 
 -- ---- the rows
@@ -572,11 +625,11 @@ watch_told again nobody rows config =
     ∙ ap (behind (ToClient 1 event_of_create ∷ [])) (step (after_create config []) overwritten [] (quiet (after_set config)) (set_comes again nobody config)))
 
 idle_is : (config : Config) → (play (new_machine config) (created ∷ asked ∷ [])).outputs ≡ []
-idle_is config = ap (λ (o : Option Connection). (beside None (take_client_bytes false 1 (new_machine config).world o (get_front ++ get_back))).outputs ++ []) (finmap.get-empty nat_cmp 1)
+idle_is config = ap (λ (o : Option Connection). (beside {L = Leader} None (take_client_bytes false 1 (new_machine config).world o (get_front ++ get_back))).outputs ++ []) (finmap.get-empty nat_cmp 1)
 
 closed_passes : (config : Config) → (behind (CloseLeader OutOfOrder ∷ CloseClient 1 ∷ []) (play (closed config) (overwritten ∷ asked ∷ []))).outputs ≡ CloseLeader OutOfOrder ∷ CloseClient 1 ∷ []
 closed_passes config =
-    ap (λ (o : Option Connection). (CloseLeader OutOfOrder ∷ CloseClient 1 ∷ []) ++ ((beside None (take_client_bytes false 1 (closed config).world o (get_front ++ get_back))).outputs ++ []))
+    ap (λ (o : Option Connection). (CloseLeader OutOfOrder ∷ CloseClient 1 ∷ []) ++ ((beside {L = Leader} None (take_client_bytes false 1 (closed config).world o (get_front ++ get_back))).outputs ++ []))
     (get-removed (at_first []) 1)
 
 pub rows_hold : ReadAgain → NobodyTold → FiringRows → WorkedRows

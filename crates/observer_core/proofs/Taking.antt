@@ -117,25 +117,25 @@ shown_has n session w xid shows has =
 
 renewed_has : (n : ℕ) (session : ℤ) (w : World) (xid : ℤ) (r : Option Renewal) → HasIfOpen n session w.clients
     → HasIfOpen n session (renewed n w xid r).after.clients
-renewed_has n session w xid None has = send_has n session w (reply xid w.learner.last_zxid (without_body BAD_ARGUMENTS)) has
+renewed_has n session w xid None has = send_has n session w (reply xid w.replica.learner.last_zxid (without_body BAD_ARGUMENTS)) has
 renewed_has n session w xid (Some r) has =
-    send_has n session (watching w (watched_each n w.clients.watches r.watches)) (reply xid w.learner.last_zxid (without_body OK)) has
+    send_has n session (watching w (watched_each n w.clients.watches r.watches)) (reply xid w.replica.learner.last_zxid (without_body OK)) has
 
 call_has : (n : ℕ) (session : ℤ) (w : World) (xid : ℤ) (b : CallBody) → session_of w.clients.sessions n ≡ Some session
     → HasIfOpen n session (call n w xid b).after.clients
 call_has n session w xid (bodies.Read r) has =
-    let seen = look w.tree (ids_of w.clients.sessions n) r in
-    send_has n session (watching w (watched_if n w.clients.watches (watch_of r seen.error))) (reply xid w.learner.last_zxid seen) (λ _. has)
-call_has n session w xid (bodies.SetWatches r) has = renewed_has n session w xid (renew w.tree r) (λ _. has)
+    let seen = look w.replica.tree (ids_of w.clients.sessions n) r in
+    send_has n session (watching w (watched_if n w.clients.watches (watch_of r seen.error))) (reply xid w.replica.learner.last_zxid seen) (λ _. has)
+call_has n session w xid (bodies.SetWatches r) has = renewed_has n session w xid (renew w.replica.tree r) (λ _. has)
 call_has n session w xid (bodies.Auth packet) has =
     shown_has n session w xid (auth w.clients.sessions n packet.scheme packet.auth)
     (λ _. auth_keeps w.clients.sessions n packet.scheme packet.auth session has)
 call_has n session w xid bodies.CloseSession has =
-    send_last_has n session (end_session n w) (reply xid (end_session n w).learner.last_zxid (without_body OK))
-call_has n session w xid bodies.Unreadable has = send_has n session w (reply xid w.learner.last_zxid (without_body BAD_ARGUMENTS)) (λ _. has)
-call_has n session w xid bodies.Ping has = send_has n session w (reply PING_XID w.learner.last_zxid (without_body OK)) (λ _. has)
-call_has n session w xid bodies.Write has = send_has n session w (reply xid w.learner.last_zxid (without_body NOT_READ_ONLY)) (λ _. has)
-call_has n session w xid bodies.Unknown has = send_last_has n session w (reply xid w.learner.last_zxid (without_body UNIMPLEMENTED))
+    send_last_has n session (end_session n w) (reply xid (end_session n w).replica.learner.last_zxid (without_body OK))
+call_has n session w xid bodies.Unreadable has = send_has n session w (reply xid w.replica.learner.last_zxid (without_body BAD_ARGUMENTS)) (λ _. has)
+call_has n session w xid bodies.Ping has = send_has n session w (reply PING_XID w.replica.learner.last_zxid (without_body OK)) (λ _. has)
+call_has n session w xid bodies.Write has = send_has n session w (reply xid w.replica.learner.last_zxid (without_body NOT_READ_ONLY)) (λ _. has)
+call_has n session w xid bodies.Unknown has = send_last_has n session w (reply xid w.replica.learner.last_zxid (without_body UNIMPLEMENTED))
 
 pub call_in_has : (n : ℕ) (session : ℤ) (w : World) (c : Result Call Fault) → session_of w.clients.sessions n ≡ Some session
     → HasIfOpen n session (serve_as n w c).after.clients

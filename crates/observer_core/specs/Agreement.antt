@@ -1,5 +1,5 @@
 -- How sessions, watches and open connections hang together.
-use Rattle.std.specs.Prelude.{◌≡◌, ℕ, ℤ, List, Some, true, IsTrue}
+use Rattle.std.specs.Prelude.{◌≡◌, ℕ, ℤ, List, Some, None, true, false, IsTrue}
 use Rattle.std.specs.FinMap as finmap
 use Rattle.settings.specs.Settings.{is_server_id}
 use Rattle.sessions.specs.Sessions.{session_of}
@@ -7,9 +7,9 @@ use Rattle.sessions.specs.Agreement.{Agrees}
 use Rattle.watch_manager.specs.Laws.{WatchersPass}
 use Rattle.observer_core.specs.declared.config.Config.{Config}
 use Rattle.observer_core.specs.declared.event.Event.{Event}
-use Rattle.observer_core.specs.Machine.{Clients, Machine}
+use Rattle.observer_core.specs.Machine.{Clients, World, Machine}
 use Rattle.observer_core.specs.Clients.{is_open}
-use Rattle.observer_core.specs.Play.{play, new_machine, primed_machine}
+use Rattle.observer_core.specs.Play.{serving, play, new_machine, primed_machine}
 
 -- Sessions and watches name open connections.
 pub record ClientsAgree (c : Clients) : Type 0 where
@@ -34,3 +34,14 @@ pub record ConnectionsAgree : Type 0 where
   pub plays : (m : Machine) (events : List Event) → ClientsAgree m.world.clients
       → ClientsAgree (play m events).after.world.clients
   pub apart : OneSessionEach
+
+-- where clients aren't served nobody has a session
+abbrev pub OnlyServedJoin : World → Type 0
+OnlyServedJoin w = serving w ≡ false → (n : ℕ) → session_of w.clients.sessions n ≡ None
+
+-- it is so at the start, and no event ends it
+pub record SessionsAreServed : Type 0 where
+  pub starts : (config : Config) → OnlyServedJoin (new_machine config).world
+  pub starts_primed : (config : Config) → OnlyServedJoin (primed_machine config).world
+  pub plays : (m : Machine) (events : List Event) → ClientsAgree m.world.clients → OnlyServedJoin m.world
+      → OnlyServedJoin (play m events).after.world

@@ -41,8 +41,7 @@ pub record IsUntouched (k : ℕ) (before after : Clients) : Type 0 where
 -- what happened to the world is the client's alone, where those that are left may be closed besides
 pub record IsApart (n : ℕ) (left : ℕ → Type 0) (w : World) (h : Happened World) : Type 0 where
   pub outputs : AllByRecursion (IsOf n left) h.outputs
-  pub learner : h.after.learner ≡ w.learner
-  pub tree : h.after.tree ≡ w.tree
+  pub replica : h.after.replica ≡ w.replica
   -- another connection that isn't closed is untouched
   pub others : (k : ℕ) → k ≢ n → StaysOpen k h.outputs → IsUntouched k w.clients h.after.clients
 

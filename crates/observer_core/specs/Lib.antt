@@ -9,4 +9,5 @@ pub mod Inner
 pub mod Logs
 pub mod Agreement
 pub mod Apart
+pub mod WholeImages
 pub mod Rows

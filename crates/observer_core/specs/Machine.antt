@@ -1,32 +1,15 @@
--- What an observer knows: its settings, how far it followed its leader, its tree, and its clients.
-use Rattle.std.specs.Prelude.{ℕ, ℤ, List, Option, refl}
+-- What an observer knows: its settings, the replica that follows its leader, and its clients.
+use Rattle.std.specs.Prelude.{ℕ, List, Option, refl}
 use Rattle.std.specs.Ordering.{nat_cmp}
-use Rattle.std.specs.Coded.{Coded, code_by, coded×, coded_ℕ, coded_ℤ, coded_list, coded_option}
+use Rattle.std.specs.Coded.{Coded, code_by, coded×, coded_ℕ, coded_list, coded_option}
 use Rattle.std.specs.FinMap as finmap
 use Rattle.jute.specs.Stream.{Place}
+use Rattle.snapshot_codec.specs.Made.{Loading}
 use Rattle.quorum_packet.specs.declared.phase.Phase.{Phase}
-use Rattle.txn_codec.specs.declared.txn.Txn.{Txn}
-use Rattle.data_tree.specs.State.{State}
+use Rattle.replica.specs.Replica.{Replica}
 use Rattle.sessions.specs.State.{State as Sessions, state_code as sessions_code}
 use Rattle.watch_manager.specs.Watching.{Watching, watching_code}
 use Rattle.observer_core.specs.declared.config.Config.{Config}
-
--- a state to which the log leads back, and the zxid of it
-pub record Base : Type 0 where
-  pub zxid : ℤ
-  pub tree : State
-
--- how far a leader was followed
-pub record Learner : Type 0 where
-  -- the greatest epoch that a leader was accepted with
-  pub accepted_epoch : ℤ
-  -- the epoch of the last leader that was followed
-  pub current_epoch : ℤ
-  -- the greatest zxid that was applied
-  pub last_zxid : ℤ
-  pub base : Base
-  -- the transactions that were applied since the base
-  pub log : List Txn
 
 -- an open connection of a client: its bytes that wait for more
 pub record Connection : Type 0 where
@@ -47,26 +30,24 @@ pub record Clients : Type 0 where
 -- all but the leader's bytes
 pub record World : Type 0 where
   pub config : Config
-  pub learner : Learner
-  -- what a read shows
-  pub tree : State
+  -- what a read shows, and how far the leader was followed
+  pub replica : Replica
   pub clients : Clients
 
-pub record Machine : Type 0 where
-  -- how far the leader's bytes were read, while there is a leader
-  pub leader : Option (Place Phase)
+-- how far the leader's bytes were read, and how much of an image was loaded
+pub record Leader : Type 0 where
+  pub place : Place Phase
+  pub loading : Loading
+
+-- an observer, where so much is kept of a leader's stream while there is a leader
+pub record MachineBy (L : Type 0) : Type 0 where
+  pub leader : Option L
   pub world : World
 
+abbrev pub Machine : Type 0
+Machine = MachineBy Leader
+
 -- ---- codes
-
-abbrev pub base_code : Coded State → Coded Base
-base_code state = code_by (ℤ × State) (coded× coded_ℤ state) (λ b. (b.zxid, b.tree)) (λ p. record { zxid = p.0; tree = p.1 }) (λ _. refl)
-
-abbrev pub learner_code : Coded State → Coded Txn → Coded Learner
-learner_code state txn =
-    code_by (ℤ × (ℤ × (ℤ × (Base × List Txn)))) (coded× coded_ℤ (coded× coded_ℤ (coded× coded_ℤ (coded× (base_code state) (coded_list txn)))))
-    (λ l. (l.accepted_epoch, (l.current_epoch, (l.last_zxid, (l.base, l.log)))))
-    (λ p. record { accepted_epoch = p.0; current_epoch = p.1.0; last_zxid = p.1.1.0; base = p.1.1.1.0; log = p.1.1.1.1 }) (λ _. refl)
 
 abbrev pub connection_code : Coded Connection
 connection_code = code_by (List ℕ) (coded_list coded_ℕ) (λ c. c.rest) (λ rest. record { rest = rest }) (λ _. refl)
@@ -80,13 +61,18 @@ clients_code =
     (λ c. (c.connections, (c.sessions, c.watches)))
     (λ p. record { connections = p.0; sessions = p.1.0; watches = p.1.1 }) (λ _. refl)
 
-abbrev pub world_code : Coded Config → Coded State → Coded Txn → Coded World
-world_code config state txn =
-    code_by (Config × (Learner × (State × Clients)))
-    (coded× config (coded× (learner_code state txn) (coded× state clients_code)))
-    (λ w. (w.config, (w.learner, (w.tree, w.clients))))
-    (λ p. record { config = p.0; learner = p.1.0; tree = p.1.1.0; clients = p.1.1.1 }) (λ _. refl)
+abbrev pub world_code : Coded Config → Coded Replica → Coded World
+world_code config replica =
+    code_by (Config × (Replica × Clients)) (coded× config (coded× replica clients_code))
+    (λ w. (w.config, (w.replica, w.clients)))
+    (λ p. record { config = p.0; replica = p.1.0; clients = p.1.1 }) (λ _. refl)
 
-abbrev pub machine_code : Coded (Place Phase) → Coded Config → Coded State → Coded Txn → Coded Machine
-machine_code place config state txn =
-    code_by (Option (Place Phase) × World) (coded× (coded_option place) (world_code config state txn)) (λ m. (m.leader, m.world)) (λ p. record { leader = p.0; world = p.1 }) (λ _. refl)
+abbrev pub leader_code : Coded (Place Phase) → Coded Loading → Coded Leader
+leader_code place loading =
+    code_by (Place Phase × Loading) (coded× place loading) (λ l. (l.place, l.loading))
+    (λ p. record { place = p.0; loading = p.1 }) (λ _. refl)
+
+abbrev pub machine_code : Coded Leader → Coded World → Coded Machine
+machine_code leader world =
+    code_by (Option Leader × World) (coded× (coded_option leader) world) (λ m. (m.leader, m.world))
+    (λ p. record { leader = p.0; world = p.1 }) (λ _. refl)

@@ -1,11 +1,8 @@
 -- What a machine does with a list of events: the outputs, and the machine that is left.
-use Rattle.std.specs.Prelude.{ℤ, pos, List, [], Option, Some, None, is_some, Bool, false}
+use Rattle.std.specs.Prelude.{pos, List, Option, Some, None, Bool, false}
 use Rattle.std.specs.FinMap as finmap
-use Rattle.jute.specs.Stream.{Place, place_at}
-use Rattle.quorum_packet.specs.declared.phase.Phase.{Phase}
-use Rattle.quorum_packet.specs.declared.phase.Phase.TheVariants.{Packets}
-use Rattle.data_tree.specs.State.{State}
-use Rattle.data_tree.specs.Meaning.{fresh}
+use Rattle.replica.specs.Replica.{Replica, new_replica, primed_replica}
+use Rattle.replica.specs.Taking.{is_serving, rebase}
 use Rattle.sessions.specs.State.{terms_of}
 use Rattle.sessions.specs.Sessions.{no_sessions, connect}
 use Rattle.sessions.specs.declared.request.SessionRequest.{SessionRequest}
@@ -13,48 +10,50 @@ use Rattle.watch_manager.specs.Watching.{no_watch}
 use Rattle.observer_core.specs.declared.config.Config.{Config}
 use Rattle.observer_core.specs.declared.event.Event.{Event}
 use Rattle.observer_core.specs.declared.event.Event.TheVariants.{LeaderUp, LeaderBytes, LeaderEnd, ClientUp, ClientBytes, ClientEnd, Expire, Checkpoint}
-use Rattle.observer_core.specs.Machine.{Clients, World, Machine}
+use Rattle.observer_core.specs.Machine.{Clients, World, MachineBy, Machine}
 use Rattle.observer_core.specs.Steps.{Happened, quiet, happening}
 use Rattle.observer_core.specs.Clients.{at_rest, with_connection}
-use Rattle.observer_core.specs.Leader.{beside, take_leader_bytes}
+use Rattle.observer_core.specs.Leader.{Side, by_parts, beside, meet_leader, take_leader_bytes, end_leader}
 use Rattle.observer_core.specs.Serve.{take_client_bytes, open_client, end_client, expire_session}
 
--- clients are served while a leader is followed
-abbrev pub serving : Machine → Bool
-serving m = is_some m.leader
+-- clients are served once the leader has brought the replica up to date
+abbrev pub serving : World → Bool
+serving w = is_serving w.replica
 
--- a client comes, or goes, which puts nothing out
-abbrev pub changed : Machine → World → Happened Machine
+-- the world changes, and nothing is put out
+abbrev pub changed : {L : Type 0} → MachineBy L → World → Happened (MachineBy L)
 changed m w = quiet (record m { world = w })
 
--- A leader's coming and going and a checkpoint are passed over yet.
+-- while clients are served, a checkpoint makes the tree the base
+abbrev pub checkpointed : World → World
+checkpointed w = record w { replica = rebase w.replica }
+
+-- what an event does, by how the leader's stream is taken
+abbrev pub happen_by : {L : Type 0} → Side L → MachineBy L → Event → Happened (MachineBy L)
+happen_by side m LeaderUp = meet_leader side m.leader m.world
+happen_by side m (LeaderBytes bytes) = take_leader_bytes side m.leader m.world bytes
+happen_by side m LeaderEnd = end_leader side m.leader m.world
+happen_by side m (ClientUp n) = changed m (open_client n m.world)
+happen_by side m (ClientBytes n bytes) =
+    beside m.leader (take_client_bytes (serving m.world) n m.world (finmap.get m.world.clients.connections n) bytes)
+happen_by side m (ClientEnd n) = changed m (end_client n m.world)
+happen_by side m (Expire session) = beside m.leader (expire_session m.world session)
+happen_by side m Checkpoint = changed m (checkpointed m.world)
+
+abbrev pub play_by : {L : Type 0} → Side L → MachineBy L → List Event → Happened (MachineBy L)
+play_by side m events = happening (λ m. false) (happen_by side) m events
+
 abbrev pub happen : Machine → Event → Happened Machine
-happen m LeaderUp = quiet m
-happen m (LeaderBytes bytes) = take_leader_bytes m.leader m.world bytes
-happen m LeaderEnd = quiet m
-happen m (ClientUp n) = changed m (open_client n m.world)
-happen m (ClientBytes n bytes) =
-    beside m.leader (take_client_bytes (serving m) n m.world (finmap.get m.world.clients.connections n) bytes)
-happen m (ClientEnd n) = changed m (end_client n m.world)
-happen m (Expire session) = beside m.leader (expire_session m.world session)
-happen m Checkpoint = quiet m
+happen m event = happen_by by_parts m event
 
 abbrev pub play : Machine → List Event → Happened Machine
-play m events = happening (λ m. false) happen m events
+play m events = play_by by_parts m events
 
 -- ---- the machines at the start
 
--- the tree at zxid 0, which is the base too
-abbrev pub started_machine : Config → ℤ → ℤ → State → Option (Place Phase) → Clients → Machine
-started_machine config accepted current tree leader clients = record {
-  leader = leader;
-  world = record {
-    config = config;
-    learner = record { accepted_epoch = accepted; current_epoch = current; last_zxid = pos 0; base = record { zxid = pos 0; tree = tree }; log = [] };
-    tree = tree;
-    clients = clients;
-  };
-}
+abbrev pub started : {L : Type 0} → Config → Replica → Option L → Clients → MachineBy L
+started config replica leader clients =
+    record { leader = leader; world = record { config = config; replica = replica; clients = clients } }
 
 -- nobody, and no session yet
 abbrev pub no_clients : Config → Clients
@@ -65,8 +64,8 @@ no_clients config = record {
 }
 
 -- the configured epochs, without a leader and without a client
-abbrev pub new_machine : Config → Machine
-new_machine config = started_machine config config.epochs.accepted config.epochs.current fresh None (no_clients config)
+abbrev pub new_by : {L : Type 0} → Side L → Config → MachineBy L
+new_by side config = started config (new_replica config.epochs) None (no_clients config)
 
 -- the connect of a client that has no session and wants the shortest timeout
 abbrev pub first_request : SessionRequest
@@ -79,5 +78,11 @@ first_client config =
     with_connection 1 at_rest (record nobody { sessions = (connect nobody.sessions 1 first_request).after })
 
 -- following a leader in epoch 1, with connection 1 open
+abbrev pub primed_by : {L : Type 0} → Side L → Config → MachineBy L
+primed_by side config = started config primed_replica (Some side.opened) (first_client config)
+
+abbrev pub new_machine : Config → Machine
+new_machine config = new_by by_parts config
+
 abbrev pub primed_machine : Config → Machine
-primed_machine config = started_machine config (pos 1) (pos 1) fresh (Some (place_at Packets [])) (first_client config)
+primed_machine config = primed_by by_parts config

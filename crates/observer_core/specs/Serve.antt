@@ -50,10 +50,10 @@ send_last n w frame = and_then (send n w frame) (close_client n)
 
 -- the reply names the zxid of the tree that it shows
 abbrev pub answer : ℕ → World → ℤ → Look → Happened World
-answer n w xid seen = send n w (reply xid w.learner.last_zxid seen)
+answer n w xid seen = send n w (reply xid w.replica.learner.last_zxid seen)
 
 abbrev pub answer_last : ℕ → World → ℤ → Look → Happened World
-answer_last n w xid seen = send_last n w (reply xid w.learner.last_zxid seen)
+answer_last n w xid seen = send_last n w (reply xid w.replica.learner.last_zxid seen)
 
 -- ---- reads and watches
 
@@ -75,7 +75,7 @@ watching w watches = record w { clients = record w.clients { watches = watches }
 -- a read is answered at the state as it is, and leaves its watch
 abbrev pub request : ℕ → World → ℤ → Request → Happened World
 request n w xid r =
-    let seen = look w.tree (ids_of w.clients.sessions n) r in
+    let seen = look w.replica.tree (ids_of w.clients.sessions n) r in
     answer n (watching w (watched_if n w.clients.watches (watch_of r seen.error))) xid seen
 
 -- what the client missed is told, then it is answered
@@ -124,9 +124,9 @@ abbrev pub connected : ℕ → World → Bool → Connects → Happened World
 connected n w has_byte c =
     and_then (close_left (with_sessions w c.after) c.connected.older) (greet n has_byte c.connected.response)
 
--- a client may connect where a leader is followed, and if it has seen nothing that is still to come
+-- a client may connect where clients are served, and if it has seen nothing that is still to come
 abbrev pub may_connect : Bool → World → ConnectRequest → Bool
-may_connect serving w request = serving && not (int_lt w.learner.last_zxid request.last_zxid_seen)
+may_connect serving w request = serving && not (int_lt w.replica.learner.last_zxid request.last_zxid_seen)
 
 abbrev pub join : Bool → ℕ → World → Result Connecting Fault → Happened World
 join serving n w (Err e) = close_client n w
@@ -139,7 +139,7 @@ join serving n w (Ok c) =
 
 abbrev pub call : ℕ → World → ℤ → CallBody → Happened World
 call n w xid (bodies.Read r) = request n w xid r
-call n w xid (bodies.SetWatches r) = renewed n w xid (renew w.tree r)
+call n w xid (bodies.SetWatches r) = renewed n w xid (renew w.replica.tree r)
 call n w xid (bodies.Auth packet) = show_id n w xid packet
 call n w xid bodies.CloseSession = answer_last n (end_session n w) xid (without_body OK)
 call n w xid bodies.Unreadable = answer n w xid (without_body BAD_ARGUMENTS)

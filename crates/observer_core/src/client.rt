@@ -149,7 +149,7 @@ fn serve_all(
     Ok(())
 }
 
-/// Lets a client's bytes happen, where a leader is followed or not.
+/// Lets a client's bytes happen, where clients are served or not.
 pub fn take_client_bytes(
     alloc: Global,
     serving: bool,

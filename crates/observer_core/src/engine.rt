@@ -1,8 +1,7 @@
 //! The engine: a machine that is closed by want of memory.
 
 ghost use Rattle.std.specs.Prelude.{◌≡◌, Some, IfOk};
-ghost use Rattle.observer_core.specs.Play.{started_machine, no_clients, first_client, new_machine, primed_machine};
-ghost use Rattle.data_tree.specs.Meaning.{fresh};
+ghost use Rattle.observer_core.specs.Play.{started, no_clients, first_client, new_machine, primed_machine};
 ghost use Rattle.observer_core.specs.Machine.{Machine as TheMachine};
 ghost use Rattle.observer_core.specs.Plays.{Plays};
 
@@ -10,12 +9,14 @@ use crate::clients::Clients;
 use crate::config::Config;
 use crate::connections::Connections;
 use crate::event::{Event, Output};
-use crate::learner::{Base, Learner, Log};
-use crate::machine::{Machine, World};
+use crate::machine::{Leader, Machine, World};
 use crate::run::run;
 use data_tree::Tree;
+use learner_sync::Learner;
 use quorum_packet::PacketFeed;
+use replica::Replica;
 use sessions::{SessionRequest, Sessions};
+use snapshot_codec::Loader;
 use std::alloc::Global;
 use std::marker::Model;
 use thiserror::Error;
@@ -55,42 +56,6 @@ impl Model for Engine {
     ghost view = { λ e. if e.closed then None else Some e.machine };
 }
 
-// A machine that isn't closed, at zxid 0, with the epochs of the learner.
-fn started(
-    alloc: Global,
-    config: Config,
-    epochs: (i32, i32),
-    leader: Option<PacketFeed>,
-    clients: Clients,
-) -> Result<Engine, NoMemory>
-    ensures { IfOk result
-        (λ e. e ≡ Some (started_machine config epochs.0 epochs.1 fresh leader clients)) }
-{
-    let (accepted_epoch, current_epoch) = epochs;
-    let tree = Tree::fresh(alloc)?;
-    let base = Base {
-        zxid: 0,
-        tree: tree.copy()?,
-    };
-    let learner = Learner {
-        accepted_epoch,
-        current_epoch,
-        last_zxid: 0,
-        base,
-        log: Log::new(alloc),
-    };
-    let world = World {
-        config,
-        learner,
-        tree,
-        clients,
-    };
-    Ok(Engine {
-        machine: Machine { leader, world },
-        closed: false,
-    })
-}
-
 // Nobody, and no session yet.
 fn no_clients(alloc: Global, config: &Config) -> Result<Clients, NoMemory>
     ensures { IfOk result (λ clients. clients ≡ no_clients config.now) }
@@ -119,36 +84,56 @@ fn first_client(alloc: Global, config: &Config) -> Result<Clients, NoMemory>
 }
 
 impl Engine {
-    /// An observer without a leader: it passes over what a leader would send, and closes a client that wants a session.
+    /// An observer that has followed no leader yet. Until one has brought it up to date, it closes a client that wants a
+    /// session.
     pub fn new(alloc: Global, config: Config) -> Result<Engine, NoMemory>
         ensures { IfOk result (λ e. e ≡ Some (new_machine config)) }
     {
-        let epochs = (config.epochs.accepted(), config.epochs.current());
+        let replica = Replica::new(alloc, config.epochs)?;
         let clients = no_clients(alloc, &config)?;
-        started(alloc, config, epochs, None, clients)
+        Ok(Engine::started(config, replica, None, clients))
     }
 
     /// An observer that follows a leader in epoch 1, with connection 1 open.
     pub fn primed(alloc: Global, config: Config) -> Result<Engine, NoMemory>
         ensures { IfOk result (λ e. e ≡ Some (primed_machine config)) }
     {
-        let leader = PacketFeed::new(alloc);
+        let replica = Replica::primed(alloc)?;
         let clients = first_client(alloc, &config)?;
-        started(alloc, config, (1, 1), Some(leader), clients)
+        let leader = Leader {
+            feed: PacketFeed::new(alloc),
+            loader: Loader::new(alloc),
+        };
+        Ok(Engine::started(config, replica, Some(leader), clients))
+    }
+
+    // A machine that isn't closed.
+    fn started(config: Config, replica: Replica, leader: Option<Leader>, clients: Clients) -> Engine
+        ensures { result ≡ Some (started config replica leader clients) }
+    {
+        let world = World {
+            config,
+            replica,
+            clients,
+        };
+        Engine {
+            machine: Machine { leader, world },
+            closed: false,
+        }
     }
 
     /// The data tree. Of a closed engine it is only to be dropped.
     pub fn tree(&self) -> &Tree
-        ensures { (m : TheMachine) → self.now ≡ Some m → result.now ≡ m.world.tree }
+        ensures { (m : TheMachine) → self.now ≡ Some m → result.now ≡ m.world.replica.tree }
     {
-        &self.machine.world.tree
+        self.machine.world.replica.tree()
     }
 
     /// How far the leader was followed. Of a closed engine it is only to be dropped.
     pub fn learner(&self) -> &Learner
-        ensures { (m : TheMachine) → self.now ≡ Some m → result.now ≡ m.world.learner }
+        ensures { (m : TheMachine) → self.now ≡ Some m → result.now ≡ m.world.replica.learner }
     {
-        &self.machine.world.learner
+        self.machine.world.replica.learner()
     }
 
     /// Lets the events happen, one after the other, and appends what goes out.

@@ -15,7 +15,7 @@ pub enum Event<'a> {
     ClientEnd(u64),
     /// The session has expired.
     Expire(i64),
-    /// The state becomes the base, and the log is emptied.
+    /// While clients are served, the tree becomes the base, and the log is emptied.
     Checkpoint,
 }
 

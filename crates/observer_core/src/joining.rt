@@ -17,11 +17,11 @@ use sessions::{Connected, SessionRequest, SessionResponse};
 use std::alloc::Global;
 use values::{NoMemory, ReadError};
 
-// Whether a client may connect: a leader is followed, and it has seen nothing that is still to come.
+// Whether a client may connect: clients are served, and it has seen nothing that is still to come.
 fn may_connect(serving: bool, world: &World, request: &ConnectRequest<'_>) -> bool
     ensures { result ≡ may_connect serving world.now request.now }
 {
-    serving && !(world.learner.last_zxid() < request.last_zxid_seen)
+    serving && !(world.replica.learner().last_zxid() < request.last_zxid_seen)
 }
 
 // Answers a connect; behind a refusal the connection is closed.

@@ -7,8 +7,9 @@ ghost use Rattle.observer_core.specs.declared.event.Event.TheVariants.{LeaderByt
 ghost use Rattle.observer_core.specs.Steps.{behind};
 ghost use Rattle.observer_core.specs.Play.{play};
 ghost use Rattle.observer_core.specs.Logs.{LogsAreFollowed, RefusalsChangeNothing};
-ghost use Rattle.observer_core.specs.Agreement.{ConnectionsAgree};
+ghost use Rattle.observer_core.specs.Agreement.{ConnectionsAgree, SessionsAreServed};
 ghost use Rattle.observer_core.specs.Apart.{ClientsAreApart};
+ghost use Rattle.observer_core.specs.WholeImages.{PartsAreWholeImages};
 ghost use Rattle.observer_core.specs.Rows.{WorkedRows};
 
 /// Two lists of events, one behind the other.
@@ -27,11 +28,21 @@ pub fn cut_anywhere()
         ≡ play m (ClientBytes n a ∷ ClientBytes n b ∷ events) }
 {}
 
-/// The tree is what the log makes of the base, the last zxid is the log's, and the log's zxids rise: at the start and after
+/// The tree is what the log makes of the base, and the log's zxids rise up to the last zxid: at the start and after
 /// every list of events, faults among them.
 pub fn logs_are_followed()
     ensures { LogsAreFollowed }
-{}
+{
+    replica::law::logs();
+}
+
+/// Images are taken part by part, and never stand beside the tree that they make: what goes out and what is left are, for
+/// every list of events, those of whole images.
+pub fn parts_are_whole_images()
+    ensures { PartsAreWholeImages }
+{
+    replica::law::images();
+}
 
 /// A packet or part that is refused leaves the world as what stands before it left it.
 pub fn refusals_change_nothing()
@@ -46,6 +57,15 @@ pub fn connections_agree()
 {
     sessions::sessions_and_connections_agree();
     watch_manager::law::firing();
+}
+
+/// Where clients aren't served nobody has a session: at the start, and after every list of events if it was so before and
+/// the connections agreed.
+pub fn sessions_are_served()
+    ensures { SessionsAreServed }
+{
+    replica::law::serving();
+    connections_agree();
 }
 
 /// A client that comes, sends or goes leaves the tree and the log; no frame goes to another, and none to the leader; and

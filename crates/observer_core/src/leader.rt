@@ -1,131 +1,89 @@
-//! What the leader's bytes do.
+//! What a leader does: it comes, sends, and goes.
 
-ghost use Rattle.std.specs.Prelude.{◌≡◌};
+ghost use Rattle.std.specs.Prelude.{map, ◌∷◌, []};
+ghost use Rattle.std.specs.List.{All};
+ghost use Rattle.values.specs.Gains.{Puts};
+ghost use Rattle.quorum_packet.specs.Feed.{CanBeWritten};
 ghost use Rattle.quorum_packet.specs.Items.{shows};
-ghost use Rattle.txn_codec.specs.Spelling.{txn, whole};
+ghost use Rattle.quorum_packet.specs.Packet.{packet as packet_format};
 ghost use Rattle.observer_core.specs.Clients.{closing_all};
-ghost use Rattle.observer_core.specs.Leader.{carried_bytes, tell, apply, inform, receive, receive_item, disconnected, take_leader_bytes};
-ghost use Rattle.observer_core.specs.Inner.{Meets, Receives, Delivers, arrive};
+ghost use Rattle.observer_core.specs.Steps.{behind};
+ghost use Rattle.observer_core.specs.declared.event.Output.TheVariants.{CloseLeader};
+ghost use Rattle.observer_core.specs.Leader.{to_leader, by_parts, arrive, receive, meet_leader, disconnected, take_leader_bytes, end_leader};
+ghost use Rattle.observer_core.specs.Inner.{telling, Meets, Receives, Delivers, Follows};
 
 use crate::clients::Clients;
 use crate::event::Output;
-use crate::machine::{Machine, World};
+use crate::machine::{Leader, Machine, World};
 use crate::notice::notify_each;
-use data_tree::Trigger;
-use quorum_packet::{Item, PacketFeed, PacketKind, QuorumPacket};
+use quorum_packet::{Item, PacketFeed, QuorumPacket, write_packet};
+use replica::Brought;
+use snapshot_codec::Loader;
 use std::alloc::Global;
-use txn_codec::{Txn, decode_txn};
-use values::{Fault, NoMemory, ReadError};
+use values::{Blob, Fault, NoMemory, ReadError};
 
-// Tells those who watch what a transaction triggers.
-fn tell(
-    alloc: Global,
-    world: &mut World,
-    triggers: &[Trigger],
-    outputs: &mut Vec<Output>,
-) -> Result<(), NoMemory>
-    ensures { Meets result outputs.old.items
-        (tell world.old triggers.now)
-        outputs.new.items world.new }
+// Sends a packet to the leader, as one output.
+fn send(alloc: Global, packet: &QuorumPacket, outputs: &mut Vec<Output>) -> Result<(), NoMemory>
+    requires { packet_format.Writable packet.now }
+    ensures { Puts result outputs.old.items (to_leader packet.now ∷ []) outputs.new.items }
 {
-    let events = world.clients.watches.fire(alloc, triggers)?;
-    notify_each(alloc, events.as_slice(), outputs)
-}
-
-// Applies a transaction and keeps it in the log. What it triggers is told at once.
-fn apply(
-    alloc: Global,
-    world: &mut World,
-    txn: Txn,
-    outputs: &mut Vec<Output>,
-) -> Result<(), ReadError>
-    ensures { Receives result outputs.old.items
-        (apply world.old txn)
-        world.old outputs.new.items world.new }
-{
-    if !world.learner.precedes(&txn) {
-        return Err(ReadError::Fault(Fault::OutOfOrder));
-    }
-    let outcome = world.tree.apply(alloc, &txn)?;
-    world.learner.keep(txn)?;
-    tell(alloc, world, outcome.triggers.as_slice(), outputs)?;
+    let mut bytes = Vec::new(alloc);
+    write_packet(packet, &mut bytes)?;
+    outputs.push(Output::ToLeader(Blob::from_vec(bytes)))?;
     Ok(())
 }
 
-// The bytes that a packet carries; null reads as empty.
-fn carried_bytes(packet: &QuorumPacket) -> &[u8]
-    ensures { result.now ≡ carried_bytes packet.now.bytes }
-{
-    match &packet.bytes {
-        None => &[],
-        Some(bytes) => bytes.as_slice(),
-    }
-}
-
-// A transaction to apply.
-fn inform(
+// Sends packets to the leader, in order.
+fn send_each(
     alloc: Global,
-    world: &mut World,
-    packet: &QuorumPacket,
+    packets: &[QuorumPacket],
     outputs: &mut Vec<Output>,
-) -> Result<(), ReadError>
-    ensures { Receives result outputs.old.items
-        (inform world.old (whole txn (carried_bytes packet.now.bytes)))
-        world.old outputs.new.items world.new }
+) -> Result<(), NoMemory>
+    requires { All packet_format.Writable packets.now }
+    ensures { Puts result outputs.old.items (map to_leader packets.now) outputs.new.items }
 {
-    let txn = decode_txn(alloc, carried_bytes(packet))?;
-    apply(alloc, world, txn, outputs)
-}
-
-// Takes one packet. All but an INFORM are passed over yet.
-fn receive(
-    alloc: Global,
-    world: &mut World,
-    packet: &QuorumPacket,
-    outputs: &mut Vec<Output>,
-) -> Result<(), ReadError>
-    ensures { Receives result outputs.old.items
-        (receive world.old packet.now)
-        world.old outputs.new.items world.new }
-{
-    match PacketKind::from_code(packet.kind) {
-        Some(PacketKind::Inform) => inform(alloc, world, packet, outputs),
-        None
-        | Some(
-            PacketKind::Request
-            | PacketKind::Proposal
-            | PacketKind::Ack
-            | PacketKind::Commit
-            | PacketKind::Ping
-            | PacketKind::Revalidate
-            | PacketKind::Sync
-            | PacketKind::NewLeader
-            | PacketKind::FollowerInfo
-            | PacketKind::UpToDate
-            | PacketKind::Diff
-            | PacketKind::Trunc
-            | PacketKind::Snap
-            | PacketKind::ObserverInfo
-            | PacketKind::LeaderInfo
-            | PacketKind::AckEpoch,
-        ) => Ok(()),
+    for packet in packets {
+        send(alloc, packet, outputs)?;
     }
+    Ok(())
 }
 
-// Takes a packet or a part. Parts are passed over yet.
+// Tells at once what was taken: packets go to the leader, and events to those who watch.
+fn tell(
+    alloc: Global,
+    clients: &mut Clients,
+    brought: &Brought,
+    outputs: &mut Vec<Output>,
+) -> Result<(), NoMemory>
+    requires { All packet_format.Writable brought.now.replies }
+    ensures { Meets result outputs.old.items
+        (telling clients.old brought.now)
+        outputs.new.items clients.new }
+{
+    let events = clients.watches.fire(alloc, brought.triggers.as_slice())?;
+    send_each(alloc, brought.replies.as_slice(), outputs)?;
+    notify_each(alloc, events.as_slice(), outputs)
+}
+
+// Takes a packet or a part.
+#[tactic(auto, using(crate::proofs::Delivering::all_of))]
 fn receive_item(
     alloc: Global,
+    loader: &mut Loader,
     world: &mut World,
-    item: &Item,
+    item: Item,
     outputs: &mut Vec<Output>,
 ) -> Result<(), ReadError>
+    requires { CanBeWritten item }
     ensures { Receives result outputs.old.items
-        (receive_item world.old item.now)
-        world.old outputs.new.items world.new }
+        (receive (record { loading = loader.old; world = world.old }) item)
+        (record { loading = loader.old; world = world.old })
+        outputs.new.items
+        (record { loading = loader.new; world = world.new }) }
 {
-    match item {
-        Item::Packet(packet) => receive(alloc, world, packet, outputs),
-        Item::Part(_) => Ok(()),
+    match world.replica.take(alloc, loader, item) {
+        Ok(brought) => Ok(tell(alloc, &mut world.clients, &brought, outputs)?),
+        Err(error) => Err(error),
     }
 }
 
@@ -133,17 +91,18 @@ fn receive_item(
 fn drain(
     alloc: Global,
     feed: &mut PacketFeed,
+    loader: &mut Loader,
     world: &mut World,
     outputs: &mut Vec<Output>,
 ) -> Result<Option<Fault>, NoMemory>
     ensures { Delivers result outputs.old.items
-        (arrive world.old (shows feed.old))
-        outputs.new.items feed.new world.new }
+        (arrive receive (record { loading = loader.old; world = world.old }) (shows feed.old))
+        outputs.new.items feed.new (record { loading = loader.new; world = world.new }) }
 {
     loop {
         match feed.next(alloc) {
             Ok(None) => return Ok(None),
-            Ok(Some(item)) => match receive_item(alloc, world, &item, outputs) {
+            Ok(Some(item)) => match receive_item(alloc, loader, world, item, outputs) {
                 Ok(()) => {}
                 Err(ReadError::NoMemory) => return Err(NoMemory),
                 Err(ReadError::Fault(fault)) => return Ok(Some(fault)),
@@ -169,7 +128,56 @@ fn close_all(clients: &mut Clients, outputs: &mut Vec<Output>) -> Result<(), NoM
 fn disconnect(world: &mut World, outputs: &mut Vec<Output>) -> Result<(), NoMemory>
     ensures { Meets result outputs.old.items (disconnected world.old) outputs.new.items world.new }
 {
+    world.replica.end();
     close_all(&mut world.clients, outputs)
+}
+
+// A fault closes the leader, and then the clients.
+fn lose(fault: Fault, world: &mut World, outputs: &mut Vec<Output>) -> Result<(), NoMemory>
+    ensures { Meets result outputs.old.items
+        (behind (CloseLeader fault ∷ []) (disconnected world.old))
+        outputs.new.items world.new }
+{
+    outputs.push(Output::CloseLeader(fault))?;
+    disconnect(world, outputs)
+}
+
+/// A leader is there: the observer introduces itself. While there is one already, another is passed over.
+pub fn meet_leader(
+    alloc: Global,
+    machine: &mut Machine,
+    outputs: &mut Vec<Output>,
+) -> Result<(), NoMemory>
+    ensures { Meets result outputs.old.items
+        (meet_leader by_parts machine.old.leader machine.old.world)
+        outputs.new.items machine.new }
+{
+    if machine.leader.is_some() {
+        return Ok(());
+    }
+    let server_id = machine.world.config.server_id;
+    let replies = machine.world.replica.start(alloc, server_id)?;
+    machine.leader = Some(Leader {
+        feed: PacketFeed::new(alloc),
+        loader: Loader::new(alloc),
+    });
+    send_each(alloc, replies.as_slice(), outputs)
+}
+
+// Takes a piece of the leader's stream. Answers the fault that ends it, if one does.
+fn follow(
+    alloc: Global,
+    leader: &mut Leader,
+    world: &mut World,
+    bytes: &[u8],
+    outputs: &mut Vec<Output>,
+) -> Result<Option<Fault>, NoMemory>
+    ensures { Follows result outputs.old.items
+        (by_parts.taken leader.old world.old bytes.now)
+        outputs.new.items leader.new world.new }
+{
+    leader.feed.feed(bytes)?;
+    drain(alloc, &mut leader.feed, &mut leader.loader, world, outputs)
 }
 
 /// Lets the leader's bytes happen.
@@ -180,22 +188,37 @@ pub fn take_leader_bytes(
     outputs: &mut Vec<Output>,
 ) -> Result<(), NoMemory>
     ensures { Meets result outputs.old.items
-        (take_leader_bytes machine.old.leader machine.old.world bytes.now)
+        (take_leader_bytes by_parts machine.old.leader machine.old.world bytes.now)
         outputs.new.items machine.new }
 {
-    let Some(mut feed) = machine.leader.take() else {
+    let Some(mut leader) = machine.leader.take() else {
         return Ok(());
     };
-    feed.feed(bytes)?;
-    match drain(alloc, &mut feed, &mut machine.world, outputs)? {
+    match follow(alloc, &mut leader, &mut machine.world, bytes, outputs)? {
         None => {
-            machine.leader = Some(feed);
+            machine.leader = Some(leader);
             Ok(())
         }
         Some(fault) => {
-            drop(feed);
-            outputs.push(Output::CloseLeader(fault))?;
-            disconnect(&mut machine.world, outputs)
+            drop(leader);
+            lose(fault, &mut machine.world, outputs)
         }
+    }
+}
+
+/// The leader is gone. Where its stream breaks off in the middle of something, that is a fault.
+pub fn end_leader(machine: &mut Machine, outputs: &mut Vec<Output>) -> Result<(), NoMemory>
+    ensures { Meets result outputs.old.items
+        (end_leader by_parts machine.old.leader machine.old.world)
+        outputs.new.items machine.new }
+{
+    let Some(leader) = machine.leader.take() else {
+        return Ok(());
+    };
+    let ended = leader.feed.end();
+    drop(leader);
+    match ended {
+        Ok(()) => disconnect(&mut machine.world, outputs),
+        Err(fault) => lose(fault, &mut machine.world, outputs),
     }
 }

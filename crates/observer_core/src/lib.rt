@@ -4,17 +4,18 @@
 //! specs/Play: it speaks of a machine (specs/Machine), which is a leader's stream and a world, and of steps
 //! (specs/Steps), each of which puts something out and leaves a world.
 //!
-//! A packet of the leader is a step (specs/Leader): its transaction is applied, and who watches what it changed is
-//! told at once. A packet may be refused; then the leader and all clients are closed, and nothing else changes. A
-//! frame of a client is a step (specs/Serve), answered at the state as it is: the first one of a connection asks for
-//! a session, the others read and leave watches, show an id, set watches again, or end the session. A connection goes
-//! with its ids and its watches in one step (specs/Clients), and its session stays. An event makes all the steps that
-//! came whole with it.
+//! A packet of the leader, or a part of an image, is a step (specs/Leader): the replica takes it, what it answers is
+//! sent, and who watches what it changed is told at once. One may be refused; then the leader and all clients are
+//! closed, the transactions that wait for a commit are forgotten, and nothing else changes. A frame of a client is a
+//! step (specs/Serve), answered at the state as it is: the first one of a connection asks for a session, the others
+//! read and leave watches, show an id, set watches again, or end the session. Clients are served once the leader has
+//! brought the replica up to date, and until it goes. A connection goes with its ids and its watches in one step
+//! (specs/Clients), and its session stays. An event makes all the steps that came whole with it.
 //!
-//! What a frame asks for is read by `client_frames`; what a read shows of the tree, and the frame in which it is
-//! sent, are `read_processor`'s; who has which session is known to `sessions`, and who is told of a change to
-//! `watch_manager`. This crate says when each is asked, and what goes out. specs/Plays says what `feed_inline`
-//! answers, with want of memory in it.
+//! How a leader is followed, and what that does to the tree, is `replica`'s; what a frame asks for is read by
+//! `client_frames`; what a read shows of the tree, and the frame in which it is sent, are `read_processor`'s; who has
+//! which session is known to `sessions`, and who is told of a change to `watch_manager`. This crate says when each is
+//! asked, and what goes out. specs/Plays says what `feed_inline` answers, with want of memory in it.
 //!
 //! `leader` and `client` carry the two kinds of steps out, with `joining`, `reading` and `session` for what a frame
 //! asks and `sending` and `notice` for what goes out; `run` carries out the events. What their private functions
@@ -22,7 +23,7 @@
 //!
 //! ```text
 //! let config = Config::new(3, 0, 0, 4000, 40_000, secret)?;  // server id, two epochs, two timeouts in milliseconds, secret
-//! let mut engine = Engine::primed(alloc, config)?;           // follows a leader, and connection 1 is open
+//! let mut engine = Engine::primed(alloc, config)?;           // serves in epoch 1, and connection 1 is open; or: new
 //! let events = [Event::LeaderBytes(Bytes::new(inform)), Event::ClientBytes(1, Bytes::new(frame))];
 //! engine.feed_inline(alloc, &events, &mut outputs)?;         // appends Output::ToClient(1, reply)
 //! engine.learner().last_zxid(), engine.tree().node("/a")     // what it knows by then
@@ -38,7 +39,6 @@ mod event;
 mod joining;
 mod law;
 mod leader;
-mod learner;
 mod machine;
 mod notice;
 mod reading;
@@ -51,7 +51,6 @@ pub use config::{BadConfig, Config};
 pub use engine::{Engine, Stop};
 pub use event::{Event, Output};
 pub use law::{
-    clients_are_apart, connections_agree, cut_anywhere, logs_are_followed, plays_on,
-    refusals_change_nothing, worked_rows,
+    clients_are_apart, connections_agree, cut_anywhere, logs_are_followed, parts_are_whole_images,
+    plays_on, refusals_change_nothing, sessions_are_served, worked_rows,
 };
-pub use learner::Learner;

@@ -76,7 +76,7 @@ pub fn answer_request(
         outputs.new.items world.new }
 {
     let ids = world.clients.sessions.ids(number);
-    let seen = look(alloc, &world.tree, ids, asked)?;
+    let seen = look(alloc, world.replica.tree(), ids, asked)?;
     let watch = watch_of(asked, seen.error);
     set_watch_if(alloc, number, &mut world.clients.watches, &watch)?;
     answer(number, world, xid, seen, outputs)
@@ -124,10 +124,10 @@ pub fn answer_renewal(
     outputs: &mut Vec<Output>,
 ) -> Result<(), NoMemory>
     ensures { Meets result outputs.old.items
-        (renewed number world.old xid (renew world.old.tree asked.now))
+        (renewed number world.old xid (renew world.old.replica.tree asked.now))
         outputs.new.items world.new }
 {
-    match renew(alloc, &world.tree, asked)? {
+    match renew(alloc, world.replica.tree(), asked)? {
         None => answer_without_body(alloc, number, world, xid, BAD_ARGUMENTS, outputs),
         Some(missed) => answer_missed(alloc, number, world, xid, &missed, outputs),
     }

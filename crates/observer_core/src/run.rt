@@ -5,7 +5,7 @@ ghost use Rattle.observer_core.specs.Inner.{Meets};
 
 use crate::client::{end_client, open_client, take_client_bytes};
 use crate::event::{Event, Output};
-use crate::leader::take_leader_bytes;
+use crate::leader::{end_leader, meet_leader, take_leader_bytes};
 use crate::machine::Machine;
 use crate::session::expire_session;
 use std::alloc::Global;
@@ -22,10 +22,12 @@ fn happen(
         outputs.new.items machine.new }
 {
     match event {
+        Event::LeaderUp => meet_leader(alloc, machine, outputs),
         Event::LeaderBytes(bytes) => take_leader_bytes(alloc, machine, bytes.as_slice(), outputs),
+        Event::LeaderEnd => end_leader(machine, outputs),
         Event::ClientUp(number) => open_client(alloc, *number, &mut machine.world),
         Event::ClientBytes(number, bytes) => {
-            let serving = machine.leader.is_some();
+            let serving = machine.world.replica.is_serving();
             take_client_bytes(
                 alloc,
                 serving,
@@ -40,7 +42,7 @@ fn happen(
             Ok(())
         }
         Event::Expire(session) => expire_session(session, &mut machine.world, outputs),
-        Event::LeaderUp | Event::LeaderEnd | Event::Checkpoint => Ok(()),
+        Event::Checkpoint => machine.world.replica.checkpoint(alloc),
     }
 }
 

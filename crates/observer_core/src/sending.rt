@@ -75,7 +75,7 @@ pub fn answer(
         (answer number world.old xid seen)
         outputs.new.items world.new }
 {
-    let frame = seen.into_frame(xid, world.learner.last_zxid());
+    let frame = seen.into_frame(xid, world.replica.learner().last_zxid());
     send(number, world, frame, outputs)
 }
 
@@ -110,6 +110,6 @@ pub fn answer_without_body_last(
         outputs.new.items world.new }
 {
     let seen = Look::without_body(alloc, error)?;
-    let frame = seen.into_frame(xid, world.learner.last_zxid());
+    let frame = seen.into_frame(xid, world.replica.learner().last_zxid());
     send_last(number, world, frame, outputs)
 }

@@ -1,13 +1,14 @@
 use Rattle.quorum_packet.specs.Items.{shows}
 use Rattle.quorum_packet.specs.Feed.{unread_len}
-use Rattle.observer_core.specs.Inner.{arrive}
+use Rattle.observer_core.specs.Leader.{receive, arrive}
 use Rattle.observer_core.proofs.Steps.{SoFar}
 use Rattle.observer_core.proofs.leader.drain.Given as goal
 
 -- what is left to deliver leads to what was to be delivered
 abbrev pub invariant-loop-item : goal.invariant-loop-item
 invariant-loop-item l =
-    SoFar l.fn.outputs.items (arrive l.fn.world (shows l.fn.feed)) l.outputs.items (arrive l.world (shows l.feed))
+    SoFar l.fn.outputs.items (arrive receive (record { loading = l.fn.loader; world = l.fn.world }) (shows l.fn.feed))
+    l.outputs.items (arrive receive (record { loading = l.loader; world = l.world }) (shows l.feed))
 
 abbrev pub decreases-loop-item : goal.decreases-loop-item
 decreases-loop-item l = unread_len l.feed.unread

@@ -1,0 +1,20 @@
+-- A leader's stream may be taken part by part: what goes out, and the world that is left, are those of whole images.
+use Rattle.std.specs.Prelude.{◌≡◌, List}
+use Rattle.observer_core.specs.declared.config.Config.{Config}
+use Rattle.observer_core.specs.declared.event.Event.{Event}
+use Rattle.observer_core.specs.Machine.{MachineBy}
+use Rattle.observer_core.specs.Steps.{Happened}
+use Rattle.observer_core.specs.Leader.{by_images}
+use Rattle.observer_core.specs.Play.{play, play_by, new_machine, primed_machine, new_by, primed_by}
+
+-- the same goes out, and the same is left: tree, base, log, epochs and clients
+pub record SameSeen {L M : Type 0} (a : Happened (MachineBy L)) (b : Happened (MachineBy M)) : Type 0 where
+  pub outputs : a.outputs ≡ b.outputs
+  pub world : a.after.world ≡ b.after.world
+
+-- from the start on, for every list of events
+pub record PartsAreWholeImages : Type 0 where
+  pub made : (config : Config) (events : List Event)
+      → SameSeen (play (new_machine config) events) (play_by by_images (new_by by_images config) events)
+  pub primed : (config : Config) (events : List Event)
+      → SameSeen (play (primed_machine config) events) (play_by by_images (primed_by by_images config) events)
