@@ -1,8 +1,8 @@
 -- From what an engine was fed to what is printed.
-use Rattle.std.proofs.Common.{◌≡◌, ℕ, List, [], ◌++◌, Option, Some, None, Result, Ok, Err, map, refl, sym, ap, ◌∙◌, subst, append_assoc, inl, inr}
+use Rattle.std.proofs.Common.{◌≡◌, ℕ, List, [], ◌++◌, Option, Some, None, Result, Ok, Err, refl, sym, ap, ◌∙◌, subst, append_assoc, inl, inr, true≢false}
 use Rattle.std.specs.List.{flat_map}
 use Rattle.std.specs.Io.KnownBytes.{Appends, Keeps}
-use Rattle.std.specs.Prelude.{IfSome}
+use Rattle.std.specs.Prelude.{IfSome, IsOk, OnOk}
 use Rattle.observer_core.specs.declared.engine.Stop.{Stop}
 use Rattle.observer_core.specs.declared.engine.Stop.TheVariants as stops
 use Rattle.observer_core.specs.declared.event.Event.{Event}
@@ -14,7 +14,7 @@ use Rattle.values.specs.Gains.{Gains}
 use Rattle.values.proofs.Gaining.{gains_all}
 use Rattle.replay_script.specs.declared.script.Script.{Script}
 use Rattle.replay.specs.Lines.{output_line}
-use Rattle.replay.specs.Replay.{event_of, machine_of, happened, end_line_of, printed, WritesFront, PrintsFront, Ends}
+use Rattle.replay.specs.Replay.{happened, printed, WritesFront, PrintsFront, Ends}
 use Rattle.replay.specs.declared.ending.Ending.{Ending}
 use Rattle.replay.specs.declared.ending.Ending.TheVariants.{Done, BadLine, Failed, NoMemory}
 
@@ -30,21 +30,31 @@ first_at (Ok u) m events outputs after p = gains_all [] _ _ p.0
 first_at (Err stops.NoMemory) m events outputs after p = p.0
 first_at (Err stops.Closed) m events outputs after p = absurd p
 
-pub fed_first : (script : Script) (fed : Result (Unit {0}) Stop) (engine : Option Machine) (events : List Event) (old outputs : List Output) (after : Option Machine) → engine ≡ Some (machine_of script) → events ≡ map event_of script.events → old ≡ [] → Plays fed engine events old outputs after → Gains [] (happened script).outputs outputs
-fed_first script fed engine events old outputs after is_engine are_events none p =
-    first_at fed (machine_of script) (map event_of script.events) outputs after
-    (subst (λ e. Plays fed e (map event_of script.events) [] outputs after) is_engine
-    (subst (λ es. Plays fed engine es [] outputs after) are_events
-    (subst (λ o. Plays fed engine events o outputs after) none p)))
+plays_from : (fed : Result (Unit {0}) Stop) (engine : Option Machine) (m : Machine) (events : List Event) (old outputs : List Output) (after : Option Machine) → engine ≡ Some m → old ≡ [] → Plays fed engine events old outputs after → Plays fed (Some m) events [] outputs after
+plays_from fed engine m events old outputs after is_engine none p =
+    subst (λ e. Plays fed e events [] outputs after) is_engine
+    (subst (λ o. Plays fed engine events o outputs after) none p)
+
+pub fed_first : (fed : Result (Unit {0}) Stop) (engine : Option Machine) (m : Machine) (events : List Event) (old outputs : List Output) (after : Option Machine) → engine ≡ Some m → old ≡ [] → Plays fed engine events old outputs after → Gains [] (play m events).outputs outputs
+fed_first fed engine m events old outputs after is_engine none p =
+    first_at fed m events outputs after (plays_from fed engine m events old outputs after is_engine none p)
 
 -- where no memory was refused they are all, and the machine is the one that is left
-pub fed_all : (script : Script) (u : Unit {0}) (engine : Option Machine) (events : List Event) (old outputs : List Output) (after : Option Machine) → engine ≡ Some (machine_of script) → events ≡ map event_of script.events → old ≡ [] → Plays (Ok u) engine events old outputs after → (outputs ≡ (happened script).outputs) × (after ≡ Some (happened script).after)
-fed_all script u engine events old outputs after is_engine are_events none p =
-    let all : Plays (Ok u) (Some (machine_of script)) (map event_of script.events) [] outputs after =
-    subst (λ e. Plays (Ok u) e (map event_of script.events) [] outputs after) is_engine
-    (subst (λ es. Plays (Ok u) engine es [] outputs after) are_events
-    (subst (λ o. Plays (Ok u) engine events o outputs after) none p)) in
-    (all.0, all.1)
+all_at : (fed : Result (Unit {0}) Stop) (m : Machine) (events : List Event) (outputs : List Output) (after : Option Machine) → IsOk fed → Plays fed (Some m) events [] outputs after → (outputs ≡ (play m events).outputs) × (after ≡ Some (play m events).after)
+all_at (Ok u) m events outputs after ok p = (p.0, p.1)
+all_at (Err e) m events outputs after ok p = absurd (true≢false (sym ok))
+
+pub fed_all : (fed : Result (Unit {0}) Stop) (engine : Option Machine) (m : Machine) (events : List Event) (old outputs : List Output) (after : Option Machine) → engine ≡ Some m → old ≡ [] → Plays fed engine events old outputs after → IsOk fed → (outputs ≡ (play m events).outputs) × (after ≡ Some (play m events).after)
+fed_all fed engine m events old outputs after is_engine none p ok =
+    all_at fed m events outputs after ok (plays_from fed engine m events old outputs after is_engine none p)
+
+-- the lines of all outputs are those of the first ones
+pub all_written : {a b : Option (List ℕ)} (outputs : List Output) → Appends a b (flat_map output_line outputs) → WritesFront a b outputs
+all_written outputs lines = record { front = outputs; first = gains_all [] outputs outputs refl; written = lines }
+
+pub on_ok_both : {T E P Q R : Type 0} (r : Result T E) → (P → Q → R) → OnOk r P → OnOk r Q → OnOk r R
+on_ok_both (Ok x) f p q = f p q
+on_ok_both (Err e) f p q = tt
 
 -- the first of the first
 pub first_of_first : {a b : Option (List ℕ)} {outputs all : List Output} → WritesFront a b outputs → Gains [] all outputs → WritesFront a b all
@@ -58,12 +68,6 @@ first_of_first w f = record {
   };
   written = w.written;
 }
-
--- the lines of all outputs, and the end line
-pub all_printed : (script : Script) (a b c : Option (List ℕ)) (outputs : List Output) → outputs ≡ (happened script).outputs → Appends a b (flat_map output_line outputs) → Appends b c (end_line_of (happened script).after) → Appends a c (printed (happened script))
-all_printed script a b c outputs are_all lines end =
-    appends_both a b c (flat_map output_line (happened script).outputs) (end_line_of (happened script).after)
-    (subst (λ o. Appends a b (flat_map output_line o)) are_all lines) end
 
 keeps_both : (a b c : Option (List ℕ)) → Keeps a b → Keeps b c → Keeps a c
 keeps_both None b c p q = tt

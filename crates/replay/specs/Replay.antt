@@ -48,7 +48,7 @@ abbrev pub happened : Script → Happened Machine
 happened script = play (machine_of script) (map event_of script.events)
 
 abbrev pub end_line_of : Machine → List ℕ
-end_line_of m = end_line m.world.learner.last_zxid (finmap.len m.world.tree.nodes)
+end_line_of m = end_line m.world.replica.learner.last_zxid (finmap.len m.world.replica.tree.nodes)
 
 -- a line for each output, and the end line
 abbrev pub printed : Happened Machine → List ℕ

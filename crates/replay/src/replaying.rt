@@ -1,17 +1,17 @@
 //! A script, fed to an observer.
 
-ghost use Rattle.std.specs.Prelude.{◌≡◌, Some, Err, IfOk, IfSome, OnOk, map, if◌then◌else◌};
+ghost use Rattle.std.specs.Prelude.{◌≡◌, ◌++◌, Some, Err, IsOk, IfOk, IfSome, OnOk, map, if◌then◌else◌};
 ghost use Rattle.std.specs.List.{flat_map};
 ghost use Rattle.std.specs.Io.KnownBytes.{Appends};
 ghost use Rattle.observer_core.specs.Machine.{Machine as TheMachine};
-ghost use Rattle.observer_core.specs.Play.{primed_machine, new_machine};
+ghost use Rattle.observer_core.specs.Play.{play, primed_machine, new_machine};
 ghost use Rattle.replay.specs.Lines.{output_line};
-ghost use Rattle.replay.specs.Replay.{event_of, end_line_of, WritesFront, PrintsAll, PrintsFront, Ends, EndsWith};
+ghost use Rattle.replay.specs.Replay.{event_of, end_line_of, printed, WritesFront, PrintsAll, PrintsFront, Ends, EndsWith};
 ghost use Rattle.replay.specs.declared.replaying.PrintError.TheVariants as print_errors;
 
 use crate::ending::Ending;
 use crate::print::{put_end, put_output};
-use observer_core::{Config, Engine, Event, Output};
+use observer_core::{Config, Engine, Event, Output, Stop};
 use replay_script::{Script, ScriptError, ScriptEvent, parse};
 use std::alloc::Global;
 use std::io::{ErrorKind, Read, Write};
@@ -127,6 +127,47 @@ fn print_end<W: Write>(
     }
 }
 
+// Prints the lines of the outputs and, where all was fed, the last line.
+fn print_fed<W: Write>(
+    alloc: Global,
+    engine: &Engine,
+    fed: Result<(), Stop>,
+    outputs: &[Output],
+    writer: &mut W,
+) -> Result<(), PrintError>
+    ensures fed { OnOk result (IsOk fed) }
+    ensures ok { let lines = flat_map output_line outputs.now in
+        OnOk result ((m : TheMachine) → engine.now ≡ Some m
+        → Appends (W.contents writer.old) (W.contents writer.new) (lines ++ end_line_of m)) }
+    ensures no_memory { result ≡ Err print_errors.NoMemory
+        → WritesFront (W.contents writer.old) (W.contents writer.new) outputs.now }
+{
+    let mut line = Vec::new(alloc);
+    print_outputs(&mut line, outputs, writer)?;
+    match fed {
+        Ok(()) => print_end(&mut line, engine, writer),
+        Err(_) => Err(PrintError::NoMemory),
+    }
+}
+
+// Feeds the events to an observer, and prints what goes out. The observer is dropped at the one end of this function, and
+// nowhere else: each drop of it is proved anew.
+fn feed<W: Write>(
+    alloc: Global,
+    mut engine: Engine,
+    events: &[Event<'_>],
+    writer: &mut W,
+) -> Result<(), PrintError>
+    ensures ok { OnOk result ((m : TheMachine) → engine ≡ Some m
+        → Appends (W.contents writer.old) (W.contents writer.new) (printed (play m events.now))) }
+    ensures no_memory { result ≡ Err print_errors.NoMemory → (m : TheMachine) → engine ≡ Some m
+        → WritesFront (W.contents writer.old) (W.contents writer.new) (play m events.now).outputs }
+{
+    let mut outputs = Vec::new(alloc);
+    let fed = engine.feed_inline(alloc, events, &mut outputs);
+    print_fed(alloc, &engine, fed, outputs.as_slice(), writer)
+}
+
 // Feeds a script's events to its observer, and prints what goes out.
 fn play_script<W: Write>(alloc: Global, script: Script, writer: &mut W) -> Result<(), PrintError>
     ensures ok { OnOk result (PrintsAll script (W.contents writer.old) (W.contents writer.new)) }
@@ -141,22 +182,15 @@ fn play_script<W: Write>(alloc: Global, script: Script, writer: &mut W) -> Resul
         primed,
         events,
     } = script;
+    let events = events_of(alloc, events.as_slice())?;
     let config = Config {
         server_id,
         epochs,
         timeouts,
         secret,
     };
-    let mut engine = engine_of(alloc, primed, config)?;
-    let events = events_of(alloc, events.as_slice())?;
-    let mut outputs = Vec::new(alloc);
-    let fed = engine.feed_inline(alloc, events.as_slice(), &mut outputs);
-    let mut line = Vec::new(alloc);
-    print_outputs(&mut line, outputs.as_slice(), writer)?;
-    match fed {
-        Ok(()) => print_end(&mut line, &engine, writer),
-        Err(_) => Err(PrintError::NoMemory),
-    }
+    let engine = engine_of(alloc, primed, config)?;
+    feed(alloc, engine, events.as_slice(), writer)
 }
 
 /// Replays a text, and prints what goes out.
