@@ -11,7 +11,7 @@ The comments at the head of a script say what the row shows, and two kinds of th
     # stderr line 4: bad line       the one line that standard error has; without it none
 
 Lines count in a bad script, so a comment there is replaced and never added. Rows that are too long for a file are made
-by made.py. The last line printed is `N passed, M failed`; the exit status is 0 where no row failed and there was one at
+by made.py, and example-NAME.expected belongs to examples/NAME.script. The last line printed is `N passed, M failed`; the exit status is 0 where no row failed and there was one at
 least.
 """
 import argparse
@@ -25,6 +25,7 @@ sys.dont_write_bytecode = True
 import made  # noqa: E402
 
 HERE = pathlib.Path(__file__).resolve().parent
+EXAMPLES = HERE.parent.parent / "examples"
 SECONDS = 60
 
 
@@ -72,10 +73,14 @@ def faults(words, path):
 
 
 def make(room):
-    """Writes the rows that made.py makes into a folder."""
+    """Writes the rows that made.py makes into a folder, and those whose scripts are examples."""
     for name, script, wanted in made.rows():
         (room / f"{name}.script").write_bytes(script)
         (room / f"{name}.expected").write_bytes(wanted)
+    for wanted in HERE.glob("example-*.expected"):
+        script = EXAMPLES / f"{wanted.stem[len('example-'):]}.script"
+        shutil.copy(script, room / f"{wanted.stem}.script")
+        shutil.copy(wanted, room / wanted.name)
 
 
 def run(words, only, room):
