@@ -11,8 +11,8 @@ The comments at the head of a script say what the row shows, and two kinds of th
     # stderr line 4: bad line       the one line that standard error has; without it none
 
 Lines count in a bad script, so a comment there is replaced and never added. Rows that are too long for a file are made
-by made.py, and example-NAME.expected belongs to examples/NAME.script. The last line printed is `N passed, M failed`; the exit status is 0 where no row failed and there was one at
-least.
+by made.py, and example-NAME.expected belongs to examples/NAME.script. The last line printed is `N passed, M failed`; the
+exit status is 0 where no row failed and there was one at least.
 """
 import argparse
 import pathlib
