@@ -65,8 +65,8 @@ fn apply_alone<G: Gate>(
 
 /// Does a batch by up to so many workers (1 to 64), each group on its own cells, and answers what its transactions
 /// answer, in order: the tree and the answers are those of the transactions done one after the other, however many
-/// workers there are. It waits for the workers, of which the first is the calling thread. One worker, or one group alone,
-/// is done on the tree itself. Refused memory, it leaves a tree that is only to be dropped.
+/// workers there are. It waits for the workers, of which the first is the calling thread. By one worker, and where
+/// there is one group, it is done on the tree itself. Refused memory, it leaves a tree that is only to be dropped.
 pub fn apply_batch<G: Gate + Sync, R: Threads + Sync>(
     rt: &R,
     alloc: Global,

@@ -69,8 +69,8 @@ fn add_parts<'a>(parts: &'a [Operation], paths: &mut Vec<Str<'a>>) -> Result<(),
     Ok(())
 }
 
-/// Adds the paths of a transaction, as it names them: in no order, and some of a multi's more than once. A closeSession's
-/// are not told.
+/// Adds the paths of a transaction, as it names them: in no order, and some of a multi's more than once. Those of a
+/// closeSession are not told.
 pub fn borrow_paths<'a>(txn: &'a Txn, paths: &mut Vec<Str<'a>>) -> Result<(), NoMemory>
     ensures { OnOk result (paths.new.items ≡ paths.old.items ++ footprint txn.now) }
 {

@@ -11,8 +11,8 @@
 //! }
 //! ```
 //!
-//! Who needs no order has the paths as the transaction names them: `borrow_paths` copies none of them, and `is_barrier` tells
-//! whether they are too many.
+//! Who needs no order has the paths as the transaction names them: `borrow_paths` copies none of them, and
+//! `is_barrier` tells whether they are too many.
 #![tactic(auto)]
 
 mod borrowing;
