@@ -6,7 +6,8 @@
 The program measures itself by the clock, without making the transactions and the tree, and says how long it cut and how
 long it worked. All loads take turns, several times, and the least time of each is taken; what is compared is done in one
 run of this script. What a load prints must be what it asks for. Batches have 256 transactions, in 64 groups where nothing
-else is said. The machine's load, and how much of its processors' time others were given (steal), is printed before and
+else is said. Plain are transactions that are moved out of a queue, done one after the other and dropped, as those of a batch
+are moved out of one and dropped; lent ones stay in their list. The machine's load, and how much of its processors' time others were given (steal), is printed before and
 after. The exit status is 0 where every figure is met that has a bound.
 """
 import argparse
@@ -60,6 +61,9 @@ class Txns:
     def move(self):
         return Load(["move"] + self.words, 0, self.batches, self.groups)
 
+    def lent(self):
+        return Load(["lend"] + self.words, self.done, 0, 0)
+
     def plain(self):
         return Load(["apply"] + self.words, self.done, 0, 0)
 
@@ -91,15 +95,15 @@ def boards():
 
 
 def measured(program, rounds):
-    """Runs every load in turns. Returns for each kind its transactions with their loads: cut, plain, and by workers."""
+    """Runs every load in turns. Returns for each kind its transactions with their loads: cut, moved, lent, plain, by workers."""
     both = {**small(), **{name: txns for (name, _), txns in sized().items()}}
     loads = {}
     for name, txns in both.items():
-        loads[name] = (txns, txns.cut(), txns.move(), txns.plain(), {it: txns.batch(it) for it in WORKERS})
+        loads[name] = (txns, txns.cut(), txns.move(), txns.lent(), txns.plain(), {it: txns.batch(it) for it in WORKERS})
     seats = boards()
     for _ in range(rounds):
-        for _, cut, move, plain, by in loads.values():
-            for load in [cut, move, plain] + list(by.values()):
+        for _, cut, move, lent, plain, by in loads.values():
+            for load in [cut, move, lent, plain] + list(by.values()):
                 load.once(program)
         for load in seats.values():
             load.once(program)
@@ -107,14 +111,14 @@ def measured(program, rounds):
 
 
 def table(loads):
-    """Prints nanoseconds a transaction: cut alone, moved alone, plain, and what workers took without cutting."""
+    """Prints nanoseconds a transaction: cut alone, moved alone, lent, plain, and what workers took without cutting."""
     head = "".join(f"{f'{it} workers':>12}" for it in WORKERS)
-    alone = "".join(f"{it:>10}" for it in ("cut", "moved", "plain"))
+    alone = "".join(f"{it:>10}" for it in ("cut", "moved", "lent", "plain"))
     print(f"{'nanoseconds a transaction':<34}{alone}{head}{'4 against 1':>13}{'against plain':>15}")
-    for name, (txns, cut, move, plain, by) in loads.items():
+    for name, (txns, cut, move, lent, plain, by) in loads.items():
         times = "".join(f"{by[it].worked / txns.done:>12,.0f}" for it in WORKERS)
         gain, over = by[1].worked / by[4].worked, plain.worked / min(by[it].whole for it in WORKERS)
-        alone = "".join(f"{it / txns.done:>10,.0f}" for it in (cut.cut, move.cut, plain.worked))
+        alone = "".join(f"{it / txns.done:>10,.0f}" for it in (cut.cut, move.cut, lent.worked, plain.worked))
         print(f"{name:<34}{alone}{times}{gain:>13.2f}{over:>15.2f}")
     print("against plain: how many times as fast the best number of workers is as one after the other, cutting included")
 
@@ -123,13 +127,14 @@ def figures(loads, seats):
     """Returns what each figure is about, the figure, its bound, and whether that is the most it may be."""
     found = []
     for name in ("creates", "sets", "leaves"):
-        txns, cut, move, plain, by = loads[name]
+        txns, cut, move, lent, plain, by = loads[name]
         found.append((f"{name} moved into batches a second", txns.done / move.cut * 1e9, PER_SECOND, False))
         found.append((f"{name} cut as copies a second", txns.done / cut.cut * 1e9, None, False))
         if name != "leaves":
             found.append((f"{name}: one worker against plain, without cutting", by[1].worked / plain.worked, PLAIN, True))
         found.append((f"{name}: one worker against plain, cutting included", by[1].whole / plain.worked, None, True))
-    _, _, _, _, by = loads[f"multis of {LEAVES} sets of {LONG:,} bytes"]
+        found.append((f"{name}: one worker against lent ones, without cutting", by[1].worked / lent.worked, None, True))
+    *_, by = loads[f"multis of {LEAVES} sets of {LONG:,} bytes"]
     found.append(("multis: times as fast with 4 workers as with one", by[1].worked / by[4].worked, SPEEDUP, False))
     found.append(("the same, cutting included", by[1].whole / by[4].whole, None, False))
     for it, load in seats.items():

@@ -6,10 +6,13 @@
 //!
 //! `batch_runner move KIND COUNT BYTES TIMES`: they are moved out of a queue into batches.
 //!
-//! `batch_runner apply KIND COUNT BYTES TIMES`: they are done in a tree, one after the other.
+//! `batch_runner lend KIND COUNT BYTES TIMES`: they are done in a tree, one after the other, and stay.
 //!
-//! `batch_runner batch KIND COUNT BYTES TIMES WORKERS`: they are moved so, and each batch is
-//! done by up to WORKERS workers.
+//! `batch_runner apply KIND COUNT BYTES TIMES`: they are moved out of a queue, done in a tree, one after the
+//! other, and dropped.
+//!
+//! `batch_runner batch KIND COUNT BYTES TIMES WORKERS`: they are moved into batches, each of which is done by
+//! up to WORKERS workers and dropped.
 //!
 //! `batch_runner board WORKS TIMES WORKERS`: WORKS works in which there is nothing to do are claimed
 //! at a board and given back, by up to WORKERS workers.
@@ -32,7 +35,7 @@ use asked::{Load, kind_of};
 use batches::by_workers;
 use cutting::{cut_all, move_all};
 use making::txns;
-use plain::one_by_one;
+use plain::{each_lent, each_moved};
 use std::alloc::{AllocError, Global};
 use std::env;
 use std::process::ExitCode;
@@ -42,8 +45,8 @@ use tally::Tally;
 use works::claimed;
 
 const USAGE: &str =
-    "wanted: cut KIND COUNT BYTES TIMES, or move KIND COUNT BYTES TIMES, or apply KIND COUNT BYTES TIMES, \
-    or batch KIND COUNT BYTES TIMES WORKERS, or board WORKS TIMES WORKERS";
+    "wanted: cut KIND COUNT BYTES TIMES, or move KIND COUNT BYTES TIMES, or lend KIND COUNT BYTES TIMES, \
+    or apply KIND COUNT BYTES TIMES, or batch KIND COUNT BYTES TIMES WORKERS, or board WORKS TIMES WORKERS";
 
 // The words behind the program's name.
 fn words(rt: &HostRuntime) -> Result<Vec<String>> {
@@ -85,8 +88,11 @@ fn run<R: Threads + Clock + Sync>(rt: &R, alloc: Global, words: &[String]) -> Re
     if word == "move" {
         return move_all(rt, alloc, txns.as_slice(), load.times);
     }
+    if word == "lend" {
+        return each_lent(rt, alloc, txns.as_slice(), load.times);
+    }
     if word == "apply" {
-        return one_by_one(rt, alloc, txns.as_slice(), load.times);
+        return each_moved(rt, alloc, txns.as_slice(), load.times);
     }
     if word == "batch" {
         let workers = number(words, 5)? as usize;

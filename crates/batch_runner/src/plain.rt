@@ -1,16 +1,18 @@
 //! Transactions that are done one after the other.
 
+use crate::batches::queued;
 use crate::making::tree;
 use crate::tally::Tally;
 use anyhow::Result;
 use data_tree::Tree;
 use std::alloc::Global;
+use std::collections::VecDeque;
 use std::rt::Clock;
 use std::time::Instant;
 use txn_codec::Txn;
 
-// Does all of them once.
-fn apply_all(alloc: Global, tree: &mut Tree, txns: &[Txn], tally: &mut Tally) -> Result<()> {
+// Does all of them once, and leaves them.
+fn apply_lent(alloc: Global, tree: &mut Tree, txns: &[Txn], tally: &mut Tally) -> Result<()> {
     for txn in txns {
         let outcome = tree.apply(alloc, txn)?;
         tally.count(outcome.err);
@@ -18,13 +20,40 @@ fn apply_all(alloc: Global, tree: &mut Tree, txns: &[Txn], tally: &mut Tally) ->
     Ok(())
 }
 
-/// Does the transactions in a tree, so many times.
-pub fn one_by_one(rt: &impl Clock, alloc: Global, txns: &[Txn], times: u32) -> Result<Tally> {
+// Does all of them, and drops each.
+fn apply_moved(
+    alloc: Global,
+    tree: &mut Tree,
+    mut queue: VecDeque<Txn>,
+    tally: &mut Tally,
+) -> Result<()> {
+    while let Some(txn) = queue.pop_front() {
+        let outcome = tree.apply(alloc, &txn)?;
+        tally.count(outcome.err);
+    }
+    Ok(())
+}
+
+/// Does the transactions in a tree, so many times; they are lent.
+pub fn each_lent(rt: &impl Clock, alloc: Global, txns: &[Txn], times: u32) -> Result<Tally> {
     let mut tally = Tally::new();
     let mut tree = tree(alloc)?;
     for _ in 0..times {
         let since = Instant::now(rt)?;
-        apply_all(alloc, &mut tree, txns, &mut tally)?;
+        apply_lent(alloc, &mut tree, txns, &mut tally)?;
+        tally.end_work(rt, since)?;
+    }
+    Ok(tally)
+}
+
+/// Does copies of the transactions in a tree, so many times; they are moved out of a queue, as a batch is.
+pub fn each_moved(rt: &impl Clock, alloc: Global, txns: &[Txn], times: u32) -> Result<Tally> {
+    let mut tally = Tally::new();
+    let mut tree = tree(alloc)?;
+    for _ in 0..times {
+        let queue = queued(alloc, txns)?;
+        let since = Instant::now(rt)?;
+        apply_moved(alloc, &mut tree, queue, &mut tally)?;
         tally.end_work(rt, since)?;
     }
     Ok(tally)

@@ -15,8 +15,8 @@ const SESSION: i64 = 7;
 /// The connection that a primed engine has.
 pub const CONNECTION: u64 = 1;
 
-// The zxid before the first transaction of epoch 1.
-const EPOCH: i64 = 0x1_0000_0000;
+/// The zxid before the first transaction of epoch 1.
+pub const EPOCH: i64 = 0x1_0000_0000;
 
 /// The engine, and what was said to it.
 #[derive(Drop)]
@@ -99,6 +99,20 @@ impl Load {
         self.engine.feed_inline(alloc, &events, &mut self.outputs)?;
         let sent = self.take_sent()?;
         self.replies = more(self.replies, sent)?;
+        Ok(())
+    }
+
+    /// What comes of the leader, but for transactions: packets may go to it, and clients are closed with it.
+    pub fn happen(&mut self, alloc: Global, events: &[Event<'_>]) -> Result<()> {
+        self.engine.feed_inline(alloc, events, &mut self.outputs)?;
+        ensure!(
+            !self
+                .outputs
+                .iter()
+                .any(|output| matches!(output, Output::CloseLeader(_))),
+            "the leader was refused"
+        );
+        self.outputs.clear();
         Ok(())
     }
 

@@ -18,11 +18,22 @@
 //!
 //! `load_runner pings CONNECTIONS`: CONNECTIONS connections are opened, and on each a ping comes that
 //! is as long as a frame may be, in two pieces.
+//!
+//! `load_runner images PARENTS CHILDREN CONTENT PIECE CHECKPOINTS`: a leader comes and brings an image of
+//! PARENTS nodes below the root, and CHILDREN below each of these, each with CONTENT bytes of data, in
+//! pieces of PIECE bytes; then CHECKPOINTS checkpoints are taken.
+//!
+//! `load_runner logs PARENTS CHILDREN KEPT TIMES`: after creates of such nodes TIMES leaders come, each of
+//! whom undoes all of these transactions but the first KEPT.
 #![tactic(auto)]
 
 mod choice;
+mod following;
+mod images;
+mod leading;
 mod listing;
 mod load;
+mod logs;
 mod messages;
 mod pings;
 mod reads;
@@ -30,8 +41,10 @@ mod sets;
 mod watches;
 
 use anyhow::{Context, Result};
+use images::Images;
 use listing::Listing;
 use load::Load;
+use logs::Logs;
 use pings::Pings;
 use reads::Reads;
 use sets::Sets;
@@ -41,7 +54,8 @@ use watches::Watched;
 
 const USAGE: &str =
     "wanted: PARENTS CHILDREN SETS EVERY, or reads PARENTS CHILDREN READS TIMES PIECE, \
-    or watches CONNECTIONS WATCHES NODES SETS OTHERS, or lists CHILDREN TIMES, or pings CONNECTIONS";
+    or watches CONNECTIONS WATCHES NODES SETS OTHERS, or lists CHILDREN TIMES, or pings CONNECTIONS, \
+    or images PARENTS CHILDREN CONTENT PIECE CHECKPOINTS, or logs PARENTS CHILDREN KEPT TIMES";
 
 // The words behind the program's name.
 fn words(rt: &HostRuntime) -> Result<Vec<String>> {
@@ -100,6 +114,25 @@ fn pings_of(words: &[String]) -> Result<Pings> {
     })
 }
 
+fn images_of(words: &[String]) -> Result<Images> {
+    Ok(Images {
+        parents: number(words, 1)?,
+        children: number(words, 2)?,
+        content: number(words, 3)?,
+        piece: number(words, 4)?,
+        checkpoints: number(words, 5)?,
+    })
+}
+
+fn logs_of(words: &[String]) -> Result<Logs> {
+    Ok(Logs {
+        parents: number(words, 1)?,
+        children: number(words, 2)?,
+        kept: number(words, 3)?,
+        times: number(words, 4)?,
+    })
+}
+
 // Puts the load on the engine that the words ask for.
 fn run(alloc: Global, load: &mut Load, words: &[String]) -> Result<()> {
     let word = words.first().context(USAGE)?.as_str();
@@ -114,6 +147,12 @@ fn run(alloc: Global, load: &mut Load, words: &[String]) -> Result<()> {
     }
     if word == "pings" {
         return load.ping(alloc, &pings_of(words)?);
+    }
+    if word == "images" {
+        return load.load_image(alloc, &images_of(words)?);
+    }
+    if word == "logs" {
+        return load.undo(alloc, &logs_of(words)?);
     }
     load.set(alloc, &sets_of(words)?)
 }

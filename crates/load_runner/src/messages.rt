@@ -28,8 +28,8 @@ pub const CONTENT: &[u8] = b"0123456789abcdef";
 /// 100 bytes that a node may hold.
 pub const LONG_CONTENT: &[u8; 100] = &[b'x'; 100];
 
-// The path of a text, if it is a short one.
-fn short_path(alloc: Global, text: &str) -> Result<Path>
+/// The path of a text, if it is a short one.
+pub fn short_path(alloc: Global, text: &str) -> Result<Path>
     ensures { IfOk result (λ p. length p ≤ PATH_LIMIT) }
 {
     ensure!(text.len() <= PATH_LIMIT, "a path is too long");

@@ -1,0 +1,90 @@
+//! Images that a leader sends, and checkpoints.
+
+ghost use Rattle.std.specs.Prelude.{◌≤◌};
+
+use crate::following::NEXT_EPOCH;
+use crate::leading::{image_child, image_parent, write_end, write_node};
+use crate::load::Load;
+use anyhow::{Result, ensure};
+use jute::put_int;
+use observer_core::Event;
+use quorum_packet::PacketKind;
+use std::alloc::Global;
+
+/// An image, and what comes behind it.
+#[derive(Clone, Copy, Debug)]
+pub struct Images {
+    /// How many nodes stand below the root.
+    pub parents: u32,
+    /// How many nodes stand below each of these.
+    pub children: u32,
+    /// How many bytes of data each of them has.
+    pub content: u32,
+    /// In pieces of how many bytes the image comes.
+    pub piece: u32,
+    /// How many checkpoints are taken then.
+    pub checkpoints: u32,
+}
+
+impl Load {
+    // What was written of the image comes, once it fills a piece.
+    fn bring(&mut self, alloc: Global, piece: usize, written: &mut Vec<u8>) -> Result<()>
+        requires { 1 ≤ piece }
+    {
+        if written.len() >= piece {
+            self.follow_in_pieces(alloc, written.as_slice(), piece)?;
+            written.clear();
+        }
+        Ok(())
+    }
+
+    // A node below the root comes, and the nodes below it.
+    fn bring_below(
+        &mut self,
+        alloc: Global,
+        parent: u32,
+        sizes: &Images,
+        content: &[u8],
+        written: &mut Vec<u8>,
+    ) -> Result<()>
+        requires { 1 ≤ sizes.now.piece }
+    {
+        let path = image_parent(alloc, parent)?;
+        write_node(path.as_str(), content, written)?;
+        for child in 0..sizes.children {
+            let path = image_child(alloc, parent, child)?;
+            write_node(path.as_str(), content, written)?;
+            self.bring(alloc, sizes.piece as usize, written)?;
+        }
+        Ok(())
+    }
+
+    // An image comes, without sessions, in which everyone may change every node.
+    fn bring_image(&mut self, alloc: Global, sizes: &Images) -> Result<()>
+        requires { 1 ≤ sizes.now.piece }
+    {
+        let mut content = Vec::new(alloc);
+        content.resize(sizes.content as usize, b'x')?;
+        let mut written = Vec::new(alloc);
+        put_int(&mut written, 0)?;
+        put_int(&mut written, 0)?;
+        write_node("", &[], &mut written)?;
+        for parent in 0..sizes.parents {
+            self.bring_below(alloc, parent, sizes, content.as_slice(), &mut written)?;
+        }
+        write_end(&mut written)?;
+        self.follow_in_pieces(alloc, written.as_slice(), sizes.piece as usize)
+    }
+
+    /// A leader comes and brings an image; then checkpoints are taken.
+    pub fn load_image(&mut self, alloc: Global, sizes: &Images) -> Result<()> {
+        ensure!(sizes.piece > 0, "a piece has no bytes");
+        self.meet(alloc, PacketKind::Snap, NEXT_EPOCH)?;
+        self.bring_image(alloc, sizes)?;
+        self.serve(alloc)?;
+        for _ in 0..sizes.checkpoints {
+            self.happen(alloc, &[Event::Checkpoint])?;
+        }
+        Ok(())
+    }
+}

@@ -1,0 +1,89 @@
+//! The bytes by which a leader takes up an observer, and those of an image.
+
+ghost use Rattle.std.specs.Prelude.{◌≤◌, length, IfOk};
+
+use crate::messages::{PATH_LIMIT, short_path};
+use anyhow::{Result, ensure};
+use jute::{StatPersisted, WriteRecord, put_bytes, put_long, put_string};
+use quorum_packet::{PacketKind, QuorumPacket, write_packet};
+use std::alloc::Global;
+use txn_codec::Path;
+use values::Blob;
+
+// The protocol version that a leader names with its epoch.
+const PROTOCOL_VERSION: &[u8] = &[0, 1, 0, 0];
+
+// The key of the list that permits everything to everybody.
+const OPEN_KEY: i64 = -1;
+
+// The most bytes of a node's data.
+const DATA_LIMIT: usize = 4_194_304;
+
+/// The path of a node of an image, below the root.
+pub fn image_parent(alloc: Global, parent: u32) -> Result<Path>
+    ensures { IfOk result (λ p. length p ≤ PATH_LIMIT) }
+{
+    let text = format!(in alloc; "/p{parent:08}")?;
+    short_path(alloc, text.as_str())
+}
+
+/// The path of a node below such a node: 20 bytes, where the numbers are below 100,000,000.
+pub fn image_child(alloc: Global, parent: u32, child: u32) -> Result<Path>
+    ensures { IfOk result (λ p. length p ≤ PATH_LIMIT) }
+{
+    let text = format!(in alloc; "/p{parent:08}/n{child:08}")?;
+    short_path(alloc, text.as_str())
+}
+
+/// Writes a packet that carries nothing. An error may leave a front of it.
+#[tactic(auto, unfolding(quorum_packet::specs::Packet::packet))]
+pub fn write_bare(kind: PacketKind, zxid: i64, out: &mut Vec<u8>) -> Result<()> {
+    let bare = QuorumPacket {
+        kind: kind.code(),
+        zxid,
+        bytes: None,
+        authinfo: None,
+    };
+    Ok(write_packet(&bare, out)?)
+}
+
+/// Writes the packet by which a leader names its epoch. An error may leave a front of it.
+#[tactic(auto, unfolding(quorum_packet::specs::Packet::packet))]
+pub fn write_leader_info(alloc: Global, zxid: i64, out: &mut Vec<u8>) -> Result<()> {
+    let naming = QuorumPacket {
+        kind: PacketKind::LeaderInfo.code(),
+        zxid,
+        bytes: Some(Blob::new(alloc, PROTOCOL_VERSION)?),
+        authinfo: None,
+    };
+    Ok(write_packet(&naming, out)?)
+}
+
+/// Writes a node of an image, which everyone may change. An error may leave a front of it.
+#[tactic(auto, unfolding(jute::specs::Records::stat_persisted))]
+pub fn write_node(path: &str, content: &[u8], out: &mut Vec<u8>) -> Result<()>
+    requires { length path.now ≤ PATH_LIMIT }
+{
+    ensure!(content.len() <= DATA_LIMIT, "a node's data is too long");
+    put_string(out, path)?;
+    put_bytes(out, content)?;
+    put_long(out, OPEN_KEY)?;
+    let stat = StatPersisted {
+        czxid: 1,
+        mzxid: 1,
+        ctime: 1000,
+        mtime: 1000,
+        version: 0,
+        cversion: 0,
+        aversion: 0,
+        ephemeral_owner: 0,
+        pzxid: 1,
+    };
+    Ok(stat.write(out)?)
+}
+
+/// Writes the end of an image. An error may leave a front of it.
+pub fn write_end(out: &mut Vec<u8>) -> Result<()> {
+    put_string(out, "/")?;
+    Ok(put_string(out, "BenWasHere")?)
+}
