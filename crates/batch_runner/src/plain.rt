@@ -27,7 +27,10 @@ fn apply_moved(
     mut queue: VecDeque<Txn>,
     tally: &mut Tally,
 ) -> Result<()> {
-    while let Some(txn) = queue.pop_front() {
+    for _ in 0..queue.len() {
+        let Some(txn) = queue.pop_front() else {
+            break;
+        };
         let outcome = tree.apply(alloc, &txn)?;
         tally.count(outcome.err);
     }
