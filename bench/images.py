@@ -57,7 +57,8 @@ def image(parents, children=CHILDREN, content=CONTENT, piece=PIECE, checkpoints=
 def log(parents, kept, times):
     made = parents * (1 + LOGGED)
     left = kept if times else made
-    return Load(["logs", parents, LOGGED, kept, times], made, FRESH + left, EPOCH + left)
+    # A primed engine's last zxid is 0 until a transaction comes.
+    return Load(["logs", parents, LOGGED, kept, times], made, FRESH + left, EPOCH + left if left else 0)
 
 
 def loads():
