@@ -64,22 +64,30 @@ pub fn follow(
     replica.take(alloc, loader, item)
 }
 
-/// The packets that are sent because a leader is there.
-pub fn come(
+/// Items are followed, one behind the other.
+pub fn follow_all(
     alloc: Global,
     replica: &mut Replica,
-    server_id: ServerId,
-) -> Result<Listed<QuorumPacket>, NoMemory> {
-    replica.start(alloc, server_id)
+    loader: &mut Loader,
+    items: Vec<Item>,
+) -> Result<(), ReadError> {
+    for item in items {
+        follow(alloc, replica, loader, item)?;
+    }
+    Ok(())
+}
+
+/// How many packets are sent because a leader is there.
+pub fn come(alloc: Global, replica: &mut Replica) -> Result<usize, NoMemory> {
+    Ok(replica.start(alloc, ServerId::default())?.len())
 }
 
 /// A leader of the first epoch greets the replica.
 pub fn greet(alloc: Global, replica: &mut Replica, loader: &mut Loader) -> Result<(), ReadError> {
-    come(alloc, replica, ServerId::default())?;
+    come(alloc, replica)?;
     let version = Blob::new(alloc, b"\0\x01\0\0")?;
     let info = packet(PacketKind::LeaderInfo, at(0), Some(version));
-    follow(alloc, replica, loader, info)?;
-    Ok(())
+    follow_all(alloc, replica, loader, vec![in alloc; info]?)
 }
 
 /// A replica that was greeted by a leader of the first epoch.
