@@ -13,7 +13,7 @@ use std::thread::Threads;
 use std::time::Instant;
 use txn_codec::Txn;
 
-/// The most transactions of a batch.
+/// The most transactions of a batch, where nothing else is asked for.
 pub const LENGTH: usize = 256;
 
 /// The most groups of a batch.
@@ -28,7 +28,7 @@ pub fn queued(alloc: Global, txns: &[Txn]) -> Result<VecDeque<Txn>> {
     Ok(queue)
 }
 
-/// Cuts the batch in front, which takes LENGTH transactions or all that are left.
+/// Cuts the batch in front, which takes as many transactions as it may, or all that are left.
 pub fn cut_one(
     rt: &impl Clock,
     alloc: Global,
@@ -36,7 +36,7 @@ pub fn cut_one(
     limits: &Limits,
     tally: &mut Tally,
 ) -> Result<Batch> {
-    let wanted = queue.len().min(LENGTH);
+    let wanted = queue.len().min(limits.batch());
     let since = Instant::now(rt)?;
     let batch = cut_front(alloc, queue, limits)?;
     tally.end_cut(rt, since)?;
@@ -73,26 +73,25 @@ fn do_all<R: Threads + Clock + Sync>(
     tally: &mut Tally,
 ) -> Result<()> {
     let mut queue = queued(alloc, txns)?;
-    for _ in txns.chunks(LENGTH) {
+    for _ in txns.chunks(limits.batch()) {
         let batch = cut_one(rt, alloc, &mut queue, limits, tally)?;
         do_one(rt, alloc, tree, batch, limits, tally)?;
     }
     Ok(())
 }
 
-/// Cuts the transactions into batches and does these in a tree, by up to so many workers, so many times.
+/// Cuts the transactions into batches within the limits and does these in a tree, so many times.
 pub fn by_workers<R: Threads + Clock + Sync>(
     rt: &R,
     alloc: Global,
     txns: &[Txn],
     times: u32,
-    workers: usize,
+    limits: &Limits,
 ) -> Result<Tally> {
-    let limits = Limits::new(workers, LENGTH, GROUPS)?;
     let mut tally = Tally::new();
     let mut tree = tree(alloc)?;
     for _ in 0..times {
-        do_all(rt, alloc, &mut tree, txns, &limits, &mut tally)?;
+        do_all(rt, alloc, &mut tree, txns, limits, &mut tally)?;
     }
     Ok(tally)
 }

@@ -11,15 +11,16 @@
 //! `batch_runner apply KIND COUNT BYTES TIMES`: they are moved out of a queue, done in a tree, one after the
 //! other, and dropped.
 //!
-//! `batch_runner batch KIND COUNT BYTES TIMES WORKERS`: they are moved into batches, each of which is done by
-//! up to WORKERS workers and dropped.
+//! `batch_runner batch KIND COUNT BYTES TIMES WORKERS LENGTH`: they are moved into batches of up to LENGTH, each of
+//! which is done by up to WORKERS workers and dropped.
 //!
 //! `batch_runner board WORKS TIMES WORKERS`: WORKS works in which there is nothing to do are claimed
 //! at a board and given back, by up to WORKERS workers.
 //!
-//! All of that is done TIMES times. KIND is `creates` (of nodes below 64 parents in turn), `sets` (of the
-//! data of these parents in turn), `leaves` (sets of 8 nodes below each of them in turn) or `multis`
-//! (of 8 such sets each, of the nodes below one parent). A node has BYTES bytes of data.
+//! All of that is done TIMES times, in batches of up to 256 where no LENGTH is given. KIND is `creates` (of nodes
+//! below 64 parents in turn), `sets` (of the data of these parents in turn), `leaves` (sets of 8 nodes below
+//! each of them in turn) or `multis` (of 8 such sets each, of the nodes below one parent). A node has BYTES bytes
+//! of data.
 #![tactic(auto)]
 
 mod asked;
@@ -32,7 +33,8 @@ mod works;
 
 use anyhow::{Context, Error, Result, bail};
 use asked::{Load, kind_of};
-use batches::by_workers;
+use batcher::Limits;
+use batches::{GROUPS, by_workers};
 use cutting::{cut_all, move_all};
 use making::txns;
 use plain::{each_lent, each_moved};
@@ -46,7 +48,7 @@ use works::claimed;
 
 const USAGE: &str =
     "wanted: cut KIND COUNT BYTES TIMES, or move KIND COUNT BYTES TIMES, or lend KIND COUNT BYTES TIMES, \
-    or apply KIND COUNT BYTES TIMES, or batch KIND COUNT BYTES TIMES WORKERS, or board WORKS TIMES WORKERS";
+    or apply KIND COUNT BYTES TIMES, or batch KIND COUNT BYTES TIMES WORKERS LENGTH, or board WORKS TIMES WORKERS";
 
 // The words behind the program's name.
 fn words(rt: &HostRuntime) -> Result<Vec<String>> {
@@ -73,6 +75,13 @@ fn load_of(words: &[String]) -> Result<Load> {
     })
 }
 
+// By how many workers batches are done, and how long they are.
+fn limits_of(words: &[String]) -> Result<Limits> {
+    let workers = number(words, 5)? as usize;
+    let length = number(words, 6)? as usize;
+    Ok(Limits::new(workers, length, GROUPS)?)
+}
+
 // Does what the words ask for.
 fn run<R: Threads + Clock + Sync>(rt: &R, alloc: Global, words: &[String]) -> Result<Tally> {
     let word = words.first().context(USAGE)?.as_str();
@@ -95,8 +104,8 @@ fn run<R: Threads + Clock + Sync>(rt: &R, alloc: Global, words: &[String]) -> Re
         return each_moved(rt, alloc, txns.as_slice(), load.times);
     }
     if word == "batch" {
-        let workers = number(words, 5)? as usize;
-        return by_workers(rt, alloc, txns.as_slice(), load.times, workers);
+        let limits = limits_of(words)?;
+        return by_workers(rt, alloc, txns.as_slice(), load.times, &limits);
     }
     bail!("{USAGE}")
 }
