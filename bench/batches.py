@@ -5,10 +5,11 @@
 
 The program measures itself by the clock, without making the transactions and the tree, and says how long it cut and how
 long it worked. All loads take turns, several times, and the least time of each is taken; what is compared is done in one
-run of this script. What a load prints must be what it asks for. Batches have 256 transactions, in 64 groups where nothing
-else is said. Plain are transactions that are moved out of a queue, done one after the other and dropped, as those of a batch
-are moved out of one and dropped; lent ones stay in their list. The machine's load, and how much of its processors' time others were given (steal), is printed before and
-after. The exit status is 0 where every figure is met that has a bound.
+run of this script. What a load prints must be what it asks for. Batches have 256 transactions, in 64 groups, where nothing
+else is said. Plain are transactions that are moved out of a queue, done one after the other and dropped, each with its outcome;
+kept ones are the same, but dropped with their outcomes 256 at a time, as those of a batch are; lent ones stay in their list. The
+machine's load, and how much of its processors' time others were given (steal), is printed before and after. The exit status is
+0 where every figure is met that has a bound.
 """
 import argparse
 import os
@@ -19,12 +20,15 @@ import sys
 sys.dont_write_bytecode = True
 from run import MOST_SECONDS, machine  # noqa: E402
 
-LENGTH, PARENTS, LEAVES = 256, 64, 8
+LENGTH, PARENTS = 256, 64
 # Transactions of 16 bytes of data, and how often all of them are done: the nodes are made once.
 SMALL, CREATES, SETS, TIMES = 16, 262_144, 16_384, 16
 # The bytes of a node's data; how many transactions there are, and how often they are done.
 SIZES = {64: (16_384, 8), 1024: (16_384, 8), 4096: (4096, 16), 65_536: (1024, 4)}
-LONG, LONG_MULTIS, LONG_TIMES = 4096, 1024, 8
+# Multis are done in batches of several lengths, since several workers pay in long ones only.
+LONG, LONG_MULTIS, LONG_TIMES = 4096, 4096, 2
+LENGTHS = (256, 512, 1024, 4096)
+PAYING = 1024
 WORKS, WORK_TIMES = 65_536, 16
 WORKERS = (1, 2, 4)
 PER_SECOND, PLAIN, SPEEDUP, MICROSECOND = 1_000_000, 1.3, 1.5, 1000
@@ -48,18 +52,22 @@ class Load:
 
 
 class Txns:
-    """Transactions of a kind, with so many bytes of data for a node, done so many times."""
+    """Transactions of a kind, with so many bytes of data for a node, done so many times, in batches of a length."""
 
-    def __init__(self, kind, count, size, times):
-        self.words, self.done = [kind, count, size, times], count * times
-        self.batches = times * count // LENGTH
-        self.groups = self.batches * (LENGTH if kind == "leaves" else PARENTS)
+    def __init__(self, kind, count, size, times, length=LENGTH):
+        self.words, self.done, self.length = [kind, count, size, times], count * times, length
+        self.batches, self.groups = self.counts(length)
+
+    def counts(self, length):
+        """How many batches of this length there are, and how many groups in all of them."""
+        batches = self.done // length
+        return batches, batches * (length if self.words[0] == "leaves" else PARENTS)
 
     def cut(self):
-        return Load(["cut"] + self.words, 0, self.batches, self.groups)
+        return Load(["cut"] + self.words, 0, *self.counts(LENGTH))
 
     def move(self):
-        return Load(["move"] + self.words, 0, self.batches, self.groups)
+        return Load(["move"] + self.words, 0, *self.counts(LENGTH))
 
     def lent(self):
         return Load(["lend"] + self.words, self.done, 0, 0)
@@ -67,8 +75,11 @@ class Txns:
     def plain(self):
         return Load(["apply"] + self.words, self.done, 0, 0)
 
+    def kept(self):
+        return Load(["keep"] + self.words, self.done, 0, 0)
+
     def batch(self, workers):
-        return Load(["batch"] + self.words + [workers], self.done, self.batches, self.groups)
+        return Load(["batch"] + self.words + [workers, self.length], self.done, self.batches, self.groups)
 
 
 def small():
@@ -80,14 +91,12 @@ def small():
 
 
 def sized():
-    works = {(f"sets of {size:,} bytes", size): Txns("sets", *_spread(size)) for size in SIZES}
-    works[(f"multis of {LEAVES} sets of {LONG:,} bytes", LONG)] = Txns("multis", LONG_MULTIS, LONG, LONG_TIMES)
-    return works
+    sets = {f"sets of {size:,} bytes": Txns("sets", count, size, times) for size, (count, times) in SIZES.items()}
+    return {**sets, **{multis(it): Txns("multis", LONG_MULTIS, LONG, LONG_TIMES, it) for it in LENGTHS}}
 
 
-def _spread(size):
-    count, times = SIZES[size]
-    return count, size, times
+def multis(length):
+    return f"multis, batches of {length}"
 
 
 def boards():
@@ -95,15 +104,15 @@ def boards():
 
 
 def measured(program, rounds):
-    """Runs every load in turns. Returns for each kind its transactions with their loads: cut, moved, lent, plain, by workers."""
-    both = {**small(), **{name: txns for (name, _), txns in sized().items()}}
+    """Runs every load in turns. Returns for each kind its transactions with their loads: cut, moved, lent, plain, kept, by workers."""
     loads = {}
-    for name, txns in both.items():
-        loads[name] = (txns, txns.cut(), txns.move(), txns.lent(), txns.plain(), {it: txns.batch(it) for it in WORKERS})
+    for name, txns in {**small(), **sized()}.items():
+        by = {it: txns.batch(it) for it in WORKERS}
+        loads[name] = (txns, txns.cut(), txns.move(), txns.lent(), txns.plain(), txns.kept(), by)
     seats = boards()
     for _ in range(rounds):
-        for _, cut, move, lent, plain, by in loads.values():
-            for load in [cut, move, lent, plain] + list(by.values()):
+        for _, cut, move, lent, plain, kept, by in loads.values():
+            for load in [cut, move, lent, plain, kept] + list(by.values()):
                 load.once(program)
         for load in seats.values():
             load.once(program)
@@ -111,14 +120,14 @@ def measured(program, rounds):
 
 
 def table(loads):
-    """Prints nanoseconds a transaction: cut alone, moved alone, lent, plain, and what workers took without cutting."""
+    """Prints nanoseconds a transaction: cut alone, moved alone, lent, plain, kept, and what workers took without cutting."""
     head = "".join(f"{f'{it} workers':>12}" for it in WORKERS)
-    alone = "".join(f"{it:>10}" for it in ("cut", "moved", "lent", "plain"))
+    alone = "".join(f"{it:>10}" for it in ("cut", "moved", "lent", "plain", "kept"))
     print(f"{'nanoseconds a transaction':<34}{alone}{head}{'4 against 1':>13}{'against plain':>15}")
-    for name, (txns, cut, move, lent, plain, by) in loads.items():
+    for name, (txns, cut, move, lent, plain, kept, by) in loads.items():
         times = "".join(f"{by[it].worked / txns.done:>12,.0f}" for it in WORKERS)
         gain, over = by[1].worked / by[4].worked, plain.worked / min(by[it].whole for it in WORKERS)
-        alone = "".join(f"{it / txns.done:>10,.0f}" for it in (cut.cut, move.cut, lent.worked, plain.worked))
+        alone = "".join(f"{it / txns.done:>10,.0f}" for it in (cut.cut, move.cut, lent.worked, plain.worked, kept.worked))
         print(f"{name:<34}{alone}{times}{gain:>13.2f}{over:>15.2f}")
     print("against plain: how many times as fast the best number of workers is as one after the other, cutting included")
 
@@ -127,16 +136,19 @@ def figures(loads, seats):
     """Returns what each figure is about, the figure, its bound, and whether that is the most it may be."""
     found = []
     for name in ("creates", "sets", "leaves"):
-        txns, cut, move, lent, plain, by = loads[name]
+        txns, cut, move, lent, plain, kept, by = loads[name]
         found.append((f"{name} moved into batches a second", txns.done / move.cut * 1e9, PER_SECOND, False))
         found.append((f"{name} cut as copies a second", txns.done / cut.cut * 1e9, None, False))
         if name != "leaves":
-            found.append((f"{name}: one worker against plain, without cutting", by[1].worked / plain.worked, PLAIN, True))
+            found.append((f"{name}: one worker against kept ones, without cutting", by[1].worked / kept.worked, PLAIN, True))
+        found.append((f"{name}: one worker against plain, without cutting", by[1].worked / plain.worked, None, True))
         found.append((f"{name}: one worker against plain, cutting included", by[1].whole / plain.worked, None, True))
         found.append((f"{name}: one worker against lent ones, without cutting", by[1].worked / lent.worked, None, True))
-    *_, by = loads[f"multis of {LEAVES} sets of {LONG:,} bytes"]
-    found.append(("multis: times as fast with 4 workers as with one", by[1].worked / by[4].worked, SPEEDUP, False))
-    found.append(("the same, cutting included", by[1].whole / by[4].whole, None, False))
+    for length in LENGTHS:
+        *_, by = loads[multis(length)]
+        bound = SPEEDUP if length >= PAYING else None
+        found.append((f"{multis(length)}: times as fast with 4 workers as with one", by[1].worked / by[4].worked, bound, False))
+        found.append(("the same, cutting included", by[1].whole / by[4].whole, None, False))
     for it, load in seats.items():
         found.append((f"nanoseconds a claim and a give, {it} workers", load.worked / (WORKS * WORK_TIMES), MICROSECOND, True))
     return found

@@ -56,9 +56,7 @@ fn do_one<R: Threads + Clock + Sync>(
 ) -> Result<()> {
     let since = Instant::now(rt)?;
     let outcomes = apply_batch(rt, alloc, tree, batch, limits.workers(), &OpenGate)?;
-    for outcome in &outcomes {
-        tally.count(outcome.err);
-    }
+    tally.count_all(outcomes.as_slice());
     drop(outcomes);
     tally.end_work(rt, since)
 }

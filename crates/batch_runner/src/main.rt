@@ -11,6 +11,9 @@
 //! `batch_runner apply KIND COUNT BYTES TIMES`: they are moved out of a queue, done in a tree, one after the
 //! other, and dropped.
 //!
+//! `batch_runner keep KIND COUNT BYTES TIMES`: the same, but what as many answer as a batch has is kept till these
+//! are done, and they are dropped then, as it is with a batch.
+//!
 //! `batch_runner batch KIND COUNT BYTES TIMES WORKERS LENGTH`: they are moved into batches of up to LENGTH, each of
 //! which is done by up to WORKERS workers and dropped.
 //!
@@ -37,7 +40,7 @@ use batcher::Limits;
 use batches::{GROUPS, by_workers};
 use cutting::{cut_all, move_all};
 use making::txns;
-use plain::{each_lent, each_moved};
+use plain::{each_kept, each_lent, each_moved};
 use std::alloc::{AllocError, Global};
 use std::env;
 use std::process::ExitCode;
@@ -48,7 +51,8 @@ use works::claimed;
 
 const USAGE: &str =
     "wanted: cut KIND COUNT BYTES TIMES, or move KIND COUNT BYTES TIMES, or lend KIND COUNT BYTES TIMES, \
-    or apply KIND COUNT BYTES TIMES, or batch KIND COUNT BYTES TIMES WORKERS LENGTH, or board WORKS TIMES WORKERS";
+    or apply KIND COUNT BYTES TIMES, or keep KIND COUNT BYTES TIMES, \
+    or batch KIND COUNT BYTES TIMES WORKERS LENGTH, or board WORKS TIMES WORKERS";
 
 // The words behind the program's name.
 fn words(rt: &HostRuntime) -> Result<Vec<String>> {
@@ -102,6 +106,9 @@ fn run<R: Threads + Clock + Sync>(rt: &R, alloc: Global, words: &[String]) -> Re
     }
     if word == "apply" {
         return each_moved(rt, alloc, txns.as_slice(), load.times);
+    }
+    if word == "keep" {
+        return each_kept(rt, alloc, txns.as_slice(), load.times);
     }
     if word == "batch" {
         let limits = limits_of(words)?;

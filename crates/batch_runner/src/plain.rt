@@ -1,6 +1,6 @@
 //! Transactions that are done one after the other.
 
-use crate::batches::queued;
+use crate::batches::{LENGTH, queued};
 use crate::making::tree;
 use crate::tally::Tally;
 use anyhow::Result;
@@ -58,6 +58,52 @@ pub fn each_moved(rt: &impl Clock, alloc: Global, txns: &[Txn], times: u32) -> R
         let since = Instant::now(rt)?;
         apply_moved(alloc, &mut tree, queue, &mut tally)?;
         tally.end_work(rt, since)?;
+    }
+    Ok(tally)
+}
+
+// Does as many of them as a batch has. They are dropped with what they answered when all of these are done.
+fn apply_kept(
+    alloc: Global,
+    tree: &mut Tree,
+    queue: &mut VecDeque<Txn>,
+    tally: &mut Tally,
+) -> Result<()> {
+    let mut txns = Vec::with_capacity(alloc, LENGTH)?;
+    let mut outcomes = Vec::with_capacity(alloc, LENGTH)?;
+    for _ in 0..LENGTH {
+        let Some(txn) = queue.pop_front() else {
+            break;
+        };
+        outcomes.push(tree.apply(alloc, &txn)?)?;
+        txns.push(txn)?;
+    }
+    tally.count_all(outcomes.as_slice());
+    Ok(())
+}
+
+// Does all of them once.
+fn keep_once(
+    rt: &impl Clock,
+    alloc: Global,
+    tree: &mut Tree,
+    txns: &[Txn],
+    tally: &mut Tally,
+) -> Result<()> {
+    let mut queue = queued(alloc, txns)?;
+    let since = Instant::now(rt)?;
+    for _ in txns.chunks(LENGTH) {
+        apply_kept(alloc, tree, &mut queue, tally)?;
+    }
+    tally.end_work(rt, since)
+}
+
+/// Does copies of the transactions in a tree, so many times; as many as a batch has are kept, with their outcomes.
+pub fn each_kept(rt: &impl Clock, alloc: Global, txns: &[Txn], times: u32) -> Result<Tally> {
+    let mut tally = Tally::new();
+    let mut tree = tree(alloc)?;
+    for _ in 0..times {
+        keep_once(rt, alloc, &mut tree, txns, &mut tally)?;
     }
     Ok(tally)
 }

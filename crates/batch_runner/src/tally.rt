@@ -1,6 +1,7 @@
 //! What was done, and what it took.
 
 use anyhow::Result;
+use data_tree::Outcome;
 use std::rt::Clock;
 use std::time::{Duration, Instant};
 
@@ -38,6 +39,13 @@ impl Tally {
         self.done = self.done.saturating_add(1);
         if err != 0 {
             self.errors = self.errors.saturating_add(1);
+        }
+    }
+
+    /// Counts what answered.
+    pub fn count_all(&mut self, outcomes: &[Outcome]) {
+        for outcome in outcomes {
+            self.count(outcome.err);
         }
     }
 
