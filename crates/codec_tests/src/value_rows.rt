@@ -11,6 +11,15 @@ fn are_bytes_kept(alloc: Global) -> Result<bool, Fail> {
     Ok(blob.as_slice() == b"hi".as_slice() && blob == moved)
 }
 
+// Whether bytes become a copy of as many others, and of more.
+fn are_bytes_copied(alloc: Global) -> Result<bool, NoMemory> {
+    let mut blob = Blob::new(alloc, b"hi")?;
+    blob.copy_from(&Blob::new(alloc, b"ho")?)?;
+    let as_many = blob.as_slice() == b"ho".as_slice();
+    blob.copy_from(&Blob::new(alloc, b"hello")?)?;
+    Ok(as_many && blob.as_slice() == b"hello".as_slice())
+}
+
 // Whether a text is kept, and isn't another.
 fn is_text_kept(alloc: Global) -> Result<bool, NoMemory> {
     let text = Text::new(alloc, "/a")?;
@@ -29,6 +38,7 @@ fn is_list_kept(alloc: Global) -> Result<bool, Fail> {
 fn values_hold_what_they_are_given(rt: HostRuntime) -> Result<(), Fail> {
     assert!(rt; Bytes::new(b"hi").as_slice() == b"hi".as_slice());
     assert!(rt; are_bytes_kept(rt.alloc())?);
+    assert!(rt; are_bytes_copied(rt.alloc())?);
     assert!(rt; is_text_kept(rt.alloc())?);
     assert!(rt; is_list_kept(rt.alloc())?);
     Ok(())

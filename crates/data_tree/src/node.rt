@@ -98,6 +98,20 @@ fn first_stat(header: &TxnHeader, create: &Create) -> StatPersisted
     }
 }
 
+// Makes bytes a copy of others.
+fn copy_bytes(bytes: &mut Option<Blob>, others: &Option<Blob>) -> Result<(), NoMemory>
+    ensures ok { OnOk result (bytes.new ≡ others.now) }
+    ensures err { OnErr result (bytes.new ≡ bytes.old) }
+{
+    if let Some(bytes) = bytes {
+        if let Some(others) = others {
+            return bytes.copy_from(others);
+        }
+    }
+    *bytes = others.clone()?;
+    Ok(())
+}
+
 // A node's numbers after its bytes were written.
 fn stat_with_data(before: StatPersisted, header: &TxnHeader, body: &SetData) -> StatPersisted
     ensures { result ≡
@@ -221,8 +235,7 @@ impl Node {
         ensures ok { OnOk result (self.new ≡ with_data header.now body.now self.old) }
         ensures err { OnErr result (self.new ≡ self.old) }
     {
-        let bytes = body.bytes.clone()?;
-        self.bytes = bytes;
+        copy_bytes(&mut self.bytes, &body.bytes)?;
         self.stat = stat_with_data(self.stat, header, body);
         Ok(())
     }

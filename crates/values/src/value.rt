@@ -1,6 +1,6 @@
 //! Texts, bytes and lists, each seen as the list of what it holds.
 
-ghost use Rattle.std.specs.Prelude.{◌≡◌, ◌↔◌, List, [], ℕ, nat_eq, length, IfOk, IsTrue, string_bytes};
+ghost use Rattle.std.specs.Prelude.{◌≡◌, ◌↔◌, List, [], ℕ, nat_eq, length, IfOk, OnOk, OnErr, IsTrue, string_bytes};
 ghost use Rattle.std.specs.Cmp.{partial_equiv_from_equiv};
 ghost use Rattle.std.specs.Cmp.Lexicographic.{pointwise, lists_per, lists_equiv, nat_list_eq_equiv};
 
@@ -178,6 +178,19 @@ impl Blob {
         Ok(Blob {
             bytes: Vec::from_slice(alloc, bytes)?,
         })
+    }
+
+    /// Makes it a copy of the other: in the memory that it has, where both are equally long.
+    pub fn copy_from(&mut self, other: &Blob) -> Result<(), NoMemory>
+        ensures ok { OnOk result (self.new ≡ other.now) }
+        ensures err { OnErr result (self.new ≡ self.old) }
+    {
+        if self.bytes.len() == other.bytes.len() {
+            self.bytes.as_mut_slice().copy_from_slice(other.as_slice());
+        } else {
+            *self = other.clone()?;
+        }
+        Ok(())
     }
 
     pub fn as_slice(&self) -> &[u8]
