@@ -76,7 +76,8 @@ places_below n k (t ∷ ts) = by (t.0 == k)
 pub class_below : (ts : List Tagged) (j m i : ℕ) (d : Class) → i < m
     → All (λ p. p < length ts) (get_or (map (class_of ts) (range_with_len j m)) i d).members
 class_below ts j zero i d l = absurd (omega arith)
-class_below ts j (suc m) zero d l = subst (λ n. All (λ p. p < n) (places_from 0 j ts)) (omega arith) (places_below 0 j ts)
+class_below ts j (suc m) zero d l = subst (λ n. All (λ p. p < n) (places_from 0 j ts)) (omega arith)
+    (places_below 0 j ts)
 class_below ts j (suc m) (suc i) d l = class_below ts (j + 1) m i d (omega arith)
 
 -- ---- shares that are put at their places

@@ -74,7 +74,8 @@ left_elsewhere laws ts j (suc m) s p out =
     (left_elsewhere laws ts (j + 1) m u p (λ k l. out k (omega arith)))
     ((laws.moved (class_of ts j).paths s).left p (in_class ts j p false (out j (omega arith))))
 
-pub left_empty : Laws → (ts : List Tagged) → AreDisjoint (λ k. paths_in k ts) → (j m : ℕ) (s : State) (k : ℕ) (p : Bytes)
+pub left_empty : Laws → (ts : List Tagged) → AreDisjoint (λ k. paths_in k ts)
+    → (j m : ℕ) (s : State) (k : ℕ) (p : Bytes)
     → j ≤ k → k < j + m → touches (paths_in k ts) p ≡ true
     → IsEmptyCell (without_each (map (class_of ts) (range_with_len j m)) s) p
 left_empty laws ts apart j zero s k p l n at = absurd (omega arith)
@@ -268,7 +269,8 @@ are_groups laws txns ts is = record {
 -- ---- the batch
 
 home_state : Laws → (ts : List Tagged) → AreGroups ts → (s : State)
-    → timed (batch_of ts) (with_each (after_each (cells_of_each (classes_of ts) s) (at_each (batch_of ts) (classes_of ts)))
+    → timed (batch_of ts) (with_each
+    (after_each (cells_of_each (classes_of ts) s) (at_each (batch_of ts) (classes_of ts)))
     (without_each (classes_of ts) s)) ≡ after s (batch_of ts)
 home_state laws ts groups s =
     let classes = classes_of ts in

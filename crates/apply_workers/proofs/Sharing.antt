@@ -231,7 +231,8 @@ are_brought each tree txns batch alone hs held =
         let count = in_order_length ts of fits in
         let all : Brought tree txns hs (grouped txns) =
         subst (Brought tree txns hs) (sym e) (
-          ap (λ us. timed us (with_each (map (λ (g : GroupState). g.cells) (finished_from txns ts 0 (opened ts) hs)) tree))
+          ap (λ us. timed us (with_each (map (λ (g : GroupState). g.cells) (finished_from txns ts 0 (opened ts) hs))
+              tree))
               (sym of_ts.0),
           (
             count ∙ sym (batch_length ts) ∙ ap (λ us. length us) of_ts.0,

@@ -178,7 +178,8 @@ took_next txns k worker c holder cells new outcomes more t o mine l within is le
 pub not_finished : (txns : List Txn) (k worker : ℕ) (c : Class) (h : InHand) → length h.outcomes < length c.members
     → All (λ p. p < length txns) c.members → is_finished_by worker (shown txns k c h) ≡ false
 not_finished txns k worker c h l within =
-    ap (λ ts. is_held_by worker h.holder && none_left ts) (next_place txns c.members (length h.outcomes) here l within is)
+    ap (λ ts. is_held_by worker h.holder && none_left ts)
+    (next_place txns c.members (length h.outcomes) here l within is)
     ∙ never (is_held_by worker h.holder)
   where
     place : ℕ
@@ -419,7 +420,8 @@ claim_is_taken txns next worker cs hs old new held free l was is = (
 
     can : can_be_taken (progress_at txns next cs hs) (Claim worker) ≡ true
     can =
-        ap (λ b. not b && nat_lt next (length (all_shown txns 0 cs hs))) (sym (any_held txns 0 worker cs hs held) ∙ free)
+        ap (λ b. not b && nat_lt next (length (all_shown txns 0 cs hs)))
+        (sym (any_held txns 0 worker cs hs held) ∙ free)
         ∙ below
 
     groups : all_shown txns 0 cs (set hs next new) ≡ map (claimed worker next) (all_shown txns 0 cs hs)
@@ -500,7 +502,8 @@ pub first_left : (n : ℕ) (cs : List Class) (c : Class) (left : List InHand) (h
 first_left n cs c left h more held e is =
     subst₂ AreHeld (next_is cs n c (one_left n cs left h more held e) is) e held
 
-pub finish_goes_on : (txns : List Txn) (cs : List Class) (first left more : List InHand) (n : ℕ) (c : Class) (h : InHand)
+pub finish_goes_on : (txns : List Txn) (cs : List Class) (first left more : List InHand) (n : ℕ)
+    (c : Class) (h : InHand)
     (cells cells' : List State) (answers answers' : List (List Outcome)) (x : State) (os : List Outcome)
     → FinishedTo txns cs first n left cells answers → left ≡ h ∷ more → c ≡ get_or cs n c
     → x ≡ (finished (shown txns n c h)).cells → os ≡ (finished (shown txns n c h)).outcomes

@@ -50,4 +50,5 @@ pub record IsTheBatch (s : State) (txns : List Txn) : Type 0 where
       (outcomes_of_each (cells_of_each (groups_of txns) s) (at_each txns (groups_of txns)))
 
 abbrev pub GroupsComeHome : Type 0
-GroupsComeHome = (s : State) (txns : List Txn) → is_batch txns ≡ true → is_barrier_alone txns ≡ false → IsTheBatch s txns
+GroupsComeHome = (s : State) (txns : List Txn) → is_batch txns ≡ true → is_barrier_alone txns ≡ false
+    → IsTheBatch s txns

@@ -3,7 +3,8 @@ use Rattle.std.specs.Prelude.{◌≡◌, ℕ, true, List, ◌++◌}
 use Rattle.apply_board.specs.Sitting.{Sitting}
 use Rattle.apply_board.specs.Seats.{IsIdle}
 
--- a worker's seat s is t when all numbers are claimed: it has given all that it claimed, behind what it had given before
+-- a worker's seat s is t when all numbers are claimed: it has given all that it claimed, behind what it had given
+-- before
 pub record Worked {W F : Type 0} (s t : Sitting W F) : Type 0 where
   pub own : t.board ≡ s.board
   pub idle : IsIdle t

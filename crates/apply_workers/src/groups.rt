@@ -192,8 +192,8 @@ impl Groups {
 
     /// Does what is left, group by group, puts the cells back into the tree from which they were taken, sets the
     /// timeouts of the sessions that the batch creates, and answers the outcomes, both in the batch's order. A batch
-    /// that has no groups, as a barrier alone, is done on the tree itself. Refused memory, it leaves a tree that is only
-    /// to be dropped.
+    /// that has no groups, as a barrier alone, is done on the tree itself. Refused memory, it leaves a tree that is
+    /// only to be dropped.
     pub fn home(self, alloc: Global, tree: &mut Tree) -> Result<Vec<Outcome>, NoMemory>
         ensures tree { OnOk result
             (tree.new ≡ (ended tree.old self.batch self.progress.groups).state) }

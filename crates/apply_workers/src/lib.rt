@@ -3,12 +3,12 @@
 //! `work` is what one worker does. `run` has a list of works done by several, each on a thread of its own, and gives
 //! the results in the order of the works. A `Gate` is passed after each claim and before its work.
 //!
-//! What workers do with the groups of a batch is a definition, step by step (`specs/Schedule.antt`); that it is what the
-//! batch does, whichever `Step`s are taken, is `law::every_schedule`.
+//! What workers do with the groups of a batch is a definition, step by step (`specs/Schedule.antt`); that it is what
+//! the batch does, whichever `Step`s are taken, is `law::every_schedule`.
 //!
-//! `Groups` does a batch by such steps: `open` takes the groups' cells out of the tree, `step` takes a step or passes it
-//! over, and `home` does what is left and puts all back. `apply_inline` is these calls one after the other; whichever
-//! steps it is given, it leaves and answers what the transactions do one after the other.
+//! `Groups` does a batch by such steps: `open` takes the groups' cells out of the tree, `step` takes a step or passes
+//! it over, and `home` does what is left and puts all back. `apply_inline` is these calls one after the other;
+//! whichever steps it is given, it leaves and answers what the transactions do one after the other.
 //!
 //! `apply_batch` does a batch of transactions so: each group's cells are taken out of the tree, each group is a work on
 //! its cells (`Work`, `Finished`), and when all are home the cells are put back, the timeouts of new sessions are set

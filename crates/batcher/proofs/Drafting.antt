@@ -60,7 +60,8 @@ count_in draft = length-map draft.txns.items (λ t. t.now)
 -- one more is kept
 pub txns_more : (old new : Draft) (t : Bor Txn) → new.txns.items ≡ old.txns.items ++ t ∷ []
     → txns_in new ≡ txns_in old ++ t.now ∷ []
-txns_more old new t is = ap (map (λ (t : Bor Txn). t.now)) is ∙ map-append (λ (t : Bor Txn). t.now) old.txns.items (t ∷ [])
+txns_more old new t is = ap (map (λ (t : Bor Txn). t.now)) is
+    ∙ map-append (λ (t : Bor Txn). t.now) old.txns.items (t ∷ [])
 
 pub opened_in : (draft : Draft) → IsDraft draft → length draft.groups.items ≡ opened (taken_in draft)
 opened_in draft is = ap length is.groups ∙ length-classes_of (taken_in draft)

@@ -124,7 +124,8 @@ module _ (paths : List Bytes) (i : ℕ) (p : Bytes) (within : i < length paths) 
       → IsOwned old m k paths (i + 1)
   owned_still old m k before was =
       owned_next old m m k before
-      (owned_before m k p (before p ∙ ap (cond (touches (take i paths) p) (Some k)) was ∙ same (touches (take i paths) p)))
+      (owned_before m k p (before p ∙ ap (cond (touches (take i paths) p) (Some k)) was
+      ∙ same (touches (take i paths) p)))
     where
       same : (b : Bool) → cond b (Some k) (Some k) ≡ Some k
       same true = refl

@@ -7,7 +7,8 @@ use Rattle.client_records.specs.Responses.{connect_response}
 use Rattle.sessions.specs.declared.request.SessionResponse.{SessionResponse}
 use Rattle.client_frames.specs.Connect.{response_of}
 
-pub answer_length : (r : SessionResponse) → length r.password ≡ 16 → length (connect_response.written (response_of r)) ≡ 36
+pub answer_length : (r : SessionResponse) → length r.password ≡ 16
+    → length (connect_response.written (response_of r)) ≡ 36
 unfolding connect_response number_bytes
 answer_length r e = simp length-append (omega (arith, e))
 
@@ -16,9 +17,11 @@ unfolding connect_response
 answer_writable r e = (tt, (tt, (tt, omega (arith, e))))
 
 -- with the byte behind it
-pub longer_framed : (r : SessionResponse) → length r.password ≡ 16 → let body = connect_response.written (response_of r) ++ 0 ∷ [] in
+pub longer_framed : (r : SessionResponse) → length r.password ≡ 16
+    → let body = connect_response.written (response_of r) ++ 0 ∷ [] in
     framed body ≡ number_bytes w32 (pos 37) ++ body
 longer_framed r e =
     let body = connect_response.written (response_of r) ++ 0 ∷ [] in
-    let long : length body ≡ 37 = length-append (connect_response.written (response_of r)) (0 ∷ []) ∙ ap (λ (n : ℕ). n + 1) (answer_length r e) in
+    let long : length body ≡ 37 = length-append (connect_response.written (response_of r)) (0 ∷ [])
+    ∙ ap (λ (n : ℕ). n + 1) (answer_length r e) in
     ap (λ (n : ℕ). counted n body) long

@@ -1,4 +1,5 @@
--- What a client's frame asks for (zookeeper.jute, RequestHeader): a header, and the body of a request of the header's type.
+-- What a client's frame asks for (zookeeper.jute, RequestHeader): a header, and the body of a request of the header's
+-- type.
 use Rattle.std.specs.Prelude.{ℕ, List, Option, Some, None, Result, Ok, Err}
 use Rattle.values.specs.declared.fault.Fault.{Fault}
 use Rattle.jute.specs.declared.message.RequestHeader.{RequestHeader}

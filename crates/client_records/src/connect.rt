@@ -1,5 +1,5 @@
-//! The first frames of a connection. A byte behind either record says whether the client could do with a read-only server;
-//! it isn't part of the records.
+//! The first frames of a connection. A byte behind either record says whether the client could do with a read-only
+//! server; it isn't part of the records.
 
 ghost use Rattle.client_records.specs.Requests.{connect_request};
 ghost use Rattle.client_records.specs.Responses.{connect_response};

@@ -320,7 +320,8 @@ pub disjoint_transactions_commute : DisjointTransactionsCommute
 disjoint_transactions_commute a b s ka kb apart =
     let ca = transactions_keep_to_their_footprints a ka in
     let cb = transactions_keep_to_their_footprints b kb in
-    let same = commute_cell (footprint a) (footprint b) (λ u. (mean u a).state) (λ u. (mean u b).state) ca.state cb.state
+    let same = commute_cell (footprint a) (footprint b) (λ u. (mean u a).state) (λ u. (mean u b).state)
+    ca.state cb.state
     apart s in
     record {
       cells = same;
@@ -332,5 +333,6 @@ disjoint_transactions_commute a b s ka kb apart =
       state = λ orderless. same_state (mean (mean s a).state b).state (mean (mean s b).state a).state
           (mean-sessions b (mean s a).state kb ∙ ap (with_timeout_of b.header b.body) (mean-sessions a s ka)
           ∙ orderless
-          ∙ sym (mean-sessions a (mean s b).state ka ∙ ap (with_timeout_of a.header a.body) (mean-sessions b s kb))) same;
+          ∙ sym (mean-sessions a (mean s b).state ka ∙ ap (with_timeout_of a.header a.body) (mean-sessions b s kb)))
+          same;
     }

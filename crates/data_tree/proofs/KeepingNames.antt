@@ -95,7 +95,10 @@ taken_fine h c parent named =
 new_fine : (h : TxnHeader) (c : Create) (parent : Node) → is_child_path c.path ≡ true
     → IsNamed (parent_of c.path) parent → AreFine (create_new h c parent).changes
 new_fine h c parent makes named = (
-  record { right = named.right; names = names_with parent.children (name_of c.path) named.names (name_is c.path makes) },
+  record {
+    right = named.right;
+    names = names_with parent.children (name_of c.path) named.names (name_is c.path makes);
+  },
   (record { right = child_is_path c.path makes; names = no_names }, gained_fine (owner_of h c.ephemeral) c.path),
 )
 
@@ -230,7 +233,8 @@ node_keeps s path node right names each = by (is_root path) refl right
 
     by : (r : Bool) → is_root path ≡ r → (r || is_child_path path) ≡ true
         → EachIsNamed (if (if r then finmap.len s.nodes == 0
-        else (not (has_node s.nodes path) && has_node s.nodes (parent_of path))) then with_node s path node else s).nodes
+        else (not (has_node s.nodes path) && has_node s.nodes (parent_of path)))
+        then with_node s path node else s).nodes
     by true is fine = root (finmap.len s.nodes == 0) refl
     by false is child =
         placed (listed_keeps s.nodes path child each (finmap.get s.nodes (parent_of path)) refl)

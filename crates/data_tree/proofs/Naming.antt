@@ -61,7 +61,8 @@ no_nul : (text : Bytes) → has_no_nul text ≡ true → list_any (λ b. b == 0)
 no_nul [] none = refl
 no_nul (b ∷ text) none = by (no_nul text) (b == 0) none
   where
-    by : (has_no_nul text ≡ true → list_any (λ b. b == 0) text ≡ false) → (v : Bool) → (not v && has_no_nul text) ≡ true → (v || list_any (λ b. b == 0) text) ≡ false
+    by : (has_no_nul text ≡ true → list_any (λ b. b == 0) text ≡ false) → (v : Bool) → (not v && has_no_nul text) ≡ true
+        → (v || list_any (λ b. b == 0) text) ≡ false
     by rest true e = cc
     by rest false e = rest e
 

@@ -80,7 +80,8 @@ module _ (s : State) (path : Bytes) (node : Node) (other : is_root path ≡ fals
       ap (λ b. if b then finmap.len s.nodes == 0
       else (not (has_node s.nodes path) && has_node s.nodes (parent_of path))) other
 
-  placed_by : (b : Bool) → has_place s.nodes path ≡ b → with_node_in_place s path node ≡ (if b then with_node s path node else s)
+  placed_by : (b : Bool) → has_place s.nodes path ≡ b
+      → with_node_in_place s path node ≡ (if b then with_node s path node else s)
   placed_by b is = ap (λ (v : Bool). if v then with_node s path node else s) is
 
   -- there is a parent
@@ -127,7 +128,8 @@ module _ (s : State) (path : Bytes) (node : Node) (other : is_root path ≡ fals
       → not (has_node (listing s path).nodes path) ≡ has_place s.nodes path
   added_place stat a = ap not same_node ∙ sym (with_parent (there_added (finmap.get s.nodes (parent_of path)) stat a))
 
-  new_placed : (b : Bool) → has_node (listing s path).nodes path ≡ b → not b ≡ has_place s.nodes path → (b ≡ true → listing s path ≡ s)
+  new_placed : (b : Bool) → has_node (listing s path).nodes path ≡ b → not b ≡ has_place s.nodes path
+      → (b ≡ true → listing s path ≡ s)
       → with_new_node_placed (listing s path) path node ≡ with_node_in_place s path node
   new_placed true here is kept =
       ap (λ (b : Bool). if b then listing s path else with_placed_node (listing s path) path node) here

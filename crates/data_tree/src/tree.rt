@@ -490,9 +490,9 @@ impl Tree {
         &self.ephemerals
     }
 
-    /// Whether the tree is whole: there is a root; each node stands at a path and lists names that may stand in one; each
-    /// node but the root has a parent that lists its name; each name that a node lists has a node; and the ephemerals are
-    /// the owned nodes' paths, each with its owner.
+    /// Whether the tree is whole: there is a root; each node stands at a path and lists names that may stand in one;
+    /// each node but the root has a parent that lists its name; each name that a node lists has a node; and the
+    /// ephemerals are the owned nodes' paths, each with its owner.
     pub fn is_whole(&self, alloc: Global) -> Result<bool, NoMemory>
         ensures { IfOk result (λ whole. IsTrue whole ↔ IsWhole self.now) }
     {

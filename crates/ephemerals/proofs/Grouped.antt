@@ -131,8 +131,8 @@ module _ {K V : Type 0} {R : K → K → Ordering} {S : V → V → Ordering} (o
       by true = refl
       by false = refl
 
-  -- The pairs after the key k gets a set that differs at w alone. What a set has of a value is `change` of whether it is
-  -- w, and of what it had.
+  -- The pairs after the key k gets a set that differs at w alone. What a set has of a value is `change` of whether it
+  -- is w, and of what it had.
   module _ (m n : Sets) (k : K) (w : V) (old new : set.FinSet S) (made : n ≡ finmap.insert m k new)
       (was : (v : V) → listed (finmap.get m k) v ≡ set.contains old v) where
     pairs-change : (change : Bool → Bool → Bool) → ((b : Bool) → change false b ≡ b)

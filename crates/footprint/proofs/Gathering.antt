@@ -33,7 +33,8 @@ pub no_more : (paths : List Bytes) → set.len (set.from_list {R = path_cmp} pat
 no_more [] = let none = set.len-empty path_cmp in omega arith
 no_more (p ∷ ps) =
     let before = no_more ps in
-    by (set.contains (set.from_list {R = path_cmp} ps) p) (set.len-insert path_total (set.from_list {R = path_cmp} ps) p)
+    by (set.contains (set.from_list {R = path_cmp} ps) p)
+    (set.len-insert path_total (set.from_list {R = path_cmp} ps) p)
     before
   where
     by : {n m k : ℕ} (b : Bool) → n ≡ cond b m (m + 1) → m ≤ k → n ≤ suc k

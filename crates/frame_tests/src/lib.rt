@@ -60,8 +60,8 @@ fn is_fifth(connecting: Connecting<'_>, has_byte: bool) -> bool {
     request.time_out == 10_000 && request.session_id == 5 && has_secret(&request)
 }
 
-/// Whether a first frame asks for session 5 with the password "secret" and a timeout of 10 seconds, has seen zxid 9, and
-/// has a byte behind that or not.
+/// Whether a first frame asks for session 5 with the password "secret" and a timeout of 10 seconds, has seen zxid 9,
+/// and has a byte behind that or not.
 pub fn is_connect(alloc: Global, frame: &[u8], has_byte: bool) -> bool {
     match read_connecting(alloc, frame) {
         Ok(connecting) => is_fifth(connecting, has_byte),

@@ -267,7 +267,15 @@ module _ {A : Type 0} (f : Format A) (s : Sound f) where
         buffer_sound.named).names bytes e fits h) [
           | inl first ↦ inl first
           | inr b ↦
-              inr (b.0, b.1, b.2, b.3, b.4, held_refused b.0 b.1 e (IsBytes-front b.1 b.2 (subst IsBytes b.3 fits)) b.4 b.5)
+              inr (
+                b.0,
+                b.1,
+                b.2,
+                b.3,
+                b.4,
+                held_refused b.0 b.1 e
+                    (IsBytes-front b.1 b.2 (subst IsBytes b.3 fits)) b.4 b.5,
+              )
         ];
     answers = λ bytes e h. elim h [
       | inl first ↦ (judged_named (held_value f.read) never_back buffer buffer_sound.lawful buffer_sound.named).answers

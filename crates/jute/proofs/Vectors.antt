@@ -194,7 +194,8 @@ module _ {A : Type 0} (f : Format A) (sound : Sound f) where
         | inl first ↦ ([], [], bytes, refl, refl, omega arith, sound.named.names bytes e fits first)
         | inr later ↦
             let t = sound.lawful.takes bytes later.0.0 later.0.1 fits later.1 in
-            elim (bind_err (times f.read n later.0.1) (λ (vs : List A × List ℕ). Ok (later.0.0 ∷ vs.0, vs.1)) e later.2) [
+            elim (bind_err (times f.read n later.0.1)
+            (λ (vs : List A × List ℕ). Ok (later.0.0 ∷ vs.0, vs.1)) e later.2) [
               | inl second ↦
                   let i = item_refused n later.0.1 e t.rest_fits second in
                   let fewer : length i.0 < n = i.5 in (

@@ -29,5 +29,6 @@ frame limit = record {
   Fits = λ v. length v ≤ limit;
   Writable = λ v. length v < 2 ^ 31;
   read = frame_at limit;
-  against = λ e bytes. (frame_count limit).against e bytes ⊎ ((e ≡ Short) × Behind (frame_count limit) (λ n rest. length rest < n) bytes);
+  against = λ e bytes. (frame_count limit).against e bytes
+      ⊎ ((e ≡ Short) × Behind (frame_count limit) (λ n rest. length rest < n) bytes);
 }

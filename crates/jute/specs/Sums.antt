@@ -30,7 +30,8 @@ refusal d = record {
 
 -- ---- sums
 
-unfoldable pub tagged_at : {K B : Type 0} → (List ℕ → Result (K × List ℕ) Fault) → (K → List ℕ → Result (B × List ℕ) Fault) → List ℕ → Result (B × List ℕ) Fault
+unfoldable pub tagged_at : {K B : Type 0} → (List ℕ → Result (K × List ℕ) Fault)
+    → (K → List ℕ → Result (B × List ℕ) Fault) → List ℕ → Result (B × List ℕ) Fault
 tagged_at r s bytes = r bytes >>= λ k. s k.0 k.1
 
 -- a tag, and a value in the format of that tag

@@ -1,9 +1,11 @@
-//! The fields and records of Jute (zookeeper.jute of ZooKeeper 3.4): read from borrowed bytes, written behind a byte text.
+//! The fields and records of Jute (zookeeper.jute of ZooKeeper 3.4): read from borrowed bytes, written behind a byte
+//! text.
 //!
 //! A `Reader` is a place in bytes; a read moves it behind what was read, and a refused one leaves it. A record reads by
-//! `ReadRecord` and writes by `WriteRecord`, which tells its length before it is written. What a record's bytes are stands
-//! in one value, its format (`specs/Format.antt`, `specs/Records.antt`), made by combinators of those of its fields; the law
-//! `law::formats` says once for each that reading and writing are that spelling, and which field a refusal names.
+//! `ReadRecord` and writes by `WriteRecord`, which tells its length before it is written. What a record's bytes are
+//! stands in one value, its format (`specs/Format.antt`, `specs/Records.antt`), made by combinators of those of its
+//! fields; the law `law::formats` says once for each that reading and writing are that spelling, and which field a
+//! refusal names.
 //!
 //! ```text
 //! let mut reader = Reader::new(bytes);

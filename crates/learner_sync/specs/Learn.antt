@@ -1,6 +1,6 @@
 -- What is learnt of an item of the leader's stream: what is to be done, and what the learner knows then; or the fault
--- for which the item is refused. In one packet a wrong kind comes first, then a zxid that is out of place, then what the
--- packet carries, then a commit of another proposal, and last a transaction that is out of order.
+-- for which the item is refused. In one packet a wrong kind comes first, then a zxid that is out of place, then what
+-- the packet carries, then a commit of another proposal, and last a transaction that is out of order.
 use Rattle.std.specs.Prelude.{◌≡◌, ℕ, ℤ, pos, negsuc, false, List, [], ◌∷◌, ◌++◌, filter, int_lt, int_le, Option, Some, None, Result, Ok, Err, if◌then◌else◌}
 use Rattle.std.specs.Int.{int_max}
 use Rattle.std.specs.Ordering.{int_eq}

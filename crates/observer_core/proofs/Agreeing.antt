@@ -133,7 +133,8 @@ module _ (kept : AgreementIsKept) (told : OnlyWatchersAreTold) (dropped : Droppe
 
   renewed_agrees : (n : ℕ) (w : World) (xid : ℤ) (r : Option Renewal) → IsOpen n w → Agreeing w
       → Agreeing (renewed n w xid r).after
-  renewed_agrees n w xid None here a = send_agrees n w (reply xid w.replica.learner.last_zxid (without_body BAD_ARGUMENTS)) a
+  renewed_agrees n w xid None here a =
+      send_agrees n w (reply xid w.replica.learner.last_zxid (without_body BAD_ARGUMENTS)) a
   renewed_agrees n w xid (Some r) here a =
       let watches = watched_each n w.clients.watches r.watches in
       send_agrees n (watching w watches) (reply xid w.replica.learner.last_zxid (without_body OK))
@@ -223,7 +224,8 @@ module _ (kept : AgreementIsKept) (told : OnlyWatchersAreTold) (dropped : Droppe
       (ended_agrees w (session_of w.clients.sessions n) a)
   call_agrees n w xid bodies.Unreadable here a =
       send_agrees n w (reply xid w.replica.learner.last_zxid (without_body BAD_ARGUMENTS)) a
-  call_agrees n w xid bodies.Ping here a = send_agrees n w (reply PING_XID w.replica.learner.last_zxid (without_body OK)) a
+  call_agrees n w xid bodies.Ping here a =
+      send_agrees n w (reply PING_XID w.replica.learner.last_zxid (without_body OK)) a
   call_agrees n w xid bodies.Write here a =
       send_agrees n w (reply xid w.replica.learner.last_zxid (without_body NOT_READ_ONLY)) a
   call_agrees n w xid bodies.Unknown here a =
@@ -279,7 +281,8 @@ module _ (kept : AgreementIsKept) (told : OnlyWatchersAreTold) (dropped : Droppe
       watches_agree w (fire w.clients.watches t.triggers).left
       (told (λ m. is_open m w.clients) w.clients.watches t.triggers a.watching).1 a
 
-  deliver_agrees : (d : Delivery Led) (i : Item) → Agreeing d.left.world → Agreeing (deliver receive d i).after.left.world
+  deliver_agrees : (d : Delivery Led) (i : Item) → Agreeing d.left.world
+      → Agreeing (deliver receive d i).after.left.world
   deliver_agrees d i a = by (take d.left.loading d.left.world.replica i)
     where
       by : (r : Result Taken Fault)
@@ -302,7 +305,8 @@ module _ (kept : AgreementIsKept) (told : OnlyWatchersAreTold) (dropped : Droppe
       let found = shows (add l.place bytes) in
       let d = (deliver_all receive v found.found).after in
       leave_agrees d.left.world (kept_leader d.left.loading (end_at found.left d.fault))
-      (happening_keeps (λ (d : Delivery Led). Agreeing d.left.world) is_refused (deliver receive) (λ d p _. deliver_agrees d p)
+      (happening_keeps (λ (d : Delivery Led). Agreeing d.left.world) is_refused (deliver receive)
+      (λ d p _. deliver_agrees d p)
       (record { left = v; fault = None }) found.found a)
 
   meet_agrees : (leader : Option Leader) (w : World) → Agreeing w → Agreeing (meet_leader by_parts leader w).after.world

@@ -71,11 +71,18 @@ untouched_on k c d e first second = record {
   child = λ path. second.child path ∙ first.child path;
 }
 
-connection_alone : (n : ℕ) (w : World) (connection : Connection) (k : ℕ) → k ≢ n → IsUntouched k w.clients (with_connection n connection w.clients)
+connection_alone : (n : ℕ) (w : World) (connection : Connection) (k : ℕ) → k ≢ n
+    → IsUntouched k w.clients (with_connection n connection w.clients)
 connection_alone n w connection k other =
-    record { rest = get-beside w.clients.connections n k connection other; session = refl; own = λ path. refl; child = λ path. refl }
+    record {
+      rest = get-beside w.clients.connections n k connection other;
+      session = refl;
+      own = λ path. refl;
+      child = λ path. refl;
+    }
 
-without_alone : (stay : OthersStay) (keep_watches : OthersKeepWatches) (n : ℕ) (c : Clients) (k : ℕ) → k ≢ n → IsUntouched k c (without n c)
+without_alone : (stay : OthersStay) (keep_watches : OthersKeepWatches) (n : ℕ) (c : Clients) (k : ℕ) → k ≢ n
+    → IsUntouched k c (without n c)
 without_alone stay keep_watches n c k other = record {
   rest = get-kept c.connections n k other;
   session = stay.closes c.sessions n k other;
@@ -85,7 +92,8 @@ without_alone stay keep_watches n c k other = record {
 
 module _ (left : ℕ → Type 0) where
   -- one step, and another on what it left
-  then_apart : (n : ℕ) (w : World) (h : Happened World) (next : World → Happened World) → IsApart n left w h → IsApart n left h.after (next h.after) → IsApart n left w (and_then h next)
+  then_apart : (n : ℕ) (w : World) (h : Happened World) (next : World → Happened World) → IsApart n left w h
+      → IsApart n left h.after (next h.after) → IsApart n left w (and_then h next)
   then_apart n w h next a b = record {
     outputs = all_joined (IsOf n left) h.outputs (next h.after).outputs a.outputs b.outputs;
     replica = b.replica ∙ a.replica;
@@ -95,7 +103,8 @@ module _ (left : ℕ → Type 0) where
   }
 
   -- the clients change, and nothing goes out
-  changes : (n : ℕ) (w : World) (c : Clients) → ((k : ℕ) → k ≢ n → IsUntouched k w.clients c) → IsApart n left w (quiet (record w { clients = c }))
+  changes : (n : ℕ) (w : World) (c : Clients) → ((k : ℕ) → k ≢ n → IsUntouched k w.clients c)
+      → IsApart n left w (quiet (record w { clients = c }))
   changes n w c alone = record { outputs = tt; replica = refl; others = λ k other stays. alone k other }
 
   stays_so : (n : ℕ) (w : World) → IsApart n left w (quiet w)
@@ -107,7 +116,8 @@ module _ (left : ℕ → Type 0) where
     close_apart n m w may = record {
       outputs = (may, tt);
       replica = refl;
-      others = λ k other stays. without_alone stay keep_watches m w.clients k (λ is. stays.0 (ap (λ (x : ℕ). CloseClient x) (sym is)));
+      others = λ k other stays. without_alone stay keep_watches m w.clients k
+          (λ is. stays.0 (ap (λ (x : ℕ). CloseClient x) (sym is)));
     }
 
     close_own : (n : ℕ) (w : World) → IsApart n left w (close_client n w)
@@ -119,13 +129,15 @@ module _ (left : ℕ → Type 0) where
         record { outputs = (refl, tt); replica = refl; others = λ k other stays. untouched k w.clients }
 
     send_last_apart : (n : ℕ) (w : World) (frame : Option (List ℕ)) → IsApart n left w (send_last n w frame)
-    send_last_apart n w frame = then_apart n w (send n w frame) (close_client n) (send_apart n w frame) (close_own n (send n w frame).after)
+    send_last_apart n w frame = then_apart n w (send n w frame) (close_client n) (send_apart n w frame)
+        (close_own n (send n w frame).after)
 
     -- ---- watches
 
     abbrev SameWatches : ℕ → Watching → Watching → Type 0
     SameWatches k before after = (path : List ℕ)
-        → (set.contains after.own (path, k) ≡ set.contains before.own (path, k)) × (set.contains after.child (path, k) ≡ set.contains before.child (path, k))
+        → (set.contains after.own (path, k) ≡ set.contains before.own (path, k))
+        × (set.contains after.child (path, k) ≡ set.contains before.child (path, k))
 
     watched_same : (n k : ℕ) → k ≢ n → (w : Watching) (watch : Watch) → SameWatches k w (watched n w watch)
     watched_same n k other w (tables.Data p) path = (keep_watches.sets w.own p n path k other, refl)
@@ -142,7 +154,8 @@ module _ (left : ℕ → Type 0) where
     if_same n k other w None path = (refl, refl)
     if_same n k other w (Some watch) path = watched_same n k other w watch path
 
-    watching_apart : (n : ℕ) (w : World) (watches : Watching) → ((k : ℕ) → k ≢ n → SameWatches k w.clients.watches watches) → IsApart n left w (quiet (watching w watches))
+    watching_apart : (n : ℕ) (w : World) (watches : Watching)
+        → ((k : ℕ) → k ≢ n → SameWatches k w.clients.watches watches) → IsApart n left w (quiet (watching w watches))
     watching_apart n w watches same = changes n w (watching w watches).clients (λ k other. record {
       rest = refl;
       session = refl;
@@ -152,7 +165,8 @@ module _ (left : ℕ → Type 0) where
 
     notices_of : (n : ℕ) (events : List NodeEvent) → AllByRecursion (IsOf n left) (notices_to n events)
     notices_of n [] = tt
-    notices_of n (event ∷ events) = all_joined (IsOf n left) (notice n event) (notices_to n events) (by (reply NOTIFICATION_XID (negsuc 0) (of_event event))) (notices_of n events)
+    notices_of n (event ∷ events) = all_joined (IsOf n left) (notice n event) (notices_to n events)
+        (by (reply NOTIFICATION_XID (negsuc 0) (of_event event))) (notices_of n events)
       where
         by : (frame : Option (List ℕ)) → AllByRecursion (IsOf n left) (sent_to n frame)
         by None = tt
@@ -164,13 +178,18 @@ module _ (left : ℕ → Type 0) where
         let watches = watched_each n w.clients.watches r.watches in
         let set_again = watching_apart n w watches (λ k other. each_same n k other w.clients.watches r.watches) in
         let told : Happened World = record { outputs = notices_to n r.events; after = watching w watches } in
-        let told_apart : IsApart n left w told = record { outputs = notices_of n r.events; replica = refl; others = λ k other stays. set_again.others k other tt } in
+        let told_apart : IsApart n left w told = record {
+          outputs = notices_of n r.events;
+          replica = refl;
+          others = λ k other stays. set_again.others k other tt;
+        } in
         then_apart n w told (λ v. send n v (reply xid w.replica.learner.last_zxid (without_body OK))) told_apart
         (send_apart n (watching w watches) (reply xid w.replica.learner.last_zxid (without_body OK)))
 
     -- ---- sessions
 
-    sessions_apart : (n : ℕ) (w : World) (s : Sessions) → ((k : ℕ) → k ≢ n → finmap.get s.connections k ≡ finmap.get w.clients.sessions.connections k)
+    sessions_apart : (n : ℕ) (w : World) (s : Sessions)
+        → ((k : ℕ) → k ≢ n → finmap.get s.connections k ≡ finmap.get w.clients.sessions.connections k)
         → IsApart n left w (quiet (with_sessions w s))
     sessions_apart n w s same = changes n w (with_sessions w s).clients (λ k other. record {
       rest = refl;
@@ -179,8 +198,11 @@ module _ (left : ℕ → Type 0) where
       child = λ path. refl;
     })
 
-    show_apart : (n : ℕ) (w : World) (xid : ℤ) (packet : AuthPacket) → IsApart n left w (shown n w xid (auth w.clients.sessions n packet.scheme packet.auth))
-    show_apart n w xid packet = then_apart n w (quiet v) (λ u. answered u shows.is_accepted) (sessions_apart n w shows.after (λ k other. stay.auths w.clients.sessions n packet.scheme packet.auth k other)) (by shows.is_accepted)
+    show_apart : (n : ℕ) (w : World) (xid : ℤ) (packet : AuthPacket)
+        → IsApart n left w (shown n w xid (auth w.clients.sessions n packet.scheme packet.auth))
+    show_apart n w xid packet = then_apart n w (quiet v) (λ u. answered u shows.is_accepted)
+        (sessions_apart n w shows.after (λ k other. stay.auths w.clients.sessions n packet.scheme packet.auth k other))
+        (by shows.is_accepted)
       where
         shows : Shows
         shows = auth w.clients.sessions n packet.scheme packet.auth
@@ -189,7 +211,8 @@ module _ (left : ℕ → Type 0) where
         v = with_sessions w shows.after
 
         answered : World → Bool → Happened World
-        answered u b = cond b (send n u (reply xid (pos 0) (without_body OK))) (send_last n u (reply xid (pos 0) (without_body AUTH_FAILED)))
+        answered u b = cond b (send n u (reply xid (pos 0) (without_body OK)))
+            (send_last n u (reply xid (pos 0) (without_body AUTH_FAILED)))
 
         by : (b : Bool) → IsApart n left v (answered v b)
         by true = send_apart n v (reply xid (pos 0) (without_body OK))
@@ -207,10 +230,12 @@ module _ (left : ℕ → Type 0) where
         by : (o : Option Joined) → finmap.get s.connections n ≡ o → IsApart n left w (quiet (ended w (session_in o)))
         by None there = stays_so n w
         by (Some c) there = sessions_apart n w (expire s c.session).after (λ k other.
-            let closed : (expire s c.session).closed ≡ Some n = ap (λ (g : Option (Option ℕ)). (expire_as s c.session g).closed) (agree.guests n c there) in
+            let closed : (expire s c.session).closed ≡ Some n =
+            ap (λ (g : Option (Option ℕ)). (expire_as s c.session g).closed) (agree.guests n c there) in
             stay.expires s c.session k (λ is. other (sym (some_is n k (sym closed ∙ is)))))
 
-    greet_apart : (n : ℕ) (has_byte : Bool) (response : SessionResponse) (w : World) → IsApart n left w (greet n has_byte response w)
+    greet_apart : (n : ℕ) (has_byte : Bool) (response : SessionResponse) (w : World)
+        → IsApart n left w (greet n has_byte response w)
     greet_apart n has_byte response w = by (int_eq response.session_id (pos 0))
       where
         frame : Option (List ℕ)
@@ -221,7 +246,8 @@ module _ (left : ℕ → Type 0) where
         by false = send_apart n w frame
 
     left_apart : (n : ℕ) (w : World) (request : SessionRequest) → let c = connect w.clients.sessions n request in
-        ((j : ℕ) → c.connected.older ≡ Some j → left j) → IsApart n left w (close_left (with_sessions w c.after) c.connected.older)
+        ((j : ℕ) → c.connected.older ≡ Some j → left j)
+        → IsApart n left w (close_left (with_sessions w c.after) c.connected.older)
     left_apart n w request may = by c.connected.older refl
       where
         c : Connects
@@ -231,7 +257,12 @@ module _ (left : ℕ → Type 0) where
         v = with_sessions w c.after
 
         alone : (k : ℕ) → k ≢ n → c.connected.older ≢ Some k → IsUntouched k w.clients v.clients
-        alone k other older = record { rest = refl; session = stay.connects w.clients.sessions n request k other older; own = λ path. refl; child = λ path. refl }
+        alone k other older = record {
+          rest = refl;
+          session = stay.connects w.clients.sessions n request k other older;
+          own = λ path. refl;
+          child = λ path. refl;
+        }
 
         by : (o : Option ℕ) → c.connected.older ≡ o → IsApart n left w (close_left v o)
         by None is = changes n w v.clients (λ k other. alone k other (λ e. none_or_some k (sym is ∙ e)))
@@ -241,44 +272,56 @@ module _ (left : ℕ → Type 0) where
               outputs = closed.outputs;
               replica = refl;
               others = λ k other stays. untouched_on k w.clients v.clients (close_client j v).after.clients
-                  (alone k other (λ e. stays.0 (ap (λ (x : ℕ). CloseClient x) (some_is j k (sym is ∙ e))))) (closed.others k other stays);
+                  (alone k other (λ e. stays.0 (ap (λ (x : ℕ). CloseClient x) (some_is j k (sym is ∙ e)))))
+                  (closed.others k other stays);
             }
 
-    connected_apart : (n : ℕ) (w : World) (has_byte : Bool) (request : SessionRequest) → let c = connect w.clients.sessions n request in
+    connected_apart : (n : ℕ) (w : World) (has_byte : Bool) (request : SessionRequest)
+        → let c = connect w.clients.sessions n request in
         ((j : ℕ) → c.connected.older ≡ Some j → left j) → IsApart n left w (connected n w has_byte c)
     connected_apart n w has_byte request may =
         let c = connect w.clients.sessions n request in
         let older = close_left (with_sessions w c.after) c.connected.older in
-        then_apart n w older (greet n has_byte c.connected.response) (left_apart n w request may) (greet_apart n has_byte c.connected.response older.after)
+        then_apart n w older (greet n has_byte c.connected.response) (left_apart n w request may)
+        (greet_apart n has_byte c.connected.response older.after)
 
     -- ---- frames
 
-    call_apart : (n : ℕ) (w : World) (xid : ℤ) (b : CallBody) → Agrees w.clients.sessions → IsApart n left w (call n w xid b)
+    call_apart : (n : ℕ) (w : World) (xid : ℤ) (b : CallBody) → Agrees w.clients.sessions
+        → IsApart n left w (call n w xid b)
     call_apart n w xid (bodies.Read r) agree =
         let seen = look w.replica.tree (ids_of w.clients.sessions n) r in
         let watch = watch_of r seen.error in
         let watches = watched_if n w.clients.watches watch in
         then_apart n w (quiet (watching w watches)) (λ v. send n v (reply xid w.replica.learner.last_zxid seen))
-        (watching_apart n w watches (λ k other. if_same n k other w.clients.watches watch)) (send_apart n (watching w watches) (reply xid w.replica.learner.last_zxid seen))
+        (watching_apart n w watches (λ k other. if_same n k other w.clients.watches watch))
+        (send_apart n (watching w watches) (reply xid w.replica.learner.last_zxid seen))
     call_apart n w xid (bodies.SetWatches r) agree = renewed_apart n w xid (renew w.replica.tree r)
     call_apart n w xid (bodies.Auth packet) agree = show_apart n w xid packet
     call_apart n w xid bodies.CloseSession agree =
         let v = end_session n w in
-        then_apart n w (quiet v) (λ u. answer_last n u xid (without_body OK)) (ended_apart n w agree) (send_last_apart n v (reply xid v.replica.learner.last_zxid (without_body OK)))
-    call_apart n w xid bodies.Unreadable agree = send_apart n w (reply xid w.replica.learner.last_zxid (without_body BAD_ARGUMENTS))
+        then_apart n w (quiet v) (λ u. answer_last n u xid (without_body OK)) (ended_apart n w agree)
+        (send_last_apart n v (reply xid v.replica.learner.last_zxid (without_body OK)))
+    call_apart n w xid bodies.Unreadable agree =
+        send_apart n w (reply xid w.replica.learner.last_zxid (without_body BAD_ARGUMENTS))
     call_apart n w xid bodies.Ping agree = send_apart n w (reply PING_XID w.replica.learner.last_zxid (without_body OK))
-    call_apart n w xid bodies.Write agree = send_apart n w (reply xid w.replica.learner.last_zxid (without_body NOT_READ_ONLY))
-    call_apart n w xid bodies.Unknown agree = send_last_apart n w (reply xid w.replica.learner.last_zxid (without_body UNIMPLEMENTED))
+    call_apart n w xid bodies.Write agree =
+        send_apart n w (reply xid w.replica.learner.last_zxid (without_body NOT_READ_ONLY))
+    call_apart n w xid bodies.Unknown agree =
+        send_last_apart n w (reply xid w.replica.learner.last_zxid (without_body UNIMPLEMENTED))
 
-    call_in_apart : (n : ℕ) (w : World) (c : Result Call Fault) → Agrees w.clients.sessions → IsApart n left w (serve_as n w c)
+    call_in_apart : (n : ℕ) (w : World) (c : Result Call Fault) → Agrees w.clients.sessions
+        → IsApart n left w (serve_as n w c)
     call_in_apart n w (Ok c) agree = call_apart n w c.xid c.body agree
     call_in_apart n w (Err e) agree = close_own n w
 
     -- ---- what is left of a client's bytes
 
-    wait_apart : (n : ℕ) (w : World) (o : Option Connection) (unread : Unread) → IsApart n left w (wait_if_open n w o unread)
+    wait_apart : (n : ℕ) (w : World) (o : Option Connection) (unread : Unread)
+        → IsApart n left w (wait_if_open n w o unread)
     wait_apart n w None unread = stays_so n w
-    wait_apart n w (Some c) (Ok rest) = changes n w (keep n w c rest).clients (connection_alone n w (record { rest = rest }))
+    wait_apart n w (Some c) (Ok rest) = changes n w (keep n w c rest).clients
+        (connection_alone n w (record { rest = rest }))
     wait_apart n w (Some c) (Err e) = close_own n w
 
   -- ---- coming and going
@@ -290,7 +333,8 @@ module _ (left : ℕ → Type 0) where
       by true = stays_so n w
       by false = changes n w (with_connection n at_rest w.clients) (connection_alone n w at_rest)
 
-  pub end_apart : (stay : OthersStay) (keep_watches : OthersKeepWatches) (n : ℕ) (w : World) → IsApart n left w (quiet (end_client n w))
+  pub end_apart : (stay : OthersStay) (keep_watches : OthersKeepWatches) (n : ℕ) (w : World)
+      → IsApart n left w (quiet (end_client n w))
   end_apart stay keep_watches n w = by (is_open n w.clients)
     where
       by : (b : Bool) → IsApart n left w (quiet (cond b (record w { clients = without n w.clients }) w))
@@ -304,7 +348,8 @@ abbrev Nobody : ℕ → Type 0
 Nobody k = ⊥
 
 -- with more that may be closed
-wider : (n : ℕ) (p q : ℕ → Type 0) (w : World) (h : Happened World) → ((k : ℕ) → p k → q k) → IsApart n p w h → IsApart n q w h
+wider : (n : ℕ) (p q : ℕ → Type 0) (w : World) (h : Happened World) → ((k : ℕ) → p k → q k) → IsApart n p w h
+    → IsApart n q w h
 wider n p q w h more a = record { outputs = each h.outputs a.outputs; replica = a.replica; others = a.others }
   where
     of_closed : (k : ℕ) → (k ≡ n) ⊎ p k → (k ≡ n) ⊎ q k
@@ -323,7 +368,8 @@ wider n p q w h more a = record { outputs = each h.outputs a.outputs; replica = 
 
 module _ (stay : OthersStay) (keep_watches : OthersKeepWatches) (told : AnswersTell) (Agree : World → Type 0)
     (of_sessions : (w : World) → Agree w → Agrees w.clients.sessions)
-    (served : (serving : Bool) (n : ℕ) (w : World) (frame : List ℕ) → is_closed n w ≡ false → Agree w → Agree (serve serving n w frame).after) where
+    (served : (serving : Bool) (n : ℕ) (w : World) (frame : List ℕ) → is_closed n w ≡ false → Agree w
+    → Agree (serve serving n w frame).after) where
   -- a client that has a session keeps it, and closes nobody else
   record IsOwn (n : ℕ) (session : ℤ) (w : World) (h : Happened World) : Type 0 where
     apart : IsApart n Nobody w h
@@ -340,10 +386,12 @@ module _ (stay : OthersStay) (keep_watches : OthersKeepWatches) (told : AnswersT
         has = call_in_has n session w (call_in frame) has;
       }
 
-  all_own : (serving : Bool) (n : ℕ) (session : ℤ) (w : World) (fs : List (List ℕ)) → Agree w → HasIfOpen n session w.clients
+  all_own : (serving : Bool) (n : ℕ) (session : ℤ) (w : World) (fs : List (List ℕ)) → Agree w
+      → HasIfOpen n session w.clients
       → IsOwn n session w (happening (is_closed n) (serve serving n) w fs)
   all_own serving n session w [] agree has = record { apart = stays_so Nobody n w; has = has }
-  all_own serving n session w (f ∷ fs) agree has = by (is_open n w.clients) refl (all_own serving n session (serve serving n w f).after fs)
+  all_own serving n session w (f ∷ fs) agree has = by (is_open n w.clients) refl
+      (all_own serving n session (serve serving n w f).after fs)
     where
       h : Happened World
       h = serve serving n w f
@@ -351,7 +399,8 @@ module _ (stay : OthersStay) (keep_watches : OthersKeepWatches) (told : AnswersT
       others : World → Happened World
       others v = happening (is_closed n) (serve serving n) v fs
 
-      by : (b : Bool) → is_open n w.clients ≡ b → (Agree h.after → HasIfOpen n session h.after.clients → IsOwn n session h.after (others h.after))
+      by : (b : Bool) → is_open n w.clients ≡ b
+          → (Agree h.after → HasIfOpen n session h.after.clients → IsOwn n session h.after (others h.after))
           → IsOwn n session w (cond (not b) (quiet w) (and_then h others))
       by false closed rest = record { apart = stays_so Nobody n w; has = has }
       by true here rest =
@@ -369,7 +418,11 @@ module _ (stay : OthersStay) (keep_watches : OthersKeepWatches) (told : AnswersT
     has : HasIfOpen n session h.after.clients
 
   close_asks : (n : ℕ) (w : World) → Asks n w (close_client n w)
-  close_asks n w = record { session = pos 0; apart = close_own (Had w (pos 0)) stay keep_watches n w; has = closed_has n (pos 0) w.clients }
+  close_asks n w = record {
+    session = pos 0;
+    apart = close_own (Had w (pos 0)) stay keep_watches n w;
+    has = closed_has n (pos 0) w.clients;
+  }
 
   join_asks : (serving : Bool) (n : ℕ) (w : World) (c : Result Connecting Fault) → Agrees w.clients.sessions
       → finmap.get w.clients.sessions.connections n ≡ None → Asks n w (join serving n w c)
@@ -379,7 +432,8 @@ module _ (stay : OthersStay) (keep_watches : OthersKeepWatches) (told : AnswersT
       request : SessionRequest
       request = session_request c.request
 
-      by : (b : Bool) → Asks n w (cond b (connected n w c.has_byte (connect w.clients.sessions n request)) (close_client n w))
+      by : (b : Bool) → Asks n w
+          (cond b (connected n w c.has_byte (connect w.clients.sessions n request)) (close_client n w))
       by true =
           let joins = connected_joins stay told n w c.has_byte request agree none in
           record {
@@ -398,13 +452,15 @@ module _ (stay : OthersStay) (keep_watches : OthersKeepWatches) (told : AnswersT
   serve_asks serving n w frame agree none = by (session_of w.clients.sessions n) none
     where
       by : (o : Option ℤ) → o ≡ None → Asks n w (serve_by serving n w frame o)
-      by None e = join_asks serving n w (connecting_in frame) agree (none_there (finmap.get w.clients.sessions.connections n) none)
+      by None e = join_asks serving n w (connecting_in frame) agree
+          (none_there (finmap.get w.clients.sessions.connections n) none)
       by (Some session) e = absurd (none_or_some session (sym e))
 
   abbrev TakesUp : ℕ → World → Happened World → Type 0
   TakesUp n w h = IsApart n (IsTakenUp n w.clients h.after.clients) w h
 
-  frames_apart : (serving : Bool) (n : ℕ) (w : World) (fs : List (List ℕ)) → Agree w → TakesUp n w (happening (is_closed n) (serve serving n) w fs)
+  frames_apart : (serving : Bool) (n : ℕ) (w : World) (fs : List (List ℕ)) → Agree w
+      → TakesUp n w (happening (is_closed n) (serve serving n) w fs)
   frames_apart serving n w [] agree = stays_so (IsTakenUp n w.clients w.clients) n w
   frames_apart serving n w (f ∷ fs) agree = by_session (session_of w.clients.sessions n) refl
     where
@@ -426,7 +482,8 @@ module _ (stay : OthersStay) (keep_watches : OthersKeepWatches) (told : AnswersT
           let after = (others h.after).after.clients in
           let taken = IsTakenUp n w.clients after in
           then_apart taken n w h others
-          (wider n (Had w asks.session) taken w h (λ k had. record { session = asks.session; had = had; none = none; has = rest.has }) asks.apart)
+          (wider n (Had w asks.session) taken w h
+          (λ k had. record { session = asks.session; had = had; none = none; has = rest.has }) asks.apart)
           (wider n Nobody taken h.after (others h.after) (λ k may. absurd may) rest.apart)
 
       by_session : (o : Option ℤ) → session_of w.clients.sessions n ≡ o → TakesUp n w all
@@ -435,7 +492,8 @@ module _ (stay : OthersStay) (keep_watches : OthersKeepWatches) (told : AnswersT
           wider n Nobody (IsTakenUp n w.clients all.after.clients) w all (λ k may. absurd may)
           (all_own serving n session w (f ∷ fs) agree (λ _. has)).apart
 
-  pub bytes_apart : (serving : Bool) (n : ℕ) (w : World) (o : Option Connection) (bytes : List ℕ) → ((c : Connection) → o ≡ Some c → Agree (keep n w c []))
+  pub bytes_apart : (serving : Bool) (n : ℕ) (w : World) (o : Option Connection) (bytes : List ℕ)
+      → ((c : Connection) → o ≡ Some c → Agree (keep n w c []))
       → TakesUp n w (take_client_bytes serving n w o bytes)
   bytes_apart serving n w None bytes agree = stays_so (IsTakenUp n w.clients w.clients) n w
   bytes_apart serving n w (Some c) bytes agree =
@@ -445,10 +503,13 @@ module _ (stay : OthersStay) (keep_watches : OthersKeepWatches) (told : AnswersT
       let there = finmap.get h.after.clients.connections n in
       let after = (wait_if_open n h.after there found.left.unread).after.clients in
       let taken = IsTakenUp n w.clients after in
-      let keeps : (session : ℤ) → HasIfOpen n session h.after.clients → HasIfOpen n session after = λ session has. wait_has n session h.after there found.left.unread refl has in
-      then_apart taken n w (quiet v) (λ u. and_then (happening (is_closed n) (serve serving n) u found.found) (wait_at n found.left.unread))
+      let keeps : (session : ℤ) → HasIfOpen n session h.after.clients → HasIfOpen n session after =
+      λ session has. wait_has n session h.after there found.left.unread refl has in
+      then_apart taken n w (quiet v)
+      (λ u. and_then (happening (is_closed n) (serve serving n) u found.found) (wait_at n found.left.unread))
       (changes taken n w v.clients (connection_alone n w at_rest))
       (then_apart taken n v h (wait_at n found.left.unread)
-      (wider n (IsTakenUp n v.clients h.after.clients) taken v h (λ k t. record { session = t.session; had = t.had; none = t.none; has = keeps t.session t.has })
+      (wider n (IsTakenUp n v.clients h.after.clients) taken v h
+      (λ k t. record { session = t.session; had = t.had; none = t.none; has = keeps t.session t.has })
       (frames_apart serving n v found.found (agree c refl)))
       (wait_apart taken stay keep_watches n h.after there found.left.unread))

@@ -25,7 +25,8 @@ use Rattle.observer_core.proofs.NatMaps.{still_there}
 
 -- each connection that is open then was open before, with the same bytes waiting
 abbrev pub OnlyCloses : World → World → Type 0
-OnlyCloses w v = (k : ℕ) (c : Connection) → finmap.get v.clients.connections k ≡ Some c → finmap.get w.clients.connections k ≡ Some c
+OnlyCloses w v = (k : ℕ) (c : Connection) → finmap.get v.clients.connections k ≡ Some c
+    → finmap.get w.clients.connections k ≡ Some c
 
 then_closes : (u v w : World) → OnlyCloses u v → OnlyCloses v w → OnlyCloses u w
 then_closes u v w first second k c there = first k c (second k c there)
@@ -38,17 +39,20 @@ send_closes n w None = close_closes n w
 send_closes n w (Some bytes) = λ k c there. there
 
 send_last_closes : (n : ℕ) (w : World) (frame : Option (List ℕ)) → OnlyCloses w (send_last n w frame).after
-send_last_closes n w frame = then_closes w (send n w frame).after (send_last n w frame).after (send_closes n w frame) (close_closes n (send n w frame).after)
+send_last_closes n w frame = then_closes w (send n w frame).after (send_last n w frame).after (send_closes n w frame)
+    (close_closes n (send n w frame).after)
 
 renewed_closes : (n : ℕ) (w : World) (xid : ℤ) (r : Option Renewal) → OnlyCloses w (renewed n w xid r).after
 renewed_closes n w xid None = send_closes n w (reply xid w.replica.learner.last_zxid (without_body BAD_ARGUMENTS))
 renewed_closes n w xid (Some r) =
-    send_closes n (watching w (watched_each n w.clients.watches r.watches)) (reply xid w.replica.learner.last_zxid (without_body OK))
+    send_closes n (watching w (watched_each n w.clients.watches r.watches))
+    (reply xid w.replica.learner.last_zxid (without_body OK))
 
 shown_closes : (n : ℕ) (w : World) (xid : ℤ) (shows : Shows) → OnlyCloses w (shown n w xid shows).after
 shown_closes n w xid shows = by shows.is_accepted
   where
-    by : (b : Bool) → OnlyCloses w (cond b (send n (with_sessions w shows.after) (reply xid (pos 0) (without_body OK))) (send_last n (with_sessions w shows.after) (reply xid (pos 0) (without_body AUTH_FAILED)))).after
+    by : (b : Bool) → OnlyCloses w (cond b (send n (with_sessions w shows.after) (reply xid (pos 0) (without_body OK)))
+        (send_last n (with_sessions w shows.after) (reply xid (pos 0) (without_body AUTH_FAILED)))).after
     by true = send_closes n (with_sessions w shows.after) (reply xid (pos 0) (without_body OK))
     by false = send_last_closes n (with_sessions w shows.after) (reply xid (pos 0) (without_body AUTH_FAILED))
 
@@ -60,7 +64,8 @@ left_closes : (w : World) (left : Option ℕ) → OnlyCloses w (close_left w lef
 left_closes w None = λ k c there. there
 left_closes w (Some n) = close_closes n w
 
-greet_closes : (n : ℕ) (has_byte : Bool) (response : SessionResponse) (w : World) → OnlyCloses w (greet n has_byte response w).after
+greet_closes : (n : ℕ) (has_byte : Bool) (response : SessionResponse) (w : World)
+    → OnlyCloses w (greet n has_byte response w).after
 greet_closes n has_byte response w = by (int_eq response.session_id (pos 0))
   where
     frame : Option (List ℕ)
@@ -73,9 +78,12 @@ greet_closes n has_byte response w = by (int_eq response.session_id (pos 0))
 connected_closes : (n : ℕ) (w : World) (has_byte : Bool) (c : Connects) → OnlyCloses w (connected n w has_byte c).after
 connected_closes n w has_byte c =
     let left = close_left (with_sessions w c.after) c.connected.older in
-    then_closes w left.after (greet n has_byte c.connected.response left.after).after (left_closes (with_sessions w c.after) c.connected.older) (greet_closes n has_byte c.connected.response left.after)
+    then_closes w left.after (greet n has_byte c.connected.response left.after).after
+    (left_closes (with_sessions w c.after) c.connected.older)
+    (greet_closes n has_byte c.connected.response left.after)
 
-join_closes : (serving : Bool) (n : ℕ) (w : World) (c : Result Connecting Fault) → OnlyCloses w (join serving n w c).after
+join_closes : (serving : Bool) (n : ℕ) (w : World) (c : Result Connecting Fault)
+    → OnlyCloses w (join serving n w c).after
 join_closes serving n w (Err e) = close_closes n w
 join_closes serving n w (Ok c) = by (may_connect serving w c.request)
   where
@@ -89,16 +97,20 @@ join_closes serving n w (Ok c) = by (may_connect serving w c.request)
 call_closes : (n : ℕ) (w : World) (xid : ℤ) (b : CallBody) → OnlyCloses w (call n w xid b).after
 call_closes n w xid (bodies.Read r) =
     let seen = look w.replica.tree (ids_of w.clients.sessions n) r in
-    send_closes n (watching w (watched_if n w.clients.watches (watch_of r seen.error))) (reply xid w.replica.learner.last_zxid seen)
+    send_closes n (watching w (watched_if n w.clients.watches (watch_of r seen.error)))
+    (reply xid w.replica.learner.last_zxid seen)
 call_closes n w xid (bodies.SetWatches r) = renewed_closes n w xid (renew w.replica.tree r)
 call_closes n w xid (bodies.Auth packet) = shown_closes n w xid (auth w.clients.sessions n packet.scheme packet.auth)
 call_closes n w xid bodies.CloseSession =
-    then_closes w (end_session n w) (answer_last n (end_session n w) xid (without_body OK)).after (ended_closes w (session_of w.clients.sessions n))
+    then_closes w (end_session n w) (answer_last n (end_session n w) xid (without_body OK)).after
+    (ended_closes w (session_of w.clients.sessions n))
     (send_last_closes n (end_session n w) (reply xid (end_session n w).replica.learner.last_zxid (without_body OK)))
-call_closes n w xid bodies.Unreadable = send_closes n w (reply xid w.replica.learner.last_zxid (without_body BAD_ARGUMENTS))
+call_closes n w xid bodies.Unreadable =
+    send_closes n w (reply xid w.replica.learner.last_zxid (without_body BAD_ARGUMENTS))
 call_closes n w xid bodies.Ping = send_closes n w (reply PING_XID w.replica.learner.last_zxid (without_body OK))
 call_closes n w xid bodies.Write = send_closes n w (reply xid w.replica.learner.last_zxid (without_body NOT_READ_ONLY))
-call_closes n w xid bodies.Unknown = send_last_closes n w (reply xid w.replica.learner.last_zxid (without_body UNIMPLEMENTED))
+call_closes n w xid bodies.Unknown =
+    send_last_closes n w (reply xid w.replica.learner.last_zxid (without_body UNIMPLEMENTED))
 
 pub serve_closes : (serving : Bool) (n : ℕ) (w : World) (frame : List ℕ) → OnlyCloses w (serve serving n w frame).after
 serve_closes serving n w frame = by (session_of w.clients.sessions n)

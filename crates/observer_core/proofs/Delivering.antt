@@ -35,7 +35,10 @@ use Rattle.observer_core.proofs.Steps.{SoFar, steps, ends, stops, stops_in_step,
 use Rattle.observer_core.proofs.NatMaps.{keys-empty}
 
 abbrev came_to : Items Phase Item → Happened (Delivery Led) → Happened (Arrival Phase Led)
-came_to i h = record { outputs = h.outputs; after = record { left = h.after.left; place = end_at i.left h.after.fault } }
+came_to i h = record {
+  outputs = h.outputs;
+  after = record { left = h.after.left; place = end_at i.left h.after.fault };
+}
 
 abbrev first_taken : Led → Items Phase Item → Result (Happened Led) Fault → Happened (Arrival Phase Led)
 first_taken w i r = came_to i (and_then (deliver_as r w) (λ d. happening is_refused (deliver receive) d i.found))
@@ -45,7 +48,8 @@ abbrev pub quietly : Led → Result (Place Phase) Fault → Happened (Arrival Ph
 quietly w place = quiet (record { left = w; place = place })
 
 module _ (w : Led) (found : Items Phase Item) where
-  pub taken_first : (p : Item) (others : Items Phase Item) (h : Happened Led) → found ≡ before p others → receive w p ≡ Ok h
+  pub taken_first : (p : Item) (others : Items Phase Item) (h : Happened Led) → found ≡ before p others
+      → receive w p ≡ Ok h
       → arrive receive w found ≡ behind h.outputs (arrive receive h.after others)
   taken_first p others h is taken = ap (arrive receive w) is ∙ ap (first_taken w others) taken
 
@@ -53,43 +57,53 @@ module _ (w : Led) (found : Items Phase Item) where
       → arrive receive w found ≡ quietly w (Err e)
   refused_first p others e is refused =
       ap (arrive receive w) is ∙ ap (first_taken w others) refused
-      ∙ ap (came_to others) (passed_over is_refused (deliver receive) (record { left = w; fault = Some e }) others.found refl)
+      ∙ ap (came_to others) (passed_over is_refused (deliver receive) (record { left = w; fault = Some e })
+      others.found refl)
 
   stands : (place : Place Phase) (u : Unread) → is_err u ≡ false → stand_at place u ≡ Ok place
   stands place (Ok bytes) e = refl
   stands place (Err fault) e = absurd (true≢false e)
 
-  pub none_found : (place : Place Phase) → found ≡ nothing place → is_err place.unread ≡ false → arrive receive w found ≡ quietly w (Ok place)
+  pub none_found : (place : Place Phase) → found ≡ nothing place → is_err place.unread ≡ false
+      → arrive receive w found ≡ quietly w (Ok place)
   none_found place is fine = ap (arrive receive w) is ∙ ap (quietly w) (stands place place.unread fine)
 
-  pub fault_found : (place : Place Phase) (e : Fault) → found ≡ nothing place → place.unread ≡ Err e → arrive receive w found ≡ quietly w (Err e)
+  pub fault_found : (place : Place Phase) (e : Fault) → found ≡ nothing place → place.unread ≡ Err e
+      → arrive receive w found ≡ quietly w (Err e)
   fault_found place e is fault = ap (arrive receive w) is ∙ ap (λ (u : Unread). quietly w (stand_at place u)) fault
 
 -- ---- one packet or part more
 
-module _ (old now new : List Output) (whole : Happened (Arrival Phase Led)) (w after : Led) (found others : Items Phase Item) (p : Item)
+module _ (old now new : List Output) (whole : Happened (Arrival Phase Led)) (w after : Led)
+    (found others : Items Phase Item) (p : Item)
     (is : found ≡ before p others) (s : SoFar old whole now (arrive receive w found)) where
   -- it was taken
   pub packet_taken : Receives (Ok tt) now (receive w p) w new after → SoFar old whole new (arrive receive after others)
   packet_taken received = by (receive w p) refl received
     where
-      by : (m : Result (Happened Led) Fault) → receive w p ≡ m → Receives (Ok tt) now m w new after → SoFar old whole new (arrive receive after others)
-      by (Ok h) taken made = steps old whole now new (arrive receive w found) h (λ (v : Led). arrive receive v others) after (taken_first w found p others h is taken) made s
+      by : (m : Result (Happened Led) Fault) → receive w p ≡ m → Receives (Ok tt) now m w new after
+          → SoFar old whole new (arrive receive after others)
+      by (Ok h) taken made = steps old whole now new (arrive receive w found) h (λ (v : Led). arrive receive v others)
+          after (taken_first w found p others h is taken) made s
       by (Err e) refused none = absurd none
 
   -- memory was refused in it
   pub packet_stops : Receives (Err errors.NoMemory) now (receive w p) w new after → Gains old whole.outputs new
   packet_stops received = by (receive w p) refl received
     where
-      by : (m : Result (Happened Led) Fault) → receive w p ≡ m → Receives (Err errors.NoMemory) now m w new after → Gains old whole.outputs new
-      by (Ok h) taken g = stops_in_step old whole now new (arrive receive w found) h (λ (v : Led). arrive receive v others) (taken_first w found p others h is taken) g s
-      by (Err e) refused same = stops old whole now new (arrive receive w found) (rw same (gains_nothing now (arrive receive w found).outputs)) s
+      by : (m : Result (Happened Led) Fault) → receive w p ≡ m → Receives (Err errors.NoMemory) now m w new after
+          → Gains old whole.outputs new
+      by (Ok h) taken g = stops_in_step old whole now new (arrive receive w found) h
+          (λ (v : Led). arrive receive v others) (taken_first w found p others h is taken) g s
+      by (Err e) refused same = stops old whole now new (arrive receive w found)
+          (rw same (gains_nothing now (arrive receive w found).outputs)) s
 
   -- it was refused
   pub packet_refused : (e : Fault) → Receives (Err (errors.Fault e)) now (receive w p) w new after
       → behind old whole ≡ record { outputs = new; after = record { left = after; place = Err e } }
   packet_refused e received =
-      ends old whole now (arrive receive w found) (record { left = w; place = Err e }) (refused_first w found p others e is received.0) s
+      ends old whole now (arrive receive w found) (record { left = w; place = Err e })
+      (refused_first w found p others e is received.0) s
       ∙ (λ i. record { outputs = sym received.1.0 i; after = record { left = sym received.1.1 i; place = Err e } })
 
 -- ---- what is sent
@@ -99,12 +113,15 @@ all_of P [] a = All-nil P
 all_of P (x ∷ xs) a = All-cons P x xs a.0 (all_of P xs a.1)
 
 -- the packets were sent, and then the events were told, or some of them
-pub told_first : (r : Result (Unit {0}) NoMemory) (old mid new sent told : List Output) → mid ≡ old ++ sent → Puts r mid told new
+pub told_first : (r : Result (Unit {0}) NoMemory) (old mid new sent told : List Output) → mid ≡ old ++ sent
+    → Puts r mid told new
     → Puts r old (sent ++ told) new
-told_first (Ok u) old mid new sent told is put = put ∙ ap (λ (o : List Output). o ++ told) is ∙ append_assoc old sent told
+told_first (Ok u) old mid new sent told is put = put ∙ ap (λ (o : List Output). o ++ told) is
+    ∙ append_assoc old sent told
 told_first (Err e) old mid new sent told is gains = gains_behind old sent is gains
 
-pub told_meets : (r : Result (Unit {0}) NoMemory) (old mid new : List Output) (c : Clients) (brought : Brought) (events : List (ℕ × Event)) (left : Watching)
+pub told_meets : (r : Result (Unit {0}) NoMemory) (old mid new : List Output) (c : Clients) (brought : Brought)
+    (events : List (ℕ × Event)) (left : Watching)
     → events ≡ (fire c.watches brought.triggers).events → left ≡ (fire c.watches brought.triggers).left
     → mid ≡ old ++ map to_leader brought.replies → Puts r mid (notices events) new
     → Meets r old (telling c brought) new (record c { watches = left })
@@ -123,10 +140,13 @@ module _ (d : Led) (i : Item) (old : List Output) where
   telling_it r = r >>= λ t. Ok (with_loading t.loading (tell d.world t))
 
   module _ (brought : Brought) (loading : Loading) (r : Replica)
-      (taken : take d.loading d.world.replica i ≡ Ok (record { replies = brought.replies; triggers = brought.triggers; loading = loading; replica = r })) where
+      (taken : take d.loading d.world.replica i ≡ Ok
+      (record { replies = brought.replies; triggers = brought.triggers; loading = loading; replica = r })) where
     -- it was taken and told
-    pub received : (new : List Output) (clients : Clients) → Meets (Ok tt) old (telling d.world.clients brought) new clients
-        → Receives (Ok tt) old (receive d i) d new (record { loading = loading; world = record d.world { replica = r; clients = clients } })
+    pub received : (new : List Output) (clients : Clients)
+        → Meets (Ok tt) old (telling d.world.clients brought) new clients
+        → Receives (Ok tt) old (receive d i) d new
+        (record { loading = loading; world = record d.world { replica = r; clients = clients } })
     received new clients told =
         let after : Led = record { loading = loading; world = record d.world { replica = r; clients = clients } } in
         subst (λ (m : Result (Happened Led) Fault). Receives (Ok tt) old m d new after) (sym (ap telling_it taken))
@@ -139,7 +159,8 @@ module _ (d : Led) (i : Item) (old : List Output) where
     pub untold : (new : List Output) (after : Led) → Gains old (telling d.world.clients brought).outputs new
         → Receives (Err errors.NoMemory) old (receive d i) d new after
     untold new after gains =
-        subst (λ (m : Result (Happened Led) Fault). Receives (Err errors.NoMemory) old m d new after) (sym (ap telling_it taken)) gains
+        subst (λ (m : Result (Happened Led) Fault). Receives (Err errors.NoMemory) old m d new after)
+        (sym (ap telling_it taken)) gains
 
   -- memory was refused in the taking
   pub untaken : (after : Led) → Receives (Err errors.NoMemory) old (receive d i) d old after
@@ -150,20 +171,32 @@ module _ (d : Led) (i : Item) (old : List Output) where
       by (Err e) = refl
 
   -- it was refused
-  pub refused : (e : Fault) (loading : Loading) (r : Replica) → take d.loading d.world.replica i ≡ Err e → loading ≡ d.loading → r ≡ d.world.replica
-      → Receives (Err (errors.Fault e)) old (receive d i) d old (record { loading = loading; world = record d.world { replica = r } })
-  refused e loading r taken same_loading same_replica =
-      (ap telling_it taken, (refl, λ i. record { loading = same_loading i; world = record d.world { replica = same_replica i } }))
+  pub refused : (e : Fault) (loading : Loading) (r : Replica) → take d.loading d.world.replica i ≡ Err e
+      → loading ≡ d.loading → r ≡ d.world.replica
+      → Receives (Err (errors.Fault e)) old (receive d i) d old
+      (record { loading = loading; world = record d.world { replica = r } })
+  refused e loading r taken same_loading same_replica = (
+    ap telling_it taken,
+    (
+      refl,
+      λ i. record {
+        loading = same_loading i;
+        world = record d.world { replica = same_replica i };
+      },
+    ),
+  )
 
   -- either
-  pub not_taken : (e : ReadError) (loading : Loading) (r : Replica) → Takes (Err e) (take d.loading d.world.replica i) d.loading d.world.replica loading r
+  pub not_taken : (e : ReadError) (loading : Loading) (r : Replica) → Takes (Err e) (take d.loading d.world.replica i)
+      d.loading d.world.replica loading r
       → Receives (Err e) old (receive d i) d old (record { loading = loading; world = record d.world { replica = r } })
   not_taken errors.NoMemory loading r t = untaken (record { loading = loading; world = record d.world { replica = r } })
   not_taken (errors.Fault e) loading r t = refused e loading r t.0 t.1 t.2
 
 -- ---- connections
 
-pub closed_first : (old new : Clients) (n : ℕ) → finmap.keys old.connections ≡ n ∷ finmap.keys new.connections → new ≡ without n old
+pub closed_first : (old new : Clients) (n : ℕ) → finmap.keys old.connections ≡ n ∷ finmap.keys new.connections
+    → new ≡ without n old
     → closing_all old ≡ behind (CloseClient n ∷ []) (closing_all new)
 closed_first old new n keys is =
     ap (λ (ks : List ℕ). closing ks old) keys
@@ -171,17 +204,24 @@ closed_first old new n keys is =
 
 pub none_open : (old : Clients) → old.connections ≡ finmap.empty → closing_all old ≡ quiet old
 none_open old is =
-    ap (λ (m : Connections). closing (finmap.keys m) old) is ∙ ap (λ (ks : List ℕ). closing ks old) (keys-empty Connection)
+    ap (λ (m : Connections). closing (finmap.keys m) old) is ∙ ap (λ (ks : List ℕ). closing ks old)
+    (keys-empty Connection)
 
 pub disconnects : (r : Result (Unit {0}) NoMemory) (old new : List Output) (w : World) (clients : Clients)
-    → Meets r old (closing_all w.clients) new clients → Meets r old (disconnected w) new (record w { replica = leave w.replica; clients = clients })
-disconnects (Ok u) old new w clients m = ap (λ (h : Happened Clients). record { outputs = h.outputs; after = record w { replica = leave w.replica; clients = h.after } }) m
+    → Meets r old (closing_all w.clients) new clients → Meets r old (disconnected w) new
+    (record w { replica = leave w.replica; clients = clients })
+disconnects (Ok u) old new w clients m =
+    ap (λ (h : Happened Clients). record {
+      outputs = h.outputs;
+      after = record w { replica = leave w.replica; clients = h.after };
+    }) m
 disconnects (Err e) old new w clients m = m
 
 -- ---- the leader is lost
 
 -- the clients are closed behind it
-pub loses : (r : Result (Unit {0}) NoMemory) (mid put new : List Output) (w left : World) (e : Fault) → put ≡ mid ++ CloseLeader e ∷ []
+pub loses : (r : Result (Unit {0}) NoMemory) (mid put new : List Output) (w left : World) (e : Fault)
+    → put ≡ mid ++ CloseLeader e ∷ []
     → Meets r put (disconnected w) new left → Meets r mid (behind (CloseLeader e ∷ []) (disconnected w)) new left
 loses (Ok u) mid put new w left e is m =
     behind_behind mid (CloseLeader e ∷ []) (disconnected w)
@@ -198,12 +238,20 @@ alone (Err e) old new h left m = m
 
 -- what packets and parts leave of the leader
 abbrev left_by : Happened (Arrival Phase Led) → Happened (Followed Leader)
-left_by h = record { outputs = h.outputs; after = record { world = h.after.left.world; leader = kept h.after.left.loading h.after.place } }
+left_by h = record {
+  outputs = h.outputs;
+  after = record { world = h.after.left.world; leader = kept h.after.left.loading h.after.place };
+}
 
-pub followed : (r : Result (Option Fault) NoMemory) (old new : List Output) (l : Leader) (w : World) (bytes : List ℕ) (begun place : Place Phase) (left : Led)
-    → begun ≡ add l.place bytes → Delivers r old (arrive receive (record { loading = l.loading; world = w }) (shows begun)) new place left
+pub followed : (r : Result (Option Fault) NoMemory) (old new : List Output) (l : Leader) (w : World) (bytes : List ℕ)
+    (begun place : Place Phase) (left : Led)
+    → begun ≡ add l.place bytes
+    → Delivers r old (arrive receive (record { loading = l.loading; world = w }) (shows begun)) new place left
     → Follows r old (by_parts.taken l w bytes) new (record { place = place; loading = left.loading }) left.world
-followed r old new l w bytes begun place left is d = by r (subst (λ (p : Place Phase). Delivers r old (arrive receive (record { loading = l.loading; world = w }) (shows p)) new place left) is d)
+followed r old new l w bytes begun place left is d = by r
+    (subst (λ (p : Place Phase). Delivers r old
+    (arrive receive (record { loading = l.loading; world = w }) (shows p)) new
+    place left) is d)
   where
     whole : Happened (Arrival Phase Led)
     whole = arrive receive (record { loading = l.loading; world = w }) (shows (add l.place bytes))
@@ -214,7 +262,8 @@ followed r old new l w bytes begun place left is d = by r (subst (λ (p : Place 
     by (Ok (Some e)) m = ap left_by m
     by (Err e) gains = gains
 
-module _ (old : List Output) (leader : Option Leader) (l : Leader) (w : World) (bytes : List ℕ) (leads : leader ≡ Some l) where
+module _ (old : List Output) (leader : Option Leader) (l : Leader) (w : World) (bytes : List ℕ)
+    (leads : leader ≡ Some l) where
   abbrev came : Happened (Followed Leader)
   came = by_parts.taken l w bytes
 
@@ -234,13 +283,15 @@ module _ (old : List Output) (leader : Option Leader) (l : Leader) (w : World) (
       (ap (λ (o : List Output). record { outputs = o; after = m }) (append-nil new))
 
   -- a fault came behind what was delivered
-  pub loses_in_piece : (r : Result (Unit {0}) NoMemory) (mid new : List Output) (after : Leader) (left last : World) (e : Fault)
+  pub loses_in_piece : (r : Result (Unit {0}) NoMemory) (mid new : List Output) (after : Leader)
+      (left last : World) (e : Fault)
       → Follows (Ok (Some e)) old came mid after left
       → Meets r mid (behind (CloseLeader e ∷ []) (disconnected left)) new last
       → Meets r old (take_leader_bytes by_parts leader w bytes) new (record { leader = None; world = last })
   loses_in_piece r mid new after left last e is m =
       subst (λ (h : Happened Machine). Meets r old h new (record { leader = None; world = last })) (sym taken)
-      (then_meets r old mid new came leaving (record { world = left; leader = Err e }) (record { leader = None; world = last }) is
+      (then_meets r old mid new came leaving (record { world = left; leader = Err e })
+      (record { leader = None; world = last }) is
       (alone r mid new (behind (CloseLeader e ∷ []) (disconnected left)) last m))
 
   -- memory was refused on the way

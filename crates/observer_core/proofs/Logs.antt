@@ -27,7 +27,8 @@ still_follows : (w v : World) → v.replica ≡ w.replica → Follows w → Foll
 still_follows w v same f = subst FollowsItsLog (sym same) f
 
 module _ (law : ReplicasFollow) where
-  deliver_follows : (d : Delivery Led) (i : Item) → Follows d.left.world → Follows (deliver receive d i).after.left.world
+  deliver_follows : (d : Delivery Led) (i : Item) → Follows d.left.world
+      → Follows (deliver receive d i).after.left.world
   deliver_follows d i f = by (take d.left.loading d.left.world.replica i) refl
     where
       by : (r : Result Taken Fault) → take d.left.loading d.left.world.replica i ≡ r
@@ -47,7 +48,8 @@ module _ (law : ReplicasFollow) where
       let found = shows (add l.place bytes) in
       let h = deliver_all receive v found.found in
       leave_follows h.after.left.world (kept h.after.left.loading (end_at found.left h.after.fault))
-      (happening_keeps (λ (d : Delivery Led). Follows d.left.world) is_refused (deliver receive) (λ d i _. deliver_follows d i)
+      (happening_keeps (λ (d : Delivery Led). Follows d.left.world) is_refused (deliver receive)
+      (λ d i _. deliver_follows d i)
       (record { left = v; fault = None }) found.found f)
 
   meet_follows : (leader : Option Leader) (w : World) → Follows w → Follows (meet_leader by_parts leader w).after.world
@@ -80,5 +82,6 @@ module _ (law : ReplicasFollow) where
   logs_are_followed = record {
     starts = λ config. law.made config.epochs;
     starts_primed = λ config. law.primed;
-    plays = happening_keeps (λ (m : Machine). Follows m.world) (λ (m : Machine). false) happen (λ m e _. happen_follows m e);
+    plays = happening_keeps (λ (m : Machine). Follows m.world) (λ (m : Machine). false) happen
+        (λ m e _. happen_follows m e);
   }

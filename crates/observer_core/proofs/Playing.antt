@@ -32,7 +32,8 @@ use Rattle.replica.specs.Taking.{is_serving}
 pub play_on : (m : Machine) (a b : List Event) → play m (a ++ b) ≡ behind (play m a).outputs (play (play m a).after b)
 play_on m a b = happening_on (λ (m : Machine). false) happen m a b
 
-add_add : {S : Type 0} (phase : S) (u : Unread) (a b : List ℕ) → let place : Place S = record { phase = phase; unread = u } in add place (a ++ b) ≡ add (add place a) b
+add_add : {S : Type 0} (phase : S) (u : Unread) (a b : List ℕ)
+    → let place : Place S = record { phase = phase; unread = u } in add place (a ++ b) ≡ add (add place a) b
 add_add phase (Ok bytes) a b = ap (place_at phase) (sym (append_assoc bytes a b))
 add_add phase (Err e) a b = refl
 
@@ -64,7 +65,8 @@ finished_on None w phase (Err e) more = lost_then w.world e more
 finished_on (Some e) w phase unread more =
     let left : Place Phase = record { phase = phase; unread = unread } in
     let j = shows (add left more) in
-    ap (λ (h : Happened (Delivery Led)). finish h j.left) (passed_over is_refused (deliver receive) (record { left = w; fault = Some e }) j.found refl)
+    ap (λ (h : Happened (Delivery Led)). finish h j.left)
+    (passed_over is_refused (deliver receive) (record { left = w; fault = Some e }) j.found refl)
     ∙ lost_then w.world e more
 
 leader_cut : (leader : Option Leader) (w : World) (a b : List ℕ)
@@ -77,23 +79,30 @@ leader_cut (Some l) w a b =
     let h = deliver_all receive v i.found in
     let g = happening is_refused (deliver receive) h.after j.found in
     let stood = leave_leader h.after.left.world (kept h.after.left.loading (end_at i.left h.after.fault)) in
-    ap (λ (p : Place Phase). finish (deliver_all receive v (shows p).found) (shows p).left) (add_add l.place.phase l.place.unread a b)
+    ap (λ (p : Place Phase). finish (deliver_all receive v (shows p).found) (shows p).left)
+    (add_add l.place.phase l.place.unread a b)
     ∙ ap (λ (k : Items Phase Item). finish (deliver_all receive v k.found) k.left) (shows_pieces (add l.place a) b)
-    ∙ ap (λ (x : Happened (Delivery Led)). finish x j.left) (happening_on is_refused (deliver receive) (record { left = v; fault = None }) i.found j.found)
-    ∙ sym (behind_behind h.outputs g.outputs (leave_leader g.after.left.world (kept g.after.left.loading (end_at j.left g.after.fault))))
+    ∙ ap (λ (x : Happened (Delivery Led)). finish x j.left)
+    (happening_on is_refused (deliver receive) (record { left = v; fault = None }) i.found j.found)
+    ∙ sym (behind_behind h.outputs g.outputs
+    (leave_leader g.after.left.world (kept g.after.left.loading (end_at j.left g.after.fault))))
     ∙ ap (behind h.outputs) (finished_on h.after.fault h.after.left i.left.phase i.left.unread b)
     ∙ behind_behind h.outputs stood.outputs (take_leader_bytes by_parts stood.after.leader stood.after.world b)
 
 -- ---- both
 
 -- one event that does what two do, one behind the other
-two_events : (m : Machine) (x y z : Event) (events : List Event) → happen m x ≡ behind (happen m y).outputs (happen (happen m y).after z) → play m (x ∷ events) ≡ play m (y ∷ z ∷ events)
+two_events : (m : Machine) (x y z : Event) (events : List Event) → happen m x ≡ behind (happen m y).outputs
+    (happen (happen m y).after z) → play m (x ∷ events) ≡ play m (y ∷ z ∷ events)
 two_events m x y z events e =
     ap (λ (h : Happened Machine). behind h.outputs (play h.after events)) e
-    ∙ sym (behind_behind (happen m y).outputs (happen (happen m y).after z).outputs (play (happen (happen m y).after z).after events))
+    ∙ sym (behind_behind (happen m y).outputs (happen (happen m y).after z).outputs
+    (play (happen (happen m y).after z).after events))
 
-pub leader_cut_anywhere : (m : Machine) (a b : List ℕ) (events : List Event) → play m (LeaderBytes (a ++ b) ∷ events) ≡ play m (LeaderBytes a ∷ LeaderBytes b ∷ events)
-leader_cut_anywhere m a b events = two_events m (LeaderBytes (a ++ b)) (LeaderBytes a) (LeaderBytes b) events (leader_cut m.leader m.world a b)
+pub leader_cut_anywhere : (m : Machine) (a b : List ℕ) (events : List Event) → play m (LeaderBytes (a ++ b) ∷ events)
+    ≡ play m (LeaderBytes a ∷ LeaderBytes b ∷ events)
+leader_cut_anywhere m a b events = two_events m (LeaderBytes (a ++ b)) (LeaderBytes a) (LeaderBytes b) events
+    (leader_cut m.leader m.world a b)
 
 -- ---- a client's bytes
 
@@ -105,12 +114,15 @@ module _ (serving : Bool) (n : ℕ) where
   served_taken : (w : World) (frame : List ℕ) → IsTaken n w → IsTaken n (serve serving n w frame).after
   served_taken w frame t k e = t k (serve_closes serving n w frame n k e)
 
-  all_taken : (w : World) (fs : List (List ℕ)) → IsTaken n w → IsTaken n (happening (is_closed n) (serve serving n) w fs).after
+  all_taken : (w : World) (fs : List (List ℕ)) → IsTaken n w
+      → IsTaken n (happening (is_closed n) (serve serving n) w fs).after
   all_taken w [] t = t
   all_taken w (f ∷ fs) t = by (is_closed n w) (all_taken (serve serving n w f).after fs (served_taken w f t))
     where
       by : (b : Bool) → IsTaken n (happening (is_closed n) (serve serving n) (serve serving n w f).after fs).after
-          → IsTaken n (cond b (quiet w) (behind (serve serving n w f).outputs (happening (is_closed n) (serve serving n) (serve serving n w f).after fs))).after
+          → IsTaken n (cond b (quiet w)
+          (behind (serve serving n w f).outputs
+          (happening (is_closed n) (serve serving n) (serve serving n w f).after fs))).after
       by true others = t
       by false others = others
 
@@ -127,31 +139,38 @@ module _ (serving : Bool) (n : ℕ) where
       → keep n (keep n w at_rest rest) (record { rest = rest }) [] ≡ w
   kept_again w rest there =
       ap (λ (c : Connections). record w { clients = record w.clients { connections = c } })
-      (insert-insert w.clients.connections n at_rest (record { rest = rest }) ∙ insert-same w.clients.connections n at_rest there)
+      (insert-insert w.clients.connections n at_rest (record { rest = rest })
+      ∙ insert-same w.clients.connections n at_rest there)
 
-  waited_on : (w : World) (k : Connection) (unread : Unread) (more : List ℕ) → finmap.get w.clients.connections n ≡ Some k → k ≡ at_rest →
+  waited_on : (w : World) (k : Connection) (unread : Unread) (more : List ℕ) → finmap.get w.clients.connections n
+      ≡ Some k → k ≡ at_rest →
       let left : Place (Unit {0}) = record { phase = tt; unread = unread } in
       serve_all serving n w (items frames (add left more)) ≡ then_client (wait n w k unread) more
   waited_on w k (Ok rest) more there fresh =
       let kept = keep n w at_rest rest in
       let found = items frames (place_at tt (rest ++ more)) in
       sym (ap (λ (x : World). serve_all serving n x found) (kept_again w rest (there ∙ ap Some fresh)))
-      ∙ sym (ap (λ (o : Option Connection). take_client_bytes serving n kept o more) (get-inserted w.clients.connections n (record { rest = rest })))
+      ∙ sym (ap (λ (o : Option Connection). take_client_bytes serving n kept o more)
+      (get-inserted w.clients.connections n (record { rest = rest })))
       ∙ sym (ap (λ (c : Connection). then_client (wait n w c (Ok rest)) more) fresh)
   waited_on w k (Err e) more there fresh =
       ap (λ (o : Option Connection). wait_if_open n w o (Err e)) there
-      ∙ sym (ap (λ (o : Option Connection). behind (CloseClient n ∷ []) (take_client_bytes serving n (close_client n w).after o more)) (get-removed w.clients.connections n))
+      ∙ sym (ap (λ (o : Option Connection). behind (CloseClient n ∷ [])
+      (take_client_bytes serving n (close_client n w).after o more)) (get-removed w.clients.connections n))
 
-  served_on : (w : World) (o : Option Connection) (left : Place (Unit {0})) (more : List ℕ) → finmap.get w.clients.connections n ≡ o → IsTaken n w
+  served_on : (w : World) (o : Option Connection) (left : Place (Unit {0})) (more : List ℕ)
+      → finmap.get w.clients.connections n ≡ o → IsTaken n w
       → serve_all serving n w (items frames (add left more)) ≡ then_client (wait_if_open n w o left.unread) more
   served_on w None left more there t =
       let j = items frames (add left more) in
-      ap (λ (h : Happened World). left_at h j.left.unread) (passed_over (is_closed n) (serve serving n) w j.found (ap (λ (x : Option Connection). not (is_some x)) there))
+      ap (λ (h : Happened World). left_at h j.left.unread)
+      (passed_over (is_closed n) (serve serving n) w j.found (ap (λ (x : Option Connection). not (is_some x)) there))
       ∙ ap (λ (x : Option Connection). wait_if_open n w x j.left.unread) there
       ∙ sym (ap (λ (x : Option Connection). take_client_bytes serving n w x more) there)
   served_on w (Some k) left more there t = waited_on w k left.unread more there (t k there)
 
-  client_cut : (w : World) (o : Option Connection) (a b : List ℕ) → finmap.get w.clients.connections n ≡ o → take_client_bytes serving n w o (a ++ b) ≡ then_client (take_client_bytes serving n w o a) b
+  client_cut : (w : World) (o : Option Connection) (a b : List ℕ) → finmap.get w.clients.connections n ≡ o
+      → take_client_bytes serving n w o (a ++ b) ≡ then_client (take_client_bytes serving n w o a) b
   client_cut w None a b there = sym (ap (λ (x : Option Connection). take_client_bytes serving n w x b) there)
   client_cut w (Some k) a b there =
       let v = keep n w k [] in
@@ -160,13 +179,17 @@ module _ (serving : Bool) (n : ℕ) where
       let h = happening (is_closed n) (serve serving n) v i.found in
       let g = happening (is_closed n) (serve serving n) h.after j.found in
       let waits = wait_at n i.left.unread h.after in
-      let t : IsTaken n v = λ (c : Connection) is. some_is c at_rest (sym is ∙ get-inserted w.clients.connections n at_rest) in
+      let t : IsTaken n v = λ (c : Connection) is. some_is c at_rest
+      (sym is ∙ get-inserted w.clients.connections n at_rest) in
       ap (λ (x : List ℕ). serve_all serving n v (items frames (place_at tt x))) (sym (append_assoc k.rest a b))
       ∙ ap (serve_all serving n v) (comes_in_pieces frames frames_streamed (place_at tt (k.rest ++ a)) b)
-      ∙ ap (λ (x : Happened World). left_at x j.left.unread) (happening_on (is_closed n) (serve serving n) v i.found j.found)
+      ∙ ap (λ (x : Happened World). left_at x j.left.unread)
+      (happening_on (is_closed n) (serve serving n) v i.found j.found)
       ∙ sym (behind_behind h.outputs g.outputs (wait_at n j.left.unread g.after))
-      ∙ ap (behind h.outputs) (served_on h.after (finmap.get h.after.clients.connections n) i.left b refl (all_taken v i.found t))
-      ∙ behind_behind h.outputs waits.outputs (take_client_bytes serving n waits.after (finmap.get waits.after.clients.connections n) b)
+      ∙ ap (behind h.outputs) (served_on h.after (finmap.get h.after.clients.connections n) i.left b refl
+      (all_taken v i.found t))
+      ∙ behind_behind h.outputs waits.outputs
+      (take_client_bytes serving n waits.after (finmap.get waits.after.clients.connections n) b)
 
 pub client_cut_anywhere : (m : Machine) (n : ℕ) (a b : List ℕ) (events : List Event)
     → play m (ClientBytes n (a ++ b) ∷ events) ≡ play m (ClientBytes n a ∷ ClientBytes n b ∷ events)

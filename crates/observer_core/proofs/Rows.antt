@@ -1,4 +1,5 @@
--- The worked rows, step by step: what the bytes read as, the state behind each transaction, and the reply to each request.
+-- The worked rows, step by step: what the bytes read as, the state behind each transaction, and the reply to each
+-- request.
 use Rattle.std.proofs.Common.{◌≡◌, ◌≤◌, ℕ, List, [], ◌∷◌, ◌++◌, length, map, not, Option, Some, None, Result, Ok, Bool, true, false, cond, refl, sym, ap, ◌∙◌, arith, rules}
 use Rattle.std.specs.Prelude.{ℤ, pos, negsuc, codes, is_some}
 use Rattle.std.specs.List.{AllByRecursion}
@@ -106,7 +107,13 @@ abbrev create_header : TxnHeader
 create_header = record { client_id = pos 7; cxid = pos 1; zxid = pos 4294967297; time = pos 1000 }
 
 abbrev create_body : Create
-create_body = record { path = codes "/a"; bytes = Some (codes "hi"); acl = Some open_acl; ephemeral = false; parent_cversion = pos 1 }
+create_body = record {
+  path = codes "/a";
+  bytes = Some (codes "hi");
+  acl = Some open_acl;
+  ephemeral = false;
+  parent_cversion = pos 1;
+}
 
 abbrev create_txn : Txn
 create_txn = record { header = create_header; body = bodies.Single (operations.Create create_body) }
@@ -128,8 +135,22 @@ unfolding acl id
 create_fits =
     let path = text_fits (codes "/a") path_is_text (omega arith) in
     let world = text_fits (codes "world") world_is_text (omega arith) in
-    let anyone = text_fits (codes "anyone") anyone_is_text (omega arith) in
-    (search rules, ((refl, search rules), (refl, (refl, ((refl, path), (omega arith, ((omega arith, ((search rules, ((refl, world), (refl, anyone))), tt)), (tt, search rules))))))))
+    let anyone = text_fits (codes "anyone") anyone_is_text (omega arith) in (
+      search rules,
+      (
+        (refl, search rules),
+        (
+          refl,
+          (
+            refl,
+            (
+              (refl, path),
+              (omega arith, ((omega arith, ((search rules, ((refl, world), (refl, anyone))), tt)), (tt, search rules))),
+            ),
+          ),
+        ),
+      ),
+    )
 
 set_fits : txn.Fits set_txn
 set_fits =
@@ -145,7 +166,8 @@ root_there : finmap.get fresh.nodes (codes "/") ≡ Some root
 root_there = simp (finmap.get-insert {X = Node} nat_list_cmp_total)
 
 name_free : set.contains root.children (codes "a") ≡ false
-name_free = set.contains-insert nat_list_cmp_total set.empty (codes "zookeeper") (codes "a") ∙ set.contains-empty (slice_cmp nat_cmp) (codes "a")
+name_free = set.contains-insert nat_list_cmp_total set.empty (codes "zookeeper") (codes "a")
+    ∙ set.contains-empty (slice_cmp nat_cmp) (codes "a")
 
 abbrev made : State
 made = after_changes fresh (create_new create_header create_body root).changes
@@ -153,7 +175,9 @@ made = after_changes fresh (create_new create_header create_body root).changes
 made-is : (mean fresh create_txn).state ≡ made
 made-is =
     ap (λ (o : Option Node). (of_effect (create_under create_header create_body o) fresh).state) root_there
-    ∙ ap (λ (b : Bool). (of_effect (cond b (create_taken create_header create_body root) (create_new create_header create_body root)) fresh).state) name_free
+    ∙ ap (λ (b : Bool). (of_effect
+    (cond b (create_taken create_header create_body root) (create_new create_header create_body root)) fresh).state)
+    name_free
 
 abbrev node : Node
 node = new_node create_header create_body
@@ -182,7 +206,8 @@ packet_of zxid bytes = record { kind = pos 8; zxid = zxid; bytes = Some bytes; a
 abbrev one_packet : QuorumPacket → Items Phase Item
 one_packet p = record { found = item.Packet p ∷ []; left = place_at Packets [] }
 
-create_found : shows (place_at Packets inform_of_create) ≡ one_packet (packet_of (pos 4294967297) (txn.written create_txn))
+create_found : shows (place_at Packets inform_of_create) ≡ one_packet
+    (packet_of (pos 4294967297) (txn.written create_txn))
 unfolding items_within packet kind_of judged_at buffer_at vector_at times number_bytes acl id
 create_found = refl
 
@@ -255,16 +280,20 @@ abbrev shown_by : World → Look → Happened World
 shown_by w seen = answer 1 (watching w (watched_if 1 w.clients.watches (watch_of wanted seen.error))) (pos 1) seen
 
 -- a world whose tree shows the node is answered with it
-answered_by : (w : World) (session : ℤ) (n : Node) (frame : List ℕ) → session_of w.clients.sessions 1 ≡ Some session → ids_of w.clients.sessions 1 ≡ []
-    → finmap.get w.replica.tree.nodes (codes "/a") ≡ Some n → look_at_node [] wanted (Some n) ≡ shown_look (shown_body wanted n) → n.children ≡ set.empty
-    → reply_by w.replica.learner.last_zxid n 0 ≡ Some frame → serve true 1 w get_frame ≡ record { outputs = ToClient 1 frame ∷ []; after = w }
+answered_by : (w : World) (session : ℤ) (n : Node) (frame : List ℕ) → session_of w.clients.sessions 1 ≡ Some session
+    → ids_of w.clients.sessions 1 ≡ []
+    → finmap.get w.replica.tree.nodes (codes "/a") ≡ Some n → look_at_node [] wanted (Some n) ≡ shown_look
+    (shown_body wanted n) → n.children ≡ set.empty
+    → reply_by w.replica.learner.last_zxid n 0 ≡ Some frame
+    → serve true 1 w get_frame ≡ record { outputs = ToClient 1 frame ∷ []; after = w }
 answered_by w session n frame joined no_ids there shows childless is =
     ap (serve_by true 1 w get_frame) joined
     ∙ ap (serve_as 1 w) call_read
     ∙ ap (λ (ids : List Id). shown_by w (look w.replica.tree ids wanted)) no_ids
     ∙ ap (λ (o : Option Node). shown_by w (look_at_node [] wanted o)) there
     ∙ ap (shown_by w) shows
-    ∙ ap (λ (c : set.FinSet (slice_cmp nat_cmp)). send 1 w (reply_by w.replica.learner.last_zxid n (set.len c))) childless
+    ∙ ap (λ (c : set.FinSet (slice_cmp nat_cmp)). send 1 w (reply_by w.replica.learner.last_zxid n (set.len c)))
+    childless
     ∙ ap (λ (k : ℕ). send 1 w (reply_by w.replica.learner.last_zxid n k)) no_children
     ∙ ap (send 1 w) is
 
@@ -280,8 +309,10 @@ no_event (e ∷ events) h = absurd (true≢false (sym h.0))
 
 pub unwatched : OnlyWatchersAreTold → SilenceKeepsWatches → NobodyTold
 unwatched only silent triggers =
-    let nobody : AllPass (λ (n : ℕ). false) set.empty = λ path n there. sym (set.contains-empty watch_cmp (path, n)) ∙ there in
-    let none = no_event (fire no_watch triggers).events (only (λ (n : ℕ). false) no_watch triggers (nobody, nobody)).0 in
+    let nobody : AllPass (λ (n : ℕ). false) set.empty =
+    λ path n there. sym (set.contains-empty watch_cmp (path, n)) ∙ there in
+    let none = no_event (fire no_watch triggers).events
+    (only (λ (n : ℕ). false) no_watch triggers (nobody, nobody)).0 in
     λ i. record { events = none i; left = sym (silent no_watch triggers none) i }
 
 -- ---- events
@@ -295,16 +326,22 @@ at_first rest = finmap.insert finmap.empty 1 (record { rest = rest })
 
 -- the first connection is open and has the first session, and nobody watches
 abbrev clients_at : Config → List ℕ → Clients
-clients_at config rest = record { connections = at_first rest; sessions = (first_client config).sessions; watches = no_watch }
+clients_at config rest = record {
+  connections = at_first rest;
+  sessions = (first_client config).sessions;
+  watches = no_watch;
+}
 
 abbrev first_session : Config → ℤ
 first_session config = session_id_of config.server_id 1
 
 joined_first : (config : Config) → session_of (first_client config).sessions 1 ≡ Some (first_session config)
-joined_first config = ap session_in (get-inserted {X = SessionConnection} finmap.empty 1 (new_connection (first_session config)))
+joined_first config = ap session_in
+    (get-inserted {X = SessionConnection} finmap.empty 1 (new_connection (first_session config)))
 
 no_ids_first : (config : Config) → ids_of (first_client config).sessions 1 ≡ []
-no_ids_first config = ap ids_in (get-inserted {X = SessionConnection} finmap.empty 1 (new_connection (first_session config)))
+no_ids_first config = ap ids_in
+    (get-inserted {X = SessionConnection} finmap.empty 1 (new_connection (first_session config)))
 
 -- a replica that serves in epoch 1
 abbrev replica_at : ℤ → List Txn → State → Replica
@@ -345,9 +382,11 @@ led w = record { loading = unloaded; world = w }
 -- what is done of what was learnt
 abbrev done : World → Result Learned Fault → Result (Happened Led) Fault
 done w r =
-    (r >>= λ x. carry_out_all (unled unloaded (with_learner w.replica x)) x.acts) >>= λ t. Ok (with_loading t.loading (tell w t))
+    (r >>= λ x. carry_out_all (unled unloaded (with_learner w.replica x)) x.acts) >>= λ t. Ok
+    (with_loading t.loading (tell w t))
 
-informed_of : (again : ReadAgain) (config : Config) (last : ℤ) (log : List Txn) (s : State) (clients : Clients) (zxid : ℤ) (t : Txn) → txn.Fits t →
+informed_of : (again : ReadAgain) (config : Config) (last : ℤ) (log : List Txn) (s : State) (clients : Clients)
+    (zxid : ℤ) (t : Txn) → txn.Fits t →
     let w = world_with config last log s clients in
     receive (led w) (item.Packet (packet_of zxid (txn.written t))) ≡ done w (apply w.replica.learner t)
 unfolding kind_of
@@ -359,10 +398,12 @@ informed_of again config last log s clients zxid t fits =
 abbrev one_delivered : World → Result (Happened Led) Fault → Happened Machine
 one_delivered w r =
     let h = deliver_as r (led w) in
-    behind (h.outputs ++ []) (leave_leader h.after.left.world (kept h.after.left.loading (end_at (place_at Packets []) h.after.fault)))
+    behind (h.outputs ++ []) (leave_leader h.after.left.world
+    (kept h.after.left.loading (end_at (place_at Packets []) h.after.fault)))
 
 -- one INFORM comes
-inform_comes : (again : ReadAgain) (config : Config) (last : ℤ) (log : List Txn) (s : State) (clients : Clients) (bytes : List ℕ) (zxid : ℤ) (t : Txn) → txn.Fits t →
+inform_comes : (again : ReadAgain) (config : Config) (last : ℤ) (log : List Txn) (s : State) (clients : Clients)
+    (bytes : List ℕ) (zxid : ℤ) (t : Txn) → txn.Fits t →
     let w = world_with config last log s clients in
     shows (place_at Packets bytes) ≡ one_packet (packet_of zxid (txn.written t))
     → take_leader_bytes by_parts (Some beginning) w bytes ≡ one_delivered w (done w (apply w.replica.learner t))
@@ -390,21 +431,27 @@ abbrev meant_create : Config → Clients → World
 meant_create config clients = world_with config (pos 4294967297) (create_txn ∷ []) (mean fresh create_txn).state clients
 
 abbrev meant_set : Config → Clients → World
-meant_set config clients = world_with config (pos 4294967298) (create_txn ∷ set_txn ∷ []) (mean made set_txn).state clients
+meant_set config clients = world_with config (pos 4294967298) (create_txn ∷ set_txn ∷ [])
+    (mean made set_txn).state clients
 
-create_comes : (again : ReadAgain) (nobody : NobodyTold) (config : Config) (rest : List ℕ) → happen (following config (pos 0) [] fresh rest) created ≡ quiet (after_create config rest)
+create_comes : (again : ReadAgain) (nobody : NobodyTold) (config : Config) (rest : List ℕ)
+    → happen (following config (pos 0) [] fresh rest) created ≡ quiet (after_create config rest)
 create_comes again nobody config rest =
     let clients = clients_at config rest in
     let w = world_with config (pos 0) [] fresh clients in
-    inform_comes again config (pos 0) [] fresh clients inform_of_create (pos 4294967297) create_txn create_fits create_found
-    ∙ ap (λ (f : Fired). one_delivered w (told_by (meant_create config clients) f)) (nobody (mean fresh create_txn).triggers)
+    inform_comes again config (pos 0) [] fresh clients inform_of_create (pos 4294967297) create_txn
+    create_fits create_found
+    ∙ ap (λ (f : Fired). one_delivered w (told_by (meant_create config clients) f))
+    (nobody (mean fresh create_txn).triggers)
     ∙ ap (λ (s : State). quiet (following config (pos 4294967297) (create_txn ∷ []) s rest)) made-is
 
-set_comes : (again : ReadAgain) (nobody : NobodyTold) (config : Config) → happen (after_create config []) overwritten ≡ quiet (after_set config)
+set_comes : (again : ReadAgain) (nobody : NobodyTold) (config : Config) → happen (after_create config []) overwritten
+    ≡ quiet (after_set config)
 set_comes again nobody config =
     let clients = clients_at config [] in
     let w = (after_create config []).world in
-    inform_comes again config (pos 4294967297) (create_txn ∷ []) made clients inform_of_set_data (pos 4294967298) set_txn set_fits set_found
+    inform_comes again config (pos 4294967297) (create_txn ∷ []) made clients inform_of_set_data (pos 4294967298)
+    set_txn set_fits set_found
     ∙ ap (λ (f : Fired). one_delivered w (told_by (meant_set config clients) f)) (nobody (mean made set_txn).triggers)
     ∙ ap (λ (s : State). quiet (following config (pos 4294967298) (create_txn ∷ set_txn ∷ []) s [])) written-is
 
@@ -418,19 +465,23 @@ refusing config = record { outputs = CloseLeader OutOfOrder ∷ CloseClient 1 �
 
 keys-first : finmap.keys (at_first []) ≡ 1 ∷ []
 keys-first = ap (λ (es : List (ℕ × Connection)). map (λ (e : ℕ × Connection). e.0) es)
-    (finmap.entries-insert nat_cmp_total finmap.empty 1 (record { rest = [] }) ∙ ap (finmap.put nat_cmp 1 (record { rest = [] })) (entries-empty Connection))
+    (finmap.entries-insert nat_cmp_total finmap.empty 1 (record { rest = [] })
+    ∙ ap (finmap.put nat_cmp 1 (record { rest = [] })) (entries-empty Connection))
 
 -- its zxid isn't above the last one
 create_comes_again : (again : ReadAgain) (config : Config) → happen (after_create config []) created ≡ refusing config
 create_comes_again again config =
-    inform_comes again config (pos 4294967297) (create_txn ∷ []) made (clients_at config []) inform_of_create (pos 4294967297) create_txn create_fits create_found
+    inform_comes again config (pos 4294967297) (create_txn ∷ []) made (clients_at config []) inform_of_create
+    (pos 4294967297) create_txn create_fits create_found
     ∙ ap (λ (ks : List ℕ). lost (closing ks (clients_at config []))) keys-first
   where
     w : World
     w = (after_create config []).world
 
     lost : Happened Clients → Happened Machine
-    lost h = behind (CloseLeader OutOfOrder ∷ []) (beside {L = Leader} None (record { outputs = h.outputs; after = record w { replica = leave w.replica; clients = h.after } }))
+    lost h = behind (CloseLeader OutOfOrder ∷ [])
+        (beside {L = Leader} None
+        (record { outputs = h.outputs; after = record w { replica = leave w.replica; clients = h.after } }))
 
 abbrev replying : List ℕ → Machine → Happened Machine
 replying frame m = record { outputs = ToClient 1 frame ∷ []; after = m }
@@ -441,51 +492,69 @@ at_frames w i = beside (Some beginning) (serve_all true 1 w i)
 
 -- the bytes of the first connection are taken to hand
 in_hand : (config : Config) (zxid : ℤ) (log : List Txn) (s : State) (rest bytes : List ℕ)
-    → happen (following config zxid log s rest) (ClientBytes 1 bytes) ≡ at_frames (world_at config zxid log s []) (items frames (place_at tt (rest ++ bytes)))
+    → happen (following config zxid log s rest) (ClientBytes 1 bytes) ≡ at_frames (world_at config zxid log s [])
+    (items frames (place_at tt (rest ++ bytes)))
 in_hand config zxid log s rest bytes =
     let w = world_at config zxid log s rest in
-    ap (λ (o : Option Connection). beside (Some beginning) (take_client_bytes true 1 w o bytes)) (get-inserted finmap.empty 1 (record { rest = rest }))
-    ∙ ap (λ (c : Connections). at_frames (record w { clients = record w.clients { connections = c } }) (items frames (place_at tt (rest ++ bytes)))) (insert-insert finmap.empty 1 (record { rest = [] }) (record { rest = rest }))
+    ap (λ (o : Option Connection). beside (Some beginning) (take_client_bytes true 1 w o bytes))
+    (get-inserted finmap.empty 1 (record { rest = rest }))
+    ∙ ap (λ (c : Connections). at_frames (record w { clients = record w.clients { connections = c } })
+    (items frames (place_at tt (rest ++ bytes))))
+    (insert-insert finmap.empty 1 (record { rest = [] }) (record { rest = rest }))
 
 -- the bytes that are left wait
 left_waiting : (config : Config) (zxid : ℤ) (log : List Txn) (s : State) (rest : List ℕ)
-    → wait_if_open 1 (world_at config zxid log s []) (finmap.get (at_first []) 1) (Ok rest) ≡ quiet (world_at config zxid log s rest)
+    → wait_if_open 1 (world_at config zxid log s []) (finmap.get (at_first []) 1) (Ok rest) ≡ quiet
+    (world_at config zxid log s rest)
 left_waiting config zxid log s rest =
     let w = world_at config zxid log s [] in
     ap (λ (o : Option Connection). wait_if_open 1 w o (Ok rest)) (get-inserted finmap.empty 1 (record { rest = [] }))
-    ∙ ap (λ (c : Connections). quiet (record w { clients = record w.clients { connections = c } })) (insert-insert finmap.empty 1 (record { rest = rest }) (record { rest = [] }))
+    ∙ ap (λ (c : Connections). quiet (record w { clients = record w.clients { connections = c } }))
+    (insert-insert finmap.empty 1 (record { rest = rest }) (record { rest = [] }))
 
 -- the last byte of a request comes
 get_comes : (config : Config) (zxid : ℤ) (log : List Txn) (s : State) (rest bytes frame : List ℕ)
     → items frames (place_at tt (rest ++ bytes)) ≡ one_frame get_frame
-    → serve true 1 (world_at config zxid log s []) get_frame ≡ record { outputs = ToClient 1 frame ∷ []; after = world_at config zxid log s [] }
+    → serve true 1 (world_at config zxid log s []) get_frame ≡ record {
+      outputs = ToClient 1 frame ∷ [];
+      after = world_at config zxid log s [];
+    }
     → happen (following config zxid log s rest) (ClientBytes 1 bytes) ≡ replying frame (following config zxid log s [])
 get_comes config zxid log s rest bytes frame found replies =
     let w = world_at config zxid log s [] in
     in_hand config zxid log s rest bytes
     ∙ ap (at_frames w) found
-    ∙ ap (λ (h : Happened World). beside (Some beginning) (behind h.outputs (wait_if_open 1 h.after (finmap.get h.after.clients.connections 1) (Ok []))))
-    (goes_on (is_closed 1) (serve true 1) w get_frame [] (ap (λ (o : Option Connection). not (is_some o)) (get-inserted finmap.empty 1 (record { rest = [] }))))
-    ∙ ap (λ (h : Happened World). beside (Some beginning) (behind (h.outputs ++ []) (wait_if_open 1 h.after (finmap.get h.after.clients.connections 1) (Ok [])))) replies
-    ∙ ap (λ (h : Happened World). beside (Some beginning) (behind (ToClient 1 frame ∷ []) h)) (left_waiting config zxid log s [])
+    ∙ ap (λ (h : Happened World). beside (Some beginning)
+    (behind h.outputs (wait_if_open 1 h.after (finmap.get h.after.clients.connections 1) (Ok []))))
+    (goes_on (is_closed 1) (serve true 1) w get_frame []
+    (ap (λ (o : Option Connection). not (is_some o)) (get-inserted finmap.empty 1 (record { rest = [] }))))
+    ∙ ap (λ (h : Happened World). beside (Some beginning)
+    (behind (h.outputs ++ []) (wait_if_open 1 h.after (finmap.get h.after.clients.connections 1) (Ok [])))) replies
+    ∙ ap (λ (h : Happened World). beside (Some beginning) (behind (ToClient 1 frame ∷ []) h))
+    (left_waiting config zxid log s [])
 
 -- a part of a request comes
-front_comes : (config : Config) → happen (following config (pos 0) [] fresh []) (ClientBytes 1 get_front) ≡ quiet (following config (pos 0) [] fresh get_front)
+front_comes : (config : Config) → happen (following config (pos 0) [] fresh []) (ClientBytes 1 get_front) ≡ quiet
+    (following config (pos 0) [] fresh get_front)
 front_comes config =
     in_hand config (pos 0) [] fresh [] get_front
     ∙ ap (at_frames (world_at config (pos 0) [] fresh [])) get_waits
     ∙ ap (λ (h : Happened World). beside (Some beginning) h) (left_waiting config (pos 0) [] fresh get_front)
 
-get_after_create : (config : Config) (rest bytes : List ℕ) → items frames (place_at tt (rest ++ bytes)) ≡ one_frame get_frame
+get_after_create : (config : Config) (rest bytes : List ℕ) → items frames (place_at tt (rest ++ bytes))
+    ≡ one_frame get_frame
     → happen (after_create config rest) (ClientBytes 1 bytes) ≡ replying reply_of_create (after_create config [])
 get_after_create config rest bytes found =
     get_comes config (pos 4294967297) (create_txn ∷ []) made rest bytes reply_of_create found
-    (answered_by (after_create config []).world (first_session config) node reply_of_create (joined_first config) (no_ids_first config) node_there refl refl create_replied)
+    (answered_by (after_create config []).world (first_session config) node reply_of_create (joined_first config)
+    (no_ids_first config) node_there refl refl create_replied)
 
 get_after_set : (config : Config) → happen (after_set config) asked ≡ replying reply_of_set_data (after_set config)
 get_after_set config =
-    get_comes config (pos 4294967298) (create_txn ∷ set_txn ∷ []) written [] (get_front ++ get_back) reply_of_set_data get_found
-    (answered_by (after_set config).world (first_session config) written_node reply_of_set_data (joined_first config) (no_ids_first config) written_there refl refl set_replied)
+    get_comes config (pos 4294967298) (create_txn ∷ set_txn ∷ []) written [] (get_front ++ get_back)
+    reply_of_set_data get_found
+    (answered_by (after_set config).world (first_session config) written_node reply_of_set_data (joined_first config)
+    (no_ids_first config) written_there refl refl set_replied)
 
 -- ---- a watch
 
@@ -534,7 +603,8 @@ one_watch = watches_on ((codes "/a", 1) ∷ []) []
 abbrev waiting : Config → World
 waiting config = watching (world_at config (pos 0) [] fresh []) one_watch
 
-exists_served : (config : Config) → serve true 1 (world_at config (pos 0) [] fresh []) exists_frame ≡ record { outputs = ToClient 1 reply_of_missing ∷ []; after = waiting config }
+exists_served : (config : Config) → serve true 1 (world_at config (pos 0) [] fresh []) exists_frame
+    ≡ record { outputs = ToClient 1 reply_of_missing ∷ []; after = waiting config }
 exists_served config =
     ap (serve_by true 1 w exists_frame) (joined_first config)
     ∙ ap (serve_as 1 w) exists_read
@@ -557,17 +627,28 @@ exists_comes config =
     let open_ = get-inserted finmap.empty 1 (record { rest = [] }) in
     in_hand config (pos 0) [] fresh [] exists_request
     ∙ ap (at_frames w) exists_found
-    ∙ ap (λ (h : Happened World). beside (Some beginning) (behind h.outputs (wait_if_open 1 h.after (finmap.get h.after.clients.connections 1) (Ok []))))
+    ∙ ap (λ (h : Happened World). beside (Some beginning)
+    (behind h.outputs (wait_if_open 1 h.after (finmap.get h.after.clients.connections 1) (Ok []))))
     (goes_on (is_closed 1) (serve true 1) w exists_frame [] (ap (λ (o : Option Connection). not (is_some o)) open_))
-    ∙ ap (λ (h : Happened World). beside (Some beginning) (behind (h.outputs ++ []) (wait_if_open 1 h.after (finmap.get h.after.clients.connections 1) (Ok [])))) (exists_served config)
-    ∙ ap (λ (o : Option Connection). beside (Some beginning) (behind (ToClient 1 reply_of_missing ∷ []) (wait_if_open 1 (waiting config) o (Ok [])))) open_
-    ∙ ap (λ (c : Connections). replying reply_of_missing (record { leader = Some beginning; world = record (waiting config) { clients = record (waiting config).clients { connections = c } } })) (insert-insert finmap.empty 1 (record { rest = [] }) (record { rest = [] }))
+    ∙ ap (λ (h : Happened World). beside (Some beginning)
+    (behind (h.outputs ++ []) (wait_if_open 1 h.after (finmap.get h.after.clients.connections 1) (Ok []))))
+    (exists_served config)
+    ∙ ap (λ (o : Option Connection). beside (Some beginning)
+    (behind (ToClient 1 reply_of_missing ∷ []) (wait_if_open 1 (waiting config) o (Ok [])))) open_
+    ∙ ap (λ (c : Connections). replying reply_of_missing
+    (record {
+      leader = Some beginning;
+      world = record (waiting config) { clients = record (waiting config).clients { connections = c } };
+    }))
+    (insert-insert finmap.empty 1 (record { rest = [] }) (record { rest = [] }))
 
 -- what the create triggers
 create_triggers : (mean fresh create_txn).triggers ≡ Created (codes "/a") ∷ ChildrenChanged (codes "/") ∷ []
 create_triggers =
     ap (λ (o : Option Node). (of_effect (create_under create_header create_body o) fresh).triggers) root_there
-    ∙ ap (λ (b : Bool). (of_effect (cond b (create_taken create_header create_body root) (create_new create_header create_body root)) fresh).triggers) name_free
+    ∙ ap (λ (b : Bool). (of_effect
+    (cond b (create_taken create_header create_body root) (create_new create_header create_body root))
+    fresh).triggers) name_free
 
 abbrev node_created : NodeEvent
 node_created = record { kind = NodeCreated; path = codes "/a" }
@@ -581,63 +662,93 @@ watched_create_comes : (again : ReadAgain) (rows : FiringRows) (config : Config)
 watched_create_comes again rows config =
     let w = waiting config in
     let clients = w.clients in
-    inform_comes again config (pos 0) [] fresh clients inform_of_create (pos 4294967297) create_txn create_fits create_found
-    ∙ ap (λ (f : Fired). one_delivered w (told_by (meant_create config clients) f)) (ap (fire one_watch) create_triggers ∙ rows.created)
-    ∙ ap (λ (frame : Option (List ℕ)). one_delivered w (Ok (record { outputs = sent_to 1 frame ++ []; after = led (with_watches (meant_create config clients) no_watch) }))) event_sent
+    inform_comes again config (pos 0) [] fresh clients inform_of_create (pos 4294967297) create_txn
+    create_fits create_found
+    ∙ ap (λ (f : Fired). one_delivered w (told_by (meant_create config clients) f))
+    (ap (fire one_watch) create_triggers ∙ rows.created)
+    ∙ ap (λ (frame : Option (List ℕ)). one_delivered w
+    (Ok (record {
+      outputs = sent_to 1 frame ++ [];
+      after = led (with_watches (meant_create config clients) no_watch);
+    }))) event_sent
     ∙ ap (λ (s : State). replying event_of_create (following config (pos 4294967297) (create_txn ∷ []) s [])) made-is
 
 -- ---- the rows
 
-step : (m : Machine) (e : Event) (events : List Event) (h : Happened Machine) → happen m e ≡ h → play m (e ∷ events) ≡ behind h.outputs (play h.after events)
+step : (m : Machine) (e : Event) (events : List Event) (h : Happened Machine) → happen m e ≡ h
+    → play m (e ∷ events) ≡ behind h.outputs (play h.after events)
 step m e events h is = ap (λ (g : Happened Machine). behind g.outputs (play g.after events)) is
 
 create_get : (again : ReadAgain) (nobody : NobodyTold) (config : Config) (events : List Event)
-    → play (primed_machine config) (created ∷ asked ∷ events) ≡ behind (ToClient 1 reply_of_create ∷ []) (play (after_create config []) events)
+    → play (primed_machine config) (created ∷ asked ∷ events) ≡ behind (ToClient 1 reply_of_create ∷ [])
+    (play (after_create config []) events)
 create_get again nobody config events =
-    step (primed_machine config) created (asked ∷ events) (quiet (after_create config [])) (create_comes again nobody config [])
-    ∙ step (after_create config []) asked events (replying reply_of_create (after_create config [])) (get_after_create config [] (get_front ++ get_back) get_found)
+    step (primed_machine config) created (asked ∷ events) (quiet (after_create config []))
+    (create_comes again nobody config [])
+    ∙ step (after_create config []) asked events (replying reply_of_create (after_create config []))
+    (get_after_create config [] (get_front ++ get_back) get_found)
 
-set_get : (again : ReadAgain) (nobody : NobodyTold) (config : Config) → play (after_create config []) (overwritten ∷ asked ∷ []) ≡ replying reply_of_set_data (after_set config)
+set_get : (again : ReadAgain) (nobody : NobodyTold) (config : Config)
+    → play (after_create config []) (overwritten ∷ asked ∷ []) ≡ replying reply_of_set_data (after_set config)
 set_get again nobody config =
     step (after_create config []) overwritten (asked ∷ []) (quiet (after_set config)) (set_comes again nobody config)
     ∙ step (after_set config) asked [] (replying reply_of_set_data (after_set config)) (get_after_set config)
 
 cut_get : (again : ReadAgain) (nobody : NobodyTold) (config : Config)
-    → play (primed_machine config) (ClientBytes 1 get_front ∷ created ∷ ClientBytes 1 get_back ∷ []) ≡ replying reply_of_create (after_create config [])
+    → play (primed_machine config) (ClientBytes 1 get_front ∷ created ∷ ClientBytes 1 get_back ∷ [])
+    ≡ replying reply_of_create (after_create config [])
 cut_get again nobody config =
-    step (primed_machine config) (ClientBytes 1 get_front) (created ∷ ClientBytes 1 get_back ∷ []) (quiet (following config (pos 0) [] fresh get_front)) (front_comes config)
-    ∙ step (following config (pos 0) [] fresh get_front) created (ClientBytes 1 get_back ∷ []) (quiet (after_create config get_front)) (create_comes again nobody config get_front)
-    ∙ step (after_create config get_front) (ClientBytes 1 get_back) [] (replying reply_of_create (after_create config [])) (get_after_create config get_front get_back get_found)
+    step (primed_machine config) (ClientBytes 1 get_front) (created ∷ ClientBytes 1 get_back ∷ [])
+    (quiet (following config (pos 0) [] fresh get_front)) (front_comes config)
+    ∙ step (following config (pos 0) [] fresh get_front) created (ClientBytes 1 get_back ∷ [])
+    (quiet (after_create config get_front)) (create_comes again nobody config get_front)
+    ∙ step (after_create config get_front) (ClientBytes 1 get_back) []
+    (replying reply_of_create (after_create config [])) (get_after_create config get_front get_back get_found)
 
 create_twice : (again : ReadAgain) (nobody : NobodyTold) (config : Config)
-    → play (primed_machine config) (created ∷ created ∷ overwritten ∷ asked ∷ []) ≡ behind (CloseLeader OutOfOrder ∷ CloseClient 1 ∷ []) (play (closed config) (overwritten ∷ asked ∷ []))
+    → play (primed_machine config) (created ∷ created ∷ overwritten ∷ asked ∷ []) ≡ behind
+    (CloseLeader OutOfOrder ∷ CloseClient 1 ∷ []) (play (closed config) (overwritten ∷ asked ∷ []))
 create_twice again nobody config =
-    step (primed_machine config) created (created ∷ overwritten ∷ asked ∷ []) (quiet (after_create config [])) (create_comes again nobody config [])
-    ∙ step (after_create config []) created (overwritten ∷ asked ∷ []) (refusing config) (create_comes_again again config)
+    step (primed_machine config) created (created ∷ overwritten ∷ asked ∷ []) (quiet (after_create config []))
+    (create_comes again nobody config [])
+    ∙ step (after_create config []) created (overwritten ∷ asked ∷ []) (refusing config)
+    (create_comes_again again config)
 
 watch_told : (again : ReadAgain) (nobody : NobodyTold) (rows : FiringRows) (config : Config)
     → play (primed_machine config) (awaited ∷ created ∷ overwritten ∷ [])
     ≡ record { outputs = ToClient 1 reply_of_missing ∷ ToClient 1 event_of_create ∷ []; after = after_set config }
 watch_told again nobody rows config =
-    step (primed_machine config) awaited (created ∷ overwritten ∷ []) (replying reply_of_missing (awaiting config)) (exists_comes config)
+    step (primed_machine config) awaited (created ∷ overwritten ∷ []) (replying reply_of_missing (awaiting config))
+    (exists_comes config)
     ∙ ap (behind (ToClient 1 reply_of_missing ∷ []))
-    (step (awaiting config) created (overwritten ∷ []) (replying event_of_create (after_create config [])) (watched_create_comes again rows config)
-    ∙ ap (behind (ToClient 1 event_of_create ∷ [])) (step (after_create config []) overwritten [] (quiet (after_set config)) (set_comes again nobody config)))
+    (step (awaiting config) created (overwritten ∷ []) (replying event_of_create (after_create config []))
+    (watched_create_comes again rows config)
+    ∙ ap (behind (ToClient 1 event_of_create ∷ []))
+    (step (after_create config []) overwritten [] (quiet (after_set config)) (set_comes again nobody config)))
 
 idle_is : (config : Config) → (play (new_machine config) (created ∷ asked ∷ [])).outputs ≡ []
-idle_is config = ap (λ (o : Option Connection). (beside {L = Leader} None (take_client_bytes false 1 (new_machine config).world o (get_front ++ get_back))).outputs ++ []) (finmap.get-empty nat_cmp 1)
+idle_is config = ap (λ (o : Option Connection).
+    (beside {L = Leader} None (take_client_bytes false 1 (new_machine config).world o (get_front ++ get_back))).outputs
+    ++ []) (finmap.get-empty nat_cmp 1)
 
-closed_passes : (config : Config) → (behind (CloseLeader OutOfOrder ∷ CloseClient 1 ∷ []) (play (closed config) (overwritten ∷ asked ∷ []))).outputs ≡ CloseLeader OutOfOrder ∷ CloseClient 1 ∷ []
+closed_passes : (config : Config)
+    → (behind (CloseLeader OutOfOrder ∷ CloseClient 1 ∷ []) (play (closed config) (overwritten ∷ asked ∷ []))).outputs
+    ≡ CloseLeader OutOfOrder ∷ CloseClient 1 ∷ []
 closed_passes config =
-    ap (λ (o : Option Connection). (CloseLeader OutOfOrder ∷ CloseClient 1 ∷ []) ++ ((beside {L = Leader} None (take_client_bytes false 1 (closed config).world o (get_front ++ get_back))).outputs ++ []))
+    ap (λ (o : Option Connection). (CloseLeader OutOfOrder ∷ CloseClient 1 ∷ [])
+    ++ ((beside {L = Leader} None (take_client_bytes false 1 (closed config).world o (get_front ++ get_back))).outputs
+    ++ []))
     (get-removed (at_first []) 1)
 
 pub rows_hold : ReadAgain → NobodyTold → FiringRows → WorkedRows
 rows_hold again nobody rows = record {
   create_then_get = λ config. ap (λ (h : Happened Machine). h.outputs) (create_get again nobody config []);
-  set_then_get = λ config. ap (λ (h : Happened Machine). h.outputs) (create_get again nobody config (overwritten ∷ asked ∷ []) ∙ ap (behind (ToClient 1 reply_of_create ∷ [])) (set_get again nobody config));
+  set_then_get = λ config. ap (λ (h : Happened Machine). h.outputs)
+      (create_get again nobody config (overwritten ∷ asked ∷ []) ∙ ap (behind (ToClient 1 reply_of_create ∷ []))
+      (set_get again nobody config));
   cut_request = λ config. ap (λ (h : Happened Machine). h.outputs) (cut_get again nobody config);
-  same_zxid_twice = λ config. ap (λ (h : Happened Machine). h.outputs) (create_twice again nobody config) ∙ closed_passes config;
+  same_zxid_twice = λ config. ap (λ (h : Happened Machine). h.outputs) (create_twice again nobody config)
+      ∙ closed_passes config;
   watch_on_missing = λ config. ap (λ (h : Happened Machine). h.outputs) (watch_told again nobody rows config);
   nothing = λ config. refl;
   idle = λ config. idle_is config;

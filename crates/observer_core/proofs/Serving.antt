@@ -20,7 +20,8 @@ use Rattle.observer_core.proofs.Streams.{client_frame_sound, frames_streamed}
 
 -- ---- frames
 
-pub shorter : (bytes rest f : List ℕ) → (frame client_frame_limit).read bytes ≡ Ok (f, rest) → length rest < length bytes
+pub shorter : (bytes rest f : List ℕ) → (frame client_frame_limit).read bytes ≡ Ok (f, rest)
+    → length rest < length bytes
 shorter bytes rest f e = shorter_rest frames frames_streamed tt bytes rest f e
 
 behind_text : (bytes text rest : List ℕ) → bytes ≡ text ++ rest → drop (length bytes - length rest) bytes ≡ rest
@@ -29,19 +30,25 @@ behind_text bytes text rest e =
     rw (e, n) (drop_at text rest (length text) refl)
 
 pub frame_whole : (bytes rest f : List ℕ) → IsBytes bytes → (frame client_frame_limit).read bytes ≡ Ok (f, rest)
-    → (items frames (place_at tt bytes) ≡ before f (items frames (place_at tt (drop (length bytes - length rest) bytes)))) × (0 < length bytes - length rest) × (length bytes - length rest ≤ length bytes)
+    → (items frames (place_at tt bytes) ≡ before f
+    (items frames (place_at tt (drop (length bytes - length rest) bytes)))) × (0 < length bytes - length rest)
+    × (length bytes - length rest ≤ length bytes)
 frame_whole bytes rest f fits e =
     let t = client_frame_sound.lawful.takes bytes f rest fits e in (
-      items_whole frames frames_streamed tt bytes rest f e ∙ ap (λ (b : List ℕ). before f (items frames (place_at tt b))) (sym (behind_text bytes t.text rest t.parts)),
+      items_whole frames frames_streamed tt bytes rest f e
+          ∙ ap (λ (b : List ℕ). before f (items frames (place_at tt b))) (sym (behind_text bytes t.text rest t.parts)),
       omega (arith, shorter bytes rest f e),
       omega arith,
     )
 
-pub frame_short : (bytes : List ℕ) → (frame client_frame_limit).read bytes ≡ Err Short → items frames (place_at tt bytes) ≡ nothing (place_at tt bytes)
+pub frame_short : (bytes : List ℕ) → (frame client_frame_limit).read bytes ≡ Err Short
+    → items frames (place_at tt bytes) ≡ nothing (place_at tt bytes)
 frame_short bytes e = items_short frames frames_streamed tt bytes e
 
-pub frame_refused : (bytes : List ℕ) (e : Fault) → (e ≡ Short → ⊥) → (frame client_frame_limit).read bytes ≡ Err e → items frames (place_at tt bytes) ≡ nothing (record { phase = tt; unread = Err e })
-frame_refused bytes e other h = items_refused frames frames_streamed tt bytes e h ∙ ap (λ u. nothing (record { phase = tt; unread = u })) (refused_other e bytes other)
+pub frame_refused : (bytes : List ℕ) (e : Fault) → (e ≡ Short → ⊥) → (frame client_frame_limit).read bytes ≡ Err e
+    → items frames (place_at tt bytes) ≡ nothing (record { phase = tt; unread = Err e })
+frame_refused bytes e other h = items_refused frames frames_streamed tt bytes e h
+    ∙ ap (λ u. nothing (record { phase = tt; unread = u })) (refused_other e bytes other)
 
 -- ---- turns
 
@@ -60,28 +67,40 @@ abbrev left_at : ℕ → Unread → Happened World → Happened World
 left_at n left h = and_then h (wait_at n left)
 
 module _ (serving : Bool) (n : ℕ) (w : World) (found : Items (Unit {0}) (List ℕ)) where
-  pub served_first : (f : List ℕ) (others : Items (Unit {0}) (List ℕ)) → found ≡ before f others → finmap.contains_key w.clients.connections n ≡ true
-      → serve_all serving n w found ≡ behind (serve serving n w f).outputs (serve_all serving n (serve serving n w f).after others)
+  pub served_first : (f : List ℕ) (others : Items (Unit {0}) (List ℕ)) → found ≡ before f others
+      → finmap.contains_key w.clients.connections n ≡ true
+      → serve_all serving n w found ≡ behind (serve serving n w f).outputs
+      (serve_all serving n (serve serving n w f).after others)
   served_first f others is open_ =
       ap (serve_all serving n w) is
       ∙ ap (left_at n others.left.unread) (goes_on (is_closed n) (serve serving n) w f others.found (open_is n w open_))
-      ∙ sym (behind_behind (serve serving n w f).outputs (happening (is_closed n) (serve serving n) (serve serving n w f).after others.found).outputs
-      (wait_at n others.left.unread (happening (is_closed n) (serve serving n) (serve serving n w f).after others.found).after))
+      ∙ sym (behind_behind (serve serving n w f).outputs
+      (happening (is_closed n) (serve serving n) (serve serving n w f).after others.found).outputs
+      (wait_at n others.left.unread
+      (happening (is_closed n) (serve serving n) (serve serving n w f).after others.found).after))
 
   pub all_passed_over : finmap.contains_key w.clients.connections n ≡ false → serve_all serving n w found ≡ quiet w
   all_passed_over closed =
-      ap (left_at n found.left.unread) (passed_over (is_closed n) (serve serving n) w found.found (closed_is n w closed))
-      ∙ ap (λ (o : Option Connection). wait_if_open n w o found.left.unread) (none_of (finmap.get w.clients.connections n) closed)
+      ap (left_at n found.left.unread)
+      (passed_over (is_closed n) (serve serving n) w found.found (closed_is n w closed))
+      ∙ ap (λ (o : Option Connection). wait_if_open n w o found.left.unread)
+      (none_of (finmap.get w.clients.connections n) closed)
 
   pub none_whole : (bytes : List ℕ) → found ≡ nothing (place_at tt bytes)
-      → serve_all serving n w found ≡ quiet (record w { clients = record w.clients { connections = with_rest w.clients.connections n (finmap.get w.clients.connections n) bytes } })
+      → serve_all serving n w found ≡ quiet
+      (record w {
+        clients = record
+            w.clients { connections = with_rest w.clients.connections n (finmap.get w.clients.connections n) bytes };
+      })
   none_whole bytes is = ap (serve_all serving n w) is ∙ by (finmap.get w.clients.connections n)
     where
-      by : (o : Option Connection) → wait_if_open n w o (Ok bytes) ≡ quiet (record w { clients = record w.clients { connections = with_rest w.clients.connections n o bytes } })
+      by : (o : Option Connection) → wait_if_open n w o (Ok bytes) ≡ quiet
+          (record w { clients = record w.clients { connections = with_rest w.clients.connections n o bytes } })
       by None = refl
       by (Some k) = refl
 
-  pub bad_length : (e : Fault) → found ≡ nothing (record { phase = tt; unread = Err e }) → finmap.contains_key w.clients.connections n ≡ true → serve_all serving n w found ≡ close_client n w
+  pub bad_length : (e : Fault) → found ≡ nothing (record { phase = tt; unread = Err e })
+      → finmap.contains_key w.clients.connections n ≡ true → serve_all serving n w found ≡ close_client n w
   bad_length e is open_ = ap (serve_all serving n w) is ∙ by (finmap.get w.clients.connections n) open_
     where
       by : (o : Option Connection) → is_some o ≡ true → wait_if_open n w o (Err e) ≡ close_client n w
@@ -91,18 +110,26 @@ module _ (serving : Bool) (n : ℕ) (w : World) (found : Items (Unit {0}) (List 
 -- ---- bytes
 
 module _ (serving : Bool) (n : ℕ) (w : World) (o : Option Connection) (bytes : List ℕ) where
-  pub not_open : rest_at o ≡ None → take_client_bytes serving n w o bytes ≡ quiet (record w { clients = record w.clients { connections = with_rest w.clients.connections n o [] } })
+  pub not_open : rest_at o ≡ None → take_client_bytes serving n w o bytes ≡ quiet
+      (record w { clients = record w.clients { connections = with_rest w.clients.connections n o [] } })
   not_open e = by o e
     where
-      by : (o : Option Connection) → rest_at o ≡ None → take_client_bytes serving n w o bytes ≡ quiet (record w { clients = record w.clients { connections = with_rest w.clients.connections n o [] } })
+      by : (o : Option Connection) → rest_at o ≡ None → take_client_bytes serving n w o bytes ≡ quiet
+          (record w { clients = record w.clients { connections = with_rest w.clients.connections n o [] } })
       by None e = refl
       by (Some k) e = absurd (true≢false (ap is_some e))
 
   pub at_open : (rest : List ℕ) → rest_at o ≡ Some rest
-      → take_client_bytes serving n w o bytes ≡ serve_all serving n (record w { clients = record w.clients { connections = with_rest w.clients.connections n o [] } }) (items frames (place_at tt (rest ++ bytes)))
+      → take_client_bytes serving n w o bytes ≡ serve_all serving n
+      (record w { clients = record w.clients { connections = with_rest w.clients.connections n o [] } })
+      (items frames (place_at tt (rest ++ bytes)))
   at_open rest e = by o e
     where
       by : (o : Option Connection) → rest_at o ≡ Some rest
-          → take_client_bytes serving n w o bytes ≡ serve_all serving n (record w { clients = record w.clients { connections = with_rest w.clients.connections n o [] } }) (items frames (place_at tt (rest ++ bytes)))
+          → take_client_bytes serving n w o bytes ≡ serve_all serving n
+          (record w { clients = record w.clients { connections = with_rest w.clients.connections n o [] } })
+          (items frames (place_at tt (rest ++ bytes)))
       by None e = absurd (true≢false (sym (ap is_some e)))
-      by (Some k) e = ap (λ (x : Option (List ℕ)). serve_all serving n (record w { clients = record w.clients { connections = with_rest w.clients.connections n (Some k) [] } }) (items frames (place_at tt (unwrap_or x [] ++ bytes)))) e
+      by (Some k) e = ap (λ (x : Option (List ℕ)). serve_all serving n
+          (record w { clients = record w.clients { connections = with_rest w.clients.connections n (Some k) [] } })
+          (items frames (place_at tt (unwrap_or x [] ++ bytes)))) e

@@ -9,7 +9,8 @@ use Rattle.observer_core.specs.Inner.{Meets}
 use Rattle.observer_core.specs.Steps.{Happened, behind, quiet, and_then, happening}
 
 pub behind_behind : {S : Type 0} (x y : List Output) (h : Happened S) → behind x (behind y h) ≡ behind (x ++ y) h
-behind_behind x y h = ap (λ (o : List Output). record { outputs = o; after = h.after }) (sym (append_assoc x y h.outputs))
+behind_behind x y h = ap (λ (o : List Output). record { outputs = o; after = h.after })
+    (sym (append_assoc x y h.outputs))
 
 module _ {S A : Type 0} (is_end : S → Bool) (step : S → A → Happened S) where
   abbrev run : S → List A → Happened S
@@ -19,7 +20,8 @@ module _ {S A : Type 0} (is_end : S → Bool) (step : S → A → Happened S) wh
   passed_over s [] e = refl
   passed_over s (a ∷ xs) e = ap (λ b. cond b (quiet s) (behind (step s a).outputs (run (step s a).after xs))) e
 
-  pub goes_on : (s : S) (a : A) (xs : List A) → is_end s ≡ false → run s (a ∷ xs) ≡ behind (step s a).outputs (run (step s a).after xs)
+  pub goes_on : (s : S) (a : A) (xs : List A) → is_end s ≡ false → run s (a ∷ xs) ≡ behind (step s a).outputs
+      (run (step s a).after xs)
   goes_on s a xs e = ap (λ b. cond b (quiet s) (behind (step s a).outputs (run (step s a).after xs))) e
 
   abbrev then_run : Happened S → List A → Happened S
@@ -31,14 +33,17 @@ module _ {S A : Type 0} (is_end : S → Bool) (step : S → A → Happened S) wh
   happening_on s (a ∷ xs) ys = by (is_end s) refl (happening_on (step s a).after xs ys)
     where
       by : (b : Bool) → is_end s ≡ b → run (step s a).after (xs ++ ys) ≡ then_run (run (step s a).after xs) ys
-          → cond b (quiet s) (behind (step s a).outputs (run (step s a).after (xs ++ ys))) ≡ then_run (cond b (quiet s) (behind (step s a).outputs (run (step s a).after xs))) ys
+          → cond b (quiet s) (behind (step s a).outputs (run (step s a).after (xs ++ ys))) ≡ then_run
+          (cond b (quiet s) (behind (step s a).outputs (run (step s a).after xs))) ys
       by true e others = sym (passed_over s ys e)
-      by false e others = ap (behind (step s a).outputs) others ∙ behind_behind (step s a).outputs (run (step s a).after xs).outputs (run (run (step s a).after xs).after ys)
+      by false e others = ap (behind (step s a).outputs) others ∙ behind_behind (step s a).outputs
+          (run (step s a).after xs).outputs (run (run (step s a).after xs).after ys)
 
 -- ---- what a loop keeps
 
 -- what was put out so far is a front of the whole, and what is left leads to the rest of it
-pub record SoFar {S : Type 0} (old : List Output) (whole : Happened S) (now : List Output) (left : Happened S) : Type 0 where
+pub record SoFar {S : Type 0} (old : List Output) (whole : Happened S) (now : List Output)
+    (left : Happened S) : Type 0 where
   pub front : List Output
   pub put : now ≡ old ++ front
   pub leads : behind front left ≡ whole
@@ -47,15 +52,23 @@ module _ {S : Type 0} where
   pub begins : (old : List Output) (whole : Happened S) → SoFar old whole old whole
   begins old whole = record { front = []; put = sym (append-nil old); leads = refl }
 
-  pub same_left : (old : List Output) (whole : Happened S) (now : List Output) (left next : Happened S) → left ≡ next → SoFar old whole now left → SoFar old whole now next
-  same_left old whole now left next e s = record { front = s.front; put = s.put; leads = ap (behind s.front) (sym e) ∙ s.leads }
+  pub same_left : (old : List Output) (whole : Happened S) (now : List Output) (left next : Happened S) → left ≡ next
+      → SoFar old whole now left → SoFar old whole now next
+  same_left old whole now left next e s = record {
+    front = s.front;
+    put = s.put;
+    leads = ap (behind s.front) (sym e) ∙ s.leads;
+  }
 
   -- one step was made
-  pub steps : {T : Type 0} (old : List Output) (whole : Happened S) (now new : List Output) (left : Happened S) (h : Happened T) (others : T → Happened S) (after : T)
-      → left ≡ behind h.outputs (others h.after) → behind now h ≡ record { outputs = new; after = after } → SoFar old whole now left → SoFar old whole new (others after)
+  pub steps : {T : Type 0} (old : List Output) (whole : Happened S) (now new : List Output) (left : Happened S)
+      (h : Happened T) (others : T → Happened S) (after : T)
+      → left ≡ behind h.outputs (others h.after) → behind now h ≡ record { outputs = new; after = after }
+      → SoFar old whole now left → SoFar old whole new (others after)
   steps old whole now new left h others after is made s = record {
     front = s.front ++ h.outputs;
-    put = sym (ap (λ (g : Happened _). g.outputs) made) ∙ ap (λ (o : List Output). o ++ h.outputs) s.put ∙ append_assoc old s.front h.outputs;
+    put = sym (ap (λ (g : Happened _). g.outputs) made) ∙ ap (λ (o : List Output). o ++ h.outputs) s.put
+        ∙ append_assoc old s.front h.outputs;
     leads =
         ap (λ (g : Happened _). behind (s.front ++ h.outputs) (others g.after)) (sym made)
         ∙ sym (behind_behind s.front h.outputs (others h.after))
@@ -73,26 +86,35 @@ module _ {S : Type 0} where
 
   -- the last step was made
   pub last_step : (old : List Output) (whole : Happened S) (now new : List Output) (left : Happened S) (after : S)
-      → behind now left ≡ record { outputs = new; after = after } → SoFar old whole now left → behind old whole ≡ record { outputs = new; after = after }
+      → behind now left ≡ record { outputs = new; after = after } → SoFar old whole now left
+      → behind old whole ≡ record { outputs = new; after = after }
   last_step old whole now new left after made s =
-      ap (behind old) (sym s.leads) ∙ behind_behind old s.front left ∙ ap (λ (o : List Output). behind o left) (sym s.put) ∙ made
+      ap (behind old) (sym s.leads) ∙ behind_behind old s.front left ∙ ap (λ (o : List Output). behind o left)
+      (sym s.put) ∙ made
 
   -- memory was refused on the way
   pub stops : (old : List Output) (whole : Happened S) (now new : List Output) (left : Happened S)
       → Gains now left.outputs new → SoFar old whole now left → Gains old whole.outputs new
-  stops old whole now new left g s = rw (← ap (λ (h : Happened S). h.outputs) s.leads) (gains_behind old s.front s.put g)
+  stops old whole now new left g s = rw (← ap (λ (h : Happened S). h.outputs) s.leads)
+      (gains_behind old s.front s.put g)
 
   -- memory was refused in a step
-  pub stops_in_step : {T : Type 0} (old : List Output) (whole : Happened S) (now new : List Output) (left : Happened S) (h : Happened T) (others : T → Happened S)
-      → left ≡ behind h.outputs (others h.after) → Gains now h.outputs new → SoFar old whole now left → Gains old whole.outputs new
+  pub stops_in_step : {T : Type 0} (old : List Output) (whole : Happened S) (now new : List Output) (left : Happened S)
+      (h : Happened T) (others : T → Happened S)
+      → left ≡ behind h.outputs (others h.after) → Gains now h.outputs new → SoFar old whole now left
+      → Gains old whole.outputs new
   stops_in_step old whole now new left h others is g s =
-      stops old whole now new (behind h.outputs (others h.after)) (gains_first (others h.after).outputs g) (same_left old whole now left (behind h.outputs (others h.after)) is s)
+      stops old whole now new (behind h.outputs (others h.after)) (gains_first (others h.after).outputs g)
+      (same_left old whole now left (behind h.outputs (others h.after)) is s)
 
   -- the last step was tried
-  pub ends_with : (r : Result (Unit {0}) NoMemory) (old : List Output) (whole : Happened S) (now new : List Output) (left last : Happened S) (after : S)
+  pub ends_with : (r : Result (Unit {0}) NoMemory) (old : List Output) (whole : Happened S) (now new : List Output)
+      (left last : Happened S) (after : S)
       → left ≡ last → Meets r now last new after → SoFar old whole now left → Meets r old whole new after
-  ends_with (Ok u) old whole now new left last after is m s = last_step old whole now new last after m (same_left old whole now left last is s)
-  ends_with (Err e) old whole now new left last after is m s = stops old whole now new last m (same_left old whole now left last is s)
+  ends_with (Ok u) old whole now new left last after is m s = last_step old whole now new last after m
+      (same_left old whole now left last is s)
+  ends_with (Err e) old whole now new left last after is m s =
+      stops old whole now new last m (same_left old whole now left last is s)
 
 -- outputs alone
 abbrev pub putting : List Output → Happened (Unit {0})
@@ -101,8 +123,10 @@ putting outputs = record { outputs = outputs; after = tt }
 -- ---- two steps
 
 -- one was made, and then the other was tried
-pub then_meets : {S T : Type 0} (r : Result (Unit {0}) NoMemory) (old mid new : List Output) (h : Happened S) (next : S → Happened T) (left : S) (after : T)
-    → behind old h ≡ record { outputs = mid; after = left } → Meets r mid (next left) new after → Meets r old (and_then h next) new after
+pub then_meets : {S T : Type 0} (r : Result (Unit {0}) NoMemory) (old mid new : List Output) (h : Happened S)
+    (next : S → Happened T) (left : S) (after : T)
+    → behind old h ≡ record { outputs = mid; after = left } → Meets r mid (next left) new after
+    → Meets r old (and_then h next) new after
 then_meets {S} (Ok u) old mid new h next left after made m =
     behind_behind old h.outputs (next h.after) ∙ ap (λ (g : Happened S). behind g.outputs (next g.after)) made ∙ m
 then_meets {S} (Err e) old mid new h next left after made m =
@@ -111,11 +135,14 @@ then_meets {S} (Err e) old mid new h next left after made m =
     (gains_behind old h.outputs (sym (ap (λ (g : Happened S). g.outputs) made)) m)
 
 -- the first one wanted memory
-pub first_stops : {S T : Type 0} (old new : List Output) (h : Happened S) (next : S → Happened T) → Gains old h.outputs new → Gains old (and_then h next).outputs new
+pub first_stops : {S T : Type 0} (old new : List Output) (h : Happened S) (next : S → Happened T)
+    → Gains old h.outputs new → Gains old (and_then h next).outputs new
 first_stops old new h next g = gains_first (next h.after).outputs g
 
 -- outputs were put, and then a step was tried
-pub behind_meets : {S : Type 0} (r : Result (Unit {0}) NoMemory) (old put mid new : List Output) (h : Happened S) (after : S)
+pub behind_meets : {S : Type 0} (r : Result (Unit {0}) NoMemory) (old put mid new : List Output)
+    (h : Happened S) (after : S)
     → mid ≡ old ++ put → Meets r mid h new after → Meets r old (behind put h) new after
-behind_meets (Ok u) old put mid new h after is m = behind_behind old put h ∙ ap (λ (o : List Output). behind o h) (sym is) ∙ m
+behind_meets (Ok u) old put mid new h after is m = behind_behind old put h
+    ∙ ap (λ (o : List Output). behind o h) (sym is) ∙ m
 behind_meets (Err e) old put mid new h after is m = gains_behind old put is m

@@ -10,4 +10,5 @@ pub client_frame_sound : Sound (frame client_frame_limit)
 client_frame_sound = frame_sound client_frame_limit (omega arith)
 
 pub frames_streamed : IsStream frames
-frames_streamed = only_streamed (frame client_frame_limit) (record { pieced = client_frame_sound.pieced; some = client_frame_sound.some })
+frames_streamed = only_streamed (frame client_frame_limit)
+    (record { pieced = client_frame_sound.pieced; some = client_frame_sound.some })

@@ -43,7 +43,8 @@ module _ (s : Sessions) (n : ℕ) where
       → session_of (show_in s n id o).after n ≡ Some session
   show_keeps id session None none has = has
   show_keeps id session (Some c) is has =
-      cond_both (list_any (λ shown. is_same_id shown id) c.ids) _ _ (λ (x : Shows). session_of x.after n ≡ Some session) (λ _. has)
+      cond_both (list_any (λ shown. is_same_id shown id) c.ids) _ _
+      (λ (x : Shows). session_of x.after n ≡ Some session) (λ _. has)
       (λ _. cond_both (nat_lt (length c.ids) ids_limit) _ _ (λ (x : Shows). session_of x.after n ≡ Some session)
       (λ _. ap session_in (get-inserted s.connections n (with_id c id)) ∙ is) (λ _. has))
 
@@ -65,11 +66,13 @@ module _ (s : Sessions) (n : ℕ) where
       → IsTaken j request.session_id (connect s n request).after
   connect_takes request j agree =
       cond_both (int_eq session (pos 0)) _ _ Told
-      (λ _. cond_both (s.counter == greatest_counter) _ _ Told (λ _ e. absurd (none_or_some j e)) (λ _ e. absurd (none_or_some j e)))
+      (λ _. cond_both (s.counter == greatest_counter) _ _ Told (λ _ e. absurd (none_or_some j e))
+      (λ _ e. absurd (none_or_some j e)))
       (λ _. cond_both (is_valid s request) _ _ Told
       (λ _ older. record {
         had = had (finmap.get s.guests session) refl older;
-        has = ap session_in (get-inserted (close_one s (connection_of s session)).connections n (new_connection session));
+        has = ap session_in (get-inserted (close_one s (connection_of s session)).connections n
+            (new_connection session));
       })
       (λ _ e. absurd (none_or_some j e)))
     where
@@ -79,7 +82,8 @@ module _ (s : Sessions) (n : ℕ) where
       Told : Connects → Type 0
       Told x = x.connected.older ≡ Some j → IsTaken j session x.after
 
-      had : (o : Option (Option ℕ)) → finmap.get s.guests session ≡ o → connection_in o ≡ Some j → session_of s j ≡ Some session
+      had : (o : Option (Option ℕ)) → finmap.get s.guests session ≡ o → connection_in o ≡ Some j
+          → session_of s j ≡ Some session
       had None there e = absurd (none_or_some j e)
       had (Some o) there e = ap session_in (agree.connections session j (there ∙ ap (λ (x : Option ℕ). Some x) e)).1
 
@@ -96,7 +100,8 @@ send_has : (n : ℕ) (session : ℤ) (w : World) (frame : Option (List ℕ)) →
 send_has n session w None has = closed_has n session w.clients
 send_has n session w (Some bytes) has = has
 
-send_last_has : (n : ℕ) (session : ℤ) (w : World) (frame : Option (List ℕ)) → HasIfOpen n session (send_last n w frame).after.clients
+send_last_has : (n : ℕ) (session : ℤ) (w : World) (frame : Option (List ℕ))
+    → HasIfOpen n session (send_last n w frame).after.clients
 send_last_has n session w frame = closed_has n session (send n w frame).after.clients
 
 greet_has : (n : ℕ) (session : ℤ) (has_byte : Bool) (response : SessionResponse) (w : World)
@@ -107,7 +112,8 @@ greet_has n session has_byte response w has =
     cond_both (int_eq response.session_id (pos 0)) _ _ (λ (h : Happened World). HasIfOpen n session h.after.clients)
     (λ _. send_last_has n session w frame) (λ other. send_has n session w frame (has other))
 
-shown_has : (n : ℕ) (session : ℤ) (w : World) (xid : ℤ) (shows : Shows) → HasIfOpen n session (with_sessions w shows.after).clients
+shown_has : (n : ℕ) (session : ℤ) (w : World) (xid : ℤ) (shows : Shows)
+    → HasIfOpen n session (with_sessions w shows.after).clients
     → HasIfOpen n session (shown n w xid shows).after.clients
 shown_has n session w xid shows has =
     let v = with_sessions w shows.after in
@@ -117,32 +123,41 @@ shown_has n session w xid shows has =
 
 renewed_has : (n : ℕ) (session : ℤ) (w : World) (xid : ℤ) (r : Option Renewal) → HasIfOpen n session w.clients
     → HasIfOpen n session (renewed n w xid r).after.clients
-renewed_has n session w xid None has = send_has n session w (reply xid w.replica.learner.last_zxid (without_body BAD_ARGUMENTS)) has
+renewed_has n session w xid None has =
+    send_has n session w (reply xid w.replica.learner.last_zxid (without_body BAD_ARGUMENTS)) has
 renewed_has n session w xid (Some r) has =
-    send_has n session (watching w (watched_each n w.clients.watches r.watches)) (reply xid w.replica.learner.last_zxid (without_body OK)) has
+    send_has n session (watching w (watched_each n w.clients.watches r.watches))
+    (reply xid w.replica.learner.last_zxid (without_body OK)) has
 
 call_has : (n : ℕ) (session : ℤ) (w : World) (xid : ℤ) (b : CallBody) → session_of w.clients.sessions n ≡ Some session
     → HasIfOpen n session (call n w xid b).after.clients
 call_has n session w xid (bodies.Read r) has =
     let seen = look w.replica.tree (ids_of w.clients.sessions n) r in
-    send_has n session (watching w (watched_if n w.clients.watches (watch_of r seen.error))) (reply xid w.replica.learner.last_zxid seen) (λ _. has)
+    send_has n session (watching w (watched_if n w.clients.watches (watch_of r seen.error)))
+    (reply xid w.replica.learner.last_zxid seen) (λ _. has)
 call_has n session w xid (bodies.SetWatches r) has = renewed_has n session w xid (renew w.replica.tree r) (λ _. has)
 call_has n session w xid (bodies.Auth packet) has =
     shown_has n session w xid (auth w.clients.sessions n packet.scheme packet.auth)
     (λ _. auth_keeps w.clients.sessions n packet.scheme packet.auth session has)
 call_has n session w xid bodies.CloseSession has =
     send_last_has n session (end_session n w) (reply xid (end_session n w).replica.learner.last_zxid (without_body OK))
-call_has n session w xid bodies.Unreadable has = send_has n session w (reply xid w.replica.learner.last_zxid (without_body BAD_ARGUMENTS)) (λ _. has)
-call_has n session w xid bodies.Ping has = send_has n session w (reply PING_XID w.replica.learner.last_zxid (without_body OK)) (λ _. has)
-call_has n session w xid bodies.Write has = send_has n session w (reply xid w.replica.learner.last_zxid (without_body NOT_READ_ONLY)) (λ _. has)
-call_has n session w xid bodies.Unknown has = send_last_has n session w (reply xid w.replica.learner.last_zxid (without_body UNIMPLEMENTED))
+call_has n session w xid bodies.Unreadable has =
+    send_has n session w (reply xid w.replica.learner.last_zxid (without_body BAD_ARGUMENTS)) (λ _. has)
+call_has n session w xid bodies.Ping has =
+    send_has n session w (reply PING_XID w.replica.learner.last_zxid (without_body OK)) (λ _. has)
+call_has n session w xid bodies.Write has =
+    send_has n session w (reply xid w.replica.learner.last_zxid (without_body NOT_READ_ONLY)) (λ _. has)
+call_has n session w xid bodies.Unknown has =
+    send_last_has n session w (reply xid w.replica.learner.last_zxid (without_body UNIMPLEMENTED))
 
-pub call_in_has : (n : ℕ) (session : ℤ) (w : World) (c : Result Call Fault) → session_of w.clients.sessions n ≡ Some session
+pub call_in_has : (n : ℕ) (session : ℤ) (w : World) (c : Result Call Fault)
+    → session_of w.clients.sessions n ≡ Some session
     → HasIfOpen n session (serve_as n w c).after.clients
 call_in_has n session w (Ok c) has = call_has n session w c.xid c.body has
 call_in_has n session w (Err e) has = closed_has n session w.clients
 
-pub wait_has : (n : ℕ) (session : ℤ) (w : World) (o : Option Connection) (left : Unread) → finmap.get w.clients.connections n ≡ o
+pub wait_has : (n : ℕ) (session : ℤ) (w : World) (o : Option Connection) (left : Unread)
+    → finmap.get w.clients.connections n ≡ o
     → HasIfOpen n session w.clients → HasIfOpen n session (wait_if_open n w o left).after.clients
 wait_has n session w None left there has = has
 wait_has n session w (Some c) (Ok rest) there has = λ _. has (ap is_some there)
@@ -159,7 +174,8 @@ pub record Joins (n : ℕ) (w : World) (older : Option ℕ) (after : Clients) : 
 module _ (stay : OthersStay) (told : AnswersTell) where
   pub connected_joins : (n : ℕ) (w : World) (has_byte : Bool) (request : SessionRequest) → Agrees w.clients.sessions
       → finmap.get w.clients.sessions.connections n ≡ None
-      → let c = connect w.clients.sessions n request in Joins n w c.connected.older (connected n w has_byte c).after.clients
+      → let c = connect w.clients.sessions n request in
+      Joins n w c.connected.older (connected n w has_byte c).after.clients
   connected_joins n w has_byte request agree none = by c.connected.older refl
     where
       s : Sessions
@@ -180,7 +196,8 @@ module _ (stay : OthersStay) (told : AnswersTell) where
       apart : (j : ℕ) → session_of s j ≡ Some request.session_id → n ≢ j
       apart j had is = none_or_some request.session_id (sym (ap session_in none) ∙ ap (session_of s) is ∙ had)
 
-      by : (o : Option ℕ) → c.connected.older ≡ o → Joins n w c.connected.older (and_then (close_left v o) (greet n has_byte response)).after.clients
+      by : (o : Option ℕ) → c.connected.older ≡ o
+          → Joins n w c.connected.older (and_then (close_left v o) (greet n has_byte response)).after.clients
       by None is = record {
         session = response.session_id;
         left = λ j older. absurd (none_or_some j (sym is ∙ older));

@@ -43,7 +43,8 @@ send-last_same n w (Some bytes) = refl
 renewed_same : (n : ℕ) (w : World) (xid : ℤ) (r : Option Renewal) → SameReplica w (renewed n w xid r).after
 renewed_same n w xid None = send_same n w (reply xid w.replica.learner.last_zxid (without_body BAD_ARGUMENTS))
 renewed_same n w xid (Some r) =
-    send_same n (watching w (watched_each n w.clients.watches r.watches)) (reply xid w.replica.learner.last_zxid (without_body OK))
+    send_same n (watching w (watched_each n w.clients.watches r.watches))
+    (reply xid w.replica.learner.last_zxid (without_body OK))
 
 shown_same : (n : ℕ) (w : World) (xid : ℤ) (shows : Shows) → SameReplica w (shown n w xid shows).after
 shown_same n w xid shows = by shows.is_accepted
@@ -51,7 +52,9 @@ shown_same n w xid shows = by shows.is_accepted
     v : World
     v = with_sessions w shows.after
 
-    by : (b : Bool) → SameReplica w (cond b (send n v (reply xid (pos 0) (without_body OK))) (send_last n v (reply xid (pos 0) (without_body AUTH_FAILED)))).after
+    by : (b : Bool) → SameReplica w
+        (cond b (send n v (reply xid (pos 0) (without_body OK)))
+        (send_last n v (reply xid (pos 0) (without_body AUTH_FAILED)))).after
     by true = send_same n v (reply xid (pos 0) (without_body OK))
     by false = send-last_same n v (reply xid (pos 0) (without_body AUTH_FAILED))
 
@@ -63,7 +66,8 @@ left_same : (w : World) (left : Option ℕ) → SameReplica w (close_left w left
 left_same w None = refl
 left_same w (Some n) = refl
 
-greet_same : (n : ℕ) (has_byte : Bool) (response : SessionResponse) (w : World) → SameReplica w (greet n has_byte response w).after
+greet_same : (n : ℕ) (has_byte : Bool) (response : SessionResponse) (w : World)
+    → SameReplica w (greet n has_byte response w).after
 greet_same n has_byte response w = by (int_eq response.session_id (pos 0))
   where
     frame : Option (List ℕ)
@@ -73,7 +77,8 @@ greet_same n has_byte response w = by (int_eq response.session_id (pos 0))
     by true = send-last_same n w frame
     by false = send_same n w frame
 
-join_same : (serving : Bool) (n : ℕ) (w : World) (c : Result Connecting Fault) → SameReplica w (join serving n w c).after
+join_same : (serving : Bool) (n : ℕ) (w : World) (c : Result Connecting Fault)
+    → SameReplica w (join serving n w c).after
 join_same serving n w (Err e) = refl
 join_same serving n w (Ok c) = by (may_connect serving w c.request)
   where
@@ -84,22 +89,27 @@ join_same serving n w (Ok c) = by (may_connect serving w c.request)
     left = close_left (with_sessions w asked.after) asked.connected.older
 
     by : (b : Bool) → SameReplica w (cond b (connected n w c.has_byte asked) (close_client n w)).after
-    by true = then_same w left.after (greet n c.has_byte asked.connected.response left.after).after (left_same (with_sessions w asked.after) asked.connected.older) (greet_same n c.has_byte asked.connected.response left.after)
+    by true = then_same w left.after (greet n c.has_byte asked.connected.response left.after).after
+        (left_same (with_sessions w asked.after) asked.connected.older)
+        (greet_same n c.has_byte asked.connected.response left.after)
     by false = refl
 
 call_same : (n : ℕ) (w : World) (xid : ℤ) (b : CallBody) → SameReplica w (call n w xid b).after
 call_same n w xid (bodies.Read r) =
     let seen = look w.replica.tree (ids_of w.clients.sessions n) r in
-    send_same n (watching w (watched_if n w.clients.watches (watch_of r seen.error))) (reply xid w.replica.learner.last_zxid seen)
+    send_same n (watching w (watched_if n w.clients.watches (watch_of r seen.error)))
+    (reply xid w.replica.learner.last_zxid seen)
 call_same n w xid (bodies.SetWatches r) = renewed_same n w xid (renew w.replica.tree r)
 call_same n w xid (bodies.Auth packet) = shown_same n w xid (auth w.clients.sessions n packet.scheme packet.auth)
 call_same n w xid bodies.CloseSession =
     let v = end_session n w in
-    then_same w v (answer_last n v xid (without_body OK)).after (ended_same w (session_of w.clients.sessions n)) (send-last_same n v (reply xid v.replica.learner.last_zxid (without_body OK)))
+    then_same w v (answer_last n v xid (without_body OK)).after (ended_same w (session_of w.clients.sessions n))
+    (send-last_same n v (reply xid v.replica.learner.last_zxid (without_body OK)))
 call_same n w xid bodies.Unreadable = send_same n w (reply xid w.replica.learner.last_zxid (without_body BAD_ARGUMENTS))
 call_same n w xid bodies.Ping = send_same n w (reply PING_XID w.replica.learner.last_zxid (without_body OK))
 call_same n w xid bodies.Write = send_same n w (reply xid w.replica.learner.last_zxid (without_body NOT_READ_ONLY))
-call_same n w xid bodies.Unknown = send-last_same n w (reply xid w.replica.learner.last_zxid (without_body UNIMPLEMENTED))
+call_same n w xid bodies.Unknown =
+    send-last_same n w (reply xid w.replica.learner.last_zxid (without_body UNIMPLEMENTED))
 
 serve_same : (serving : Bool) (n : ℕ) (w : World) (frame : List ℕ) → SameReplica w (serve serving n w frame).after
 serve_same serving n w frame = by (session_of w.clients.sessions n)

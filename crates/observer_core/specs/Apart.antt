@@ -20,7 +20,8 @@ IsOf n left (ToClient k frame) = k ≡ n
 IsOf n left (CloseLeader e) = ⊥
 IsOf n left (CloseClient k) = (k ≡ n) ⊎ left k
 
--- the connection k had a session that the client n took up: n had none before, and it has this one now if it is still open
+-- the connection k had a session that the client n took up: n had none before, and it has this one now if it is still
+-- open
 pub record IsTakenUp (n : ℕ) (before after : Clients) (k : ℕ) : Type 0 where
   pub session : ℤ
   pub had : session_of before.sessions k ≡ Some session
@@ -54,5 +55,6 @@ pub record ReachesOnly (n : ℕ) (m : Machine) (h : Happened Machine) : Type 0 w
 -- a client that comes, sends, or goes
 pub record ClientsAreApart : Type 0 where
   pub comes : (m : Machine) (n : ℕ) → ReachesOnly n m (happen m (ClientUp n))
-  pub sends : (m : Machine) (n : ℕ) (bytes : List ℕ) → ClientsAgree m.world.clients → ReachesOnly n m (happen m (ClientBytes n bytes))
+  pub sends : (m : Machine) (n : ℕ) (bytes : List ℕ) → ClientsAgree m.world.clients
+      → ReachesOnly n m (happen m (ClientBytes n bytes))
   pub goes : (m : Machine) (n : ℕ) → ReachesOnly n m (happen m (ClientEnd n))

@@ -33,7 +33,8 @@ telling c brought =
     }
 
 -- A packet or part was taken; or it was refused, and nothing was changed; or memory was.
-abbrev pub Receives : Result (Unit {0}) ReadError → List Output → Result (Happened Led) Fault → Led → List Output → Led → Type 0
+abbrev pub Receives : Result (Unit {0}) ReadError → List Output → Result (Happened Led) Fault → Led
+    → List Output → Led → Type 0
 Receives (Ok u) old (Ok h) before new after = Meets (Ok u) old h new after
 Receives (Ok u) old (Err e) before new after = ⊥
 Receives (Err errors.NoMemory) old (Ok h) before new after = Gains old h.outputs new
@@ -41,21 +42,26 @@ Receives (Err errors.NoMemory) old (Err e) before new after = new ≡ old
 Receives (Err (errors.Fault e)) old meant before new after = (meant ≡ Err e) × ((new ≡ old) × (after ≡ before))
 
 -- Packets and parts were delivered, and the stream goes on, or ended with a fault.
-abbrev pub Delivers : Result (Option Fault) NoMemory → List Output → Happened (Arrival Phase Led) → List Output → Place Phase → Led → Type 0
+abbrev pub Delivers : Result (Option Fault) NoMemory → List Output → Happened (Arrival Phase Led) → List Output
+    → Place Phase → Led → Type 0
 Delivers (Ok None) old whole new place left = Meets (Ok tt) old whole new (record { left = left; place = Ok place })
 Delivers (Ok (Some e)) old whole new place left = Meets (Ok tt) old whole new (record { left = left; place = Err e })
 Delivers (Err e) old whole new place left = Gains old whole.outputs new
 
 -- A piece was taken, and the stream goes on, or ended with a fault.
-abbrev pub Follows : Result (Option Fault) NoMemory → List Output → Happened (Followed Leader) → List Output → Leader → World → Type 0
-Follows (Ok None) old whole new leader world = Meets (Ok tt) old whole new (record { world = world; leader = Ok leader })
-Follows (Ok (Some e)) old whole new leader world = Meets (Ok tt) old whole new (record { world = world; leader = Err e })
+abbrev pub Follows : Result (Option Fault) NoMemory → List Output → Happened (Followed Leader) → List Output → Leader
+    → World → Type 0
+Follows (Ok None) old whole new leader world =
+    Meets (Ok tt) old whole new (record { world = world; leader = Ok leader })
+Follows (Ok (Some e)) old whole new leader world =
+    Meets (Ok tt) old whole new (record { world = world; leader = Err e })
 Follows (Err e) old whole new leader world = Gains old whole.outputs new
 
 -- The first frame, with how many bytes it takes; or that none is whole; or that its length is out of its bounds.
 abbrev pub FirstFrame : Result (Option (Bor (List ℕ) × ℕ)) Fault → List ℕ → Type 0
 FirstFrame (Ok (Some f)) bytes =
-    (items frames (place_at tt bytes) ≡ before f.0.now (items frames (place_at tt (drop f.1 bytes)))) × (0 < f.1) × (f.1 ≤ length bytes)
+    (items frames (place_at tt bytes) ≡ before f.0.now (items frames (place_at tt (drop f.1 bytes)))) × (0 < f.1)
+    × (f.1 ≤ length bytes)
 FirstFrame (Ok None) bytes = items frames (place_at tt bytes) ≡ nothing (place_at tt bytes)
 FirstFrame (Err e) bytes = items frames (place_at tt bytes) ≡ nothing (record { phase = tt; unread = Err e })
 

@@ -109,13 +109,17 @@ pub record Side (L : Type 0) : Type 0 where
 abbrev pub kept : Loading → Result (Place Phase) Fault → Result Leader Fault
 kept loading r = r >>= λ place. Ok (record { place = place; loading = loading })
 
--- Part by part, so that an image is never there beside the tree that it makes. What was loaded of one goes with the leader.
+-- Part by part, so that an image is never there beside the tree that it makes. What was loaded of one goes with the
+-- leader.
 abbrev pub by_parts : Side Leader
 by_parts = record {
   opened = record { place = place_at Packets []; loading = unloaded };
   taken = λ l w bytes.
       let h = arrive receive (record { loading = l.loading; world = w }) (shows (add l.place bytes)) in
-      record { outputs = h.outputs; after = record { world = h.after.left.world; leader = kept h.after.left.loading h.after.place } };
+      record {
+        outputs = h.outputs;
+        after = record { world = h.after.left.world; leader = kept h.after.left.loading h.after.place };
+      };
   ended = λ l. end_of l.place;
 }
 

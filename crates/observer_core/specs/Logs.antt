@@ -10,8 +10,8 @@ use Rattle.observer_core.specs.Steps.{quiet}
 use Rattle.observer_core.specs.Leader.{Led, Delivery, receive, deliver}
 use Rattle.observer_core.specs.Play.{play, new_machine, primed_machine}
 
--- The tree is the base with the log applied, and the log's zxids rise up to the last zxid: it is so at the start, and no
--- event ends it. So while one leader is followed a zxid names one tree.
+-- The tree is the base with the log applied, and the log's zxids rise up to the last zxid: it is so at the start, and
+-- no event ends it. So while one leader is followed a zxid names one tree.
 pub record LogsAreFollowed : Type 0 where
   pub starts : (config : Config) → FollowsItsLog (new_machine config).world.replica
   pub starts_primed : (config : Config) → FollowsItsLog (primed_machine config).world.replica

@@ -72,13 +72,17 @@ Answers events outputs = (config : Config) → (play (primed_machine config) eve
 -- a read sees the create, and later the write
 pub record WorkedRows : Type 0 where
   pub create_then_get : Answers (created ∷ asked ∷ []) (ToClient 1 reply_of_create ∷ [])
-  pub set_then_get : Answers (created ∷ asked ∷ overwritten ∷ asked ∷ []) (ToClient 1 reply_of_create ∷ ToClient 1 reply_of_set_data ∷ [])
+  pub set_then_get : Answers (created ∷ asked ∷ overwritten ∷ asked ∷ [])
+      (ToClient 1 reply_of_create ∷ ToClient 1 reply_of_set_data ∷ [])
   -- a request counts where its last byte comes
-  pub cut_request : Answers (ClientBytes 1 get_front ∷ created ∷ ClientBytes 1 get_back ∷ []) (ToClient 1 reply_of_create ∷ [])
+  pub cut_request : Answers (ClientBytes 1 get_front ∷ created ∷ ClientBytes 1 get_back ∷ [])
+      (ToClient 1 reply_of_create ∷ [])
   -- the same transaction twice is refused, and what comes then is passed over
-  pub same_zxid_twice : Answers (created ∷ created ∷ overwritten ∷ asked ∷ []) (CloseLeader OutOfOrder ∷ CloseClient 1 ∷ [])
+  pub same_zxid_twice : Answers (created ∷ created ∷ overwritten ∷ asked ∷ [])
+      (CloseLeader OutOfOrder ∷ CloseClient 1 ∷ [])
   -- a watch on a node that isn't there tells of its create, and of nothing behind it
-  pub watch_on_missing : Answers (awaited ∷ created ∷ overwritten ∷ []) (ToClient 1 reply_of_missing ∷ ToClient 1 event_of_create ∷ [])
+  pub watch_on_missing : Answers (awaited ∷ created ∷ overwritten ∷ [])
+      (ToClient 1 reply_of_missing ∷ ToClient 1 event_of_create ∷ [])
   pub nothing : Answers [] []
   -- without a leader and a client nothing is answered
   pub idle : (config : Config) → (play (new_machine config) (created ∷ asked ∷ [])).outputs ≡ []

@@ -194,7 +194,8 @@ wait_at n left w = wait_if_open n w (finmap.get w.clients.connections n) left
 
 -- all frames that were found, as long as the connection is open, and then what is left of its bytes
 abbrev pub serve_all : Bool → ℕ → World → Items (Unit {0}) (List ℕ) → Happened World
-serve_all serving n w found = and_then (happening (is_closed n) (serve serving n) w found.found) (wait_at n found.left.unread)
+serve_all serving n w found = and_then (happening (is_closed n) (serve serving n) w found.found)
+    (wait_at n found.left.unread)
 
 -- the bytes of a connection that isn't open are passed over
 abbrev pub take_client_bytes : Bool → ℕ → World → Option Connection → List ℕ → Happened World

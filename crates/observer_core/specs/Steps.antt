@@ -21,4 +21,5 @@ and_then h next = behind h.outputs (next h.after)
 -- a step for each thing, one behind the other; from where a state is at its end on, all is passed over
 abbrev pub happening : {S A : Type 0} → (S → Bool) → (S → A → Happened S) → S → List A → Happened S
 happening is_end step s [] = quiet s
-happening is_end step s (a ∷ others) = if is_end s then quiet s else and_then (step s a) (λ after. happening is_end step after others)
+happening is_end step s (a ∷ others) = if is_end s then quiet s else and_then (step s a)
+    (λ after. happening is_end step after others)

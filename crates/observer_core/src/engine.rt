@@ -84,8 +84,8 @@ fn first_client(alloc: Global, config: &Config) -> Result<Clients, NoMemory>
 }
 
 impl Engine {
-    /// An observer that has followed no leader yet. Until one has brought it up to date, it closes a client that wants a
-    /// session.
+    /// An observer that has followed no leader yet. Until one has brought it up to date, it closes a client that wants
+    /// a session.
     pub fn new(alloc: Global, config: Config) -> Result<Engine, NoMemory>
         ensures { IfOk result (λ e. e ≡ Some (new_machine config)) }
     {

@@ -36,8 +36,8 @@ pub fn logs_are_followed()
     replica::law::logs();
 }
 
-/// Images are taken part by part, and never stand beside the tree that they make: what goes out and what is left are, for
-/// every list of events, those of whole images.
+/// Images are taken part by part, and never stand beside the tree that they make: what goes out and what is left are,
+/// for every list of events, those of whole images.
 pub fn parts_are_whole_images()
     ensures { PartsAreWholeImages }
 {
@@ -59,8 +59,8 @@ pub fn connections_agree()
     watch_manager::law::firing();
 }
 
-/// Where clients aren't served nobody has a session: at the start, and after every list of events if it was so before and
-/// the connections agreed.
+/// Where clients aren't served nobody has a session: at the start, and after every list of events if it was so before
+/// and the connections agreed.
 pub fn sessions_are_served()
     ensures { SessionsAreServed }
 {
@@ -68,10 +68,10 @@ pub fn sessions_are_served()
     connections_agree();
 }
 
-/// A client that comes, sends or goes leaves the tree and the log; no frame goes to another, and none to the leader; and
-/// every other connection that isn't closed is untouched: the bytes that wait there, its session and ids, and its watches.
-/// Another one is closed only where its session is taken up: by a client that had none before, and that has this one from
-/// then on while it is open.
+/// A client that comes, sends or goes leaves the tree and the log; no frame goes to another, and none to the leader;
+/// and every other connection that isn't closed is untouched: the bytes that wait there, its session and ids, and its
+/// watches. Another one is closed only where its session is taken up: by a client that had none before, and that has
+/// this one from then on while it is open.
 pub fn clients_are_apart()
     ensures { ClientsAreApart }
 {

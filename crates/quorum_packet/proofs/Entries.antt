@@ -128,7 +128,8 @@ module _ (bytes ahead : List ℕ) (entries : Entries) (u : AreUnseenEntries byte
 
     whole_out : (e : Fault) → times acl.read (suc (entries.count - 1)) ahead ≡ Err e → acl_list.read bytes ≡ Err e
     whole_out e h =
-        left_refused acl_list.read (entries_left false entries.count) bytes entries.start (as_seen false at) ahead there e
+        left_refused acl_list.read (entries_left false entries.count) bytes entries.start
+        (as_seen false at) ahead there e
         (subst (λ (n : ℕ). times acl.read n ahead ≡ Err e) one_more h)
 
     pub perms_refused : (e : Fault) → int.read ahead ≡ Err e
@@ -177,8 +178,10 @@ pub list_fields_seen : (bytes b c : List ℕ) (key : ℤ) (ids : Option ℕ) →
 list_fields_seen bytes b c key ids fits h k =
     let t1 = long_sound.lawful.takes bytes key b fits h in
     let t2 = (count_sound count_limit).lawful.takes b ids c t1.rest_fits k in
-    left_behind acl_list.read acl_list.read bytes 0 (record { within = omega arith; refuses = λ more e l. l }) bytes refl
-    (times acl.read (unwrap_or ids 0)) (t1.text ++ t2.text) c (joined_fronts bytes t1.text b t2.text c t1.parts t2.parts)
+    left_behind acl_list.read acl_list.read bytes 0
+    (record { within = omega arith; refuses = λ more e l. l }) bytes refl
+    (times acl.read (unwrap_or ids 0)) (t1.text ++ t2.text) c
+    (joined_fronts bytes t1.text b t2.text c t1.parts t2.parts)
     (λ more e l. list_out (bytes ++ more) (b ++ more) (c ++ more) key ids e
     (stands_ok long long_sound.pieced bytes b more key h)
     (stands_ok (count count_limit) (count_sound count_limit).pieced b c more ids k) l)

@@ -22,7 +22,8 @@ done_not : {A : Type 0} (x : A) (e : Fault) → done x ≡ Err e → ⊥
 done_not x e h = absurd cc
 
 -- a value that was read is read again, whatever comes behind
-pub stands_ok : {A : Type 0} (f : Format A) → Pieced f → (bytes rest more : List ℕ) (v : A) → f.read bytes ≡ Ok (v, rest)
+pub stands_ok : {A : Type 0} (f : Format A) → Pieced f → (bytes rest more : List ℕ) (v : A)
+    → f.read bytes ≡ Ok (v, rest)
     → f.read (bytes ++ more) ≡ Ok (v, rest ++ more)
 stands_ok {A} f p bytes rest more v h =
     subst (λ (r : Result (A × List ℕ) Fault). Stands r more (f.read (bytes ++ more))) h (p.stands bytes more)

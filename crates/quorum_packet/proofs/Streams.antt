@@ -36,7 +36,8 @@ leader_lawful = sound_lawful leader leader_sound
 
 -- what is shown of values, and of those behind them
 shown_joined : (i j : Items Phase Found) → shown (joined i j) ≡ joined (shown i) (shown j)
-shown_joined i j = ap (λ (f : List Item). record { found = f; left = j.left }) (flat_map-append shown_in i.found j.found)
+shown_joined i j = ap (λ (f : List Item). record { found = f; left = j.left })
+    (flat_map-append shown_in i.found j.found)
 
 -- what is shown doesn't depend on the cutting
 pub shows_pieces : (place : Place Phase) (more : List ℕ)

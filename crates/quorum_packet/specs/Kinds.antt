@@ -24,7 +24,8 @@ code_of LeaderInfo = pos 17
 code_of AckEpoch = pos 18
 
 abbrev pub kinds : List PacketKind
-kinds = Request ∷ Proposal ∷ Ack ∷ Commit ∷ Ping ∷ Revalidate ∷ Sync ∷ Inform ∷ NewLeader ∷ FollowerInfo ∷ UpToDate ∷ Diff ∷ Trunc ∷ Snap ∷ ObserverInfo ∷ LeaderInfo ∷ AckEpoch ∷ []
+kinds = Request ∷ Proposal ∷ Ack ∷ Commit ∷ Ping ∷ Revalidate ∷ Sync ∷ Inform ∷ NewLeader ∷ FollowerInfo ∷ UpToDate
+    ∷ Diff ∷ Trunc ∷ Snap ∷ ObserverInfo ∷ LeaderInfo ∷ AckEpoch ∷ []
 
 -- the kind with that code
 unfoldable pub kind_of : ℤ → Option PacketKind

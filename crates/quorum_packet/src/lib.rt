@@ -2,8 +2,8 @@
 //!
 //! Behind a SNAP packet stands an image of the leader's state, which is read in parts. A `PacketFeed` takes the
 //! leader's bytes in whatever pieces they come, and gives the packets and parts that are whole. They don't depend on
-//! the cutting. A fault ends the stream: it is answered from then on. The work is linear in the bytes, since of a packet
-//! or part that comes in pieces only what a piece brings is looked at.
+//! the cutting. A fault ends the stream: it is answered from then on. The work is linear in the bytes, since of a
+//! packet or part that comes in pieces only what a piece brings is looked at.
 //!
 //! ```text
 //! feed.feed(piece)?;

@@ -1,5 +1,5 @@
--- What a client that comes back is told, and what it goes on watching (SetWatches of zookeeper.jute). It names the paths
--- that it watched on an older connection, and the last zxid that it was told of.
+-- What a client that comes back is told, and what it goes on watching (SetWatches of zookeeper.jute). It names the
+-- paths that it watched on an older connection, and the last zxid that it was told of.
 use Rattle.std.specs.Prelude.{ℕ, ℤ, List, ◌++◌, Option, Some, None, Bool, ◌&&◌, is_some, int_lt, if◌then◌else◌}
 use Rattle.std.specs.List.{filter_map, list_all}
 use Rattle.std.specs.Option.{option_map}

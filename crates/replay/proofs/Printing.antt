@@ -25,31 +25,43 @@ appends_both (Some x) (Some y) None xs ys p q = absurd q
 appends_both (Some x) (Some y) (Some z) xs ys p q = q ∙ ap (λ l. l ++ ys) p ∙ append_assoc x xs ys
 
 -- the outputs of an engine that was fed are the first of all
-first_at : (fed : Result (Unit {0}) Stop) (m : Machine) (events : List Event) (outputs : List Output) (after : Option Machine) → Plays fed (Some m) events [] outputs after → Gains [] (play m events).outputs outputs
+first_at : (fed : Result (Unit {0}) Stop) (m : Machine) (events : List Event) (outputs : List Output)
+    (after : Option Machine) → Plays fed (Some m) events [] outputs after → Gains [] (play m events).outputs outputs
 first_at (Ok u) m events outputs after p = gains_all [] _ _ p.0
 first_at (Err stops.NoMemory) m events outputs after p = p.0
 first_at (Err stops.Closed) m events outputs after p = absurd p
 
-plays_from : (fed : Result (Unit {0}) Stop) (engine : Option Machine) (m : Machine) (events : List Event) (old outputs : List Output) (after : Option Machine) → engine ≡ Some m → old ≡ [] → Plays fed engine events old outputs after → Plays fed (Some m) events [] outputs after
+plays_from : (fed : Result (Unit {0}) Stop) (engine : Option Machine) (m : Machine) (events : List Event)
+    (old outputs : List Output) (after : Option Machine) → engine ≡ Some m → old ≡ []
+    → Plays fed engine events old outputs after → Plays fed (Some m) events [] outputs after
 plays_from fed engine m events old outputs after is_engine none p =
     subst (λ e. Plays fed e events [] outputs after) is_engine
     (subst (λ o. Plays fed engine events o outputs after) none p)
 
-pub fed_first : (fed : Result (Unit {0}) Stop) (engine : Option Machine) (m : Machine) (events : List Event) (old outputs : List Output) (after : Option Machine) → engine ≡ Some m → old ≡ [] → Plays fed engine events old outputs after → Gains [] (play m events).outputs outputs
+pub fed_first : (fed : Result (Unit {0}) Stop) (engine : Option Machine) (m : Machine) (events : List Event)
+    (old outputs : List Output) (after : Option Machine) → engine ≡ Some m → old ≡ []
+    → Plays fed engine events old outputs after → Gains [] (play m events).outputs outputs
 fed_first fed engine m events old outputs after is_engine none p =
     first_at fed m events outputs after (plays_from fed engine m events old outputs after is_engine none p)
 
 -- where no memory was refused they are all, and the machine is the one that is left
-all_at : (fed : Result (Unit {0}) Stop) (m : Machine) (events : List Event) (outputs : List Output) (after : Option Machine) → IsOk fed → Plays fed (Some m) events [] outputs after → (outputs ≡ (play m events).outputs) × (after ≡ Some (play m events).after)
+all_at : (fed : Result (Unit {0}) Stop) (m : Machine) (events : List Event) (outputs : List Output)
+    (after : Option Machine) → IsOk fed → Plays fed (Some m) events [] outputs after
+    → (outputs ≡ (play m events).outputs)
+    × (after ≡ Some (play m events).after)
 all_at (Ok u) m events outputs after ok p = (p.0, p.1)
 all_at (Err e) m events outputs after ok p = absurd (true≢false (sym ok))
 
-pub fed_all : (fed : Result (Unit {0}) Stop) (engine : Option Machine) (m : Machine) (events : List Event) (old outputs : List Output) (after : Option Machine) → engine ≡ Some m → old ≡ [] → Plays fed engine events old outputs after → IsOk fed → (outputs ≡ (play m events).outputs) × (after ≡ Some (play m events).after)
+pub fed_all : (fed : Result (Unit {0}) Stop) (engine : Option Machine) (m : Machine) (events : List Event)
+    (old outputs : List Output) (after : Option Machine) → engine ≡ Some m → old ≡ []
+    → Plays fed engine events old outputs after → IsOk fed → (outputs ≡ (play m events).outputs)
+    × (after ≡ Some (play m events).after)
 fed_all fed engine m events old outputs after is_engine none p ok =
     all_at fed m events outputs after ok (plays_from fed engine m events old outputs after is_engine none p)
 
 -- the lines of all outputs are those of the first ones
-pub all_written : {a b : Option (List ℕ)} (outputs : List Output) → Appends a b (flat_map output_line outputs) → WritesFront a b outputs
+pub all_written : {a b : Option (List ℕ)} (outputs : List Output) → Appends a b (flat_map output_line outputs)
+    → WritesFront a b outputs
 all_written outputs lines = record { front = outputs; first = gains_all [] outputs outputs refl; written = lines }
 
 pub on_ok_both : {T E P Q R : Type 0} (r : Result T E) → (P → Q → R) → OnOk r P → OnOk r Q → OnOk r R
@@ -57,7 +69,8 @@ on_ok_both (Ok x) f p q = f p q
 on_ok_both (Err e) f p q = tt
 
 -- the first of the first
-pub first_of_first : {a b : Option (List ℕ)} {outputs all : List Output} → WritesFront a b outputs → Gains [] all outputs → WritesFront a b all
+pub first_of_first : {a b : Option (List ℕ)} {outputs all : List Output} → WritesFront a b outputs
+    → Gains [] all outputs → WritesFront a b all
 first_of_first w f = record {
   front = w.front;
   first = record {
@@ -85,11 +98,16 @@ front_kept : (script : Script) (a b c : Option (List ℕ)) → PrintsFront scrip
 front_kept script a b c p q =
     elim p as (λ _. PrintsFront script a c) [
       | inl same ↦ inl (keeps_both a b c same q)
-      | inr w ↦ inr (record { front = w.front; first = w.first; written = appends_kept a b c (flat_map output_line w.front) w.written q })
+      | inr w ↦ inr (record {
+        front = w.front;
+        first = w.first;
+        written = appends_kept a b c (flat_map output_line w.front) w.written q;
+      })
     ]
 
 -- what was printed stays
-pub ends_kept : (ending : Ending) (text : List ℕ) (a b c : Option (List ℕ)) → Ends ending text a b → Keeps b c → Ends ending text a c
+pub ends_kept : (ending : Ending) (text : List ℕ) (a b c : Option (List ℕ)) → Ends ending text a b → Keeps b c
+    → Ends ending text a c
 ends_kept Done text a b c p q = (p.0, p.1, appends_kept a b c (printed (happened p.0)) p.2 q)
 ends_kept (BadLine number) text a b c p q = (p.0, keeps_both a b c p.1 q)
 ends_kept Failed text a b c p q =

@@ -9,5 +9,6 @@ use Rattle.replay.specs.declared.command.Source.TheVariants.{Input, File}
 abbrev pub source_of : List (List ℕ) → Option Source
 source_of [] = Some Input
 source_of (command ∷ []) = None
-source_of (command ∷ name ∷ []) = if bytes_eq command (codes "replay") then (if bytes_eq name (codes "-") then Some Input else Some (File name)) else None
+source_of (command ∷ name ∷ []) = if bytes_eq command (codes "replay")
+    then (if bytes_eq name (codes "-") then Some Input else Some (File name)) else None
 source_of (command ∷ name ∷ word ∷ words) = None

@@ -75,7 +75,8 @@ abbrev pub Ends : Ending → List ℕ → Option (List ℕ) → Option (List ℕ
 Ends Done text old new = (script : Script) × (script_of text ≡ Ok script) × PrintsAll script old new
 Ends (BadLine number) text old new = (script_of text ≡ Err number) × Keeps old new
 Ends Failed text old new = Keeps old new ⊎ ((script : Script) × (script_of text ≡ Ok script))
-Ends NoMemory text old new = Keeps old new ⊎ ((script : Script) × (script_of text ≡ Ok script) × PrintsFront script old new)
+Ends NoMemory text old new =
+    Keeps old new ⊎ ((script : Script) × (script_of text ≡ Ok script) × PrintsFront script old new)
 
 -- the same by the exit status
 abbrev pub EndsWith : ℕ → List ℕ → Option (List ℕ) → Option (List ℕ) → Type 0

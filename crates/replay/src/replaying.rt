@@ -150,8 +150,8 @@ fn print_fed<W: Write>(
     }
 }
 
-// Feeds the events to an observer, and prints what goes out. The observer is dropped at the one end of this function, and
-// nowhere else: each drop of it is proved anew.
+// Feeds the events to an observer, and prints what goes out. The observer is dropped at the one end of this function,
+// and nowhere else: each drop of it is proved anew.
 fn feed<W: Write>(
     alloc: Global,
     mut engine: Engine,

@@ -64,7 +64,8 @@ script_of_server id events = record {
 
 pub record WholeTexts : Type 0 where
   pub nothing : script_of [] ≡ Ok (script_of_server (pos 1) [])
-  pub one_event : script_of (ended (codes "server 3") ++ ended (codes "leader up")) ≡ Ok (script_of_server (pos 3) (LeaderUp ∷ []))
+  pub one_event : script_of (ended (codes "server 3") ++ ended (codes "leader up")) ≡ Ok
+      (script_of_server (pos 3) (LeaderUp ∷ []))
   -- the first bad line is named: the third, where a setting stands twice
   pub twice : script_of (ended (codes "primed") ++ ended [] ++ codes "primed") ≡ Err 3
   -- and the second, where one stands behind an event

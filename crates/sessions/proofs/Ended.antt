@@ -20,7 +20,8 @@ use Rattle.sessions.proofs.Kept.{below}
 
 -- ---- what is no session stays none where another one is put, and where any one is taken out
 
-put_other : (guests : Guests) (k : ℤ) (v : Option ℕ) (session : ℤ) → finmap.get guests session ≡ None → (session ≡ k → ⊥)
+put_other : (guests : Guests) (k : ℤ) (v : Option ℕ) (session : ℤ) → finmap.get guests session ≡ None
+    → (session ≡ k → ⊥)
     → finmap.get (finmap.insert guests k v) session ≡ None
 put_other guests k v session none apart =
     inserted_elsewhere int_cmp_total exact_signed guests k v session
@@ -80,14 +81,16 @@ shows_in s n id (Some c) session h =
     (λ _. at_if (λ (x : Shows). IsEnded x.after session) (nat_lt (length c.ids) ids_limit) _ _
     (λ _. record { opened = h.opened; none = h.none }) (λ _. h))
 
-shows_by : (s : State) (n : ℕ) (o : Option (List ℕ)) (session : ℤ) → IsEnded s session → IsEnded (auth_by s n o).after session
+shows_by : (s : State) (n : ℕ) (o : Option (List ℕ)) (session : ℤ) → IsEnded s session
+    → IsEnded (auth_by s n o).after session
 shows_by s n None session h = h
 shows_by s n (Some text) session h = shows_in s n (digest_id text) (finmap.get s.connections n) session h
 
 -- ---- connect
 
 -- a session that was opened isn't the next one
-not_next : (s : State) (session : ℤ) → Agrees s → s.counter + 1 < 2 ^ 56 → IsOpenedBy s.terms.server_id s.counter session
+not_next : (s : State) (session : ℤ) → Agrees s → s.counter + 1 < 2 ^ 56
+    → IsOpenedBy s.terms.server_id s.counter session
     → session ≡ session_id_of s.terms.server_id (s.counter + 1) → ⊥
 not_next s session a low h e =
     let last : h.own ≤ s.counter = h.last in
@@ -95,7 +98,8 @@ not_next s session a low h e =
     counters_apart s.terms.server_id h.own (s.counter + 1) a.server_id (omega arith) low (sym h.is ∙ e) in
     omega arith
 
-opens : (s : State) (n : ℕ) (time_out session : ℤ) → Agrees s → IsEnded s session → IsEnded (open_new s n time_out).after session
+opens : (s : State) (n : ℕ) (time_out session : ℤ) → Agrees s → IsEnded s session
+    → IsEnded (open_new s n time_out).after session
 opens s n time_out session a h =
     at_if (λ (x : Connects). IsEnded x.after session) (s.counter == greatest_counter) _ _ (λ _. h)
     (λ e. record {
@@ -137,7 +141,8 @@ connects s n request session a free h =
 
 refuses : (s : State) (request : SessionRequest) → IsEnded s request.session_id → is_valid s request ≡ false
 refuses s request h =
-    ap (λ (o : Option (Option ℕ)). is_some o && is_password (password_of s.terms.secret request.session_id) request.password)
+    ap (λ (o : Option (Option ℕ)). is_some o && is_password (password_of s.terms.secret request.session_id)
+    request.password)
     h.none
 
 pub ended_is_ended : EndedIsEnded

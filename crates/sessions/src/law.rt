@@ -2,15 +2,16 @@
 
 ghost use Rattle.sessions.specs.Agreement.{SessionsAreApart, AgreementIsKept, EndedIsEnded, OthersStay, AnswersTell};
 
-/// Sessions and connections agree from the start on; where they do, no two connections have one session, and an answer to a
-/// connect tells whether the connection has a session now.
+/// Sessions and connections agree from the start on; where they do, no two connections have one session, and an answer
+/// to a connect tells whether the connection has a session now.
 pub fn sessions_and_connections_agree()
     ensures kept { AgreementIsKept }
     ensures apart { SessionsAreApart }
     ensures told { AnswersTell }
 {}
 
-/// A step of one connection leaves the session and the ids of every other one, save of the one that it answers as closed.
+/// A step of one connection leaves the session and the ids of every other one, save of the one that it answers as
+/// closed.
 pub fn others_stay()
     ensures { OthersStay }
 {}

@@ -1,5 +1,5 @@
-//! Sessions of clients: which of them this observer has opened, which connection has which, and which ids a connection has
-//! shown.
+//! Sessions of clients: which of them this observer has opened, which connection has which, and which ids a connection
+//! has shown.
 //!
 //! A session is a guest's: this observer opened it, and no other server knows it. Its id has the server's number as its
 //! high byte, and behind it a counter from 1 on; its password is made of the observer's secret and the id, so that none
@@ -15,7 +15,7 @@
 //! sessions.expire(id)                                         // the session ends; None, as no connection has it
 //! ```
 //!
-//! Whether a client may connect at all (a leader is followed, and the client has seen nothing that is still to come) is
+//! Whether a client may connect at all (clients are served, and the client has seen nothing that is still to come) is
 //! judged by the caller, before `connect`.
 #![tactic(auto)]
 

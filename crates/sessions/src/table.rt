@@ -266,8 +266,8 @@ impl Sessions {
         Ok(true)
     }
 
-    /// Shows the digest id of the bytes "user:password". False where that is refused: another scheme or none, bytes that are
-    /// null or no UTF-8, one id more than `IDS_LIMIT`, or a connection without a session.
+    /// Shows the digest id of the bytes "user:password". False where that is refused: another scheme or none, bytes
+    /// that are null or no UTF-8, one id more than `IDS_LIMIT`, or a connection without a session.
     pub fn auth(
         &mut self,
         alloc: Global,

@@ -56,7 +56,8 @@ module _ (lists : Lists) where
   NotRoots es = AllByRecursion (λ (e : Bytes × Node). is_root e.0 ≡ false) es
 
   behind_path : (path : List ℕ) (e : Bytes × Node) (es : List (Bytes × Node))
-      → path ++ (body e ++ (nodes_bytes lists es ++ end_bytes)) ≡ ((path ++ body e) ++ nodes_bytes lists es) ++ end_bytes
+      → path ++ (body e ++ (nodes_bytes lists es ++ end_bytes))
+      ≡ ((path ++ body e) ++ nodes_bytes lists es) ++ end_bytes
   behind_path path e es =
       sym (append_assoc path (body e) (nodes_bytes lists es ++ end_bytes))
       ∙ sym (append_assoc (path ++ body e) (nodes_bytes lists es) end_bytes)
@@ -86,7 +87,8 @@ module _ (lists : Lists) where
       (first (below_all walk_cmp e.0 es) (is_sorted walk_cmp es) h) in
       root_out e es (no_roots es (others es below (behind_first e es p)))
     where
-      no_roots : (fs : List (Bytes × Node)) → AllByRecursion (λ (f : Bytes × Node). (is_root f.0 ≡ false) × (is_path f.0 ≡ true)) fs
+      no_roots : (fs : List (Bytes × Node))
+          → AllByRecursion (λ (f : Bytes × Node). (is_root f.0 ≡ false) × (is_path f.0 ≡ true)) fs
           → NotRoots fs
       no_roots [] k = tt
       no_roots (f ∷ fs) k = (k.0.0, no_roots fs k.1)
@@ -97,14 +99,18 @@ pub sections : (s : State) → IsWhole s
     ++ nodes_bytes (lists_of s.nodes) (walk s.nodes)) ++ end_bytes
     ≡ image_bytes s
 sections s w = sym (
-    ap (λ (b : List ℕ). counted (length ids) ++ b) (sessions_out ids (counted_values list_part table ++ node_values table es))
-    ∙ ap (λ (b : List ℕ). counted (length ids) ++ (flat_map (both long int).written ids ++ (counted (length table) ++ b)))
+    ap (λ (b : List ℕ). counted (length ids) ++ b)
+    (sessions_out ids (counted_values list_part table ++ node_values table es))
+    ∙ ap (λ (b : List ℕ). counted (length ids)
+    ++ (flat_map (both long int).written ids ++ (counted (length table) ++ b)))
     (lists_out table (node_values table es))
-    ∙ ap (λ (b : List ℕ). counted (length ids) ++ (flat_map (both long int).written ids ++ (counted (length table) ++ (flat_map keyed_bytes table ++ b))))
+    ∙ ap (λ (b : List ℕ). counted (length ids)
+    ++ (flat_map (both long int).written ids ++ (counted (length table) ++ (flat_map keyed_bytes table ++ b))))
     (walk_out table es (walk_sorted s.nodes)
     (λ q some. w.named.paths q (sym (ap is_some (walk_find s.nodes q)) ∙ some))
     (ap is_some (walk_find s.nodes slash) ∙ w.root))
-    ∙ joined (counted (length ids)) (flat_map (both long int).written ids) (counted (length table)) (flat_map keyed_bytes table)
+    ∙ joined (counted (length ids)) (flat_map (both long int).written ids) (counted (length table))
+    (flat_map keyed_bytes table)
     (nodes_bytes table es) end_bytes)
   where
     ids : List (ℤ × ℤ)

@@ -59,7 +59,8 @@ abbrev asked_for : {K : Type 0} → (K → List ℕ) → List ℕ → K → Bool
 asked_for f q = is_at (λ k. path_cmp q (f k))
 
 module _ {K X : Type 0} (f : K → List ℕ) where
-  find-lookup : (q : List ℕ) (es : List (K × X)) → find path_cmp q (seen path_cmp f (λ x. x) es) ≡ lookup (asked_for f q) es
+  find-lookup : (q : List ℕ) (es : List (K × X)) → find path_cmp q (seen path_cmp f (λ x. x) es) ≡ lookup
+      (asked_for f q) es
   find-lookup q [] = refl
   find-lookup q (e ∷ es) = ap (cond (eq_by_cmp path_cmp q (f e.0)) (Some e.1)) (find-lookup q es)
 

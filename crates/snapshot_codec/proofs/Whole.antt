@@ -459,7 +459,8 @@ module _ (s : State) (ids : Sessions) (named : Lists) (rows : Rows) (made : IsMa
           (and_both (eq_by_cmp path_cmp path (parent_of x.0)) (eq_by_cmp path_cmp name (name_of x.0)) k).1)
           ∙ ends x.0 p
 
-  name_found : (r : Rows) (path name : Bytes) → ArePaths r → list_any (is_child path name) r ≡ true → is_child_name name ≡ true
+  name_found : (r : Rows) (path name : Bytes) → ArePaths r → list_any (is_child path name) r ≡ true
+      → is_child_name name ≡ true
   unfolding ArePaths
   name_found [] path name all e = absurd (true≢false (sym e))
   name_found (x ∷ r) path name all e = by (name_found r path name all.1) (is_child path name x) refl e

@@ -123,7 +123,8 @@ unfolding Numbered
 one_more n [] list h = (ap (λ k. pos (suc k)) (let e : n + 0 ≡ n = omega arith in e), tt)
 one_more n (e ∷ es) list h = (
   h.0,
-  subst (λ k. Numbered (suc n) (es ++ (pos (suc k), list) ∷ [])) (let e : suc n + length es ≡ n + suc (length es) = omega arith in e)
+  subst (λ k. Numbered (suc n) (es ++ (pos (suc k), list) ∷ []))
+      (let e : suc n + length es ≡ n + suc (length es) = omega arith in e)
       (one_more (suc n) es list h.1),
 )
 
@@ -132,7 +133,8 @@ is_so true h = refl
 is_so false h = absurd h
 
 pos_less : (a b : ℕ) → a < b → int_cmp (pos a) (pos b) ≡ Less
-pos_less a b l = ap (λ c. cond c Less (cond (int_lt (pos b) (pos a)) Greater Equal)) (is_so (int_lt (pos a) (pos b)) (lt→ltb a b l))
+pos_less a b l = ap (λ c. cond c Less (cond (int_lt (pos b) (pos a)) Greater Equal))
+    (is_so (int_lt (pos a) (pos b)) (lt→ltb a b l))
 
 below_numbered : (k n : ℕ) (es : Lists) → k < suc n → Numbered n es → T (below_all int_cmp (pos k) es)
 unfolding Numbered
@@ -164,7 +166,8 @@ key_names n (e ∷ es) list h some =
     by (key_names (suc n) es list h.1) (same_list e.1 list) refl some
   where
     other : (m : ℕ) → suc n < suc m → eq_by_cmp int_cmp (pos (suc m)) (pos (suc n)) ≡ false
-    other m l = ap is_eq (int_cmp_total.antisymm (pos (suc m)) (pos (suc n)) ∙ ap ordering_reverse (pos_less (suc n) (suc m) (let k : suc n < suc m = omega arith in k)))
+    other m l = ap is_eq (int_cmp_total.antisymm (pos (suc m)) (pos (suc n))
+        ∙ ap ordering_reverse (pos_less (suc n) (suc m) (let k : suc n < suc m = omega arith in k)))
 
     by : (is_some (key_in es list) ≡ true → Names (suc n) es list (unwrap_or (key_in es list) (negsuc 0)))
         → (b : Bool) → same_list e.1 list ≡ b → is_some (cond b (Some e.0) (key_in es list)) ≡ true
@@ -377,7 +380,8 @@ any_at q test h (x ∷ rows) some = by (any_at q test h rows) (eq_by_cmp path_cm
 
 abbrev FoundChild : List (Bytes × Node) → Bytes → Bytes → Type 0
 FoundChild es path name =
-    (q : Bytes) × (is_some (find path_cmp q es) ≡ true) × (is_root q ≡ false) × (path ≡ parent_of q) × (name ≡ name_of q)
+    (q : Bytes) × (is_some (find path_cmp q es) ≡ true) × (is_root q ≡ false) × (path ≡ parent_of q)
+    × (name ≡ name_of q)
 
 child_at : (lists : Lists) (path name : Bytes) (es : List (Bytes × Node))
     → list_any (is_child path name) (map (row lists) es) ≡ true → FoundChild es path name
@@ -517,7 +521,8 @@ module _ (s : State) (w : IsWhole s) where
   abbrev front : List ImagePart
   front = session_parts ++ list_parts
 
-  rows_before : (ahead : List (Bytes × Node)) → flat_map rows_in (front ++ map (node_part table) ahead) ≡ map (row table) ahead
+  rows_before : (ahead : List (Bytes × Node)) → flat_map rows_in (front ++ map (node_part table) ahead) ≡ map
+      (row table) ahead
   unfolding node_part
   rows_before ahead =
       flat_map-append rows_in front (map (node_part table) ahead)
@@ -557,7 +562,8 @@ module _ (s : State) (w : IsWhole s) where
     here = sym (node_there x.0) ∙ middle_some path_total ahead x bs
 
     some_rows : (q : Bytes) → is_some (find path_cmp q (map (row table) ahead)) ≡ is_some (find path_cmp q ahead)
-    some_rows q = alike_some table (find path_cmp q ahead) (find path_cmp q (map (row table) ahead)) (found_alike table q ahead)
+    some_rows q = alike_some table (find path_cmp q ahead) (find path_cmp q (map (row table) ahead))
+        (found_alike table q ahead)
 
     new_path : find path_cmp x.0 (map (row table) ahead) ≡ None
     new_path =
@@ -578,7 +584,8 @@ module _ (s : State) (w : IsWhole s) where
     root_first root [] e = refl
     root_first root (a ∷ before) e =
         absurd (none_before_root a.0 (path_of_node a.0 a_there)
-        (ap (walk_cmp a.0) (sym (root_is x.0 root)) ∙ less_at walk_total a.0 before x bs (first (below_all walk_cmp a.0 (before ++ x ∷ bs)) (is_sorted walk_cmp (before ++ x ∷ bs)) a_sorted)))
+        (ap (walk_cmp a.0) (sym (root_is x.0 root)) ∙ less_at walk_total a.0 before x bs
+        (first (below_all walk_cmp a.0 (before ++ x ∷ bs)) (is_sorted walk_cmp (before ++ x ∷ bs)) a_sorted)))
       where
         a_sorted : T (is_sorted walk_cmp (a ∷ before ++ x ∷ bs))
         a_sorted = subst (λ (l : List (Bytes × Node)). T (is_sorted walk_cmp (l ++ x ∷ bs))) e sorted
@@ -633,7 +640,8 @@ module _ (s : State) (w : IsWhole s) where
       (gone rows_in refl ∙ rows_before es))
     where
       gone : {A : Type 0} (f : ImagePart → List A) → f part.End ≡ []
-          → flat_map f ((front ++ map (node_part table) es) ++ part.End ∷ []) ≡ flat_map f (front ++ map (node_part table) es)
+          → flat_map f ((front ++ map (node_part table) es) ++ part.End ∷ []) ≡ flat_map f
+          (front ++ map (node_part table) es)
       gone f e =
           flat_map-append f (front ++ map (node_part table) es) (part.End ∷ [])
           ∙ ap (λ (r : List _). flat_map f (front ++ map (node_part table) es) ++ (r ++ [])) e

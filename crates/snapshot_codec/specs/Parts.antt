@@ -1,6 +1,6 @@
 -- An image in parts: the count of its sessions, and the sessions; the count of its ACL lists, and the lists with their
--- keys; the nodes, each a path and what stands behind it, until the path "/"; and the signature. A phase has one format.
--- It keeps what it needs of a part that has begun: how many are left, and the path of a node.
+-- keys; the nodes, each a path and what stands behind it, until the path "/"; and the signature. A phase has one
+-- format. It keeps what it needs of a part that has begun: how many are left, and the path of a node.
 use Rattle.std.specs.Prelude.{◌≡◌, ℕ, ℤ, Bool, true, false, List, [], ◌∷◌, Option, Some, None, Result, Ok, Err, if◌then◌else◌, ◌==◌, ◌-◌, codes}
 use Rattle.std.specs.Str.{bytes_eq}
 use Rattle.values.specs.declared.fault.Fault.{Fault}

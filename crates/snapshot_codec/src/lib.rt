@@ -3,8 +3,8 @@
 //! An image is read in parts, so that it never stands whole in memory beside the tree that it makes: `read_part` reads
 //! what stands next at a place, and a `Loader` takes each part into a tree. `read_image` does both for bytes that are
 //! all there. `specs/Parts.antt` says how the parts are spelled, `specs/Made.antt` what they make, and
-//! `specs/Image.antt`, as a relation, which bytes are an image of which state. `write_image` writes a tree's image, which
-//! `specs/Written.antt` defines. The laws in `law` tie them: what is written is read again, and gives the tree.
+//! `specs/Image.antt`, as a relation, which bytes are an image of which state. `write_image` writes a tree's image,
+//! which `specs/Written.antt` defines. The laws in `law` tie them: what is written is read again, and gives the tree.
 //!
 //! ```text
 //! let (image, used) = read_image(alloc, bytes)?;     // or: part by part

@@ -37,7 +37,8 @@ fine_read bytes rest t h e against = not_refused (t, rest) e (sym h ∙ txn_at_e
 pub refusal_names : (bytes : List ℕ) (e : Fault) → IsBytes bytes → whole txn bytes ≡ Err e → AgainstTxn e bytes
 unfolding whole_by
 refusal_names bytes e fits h =
-    elim (bind_err (txn.read bytes) (λ (v : Txn × List ℕ). cond (eqb (length v.1) 0) (Ok v.0) (Err TrailingBytes)) e h) [
+    elim (bind_err (txn.read bytes) (λ (v : Txn × List ℕ). cond (eqb (length v.1) 0) (Ok v.0) (Err TrailingBytes)) e
+    h) [
       | inl first ↦ inl (txn_at_end.named.names bytes e fits first)
       | inr later ↦
           let t = txn_at_end.takes bytes later.0.0 later.0.1 fits later.1 in

@@ -2,8 +2,8 @@
 //!
 //! A transaction is a header and the body of its type; a multi's parts are operations, each in a buffer of its own. Its
 //! paths are checked: a `Path` begins with a slash, and no name in it is empty or has a NUL. `decode_txn` takes all the
-//! bytes that it is given, or names the first fault in their order; `specs/Spelling.antt` says which bytes spell what, in one
-//! table for operations and one for bodies.
+//! bytes that it is given, or names the first fault in their order; `specs/Spelling.antt` says which bytes spell what,
+//! in one table for operations and one for bodies.
 //!
 //! ```text
 //! let txn = decode_txn(alloc, bytes)?;

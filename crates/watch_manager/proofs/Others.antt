@@ -14,17 +14,21 @@ use Rattle.watch_manager.proofs.Watchers.{contains-without_connection}
 sets : (pairs : Pairs) (path : Bytes) (conn : ℕ) (p : Bytes) (other : ℕ) → other ≢ conn
     → set.contains (set.insert pairs (path, conn)) (p, other) ≡ set.contains pairs (p, other)
 sets pairs path conn p other apart =
-    set.contains-insert watch_total pairs (path, conn) (p, other) ∙ by (eq_by_cmp watch_cmp (p, other) (path, conn)) refl
+    set.contains-insert watch_total pairs (path, conn) (p, other)
+    ∙ by (eq_by_cmp watch_cmp (p, other) (path, conn)) refl
   where
-    by : (b : Bool) → eq_by_cmp watch_cmp (p, other) (path, conn) ≡ b → (b || set.contains pairs (p, other)) ≡ set.contains pairs (p, other)
+    by : (b : Bool) → eq_by_cmp watch_cmp (p, other) (path, conn) ≡ b → (b || set.contains pairs (p, other))
+        ≡ set.contains pairs (p, other)
     by true same = absurd (apart (ap (λ (q : Bytes × ℕ). q.1) (tells_apart watch_exact (p, other) (path, conn) same)))
     by false differ = refl
 
 drops : (pairs : Pairs) (conn : ℕ) (p : Bytes) (other : ℕ) → other ≢ conn
     → set.contains (without_connection conn pairs) (p, other) ≡ set.contains pairs (p, other)
-drops pairs conn p other apart = contains-without_connection conn pairs (p, other) ∙ by (same_connection conn other) refl
+drops pairs conn p other apart = contains-without_connection conn pairs (p, other)
+    ∙ by (same_connection conn other) refl
   where
-    by : (b : Bool) → same_connection conn other ≡ b → (set.contains pairs (p, other) && not b) ≡ set.contains pairs (p, other)
+    by : (b : Bool) → same_connection conn other ≡ b → (set.contains pairs (p, other) && not b) ≡ set.contains
+        pairs (p, other)
     by true same = absurd (apart (sym (tells_apart exact_unsigned conn other same)))
     by false differ = and-true (set.contains pairs (p, other))
 

@@ -33,7 +33,8 @@ OnlyWatchersAreTold =
 
 -- where nobody is told, no watch is used up
 abbrev pub SilenceKeepsWatches : Type 0
-SilenceKeepsWatches = (w : Watching) (triggers : List Trigger) → (fire w triggers).events ≡ [] → w ≡ (fire w triggers).left
+SilenceKeepsWatches = (w : Watching) (triggers : List Trigger) → (fire w triggers).events ≡ []
+    → w ≡ (fire w triggers).left
 
 -- a connection that was dropped watches nothing, and nobody watches anew
 abbrev pub DroppedWatchesNothing : Type 0

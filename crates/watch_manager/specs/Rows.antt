@@ -51,4 +51,5 @@ pub record WorkedRows : Type 0 where
       ≡ leaves_nothing (tell 1 NodeChildrenChanged a ∷ tell 1 NodeDeleted a_f ∷ tell 1 NodeChildrenChanged b ∷ [])
   -- A create of /a, which connection 1 has waited for.
   pub created :
-      fire (watches_on ((a, 1) ∷ []) []) (Created a ∷ ChildrenChanged root ∷ []) ≡ leaves_nothing (tell 1 NodeCreated a ∷ [])
+      fire (watches_on ((a, 1) ∷ []) []) (Created a ∷ ChildrenChanged root ∷ []) ≡ leaves_nothing
+      (tell 1 NodeCreated a ∷ [])

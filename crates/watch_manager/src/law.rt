@@ -4,8 +4,8 @@ ghost use Rattle.watch_manager.specs.Laws.{ToldOnce, OnlyWatchersAreTold, Silenc
 ghost use Rattle.watch_manager.specs.Rows.{WorkedRows};
 
 /// A change tells a connection at most once, and only those are told who watch something. Where nobody is told,
-/// no watch is used up. Neither firing nor dropping a connection makes anybody watch anew, and a connection that was dropped
-/// watches nothing. What one connection does leaves the watches of every other.
+/// no watch is used up. Neither firing nor dropping a connection makes anybody watch anew, and a connection that was
+/// dropped watches nothing. What one connection does leaves the watches of every other.
 pub fn firing()
     ensures once { ToldOnce }
     ensures watchers { OnlyWatchersAreTold }

@@ -11,8 +11,8 @@ use std::alloc::Global;
 use std::marker::Model;
 use values::NoMemory;
 
-/// Pairs of a path and a connection, kept by path and by connection: what fires is found by its path, and what goes with
-/// a connection by the connection.
+/// Pairs of a path and a connection, kept by path and by connection: what fires is found by its path, and what goes
+/// with a connection by the connection.
 #[derive(Drop)]
 pub struct Table {
     by_path: ByPath,

@@ -8,7 +8,8 @@ use Rattle.apply_board.proofs.life.emptied.Goals as goal
 
 pub unreachable-requires : goal.unreachable-requires
 unreachable-requires g c = let inv = c.loop-next.invariant in let t = c.loop-next-test.true in
-    let n = c.slot_count.ensures in let h = c.requires.full c.loop-next.next (let count = c.requires.count in omega arith) in
+    let n = c.slot_count.ensures in
+    let h = c.requires.full c.loop-next.next (let count = c.requires.count in omega arith) in
     c.in_default.not-Some h.0 (some-injective _ _ (sym c.take.ensures.value
     ∙ (ap (λ l. get_elem? l c.loop-next.next) inv.0 ∙ h.1)))
 

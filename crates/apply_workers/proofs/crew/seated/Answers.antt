@@ -32,7 +32,8 @@ loop-opener-preserved g c = let inv = c.loop-opener.invariant in let e = c.in-So
 pub returns : goal.returns
 returns g c = let inv = c.loop-opener.invariant in let p = c.push_reserved-2.ensures.items in
     let r = c.reverse.ensures.items in elim c.loop-opener-test.branch [
-      | else-loop-opener-test w ↦ let is = w.opener-is in let made = ap (λ s. s.view.made) is in let first = inv.first in
+      | else-loop-opener-test w ↦ let is = w.opener-is in let made = ap (λ s. s.view.made) is in
+          let first = inv.first in
           ready _ _ c.loop-opener.crew.items _ _ _ p r inv.others (
             ap (λ s. s.board) is ∙ inv.own,
             ap (λ s. s.view.claimed) is ∙ (inv.idle ∙ ap (λ s. numbers s.view.given) (sym is)),

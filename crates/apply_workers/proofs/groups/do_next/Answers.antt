@@ -50,9 +50,11 @@ loop-place-preserved c =
       | then-taken w ↦ w.taken-is ∙ w.if-taken.true ∙ ap (λ b. b || c.in_ok-done.done) (sym w.if-taken.true)
       | else-taken w ↦ w.taken-is ∙ ap (λ b. b || c.in_ok-done.done) (sym w.if-taken.false)
     ] in
-    subst (λ b. DoneTo txns groups (has_work c.args.worker) (done_by c.args.worker) c.args.hands.now (at.place + 1) new b)
+    subst (λ b. DoneTo txns groups (has_work c.args.worker) (done_by c.args.worker) c.args.hands.now
+    (at.place + 1) new b)
     (sym both)
-    (done_goes_on txns groups (has_work c.args.worker) (done_by c.args.worker) c.args.hands.now at.hands at.place at.taken
+    (done_goes_on txns groups (has_work c.args.worker) (done_by c.args.worker) c.args.hands.now at.hands
+    at.place at.taken
     c.in_ok-done.done c.index-groups-place.result c.index-hands-place.result c.do_next.new.self at.invariant
     (omega arith) c.index-groups-place.is c.in_ok-done.ensures.taken c.in_ok-done.ensures.group
     c.in_ok-done.ensures.count)

@@ -8,7 +8,8 @@ use Rattle.apply_workers.proofs.groups.give.Goals as goal
 
 pub loop-place-init : goal.loop-place-init
 loop-place-init c =
-    done_begins c.txns-txns.result.now c.groups-groups.result.now (is_finished_by c.args.worker) (given_by c.args.worker)
+    done_begins c.txns-txns.result.now c.groups-groups.result.now (is_finished_by c.args.worker)
+    (given_by c.args.worker)
     c.args.hands.now (subst (λ cs. AreHeld cs c.args.hands.now) (sym c.groups-groups.ensures) c.requires)
 
 pub bounds-groups-place : goal.bounds-groups-place
@@ -47,7 +48,8 @@ loop-place-preserved c =
     at.taken
     c.give-given.result c.index-groups-place.result c.index-hands-place.result c.give-given.new.self at.invariant
     (omega arith) c.index-groups-place.is c.give-given.ensures.taken c.give-given.ensures.group
-    (λ fits. subst (λ os. length os ≤ length c.index-groups-place.result.members) (sym c.give-given.ensures.count) fits))
+    (λ fits. subst (λ os. length os ≤ length c.index-groups-place.result.members)
+    (sym c.give-given.ensures.count) fits))
 
 all_done : (c : goal.After-loop-place)
     → AllDone c.txns-txns.result.now c.groups-groups.result.now (is_finished_by c.args.worker) (given_by c.args.worker)
@@ -63,11 +65,13 @@ returns-clause-held c = subst (λ cs. AreHeld cs c.loop-place.hands) c.groups-gr
 pub returns-clause-taken : goal.returns-clause-taken
 returns-clause-taken c =
     (all_done c).taken_is
-    ∙ ap₂ (λ ts cs. list_any (is_finished_by c.args.worker) (all_shown ts 0 cs c.args.hands.now)) c.txns-txns.ensures.txns
+    ∙ ap₂ (λ ts cs. list_any (is_finished_by c.args.worker) (all_shown ts 0 cs c.args.hands.now))
+    c.txns-txns.ensures.txns
     c.groups-groups.ensures
 
 pub returns-clause-groups : goal.returns-clause-groups
 returns-clause-groups c =
     subst₂ (λ ts cs. all_shown ts 0 cs c.loop-place.hands
-    ≡ map (given_by c.args.worker) (all_shown ts 0 cs c.args.hands.now)) c.txns-txns.ensures.txns c.groups-groups.ensures
+    ≡ map (given_by c.args.worker) (all_shown ts 0 cs c.args.hands.now)) c.txns-txns.ensures.txns
+    c.groups-groups.ensures
     (all_done c).groups

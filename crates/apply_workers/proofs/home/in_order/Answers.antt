@@ -22,7 +22,8 @@ pub put_at-requires : goal.put_at-requires
 put_at-requires c =
     let at = c.loop-group in
     let l : at.group-index < length (groups_of c.args.batch.now) = search rules in
-    let is : c.group-item.result ≡ get_or (groups_of c.args.batch.now) at.group-index c.group-item.result = search rules in
+    let is : c.group-item.result ≡ get_or (groups_of c.args.batch.now) at.group-index c.group-item.result =
+    search rules in
     let h = members_within c.args.batch.now at.group-index c.group-item.result l in
     subst (λ ms. All (λ p. p < length at.all.items) ms) (sym (c.members.ensures ∙ ap (λ g. g.members) is))
     (subst (λ n. All (λ p. p < n) (get_or (groups_of c.args.batch.now) at.group-index c.group-item.result).members)
@@ -33,7 +34,8 @@ loop-group-preserved c =
     let at = c.loop-group in
     let steps = c.in-Some.ensures.cases in
     let l : at.group-index < length (groups_of c.args.batch.now) = search rules in
-    let is : c.group-item.result ≡ get_or (groups_of c.args.batch.now) at.group-index c.group-item.result = search rules in
+    let is : c.group-item.result ≡ get_or (groups_of c.args.batch.now) at.group-index c.group-item.result =
+    search rules in
     let put = c.put_at.ensures in
     let short = ap length steps.0 in
     let gone = steps.1 in

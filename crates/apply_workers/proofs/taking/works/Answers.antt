@@ -21,7 +21,8 @@ invariant_of-push c =
     let is : group ≡ get_or (groups_of c.args.batch.now) c.len.result group = search rules in
     let h = members_within c.args.batch.now c.len.result group l in
     record {
-      within = subst (λ ms. All (λ p. p < length c.txns.result.now) ms) (sym (c.members.ensures ∙ ap (λ g. g.members) is))
+      within = subst (λ ms. All (λ p. p < length c.txns.result.now) ms)
+          (sym (c.members.ensures ∙ ap (λ g. g.members) is))
           (subst (λ ts. All (λ p. p < length ts) (get_or (groups_of c.args.batch.now) c.len.result group).members)
           (sym c.txns.ensures.txns) h);
     }

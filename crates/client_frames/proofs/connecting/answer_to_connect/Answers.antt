@@ -28,7 +28,8 @@ returns c =
     ∙ ap (λ (o : List ℕ). o ++ 0 ∷ [])
     (c.in_ok-write.ensures
     ∙ ap (λ (a : ConnectResponse). c.put_int.new.out.items ++ connect_response.written a) c.in_ok-answer.ensures.answer
-    ∙ ap (λ (o : List ℕ). o ++ text) (c.in_ok-put_int.ensures ∙ ap (λ (o : List ℕ). o ++ size) c.in_ok-frame.ensures.items))
+    ∙ ap (λ (o : List ℕ). o ++ text)
+    (c.in_ok-put_int.ensures ∙ ap (λ (o : List ℕ). o ++ size) c.in_ok-frame.ensures.items))
     ∙ append_assoc size text (0 ∷ [])
     ∙ sym (longer_framed r c.in_ok-answer.ensures.short)
     ∙ ap (answer_to_connect r) (sym c.if-not-has_byte.false)

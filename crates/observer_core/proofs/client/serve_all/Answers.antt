@@ -13,24 +13,34 @@ returns-in_err-serve-in-Ok-Some c =
     let p = err_from_is_err_and c.from_residual.result c.from_residual.ensures.1 in
     let l = c.frame in
     let open_ : finmap.contains_key l.world.clients.connections c.args.number ≡ true =
-    sym (ap (λ (w : World). finmap.contains_key w.clients.connections c.args.number) c.world.view_is) ∙ sym c.is_open.ensures ∙ c.frame-test.true in
+    sym (ap (λ (w : World). finmap.contains_key w.clients.connections c.args.number) c.world.view_is)
+    ∙ sym c.is_open.ensures ∙ c.frame-test.true in
     let first = rw c.in-Ok-Some.field-0-is at c.in-Ok-Some.ensures in
     let f = c.in-Ok-Some.frame.now in
     let rest = items frames (place_at tt (drop c.in-Ok-Some.used c.as_slice.result.now)) in
     let found = items frames (place_at tt l.waiting) in
-    let is : found ≡ before f rest = ap (λ (b : List ℕ). items frames (place_at tt b)) (sym c.as_slice.ensures) ∙ first.0 in
-    rw p.1 (stops_in_step c.args.outputs.now.items (serve_all c.args.serving c.args.number c.args.world.now (items frames (place_at tt c.args.waiting))) l.outputs.items c.serve.new.outputs.items
-    (serve_all c.args.serving c.args.number l.world found) (serve c.args.serving c.args.number l.world f) (λ (w : World). serve_all c.args.serving c.args.number w rest)
-    (served_first c.args.serving c.args.number l.world found f rest is open_) c.in_err-serve-in-Ok-Some.ensures l.invariant)
+    let is : found ≡ before f rest = ap (λ (b : List ℕ). items frames (place_at tt b))
+    (sym c.as_slice.ensures) ∙ first.0 in
+    rw p.1 (stops_in_step c.args.outputs.now.items
+    (serve_all c.args.serving c.args.number c.args.world.now (items frames (place_at tt c.args.waiting)))
+    l.outputs.items c.serve.new.outputs.items
+    (serve_all c.args.serving c.args.number l.world found) (serve c.args.serving c.args.number l.world f)
+    (λ (w : World). serve_all c.args.serving c.args.number w rest)
+    (served_first c.args.serving c.args.number l.world found f rest is open_)
+    c.in_err-serve-in-Ok-Some.ensures l.invariant)
 
 pub returns-in-Err : goal.returns-in-Err
 returns-in-Err c =
     let l = c.frame in
     let open_ : finmap.contains_key l.world.clients.connections c.args.number ≡ true =
-    sym (ap (λ (w : World). finmap.contains_key w.clients.connections c.args.number) c.world.view_is) ∙ sym c.is_open.ensures ∙ c.frame-test.true in
+    sym (ap (λ (w : World). finmap.contains_key w.clients.connections c.args.number) c.world.view_is)
+    ∙ sym c.is_open.ensures ∙ c.frame-test.true in
     let found = items frames (place_at tt l.waiting) in
-    let is : found ≡ nothing (record { phase = tt; unread = Err c.in-Err.field-0 }) = ap (λ (b : List ℕ). items frames (place_at tt b)) (sym c.as_slice.ensures) ∙ c.in-Err.ensures in
-    ends_with c.close_client.result c.args.outputs.now.items (serve_all c.args.serving c.args.number c.args.world.now (items frames (place_at tt c.args.waiting))) l.outputs.items c.close_client.new.outputs.items
+    let is : found ≡ nothing (record { phase = tt; unread = Err c.in-Err.field-0 }) =
+    ap (λ (b : List ℕ). items frames (place_at tt b)) (sym c.as_slice.ensures) ∙ c.in-Err.ensures in
+    ends_with c.close_client.result c.args.outputs.now.items
+    (serve_all c.args.serving c.args.number c.args.world.now (items frames (place_at tt c.args.waiting)))
+    l.outputs.items c.close_client.new.outputs.items
     (serve_all c.args.serving c.args.number l.world found) (close_client c.args.number l.world) c.close_client.new.world
     (bad_length c.args.serving c.args.number l.world found c.in-Err.field-0 is open_) c.close_client.ensures l.invariant
 
@@ -38,7 +48,10 @@ pub returns : goal.returns
 returns c =
     let l = c.frame in
     let closed : finmap.contains_key l.world.clients.connections c.args.number ≡ false =
-    sym (ap (λ (w : World). finmap.contains_key w.clients.connections c.args.number) c.world.view_is) ∙ sym c.is_open.ensures ∙ c.frame-test.false in
-    ends c.args.outputs.now.items (serve_all c.args.serving c.args.number c.args.world.now (items frames (place_at tt c.args.waiting))) l.outputs.items
+    sym (ap (λ (w : World). finmap.contains_key w.clients.connections c.args.number) c.world.view_is)
+    ∙ sym c.is_open.ensures ∙ c.frame-test.false in
+    ends c.args.outputs.now.items
+    (serve_all c.args.serving c.args.number c.args.world.now (items frames (place_at tt c.args.waiting)))
+    l.outputs.items
     (serve_all c.args.serving c.args.number l.world (items frames (place_at tt l.waiting))) l.world
     (all_passed_over c.args.serving c.args.number l.world (items frames (place_at tt l.waiting)) closed) l.invariant

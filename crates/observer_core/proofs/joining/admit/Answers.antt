@@ -9,4 +9,5 @@ pub returns-in_err-connected : goal.returns-in_err-connected
 returns-in_err-connected c =
     let p = err_from_is_err_and c.from_residual.result c.from_residual.ensures.1 in
     let asked = connect c.args.world.now.clients.sessions c.args.number (session_request c.args.connecting.request) in
-    rw p.1 (gains_nothing c.args.outputs.now.items (connected c.args.number c.args.world.now c.args.connecting.has_byte asked).outputs)
+    rw p.1 (gains_nothing c.args.outputs.now.items
+    (connected c.args.number c.args.world.now c.args.connecting.has_byte asked).outputs)

@@ -14,13 +14,22 @@ returns c =
     let stay = c.others_stay.ensures in
     let keep_watches = c.firing.ensures.others in
     let told = c.sessions_and_connections_agree.ensures.told in
-    let served = serve_agrees c.sessions_and_connections_agree.ensures.kept c.firing.ensures.watchers c.firing.ensures.dropped in
+    let served = serve_agrees c.sessions_and_connections_agree.ensures.kept c.firing.ensures.watchers
+    c.firing.ensures.dropped in
     record {
-      comes = λ m n. record { leader = refl; world = open_apart (IsTakenUp n m.world.clients (open_client n m.world).clients) n m.world };
+      comes = λ m n. record {
+        leader = refl;
+        world = open_apart (IsTakenUp n m.world.clients (open_client n m.world).clients) n m.world;
+      };
       sends = λ m n bytes agree. record {
         leader = refl;
-        world = bytes_apart stay keep_watches told (λ (w : World). ClientsAgree w.clients) (λ w a. a.sessions) served (serving m.world) n m.world
-            (finmap.get m.world.clients.connections n) bytes (λ k is. opened_agrees n (record { rest = [] }) m.world.clients agree);
+        world = bytes_apart stay keep_watches told (λ (w : World). ClientsAgree w.clients) (λ w a. a.sessions) served
+            (serving m.world) n m.world
+            (finmap.get m.world.clients.connections n) bytes
+            (λ k is. opened_agrees n (record { rest = [] }) m.world.clients agree);
       };
-      goes = λ m n. record { leader = refl; world = end_apart (IsTakenUp n m.world.clients (end_client n m.world).clients) stay keep_watches n m.world };
+      goes = λ m n. record {
+        leader = refl;
+        world = end_apart (IsTakenUp n m.world.clients (end_client n m.world).clients) stay keep_watches n m.world;
+      };
     }

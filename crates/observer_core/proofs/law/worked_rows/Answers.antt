@@ -2,4 +2,5 @@ use Rattle.observer_core.proofs.Rows.{rows_hold, unwatched}
 use Rattle.observer_core.proofs.law.worked_rows.Goals as goal
 
 pub returns : goal.returns
-returns c = rows_hold c.transactions.ensures.again (unwatched c.firing.ensures.watchers c.firing.ensures.silent) c.worked_rows.ensures
+returns c = rows_hold c.transactions.ensures.again (unwatched c.firing.ensures.watchers c.firing.ensures.silent)
+    c.worked_rows.ensures

@@ -8,6 +8,8 @@ use Rattle.observer_core.proofs.leader.close_all.Goals as goal
 
 pub returns : goal.returns
 returns c =
-    ends c.args.outputs.now.items (closing_all c.args.clients.now) c.loop-number.outputs.items (closing_all c.loop-number.clients) c.close_first.new.self
-    (none_open c.loop-number.clients c.in_default.ensures.none.0 ∙ ap (λ (m : Clients). quiet m) (sym c.in_default.ensures.none.1))
+    ends c.args.outputs.now.items (closing_all c.args.clients.now) c.loop-number.outputs.items
+    (closing_all c.loop-number.clients) c.close_first.new.self
+    (none_open c.loop-number.clients c.in_default.ensures.none.0 ∙ ap (λ (m : Clients). quiet m)
+    (sym c.in_default.ensures.none.1))
     c.loop-number.invariant

@@ -7,10 +7,16 @@ use Rattle.observer_core.proofs.leader.receive_item.Goals as goal
 
 pub returns-in-Err : goal.returns-in-Err
 returns-in-Err c =
-    let inside : World = record { config = c.world.inside.config; replica = c.world.inside.replica; clients = c.world.inside.clients } in
+    let inside : World = record {
+      config = c.world.inside.config;
+      replica = c.world.inside.replica;
+      clients = c.world.inside.clients;
+    } in
     let old = c.args.outputs.now.items in
     let loading = c.args.loader.now in
-    subst (λ (w : World). Receives (Err c.in-Err.error) old (receive (record { loading = loading; world = w }) c.args.item) (record { loading = loading; world = w }) old
+    subst (λ (w : World). Receives (Err c.in-Err.error) old
+    (receive (record { loading = loading; world = w }) c.args.item) (record { loading = loading; world = w }) old
     (record { loading = c.take.new.loader; world = record inside { replica = c.take.new.self } }))
     c.world.view_is
-    (not_taken (record { loading = loading; world = inside }) c.args.item old c.in-Err.error c.take.new.loader c.take.new.self c.in-Err.ensures.takes)
+    (not_taken (record { loading = loading; world = inside }) c.args.item old c.in-Err.error c.take.new.loader
+    c.take.new.self c.in-Err.ensures.takes)

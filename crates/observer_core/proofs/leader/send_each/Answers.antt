@@ -12,7 +12,10 @@ returns-in_err-send c =
     let l = c.loop-packet in
     let first = c.packet-item.result in
     let others = drop (suc l.packet-index) c.args.packets.now in
-    let is = drop-cons c.args.packets.now l.packet-index first c.loop-packet-test.true ∙ ap (λ (q : QuorumPacket). q ∷ others) (sym c.packet-item.is) in
-    rw p.1 (stops_in_step c.args.outputs.now.items (putting (map to_leader c.args.packets.now)) l.outputs.items c.send.new.outputs.items
-    (putting (map to_leader (drop l.packet-index c.args.packets.now))) (putting (to_leader first ∷ [])) (λ u. putting (map to_leader others))
+    let is = drop-cons c.args.packets.now l.packet-index first c.loop-packet-test.true
+    ∙ ap (λ (q : QuorumPacket). q ∷ others) (sym c.packet-item.is) in
+    rw p.1 (stops_in_step c.args.outputs.now.items (putting (map to_leader c.args.packets.now)) l.outputs.items
+    c.send.new.outputs.items
+    (putting (map to_leader (drop l.packet-index c.args.packets.now))) (putting (to_leader first ∷ []))
+    (λ u. putting (map to_leader others))
     (ap (λ (ps : List QuorumPacket). putting (map to_leader ps)) is) c.in_err-send.ensures l.invariant)

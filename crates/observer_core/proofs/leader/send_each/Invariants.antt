@@ -6,4 +6,5 @@ use Rattle.observer_core.proofs.leader.send_each.Given as goal
 -- what is left to send leads to what was to be sent
 abbrev pub invariant-loop-packet : goal.invariant-loop-packet
 invariant-loop-packet l =
-    SoFar l.fn.outputs.items (putting (map to_leader l.packets)) l.outputs.items (putting (map to_leader (drop l.packet-index l.packets)))
+    SoFar l.fn.outputs.items (putting (map to_leader l.packets)) l.outputs.items
+    (putting (map to_leader (drop l.packet-index l.packets)))

@@ -6,10 +6,18 @@ use Rattle.observer_core.proofs.leader.tell.Goals as goal
 
 pub returns : goal.returns
 returns c =
-    let inside : Clients = record { connections = c.clients.inside.connections; sessions = c.clients.inside.sessions; watches = c.clients.inside.watches } in
+    let inside : Clients = record {
+      connections = c.clients.inside.connections;
+      sessions = c.clients.inside.sessions;
+      watches = c.clients.inside.watches;
+    } in
     let old = c.args.outputs.now.items in
     let new = c.notify_each.new.outputs.items in
-    subst (λ (k : Clients). Meets c.notify_each.result old (telling k c.args.brought.now) new (record inside { watches = c.fire.new.self }))
+    subst (λ (k : Clients). Meets c.notify_each.result old (telling k c.args.brought.now) new
+    (record inside { watches = c.fire.new.self }))
     c.clients.view_is
-    (told_meets c.notify_each.result old c.send_each.new.outputs.items new inside c.args.brought.now c.in_ok-events.events.items
-    c.fire.new.self (rw c.as_slice.ensures at c.in_ok-events.ensures.events) (rw c.as_slice.ensures at c.in_ok-events.ensures.left) (rw c.as_slice-2.ensures at c.in_ok-send_each.ensures) (rw c.as_slice-3.ensures.value at c.notify_each.ensures))
+    (told_meets c.notify_each.result old c.send_each.new.outputs.items new inside c.args.brought.now
+    c.in_ok-events.events.items
+    c.fire.new.self (rw c.as_slice.ensures at c.in_ok-events.ensures.events)
+    (rw c.as_slice.ensures at c.in_ok-events.ensures.left) (rw c.as_slice-2.ensures at c.in_ok-send_each.ensures)
+    (rw c.as_slice-3.ensures.value at c.notify_each.ensures))

@@ -11,7 +11,10 @@ returns-in_err-notify c =
     let p = err_from_is_err_and c.from_residual.result c.from_residual.ensures.1 in
     let l = c.loop-event in
     let others = drop (suc l.event-index) c.args.events.now in
-    let is = drop-cons c.args.events.now l.event-index c.event-item.result c.loop-event-test.true ∙ ap (λ (e : Event). e ∷ others) (sym c.event-item.is) in
-    rw p.1 (stops_in_step c.args.outputs.now.items (putting (notices_to c.args.number c.args.events.now)) l.outputs.items c.notify.new.outputs.items
-    (putting (notices_to c.args.number (drop l.event-index c.args.events.now))) (putting (notice c.args.number c.event-item.result)) (λ u. putting (notices_to c.args.number others))
+    let is = drop-cons c.args.events.now l.event-index c.event-item.result c.loop-event-test.true
+    ∙ ap (λ (e : Event). e ∷ others) (sym c.event-item.is) in
+    rw p.1 (stops_in_step c.args.outputs.now.items (putting (notices_to c.args.number c.args.events.now))
+    l.outputs.items c.notify.new.outputs.items
+    (putting (notices_to c.args.number (drop l.event-index c.args.events.now)))
+    (putting (notice c.args.number c.event-item.result)) (λ u. putting (notices_to c.args.number others))
     (ap (λ (es : List Event). putting (notices_to c.args.number es)) is) c.in_err-notify.ensures l.invariant)

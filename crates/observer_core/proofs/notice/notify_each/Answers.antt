@@ -12,7 +12,10 @@ returns-in_err-notify c =
     let l = c.loop-number in
     let told = c.loop-number-item.result in
     let others = drop (suc l.number-index) c.args.events.now in
-    let is = drop-cons c.args.events.now l.number-index told c.loop-number-test.true ∙ ap (λ (e : ℕ × Event). e ∷ others) (sym c.loop-number-item.is) in
-    rw p.1 (stops_in_step c.args.outputs.now.items (putting (notices c.args.events.now)) l.outputs.items c.notify.new.outputs.items
-    (putting (notices (drop l.number-index c.args.events.now))) (putting (notice told.0 told.1)) (λ u. putting (notices others))
+    let is = drop-cons c.args.events.now l.number-index told c.loop-number-test.true
+    ∙ ap (λ (e : ℕ × Event). e ∷ others) (sym c.loop-number-item.is) in
+    rw p.1 (stops_in_step c.args.outputs.now.items (putting (notices c.args.events.now)) l.outputs.items
+    c.notify.new.outputs.items
+    (putting (notices (drop l.number-index c.args.events.now))) (putting (notice told.0 told.1))
+    (λ u. putting (notices others))
     (ap (λ (es : List (ℕ × Event)). putting (notices es)) is) c.in_err-notify.ensures l.invariant)

@@ -5,4 +5,5 @@ use Rattle.observer_core.proofs.notice.notify_each.Given as goal
 
 -- what is left to tell leads to what was to be told
 abbrev pub invariant-loop-number : goal.invariant-loop-number
-invariant-loop-number l = SoFar l.fn.outputs.items (putting (notices l.events)) l.outputs.items (putting (notices (drop l.number-index l.events)))
+invariant-loop-number l = SoFar l.fn.outputs.items (putting (notices l.events)) l.outputs.items
+    (putting (notices (drop l.number-index l.events)))

@@ -5,5 +5,7 @@ use Rattle.observer_core.proofs.reading.answer_request.Goals as goal
 
 pub returns-in_err-set_watch_if : goal.returns-in_err-set_watch_if
 returns-in_err-set_watch_if c =
-    let p = err_from_is_err_and c.from_residual-in_err-set_watch_if.result c.from_residual-in_err-set_watch_if.ensures.1 in
-    rw p.1 (gains_nothing c.args.outputs.now.items (request c.args.number c.args.world.now c.args.xid c.args.asked.now).outputs)
+    let p = err_from_is_err_and c.from_residual-in_err-set_watch_if.result
+    c.from_residual-in_err-set_watch_if.ensures.1 in
+    rw p.1 (gains_nothing c.args.outputs.now.items
+    (request c.args.number c.args.world.now c.args.xid c.args.asked.now).outputs)

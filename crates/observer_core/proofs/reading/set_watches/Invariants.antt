@@ -4,4 +4,5 @@ use Rattle.observer_core.proofs.reading.set_watches.Given as goal
 
 -- what is left to set leads to what was to be set
 abbrev pub invariant-loop-watch : goal.invariant-loop-watch
-invariant-loop-watch l = watched_each l.number l.watches (drop l.watch-index l.asked) ≡ watched_each l.number l.fn.watches l.asked
+invariant-loop-watch l = watched_each l.number l.watches (drop l.watch-index l.asked) ≡ watched_each l.number
+    l.fn.watches l.asked

@@ -12,7 +12,10 @@ returns-in_err-happen c =
     let p = err_from_is_err_and c.from_residual.result c.from_residual.ensures.1 in
     let l = c.loop-event in
     let others = drop (suc l.event-index) c.args.events.now in
-    let is = drop-cons c.args.events.now l.event-index c.event-item.result c.loop-event-test.true ∙ ap (λ (e : Event). e ∷ others) (sym c.event-item.is) in
-    rw p.1 (stops_in_step c.args.outputs.now.items (play c.args.machine.now c.args.events.now) l.outputs.items c.happen.new.outputs.items
-    (play l.machine (drop l.event-index c.args.events.now)) (happen l.machine c.event-item.result) (λ (m : Machine). play m others)
+    let is = drop-cons c.args.events.now l.event-index c.event-item.result c.loop-event-test.true
+    ∙ ap (λ (e : Event). e ∷ others) (sym c.event-item.is) in
+    rw p.1 (stops_in_step c.args.outputs.now.items (play c.args.machine.now c.args.events.now) l.outputs.items
+    c.happen.new.outputs.items
+    (play l.machine (drop l.event-index c.args.events.now)) (happen l.machine c.event-item.result)
+    (λ (m : Machine). play m others)
     (ap (λ (es : List Event). play l.machine es) is) c.in_err-happen.ensures l.invariant)

@@ -16,12 +16,16 @@ returns-in_err-print_outputs-clause-no_memory g c =
 pub returns-in-Ok-clause-ok : goal.returns-in-Ok-clause-ok
 returns-in-Ok-clause-ok g c =
     on_ok_weaker c.print_end.result
-    (λ ends m e. appends_both _ _ _ (flat_map output_line c.args.outputs.now) (end_line_of m) c.in_ok-print_outputs.ensures.ok (ends m e))
+    (λ ends m e. appends_both _ _ _ (flat_map output_line c.args.outputs.now) (end_line_of m)
+    c.in_ok-print_outputs.ensures.ok (ends m e))
     c.print_end.ensures.ok
 
 pub returns-in-Ok-clause-no_memory : goal.returns-in-Ok-clause-no_memory
 returns-in-Ok-clause-no_memory g c =
-    λ e. all_written c.args.outputs.now (subst (λ w. Appends (g.W.Write.contents c.args.writer.now) (g.W.Write.contents w) (flat_map output_line c.args.outputs.now)) (sym (c.print_end.ensures.no_memory e)) c.in_ok-print_outputs.ensures.ok)
+    λ e. all_written c.args.outputs.now
+    (subst (λ w. Appends (g.W.Write.contents c.args.writer.now) (g.W.Write.contents w)
+    (flat_map output_line c.args.outputs.now)) (sym (c.print_end.ensures.no_memory e))
+    c.in_ok-print_outputs.ensures.ok)
 
 pub returns-clause-no_memory : goal.returns-clause-no_memory
 returns-clause-no_memory g c = λ e. all_written c.args.outputs.now c.in_ok-print_outputs.ensures.ok

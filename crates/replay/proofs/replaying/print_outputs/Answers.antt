@@ -15,6 +15,13 @@ returns-in_err-print_output-clause-no_memory g c =
     rw (p.1, p.2)
     (λ e. record {
       front = take i outputs;
-      first = record { front = take i outputs; rest = drop i outputs; gained = refl; of = sym (take-append-drop i outputs) };
-      written = subst (λ w. Appends (g.W.Write.contents c.args.writer.now) (g.W.Write.contents w) (flat_map output_line (take i outputs))) (sym (c.in_err-print_output.ensures.no_memory e)) c.loop-output.invariant;
+      first = record {
+        front = take i outputs;
+        rest = drop i outputs;
+        gained = refl;
+        of = sym (take-append-drop i outputs);
+      };
+      written = subst (λ w. Appends (g.W.Write.contents c.args.writer.now) (g.W.Write.contents w)
+          (flat_map output_line (take i outputs))) (sym (c.in_err-print_output.ensures.no_memory e))
+          c.loop-output.invariant;
     })

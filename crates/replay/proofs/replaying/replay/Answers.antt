@@ -11,6 +11,7 @@ returns-in-Ok g c =
     if_some (g.R.Read.remaining c.args.reader.now) _ _
     (λ (text : List ℕ) e.
     ends_kept ending text old (g.W.Write.contents c.replay_text-ending.new.writer) _
-    (subst (λ t. Ends ending t old (g.W.Write.contents c.replay_text-ending.new.writer)) (c.as_slice.ensures.value ∙ e ∙ ap (λ xs. xs ++ text) c.new-text.ensures.items) c.replay_text-ending.ensures)
+    (subst (λ t. Ends ending t old (g.W.Write.contents c.replay_text-ending.new.writer))
+    (c.as_slice.ensures.value ∙ e ∙ ap (λ xs. xs ++ text) c.new-text.ensures.items) c.replay_text-ending.ensures)
     c.in-Ok.ensures.bytes)
     c.in_default.ensures.bytes

@@ -11,7 +11,8 @@ nothing (x ∷ xs) e = absurd (omega arith)
 pub returns-in_default : goal.returns-in_default
 returns-in_default c =
     let left = c.args.left.now in
-    let empty : iter_rest c.loop-byte.others ≡ [] = nothing (iter_rest c.loop-byte.others) c.in_default.ensures.steps.0 in
+    let empty : iter_rest c.loop-byte.others ≡ [] =
+    nothing (iter_rest c.loop-byte.others) c.in_default.ensures.steps.0 in
     ap (λ d. walk_cmp d []) (sym (drop_more left c.loop-byte.byte-index 0 c.loop-byte-test.true))
     ∙ ap (walk_cmp (drop c.loop-byte.byte-index left)) (sym empty)
     ∙ c.loop-byte.invariant

@@ -13,12 +13,15 @@ returns c =
     let stat = c.args.node.now.stat in
     let key = c.args.key.now in
     let same : to_z w64 (of_z w64 key) ≡ key = search rules in (
-      four c.args.out.now.items _ (buffer.written c.args.node.now.bytes) (long.written key) (stat_persisted.written stat)
+      four c.args.out.now.items _ (buffer.written c.args.node.now.bytes) (long.written key)
+          (stat_persisted.written stat)
           c.put_string.new.out.items c.put_blob.new.out.items c.put_long.new.out.items c.write.new.out.items
-          (c.in_ok-put_string.ensures ∙ ap (λ (t : List ℕ). c.args.out.now.items ++ buffer.written (Some t)) c.written_path.ensures)
+          (c.in_ok-put_string.ensures ∙ ap (λ (t : List ℕ). c.args.out.now.items ++ buffer.written (Some t))
+          c.written_path.ensures)
           c.in_ok-put_blob.ensures
           (c.in_ok-put_long.ensures ∙ ap (λ (k : ℤ). c.put_blob.new.out.items ++ long.written k) same)
-          (c.in_ok-write.ensures ∙ ap (λ (s : StatPersisted). c.put_long.new.out.items ++ stat_persisted.written s) c.numbers.ensures.same),
+          (c.in_ok-write.ensures ∙ ap (λ (s : StatPersisted). c.put_long.new.out.items ++ stat_persisted.written s)
+          c.numbers.ensures.same),
       (
         c.fits_text.ensures.0 (search rules),
         (

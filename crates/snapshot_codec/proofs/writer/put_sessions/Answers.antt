@@ -20,7 +20,8 @@ loop-id-preserved c =
       wrote (both long int).written (both long int).Fits old ids now c.put_int-in-loop-id.new.out.items (id, timeout)
           c.next.new.self
           (c.in_ok-put_int-2.ensures
-          ∙ (λ i. (c.in_ok-put_long.ensures ∙ ap (λ (z : ℤ). now ++ long.written z) id_is) i ++ int.written (timeout_is i))
+          ∙ (λ i. (c.in_ok-put_long.ensures ∙ ap (λ (z : ℤ). now ++ long.written z) id_is) i ++ int.written
+          (timeout_is i))
           ∙ append_assoc now (long.written id) (int.written timeout))
           (long_fits, int_fits)
           (subst (λ r. Left (both long int).written (both long int).Fits old ids now r) c.in-Some.ensures.steps

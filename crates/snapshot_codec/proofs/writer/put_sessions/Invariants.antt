@@ -9,5 +9,6 @@ invariant-loop-id l =
     (goal.iterator-loop-id).can_next l.id-iterator
     × (goal.iterator-loop-id).is_finite l.id-iterator
     × Left (both long int).written (both long int).Fits
-    (l.fn.out.items ++ (count count_limit).written (Some (length (finmap.entries l.sessions)))) (finmap.entries l.sessions)
+    (l.fn.out.items ++ (count count_limit).written (Some (length (finmap.entries l.sessions))))
+    (finmap.entries l.sessions)
     l.out.items l.id-iterator

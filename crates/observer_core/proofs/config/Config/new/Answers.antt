@@ -8,19 +8,23 @@ use Rattle.observer_core.proofs.config.Config.new.Goals as goal
 -- numbers are passed by their bits
 two_passed : {A : Type 0} (r : Option A) (f : ℤ → ℤ → Option A) (a b : ℤ) → FitsSigned w32 a → FitsSigned w32 b
     → r ≡ f (to_z w32 (of_z w32 a)) (to_z w32 (of_z w32 b)) → r ≡ f a b
-two_passed r f a b fits fits' e = e ∙ ap (λ n. f n (to_z w32 (of_z w32 b))) (to_z-of_z fits) ∙ ap (f a) (to_z-of_z fits')
+two_passed r f a b fits fits' e = e ∙ ap (λ n. f n (to_z w32 (of_z w32 b))) (to_z-of_z fits)
+    ∙ ap (f a) (to_z-of_z fits')
 
-server : (c : goal.After-from_settings) → (is_server_id c.args.server_id ≡ true) × (c.in-Some.server_id ≡ c.args.server_id)
+server : (c : goal.After-from_settings) → (is_server_id c.args.server_id ≡ true)
+    × (c.in-Some.server_id ≡ c.args.server_id)
 server c = made _ _ _ c.new.result (c.new.ensures ∙ ap server_id_of (to_z-of_z c.ranges.server_id)) c.in-Some.is
 
 epochs : (c : goal.After-from_settings)
-    → let asked = epoch_pair c.args.accepted_epoch c.args.current_epoch in (are_epochs asked ≡ true) × (c.in-Some-new.epochs ≡ asked)
+    → let asked = epoch_pair c.args.accepted_epoch c.args.current_epoch in
+    (are_epochs asked ≡ true) × (c.in-Some-new.epochs ≡ asked)
 epochs c =
     let e = two_passed _ epochs_of _ _ c.ranges.accepted_epoch c.ranges.current_epoch c.new-2.ensures in
     made _ _ _ c.new-2.result e c.in-Some-new.is
 
 timeouts : (c : goal.After-from_settings)
-    → let asked = timeout_pair c.args.min_timeout c.args.max_timeout in (are_timeouts asked ≡ true) × (c.in-Some-new-2.timeouts ≡ asked)
+    → let asked = timeout_pair c.args.min_timeout c.args.max_timeout in
+    (are_timeouts asked ≡ true) × (c.in-Some-new-2.timeouts ≡ asked)
 timeouts c =
     let e = two_passed _ timeouts_of _ _ c.ranges.min_timeout c.ranges.max_timeout c.new-3.ensures in
     made _ _ _ c.new-3.result e c.in-Some-new-2.is

@@ -4,4 +4,5 @@ use Rattle.observer_core.proofs.NatMaps.{seen-remove}
 use Rattle.observer_core.proofs.connections.Connections.close.Goals as goal
 
 pub returns : goal.returns
-returns c = seen-remove c.args.number c.self.inside.map c.remove.new.self c.remove.ensures.updates ∙ ap (λ m. finmap.remove m c.args.number) c.self.view_is
+returns c = seen-remove c.args.number c.self.inside.map c.remove.new.self c.remove.ensures.updates
+    ∙ ap (λ m. finmap.remove m c.args.number) c.self.view_is

@@ -8,12 +8,14 @@ use Rattle.observer_core.proofs.connections.Connections.replace_rest.Goals as go
 
 pub returns-in-None-clause-old : goal.returns-in-None-clause-old
 returns-in-None-clause-old c =
-    ap rest_at (c.in-None.ensures.value ∙ sym (get-seen c.self.inside.map c.args.number)) ∙ ap (λ m. rest_at (finmap.get m c.args.number)) c.self.view_is
+    ap rest_at (c.in-None.ensures.value ∙ sym (get-seen c.self.inside.map c.args.number))
+    ∙ ap (λ m. rest_at (finmap.get m c.args.number)) c.self.view_is
 
 pub returns-in-None-clause-new : goal.returns-in-None-clause-new
 returns-in-None-clause-new c =
     let none : None ≡ finmap.get c.args.self.now c.args.number =
-    c.in-None.ensures.value ∙ sym (get-seen c.self.inside.map c.args.number) ∙ ap (λ m. finmap.get m c.args.number) c.self.view_is in
+    c.in-None.ensures.value ∙ sym (get-seen c.self.inside.map c.args.number)
+    ∙ ap (λ m. finmap.get m c.args.number) c.self.view_is in
     ap (λ m. seen m.entries) c.get_mut.follows.holds-at-none ∙ c.self.view_is
     ∙ ap (λ (o : Option Connection). with_rest c.args.self.now c.args.number o c.args.rest) none
 
@@ -29,8 +31,10 @@ returns-clause-new c =
     let with_bytes : List ℕ → Connection = λ (rest : List ℕ). record { rest = rest } in
     let w = with_bytes c.replace.new.dest in
     let some : Some c.in-Some.connection.now ≡ finmap.get c.args.self.now c.args.number =
-    c.in-Some.ensures.value ∙ sym (get-seen c.self.inside.map c.args.number) ∙ ap (λ m. finmap.get m c.args.number) c.self.view_is in
-    seen-insert c.args.number c.self.inside.map (c.get_mut.follows.lender w) w ((c.get_mut.follows.holds w).3 (subst IsSome c.in-Some.ensures.value refl))
+    c.in-Some.ensures.value ∙ sym (get-seen c.self.inside.map c.args.number)
+    ∙ ap (λ m. finmap.get m c.args.number) c.self.view_is in
+    seen-insert c.args.number c.self.inside.map (c.get_mut.follows.lender w) w
+    ((c.get_mut.follows.holds w).3 (subst IsSome c.in-Some.ensures.value refl))
     ∙ ap (λ m. finmap.insert m c.args.number w) c.self.view_is
     ∙ ap (λ (rest : List ℕ). finmap.insert c.args.self.now c.args.number (with_bytes rest)) c.replace.ensures.after
     ∙ ap (λ (o : Option Connection). with_rest c.args.self.now c.args.number o c.args.rest) some

@@ -44,7 +44,8 @@ returns c = λ lists t.
     let next : count + 1 ≡ suc count = omega arith in
     let key : to_z w64 (of_z w64 (to_z w64 count +ℤ pos 1)) ≡ pos (suc (btree_map_len old.keys)) =
     ap (λ z. to_z w64 (of_z w64 (z +ℤ pos 1))) cast ∙ back ∙ ap pos next ∙ ap (λ n. pos (suc n)) len in
-    subst (λ l. IsTable (record { keys = c.insert.new.self; written = c.extend_from_slice.new.self }) (with_list lists l))
+    subst (λ l. IsTable (record { keys = c.insert.new.self; written = c.extend_from_slice.new.self })
+    (with_list lists l))
     c.in-Some.ensures.entries
     (one_more old (record { keys = c.insert.new.self; written = c.extend_from_slice.new.self }) lists list t fits
     c.in-Some.ensures.not_open
@@ -54,7 +55,8 @@ returns c = λ lists t.
     (subst (λ n. n < count_limit) len few)
     (λ asked h.
     ap (lookup (is_at (λ k. path_cmp (list_bytes asked) k.items))) c.in_ok-insert.ensures.entries
-    ∙ lookup-added (λ k. k.items) (list_bytes asked) old.keys.entries c.in_ok-bytes.bytes (to_z w64 (of_z w64 (to_z w64 count +ℤ pos 1)))
+    ∙ lookup-added (λ k. k.items) (list_bytes asked) old.keys.entries c.in_ok-bytes.bytes
+    (to_z w64 (of_z w64 (to_z w64 count +ℤ pos 1)))
     ∙ (λ i. cond (eq_by_cmp path_cmp (list_bytes asked) (c.in_ok-bytes.ensures.0 i)) (Some (key i))
     (tree.get_by (λ k. path_cmp (list_bytes asked) k.items) old.keys)))
     (c.in_ok-insert.ensures.len
