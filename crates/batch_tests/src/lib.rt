@@ -58,11 +58,15 @@ pub fn read_txn(alloc: Global, word: &str) -> Result<Txn, ReadError> {
     Ok(txn_of(Body::Single(create_of(alloc, word, false)?)))
 }
 
-/// The transactions of words between blanks.
+/// The transactions of words between blanks, with zxids from 1 on.
 pub fn read_txns(alloc: Global, words: &str) -> Result<Vec<Txn>, ReadError> {
     let mut txns = Vec::new(alloc);
+    let mut zxid = 0i64;
     for word in words.split_whitespace() {
-        txns.push(read_txn(alloc, word)?)?;
+        zxid = zxid.wrapping_add(1);
+        let mut txn = read_txn(alloc, word)?;
+        txn.header.zxid = zxid;
+        txns.push(txn)?;
     }
     Ok(txns)
 }

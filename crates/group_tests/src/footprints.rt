@@ -1,6 +1,6 @@
 //! Which paths a transaction may touch.
 
-use crate::{operation_of, txn_of};
+use crate::words::{operation_of, txn_of};
 use footprint::{Footprint, footprint};
 use std::alloc::Global;
 use std::test::Fail;

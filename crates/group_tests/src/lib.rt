@@ -5,40 +5,5 @@
 
 #[cfg(test)]
 mod footprints;
-
-use std::alloc::Global;
-use txn_codec::{Body, Check, Create, Operation, Path, SetData, Txn, TxnHeader};
-use values::ReadError;
-
-/// The operation that a sign stands for: "+" a create, "-" a delete, "=" new data, "?" a check, and any other an error.
-pub fn operation_of(alloc: Global, sign: char, path: &str) -> Result<Operation, ReadError> {
-    let path = Path::new(alloc, path)?;
-    Ok(match sign {
-        '+' => Operation::Create(Create {
-            path,
-            bytes: None,
-            acl: None,
-            ephemeral: false,
-            parent_cversion: -1,
-        }),
-        '-' => Operation::Delete(path),
-        '=' => Operation::SetData(SetData {
-            path,
-            bytes: None,
-            version: 1,
-        }),
-        '?' => Operation::Check(Check { path, version: 1 }),
-        _ => Operation::Error(-101),
-    })
-}
-
-/// A transaction of session 9.
-pub fn txn_of(body: Body) -> Txn {
-    let header = TxnHeader {
-        client_id: 9,
-        cxid: 1,
-        zxid: 1,
-        time: 1000,
-    };
-    Txn { header, body }
-}
+#[cfg(test)]
+mod words;

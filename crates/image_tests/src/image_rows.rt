@@ -3,7 +3,7 @@
 use crate::joined;
 use crate::pieces::{
     A, B, BARE, C, CLOSE, NONE, NULL, ONE, OPEN, OWNED, READ_5, READ_8, ROOT, SESSION, SIGNATURE,
-    TWO, fresh_image, session_image,
+    TWO, fresh, fresh_image, session_image,
 };
 use data_tree::Tree;
 use snapshot_codec::read_image;
@@ -63,8 +63,8 @@ fn fresh_tree(rt: HostRuntime) -> Result<(), Fail> {
     let bytes = fresh_image(rt.alloc())?;
     assert_eq!(rt; bytes.len(), 281);
     let tree = tree_of(rt.alloc(), &bytes)?;
-    let fresh = Tree::fresh(rt.alloc())?;
-    assert!(rt; are_same_at_all(&tree, &fresh, &["/", "/zookeeper", "/zookeeper/quota"]));
+    let same = fresh(rt.alloc())?;
+    assert!(rt; are_same_at_all(&tree, &same, &["/", "/zookeeper", "/zookeeper/quota"]));
     assert!(rt; tree.is_whole(rt.alloc())?);
     assert_eq!(rt; tree.sessions().get(9), None);
     Ok(())
@@ -93,35 +93,6 @@ fn cut_at_each_byte(rt: HostRuntime) -> Result<(), Fail> {
 }
 
 #[test]
-fn another_end(rt: HostRuntime) -> Result<(), Fail> {
-    let alloc = rt.alloc();
-    let other: &[u8] = b"\0\0\0\x0aBonWasHere";
-    let broken: &[u8] = b"\0\0\0\x01\xff";
-    assert!(rt;
-        is_refused(
-            alloc,
-            &[NONE, NONE, ROOT, BARE, CLOSE, other],
-            Fault::BadImage
-        )?
-    );
-    assert!(rt;
-        is_refused(
-            alloc,
-            &[NONE, NONE, ROOT, BARE, CLOSE, NULL],
-            Fault::BadImage
-        )?
-    );
-    assert!(rt;
-        is_refused(
-            alloc,
-            &[NONE, NONE, ROOT, BARE, CLOSE, broken],
-            Fault::BadText
-        )?
-    );
-    Ok(())
-}
-
-#[test]
 fn other_orders_and_keys(rt: HostRuntime) -> Result<(), Fail> {
     let alloc = rt.alloc();
     let one = joined(
@@ -145,33 +116,41 @@ fn other_orders_and_keys(rt: HostRuntime) -> Result<(), Fail> {
     Ok(())
 }
 
-#[test]
-fn parts_that_do_not_go_together(rt: HostRuntime) -> Result<(), Fail> {
-    let alloc = rt.alloc();
-    assert!(rt; is_refused(alloc, &[TWO, SESSION, SESSION], Fault::BadImage)?);
-    assert!(rt; is_refused(alloc, &[NONE, TWO, READ_5, READ_5], Fault::BadImage)?);
-    assert!(rt; is_refused(alloc, &[NONE, TWO, OPEN, OPEN], Fault::BadImage)?);
-    assert!(rt;
-        is_refused(
-            alloc,
-            &[NONE, NONE, ROOT, BARE, A, BARE, A, BARE],
-            Fault::BadImage
-        )?
-    );
-    assert!(rt; is_refused(alloc, &[NONE, NONE, ROOT, BARE, C, BARE], Fault::BadImage)?);
-    assert!(rt; is_refused(alloc, &[NONE, NONE, A, BARE], Fault::BadImage)?);
-    assert!(rt; is_refused(alloc, &[NONE, NONE, ROOT, BARE, A, OWNED], Fault::BadImage)?);
-    assert!(rt; is_refused(alloc, &[NONE, NONE, CLOSE], Fault::BadImage)?);
-    Ok(())
-}
+// Pieces of images, and the fault for which their last byte is refused.
+const REFUSED: [(&[&[u8]], Fault); 16] = [
+    // the signature is another text, null, or no UTF-8
+    (
+        &[NONE, NONE, ROOT, BARE, CLOSE, b"\0\0\0\x0aBonWasHere"],
+        Fault::BadImage,
+    ),
+    (&[NONE, NONE, ROOT, BARE, CLOSE, NULL], Fault::BadImage),
+    (
+        &[NONE, NONE, ROOT, BARE, CLOSE, b"\0\0\0\x01\xff"],
+        Fault::BadText,
+    ),
+    // a session, a key or a path stands there already
+    (&[TWO, SESSION, SESSION], Fault::BadImage),
+    (&[NONE, TWO, READ_5, READ_5], Fault::BadImage),
+    (&[NONE, TWO, OPEN, OPEN], Fault::BadImage),
+    (&[NONE, NONE, ROOT, BARE, A, BARE, A, BARE], Fault::BadImage),
+    // a node has no parent, or the key of no list
+    (&[NONE, NONE, ROOT, BARE, C, BARE], Fault::BadImage),
+    (&[NONE, NONE, ROOT, BARE, A, OWNED], Fault::BadImage),
+    // the first node isn't the root, or there is none
+    (&[NONE, NONE, A, BARE], Fault::BadImage),
+    (&[NONE, NONE, CLOSE], Fault::BadImage),
+    // a count or a path is null, or a path behind the root is empty
+    (&[NULL], Fault::BadLength),
+    (&[NONE, NULL], Fault::BadLength),
+    (&[NONE, NONE, NULL], Fault::BadPath),
+    (&[NONE, NONE, ROOT, BARE, NULL], Fault::BadPath),
+    (&[NONE, NONE, ROOT, BARE, ROOT], Fault::BadPath),
+];
 
 #[test]
-fn fields_that_are_none(rt: HostRuntime) -> Result<(), Fail> {
-    let alloc = rt.alloc();
-    assert!(rt; is_refused(alloc, &[NULL], Fault::BadLength)?);
-    assert!(rt; is_refused(alloc, &[NONE, NULL], Fault::BadLength)?);
-    assert!(rt; is_refused(alloc, &[NONE, NONE, NULL], Fault::BadPath)?);
-    assert!(rt; is_refused(alloc, &[NONE, NONE, ROOT, BARE, NULL], Fault::BadPath)?);
-    assert!(rt; is_refused(alloc, &[NONE, NONE, ROOT, BARE, ROOT], Fault::BadPath)?);
+fn refused_at_the_last_byte(rt: HostRuntime) -> Result<(), Fail> {
+    for (pieces, fault) in REFUSED {
+        assert!(rt; is_refused(rt.alloc(), pieces, fault)?, "{pieces:?}");
+    }
     Ok(())
 }

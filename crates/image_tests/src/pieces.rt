@@ -1,7 +1,9 @@
 //! What images are made of.
 
 use crate::joined;
+use data_tree::Tree;
 use std::alloc::Global;
+use std::test::Fail;
 use values::NoMemory;
 
 /// No session, or no ACL list.
@@ -107,4 +109,9 @@ pub fn session_image(alloc: Global) -> Result<Vec<u8>, NoMemory> {
             ONE, SESSION, NONE, ROOT, BARE, ZOOKEEPER, BARE, QUOTA, BARE, CLOSE, SIGNATURE,
         ],
     )
+}
+
+/// The tree from which every log starts. It says nothing of the tree, so that nothing is computed from it in a proof.
+pub fn fresh(alloc: Global) -> Result<Tree, Fail> {
+    Ok(Tree::fresh(alloc)?)
 }

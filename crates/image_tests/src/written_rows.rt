@@ -3,7 +3,7 @@
 use crate::joined;
 use crate::pieces::{
     A, A_B, B, BARE, C, CLOSE, KEY_1, KEY_2, KEY_7, KEY_8, NONE, NUMBERS, ONE, READ_1, READ_2,
-    READ_8, ROOT, SESSION, SIGNATURE, TWO, WRITE_1, WRITE_7, fresh_image, session_image,
+    READ_8, ROOT, SESSION, SIGNATURE, TWO, WRITE_1, WRITE_7, fresh, fresh_image, session_image,
 };
 use data_tree::{Node, Tree};
 use ephemerals::TextSet;
@@ -27,11 +27,10 @@ fn written_again(alloc: Global, bytes: &[u8]) -> Result<Vec<u8>, Fail> {
 
 #[test]
 fn worked_images(rt: HostRuntime) -> Result<(), Fail> {
-    let fresh = fresh_image(rt.alloc())?;
+    let wanted = fresh_image(rt.alloc())?;
     let with_session = session_image(rt.alloc())?;
-    let tree = Tree::fresh(rt.alloc())?;
-    assert!(rt; image_of(rt.alloc(), &tree)? == fresh);
-    assert!(rt; written_again(rt.alloc(), &fresh)? == fresh);
+    assert!(rt; image_of(rt.alloc(), &fresh(rt.alloc())?)? == wanted);
+    assert!(rt; written_again(rt.alloc(), &wanted)? == wanted);
     assert!(rt; written_again(rt.alloc(), &with_session)? == with_session);
     Ok(())
 }

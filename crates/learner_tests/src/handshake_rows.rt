@@ -1,6 +1,6 @@
 //! A learner and its leader greet each other.
 
-use crate::{Seen, at, come, does, follow, greeted, packet, sends, version};
+use crate::steps::{Seen, at, come, does, follow, greeted, packet, sends, version};
 use jute::{ReadRecord, Reader, WriteRecord};
 use learner_sync::{Learner, LearnerInfo, Phase};
 use quorum_packet::PacketKind;

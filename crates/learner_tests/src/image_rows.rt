@@ -1,6 +1,6 @@
 //! Images, and what comes behind them.
 
-use crate::{Seen, at, counters, does, follow, greeted, packet, with_txn};
+use crate::steps::{Seen, at, counters, does, follow, greeted, packet, with_txn};
 use learner_sync::Learner;
 use quorum_packet::{Item, PacketKind};
 use snapshot_codec::{ImagePart, ImageSession};

@@ -1,6 +1,8 @@
 //! What a leader sends to bring a learner up to date, and from then on.
 
-use crate::{Seen, at, come, counters, does, follow, greeted, packet, sends, version, with_txn};
+use crate::steps::{
+    Seen, at, come, counters, does, follow, greeted, packet, sends, version, with_txn,
+};
 use learner_sync::Learner;
 use quorum_packet::PacketKind;
 use settings::ServerId;

@@ -1,6 +1,6 @@
 //! Errors of reads, and who may read.
 
-use crate::{error_of, id_of, read_of, tree_after};
+use crate::calls::{error_of, id_of, read_of, tree_after};
 use client_records::{GetAclRequest, PathAndWatch, RequestKind};
 use data_tree::Tree;
 use jute::Id;

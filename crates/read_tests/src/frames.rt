@@ -1,6 +1,6 @@
 //! Frames of answers.
 
-use crate::is_answered;
+use crate::calls::is_answered;
 use client_records::RequestKind;
 use std::alloc::Global;
 use std::test::Fail;

@@ -1,6 +1,6 @@
 //! Watches that reads leave.
 
-use crate::shown;
+use crate::calls::shown;
 use client_records::{GetAclRequest, PathAndWatch};
 use read_processor::{Request, watch_of};
 use std::alloc::Global;

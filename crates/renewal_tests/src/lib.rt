@@ -6,65 +6,6 @@
 #[cfg(test)]
 mod asking;
 #[cfg(test)]
+mod calls;
+#[cfg(test)]
 mod renewing;
-
-use client_records::{Name, SetWatches};
-use data_tree::Tree;
-use read_processor::Watch;
-use std::alloc::Global;
-use std::test::Fail;
-use txn_codec::{Body, Create, Operation, Path, Txn, TxnHeader};
-use values::{Listed, NoMemory};
-
-/// The tree from which every log starts, with the node /a made at this zxid.
-pub fn tree_with_a(alloc: Global, zxid: i64) -> Result<Tree, Fail> {
-    let header = TxnHeader {
-        client_id: 7,
-        cxid: 1,
-        zxid,
-        time: 1000,
-    };
-    let create = Create {
-        path: Path::new(alloc, "/a").ok().ok_or("a path")?,
-        bytes: None,
-        acl: None,
-        ephemeral: false,
-        parent_cversion: -1,
-    };
-    let body = Body::Single(Operation::Create(create));
-    let mut tree = Tree::fresh(alloc)?;
-    tree.apply(alloc, &Txn { header, body })?;
-    Ok(tree)
-}
-
-// A list of one path.
-fn one<'a>(alloc: Global, path: &'a str) -> Result<Listed<Name<'a>>, NoMemory> {
-    let mut names = Vec::new(alloc);
-    names.push(Name::new(path))?;
-    Ok(Listed::from_vec(names))
-}
-
-/// A setWatches with one path in each list.
-pub fn asked<'a>(
-    alloc: Global,
-    relative_zxid: i64,
-    data: &'a str,
-    exist: &'a str,
-    child: &'a str,
-) -> Result<SetWatches<'a>, NoMemory> {
-    Ok(SetWatches {
-        relative_zxid,
-        data_watches: one(alloc, data)?,
-        exist_watches: one(alloc, exist)?,
-        child_watches: one(alloc, child)?,
-    })
-}
-
-/// The watch in words: its table and its path.
-pub fn shown(alloc: Global, watch: &Watch<'_>) -> Result<String, Fail> {
-    let (table, path) = match watch {
-        Watch::Data(path) => ("data", path.as_str()),
-        Watch::Child(path) => ("child", path.as_str()),
-    };
-    Ok(format!(in alloc; "{table} {path}; ")?)
-}

@@ -1,6 +1,6 @@
 //! What a client that comes back is told.
 
-use crate::{asked, shown, tree_with_a};
+use crate::calls::{asked, shown, tree_with_a};
 use client_records::SetWatches;
 use client_records::codes::NOTIFICATION_XID;
 use data_tree::Tree;

@@ -40,17 +40,29 @@ fn put(alloc: Global, tree: &mut Tree, text: &str, owner: i64) -> Result<bool, F
     Ok(tree.put_node(alloc, &path, node_of(alloc, owner)?)?)
 }
 
-// A tree of /x/y, whose root listed the names before; and whether it is whole.
-fn is_whole_from(alloc: Global, names: &[&str]) -> Result<bool, Fail> {
+// A root that lists these names.
+fn root_of(alloc: Global, names: &[&str]) -> Result<Node, Fail> {
     let mut root = node_of(alloc, 0)?;
     for name in names {
         root.children.insert(String::from_str(alloc, name)?)?;
     }
-    let mut tree = Tree::empty(alloc);
-    tree.put_node(alloc, &path_of(alloc, "/").ok_or("a path")?, root)?;
-    put(alloc, &mut tree, "/x", 0)?;
-    put(alloc, &mut tree, "/x/y", 0)?;
+    Ok(root)
+}
+
+// Puts the root and then /x/y, and says whether the tree is whole.
+fn is_whole_below(alloc: Global, tree: &mut Tree, root: Node) -> Result<bool, Fail> {
+    let path = path_of(alloc, "/").ok_or("a path")?;
+    tree.put_node(alloc, &path, root)?;
+    put(alloc, tree, "/x", 0)?;
+    put(alloc, tree, "/x/y", 0)?;
     Ok(tree.is_whole(alloc)?)
+}
+
+// A tree of /x/y, whose root listed the names before; and whether it is whole.
+fn is_whole_from(alloc: Global, names: &[&str]) -> Result<bool, Fail> {
+    let root = root_of(alloc, names)?;
+    let mut tree = Tree::empty(alloc);
+    is_whole_below(alloc, &mut tree, root)
 }
 
 // Session 9 lasts 5 seconds; then come nodes, and for each a sign whether there was a place.
@@ -105,21 +117,40 @@ fn is_copied(alloc: Global, tree: &mut Tree) -> Result<bool, Fail> {
     Ok(is_as_made(alloc, &copy)? && names(alloc, &copy)?.as_str() == "ab")
 }
 
+// For each node a sign whether there was a place, and then whether the tree is as it was made.
+fn signs_and_tree(alloc: Global, tree: &mut Tree) -> Result<(String, bool), Fail> {
+    let signs = make_whole(alloc, tree)?;
+    let is_made = is_as_made(alloc, tree)?;
+    Ok((signs, is_made))
+}
+
+fn made(alloc: Global) -> Result<(String, bool), Fail> {
+    let mut tree = Tree::empty(alloc);
+    signs_and_tree(alloc, &mut tree)
+}
+
+// Whether a copy is as the tree was made, and whether the tree itself still is.
+fn copy_and_tree(alloc: Global, tree: &mut Tree) -> Result<(bool, bool), Fail> {
+    make_whole(alloc, tree)?;
+    let is_copied = is_copied(alloc, tree)?;
+    Ok((is_copied, is_as_made(alloc, tree)?))
+}
+
+fn copied(alloc: Global) -> Result<(bool, bool), Fail> {
+    let mut tree = Tree::empty(alloc);
+    copy_and_tree(alloc, &mut tree)
+}
+
 #[test]
 fn a_tree_is_made_node_by_node(rt: HostRuntime) -> Result<(), Fail> {
-    let mut tree = Tree::empty(rt.alloc());
-    let signs = make_whole(rt.alloc(), &mut tree)?;
-    assert_eq!(rt; signs.as_str(), "-+++--");
-    assert!(rt; is_as_made(rt.alloc(), &tree)?);
+    let (signs, is_made) = made(rt.alloc())?;
+    assert!(rt; signs.as_str() == "-+++--" && is_made);
     Ok(())
 }
 
 #[test]
 fn a_copy_stands_alone(rt: HostRuntime) -> Result<(), Fail> {
-    let mut tree = Tree::empty(rt.alloc());
-    make_whole(rt.alloc(), &mut tree)?;
-    assert!(rt; is_copied(rt.alloc(), &mut tree)?);
-    assert!(rt; !is_as_made(rt.alloc(), &tree)?);
+    assert!(rt; copied(rt.alloc())? == (true, false));
     Ok(())
 }
 

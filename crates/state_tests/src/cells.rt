@@ -1,6 +1,7 @@
 //! Cells that are taken out of a tree, changed apart, and put back.
 
 use crate::path_of;
+use crate::transactions::fresh;
 use data_tree::{Cells, Tree};
 use ephemerals::TextSet;
 use std::alloc::Global;
@@ -52,8 +53,8 @@ fn texts(alloc: Global, texts: &[&str]) -> Result<TextSet, Fail> {
 
 // A tree with the ephemeral /e of session 9.
 fn made(alloc: Global) -> Result<Tree, Fail> {
-    let mut tree = Tree::fresh(alloc)?;
     let txn = create(alloc, 9, "/e")?;
+    let mut tree = fresh(alloc)?;
     tree.apply(alloc, &txn)?;
     Ok(tree)
 }
@@ -103,20 +104,27 @@ fn put(alloc: Global, tree: &mut Tree, cells: Cells) -> Result<String, Fail> {
     state_of(alloc, tree)
 }
 
-// The tree without the cells, what is answered in the cells, and the tree that has them again.
-fn moved(alloc: Global, tree: &mut Tree) -> Result<String, Fail> {
+// The tree without the cells, what is answered in the cells, and the tree that has them again, which is whole.
+fn moved_in(alloc: Global, tree: &mut Tree) -> Result<String, Fail> {
     let mut cells = taken(alloc, tree)?;
     let without = state_of(alloc, tree)?;
     let answers = change(alloc, &mut cells)?;
     let home = put(alloc, tree, cells)?;
-    Ok(format!(in alloc; "{without}|{answers}|{home}")?)
+    let is_whole = tree.is_whole(alloc)?;
+    Ok(format!(in alloc; "{without}|{answers}|{home} {is_whole}")?)
+}
+
+fn moved(alloc: Global) -> Result<String, Fail> {
+    let mut tree = made(alloc)?;
+    moved_in(alloc, &mut tree)
 }
 
 #[test]
 fn cells_are_changed_apart(rt: HostRuntime) -> Result<(), Fail> {
-    let mut tree = made(rt.alloc())?;
-    let text = moved(rt.alloc(), &mut tree)?;
-    assert_eq!(rt; text.as_str(), "2 0 -1 -1|0 2;0 1;0 0;-101 0;|5 2 2 -1");
-    assert!(rt; tree.is_whole(rt.alloc())?);
+    let text = moved(rt.alloc())?;
+    assert_eq!(rt;
+        text.as_str(),
+        "2 0 -1 -1|0 2;0 1;0 0;-101 0;|5 2 2 -1 true"
+    );
     Ok(())
 }

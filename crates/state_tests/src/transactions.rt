@@ -88,35 +88,44 @@ fn answers(alloc: Global, tree: &mut Tree, texts: &[&[u8]]) -> Result<String, Fa
     Ok(all)
 }
 
-// The tree from which every log starts.
-fn fresh(alloc: Global) -> Result<Tree, Fail> {
-    Ok(Tree::fresh(alloc)?)
-}
-
 // The shown cversion, how many children, the pzxid and the aversion of a node.
 fn numbers(tree: &Tree, path: &str) -> Option<(i32, i32, i64, i32)> {
     let stat = tree.stat(path)?;
     Some((stat.cversion, stat.num_children, stat.pzxid, stat.aversion))
 }
 
+/// The tree from which every log starts. It says nothing of the tree, so that nothing is computed from it in a proof.
+pub fn fresh(alloc: Global) -> Result<Tree, Fail> {
+    Ok(Tree::fresh(alloc)?)
+}
+
+// What the transactions answer, and the numbers of a node then.
+fn answers_and_node(
+    alloc: Global,
+    texts: &[&[u8]],
+    path: &str,
+) -> Result<(String, Option<(i32, i32, i64, i32)>), Fail> {
+    let mut tree = fresh(alloc)?;
+    let all = answers(alloc, &mut tree, texts)?;
+    Ok((all, numbers(&tree, path)))
+}
+
 #[test]
 fn creates_are_answered(rt: HostRuntime) -> Result<(), Fail> {
-    let alloc = rt.alloc();
-    let mut tree = fresh(alloc)?;
     let texts: [&[u8]; 4] = [CREATE_E, CREATE_D, CREATE_X, CREATE_Y];
     let wanted = "0 +/e ~/; 0 +/d ~/; 0 +/d/x ~/d; 0 +/d/y ~/d; ";
-    assert_eq!(rt; answers(alloc, &mut tree, &texts)?.as_str(), wanted);
-    assert_eq!(rt; numbers(&tree, "/d"), Some((-2, 2, 4, 0)));
+    let (all, numbers) = answers_and_node(rt.alloc(), &texts, "/d")?;
+    assert_eq!(rt; all.as_str(), wanted);
+    assert_eq!(rt; numbers, Some((-2, 2, 4, 0)));
     Ok(())
 }
 
 #[test]
 fn the_others_are_answered(rt: HostRuntime) -> Result<(), Fail> {
-    let alloc = rt.alloc();
-    let mut tree = fresh(alloc)?;
     let texts: [&[u8]; 6] = [CREATE_E, CREATE_D, FAILED_MULTI, MULTI, SET_ACL, CLOSE];
     let wanted = "0 +/e ~/; 0 +/d ~/; -101 0 -101 -2; -110 -110 0 =/e; 0; 0 -/d ~/ -/e ~/; ";
-    assert_eq!(rt; answers(alloc, &mut tree, &texts)?.as_str(), wanted);
-    assert!(rt; tree.node("/m").is_none());
+    let (all, numbers) = answers_and_node(rt.alloc(), &texts, "/m")?;
+    assert_eq!(rt; all.as_str(), wanted);
+    assert_eq!(rt; numbers, None);
     Ok(())
 }

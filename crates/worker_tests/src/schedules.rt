@@ -1,7 +1,8 @@
 //! Which steps of a batch's groups are taken.
 
-use crate::{answers, batch_of, state, tree_behind};
+use crate::words::{batch_of, ending, state, tree_behind};
 use apply_workers::{Groups, Step};
+use data_tree::Tree;
 use std::alloc::Global;
 use std::test::Fail;
 
@@ -16,21 +17,30 @@ const TWO_WORKERS: [Step; 8] = [
     Step::Give(0),
 ];
 
-// Which of the steps are taken, each as "+" or "-", and then what the batch answers and leaves.
-fn taken(alloc: Global, before: &str, words: &str, steps: &[Step]) -> Result<String, Fail> {
-    let mut tree = tree_behind(alloc, before)?;
-    let mut groups = Groups::open(alloc, &mut tree, batch_of(alloc, words)?)?;
-    let mut text = state(alloc, &tree)?;
-    text.push_str("|")?;
+// Which of the steps are taken, each as "+" or "-".
+fn signs(alloc: Global, groups: &mut Groups, steps: &[Step]) -> Result<String, Fail> {
+    let mut text = String::new(alloc);
     for step in steps {
         let sign = if groups.step(alloc, *step)? { "+" } else { "-" };
         text.push_str(sign)?;
     }
-    let outcomes = groups.home(alloc, &mut tree)?;
-    text.push_str("|")?;
-    text.push_str(answers(alloc, outcomes.as_slice())?.as_str())?;
-    text.push_str(state(alloc, &tree)?.as_str())?;
     Ok(text)
+}
+
+// What is left without the cells of the batch, which of the steps are taken, and what the batch answers and leaves.
+fn taken_of(alloc: Global, tree: &mut Tree, words: &str, steps: &[Step]) -> Result<String, Fail> {
+    let mut groups = Groups::open(alloc, tree, batch_of(alloc, words)?)?;
+    let without = state(alloc, tree)?;
+    let taken = signs(alloc, &mut groups, steps)?;
+    let outcomes = groups.home(alloc, tree)?;
+    let home = ending(alloc, outcomes.as_slice(), tree)?;
+    Ok(format!(in alloc; "{without}|{taken}|{home}")?)
+}
+
+// The same, behind the words before.
+fn taken(alloc: Global, before: &str, words: &str, steps: &[Step]) -> Result<String, Fail> {
+    let mut tree = tree_behind(alloc, before)?;
+    taken_of(alloc, &mut tree, words, steps)
 }
 
 #[test]
@@ -39,7 +49,8 @@ fn steps_are_taken_where_they_can_be(rt: HostRuntime) -> Result<(), Fail> {
     let text = taken(alloc, "/a /b", "/a/x /a/y /b/z", &TWO_WORKERS)?;
     assert_eq!(rt;
         text.as_str(),
-        "3 a b zookeeper;;; -1|+++++-++|0+/a/x~/a;0+/a/y~/a;0+/b/z~/b;8 a b zookeeper; x y; z; -1"
+        "3 a b zookeeper;;; -1 - -|+++++-++|\
+        0+/a/x~/a;0+/a/y~/a;0+/b/z~/b;8 a b zookeeper; x y; z; -1 2,2,2 1,1,3"
     );
     Ok(())
 }

@@ -1,7 +1,9 @@
 //! Groups are done at the same time, by workers that share them out as they go.
+ghost use Rattle.std.specs.Prelude.{◌≤◌};
 
-use crate::{answers, batch_of, tree_behind};
+use crate::words::{answers, batch_of, tree_behind};
 use apply_workers::{Gate, apply_batch};
+use data_tree::Outcome;
 use std::alloc::Global;
 use std::sync::atomic::{AtomicU64, Ordering};
 use std::test::Fail;
@@ -33,6 +35,21 @@ impl Gate for Holding {
     }
 }
 
+// What so many workers answer to the batch of these words, behind the creates of three nodes.
+fn done<R: Threads + Sync, G: Gate + Sync>(
+    rt: &R,
+    alloc: Global,
+    words: &str,
+    workers: usize,
+    gate: &G,
+) -> Result<Vec<Outcome>, Fail>
+    requires { (1 ≤ workers) × (workers ≤ 64) }
+{
+    let batch = batch_of(alloc, words)?;
+    let mut tree = tree_behind(alloc, "/a /b /c")?;
+    Ok(apply_batch(rt, alloc, &mut tree, batch, workers, gate)?)
+}
+
 // What two workers answer while one group is held until so many others were passed; or the word "missed".
 fn held<R: Threads + Sync>(
     rt: &R,
@@ -47,9 +64,7 @@ fn held<R: Threads + Sync>(
         passed: AtomicU64::new(0),
         missed: AtomicU64::new(0),
     };
-    let mut tree = tree_behind(alloc, "/a /b /c")?;
-    let batch = batch_of(alloc, words)?;
-    let outcomes = apply_batch(rt, alloc, &mut tree, batch, 2, &gate)?;
+    let outcomes = done(rt, alloc, words, 2, &gate)?;
     if gate.missed.load(Ordering::SeqCst) != 0 {
         return Ok(String::from_str(alloc, "missed")?);
     }
@@ -79,9 +94,7 @@ fn passed<R: Threads + Sync>(rt: &R, alloc: Global, words: &str) -> Result<(u64,
         in_order: AtomicU64::new(0),
         others: AtomicU64::new(0),
     };
-    let mut tree = tree_behind(alloc, "/a /b /c")?;
-    let batch = batch_of(alloc, words)?;
-    let _outcomes = apply_batch(rt, alloc, &mut tree, batch, 1, &gate)?;
+    let _outcomes = done(rt, alloc, words, 1, &gate)?;
     Ok((
         gate.in_order.load(Ordering::SeqCst),
         gate.others.load(Ordering::SeqCst),

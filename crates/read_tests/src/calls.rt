@@ -1,0 +1,108 @@
+//! Trees that hexadecimal digits stand for, and calls of `look` on them.
+
+use client_records::{GetAclRequest, PathAndWatch, RequestKind};
+use data_tree::Tree;
+use jute::Id;
+use read_processor::{Look, Request, look};
+use std::alloc::Global;
+use std::test::Fail;
+use txn_codec::decode_txn;
+use values::{Blob, Str, Text};
+
+// The bytes that words of hexadecimal digits stand for.
+fn bytes_of(alloc: Global, parts: &[&str]) -> Result<Vec<u8>, Fail> {
+    let mut bytes = Vec::new(alloc);
+    for part in parts {
+        for word in part.split(' ') {
+            bytes.extend_from_slice(&hex::decode(alloc, word)?)?;
+        }
+    }
+    Ok(bytes)
+}
+
+// The tree from which every log starts. It says nothing of the tree, so that nothing is computed from it in a proof.
+fn fresh(alloc: Global) -> Result<Tree, Fail> {
+    Ok(Tree::fresh(alloc)?)
+}
+
+/// The tree from which every log starts, with these transactions applied.
+pub fn tree_after(alloc: Global, transactions: &[&str]) -> Result<Tree, Fail> {
+    let mut tree = fresh(alloc)?;
+    for words in transactions {
+        let bytes = bytes_of(alloc, &[words])?;
+        let txn = decode_txn(alloc, bytes.as_slice())
+            .ok()
+            .ok_or("a transaction")?;
+        tree.apply(alloc, &txn)?;
+    }
+    Ok(tree)
+}
+
+// A path, and no watch.
+fn asked(path: &str) -> PathAndWatch<'_> {
+    PathAndWatch {
+        path: Some(Str::new(path)),
+        watch: false,
+    }
+}
+
+/// A read of this kind, without a watch; an exists where the kind is no other read.
+pub fn read_of(kind: RequestKind, path: &str) -> Request<'_> {
+    match kind {
+        RequestKind::GetData => Request::GetData(asked(path)),
+        RequestKind::GetAcl => Request::GetAcl(GetAclRequest {
+            path: Some(Str::new(path)),
+        }),
+        RequestKind::GetChildren => Request::GetChildren(asked(path)),
+        RequestKind::GetChildren2 => Request::GetChildren2(asked(path)),
+        _ => Request::Exists(asked(path)),
+    }
+}
+
+/// An id of a scheme.
+pub fn id_of(alloc: Global, scheme: &str, id: &str) -> Result<Id, Fail> {
+    Ok(Id {
+        scheme: Text::new(alloc, scheme)?,
+        id: Text::new(alloc, id)?,
+    })
+}
+
+// What a read shows behind these transactions.
+fn shown(alloc: Global, transactions: &[&str], request: &Request<'_>) -> Result<Look, Fail> {
+    let tree = tree_after(alloc, transactions)?;
+    Ok(look(alloc, &tree, &[], request)?)
+}
+
+// The frame of the answer to request 1 at this zxid.
+fn frame_of(
+    alloc: Global,
+    transactions: &[&str],
+    request: &Request<'_>,
+    zxid: i64,
+) -> Result<Blob, Fail> {
+    let look = shown(alloc, transactions, request)?;
+    Ok(look.into_frame(1, zxid).ok_or("a frame")?)
+}
+
+/// Whether a read of the path is answered so at this zxid, behind these transactions, in words of hexadecimal digits.
+pub fn is_answered(
+    alloc: Global,
+    transactions: &[&str],
+    kind: RequestKind,
+    path: &str,
+    zxid: i64,
+    parts: &[&str],
+) -> Result<bool, Fail> {
+    let frame = frame_of(alloc, transactions, &read_of(kind, path), zxid)?;
+    Ok(frame.as_slice() == bytes_of(alloc, parts)?.as_slice())
+}
+
+/// The error that a request gets, or 0.
+pub fn error_of(
+    alloc: Global,
+    tree: &Tree,
+    ids: &[Id],
+    request: &Request<'_>,
+) -> Result<i32, Fail> {
+    Ok(look(alloc, tree, ids, request)?.error)
+}

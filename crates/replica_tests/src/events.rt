@@ -1,0 +1,159 @@
+//! What happens to a replica, and what is seen of it then.
+
+use jute::{put_int, put_long};
+use quorum_packet::{Item, PacketKind, QuorumPacket};
+use replica::Replica;
+use settings::{Epochs, ServerId};
+use snapshot_codec::{ImagePart, ImageSession, Loader};
+use std::alloc::Global;
+use values::{Blob, Fault, NoMemory, ReadError};
+
+/// What happens to a replica. A zxid is told by its counter, and is of the first epoch.
+#[derive(Clone, Copy)]
+pub enum Event {
+    /// A leader is there.
+    Comes,
+    /// It greets, in the first epoch.
+    Greets,
+    /// It is gone.
+    Goes,
+    /// The tree becomes the base.
+    Checkpoint,
+    /// A packet of this kind and zxid, without data.
+    Packet(PacketKind, u32),
+    /// An INFORM whose transaction makes this session, with this zxid.
+    Session(i64, u32),
+    /// A part of an image that has this session.
+    Part(i64),
+    /// The end of an image.
+    End,
+}
+
+/// How a replica starts.
+#[derive(Clone, Copy)]
+pub enum Start {
+    New,
+    Primed,
+}
+
+/// What is seen of a replica behind some events.
+#[derive(Drop)]
+pub struct Seen {
+    /// How many packets each event sent that wasn't refused.
+    pub sent: Vec<usize>,
+    /// The fault for which the last refused one was refused.
+    pub refused: Option<Fault>,
+    pub is_serving: bool,
+    pub last_zxid: i64,
+    /// How many transactions the log has.
+    pub logged: usize,
+    /// How many nodes the tree has.
+    pub nodes: usize,
+    /// The tree's sessions, in their order.
+    pub sessions: Vec<i64>,
+}
+
+/// The zxid of the first epoch with this counter.
+pub fn at(counter: u32) -> i64 {
+    0x1_0000_0000 + i64::from(counter)
+}
+
+// A packet for nobody's request.
+fn packet(kind: PacketKind, zxid: i64, bytes: Option<Blob>) -> Item {
+    Item::Packet(QuorumPacket {
+        kind: kind.code(),
+        zxid,
+        bytes,
+        authinfo: None,
+    })
+}
+
+// An INFORM whose transaction makes this session.
+fn session_comes(alloc: Global, session: i64, zxid: i64) -> Result<Item, NoMemory> {
+    let mut bytes = Vec::new(alloc);
+    put_long(&mut bytes, session)?;
+    put_int(&mut bytes, 1)?;
+    put_long(&mut bytes, zxid)?;
+    put_long(&mut bytes, 1_000)?;
+    put_int(&mut bytes, -10)?;
+    put_int(&mut bytes, 5_000)?;
+    Ok(packet(PacketKind::Inform, zxid, Some(Blob::from_vec(bytes))))
+}
+
+// A leader of the first epoch says who it is, and which version of the protocol it speaks.
+fn greeting(alloc: Global) -> Result<Item, NoMemory> {
+    let version = Blob::new(alloc, b"\0\x01\0\0")?;
+    Ok(packet(PacketKind::LeaderInfo, at(0), Some(version)))
+}
+
+// How many packets are sent because of the event.
+fn happen(
+    alloc: Global,
+    replica: &mut Replica,
+    loader: &mut Loader,
+    event: Event,
+) -> Result<usize, ReadError> {
+    let item = match event {
+        Event::Comes => return Ok(replica.start(alloc, ServerId::default())?.len()),
+        Event::Goes => {
+            replica.end();
+            return Ok(0);
+        }
+        Event::Checkpoint => {
+            replica.checkpoint(alloc)?;
+            return Ok(0);
+        }
+        Event::Greets => greeting(alloc)?,
+        Event::Packet(kind, counter) => packet(kind, at(counter), None),
+        Event::Session(session, counter) => session_comes(alloc, session, at(counter))?,
+        Event::Part(id) => Item::Part(ImagePart::Session(ImageSession { id, timeout: 5_000 })),
+        Event::End => Item::Part(ImagePart::End),
+    };
+    Ok(replica.take(alloc, loader, item)?.replies.len())
+}
+
+// The tree's sessions.
+fn sessions(alloc: Global, replica: &Replica) -> Result<Vec<i64>, NoMemory> {
+    let mut sessions = Vec::new(alloc);
+    for (session, _) in replica.tree().sessions().iter() {
+        sessions.push(*session)?;
+    }
+    Ok(sessions)
+}
+
+// Does the events, one behind the other, and looks at what is there then.
+fn play(
+    alloc: Global,
+    replica: &mut Replica,
+    loader: &mut Loader,
+    events: &[Event],
+) -> Result<Seen, NoMemory> {
+    let mut sent = Vec::new(alloc);
+    let mut refused = None;
+    for event in events {
+        match happen(alloc, replica, loader, *event) {
+            Ok(count) => sent.push(count)?,
+            Err(ReadError::Fault(fault)) => refused = Some(fault),
+            Err(ReadError::NoMemory) => return Err(NoMemory),
+        }
+    }
+    Ok(Seen {
+        sent,
+        refused,
+        is_serving: replica.is_serving(),
+        last_zxid: replica.learner().last_zxid(),
+        logged: replica.learner().since_base().len(),
+        nodes: replica.tree().paths(),
+        sessions: sessions(alloc, replica)?,
+    })
+}
+
+/// What is seen of a replica that starts so, behind these events.
+pub fn after(alloc: Global, start: Start, events: &[Event]) -> Result<Seen, NoMemory> {
+    let mut replica = match start {
+        Start::New => Replica::new(alloc, Epochs::default())?,
+        Start::Primed => Replica::primed(alloc)?,
+    };
+    let mut loader = Loader::new(alloc);
+    play(alloc, &mut replica, &mut loader, events)
+}
