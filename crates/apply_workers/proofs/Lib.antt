@@ -17,3 +17,5 @@ pub mod CameHome
 pub mod Taken
 pub mod Shown
 pub mod Sharing
+-- Groups that are stopped
+pub mod Stopping

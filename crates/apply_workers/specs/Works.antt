@@ -1,8 +1,9 @@
 -- When a result is of a group's work.
-use Rattle.std.specs.Prelude.{◌≡◌, ◌≤◌, List, length}
+use Rattle.std.specs.Prelude.{◌≡◌, ℕ, List, [], ◌∷◌, ◌++◌, length}
 use Rattle.txn_codec.specs.declared.txn.Txn.{Txn}
 use Rattle.data_tree.specs.State.{State}
 use Rattle.data_tree.specs.Cells.{after_in_cells, outcomes_in_cells}
+use Rattle.data_tree.specs.Refused.{IsLeftBy}
 use Rattle.data_tree.specs.declared.outcome.Outcome.{Outcome}
 use Rattle.apply_workers.specs.Places.{at_places}
 use Rattle.apply_workers.specs.declared.group_work.Work.{Work}
@@ -22,10 +23,23 @@ pub record IsDone (cells : State) (txns : List Txn) (new : State) (answers : Lis
   pub state : new ≡ after_in_cells cells txns
   pub outcomes : answers ≡ outcomes_in_cells cells txns
 
--- done whole, or stopped before the end, with cells that are only to be dropped
+-- what the first of the transactions leaves where it is refused
+abbrev pub IsLeftByFirst : List Txn → State → State → Type 0
+IsLeftByFirst [] old new = new ≡ old
+IsLeftByFirst (t ∷ ts) old new = IsLeftBy t.header t.body old new
+
+-- so many transactions were done, and the next one was refused
+pub record IsStopped (cells : State) (txns : List Txn) (new : State) (done : ℕ) : Type 0 where
+  pub front : List Txn
+  pub rest : List Txn
+  pub all : txns ≡ front ++ rest
+  pub count : length front ≡ done
+  pub state : IsLeftByFirst rest (after_in_cells cells front) new
+
+-- done whole, or stopped before the end
 abbrev pub Finishes : State → List Txn → Finished → Type 0
 Finishes cells txns (Done new answers) = IsDone cells txns new answers
-Finishes cells txns (Stopped new done) = done ≤ length txns
+Finishes cells txns (Stopped new done) = IsStopped cells txns new done
 
 abbrev pub IsOfWork : Work → Finished → Type 0
 IsOfWork work finished = Finishes (cells_of work) (txns_of work) finished

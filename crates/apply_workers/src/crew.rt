@@ -20,7 +20,8 @@ struct Worker<W, F> {
     seat: Seat<W, F>,
 }
 
-// Up to so many workers, one a seat: the opener's first, and it has number 0.
+// Up to so many workers, one a seat: the opener's first. They are numbered from the last one on, which has number 0:
+// `map_vec` calls on the thread that is there already what comes last.
 fn seated<W: Yields<F> + Drop, F: Drop>(
     alloc: Global,
     board: &Board<W, F>,
@@ -37,11 +38,12 @@ fn seated<W: Yields<F> + Drop, F: Drop>(
         let Some(seat) = board.seat(&mut opener) else {
             break;
         };
-        let number = crew.len() + 1;
+        let number = crew.len();
         crew.push_reserved(Worker { number, seat });
     }
+    let number = crew.len();
     crew.push_reserved(Worker {
-        number: 0,
+        number,
         seat: opener,
     });
     crew.reverse();
@@ -69,8 +71,8 @@ fn worked<W: Job<F> + Drop + Send + Sync, F: Drop + Send + Sync, G: Gate + Sync,
     Ok(seats)
 }
 
-/// The results of the works, in order, each done once by one of up to so many workers. The first worker is the calling
-/// thread; where a thread can't be started, fewer work.
+/// The results of the works, in order, each done once by one of up to so many workers. Worker 0 is the calling thread;
+/// where a thread can't be started, fewer work.
 pub fn run<
     W: Job<F> + Drop + Send + Sync,
     F: Drop + Send + Sync,

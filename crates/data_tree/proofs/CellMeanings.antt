@@ -1,5 +1,5 @@
 -- What a transaction means doesn't hang on the sessions, but for their timeouts.
-use Rattle.std.proofs.Common.{◌≡◌, pos, List, [], ◌∷◌, ◌++◌, Bool, true, false, if◌then◌else◌, refl, ap, sym, ◌∙◌}
+use Rattle.std.proofs.Common.{◌≡◌, pos, List, [], ◌∷◌, ◌++◌, take, Bool, true, false, if◌then◌else◌, refl, ap, sym, ◌∙◌}
 use Rattle.std.specs.FinMap as finmap
 use Rattle.ephemerals.specs.Orders.{in_order}
 use Rattle.ephemerals.specs.Pairs.{paths_of}
@@ -11,6 +11,7 @@ use Rattle.txn_codec.specs.declared.txn.Body.TheVariants as body
 use Rattle.data_tree.specs.State.{State, Sessions}
 use Rattle.data_tree.specs.Meaning.{Change, after_change, after_changes, Effect, effect_of, set_acl_at, Meant, of_effect, of_operation, of_parts, of_failed, has_error, first_error, deletes, state_without_session, mean, mean_of}
 use Rattle.data_tree.specs.Meaning.Change.{Put, Remove, Own, Disown}
+use Rattle.data_tree.specs.Refused.{IsPartly, IsLeftBy}
 
 abbrev with_sessions : Sessions → State → State
 with_sessions x s = record s { sessions = x }
@@ -88,3 +89,20 @@ apart_mean x t s = by t.header t.body
         (let n : Meant = record { state = m.state; err = pos 0; parts = []; triggers = m.triggers } in n))
         (apart_parts (finmap.remove x h.client_id) h (deletes (in_order (paths_of h.client_id s.pairs)))
         (state_without_session h.client_id s))
+
+-- what a refused transaction leaves, it leaves so whatever the sessions are
+pub apart_left : (x : Sessions) (h : TxnHeader) (b : Body) (old new : State) → IsLeftBy h b old new
+    → IsLeftBy h b (with_sessions x old) (with_sessions x new)
+apart_left x h (body.Single o) old new is = ap (with_sessions x) is
+apart_left x h (body.SetAcl b) old new is = ap (with_sessions x) is
+apart_left x h (body.CreateSession timeout) old new is = ap (with_sessions x) is
+apart_left x h body.CloseSession old new is = tt
+apart_left x h (body.Multi parts) old new is = by (has_error parts) is
+  where
+    by : (b : Bool) → IsPartly b h parts old new → IsPartly b h parts (with_sessions x old) (with_sessions x new)
+    by true is = ap (with_sessions x) is
+    by false front = (
+      front.0,
+      ap (with_sessions x) front.1
+          ∙ ap (λ (m : Meant). m.state) (sym (apart_parts x h (take front.0 parts) old)),
+    )

@@ -3,6 +3,7 @@
 ghost use Rattle.std.specs.Prelude.{◌≡◌, [], pos, OnOk, OnErr, IfOk};
 ghost use Rattle.data_tree.specs.Cells.{cells_at, without_cells, with_cells, mean_in_cells};
 ghost use Rattle.data_tree.specs.Meaning.{answer_of};
+ghost use Rattle.data_tree.specs.Refused.{IsLeftBy};
 
 use crate::outcome::Outcome;
 use crate::tree::Tree;
@@ -70,10 +71,12 @@ impl Tree {
 impl Cells {
     /// Does a transaction in the cells: whatever stands in all other cells, what it leaves here and answers is what it
     /// would leave and answer in the whole tree, where the cells have its footprint. A session's timeout isn't set.
-    /// Refused for want of memory, it leaves cells that are only to be dropped.
+    /// Refused for want of memory, it leaves what `Tree::apply` leaves: of a multi a front of its parts was done, a
+    /// closeSession leaves cells that are only to be dropped, and any other leaves the cells as they were.
     pub fn apply(&mut self, alloc: Global, txn: &Txn) -> Result<Outcome, NoMemory>
         ensures cells { OnOk result (self.new ≡ (mean_in_cells self.old txn.now).state) }
         ensures answer { IfOk result (λ o. o ≡ answer_of (mean_in_cells self.old txn.now)) }
+        ensures err { OnErr result (IsLeftBy txn.now.header txn.now.body self.old self.new) }
     {
         if let Body::CreateSession(_) = &txn.body {
             return Ok(no_outcome(alloc));

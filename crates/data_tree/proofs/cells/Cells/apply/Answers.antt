@@ -1,9 +1,10 @@
-use Rattle.std.proofs.Common.{sym, ap, ◌∙◌, OnOk, IfOk, Result, Ok, Err}
+use Rattle.std.proofs.Common.{sym, ap, subst, ◌∙◌, OnOk, OnErr, IfOk, Result, Ok, Err}
 use Rattle.std.specs.FinMap as finmap
 use Rattle.data_tree.specs.State.{State}
 use Rattle.data_tree.specs.Meaning.{Meant, answer_of}
 use Rattle.data_tree.specs.Cells.{mean_in_cells}
-use Rattle.data_tree.proofs.CellMeanings.{apart_mean}
+use Rattle.data_tree.specs.Refused.{IsLeftBy}
+use Rattle.data_tree.proofs.CellMeanings.{apart_mean, apart_left}
 use Rattle.data_tree.proofs.cells.Cells.apply.Goals as goal
 
 on_ok : {A E : Type 0} {P Q : Type 0} (r : Result A E) → (P → Q) → OnOk r P → OnOk r Q
@@ -13,6 +14,10 @@ on_ok (Err e) f p = tt
 if_ok : {A E : Type 0} {P Q : A → Type 0} (r : Result A E) → ((a : A) → P a → Q a) → IfOk r P → IfOk r Q
 if_ok (Ok x) f p = f x p
 if_ok (Err e) f p = tt
+
+on_err : {A E : Type 0} {P Q : Type 0} (r : Result A E) → (P → Q) → OnErr r P → OnErr r Q
+on_err (Ok x) f p = tt
+on_err (Err e) f p = f p
 
 pub returns : goal.returns
 returns c =
@@ -26,4 +31,9 @@ returns c =
       answer = if_ok c.apply.result (λ o is.
           is ∙ ap answer_of (sym same)
           ∙ ap (λ (s : State). answer_of (mean_in_cells s c.args.txn.now)) c.self.view_is) c.apply.ensures.answer;
+      err = on_err c.apply.result (λ left.
+          let new = c.apply.new.self in
+          subst (λ (s : State). IsLeftBy c.args.txn.now.header c.args.txn.now.body s
+          (let t : State = record new { sessions = finmap.empty } in t)) c.self.view_is
+          (apart_left finmap.empty c.args.txn.now.header c.args.txn.now.body tree new left)) c.apply.ensures.err;
     }
