@@ -5,7 +5,7 @@ use client_records::{
     Acls, ConnectResponse, ExistsResponse, GetAclResponse, GetChildren2Response,
     GetChildrenResponse, GetDataResponse, Name, WatcherEvent,
 };
-use jute::{Acl, Id, Stat, WriteRecord};
+use jute::{Acl, Id, ReadRecord, Reader, Stat, WriteRecord, read_vector};
 use std::alloc::Global;
 use std::test::Fail;
 use values::{Blob, Bytes, Listed, NoMemory, Str, Text};
@@ -156,6 +156,16 @@ fn get_children2_response(rt: HostRuntime) -> Result<(), Fail> {
     Ok(())
 }
 
+// Whether the bytes are these entries and the root's stat, read field by field.
+fn are_read(alloc: Global, bytes: &[u8], entries: &[Acl]) -> Result<bool, Fail> {
+    let mut reader = Reader::new(bytes);
+    let Some(list) = read_vector::<Acl>(alloc, &mut reader)? else {
+        return Ok(false);
+    };
+    let stat = Stat::read(alloc, &mut reader)?;
+    Ok(list.as_slice() == entries && stat == root() && reader.rest().is_empty())
+}
+
 #[test]
 #[tactic(auto, unfolding(client_records::specs::Responses::get_acl_response, jute::specs::Records::stat, jute::specs::Owned::acl, jute::specs::Owned::id))]
 fn get_acl_response(rt: HostRuntime) -> Result<(), Fail> {
@@ -176,6 +186,7 @@ fn get_acl_response(rt: HostRuntime) -> Result<(), Fail> {
     response.write(&mut out)?;
     let front = b"\x00\x00\x00\x01\x00\x00\x00\x1f\x00\x00\x00\x05world\x00\x00\x00\x06anyone";
     assert!(rt; are_with_root(alloc, out.as_slice(), front)?);
+    assert!(rt; are_read(alloc, out.as_slice(), list.as_slice())?);
     Ok(())
 }
 

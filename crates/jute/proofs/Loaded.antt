@@ -1,11 +1,10 @@
 -- What is read in parts is what stands there, and what is refused is what the relation says.
 use Rattle.std.proofs.Common.{◌≡◌, ℕ, zero, suc, ◌<◌, Bool, true, false, List, [], ◌∷◌, ◌++◌, length, Result, Ok, Err, refl, sym, ap, subst, ◌∙◌, append_assoc, arith, ◌⊎◌, inl, inr}
 use Rattle.values.specs.declared.fault.Fault.{Fault}
-use Rattle.values.specs.declared.fault.Fault.TheVariants.{Short}
 use Rattle.jute.specs.Format.{◌>>=◌}
 use Rattle.jute.specs.Laws.{IsBytes}
 use Rattle.jute.specs.Relation.{SpellsIn, Stand, LawfulIn, AreLawful}
-use Rattle.jute.specs.Stream.{Reading, values, passes, Phased, StreamedIn, IsStream, read_in}
+use Rattle.jute.specs.Stream.{Reading, values, Phased, StreamedIn, IsStream, read_in}
 use Rattle.jute.specs.Loading.{Loads, unless_last, load_from, made_of, EndsAt, EndsOnce, NoneIsLast, IsLoaded, AgainstIn, NextIs, IsRefused, SoundIn, AreSound}
 use Rattle.jute.proofs.Steps.{bind_ok, bind_err, ok_is, not_refused}
 use Rattle.jute.proofs.Streaming.{shorter_rest}
@@ -15,11 +14,9 @@ use Rattle.jute.proofs.Loading.{load_read, load_refused}
 
 streamed_in : {A : Type 0} (f : Reading A) → SoundIn f → StreamedIn f
 streamed_in (values f) s = record { pieced = s.pieced; some = s.some }
-streamed_in passes s = tt
 
 lawful_in : {A : Type 0} (f : Reading A) → SoundIn f → LawfulIn f
 lawful_in (values f) s = s.lawful
-lawful_in passes s = tt
 
 pub sound_streamed : {S A : Type 0} (stream : Phased S A) → AreSound stream → IsStream stream
 sound_streamed stream s = record { streamed = λ phase. streamed_in (stream.reading phase) (s.sound phase) }
@@ -39,25 +36,18 @@ front_in : {A : Type 0} (f : Reading A) → SoundIn f → (bytes rest : List ℕ
 front_in (values f) s bytes rest v fits e =
     let t = s.lawful.takes bytes v rest fits e in
     record { text = t.text; parts = t.parts; spells = t.spells; rest_fits = t.rest_fits }
-front_in passes s bytes rest v fits e = absurd (not_refused (v, rest) Short (sym e))
 
 again_in : {A : Type 0} (f : Reading A) → SoundIn f → (v : A) (text rest : List ℕ) → SpellsIn f v text
     → read_in f (text ++ rest) ≡ Ok (v, rest)
 again_in (values f) s v text rest h = s.lawful.again v text rest h
-again_in passes s v text rest h = absurd h
 
 names_in : {A : Type 0} (f : Reading A) → SoundIn f → (bytes : List ℕ) (e : Fault) → IsBytes bytes
     → read_in f bytes ≡ Err e → AgainstIn f e bytes
 names_in (values f) s bytes e fits h = s.named.names bytes e fits h
-names_in {A} passes s bytes e fits h = same h
-  where
-    same : (let r : Result (A × List ℕ) Fault = Err Short in r ≡ Err e) → e ≡ Short
-    same k = cc
 
 answers_in : {A : Type 0} (f : Reading A) → SoundIn f → (bytes : List ℕ) (e : Fault) → AgainstIn f e bytes
     → read_in f bytes ≡ Err e
 answers_in (values f) s bytes e h = s.named.answers bytes e h
-answers_in passes s bytes e h = ap (λ d. Err d) (sym h)
 
 -- ---- a text, and what stands behind it
 

@@ -3,7 +3,7 @@ use Rattle.std.proofs.Common.{◌≡◌, ℕ, zero, suc, ◌<◌, Bool, true, fa
 use Rattle.values.specs.declared.fault.Fault.{Fault}
 use Rattle.jute.specs.Format.{◌>>=◌}
 use Rattle.jute.specs.Pieces.{Stands, Leaves, Eats}
-use Rattle.jute.specs.Stream.{Reading, values, passes, StreamedIn, IsStream, read_in}
+use Rattle.jute.specs.Stream.{Reading, values, StreamedIn, IsStream, read_in}
 use Rattle.jute.specs.Loading.{Loads, unless_last, load_within, load_from}
 use Rattle.jute.proofs.Streaming.{shorter_rest}
 
@@ -11,7 +11,6 @@ use Rattle.jute.proofs.Streaming.{shorter_rest}
 stands_in : {A : Type 0} (f : Reading A) → StreamedIn f → (bytes more : List ℕ)
     → Stands (read_in f bytes) more (read_in f (bytes ++ more))
 stands_in (values f) s bytes more = s.pieced.stands bytes more
-stands_in passes s bytes more = inl refl
 
 pub at_most : {A : Type 0} (r : Result (A × List ℕ) Fault) (n : ℕ) → Eats r n → Leaves r n
 at_most (Ok x) n h = omega (arith, h)

@@ -2,7 +2,7 @@
 pub use Rattle.jute.proofs.Steps.{IsBytes-drop, IsBytes-front, IsBytes-back, bind_ok, guard_ok, guard_ended, ok_is, guard_err, guard_refused, bind_err, not_refused, behind_read, then_stands}
 pub use Rattle.jute.proofs.Numbers.{int_sound, long_sound, boolean_sound}
 pub use Rattle.jute.proofs.Both.{sound_at_end, both_sound, both_at_end, mapped_sound, mapped_at_end}
-pub use Rattle.jute.proofs.Judged.{judged_sound, judged_back_sound, case_sound, case_at_end, or_null_sound}
+pub use Rattle.jute.proofs.Judged.{judged_sound, judged_back_sound, judged_takes, judged_reads, judged_pieced, judged_eats, case_sound, case_at_end, or_null_sound}
 pub use Rattle.jute.proofs.Buffers.{count_sound, buffer_sound, text_sound, name_sound}
 pub use Rattle.jute.proofs.Vectors.{vector_sound, null_vector_sound}
 pub use Rattle.jute.proofs.Tags.{empty_at_end, refusal_sound, tagged_sound, tagged_at_end, whole_found, whole_again, whole_refused, whole_refuses, held_sound}

@@ -4,11 +4,10 @@ use Rattle.values.specs.declared.fault.Fault.{Fault}
 use Rattle.values.specs.declared.fault.Fault.TheVariants.{Short}
 use Rattle.jute.specs.Format.{Format}
 use Rattle.jute.specs.Pieces.{Stands, Eats}
-use Rattle.jute.specs.Stream.{Reading, values, passes, Phased, Unread, Place, place_at, Items, add, nothing, before, joined, read_in, kept_in, refused, stopped, go_on, items_within, items, only, Streamed, StreamedIn, IsStream, ComesInPieces}
+use Rattle.jute.specs.Stream.{Reading, values, Phased, Unread, Place, place_at, Items, add, nothing, before, joined, read_in, kept_in, refused, stopped, go_on, items_within, items, only, Streamed, StreamedIn, IsStream, ComesInPieces}
 
 eats_in : {A : Type 0} (f : Reading A) (bytes : List ℕ) → StreamedIn f → Eats (read_in f bytes) (length bytes)
 eats_in (values f) bytes s = s.some.eats bytes
-eats_in passes bytes s = tt
 
 go_same : {S A : Type 0} (r : Result (A × List ℕ) Fault) (n : ℕ) (g h : A → List ℕ → Items S A) (stop : Fault → Place S)
     → Eats r n → ((v : A) (b : List ℕ) → length b < n → g v b ≡ h v b) → go_on r g stop ≡ go_on r h stop
@@ -103,7 +102,6 @@ module _ {S A : Type 0} (stream : Phased S A) (s : IsStream stream) where
   in_pieces_by (values f) phase bytes more t is others =
       rw (is bytes) (step phase (f.read bytes) (f.read (bytes ++ more)) bytes more (t.pieced.stands bytes more)
       (t.some.eats bytes) (is (bytes ++ more)) others)
-  in_pieces_by passes phase bytes more t is others = is (bytes ++ more) ∙ rw (is bytes, is more) refl
 
   in_pieces : (n : ℕ) (phase : S) (bytes more : List ℕ) → length bytes < n → Pieces phase bytes more
   in_pieces zero phase bytes more lt = absurd (omega (arith, lt))

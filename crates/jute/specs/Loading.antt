@@ -6,7 +6,7 @@ use Rattle.values.specs.declared.fault.Fault.TheVariants.{Short}
 use Rattle.jute.specs.Format.{◌>>=◌}
 use Rattle.jute.specs.Laws.{Sound}
 use Rattle.jute.specs.Relation.{SpellsIn, Stand}
-use Rattle.jute.specs.Stream.{Reading, values, passes, Phased, read_in}
+use Rattle.jute.specs.Stream.{Reading, values, Phased, read_in}
 
 pub record Loads (S A L : Type 0) : Type 1 where
   pub stream : Phased S A
@@ -64,7 +64,6 @@ pub record IsLoaded {S A L : Type 0} (load : Loads S A L) (phase : S) (old : L) 
 -- which field a refusal of the reading names
 abbrev pub AgainstIn : {A : Type 0} → Reading A → Fault → List ℕ → Type 0
 AgainstIn (values f) e bytes = f.against e bytes
-AgainstIn passes e bytes = e ≡ Short
 
 -- a value is spelled at the front, and this holds of it
 abbrev pub NextIs : {A : Type 0} → Reading A → (A → Type 0) → List ℕ → Type 0
@@ -88,7 +87,6 @@ pub record IsRefused {S A L : Type 0} (load : Loads S A L) (phase : S) (old : L)
 
 abbrev pub SoundIn : {A : Type 0} → Reading A → Type 0
 SoundIn (values f) = Sound f
-SoundIn passes = Unit {0}
 
 -- each format of the stream is sound
 pub record AreSound {S A : Type 0} (stream : Phased S A) : Type 0 where

@@ -5,12 +5,10 @@ use Rattle.jute.specs.Laws.{WritesSpellings, Lawful, Sound}
 use Rattle.jute.specs.Loading.{AreSound}
 use Rattle.jute.specs.Relation.{AreLawful}
 use Rattle.jute.specs.Stream.{Place, Items, add, joined, items, Streamed, IsStream}
-use Rattle.jute.proofs.Judged.{judged_takes, judged_reads, judged_pieced, judged_eats}
-use Rattle.jute.proofs.Public.{case_sound, sound_streamed, sound_lawful, comes_in_pieces}
+use Rattle.jute.proofs.Public.{judged_takes, judged_reads, judged_pieced, judged_eats, case_sound, sound_streamed, sound_lawful, comes_in_pieces}
 use Rattle.snapshot_codec.specs.Image.{image}
 use Rattle.snapshot_codec.specs.Parts.{part_format}
-use Rattle.snapshot_codec.proofs.Public.{part_sound, image_taken, image_again, image_streamed}
-use Rattle.snapshot_codec.proofs.Written.{image_written}
+use Rattle.snapshot_codec.proofs.Public.{part_sound, image_taken, image_again, image_streamed, image_written}
 use Rattle.quorum_packet.specs.declared.item.Item.{Item}
 use Rattle.quorum_packet.specs.declared.phase.Phase.{Phase}
 use Rattle.quorum_packet.specs.declared.phase.Phase.TheVariants.{Packets, Image}
