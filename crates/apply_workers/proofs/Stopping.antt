@@ -1,5 +1,5 @@
 -- Groups that are stopped.
-use Rattle.std.proofs.Common.{◌≡◌, ℕ, ◌+◌, List, [], ◌∷◌, ◌++◌, true, false, Bool, length, length-append, refl, sym, ap, subst, ◌∙◌, arith}
+use Rattle.std.proofs.Common.{◌≡◌, ℕ, ◌+◌, List, [], ◌∷◌, ◌++◌, true, false, Bool, length, drop, get_or, length-append, refl, sym, ap, subst, ◌∙◌, arith}
 use Rattle.txn_codec.specs.declared.txn.TxnHeader.{TxnHeader}
 use Rattle.txn_codec.specs.declared.txn.Txn.{Txn}
 use Rattle.txn_codec.specs.declared.txn.Body.{Body}
@@ -71,3 +71,17 @@ stopped_there cells txns now new rest rest' t n done d next left e = record {
   count = d.count ∙ sym e;
   state = subst (λ s. IsLeftBy t.header t.body s new) (sym d.state) left;
 }
+
+-- a group that was stopped behind its first transaction has what that one left, and what the next one left of it
+pub stopped_behind_one : (cells new : State) (t : Txn) (ts : List Txn) → IsStopped cells (t ∷ ts) new 1
+    → IsLeftByFirst ts (mean_in_cells cells t).state new
+stopped_behind_one cells new t ts stopped = behind stopped.front stopped.all stopped.count stopped.state
+  where
+    behind : (front : List Txn) → t ∷ ts ≡ front ++ stopped.rest → length front ≡ 1
+        → IsLeftByFirst stopped.rest (after_in_cells cells front) new → IsLeftByFirst ts (mean_in_cells cells t).state new
+    behind [] all count left = absurd (omega arith)
+    behind (u ∷ []) all count left =
+        subst (λ rest. IsLeftByFirst rest (mean_in_cells cells t).state new) (sym (ap (drop 1) all))
+        (subst (λ first. IsLeftByFirst stopped.rest (mean_in_cells cells first).state new)
+        (sym (ap (λ l. get_or l 0 t) all)) left)
+    behind (u ∷ v ∷ us) all count left = absurd (omega arith)

@@ -17,6 +17,7 @@ use Rattle.batcher.specs.Rows.{creates, a, b, a_x, a_y, b_z}
 use Rattle.apply_workers.specs.declared.step.Step.{Step}
 use Rattle.apply_workers.specs.Schedule.{scheduled}
 use Rattle.apply_workers.specs.Schedules.{SchedulesAreTheBatch}
+use Rattle.apply_workers.proofs.Stopping.{stopped_behind_one}
 use Rattle.apply_workers.specs.ScheduleRows.{SchedulesAreWorked, opens, three_creates, created, two_workers}
 
 -- ---- two timeouts of one session
@@ -97,4 +98,5 @@ schedules_are_worked law set_in_order h = record {
   steps = λ s. refl;
   outcomes = outcomes_are law h;
   timeouts = timeouts_are law set_in_order h;
+  stopped = λ s new stopped. stopped_behind_one s new (creates h a_x) (creates h a_y ∷ []) stopped;
 }

@@ -7,6 +7,7 @@ use Rattle.txn_codec.specs.declared.txn.TxnHeader.{TxnHeader}
 use Rattle.txn_codec.specs.declared.txn.Body.TheVariants as body
 use Rattle.ephemerals.specs.Orders.{Bytes}
 use Rattle.data_tree.specs.State.{State}
+use Rattle.data_tree.specs.Cells.{mean_in_cells}
 use Rattle.data_tree.specs.declared.node.Node.{Node}
 use Rattle.data_tree.specs.Commuting.{Tagged}
 use Rattle.data_tree.specs.declared.outcome.Outcome.{Outcome}
@@ -16,6 +17,7 @@ use Rattle.batcher.specs.Rows.{creates, txn, a, b, a_x, a_y, b_z}
 use Rattle.apply_workers.specs.declared.step.Step.{Step}
 use Rattle.apply_workers.specs.declared.step.Step.TheVariants.{Claim, Do, Give}
 use Rattle.apply_workers.specs.Schedule.{Progress, at_start, can_be_taken, step, scheduled}
+use Rattle.apply_workers.specs.Works.{IsStopped}
 
 abbrev pub opens : TxnHeader → ℕ → Txn
 opens h timeout = txn h (body.CreateSession (pos timeout))
@@ -56,6 +58,10 @@ pub record WorkedSchedule (h : TxnHeader) : Type 0 where
       (s : State) (steps : List Step)
       → finmap.get (scheduled s (opens h 5000 ∷ creates h a_x ∷ opens h 6000 ∷ []) steps).state.sessions h.client_id
       ≡ Some (pos 6000)
+  -- a group that was stopped behind the first of two creates has what that one left, and nothing of the other
+  pub stopped :
+      (s new : State) → IsStopped s (creates h a_x ∷ creates h a_y ∷ []) new 1
+      → new ≡ (mean_in_cells s (creates h a_x)).state
 
 abbrev pub SchedulesAreWorked : Type 0
 SchedulesAreWorked = (h : TxnHeader) → WorkedSchedule h

@@ -1,11 +1,11 @@
-//! Names that stand in a set, and how long lists are.
+//! Lists, names that stand in a set, and how long lists are.
 
-use client_records::{acls_len, names_len, put_names};
-use jute::{Acl, Id};
+use client_records::{Name, acls_len, names_len, put_list, put_names, read_list};
+use jute::{Acl, Id, Reader};
 use std::alloc::Global;
 use std::collections::BTreeSet;
 use std::test::Fail;
-use values::{NoMemory, Text};
+use values::{Listed, NoMemory, Text};
 
 // The names of two children, the later one first.
 fn two(alloc: Global) -> Result<BTreeSet<String>, Fail> {
@@ -15,6 +15,7 @@ fn two(alloc: Global) -> Result<BTreeSet<String>, Fail> {
     Ok(names)
 }
 
+/// A set's texts stand in ascending bytes.
 #[test]
 fn names_of_a_set(rt: HostRuntime) -> Result<(), Fail> {
     let names = two(rt.alloc())?;
@@ -27,6 +28,58 @@ fn names_of_a_set(rt: HostRuntime) -> Result<(), Fail> {
     assert_eq!(rt;
         out.as_slice(),
         b"\x00\x00\x00\x02\x00\x00\x00\x01a\x00\x00\x00\x09zookeeper".as_slice()
+    );
+    Ok(())
+}
+
+// Whether the bytes are read as these names, in this order, and a byte behind them is left.
+fn are_read(alloc: Global, bytes: &[u8], texts: &[&str]) -> Result<bool, Fail> {
+    let mut expected = Vec::new(alloc);
+    for text in texts {
+        expected.push(Name::new(text))?;
+    }
+    let mut reader = Reader::new(bytes);
+    let names: Listed<Name<'_>> = read_list(alloc, &mut reader)?;
+    Ok(names == Listed::from_vec(expected) && reader.rest().len() == 1)
+}
+
+/// A list keeps its order and what stands in it twice; null is read as empty.
+#[test]
+fn a_list_is_read(rt: HostRuntime) -> Result<(), Fail> {
+    let alloc = rt.alloc();
+    let three = b"\x00\x00\x00\x03\x00\x00\x00\x02/b\x00\x00\x00\x02/a\x00\x00\x00\x02/b\x07";
+    assert!(rt; are_read(alloc, three, &["/b", "/a", "/b"])?);
+    assert!(rt; are_read(alloc, b"\x00\x00\x00\x00\x07", &[])?);
+    assert!(rt; are_read(alloc, b"\xff\xff\xff\xff\x07", &[])?);
+    Ok(())
+}
+
+// Whether a list's bytes are refused, and the place is left.
+fn is_refused(alloc: Global, bytes: &[u8]) -> bool {
+    let mut reader = Reader::new(bytes);
+    let names: Result<Listed<Name<'_>>, _> = read_list(alloc, &mut reader);
+    names.is_err() && reader.rest().len() == bytes.len()
+}
+
+/// A count below -1, and one that passes the bytes.
+#[test]
+fn a_list_is_refused(rt: HostRuntime) {
+    let alloc = rt.alloc();
+    assert!(rt; is_refused(alloc, b"\xff\xff\xff\xfe"));
+    assert!(rt; is_refused(alloc, b"\x00\x00\x00\x02\x00\x00\x00\x02/a"));
+}
+
+/// No name makes an empty list, and not a null one.
+#[test]
+fn a_list_is_written(rt: HostRuntime) -> Result<(), Fail> {
+    let alloc = rt.alloc();
+    let mut out = Vec::new(alloc);
+    put_list(&mut out, [Name::new("/b"), Name::new("/a")].as_slice())?;
+    let none: &[Name<'_>] = &[];
+    put_list(&mut out, none)?;
+    assert_eq!(rt;
+        out.as_slice(),
+        b"\x00\x00\x00\x02\x00\x00\x00\x02/b\x00\x00\x00\x02/a\x00\x00\x00\x00".as_slice()
     );
     Ok(())
 }

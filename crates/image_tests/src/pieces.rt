@@ -37,8 +37,10 @@ pub const WRITE_1: &[u8] = b"\0\0\0\0\0\0\0\x01\0\0\0\x01\0\0\0\x03\0\0\0\x05wor
 
 pub const WRITE_7: &[u8] = b"\0\0\0\0\0\0\0\x07\0\0\0\x01\0\0\0\x03\0\0\0\x05world\0\0\0\x06anyone";
 
-/// A null list under key -1.
+/// A null list under key -1, and under key 8.
 pub const OPEN: &[u8] = b"\xff\xff\xff\xff\xff\xff\xff\xff\xff\xff\xff\xff";
+
+pub const OPEN_8: &[u8] = b"\0\0\0\0\0\0\0\x08\xff\xff\xff\xff";
 
 /// The path of the root.
 pub const ROOT: &[u8] = b"\0\0\0\0";

@@ -2,8 +2,9 @@
 
 use crate::joined;
 use crate::pieces::{
-    A, A_B, B, BARE, C, CLOSE, KEY_1, KEY_2, KEY_7, KEY_8, NONE, NUMBERS, ONE, READ_1, READ_2,
-    READ_8, ROOT, SESSION, SIGNATURE, TWO, WRITE_1, WRITE_7, fresh, fresh_image, session_image,
+    A, A_B, B, BARE, C, CLOSE, KEY_1, KEY_2, KEY_7, KEY_8, NONE, NUMBERS, ONE, OPEN_8, READ_1,
+    READ_2, READ_8, ROOT, SESSION, SIGNATURE, TWO, WRITE_1, WRITE_7, fresh, fresh_image,
+    session_image,
 };
 use data_tree::{Node, Tree};
 use ephemerals::TextSet;
@@ -94,6 +95,27 @@ fn one_key_a_list(rt: HostRuntime) -> Result<(), Fail> {
         alloc,
         &[
             NONE, ONE, READ_1, ROOT, BARE, A, KEY_1, NUMBERS, B, KEY_1, NUMBERS, CLOSE, SIGNATURE,
+        ],
+    )?;
+    assert!(rt; written_again(alloc, &read)? == written);
+    Ok(())
+}
+
+// A null list is the open one under any key, and is written as no list and the key -1.
+#[test]
+fn null_lists(rt: HostRuntime) -> Result<(), Fail> {
+    let alloc = rt.alloc();
+    let read = joined(
+        alloc,
+        &[
+            NONE, TWO, OPEN_8, READ_2, ROOT, BARE, A, KEY_8, NUMBERS, B, KEY_2, NUMBERS, CLOSE,
+            SIGNATURE,
+        ],
+    )?;
+    let written = joined(
+        alloc,
+        &[
+            NONE, ONE, READ_1, ROOT, BARE, A, BARE, B, KEY_1, NUMBERS, CLOSE, SIGNATURE,
         ],
     )?;
     assert!(rt; written_again(alloc, &read)? == written);

@@ -2,8 +2,10 @@
 
 use crate::calls::is_answered;
 use client_records::RequestKind;
+use read_processor::Look;
 use std::alloc::Global;
 use std::test::Fail;
+use values::Blob;
 
 /// The Stat of the root of a fresh tree: its one child was made without a transaction.
 const ROOT: &str = "0000000000000000 0000000000000000 0000000000000000 0000000000000000 \
@@ -81,6 +83,26 @@ fn null_is_shown(rt: HostRuntime) -> Result<(), Fail> {
     let log = [CREATE_A, SET_A];
     let zxid = 0x1_0000_0002;
     assert!(rt; is_answered(rt.alloc(), &log, RequestKind::GetData, "/a", zxid, &wanted)?);
+    Ok(())
+}
+
+// The frame of the answer to request 1 at zxid 0, of an error or of none, without a body.
+fn without_body(alloc: Global, error: i32) -> Result<Blob, Fail> {
+    let look = Look::without_body(alloc, error)?;
+    Ok(look.into_frame(1, 0).ok_or("a frame")?)
+}
+
+#[test]
+fn nothing_is_shown(rt: HostRuntime) -> Result<(), Fail> {
+    let alloc = rt.alloc();
+    assert_eq!(rt;
+        without_body(alloc, 0)?.as_slice(),
+        b"\0\0\0\x10\0\0\0\x01\0\0\0\0\0\0\0\0\0\0\0\0".as_slice()
+    );
+    assert_eq!(rt;
+        without_body(alloc, -119)?.as_slice(),
+        b"\0\0\0\x10\0\0\0\x01\0\0\0\0\0\0\0\0\xff\xff\xff\x89".as_slice()
+    );
     Ok(())
 }
 

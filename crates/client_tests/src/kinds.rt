@@ -1,0 +1,40 @@
+//! The codes of requests.
+
+use client_records::RequestKind;
+use std::test::*;
+
+/// Each type with its number in `ZooDefs.OpCode`.
+const CODES: [(RequestKind, i32); 16] = [
+    (RequestKind::Create, 1),
+    (RequestKind::Delete, 2),
+    (RequestKind::Exists, 3),
+    (RequestKind::GetData, 4),
+    (RequestKind::SetData, 5),
+    (RequestKind::GetAcl, 6),
+    (RequestKind::SetAcl, 7),
+    (RequestKind::GetChildren, 8),
+    (RequestKind::Sync, 9),
+    (RequestKind::Ping, 11),
+    (RequestKind::GetChildren2, 12),
+    (RequestKind::Check, 13),
+    (RequestKind::Multi, 14),
+    (RequestKind::Auth, 100),
+    (RequestKind::SetWatches, 101),
+    (RequestKind::CloseSession, -11),
+];
+
+#[test]
+fn codes_there_and_back(rt: HostRuntime) {
+    for (kind, code) in CODES {
+        assert_eq!(rt; kind.code(), code);
+        assert!(rt; RequestKind::from_code(code) == Some(kind));
+    }
+}
+
+/// What is no request of a client: a notification, what lies between the codes, createSession and error.
+#[test]
+fn other_codes(rt: HostRuntime) {
+    for code in [0, 10, 15, 99, 102, -1, -10, i32::MAX, i32::MIN] {
+        assert!(rt; RequestKind::from_code(code).is_none());
+    }
+}
