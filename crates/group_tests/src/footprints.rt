@@ -1,7 +1,7 @@
 //! Which paths a transaction may touch.
 
 use crate::words::{operation_of, txn_of};
-use footprint::{Footprint, footprint};
+use footprint::{Footprint, borrow_paths, footprint};
 use std::alloc::Global;
 use std::test::Fail;
 use txn_codec::{Body, Path, SetAcl, Txn};
@@ -28,13 +28,35 @@ fn of_single(alloc: Global, sign: char, path: &str) -> Result<String, Fail> {
     shown(alloc, &txn_of(Body::Single(operation)))
 }
 
-// The footprint of a multi.
-fn of_multi(alloc: Global, parts: &[(char, &str)]) -> Result<String, Fail> {
+// A multi of these parts.
+fn multi_of(alloc: Global, parts: &[(char, &str)]) -> Result<Txn, Fail> {
     let mut operations = Vec::new(alloc);
     for (sign, path) in parts {
         operations.push(operation_of(alloc, *sign, path)?)?;
     }
-    shown(alloc, &txn_of(Body::Multi(Listed::from_vec(operations))))
+    Ok(txn_of(Body::Multi(Listed::from_vec(operations))))
+}
+
+// The footprint of a multi.
+fn of_multi(alloc: Global, parts: &[(char, &str)]) -> Result<String, Fail> {
+    shown(alloc, &multi_of(alloc, parts)?)
+}
+
+// The paths that a transaction lends, each behind a blank.
+fn lent(alloc: Global, txn: &Txn) -> Result<String, Fail> {
+    let mut paths = Vec::new(alloc);
+    borrow_paths(txn, &mut paths)?;
+    let mut text = String::new(alloc);
+    for path in paths.as_slice() {
+        text.push_str(" ")?;
+        text.push_str(path.as_str())?;
+    }
+    Ok(text)
+}
+
+// The paths that a multi lends.
+fn lent_by_multi(alloc: Global, parts: &[(char, &str)]) -> Result<String, Fail> {
+    lent(alloc, &multi_of(alloc, parts)?)
 }
 
 // The footprint of a setACL.
@@ -142,5 +164,15 @@ fn a_multi_of_many_parts_and_few_paths_is_none(rt: HostRuntime) -> Result<(), Fa
         "a", "a", "a", "a", "a", "a", "a", "a", "a", "a", "a", "a", "a", "a", "a", "a", "a",
     ];
     assert_eq!(rt; of_creates(alloc, &names)?.as_str(), " /p /p/a");
+    Ok(())
+}
+
+// A create names its path and then its parent; a path that two parts touch is lent twice, and a barrier lends none.
+#[test]
+fn paths_are_lent_as_they_are_named(rt: HostRuntime) -> Result<(), Fail> {
+    let alloc = rt.alloc();
+    let parts = [('=', "/b"), ('?', "/d"), ('+', "/b/x")];
+    assert_eq!(rt; lent_by_multi(alloc, &parts)?.as_str(), " /b /b/x /b");
+    assert_eq!(rt; lent(alloc, &txn_of(Body::CloseSession))?.as_str(), "");
     Ok(())
 }

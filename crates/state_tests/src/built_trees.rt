@@ -141,6 +141,32 @@ fn copied(alloc: Global) -> Result<(bool, bool), Fail> {
     copy_and_tree(alloc, &mut tree)
 }
 
+// The paths of a tree's nodes, each behind a blank.
+fn paths(alloc: Global, tree: &Tree) -> Result<String, Fail> {
+    let mut text = String::new(alloc);
+    for (path, _) in tree.nodes() {
+        text.push_str(" ")?;
+        text.push_str(path)?;
+    }
+    Ok(text)
+}
+
+fn paths_made(alloc: Global, tree: &mut Tree) -> Result<String, Fail> {
+    make_whole(alloc, tree)?;
+    paths(alloc, tree)
+}
+
+fn made_paths(alloc: Global) -> Result<String, Fail> {
+    let mut tree = Tree::empty(alloc);
+    paths_made(alloc, &mut tree)
+}
+
+#[test]
+fn nodes_come_in_order(rt: HostRuntime) -> Result<(), Fail> {
+    assert_eq!(rt; made_paths(rt.alloc())?.as_str(), " / /a /b");
+    Ok(())
+}
+
 #[test]
 fn a_tree_is_made_node_by_node(rt: HostRuntime) -> Result<(), Fail> {
     let (signs, is_made) = made(rt.alloc())?;

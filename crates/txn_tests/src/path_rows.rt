@@ -3,13 +3,18 @@
 use crate::path_of;
 use std::alloc::Global;
 use std::test::Fail;
-use txn_codec::{Path, child_of, name_of, parent_of};
+use txn_codec::{Path, child_of, is_path, name_of, parent_of};
 use values::{Fault, NoMemory, ReadError};
 
 // Whether the text is a path, with this parent and name.
 fn is_parted(alloc: Global, text: &str, parent: &str, name: &str) -> Result<bool, ReadError> {
     let path = path_of(alloc, text)?;
-    Ok(path.as_str() == text && path.parent() == parent && path.name() == name)
+    Ok(
+        is_path(text.as_bytes())
+            && path.as_str() == text
+            && path.parent() == parent
+            && path.name() == name,
+    )
 }
 
 #[test]
@@ -41,7 +46,8 @@ fn children_have_paths(rt: HostRuntime) -> Result<(), Fail> {
 
 // Whether the text is refused as a path.
 fn is_refused(alloc: Global, text: &str) -> bool {
-    Path::new(alloc, text).err() == Some(ReadError::Fault(Fault::BadPath))
+    !is_path(text.as_bytes())
+        && Path::new(alloc, text).err() == Some(ReadError::Fault(Fault::BadPath))
 }
 
 #[test]

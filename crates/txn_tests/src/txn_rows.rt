@@ -170,6 +170,7 @@ fn create_has_its_fields(rt: HostRuntime) -> Result<(), Fail> {
         time: 1000,
     };
     assert!(rt; txn.header == header);
+    assert_eq!(rt; txn.body.kind().code(), 1);
     assert!(rt; makes_a(&txn));
     assert!(rt; bytes_in(&txn) == Some(b"hi".as_slice()));
     Ok(())
