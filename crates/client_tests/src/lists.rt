@@ -33,7 +33,7 @@ fn names_of_a_set(rt: HostRuntime) -> Result<(), Fail> {
 }
 
 // Whether the bytes are read as these names, in this order, and a byte behind them is left.
-fn are_read(alloc: Global, bytes: &[u8], texts: &[&str]) -> Result<bool, Fail> {
+fn are_read<'a>(alloc: Global, bytes: &'a [u8], texts: &[&'a str]) -> Result<bool, Fail> {
     let mut expected = Vec::new(alloc);
     for text in texts {
         expected.push(Name::new(text))?;
