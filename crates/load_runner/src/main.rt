@@ -157,16 +157,42 @@ fn run(alloc: Global, load: &mut Load, words: &[String]) -> Result<()> {
     load.set(alloc, &sets_of(words)?)
 }
 
+// What was said, and what came of it.
+struct Counts {
+    transactions: u64,
+    replies: u64,
+    events: u64,
+    paths: usize,
+    zxid: i64,
+}
+
+// Puts the load on the engine, and counts.
+fn counted(alloc: Global, load: &mut Load, words: &[String]) -> Result<Counts> {
+    run(alloc, load, words)?;
+    Ok(Counts {
+        transactions: load.transactions,
+        replies: load.replies,
+        events: load.events,
+        paths: load.engine.tree().paths(),
+        zxid: load.engine.learner().last_zxid(),
+    })
+}
+
+// It holds the load to one end, since each end proves all of the drop anew.
+fn measured(alloc: Global, words: &[String]) -> Result<Counts> {
+    let mut load = Load::new(alloc)?;
+    counted(alloc, &mut load, words)
+}
+
 fn main(rt: HostRuntime) -> Result<()> {
     let words = words(&rt)?;
-    let alloc: Global = rt.alloc();
-    let mut load = Load::new(alloc)?;
-    run(alloc, &mut load, words.as_slice())?;
-    let transactions = load.transactions;
-    let replies = load.replies;
-    let events = load.events;
-    let paths = load.engine.tree().paths();
-    let zxid = load.engine.learner().last_zxid();
+    let Counts {
+        transactions,
+        replies,
+        events,
+        paths,
+        zxid,
+    } = measured(rt.alloc(), words.as_slice())?;
     println!(rt;
         "transactions={transactions} replies={replies} events={events} paths={paths} zxid=0x{zxid:x}"
     )?;
