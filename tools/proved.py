@@ -109,17 +109,26 @@ def is_made():
         return is_built(of_sources) or build(of_sources)
 
 
-def start(arguments):
-    """Becomes the proved program. Comes back only where it can't be built or started, with an exit status for that."""
+def is_there():
+    """Returns whether the proved program is there, after building it where it must be. Says why where it isn't."""
     try:
-        if is_built(hash_of_sources()) or is_made():
-            os.execv(PROGRAM, [PROGRAM] + arguments)
+        return is_built(hash_of_sources()) or is_made()
     except FileNotFoundError as failed:
         say(f"can't find {failed.filename}: the Rattle toolchain's `rt` has to be on the PATH")
     except (OSError, subprocess.CalledProcessError) as failed:
-        say(f"can't build or start the program: {failed}")
+        say(f"can't build the program: {failed}")
     except KeyboardInterrupt:
         say("stopped before the program was built")
+    return False
+
+
+def start(arguments):
+    """Becomes the proved program. Comes back only where it can't be built or started, with an exit status for that."""
+    if is_there():
+        try:
+            os.execv(PROGRAM, [PROGRAM] + arguments)
+        except OSError as failed:
+            say(f"can't start the program: {failed}")
     return NOT_BUILT
 
 

@@ -4,15 +4,19 @@
     tests/rows/run.py PROGRAM [ARG ..]
     tests/rows/run.py --only multi PROGRAM      rows with that in their name
 
-A row is NAME.script and NAME.expected, which is what `PROGRAM ARG .. replay NAME.script` writes to standard output.
-The comments at the head of a script say what the row shows, and two kinds of them are directives:
+A row is NAME.script and NAME.expected, which is what `PROGRAM ARG .. replay NAME.script` writes to standard output. The
+rows lie in folders by what they show, and no two have one name. In examples/ are the outputs of the scripts in the
+repository's own examples/.
 
+The comments at the head of a script say what the row shows, and three kinds of them are directives:
+
+    # audit /a                      the row is run as `PROGRAM ARG .. audit NAME.script /a`
     # status 1                      the exit status that is wanted; without it 0
     # stderr line 4: bad line       the one line that standard error has; without it none
 
 Lines count in a bad script, so a comment there is replaced and never added. Rows that are too long for a file are made
-by made.py, and example-NAME.expected belongs to examples/NAME.script. The last line printed is `N passed, M failed`; the
-exit status is 0 where no row failed and there was one at least.
+by made.py. The last line printed is `N passed, M failed`; the exit status is 0 where no row failed and there was one at
+least.
 """
 import argparse
 import pathlib
@@ -30,16 +34,19 @@ SECONDS = 60
 
 
 def directives(script):
-    """Returns the exit status and the bytes on standard error that the comments at the script's head ask for."""
-    status, complaint = 0, b""
+    """Returns what the comments at the script's head ask for: the path of an audit, if it is one, the exit status, and
+    the bytes on standard error."""
+    audited, status, complaint = None, 0, b""
     for line in script.split(b"\n"):
         if not line.startswith(b"#"):
             break
-        if line.startswith(b"# status "):
+        if line.startswith(b"# audit "):
+            audited = line[len(b"# audit ") :].decode()
+        elif line.startswith(b"# status "):
             status = int(line[len(b"# status ") :])
         elif line.startswith(b"# stderr "):
             complaint = line[len(b"# stderr ") :] + b"\n"
-    return status, complaint
+    return audited, status, complaint
 
 
 def first_difference(wanted, got):
@@ -53,11 +60,12 @@ def first_difference(wanted, got):
 
 def faults(words, path):
     """Runs one row and returns what is wrong, in lines; none where it holds."""
-    status, complaint = directives(path.read_bytes())
+    audited, status, complaint = directives(path.read_bytes())
+    command = ["replay", str(path)] if audited is None else ["audit", str(path), audited]
     wanted = path.with_suffix(".expected").read_bytes()
     how = {"stdin": subprocess.DEVNULL, "stdout": subprocess.PIPE, "stderr": subprocess.PIPE}
     try:
-        done = subprocess.run(words + ["replay", str(path)], timeout=SECONDS, **how)
+        done = subprocess.run(words + command, timeout=SECONDS, **how)
     except OSError as failed:
         return [f"can't start the program: {failed}"]
     except subprocess.TimeoutExpired:
@@ -77,17 +85,16 @@ def make(room):
     for name, script, wanted in made.rows():
         (room / f"{name}.script").write_bytes(script)
         (room / f"{name}.expected").write_bytes(wanted)
-    for wanted in HERE.glob("example-*.expected"):
-        script = EXAMPLES / f"{wanted.stem[len('example-'):]}.script"
-        shutil.copy(script, room / f"{wanted.stem}.script")
-        shutil.copy(wanted, room / wanted.name)
+    for wanted in HERE.glob("examples/*.expected"):
+        shutil.copy(EXAMPLES / f"{wanted.stem}.script", room / f"example-{wanted.stem}.script")
+        shutil.copy(wanted, room / f"example-{wanted.name}")
 
 
 def run(words, only, room):
     """Runs the rows with that in their name. Returns how many held, and how many failed."""
     make(room)
     passed = failed = 0
-    rows = sorted([*HERE.glob("*.script"), *room.glob("*.script")], key=lambda it: it.stem)
+    rows = sorted([*HERE.glob("*/*.script"), *room.glob("*.script")], key=lambda it: it.stem)
     for path in (it for it in rows if only in it.stem):
         found = faults(words, path)
         passed, failed = passed + (not found), failed + bool(found)

@@ -8,11 +8,11 @@ use Rattle.atomic_table.specs.Table.{step, keeps, takes, Allows}
 use Rattle.atomic_table.proofs.Lists.{set_here, set_else}
 use Rattle.apply_board.specs.declared.view.View.{View}
 use Rattle.apply_board.specs.declared.group.Group.TheVariants.{Unclaimed}
-use Rattle.apply_board.specs.Views.{numbers, vacated, claiming, ending}
-use Rattle.apply_board.specs.Board.{total, Shared, drawn, word_of, claims_of, gifts_of, marks_of, IsSeat, BoardHistory}
+use Rattle.apply_board.specs.Views.{numbers, marks_of, vacated, claiming, ending}
+use Rattle.apply_board.specs.Board.{total, Shared, drawn, word_of, claims_of, gifts_of, seats_of, IsSeat, BoardHistory}
 use Rattle.apply_board.specs.Inner.Steps.{Holding, Draws}
-use Rattle.apply_board.proofs.Sums.{bit_le, total-set, total_few, times-snoc, same_bit, other_bit, in_times, at_of, at_inside, there, rises-snoc}
-use Rattle.apply_board.proofs.Histories.{claimed_below, stays, seats_stay, counts_stay}
+use Rattle.apply_board.proofs.Sums.{total-set, times-snoc, same_bit, other_bit, in_times, at_of, at_inside, there, rises-snoc}
+use Rattle.apply_board.proofs.Histories.{claimed_below, marks_few, stays, seats_stay, opener_stays, counts_stay}
 
 module _ {W F : Type 0} (gives : W → F → Type 0) (works : List W) where
   abbrev V : Type 0
@@ -59,7 +59,14 @@ module _ {W F : Type 0} (gives : W → F → Type 0) (works : List W) where
         words = λ k i. words k ∙ (r.words k i ∙ sym (gifts k));
         waits = λ k w above a. set_else s.homes x k none (λ e. omega arith) ∙ r.waits k w (omega arith) a;
         marks = let m = r.marks in omega (arith, total-set marks_of s.views id v v' at);
+        gathered_marks_few = let m = r.gathered_marks_few in omega (
+          arith,
+          total-set (λ u. u.gathered_marks) s.views id v v' at,
+          total-set seats_of s.views id v v' at,
+          length-set s.views id v',
+        );
         seats_at_most_64 = let f = r.seats_at_most_64 in omega (arith, length-set s.views id v');
+        opener_is_first = opener_stays gives works s.views id v v' at (λ p. p) seated r.opener_is_first;
         opener_counts = counts_stay gives works s r id v v' at refl refl refl;
         each_seat = seats_stay gives works (λ j u. u.seated ≡ true → IsSeat gives works s' u) s.views id v'
             (λ _. record {
@@ -110,7 +117,14 @@ module _ {W F : Type 0} (gives : W → F → Type 0) (works : List W) where
         words = λ k i. words k ∙ (r.words k i ∙ sym (gifts k));
         waits = λ k w above a. let i = at_inside works k w a in absurd (omega arith);
         marks = let b = r.marks in omega arith;
+        gathered_marks_few = let m = r.gathered_marks_few in omega (
+          arith,
+          total-set (λ u. u.gathered_marks) s.views id v v' at,
+          total-set seats_of s.views id v v' at,
+          length-set s.views id v',
+        );
         seats_at_most_64 = let f = r.seats_at_most_64 in omega (arith, length-set s.views id v');
+        opener_is_first = opener_stays gives works s.views id v v' at (λ p. p) seated r.opener_is_first;
         opener_counts = counts_stay gives works s r id v v' at refl refl refl;
         each_seat = seats_stay gives works (λ j u. u.seated ≡ true → IsSeat gives works s' u) s.views id v'
             (λ _. record {
@@ -127,8 +141,7 @@ module _ {W F : Type 0} (gives : W → F → Type 0) (works : List W) where
 
   -- word 0 has room for one more
   no_wrap : (s : S) (r : BoardHistory gives works s) → (drawn s + 1) % 18446744073709551616 ≡ drawn s + 1
-  no_wrap s r = let t = total_few marks_of s.views (λ v. bit_le v.spent) in let b = r.marks in
-      let f = r.seats_at_most_64 in let l = r.works_count in omega arith
+  no_wrap s r = let few = marks_few gives works s r in let b = r.marks in let l = r.works_count in omega arith
 
   pub claims : (slots id : ℕ) (me : Holding W F) → me.0.seated ≡ true → me.0.spent ≡ false
       → me.0.claimed ≡ numbers me.0.given

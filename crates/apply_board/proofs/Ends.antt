@@ -12,8 +12,8 @@ use Rattle.atomic_table.proofs.Lists.{at_map}
 use Rattle.apply_board.specs.declared.view.View.{View}
 use Rattle.apply_board.specs.declared.group.Group.{Group}
 use Rattle.apply_board.specs.declared.group.Group.TheVariants.{Home, Unclaimed}
-use Rattle.apply_board.specs.Views.{numbers, opener, joined}
-use Rattle.apply_board.specs.Board.{total, times, Shared, drawn, claims_of, seats_of, IsSeat, BoardHistory}
+use Rattle.apply_board.specs.Views.{numbers, opener, marks_of, joined}
+use Rattle.apply_board.specs.Board.{total, times, Shared, drawn, claims_of, seats_of, IsSeat, BoardHistory, Moment}
 use Rattle.apply_board.specs.Sitting.{Sitting}
 use Rattle.apply_board.specs.Seats.{IsIdle, AreAll, all_given, any_spent}
 use Rattle.apply_board.specs.Closing.{IsSettled}
@@ -61,7 +61,9 @@ module _ {W F : Type 0} (gives : W → F → Type 0) (works : List W) where
             (some (Some (Unclaimed w)))) (sym are) (at_map some (map (λ (u : W). Some (Unclaimed u)) works) k
             (Some (Unclaimed w)) (at_map (λ (u : W). Some (Unclaimed u)) works k w a));
         marks = omega arith;
+        gathered_marks_few = omega arith;
         seats_at_most_64 = omega arith;
+        opener_is_first = (omega arith, refl);
         opener_counts = λ j d e p. let o = one j d e in
             (o.0, ap (λ (x : View W F). x.made) (sym o.1), ap (λ (x : View W F). x.unjoined) (sym o.1));
         each_seat = λ j d e l. subst (IsSeat gives works s) (one j d e).1 record {
@@ -70,17 +72,27 @@ module _ {W F : Type 0} (gives : W → F → Type 0) (works : List W) where
           given_is = inl refl;
           home = λ i k f a. absurd (some-ne-none (k, f) (sym a));
           fits = λ i k f w a. absurd (some-ne-none (k, f) (sym a));
-          spent_late = λ l. absurd (true≢false (sym l));
+          spent_late = λ l. absurd (omega arith);
         };
         each_vacated = λ j d e l. absurd (true≢false (ap (λ (x : View W F). x.seated) (one j d e).1 ∙ l));
       }
 
+  -- the board that is opened is a moment of the seat that it is opened with
+  pub opening_moment : (ws : List ℕ) (xs : List (Option (Group W F)))
+      → BoardHistory gives works (opening ws xs (opener works)) → Moment gives (opener works)
+  opening_moment ws xs history = record {
+    board = opening ws xs (opener works);
+    history = history;
+    seat = 0;
+    has = refl;
+  }
+
   -- where all other seats were taken into the seat v, which has no claim
-  lies : (ws : List ℕ) (xs : List (Option (Group W F))) (id : ℕ) (v : View W F)
+  lies : (ws : List ℕ) (xs : List (Option (Group W F))) (id : ℕ) (v : View W F) (spent : Bool)
       → Final (Seen (BoardHistory gives works) id v) ws xs → v.seated ≡ true → 0 < v.made → v.unjoined ≡ 1
-      → v.claimed ≡ numbers v.given
-      → Lies gives v.works (v.given ++ v.gathered) v.spent xs
-  lies ws xs id v final seated made alone idle =
+      → v.claimed ≡ numbers v.given → (spent ≡ true → 0 < marks_of v)
+      → Lies gives v.works (v.given ++ v.gathered) spent xs
+  lies ws xs id v spent final seated made alone idle marked =
       let s = final.0 in let r = final.1.0 in let at = final.1.1 in let back = final.4 in
       let c = r.opener_counts id v at made in
       let o = r.each_seat id v at seated in
@@ -93,7 +105,7 @@ module _ {W F : Type 0} (gives : W → F → Type 0) (works : List W) where
       let sums : (k : ℕ) → total (claims_of k) s.views ≡ times k (numbers gs) = λ k. total_only seats_of
       (claims_of k) s.views id v
       (λ j x a z. ap (claims_of k) (r.each_vacated j x a (bit_zero x.seated z))) at (omega arith) ∙ mine k in
-      subst (λ (l : List W). Lies gives l gs v.spent xs) (sym o.keeps) record {
+      subst (λ (l : List W). Lies gives l gs spent xs) (sym o.keeps) record {
         count = sym final.3 ∙ r.slots_count;
         home = λ i k f e. back k (Some (Home f)) (o.home i k f e);
         unclaimed = λ k w a z. let h = sums k in let i = at_inside works k w a in
@@ -102,25 +114,27 @@ module _ {W F : Type 0} (gives : W → F → Type 0) (works : List W) where
             (λ n. omega arith)) a);
         fits = o.fits;
         once = λ k. let h = sums k in let m = at_most_one gives works s r k in omega arith;
-        whole = λ e k i. let h = sums k in let l = o.spent_late e in sym h ∙ r.claimed k (omega arith);
+        whole = λ e k i. let h = sums k in let l = o.spent_late (marked e) in sym h ∙ r.claimed k (omega arith);
       }
 
-or_false : (b : Bool) → b || false ≡ b
-or_false true = refl
-or_false false = refl
-
-or_assoc : (a b c : Bool) → (a || b) || c ≡ a || (b || c)
-or_assoc true b c = refl
-or_assoc false b c = refl
-
 module _ {W F : Type 0} where
+  -- how many of these seats are spent
+  abbrev marks_in : List (Sitting W F) → ℕ
+  marks_in seats = total (λ seat. cond seat.view.spent 1 0) seats
+
+  any_mark : (first : Bool) (seats : List (Sitting W F)) → first || any_spent seats ≡ true
+      → 0 < cond {A = ℕ} first 1 0 + marks_in seats
+  any_mark true seats e = omega arith
+  any_mark false [] e = absurd (true≢false (sym e))
+  any_mark false (seat ∷ seats) e = let more = any_mark seat.view.spent seats e in omega arith
+
   -- what the opener's seat knows once all others were taken in
   record Gathered (v : View W F) (seats : List (Sitting W F)) (u : View W F) : Type 0 where
     works : u.works ≡ v.works
     claimed : u.claimed ≡ v.claimed
     given : u.given ≡ v.given
     gathered : u.gathered ≡ v.gathered ++ all_given seats
-    spent : u.spent ≡ v.spent || any_spent seats
+    marks : marks_of u ≡ marks_of v + marks_in seats
     seated : u.seated ≡ v.seated
     made : u.made ≡ v.made
     unjoined : (n : ℕ) → v.unjoined ≡ length seats + n → u.unjoined ≡ n
@@ -131,7 +145,7 @@ module _ {W F : Type 0} where
     claimed = refl;
     given = refl;
     gathered = sym (append-nil v.gathered);
-    spent = sym (or_false v.spent);
+    marks = omega arith;
     seated = refl;
     made = refl;
     unjoined = λ n e. omega arith;
@@ -141,7 +155,7 @@ module _ {W F : Type 0} where
     claimed = g.claimed;
     given = g.given;
     gathered = g.gathered ∙ append_assoc v.gathered seat.view.given (all_given seats);
-    spent = g.spent ∙ or_assoc v.spent seat.view.spent (any_spent seats);
+    marks = let more = g.marks in omega arith;
     seated = g.seated;
     made = g.made;
     unjoined = λ n e. g.unjoined n (omega arith);
@@ -162,13 +176,14 @@ module _ {W F : Type 0} where
       → Lies gives v.works (v.given ++ all_given seats) (v.spent || any_spent seats) xs
   closes gives works ws xs id v u seats final is made seated none idle unjoined = let w = gathers v seats in
       let g : View W F = gathering v seats in let m = w.made in
-      let s = lies gives works ws xs id g (subst
+      let spent : Bool = v.spent || any_spent seats in
+      let s = lies gives works ws xs id g spent (subst
       (λ (z : View W F). Final (Seen (BoardHistory gives works) id z) ws xs) is final) (w.seated ∙ seated)
       (omega arith) (w.unjoined 1 unjoined) (w.claimed
-      ∙ (idle ∙ ap (λ (l : List (ℕ × F)). numbers l) (sym w.given))) in
+      ∙ (idle ∙ ap (λ (l : List (ℕ × F)). numbers l) (sym w.given)))
+      (λ e. let some = any_mark v.spent seats e in let all = w.marks in omega arith) in
       let q : g.gathered ≡ all_given seats = w.gathered ∙ ap (λ (l : List (ℕ × F)). l ++ all_given seats) none in
-      subst (λ (t : List W × List (ℕ × F) × Bool). Lies gives t.0 t.1 t.2 xs)
-      (λ i. (w.works i, w.given i ++ q i, w.spent i)) s
+      subst (λ (t : List W × List (ℕ × F)). Lies gives t.0 t.1 spent xs) (λ i. (w.works i, w.given i ++ q i)) s
 
   at_some : (groups : List (Group W F)) (k : ℕ) (g : Group W F)
       → get_elem? (map (λ (x : Group W F). Some x) groups) k ≡ some (Some g) → get_elem? groups k ≡ some g
@@ -194,11 +209,12 @@ module _ {W F : Type 0} where
       }
 
   -- taking a seat in is what is said of it, where it took in none itself
-  pub takes_in : (v : View W F) (seat : Sitting W F) → seat.view.gathered ≡ [] → joined v seat.view ≡ taking v seat
-  takes_in v seat none = λ i. record v {
+  pub takes_in : (v : View W F) (seat : Sitting W F) → seat.view.gathered ≡ [] → seat.view.gathered_marks ≡ 0
+      → joined v seat.view ≡ taking v seat
+  takes_in v seat none unmarked = λ i. record v {
     gathered = v.gathered ++
         (ap (λ (l : List (ℕ × F)). seat.view.given ++ l) none ∙ append-nil seat.view.given) i;
-    spent = v.spent || seat.view.spent;
+    gathered_marks = v.gathered_marks + (let e : marks_of seat.view ≡ cond seat.view.spent 1 0 = omega arith in e i);
     unjoined = v.unjoined - 1;
   }
 

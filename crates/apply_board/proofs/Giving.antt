@@ -9,11 +9,11 @@ use Rattle.atomic_table.proofs.Lists.{set_here, set_else, at_map}
 use Rattle.apply_board.specs.declared.view.View.{View}
 use Rattle.apply_board.specs.declared.group.Group.{Group}
 use Rattle.apply_board.specs.declared.group.Group.TheVariants.{Home, Unclaimed}
-use Rattle.apply_board.specs.Views.{numbers, vacated, giving}
-use Rattle.apply_board.specs.Board.{total, times, Shared, drawn, word_of, LiesIn, claims_of, gifts_of, marks_of, IsSeat, BoardHistory}
+use Rattle.apply_board.specs.Views.{numbers, marks_of, vacated, giving}
+use Rattle.apply_board.specs.Board.{total, times, Shared, drawn, word_of, LiesIn, claims_of, gifts_of, seats_of, IsSeat, BoardHistory}
 use Rattle.apply_board.specs.Inner.Steps.{Holding, Gives}
 use Rattle.apply_board.proofs.Sums.{total-set, term_le, terms_le, times-snoc, times-snoc_here, same_bit, other_bit, in_times, times-append, at_insert, at_inside, there}
-use Rattle.apply_board.proofs.Histories.{numbers-append, at_most_one, claimed_below, none_given, stays, seats_stay, counts_stay}
+use Rattle.apply_board.proofs.Histories.{numbers-append, at_most_one, claimed_below, none_given, stays, seats_stay, opener_stays, counts_stay}
 
 module _ {W F : Type 0} where
   abbrev homed : ℕ × F → ℕ → Group W F → ℕ × F
@@ -96,7 +96,14 @@ module _ {W F : Type 0} (yields : W → F → Type 0) (works : List W) where
             (λ ne. let b = other_bit k q ne in let u = words k (λ e. ne (sym e)) in let h = r.words k i in omega arith);
         waits = λ k u above a. homes k (λ e. omega arith) ∙ r.waits k u (omega arith) a;
         marks = let b = r.marks in omega arith;
+        gathered_marks_few = let m = r.gathered_marks_few in omega (
+          arith,
+          total-set (λ u. u.gathered_marks) s.views id v v' at,
+          total-set seats_of s.views id v v' at,
+          length-set s.views id v',
+        );
         seats_at_most_64 = let l = r.seats_at_most_64 in omega (arith, length-set s.views id v');
+        opener_is_first = opener_stays yields works s.views id v v' at (λ p. p) seated r.opener_is_first;
         opener_counts = counts_stay yields works s r id v v' at refl refl refl;
         each_seat = seats_stay yields works (λ j u. u.seated ≡ true → IsSeat yields works s' u) s.views id v'
             (λ _. record {

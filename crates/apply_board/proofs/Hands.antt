@@ -1,9 +1,10 @@
 -- Which slot a seat holds.
-use Rattle.std.proofs.Common.{◌≡◌, ℕ, ◌<◌, List, [], ◌∷◌, ◌++◌, map, drop, length, get_or, sym, refl, ap, ◌∙◌, arith, Option, None, Bool}
+use Rattle.std.proofs.Common.{◌≡◌, ℕ, ◌+◌, ◌<◌, false, List, [], ◌∷◌, ◌++◌, map, drop, length, get_or, sym, refl, ap, ◌∙◌, arith, Option, None, Bool}
 use Rattle.std.proofs.lemmas.List.{append-nil}
 use Rattle.apply_board.specs.declared.view.View.{View}
 use Rattle.apply_board.specs.declared.group.Group.{Group}
-use Rattle.apply_board.specs.Views.{numbers, giving}
+use Rattle.apply_board.specs.Views.{numbers, opener, newcomer, seating, giving}
+use Rattle.apply_board.specs.Board.{Moment}
 use Rattle.apply_board.specs.Inner.Fields.{held_by, IsSitting}
 use Rattle.apply_board.proofs.Histories.{numbers-append}
 
@@ -42,14 +43,59 @@ module _ {W F : Type 0} where
   gives_all v k f holds = holds ∙ sym (numbers-append v.given ((k, f) ∷ []))
 
   -- a seat that has given k
-  pub sits_given : (slots : ℕ) (v : View W F) (hand : List (ℕ × Option (Group W F))) (spent : Bool) (made k : ℕ)
-      (f : F) → IsSitting slots v hand spent made
-      → v.claimed ≡ numbers v.given ++ k ∷ [] → IsSitting slots (giving v k f) [] spent made
-  sits_given slots v hand spent made k f sits holds = record {
+  pub sits_given : (gives : W → F → Type 0) (slots : ℕ) (v : View W F) (hand : List (ℕ × Option (Group W F)))
+      (spent : Bool) (made k : ℕ) (f : F) → IsSitting gives slots v hand spent made
+      → v.claimed ≡ numbers v.given ++ k ∷ [] → Moment gives (giving v k f)
+      → IsSitting gives slots (giving v k f) [] spent made
+  sits_given gives slots v hand spent made k f sits holds moment = record {
     seated = sits.seated;
     alone = sits.alone;
+    unmarked = sits.unmarked;
     spent_is = sits.spent_is;
     made_is = sits.made_is;
     hand_is = sym (idle_hand (giving v k f) (gives_all v k f holds));
     within = sits.within;
+    history = moment;
+  }
+
+module _ {W F : Type 0} (gives : W → F → Type 0) (slots : ℕ) where
+  -- the seat that a board is opened with
+  pub sits_opening : (works : List W) → Moment gives (opener works) → IsSitting gives slots (opener works) [] false 1
+  sits_opening works moment = record {
+    seated = refl;
+    alone = refl;
+    unmarked = refl;
+    spent_is = refl;
+    made_is = refl;
+    hand_is = refl;
+    within = λ i l. absurd (omega arith);
+    history = moment;
+  }
+
+  -- a seat that was made
+  pub sits_new : (v : View W F) → Moment gives (newcomer v) → IsSitting gives slots (newcomer v) [] false 0
+  sits_new v moment = record {
+    seated = refl;
+    alone = refl;
+    unmarked = refl;
+    spent_is = refl;
+    made_is = refl;
+    hand_is = refl;
+    within = λ i l. absurd (omega arith);
+    history = moment;
+  }
+
+  -- the opener's seat that made it
+  pub sits_seating : (v : View W F) (hand : List (ℕ × Option (Group W F))) (spent : Bool) (made : ℕ)
+      → IsSitting gives slots v hand spent made → Moment gives (seating v)
+      → IsSitting gives slots (seating v) hand spent (made + 1)
+  sits_seating v hand spent made sits moment = record {
+    seated = sits.seated;
+    alone = sits.alone;
+    unmarked = sits.unmarked;
+    spent_is = sits.spent_is;
+    made_is = ap (λ (n : ℕ). n + 1) sits.made_is;
+    hand_is = sits.hand_is;
+    within = sits.within;
+    history = moment;
   }

@@ -1,15 +1,15 @@
 -- What follows from a board's history, and what stays of it in each step.
-use Rattle.std.proofs.Common.{◌≡◌, ◌≢◌, ℕ, suc, ◌<◌, ◌≤◌, min, Bool, true, false, cond, List, [], ◌∷◌, ◌++◌, length, set, sym, refl, ap, ◌∙◌, subst, ⊎_elim, arith, length-set}
+use Rattle.std.proofs.Common.{◌≡◌, ◌≢◌, ℕ, zero, suc, ◌+◌, ◌<◌, ◌≤◌, min, Bool, true, false, cond, List, [], ◌∷◌, ◌++◌, length, set, sym, refl, ap, ◌∙◌, subst, ⊎_elim, arith, length-set}
 use mathlib.Core.Logic.{dite}
-use mathlib.Core.Option.{some}
+use mathlib.Core.Option.{some, some-injective}
 use mathlib.Core.List.{map-append}
 use native.Mathlib.Decide.{dec_le}
 use lib.ListN.{get_elem?}
 use Rattle.atomic_table.proofs.Lists.{at_set, at_map}
 use Rattle.apply_board.specs.declared.view.View.{View}
-use Rattle.apply_board.specs.Views.{numbers}
-use Rattle.apply_board.specs.Board.{total, times, Shared, drawn, claims_of, gifts_of, seats_of, IsSeat, BoardHistory}
-use Rattle.apply_board.proofs.Sums.{total-set, total_le_at, term_le, in_times, times-append}
+use Rattle.apply_board.specs.Views.{numbers, marks_of}
+use Rattle.apply_board.specs.Board.{total, times, Shared, drawn, claims_of, gifts_of, seats_of, OpenerIsFirst, IsSeat, BoardHistory}
+use Rattle.apply_board.proofs.Sums.{bit_le, total-set, total-both, total_le, total_le_at, term_le, in_times, times-append}
 
 pub numbers-append : {F : Type 0} (a b : List (ℕ × F)) → numbers (a ++ b) ≡ numbers a ++ numbers b
 numbers-append {F} a b = map-append (λ (g : ℕ × F). g.0) a b
@@ -53,6 +53,24 @@ module _ {W F : Type 0} (gives : W → F → Type 0) (works : List W) where
       (λ below. (omega arith, omega arith))
       (λ past. let z = r.unclaimed k (omega arith) in absurd (omega arith))
 
+  -- what is marked is a seat, or one that was taken in
+  marks_le : (s : S) → BoardHistory gives works s → (j : ℕ) (v : V) → get_elem? s.views j ≡ some v
+      → marks_of v ≤ v.gathered_marks + seats_of v
+  marks_le s r j v at = let by : (b : Bool) → v.seated ≡ b
+      → marks_of v ≤ v.gathered_marks + seats_of v = λ b. elim b as (λ c. v.seated ≡ c
+      → marks_of v ≤ v.gathered_marks + seats_of v) [
+        | true ↦ λ e. let one = ap (λ (c : Bool). cond {A = ℕ} c 1 0) e in let few = bit_le v.spent in omega arith
+        | false ↦ λ e. subst (λ (u : V). marks_of u ≤ u.gathered_marks + seats_of u) (sym (r.each_vacated j v at e))
+            (omega arith)
+      ] in by v.seated refl
+
+  pub marks_few : (s : S) → BoardHistory gives works s → total marks_of s.views ≤ 64
+  marks_few s r = let kept = r.gathered_marks_few in let few = r.seats_at_most_64 in omega (
+    arith,
+    total_le marks_of (λ v. v.gathered_marks + seats_of v) s.views (marks_le s r),
+    total-both (λ v. v.gathered_marks) seats_of s.views,
+  )
+
   -- a number that the seat v claimed and didn't give was given by nobody
   pub none_given : (s : S) → BoardHistory gives works s → (j : ℕ) (v : V) → get_elem? s.views j ≡ some v → (k : ℕ)
       → 1 ≤ claims_of k v → gifts_of k v ≡ 0 → total (gifts_of k) s.views ≡ 0
@@ -79,6 +97,28 @@ module _ {W F : Type 0} (gives : W → F → Type 0) (works : List W) where
   seats_stay K vs me w mine others j d e = ⊎_elim (λ (t : (j ≡ me) × (w ≡ d)). subst (λ (x : ℕ × V). K x.0 x.1)
       (λ i. (sym t.0 i, t.1 i)) mine)
       (λ (t : (j ≢ me) × (get_elem? vs j ≡ some d)). others j d t.0 t.1) (at_set vs me j w d e)
+
+  -- a step of one seat leaves the opener's the first
+  pub opener_stays : (vs : List V) (id : ℕ) (v w : V) → get_elem? vs id ≡ some v → (0 < v.made → 0 < w.made)
+      → w.seated ≡ true → OpenerIsFirst vs → OpenerIsFirst (set vs id w)
+  opener_stays [] id v w at made seated first = first
+  opener_stays (x ∷ xs) zero v w at made seated first = (
+    made (subst (λ (u : V). 0 < u.made) (some-injective x v at)
+        first.0),
+    seated,
+  )
+  opener_stays (x ∷ xs) (suc id) v w at made seated first = first
+
+  -- and so does what happens to another
+  pub opener_beside : (vs : List V) (other : ℕ) (w : V) → other ≢ 0 → OpenerIsFirst vs
+      → OpenerIsFirst (set vs other w)
+  opener_beside [] other w apart first = first
+  opener_beside (x ∷ xs) zero w apart first = absurd (apart refl)
+  opener_beside (x ∷ xs) (suc other) w apart first = first
+
+  pub opener_ahead : (vs more : List V) → OpenerIsFirst vs → OpenerIsFirst (vs ++ more)
+  opener_ahead [] more first = absurd first
+  opener_ahead (x ∷ xs) more first = first
 
   abbrev pub Counts : List V → ℕ → V → Type 0
   Counts vs j v = 0 < v.made → (j ≡ 0) × (v.made ≡ length vs) × (v.unjoined ≡ total seats_of vs)

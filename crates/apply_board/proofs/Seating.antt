@@ -1,14 +1,16 @@
 -- A new seat, and one that is taken in, keep the board's history.
-use Rattle.std.proofs.Common.{◌≡◌, ◌≢◌, ◌⊎◌, ℕ, ◌+◌, ◌<◌, ◌≤◌, Bool, true, false, cond, ◌||◌, List, [], ◌∷◌, ◌++◌, length, set, sym, refl, ap, ◌∙◌, subst, ⊎_elim, inl, inr, arith, length-set, true≢false}
+use Rattle.std.proofs.Common.{◌≡◌, ◌≢◌, ◌⊎◌, ℕ, ◌+◌, ◌<◌, ◌≤◌, Bool, true, false, cond, List, [], ◌∷◌, ◌++◌, length, set, sym, refl, ap, ◌∙◌, subst, ⊎_elim, inl, inr, arith, length-set, true≢false}
+use mathlib.Core.Logic.{dite}
 use mathlib.Core.Option.{some, some-ne-none}
+use native.Mathlib.Decide.{dec_le}
 use lib.ListN.{get_elem?}
 use Rattle.atomic_table.specs.Table.{Splits, Joins}
-use Rattle.atomic_table.proofs.Lists.{at_set, set_else, at_snoc}
+use Rattle.atomic_table.proofs.Lists.{at_set, set_here, set_else, at_snoc}
 use Rattle.apply_board.specs.declared.view.View.{View}
-use Rattle.apply_board.specs.Views.{numbers, newcomer, seating, joined, vacated}
-use Rattle.apply_board.specs.Board.{total, times, Shared, claims_of, gifts_of, seats_of, marks_of, IsSeat, BoardHistory}
-use Rattle.apply_board.proofs.Sums.{bit_le, or_ge, or_cases, total-append, total-set, times-append, at_either, at_behind, at_front}
-use Rattle.apply_board.proofs.Histories.{numbers-append, seats_stay, Counts}
+use Rattle.apply_board.specs.Views.{numbers, newcomer, seating, marks_of, joined, vacated}
+use Rattle.apply_board.specs.Board.{total, times, Shared, claims_of, gifts_of, seats_of, IsSeat, BoardHistory, Moment}
+use Rattle.apply_board.proofs.Sums.{bit_le, total-append, total-set, times-append, at_either, at_behind, at_front, at_last, at_inside}
+use Rattle.apply_board.proofs.Histories.{numbers-append, seats_stay, opener_stays, opener_beside, opener_ahead, Counts}
 
 module _ {W F : Type 0} (gives : W → F → Type 0) (works : List W) where
   abbrev V : Type 0
@@ -42,7 +44,7 @@ module _ {W F : Type 0} (gives : W → F → Type 0) (works : List W) where
     given_is = inl refl;
     home = λ i k f a. absurd (some-ne-none (k, f) (sym a));
     fits = λ i k f w a. absurd (some-ne-none (k, f) (sym a));
-    spent_late = λ l. absurd (true≢false (sym l));
+    spent_late = λ l. absurd (omega arith);
   }
 
   pub splits : (id : ℕ) (v : View W F) → 0 < v.made → v.made < 64 → v.seated ≡ true
@@ -74,7 +76,14 @@ module _ {W F : Type 0} (gives : W → F → Type 0) (works : List W) where
         words = λ k i. r.words k i ∙ sym (gifts k);
         waits = r.waits;
         marks = let b = r.marks in omega arith;
+        gathered_marks_few = let m = r.gathered_marks_few in omega (
+          arith,
+          total-append (λ u. u.gathered_marks) vs (u' ∷ []),
+          total-set (λ u. u.gathered_marks) s.views id v v' at,
+        );
         seats_at_most_64 = let m = c.1 in omega arith;
+        opener_is_first = opener_ahead gives works vs (u' ∷ [])
+            (opener_stays gives works s.views id v v' at (λ p. omega arith) seated r.opener_is_first);
         opener_counts = λ j d e. ⊎_elim
             (λ e'. seats_stay gives works (Counts gives works s'.views) s.views id v' (λ _. let m = c.1 in
             let o = c.2 in (first, omega arith, omega arith))
@@ -148,13 +157,8 @@ module _ {W F : Type 0} (gives : W → F → Type 0) (works : List W) where
         total-set (gifts_of k) vs other w vacated at',
         total-set (gifts_of k) s.views id v b at,
       ) in
-      let marks : total marks_of s.views ≤ total marks_of s'.views = omega (
-        arith,
-        total-set marks_of vs other w vacated at',
-        total-set marks_of s.views id v b at,
-        or_ge v.spent w.spent,
-        bit_le w.spent,
-      ) in
+      let marks : total marks_of s'.views ≡ total marks_of s.views = omega
+      (arith, total-set marks_of vs other w vacated at', total-set marks_of s.views id v b at) in
       let two : (K : ℕ → V → Type 0) → K other vacated → K id b
       → ((j : ℕ) (d : V) → j ≢ id → j ≢ other → get_elem? s.views j ≡ some d → K j d) → (j : ℕ) (d : V)
       → get_elem? s'.views j ≡ some d → K j d =
@@ -171,7 +175,15 @@ module _ {W F : Type 0} (gives : W → F → Type 0) (works : List W) where
         words = λ k i. r.words k i ∙ sym (gifts k);
         waits = r.waits;
         marks = let x = r.marks in omega arith;
+        gathered_marks_few = let m = r.gathered_marks_few in omega (
+          arith,
+          total-set (λ u. u.gathered_marks) vs other w vacated at',
+          total-set (λ u. u.gathered_marks) s.views id v b at,
+          bit_le w.spent,
+        );
         seats_at_most_64 = let f = r.seats_at_most_64 in omega arith;
+        opener_is_first = opener_beside gives works vs other vacated (λ e. apart (e ∙ sym first))
+            (opener_stays gives works s.views id v b at (λ p. p) seated r.opener_is_first);
         opener_counts = two (Counts gives works s'.views) (λ p. absurd (omega arith)) (λ _. let m = c.1 in
             let o = c.2 in (first, omega arith, omega arith))
             (λ j d n _ a p. absurd (n ((r.opener_counts j d a p).0 ∙ sym first)));
@@ -182,8 +194,31 @@ module _ {W F : Type 0} (gives : W → F → Type 0) (works : List W) where
               given_is = ov.given_is;
               home = λ i k f e. either_gave v w i k f e (λ j. ov.home j k f) (λ j. ow.home j k f);
               fits = λ i k f u e. either_gave v w i k f e (λ j. ov.fits j k f u) (λ j. ow.fits j k f u);
-              spent_late = λ e. ⊎_elim ov.spent_late ow.spent_late (or_cases v.spent w.spent e);
+              spent_late = λ e. dite (dec_le 1 (marks_of v)) ov.spent_late (λ n. ow.spent_late (omega arith));
             }) (λ j d _ _ a e. same_slots s s' d refl refl (r.each_seat j d a e));
         each_vacated = two (λ _ z. z.seated ≡ false → z ≡ vacated) (λ _. refl)
             (λ e. absurd (true≢false (sym seated ∙ e))) (λ j d _ _ a e. r.each_vacated j d a e);
       }
+
+-- the opener's seat, which had the view v at a moment, has made another, and each has its view at a moment
+pub make_moment : {W F : Type 0} (gives : W → F → Type 0) (v : View W F) → 0 < v.made → v.made < 64 → v.seated ≡ true
+    → Moment gives v → Moment gives (seating v) × Moment gives (newcomer v)
+make_moment {W} {F} gives v opens room seated moment =
+    let vs : List (View W F) = set moment.board.views moment.seat (seating v) in
+    let s' : Shared W F = record {
+      words = moment.board.words;
+      homes = moment.board.homes;
+      views = vs ++ newcomer v ∷ [];
+    } in
+    let kept : BoardHistory gives v.works s' = splits gives v.works moment.seat v opens room seated moment.board
+    moment.history moment.has in
+    let here = at_inside moment.board.views moment.seat v moment.has in (
+      record {
+        board = s';
+        history = kept;
+        seat = moment.seat;
+        has = at_front vs (newcomer v ∷ []) (seating v) moment.seat
+            (set_here moment.board.views moment.seat (seating v) here);
+      },
+      record { board = s'; history = kept; seat = length vs; has = at_last vs (newcomer v) },
+    )

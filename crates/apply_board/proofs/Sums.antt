@@ -1,5 +1,5 @@
 -- Sums over lists that change at one place, and how often a number stands in a list.
-use Rattle.std.proofs.Common.{◌≡◌, ℕ, zero, suc, ◌+◌, ◌<◌, ◌≤◌, ◌≢◌, ◌⊎◌, List, [], ◌∷◌, ◌++◌, map, length, set, get_or, sym, refl, ap, inl, inr, ⊎_elim, arith, cond, eqb, eq-eqb, ne_eqb, Bool, true, false, ◌||◌}
+use Rattle.std.proofs.Common.{◌≡◌, ℕ, zero, suc, ◌+◌, ◌<◌, ◌≤◌, ◌≢◌, ◌⊎◌, List, [], ◌∷◌, ◌++◌, map, length, set, get_or, sym, refl, ap, inl, inr, ⊎_elim, arith, cond, eqb, eq-eqb, ne_eqb, Bool, true, false}
 use mathlib.Core.Logic.{dite}
 use native.Mathlib.Decide.{ℕ_discrete}
 use mathlib.Core.Option.{some, some-injective, some-ne-none}
@@ -10,14 +10,6 @@ use Rattle.apply_board.specs.Board.{total, times}
 pub bit_le : (b : Bool) → cond b 1 0 ≤ 1
 bit_le true = omega arith
 bit_le false = omega arith
-
-pub or_ge : (a b : Bool) → cond {A = ℕ} a 1 0 ≤ cond {A = ℕ} (a || b) 1 0
-or_ge true b = omega arith
-or_ge false b = omega arith
-
-pub or_cases : (a b : Bool) → a || b ≡ true → (a ≡ true) ⊎ (b ≡ true)
-or_cases true b e = inl refl
-or_cases false b e = inr e
 
 pub bit_zero : (b : Bool) → cond {A = ℕ} b 1 0 ≡ 0 → b ≡ false
 bit_zero true e = absurd (omega arith)
@@ -68,6 +60,10 @@ module _ {A : Type 0} where
         omega (arith, z 0 x refl a, total_only h xs j v (λ j. z (suc j)) e (omega arith))
 
 module _ {A : Type 0} (g h : A → ℕ) where
+  pub total-both : (l : List A) → total (λ x. g x + h x) l ≡ total g l + total h l
+  total-both [] = refl
+  total-both (x ∷ xs) = omega (arith, total-both xs)
+
   -- where g is at most h everywhere
   pub total_le : (l : List A) → ((i : ℕ) (x : A) → get_elem? l i ≡ some x → g x ≤ h x) → total g l ≤ total h l
   total_le [] below = omega arith
@@ -139,6 +135,10 @@ pub at_front : {A : Type 0} (a b : List A) (y : A) (j : ℕ) → get_elem? a j �
 at_front [] b y j e = absurd (some-ne-none y (sym e))
 at_front (z ∷ zs) b y zero e = e
 at_front (z ∷ zs) b y (suc j) e = at_front zs b y j e
+
+pub at_last : {A : Type 0} (l : List A) (x : A) → get_elem? (l ++ x ∷ []) (length l) ≡ some x
+at_last [] x = refl
+at_last (y ∷ ys) x = at_last ys x
 
 pub at_inside : {A : Type 0} (l : List A) (i : ℕ) (a : A) → get_elem? l i ≡ some a → i < length l
 at_inside [] i a e = absurd (some-ne-none a (sym e))

@@ -7,7 +7,7 @@ use Rattle.atomic_table.specs.Table.{State}
 use Rattle.apply_board.specs.declared.view.View.{View}
 use Rattle.apply_board.specs.declared.group.Group.{Group}
 use Rattle.apply_board.specs.declared.group.Group.TheVariants.{Home, Unclaimed}
-use Rattle.apply_board.specs.Views.{numbers, vacated}
+use Rattle.apply_board.specs.Views.{numbers, marks_of, vacated}
 
 -- the sum of a number of each
 abbrev pub total : {A : Type 0} → (A → ℕ) → List A → ℕ
@@ -46,8 +46,10 @@ module _ {W F : Type 0} where
   abbrev pub seats_of : View W F → ℕ
   seats_of v = cond v.seated 1 0
 
-  abbrev pub marks_of : View W F → ℕ
-  marks_of v = cond v.spent 1 0
+  -- the first of these seats is the opener's, and was not taken in
+  abbrev pub OpenerIsFirst : List (View W F) → Type 0
+  OpenerIsFirst [] = ⊥
+  OpenerIsFirst (v ∷ vs) = (0 < v.made) × (v.seated ≡ true)
 
 -- what holds of the view v of a seat that was not taken in
 pub record IsSeat {W F : Type 0} (gives : W → F → Type 0) (works : List W) (board : Shared W F)
@@ -64,8 +66,8 @@ pub record IsSeat {W F : Type 0} (gives : W → F → Type 0) (works : List W) (
   -- each result is of its work
   pub fits : (i k : ℕ) (finished : F) (w : W) → get_elem? (v.given ++ v.gathered) i ≡ some (k, finished)
       → get_elem? works k ≡ some w → gives w finished
-  -- it is spent only where every number was drawn
-  pub spent_late : v.spent ≡ true → length works ≤ drawn board
+  -- it, or one that it took in, is spent only where every number was drawn
+  pub spent_late : 0 < marks_of v → length works ≤ drawn board
 
 -- what holds of a board with these works
 pub record BoardHistory {W F : Type 0} (gives : W → F → Type 0) (works : List W) (board : Shared W F) : Type 0 where
@@ -80,10 +82,13 @@ pub record BoardHistory {W F : Type 0} (gives : W → F → Type 0) (works : Lis
   pub words : (k : ℕ) → k < length works → word_of board k ≡ total (gifts_of k) board.views
   -- the slot of a number that isn't claimed holds its work as it was opened
   pub waits : (k : ℕ) (w : W) → drawn board ≤ k → get_elem? works k ≡ some w → LiesIn board k (Unclaimed w)
-  -- each draw past the last number has marked a seat as spent, so word 0 never wraps
-  pub marks : drawn board ≤ length works + total marks_of board.views
+  -- word 0 counts the numbers that were claimed and the seats that were marked as spent, and nothing else
+  pub marks : drawn board ≡ min (drawn board) (length works) + total marks_of board.views
+  -- no more marks were taken in than seats were, so word 0 never wraps
+  pub gathered_marks_few : total (λ v. v.gathered_marks) board.views + total seats_of board.views ≤ length board.views
   pub seats_at_most_64 : length board.views ≤ 64
-  -- the opener's seat is the first; it counts the seats made, and those of them not taken in
+  -- the opener's seat is the first; it alone counts the seats made, and those of them not taken in
+  pub opener_is_first : OpenerIsFirst board.views
   pub opener_counts : (j : ℕ) (v : View W F) → get_elem? board.views j ≡ some v → 0 < v.made
       → (j ≡ 0) × (v.made ≡ length board.views) × (v.unjoined ≡ total seats_of board.views)
   pub each_seat : (j : ℕ) (v : View W F) → get_elem? board.views j ≡ some v → v.seated ≡ true

@@ -1,5 +1,5 @@
 -- What a seat knows, and how that changes.
-use Rattle.std.specs.Prelude.{ℕ, ◌+◌, ◌-◌, true, false, ◌||◌, List, [], ◌∷◌, ◌++◌, map}
+use Rattle.std.specs.Prelude.{ℕ, ◌+◌, ◌-◌, true, false, cond, List, [], ◌∷◌, ◌++◌, map}
 use Rattle.apply_board.specs.declared.view.View.{View}
 
 -- the numbers under which these results were given
@@ -16,6 +16,7 @@ module _ {W F : Type 0} where
     given = [];
     gathered = [];
     spent = false;
+    gathered_marks = 0;
     seated = true;
     made = 1;
     unjoined = 1;
@@ -30,6 +31,7 @@ module _ {W F : Type 0} where
     given = [];
     gathered = [];
     spent = false;
+    gathered_marks = 0;
     seated = true;
     made = 0;
     unjoined = 0;
@@ -51,11 +53,15 @@ module _ {W F : Type 0} where
   abbrev pub giving : View W F → ℕ → F → View W F
   giving v k finished = record v { given = v.given ++ (k, finished) ∷ [] }
 
-  -- the opener's seat v has taken in the seat w
+  -- how many of this seat and those that it took in were marked as spent
+  abbrev pub marks_of : View W F → ℕ
+  marks_of v = cond v.spent 1 0 + v.gathered_marks
+
+  -- the opener's seat v has taken in the seat w, whose results and mark it keeps apart from its own
   abbrev pub joined : View W F → View W F → View W F
   joined v w = record v {
     gathered = v.gathered ++ (w.given ++ w.gathered);
-    spent = v.spent || w.spent;
+    gathered_marks = v.gathered_marks + marks_of w;
     unjoined = v.unjoined - 1;
   }
 
@@ -67,7 +73,8 @@ module _ {W F : Type 0} where
     claimed = [];
     given = [];
     gathered = [];
-    spent = true;
+    spent = false;
+    gathered_marks = 0;
     seated = false;
     made = 0;
     unjoined = 0;

@@ -31,7 +31,7 @@ impl<W: Yields<F> + Drop, F: Drop> Board<W, F> {
         ensures work { IfSome result (λ c. get_elem? seat.old.view.works c.0.number ≡ some c.1) }
         ensures none { IfNone result (seat.new.view ≡ ending seat.old.view) }
         ensures spent { seat.old.view.spent ≡ true → IsNone result }
-        ensures history { seat.old.view.spent ≡ false → Moment W.gives seat.new.view }
+        ensures history { Moment W.gives seat.new.view }
     {
         if seat.spent {
             return None;
@@ -76,6 +76,8 @@ impl<W: Yields<F> + Drop, F: Drop> Board<W, F> {
         ensures counted { IfSome result (λ _. opener.new.view ≡ seating opener.old.view) }
         ensures none { IfNone result (opener.new.view ≡ opener.old.view) }
         ensures full { IsNone result ↔ (64 ≤ opener.old.view.made) }
+        ensures history { IfSome result (λ s. Moment W.gives s.view) }
+        ensures opener_history { Moment W.gives opener.new.view }
     {
         if opener.made >= MOST_SEATS {
             return None;

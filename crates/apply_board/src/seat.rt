@@ -32,7 +32,7 @@ impl<W: Yields<F>, F> Model for Board<W, F> {
 
 /// A worker's place at a board. It is seen as which board that is, and what the seat knows.
 #[derive(Drop)]
-pub struct Seat<W, F> {
+pub struct Seat<W: Yields<F>, F> {
     pub(crate) place: atomic_table::Seat<Option<Group<W, F>>, View<W, F>>,
     // The seat found every number claimed.
     pub(crate) spent: bool,
@@ -40,7 +40,7 @@ pub struct Seat<W, F> {
     pub(crate) made: u64,
 }
 
-impl<W, F> Model for Seat<W, F> {
+impl<W: Yields<F>, F> Model for Seat<W, F> {
     ghost use Rattle.apply_board.specs.Sitting.{Sitting};
     ghost use Rattle.apply_board.specs.Inner.Fields.{IsSitting};
 
@@ -48,5 +48,5 @@ impl<W, F> Model for Seat<W, F> {
 
     ghost view = { λ s. record { board = s.place.table_id; view = s.place.me.0 } };
 
-    ghost invariant = { λ s. IsSitting s.place.table_id.slots s.place.me.0 s.place.me.1 s.spent s.made };
+    ghost invariant = { λ s. IsSitting W.gives s.place.table_id.slots s.place.me.0 s.place.me.1 s.spent s.made };
 }

@@ -16,8 +16,10 @@ pub struct View<W, F> {
     pub ghost given: { List (ℕ × F) } by { coded_list (coded× coded_ℕ F.code) },
     // What the seats that were taken into this one gave.
     pub ghost gathered: { List (ℕ × F) } by { coded_list (coded× coded_ℕ F.code) },
-    // This seat, or one that was taken in, found every number claimed.
+    // The seat found every number claimed.
     pub ghost spent: { Bool },
+    // How many of the seats that were taken into this one had found so.
+    pub ghost gathered_marks: { ℕ },
     // The seat was not taken into another.
     pub ghost seated: { Bool },
     // Of the opener's seat: how many seats were made, itself among them. Of others 0.

@@ -15,7 +15,7 @@ use values::NoMemory;
 
 // A worker with its number.
 #[derive(Drop)]
-struct Worker<W, F> {
+struct Worker<W: Yields<F>, F> {
     number: usize,
     seat: Seat<W, F>,
 }

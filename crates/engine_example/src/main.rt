@@ -8,7 +8,7 @@
 #![tactic(auto)]
 
 use anyhow::Result;
-use observer_core::{Config, Engine, Event, Output};
+use observer_core::{Config, Engine, Event, Output, default_limits};
 use std::alloc::Global;
 use std::process::ExitCode;
 use values::{Blob, Bytes};
@@ -25,11 +25,11 @@ fn get_data() -> &'static [u8] {
     b"\0\0\0\x0f\0\0\0\x01\0\0\0\x04\0\0\0\x02/a\0"
 }
 
-// An observer with server id 3, epochs 0, timeouts of 4 to 40 seconds and no secret. It follows a leader, and
-// connection 1 is open.
+// An observer with server id 3, epochs 0, timeouts of 4 to 40 seconds and no secret, and with the usual limits. It
+// follows a leader, and connection 1 is open.
 fn started(alloc: Global) -> Result<Engine> {
     let secret = Blob::new(alloc, &[])?;
-    let config = Config::new(3, 0, 0, 4000, 40_000, secret)?;
+    let config = Config::new(3, 0, 0, 4000, 40_000, secret, default_limits())?;
     Ok(Engine::primed(alloc, config)?)
 }
 

@@ -29,8 +29,8 @@ Stands (phase.Image zxid) log = pos 0 ≤ℤ zxid
 Stands (phase.ReplayOnImage applied) log = applied ≡ zxid_after (pos 0) log
 Stands phase log = Unit {0}
 
--- The zxids of the log rise, from above 0; behind an image the first ones may be below the base's. The last zxid is the
--- greatest so far: the base's or that of the log's last transaction.
+-- The zxids of the log rise, from above 0; after an image the first ones may be below the base's. The last zxid is the
+-- greater of the base's and that of the log's last transaction.
 pub record FollowsItsLog (l : Learner) : Type 0 where
   pub rising : Rises (pos 0) l.log
   pub last : l.last_zxid ≡ int_max l.base_zxid (zxid_after (pos 0) l.log)

@@ -130,7 +130,7 @@ abbrev pub phase_behind : Phase → ℤ → Phase
 phase_behind (phase.ReplayOnImage applied) zxid = phase.ReplayOnImage zxid
 phase_behind phase zxid = phase
 
--- the last zxid is the greatest so far
+-- a transaction with this zxid was applied: it is the last zxid, unless that is greater
 abbrev pub passed : Learner → ℤ → Learner
 passed l zxid = record l { phase = phase_behind l.phase zxid; last_zxid = int_max l.last_zxid zxid }
 

@@ -11,8 +11,8 @@ pub fn records()
     ensures { Sound learner_info }
 {}
 
-/// The zxids of the log rise, and the last zxid is the greatest so far: at the start, and whatever is learnt. So what a
-/// TRUNC keeps is a front of the log.
+/// The zxids of the log rise, and the last zxid is the greater of the base's and that of the log's last transaction: at
+/// the start, and whatever is learnt. So what a TRUNC keeps is a front of the log.
 pub fn logs()
     ensures followed { LogsAreFollowed }
     ensures fronts { TruncatesToFronts }

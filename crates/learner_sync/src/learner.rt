@@ -148,7 +148,7 @@ impl Learner {
         (self.accepted_epoch, self.current_epoch)
     }
 
-    /// The greatest zxid so far.
+    /// The last zxid: the greater of the base's and that of the log's last transaction.
     pub fn last_zxid(&self) -> i64
         ensures { result ≡ self.now.last_zxid }
     {

@@ -4,7 +4,7 @@ ghost use Rattle.txn_codec.specs.Spelling.{body as body_format};
 
 use crate::messages::{child_path, create, parent_path, write_connect, write_inform};
 use anyhow::{Context, Result, ensure};
-use observer_core::{Config, Engine, Event, Output};
+use observer_core::{Config, Engine, Event, Output, default_limits};
 use std::alloc::Global;
 use txn_codec::{Body, Txn, TxnHeader};
 use values::{Blob, Bytes};
@@ -45,7 +45,7 @@ impl Load {
     /// An engine that follows a leader and has one client's connection.
     pub fn new(alloc: Global) -> Result<Load> {
         let secret = Blob::from_vec(Vec::new(alloc));
-        let config = Config::new(1, 0, 0, 4000, 40_000, secret)?;
+        let config = Config::new(1, 0, 0, 4000, 40_000, secret, default_limits())?;
         let engine = Engine::primed(alloc, config)?;
         Ok(Load {
             engine,

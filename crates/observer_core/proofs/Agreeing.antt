@@ -37,14 +37,16 @@ use Rattle.read_processor.specs.Look.{look, without_body}
 use Rattle.read_processor.specs.Watch.{watch_of}
 use Rattle.read_processor.specs.Renewal.{renew}
 use Rattle.read_processor.specs.Reply.{reply}
-use Rattle.observer_core.specs.declared.config.Config.{Config}
+use Rattle.four_letter.specs.Texts.{text}
+use Rattle.four_letter.specs.declared.word.Word.{Word}
+use Rattle.observer_core.specs.declared.config.Settings.{Settings}
 use Rattle.observer_core.specs.declared.event.Event.{Event}
 use Rattle.observer_core.specs.declared.event.Event.TheVariants as event
 use Rattle.observer_core.specs.Machine.{Connection, Clients, World, Leader, Machine}
 use Rattle.observer_core.specs.Steps.{Happened, happening}
 use Rattle.observer_core.specs.Clients.{at_rest, is_open, with_connection, without, without_each}
 use Rattle.observer_core.specs.Leader.{Led, with_loading, tell, receive, Delivery, deliver_as, deliver, is_refused, deliver_all, end_at, by_parts, kept as kept_leader, meet_leader, disconnected, leave_leader, take_leader_bytes, end_as, end_leader}
-use Rattle.observer_core.specs.Serve.{close_client, send, send_last, watching, watched_if, watched_each, renewed, with_sessions, shown, ended, end_session, close_left, greet, connected, may_connect, join, call, serve_as, serve_by, serve, is_closed, keep, wait_if_open, frames, take_client_bytes}
+use Rattle.observer_core.specs.Serve.{close_client, send, send_last, watching, watched_if, watched_each, renewed, with_sessions, shown, ended, end_session, close_left, greet, connected, may_connect, join, call, serve_as, serve_by, serve, figures, word_at, is_closed, keep, wait_if_open, frames, tell_or_serve, take_client_bytes}
 use Rattle.observer_core.specs.Play.{serving, happen, no_clients, first_request, new_machine, primed_machine}
 use Rattle.observer_core.specs.Agreement.{ClientsAgree, OneSessionEach, ConnectionsAgree}
 use Rattle.observer_core.proofs.NatMaps.{get-inserted}
@@ -266,13 +268,24 @@ module _ (kept : AgreementIsKept) (told : OnlyWatchersAreTold) (dropped : Droppe
   client_agrees : (serving : Bool) (n : ℕ) (w : World) (o : Option Connection) (bytes : List ℕ) → Agreeing w
       → Agreeing (take_client_bytes serving n w o bytes).after
   client_agrees serving n w None bytes a = a
-  client_agrees serving n w (Some k) bytes a =
-      let v = keep n w k [] in
-      let found = items frames (place_at tt (k.rest ++ bytes)) in
-      let h = happening (is_closed n) (serve serving n) v found.found in
-      wait_agrees n h.after (finmap.get h.after.clients.connections n) found.left.unread
-      (happening_keeps Agreeing (is_closed n) (serve serving n) (serve_agrees serving n) v found.found
-      (opened_agrees n at_rest w.clients a))
+  client_agrees serving n w (Some k) bytes a = by (word_at n w came)
+    where
+      came : List ℕ
+      came = k.rest ++ bytes
+
+      v : World
+      v = keep n w k []
+
+      at_hand : Agreeing v
+      at_hand = opened_agrees n at_rest w.clients a
+
+      by : (o : Option Word) → Agreeing (tell_or_serve serving n v came o).after
+      by None =
+          let found = items frames (place_at tt came) in
+          let h = happening (is_closed n) (serve serving n) v found.found in
+          wait_agrees n h.after (finmap.get h.after.clients.connections n) found.left.unread
+          (happening_keeps Agreeing (is_closed n) (serve serving n) (serve_agrees serving n) v found.found at_hand)
+      by (Some word) = send_last_agrees n v (Some (text word (figures serving v))) at_hand
 
   -- ---- the leader's packets
 
@@ -340,22 +353,22 @@ module _ (kept : AgreementIsKept) (told : OnlyWatchersAreTold) (dropped : Droppe
 
   -- ---- the start
 
-  nobody_agrees : (config : Config) → IsTrue (is_server_id config.server_id) → ClientsAgree (no_clients config)
-  nobody_agrees config fits = record {
-    sessions = kept.starts (terms_of config.server_id config.timeouts config.secret) fits;
+  nobody_agrees : (settings : Settings) → IsTrue (is_server_id settings.server_id) → ClientsAgree (no_clients settings)
+  nobody_agrees settings fits = record {
+    sessions = kept.starts (terms_of settings.server_id settings.timeouts settings.secret) fits;
     joined = λ n has. absurd (true≢false (sym has ∙ ap is_some (finmap.get-empty nat_cmp n)));
     watching = (none, none);
   }
     where
-      none : AllPass (λ n. is_open n (no_clients config)) set.empty
+      none : AllPass (λ n. is_open n (no_clients settings)) set.empty
       none path n has = absurd (true≢false (sym has ∙ set.contains-empty watch_cmp (path, n)))
 
-  primed_agrees : (config : Config) → IsTrue (is_server_id config.server_id) → Agreeing (primed_machine config).world
-  primed_agrees config fits =
-      let w = (new_machine config).world in
+  primed_agrees : (settings : Settings) → IsTrue (is_server_id settings.server_id) → Agreeing (primed_machine settings).world
+  primed_agrees settings fits =
+      let w = (new_machine settings).world in
       let v : World = record w { clients = with_connection 1 at_rest w.clients } in
       let s = w.clients.sessions in
-      let a = opened_agrees 1 at_rest w.clients (nobody_agrees config fits) in
+      let a = opened_agrees 1 at_rest w.clients (nobody_agrees settings fits) in
       let here : IsOpen 1 v = ap is_some (get-inserted w.clients.connections 1 at_rest) in
       sessions_agree v (connect s 1 first_request).after
       (kept.connects s 1 first_request a.sessions (finmap.get-empty nat_cmp 1))

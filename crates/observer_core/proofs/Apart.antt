@@ -33,12 +33,14 @@ use Rattle.client_frames.specs.declared.call.CallBody.TheVariants as bodies
 use Rattle.client_frames.specs.declared.connecting.Connecting.{Connecting}
 use Rattle.client_frames.specs.Call.{call_in}
 use Rattle.client_frames.specs.Connect.{connecting_in, session_request, answer_to_connect}
+use Rattle.four_letter.specs.Texts.{text}
+use Rattle.four_letter.specs.declared.word.Word.{Word}
 use Rattle.observer_core.specs.declared.event.Output.{Output}
 use Rattle.observer_core.specs.declared.event.Output.TheVariants.{ToLeader, ToClient, CloseLeader, CloseClient}
 use Rattle.observer_core.specs.Machine.{Connection, Clients, World}
 use Rattle.observer_core.specs.Steps.{Happened, quiet, and_then, happening}
 use Rattle.observer_core.specs.Clients.{at_rest, is_open, with_connection, without, sent_to, notice, notices_to}
-use Rattle.observer_core.specs.Serve.{close_client, send, send_last, answer_last, watched, watched_each, watched_if, watching, renewed, with_sessions, shown, ended, end_session, close_left, greet, connected, may_connect, join, call, serve_as, serve_by, serve, is_closed, keep, wait_if_open, wait_at, frames, take_client_bytes, open_client, end_client}
+use Rattle.observer_core.specs.Serve.{close_client, send, send_last, answer_last, watched, watched_each, watched_if, watching, renewed, with_sessions, shown, ended, end_session, close_left, greet, connected, may_connect, join, call, serve_as, serve_by, serve, figures, word_at, is_closed, keep, wait_if_open, wait_at, frames, tell_or_serve, take_client_bytes, open_client, end_client}
 use Rattle.observer_core.specs.Apart.{IsOf, IsUntouched, IsTakenUp, IsApart}
 use Rattle.observer_core.proofs.NatMaps.{get-kept, get-beside}
 use Rattle.observer_core.proofs.Taking.{none_or_some, HasIfOpen, closed_has, call_in_has, wait_has, connected_joins}
@@ -496,20 +498,37 @@ module _ (stay : OthersStay) (keep_watches : OthersKeepWatches) (told : AnswersT
       → ((c : Connection) → o ≡ Some c → Agree (keep n w c []))
       → TakesUp n w (take_client_bytes serving n w o bytes)
   bytes_apart serving n w None bytes agree = stays_so (IsTakenUp n w.clients w.clients) n w
-  bytes_apart serving n w (Some c) bytes agree =
-      let v = keep n w c [] in
-      let found = items frames (place_at tt (c.rest ++ bytes)) in
-      let h = happening (is_closed n) (serve serving n) v found.found in
-      let there = finmap.get h.after.clients.connections n in
-      let after = (wait_if_open n h.after there found.left.unread).after.clients in
-      let taken = IsTakenUp n w.clients after in
-      let keeps : (session : ℤ) → HasIfOpen n session h.after.clients → HasIfOpen n session after =
-      λ session has. wait_has n session h.after there found.left.unread refl has in
-      then_apart taken n w (quiet v)
-      (λ u. and_then (happening (is_closed n) (serve serving n) u found.found) (wait_at n found.left.unread))
-      (changes taken n w v.clients (connection_alone n w at_rest))
-      (then_apart taken n v h (wait_at n found.left.unread)
-      (wider n (IsTakenUp n v.clients h.after.clients) taken v h
-      (λ k t. record { session = t.session; had = t.had; none = t.none; has = keeps t.session t.has })
-      (frames_apart serving n v found.found (agree c refl)))
-      (wait_apart taken stay keep_watches n h.after there found.left.unread))
+  bytes_apart serving n w (Some c) bytes agree = by (word_at n w came)
+    where
+      came : List ℕ
+      came = c.rest ++ bytes
+
+      v : World
+      v = keep n w c []
+
+      -- the bytes are taken to hand first
+      at_hand : (left : ℕ → Type 0) → IsApart n left w (quiet v)
+      at_hand left = changes left n w v.clients (connection_alone n w at_rest)
+
+      by : (o : Option Word) → TakesUp n w (tell_or_serve serving n v came o)
+      by None =
+          let found = items frames (place_at tt came) in
+          let h = happening (is_closed n) (serve serving n) v found.found in
+          let there = finmap.get h.after.clients.connections n in
+          let after = (wait_if_open n h.after there found.left.unread).after.clients in
+          let taken = IsTakenUp n w.clients after in
+          let keeps : (session : ℤ) → HasIfOpen n session h.after.clients → HasIfOpen n session after =
+          λ session has. wait_has n session h.after there found.left.unread refl has in
+          then_apart taken n w (quiet v)
+          (λ u. and_then (happening (is_closed n) (serve serving n) u found.found) (wait_at n found.left.unread))
+          (at_hand taken)
+          (then_apart taken n v h (wait_at n found.left.unread)
+          (wider n (IsTakenUp n v.clients h.after.clients) taken v h
+          (λ k t. record { session = t.session; had = t.had; none = t.none; has = keeps t.session t.has })
+          (frames_apart serving n v found.found (agree c refl)))
+          (wait_apart taken stay keep_watches n h.after there found.left.unread))
+      by (Some word) =
+          let frame = Some (text word (figures serving v)) in
+          let taken = IsTakenUp n w.clients (without n v.clients) in
+          then_apart taken n w (quiet v) (λ u. send_last n u frame) (at_hand taken)
+          (send_last_apart taken stay keep_watches n v frame)

@@ -7,12 +7,16 @@ pub mod Playing
 pub mod Keeping
 pub mod Unmoved
 pub mod Logs
+pub mod Refusals
 pub mod Simulation
 pub mod WholeImages
 pub mod Rows
+pub mod AllRows
 pub mod Closing
 pub mod Passing
 pub mod Agreeing
 pub mod Taking
+pub mod Words
+pub mod Joined
 pub mod Apart
 pub mod Served

@@ -53,7 +53,7 @@ module _ (law : ReplicasFollow) where
       (record { left = v; fault = None }) found.found f)
 
   meet_follows : (leader : Option Leader) (w : World) → Follows w → Follows (meet_leader by_parts leader w).after.world
-  meet_follows None w f = law.begins w.replica w.config.server_id f
+  meet_follows None w f = law.begins w.replica w.settings.server_id f
   meet_follows (Some l) w f = f
 
   end_follows : (leader : Option Leader) (w : World) → Follows w → Follows (end_leader by_parts leader w).after.world
@@ -80,8 +80,8 @@ module _ (law : ReplicasFollow) where
 
   pub logs_are_followed : LogsAreFollowed
   logs_are_followed = record {
-    starts = λ config. law.made config.epochs;
-    starts_primed = λ config. law.primed;
+    starts = λ settings. law.made settings.epochs;
+    starts_primed = λ settings. law.primed;
     plays = happening_keeps (λ (m : Machine). Follows m.world) (λ (m : Machine). false) happen
         (λ m e _. happen_follows m e);
   }

@@ -1,31 +1,38 @@
 -- Play of lists joined, and of bytes cut.
-use Rattle.std.proofs.Common.{◌≡◌, ℕ, Bool, true, false, cond, not, List, [], ◌∷◌, ◌++◌, Option, Some, None, Ok, Err, refl, sym, ap, ◌∙◌, append_assoc}
+use Rattle.std.proofs.Common.{◌≡◌, ◌⊎◌, inl, inr, ℕ, ◌<◌, ◌≤◌, Bool, true, false, cond, not, List, [], ◌∷◌, ◌++◌, length, take, Option, Some, None, Result, Ok, Err, refl, sym, ap, subst, ◌∙◌, append_assoc}
 use Rattle.std.specs.Prelude.{is_some}
 use Rattle.std.specs.Option.{unwrap_or}
 use Rattle.std.proofs.lemmas.List.{append-nil}
+use Rattle.std.proofs.lemmas.Bool.{cases_lt}
 use Rattle.std.specs.FinMap as finmap
 use Rattle.values.specs.declared.fault.Fault.{Fault}
+use Rattle.jute.specs.Frame.{frame}
 use Rattle.jute.specs.Stream.{Unread, Place, Items, items, add, place_at}
-use Rattle.jute.proofs.Public.{comes_in_pieces}
+use Rattle.jute.proofs.Public.{comes_in_pieces, items_whole, items_short, items_refused}
 use Rattle.quorum_packet.specs.declared.item.Item.{Item}
 use Rattle.quorum_packet.specs.declared.phase.Phase.{Phase}
 use Rattle.quorum_packet.specs.Items.{shows}
 use Rattle.quorum_packet.proofs.Streams.{shows_pieces}
+use Rattle.sessions.specs.Sessions.{session_of}
+use Rattle.four_letter.specs.Words.{word_of}
+use Rattle.four_letter.specs.declared.word.Word.{Word}
 use Rattle.observer_core.specs.declared.event.Event.{Event}
 use Rattle.observer_core.specs.declared.event.Event.TheVariants.{LeaderBytes, ClientBytes}
 use Rattle.observer_core.specs.declared.event.Output.{Output}
 use Rattle.observer_core.specs.declared.event.Output.TheVariants.{CloseClient}
 use Rattle.observer_core.specs.Machine.{Connection, Connections, World, Leader, Machine}
 use Rattle.observer_core.specs.Steps.{Happened, behind, quiet, and_then, happening}
-use Rattle.observer_core.specs.Clients.{at_rest}
+use Rattle.observer_core.specs.Clients.{at_rest, is_open}
 use Rattle.observer_core.specs.Leader.{Led, receive, Delivery, deliver, is_refused, end_at, deliver_all, by_parts, kept, beside, leave_leader, take_leader_bytes}
-use Rattle.observer_core.specs.Serve.{close_client, serve, is_closed, keep, wait, wait_if_open, wait_at, frames, serve_all, take_client_bytes}
+use Rattle.observer_core.specs.Serve.{close_client, serve, tell_word, said, word_at, is_closed, keep, wait, wait_if_open, wait_at, client_frame_limit, frames, serve_all, tell_or_serve, take_client_bytes}
 use Rattle.observer_core.specs.Play.{serving, happen, play}
 use Rattle.observer_core.proofs.Closing.{serve_closes}
 use Rattle.observer_core.proofs.Steps.{behind_behind, passed_over, happening_on}
 use Rattle.observer_core.proofs.NatMaps.{get-inserted, get-removed, insert-insert, insert-same}
 use Rattle.observer_core.proofs.Streams.{frames_streamed}
 use Rattle.observer_core.proofs.Unmoved.{client_same}
+use Rattle.observer_core.proofs.Words.{same_front, still_says, has_said, still_waits, short_frame}
+use Rattle.observer_core.proofs.Joined.{frames_one}
 use Rattle.replica.specs.Replica.{Replica}
 use Rattle.replica.specs.Taking.{is_serving}
 
@@ -142,54 +149,121 @@ module _ (serving : Bool) (n : ℕ) where
       (insert-insert w.clients.connections n at_rest (record { rest = rest })
       ∙ insert-same w.clients.connections n at_rest there)
 
+  -- bytes that wait are taken up with those that come
+  taken_up : (w : World) (rest more : List ℕ) → finmap.get w.clients.connections n ≡ Some at_rest
+      → tell_or_serve serving n w (rest ++ more) (word_at n w (rest ++ more))
+      ≡ then_client (quiet (keep n w at_rest rest)) more
+  taken_up w rest more there =
+      sym (ap (λ (x : World). tell_or_serve serving n x (rest ++ more) (word_at n w (rest ++ more)))
+      (kept_again w rest there))
+      ∙ sym (ap (λ (o : Option Connection). take_client_bytes serving n (keep n w at_rest rest) o more)
+      (get-inserted w.clients.connections n (record { rest = rest })))
+
+  -- what waits of these bytes says no word with those that come
+  abbrev SaysNone : World → Unread → List ℕ → Type 0
+  SaysNone w unread more = (rest : List ℕ) → unread ≡ Ok rest → is_open n w.clients ≡ true
+      → word_at n w (rest ++ more) ≡ None
+
   waited_on : (w : World) (k : Connection) (unread : Unread) (more : List ℕ) → finmap.get w.clients.connections n
-      ≡ Some k → k ≡ at_rest →
+      ≡ Some k → k ≡ at_rest → SaysNone w unread more →
       let left : Place (Unit {0}) = record { phase = tt; unread = unread } in
       serve_all serving n w (items frames (add left more)) ≡ then_client (wait n w k unread) more
-  waited_on w k (Ok rest) more there fresh =
-      let kept = keep n w at_rest rest in
-      let found = items frames (place_at tt (rest ++ more)) in
-      sym (ap (λ (x : World). serve_all serving n x found) (kept_again w rest (there ∙ ap Some fresh)))
-      ∙ sym (ap (λ (o : Option Connection). take_client_bytes serving n kept o more)
-      (get-inserted w.clients.connections n (record { rest = rest })))
+  waited_on w k (Ok rest) more there fresh says =
+      sym (ap (tell_or_serve serving n w (rest ++ more)) (says rest refl (ap is_some there)))
+      ∙ taken_up w rest more (there ∙ ap Some fresh)
       ∙ sym (ap (λ (c : Connection). then_client (wait n w c (Ok rest)) more) fresh)
-  waited_on w k (Err e) more there fresh =
+  waited_on w k (Err e) more there fresh says =
       ap (λ (o : Option Connection). wait_if_open n w o (Err e)) there
       ∙ sym (ap (λ (o : Option Connection). behind (CloseClient n ∷ [])
       (take_client_bytes serving n (close_client n w).after o more)) (get-removed w.clients.connections n))
 
   served_on : (w : World) (o : Option Connection) (left : Place (Unit {0})) (more : List ℕ)
-      → finmap.get w.clients.connections n ≡ o → IsTaken n w
+      → finmap.get w.clients.connections n ≡ o → IsTaken n w → SaysNone w left.unread more
       → serve_all serving n w (items frames (add left more)) ≡ then_client (wait_if_open n w o left.unread) more
-  served_on w None left more there t =
+  served_on w None left more there t says =
       let j = items frames (add left more) in
       ap (λ (h : Happened World). left_at h j.left.unread)
       (passed_over (is_closed n) (serve serving n) w j.found (ap (λ (x : Option Connection). not (is_some x)) there))
       ∙ ap (λ (x : Option Connection). wait_if_open n w x j.left.unread) there
       ∙ sym (ap (λ (x : Option Connection). take_client_bytes serving n w x more) there)
-  served_on w (Some k) left more there t = waited_on w k left.unread more there (t k there)
+  served_on w (Some k) left more there t says = waited_on w k left.unread more there (t k there) says
+
+  -- ---- frames, of which the first piece has all, or a front
+
+  module _ (w : World) (a b : List ℕ) (there : finmap.get w.clients.connections n ≡ Some at_rest) where
+    abbrev i : Items (Unit {0}) (List ℕ)
+    i = items frames (place_at tt a)
+
+    -- where a frame was found, its client has a session then, or is closed
+    abbrev AllSayNone : Items (Unit {0}) (List ℕ) → Type 0
+    AllSayNone found = SaysNone (happening (is_closed n) (serve serving n) w found.found).after found.left.unread b
+
+    all_say_none : word_at n w (a ++ b) ≡ None → (r : Result (List ℕ × List ℕ) Fault)
+        → (frame client_frame_limit).read a ≡ r → AllSayNone i
+    all_say_none none (Ok f) read =
+        let others = items frames (place_at tt f.1) in
+        let v = (happening (is_closed n) (serve serving n) w (f.0 ∷ others.found)).after in
+        subst AllSayNone (sym (items_whole frames frames_streamed tt a f.1 f.0 read))
+        (λ rest is here. has_said (session_of v.clients.sessions n) (word_of (take 4 (rest ++ b)))
+        (frames_one serving n w f.0 others.found here))
+    all_say_none none (Err e) read =
+        subst AllSayNone (sym (items_refused frames frames_streamed tt a e read))
+        (λ rest is here. ap (λ (x : List ℕ). word_at n w (x ++ b)) (sym (still_waits e a rest is)) ∙ none)
+
+    -- a word that isn't said in the first piece isn't said at all
+    both_served : word_at n w (a ++ b) ≡ None → serve_all serving n w (items frames (place_at tt (a ++ b)))
+        ≡ then_client (serve_all serving n w i) b
+    both_served none =
+        let j = items frames (add i.left b) in
+        let h = happening (is_closed n) (serve serving n) w i.found in
+        let g = happening (is_closed n) (serve serving n) h.after j.found in
+        let waits = wait_at n i.left.unread h.after in
+        let t : IsTaken n w = λ (c : Connection) is. some_is c at_rest (sym is ∙ there) in
+        ap (serve_all serving n w) (comes_in_pieces frames frames_streamed (place_at tt a) b)
+        ∙ ap (λ (x : Happened World). left_at x j.left.unread)
+        (happening_on (is_closed n) (serve serving n) w i.found j.found)
+        ∙ sym (behind_behind h.outputs g.outputs (wait_at n j.left.unread g.after))
+        ∙ ap (behind h.outputs) (served_on h.after (finmap.get h.after.clients.connections n) i.left b refl
+        (all_taken w i.found t) (all_say_none none ((frame client_frame_limit).read a) refl))
+        ∙ behind_behind h.outputs waits.outputs
+        (take_client_bytes serving n waits.after (finmap.get waits.after.clients.connections n) b)
+
+    -- fewer bytes than a length has all wait
+    all_wait : length a < 4 → serve_all serving n w i ≡ quiet (keep n w at_rest a)
+    all_wait short =
+        ap (serve_all serving n w) (items_short frames frames_streamed tt a (short_frame a short))
+        ∙ ap (λ (o : Option Connection). wait_if_open n w o (Ok a)) there
+
+    -- a word is answered, and what comes then is passed over
+    told_then : (word : Word) → tell_word serving n w word ≡ then_client (tell_word serving n w word) b
+    told_then word =
+        let h = tell_word serving n w word in
+        sym (ap (λ (o : Option Connection). behind h.outputs (take_client_bytes serving n h.after o b))
+        (get-removed w.clients.connections n))
+
+    said_or_served : (o : Option Word) → word_at n w a ≡ o → tell_or_serve serving n w (a ++ b) (word_at n w (a ++ b))
+        ≡ then_client (tell_or_serve serving n w a o) b
+    said_or_served (Some word) says =
+        ap (tell_or_serve serving n w (a ++ b)) (still_says (session_of w.clients.sessions n) word a b says)
+        ∙ told_then word
+    said_or_served None none = by (cases_lt (length a) 4)
+      where
+        by : (length a < 4) ⊎ (4 ≤ length a) → tell_or_serve serving n w (a ++ b) (word_at n w (a ++ b))
+            ≡ then_client (serve_all serving n w i) b
+        by (inl short) = taken_up w a b there ∙ sym (ap (λ (h : Happened World). then_client h b) (all_wait short))
+        by (inr enough) =
+            let none_yet = ap (said (session_of w.clients.sessions n)) (same_front a b enough) ∙ none in
+            ap (tell_or_serve serving n w (a ++ b)) none_yet ∙ both_served none_yet
 
   client_cut : (w : World) (o : Option Connection) (a b : List ℕ) → finmap.get w.clients.connections n ≡ o
       → take_client_bytes serving n w o (a ++ b) ≡ then_client (take_client_bytes serving n w o a) b
   client_cut w None a b there = sym (ap (λ (x : Option Connection). take_client_bytes serving n w x b) there)
   client_cut w (Some k) a b there =
-      let v = keep n w k [] in
-      let i = items frames (place_at tt (k.rest ++ a)) in
-      let j = items frames (add i.left b) in
-      let h = happening (is_closed n) (serve serving n) v i.found in
-      let g = happening (is_closed n) (serve serving n) h.after j.found in
-      let waits = wait_at n i.left.unread h.after in
-      let t : IsTaken n v = λ (c : Connection) is. some_is c at_rest
-      (sym is ∙ get-inserted w.clients.connections n at_rest) in
-      ap (λ (x : List ℕ). serve_all serving n v (items frames (place_at tt x))) (sym (append_assoc k.rest a b))
-      ∙ ap (serve_all serving n v) (comes_in_pieces frames frames_streamed (place_at tt (k.rest ++ a)) b)
-      ∙ ap (λ (x : Happened World). left_at x j.left.unread)
-      (happening_on (is_closed n) (serve serving n) v i.found j.found)
-      ∙ sym (behind_behind h.outputs g.outputs (wait_at n j.left.unread g.after))
-      ∙ ap (behind h.outputs) (served_on h.after (finmap.get h.after.clients.connections n) i.left b refl
-      (all_taken v i.found t))
-      ∙ behind_behind h.outputs waits.outputs
-      (take_client_bytes serving n waits.after (finmap.get waits.after.clients.connections n) b)
+      ap (λ (x : List ℕ). tell_or_serve serving n v x (word_at n v x)) (sym (append_assoc k.rest a b))
+      ∙ said_or_served v (k.rest ++ a) b (get-inserted w.clients.connections n at_rest) (word_at n v (k.rest ++ a)) refl
+    where
+      v : World
+      v = keep n w k []
 
 pub client_cut_anywhere : (m : Machine) (n : ℕ) (a b : List ℕ) (events : List Event)
     → play m (ClientBytes n (a ++ b) ∷ events) ≡ play m (ClientBytes n a ∷ ClientBytes n b ∷ events)

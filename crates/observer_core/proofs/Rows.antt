@@ -1,6 +1,6 @@
 -- The worked rows, step by step: what the bytes read as, the state behind each transaction, and the reply to each
 -- request.
-use Rattle.std.proofs.Common.{◌≡◌, ◌≤◌, ℕ, List, [], ◌∷◌, ◌++◌, length, map, not, Option, Some, None, Result, Ok, Bool, true, false, cond, refl, sym, ap, ◌∙◌, arith, rules}
+use Rattle.std.proofs.Common.{◌≡◌, ◌≤◌, ℕ, List, [], ◌∷◌, ◌++◌, length, map, take, not, Option, Some, None, Result, Ok, Bool, true, false, cond, refl, sym, ap, ◌∙◌, arith, rules}
 use Rattle.std.specs.Prelude.{ℤ, pos, negsuc, codes, is_some}
 use Rattle.std.specs.List.{AllByRecursion}
 use Rattle.std.specs.Cmp.{nat_cmp_total}
@@ -60,7 +60,7 @@ use Rattle.watch_manager.specs.Rows.{watches_on, WorkedRows as FiringRows}
 use Rattle.watch_manager.specs.Watches.{Fired, fire}
 use Rattle.watch_manager.specs.Laws.{AllPass, OnlyWatchersAreTold, SilenceKeepsWatches}
 use Rattle.read_processor.specs.Watch.{watch_of}
-use Rattle.observer_core.specs.declared.config.Config.{Config}
+use Rattle.observer_core.specs.declared.config.Settings.{Settings}
 use Rattle.client_frames.specs.declared.call.Call.{Call}
 use Rattle.client_frames.specs.declared.call.CallBody.TheVariants.{Read}
 use Rattle.read_processor.specs.declared.request.Request.TheVariants.{Exists, GetData}
@@ -73,7 +73,7 @@ use Rattle.read_processor.specs.Events.{of_event}
 use Rattle.read_processor.specs.Look.{look, without_body, look_at_node, shown_look, body_of as shown_body}
 use Rattle.read_processor.specs.Reply.{reply}
 use Rattle.values.specs.Hex.{spelled}
-use Rattle.observer_core.specs.Rows.{WorkedRows, inform_of_create, inform_of_set_data, get_front, get_back, reply_of_create, reply_of_set_data, exists_request, reply_of_missing, event_of_create, created, overwritten, asked, awaited}
+use Rattle.observer_core.specs.Rows.{inform_of_create, inform_of_set_data, get_front, get_back, reply_of_create, reply_of_set_data, exists_request, reply_of_missing, event_of_create, created, overwritten, asked, awaited}
 use Rattle.observer_core.specs.Machine.{Connection, Connections, Clients, World, Leader, Machine}
 use Rattle.client_frames.specs.Call.{call_in, call_behind, body_of, read_as, front_in}
 use Rattle.observer_core.specs.Steps.{Happened, behind, quiet, happening}
@@ -83,7 +83,8 @@ use Rattle.replica.specs.Taking.{unloaded, quiet as unled, with_learner, carry_o
 use Rattle.learner_sync.specs.Learn.{Learned, apply}
 use Rattle.learner_sync.specs.declared.phase.Phase.TheVariants.{Serving}
 use Rattle.observer_core.specs.Leader.{Led, with_loading, tell, receive, deliver_as, deliver, is_refused, by_parts, kept, leave_leader, end_at, beside, take_leader_bytes}
-use Rattle.observer_core.specs.Serve.{send, answer, watched_if, watching, serve_as, serve_by, serve, is_closed, wait_if_open, frames, serve_all, take_client_bytes}
+use Rattle.four_letter.specs.Words.{word_of}
+use Rattle.observer_core.specs.Serve.{send, answer, watched_if, watching, serve_as, serve_by, serve, said, is_closed, keep, wait_if_open, frames, serve_all, tell_or_serve, take_client_bytes}
 use Rattle.observer_core.specs.Play.{happen, play, first_client, new_machine, primed_machine}
 use Rattle.observer_core.proofs.NatMaps.{get-inserted, get-removed, insert-insert, entries-empty}
 
@@ -321,27 +322,27 @@ unwatched only silent triggers =
 abbrev pub ReadAgain : Type 0
 ReadAgain = (t : Txn) → txn.Fits t → whole txn (txn.written t) ≡ Ok t
 
-abbrev at_first : List ℕ → Connections
+abbrev pub at_first : List ℕ → Connections
 at_first rest = finmap.insert finmap.empty 1 (record { rest = rest })
 
 -- the first connection is open and has the first session, and nobody watches
-abbrev clients_at : Config → List ℕ → Clients
-clients_at config rest = record {
+abbrev pub clients_at : Settings → List ℕ → Clients
+clients_at settings rest = record {
   connections = at_first rest;
-  sessions = (first_client config).sessions;
+  sessions = (first_client settings).sessions;
   watches = no_watch;
 }
 
-abbrev first_session : Config → ℤ
-first_session config = session_id_of config.server_id 1
+abbrev first_session : Settings → ℤ
+first_session settings = session_id_of settings.server_id 1
 
-joined_first : (config : Config) → session_of (first_client config).sessions 1 ≡ Some (first_session config)
-joined_first config = ap session_in
-    (get-inserted {X = SessionConnection} finmap.empty 1 (new_connection (first_session config)))
+joined_first : (settings : Settings) → session_of (first_client settings).sessions 1 ≡ Some (first_session settings)
+joined_first settings = ap session_in
+    (get-inserted {X = SessionConnection} finmap.empty 1 (new_connection (first_session settings)))
 
-no_ids_first : (config : Config) → ids_of (first_client config).sessions 1 ≡ []
-no_ids_first config = ap ids_in
-    (get-inserted {X = SessionConnection} finmap.empty 1 (new_connection (first_session config)))
+no_ids_first : (settings : Settings) → ids_of (first_client settings).sessions 1 ≡ []
+no_ids_first settings = ap ids_in
+    (get-inserted {X = SessionConnection} finmap.empty 1 (new_connection (first_session settings)))
 
 -- a replica that serves in epoch 1
 abbrev replica_at : ℤ → List Txn → State → Replica
@@ -360,20 +361,20 @@ replica_at zxid log s = record {
   tree = s;
 }
 
-abbrev world_with : Config → ℤ → List Txn → State → Clients → World
-world_with config zxid log s clients = record { config = config; replica = replica_at zxid log s; clients = clients }
+abbrev world_with : Settings → ℤ → List Txn → State → Clients → World
+world_with settings zxid log s clients = record { settings = settings; replica = replica_at zxid log s; clients = clients }
 
 -- a world in epoch 1, with the first connection open
-abbrev world_at : Config → ℤ → List Txn → State → List ℕ → World
-world_at config zxid log s rest = world_with config zxid log s (clients_at config rest)
+abbrev pub world_at : Settings → ℤ → List Txn → State → List ℕ → World
+world_at settings zxid log s rest = world_with settings zxid log s (clients_at settings rest)
 
 -- a leader's stream of which nothing waits
-abbrev beginning : Leader
+abbrev pub beginning : Leader
 beginning = record { place = place_at Packets []; loading = unloaded }
 
 -- a machine that follows a leader there
-abbrev following : Config → ℤ → List Txn → State → List ℕ → Machine
-following config zxid log s rest = record { leader = Some beginning; world = world_at config zxid log s rest }
+abbrev pub following : Settings → ℤ → List Txn → State → List ℕ → Machine
+following settings zxid log s rest = record { leader = Some beginning; world = world_at settings zxid log s rest }
 
 -- no image is loaded beside it
 abbrev led : World → Led
@@ -385,13 +386,13 @@ done w r =
     (r >>= λ x. carry_out_all (unled unloaded (with_learner w.replica x)) x.acts) >>= λ t. Ok
     (with_loading t.loading (tell w t))
 
-informed_of : (again : ReadAgain) (config : Config) (last : ℤ) (log : List Txn) (s : State) (clients : Clients)
+informed_of : (again : ReadAgain) (settings : Settings) (last : ℤ) (log : List Txn) (s : State) (clients : Clients)
     (zxid : ℤ) (t : Txn) → txn.Fits t →
-    let w = world_with config last log s clients in
+    let w = world_with settings last log s clients in
     receive (led w) (item.Packet (packet_of zxid (txn.written t))) ≡ done w (apply w.replica.learner t)
 unfolding kind_of
-informed_of again config last log s clients zxid t fits =
-    let w = world_with config last log s clients in
+informed_of again settings last log s clients zxid t fits =
+    let w = world_with settings last log s clients in
     ap (λ (r : Result Txn Fault). done w (r >>= λ u. apply w.replica.learner u)) (again t fits)
 
 -- what one packet leaves
@@ -402,22 +403,22 @@ one_delivered w r =
     (kept h.after.left.loading (end_at (place_at Packets []) h.after.fault)))
 
 -- one INFORM comes
-inform_comes : (again : ReadAgain) (config : Config) (last : ℤ) (log : List Txn) (s : State) (clients : Clients)
+inform_comes : (again : ReadAgain) (settings : Settings) (last : ℤ) (log : List Txn) (s : State) (clients : Clients)
     (bytes : List ℕ) (zxid : ℤ) (t : Txn) → txn.Fits t →
-    let w = world_with config last log s clients in
+    let w = world_with settings last log s clients in
     shows (place_at Packets bytes) ≡ one_packet (packet_of zxid (txn.written t))
     → take_leader_bytes by_parts (Some beginning) w bytes ≡ one_delivered w (done w (apply w.replica.learner t))
-inform_comes again config last log s clients bytes zxid t fits found =
-    let w = world_with config last log s clients in
+inform_comes again settings last log s clients bytes zxid t fits found =
+    let w = world_with settings last log s clients in
     ap (λ (i : Items Phase Item). let h = happening is_refused (deliver receive) (record { left = led w; fault = None }) i.found in
     behind h.outputs (leave_leader h.after.left.world (kept h.after.left.loading (end_at i.left h.after.fault)))) found
-    ∙ ap (one_delivered w) (informed_of again config last log s clients zxid t fits)
+    ∙ ap (one_delivered w) (informed_of again settings last log s clients zxid t fits)
 
-abbrev after_create : Config → List ℕ → Machine
-after_create config rest = following config (pos 4294967297) (create_txn ∷ []) made rest
+abbrev pub after_create : Settings → List ℕ → Machine
+after_create settings rest = following settings (pos 4294967297) (create_txn ∷ []) made rest
 
-abbrev after_set : Config → Machine
-after_set config = following config (pos 4294967298) (create_txn ∷ set_txn ∷ []) written []
+abbrev after_set : Settings → Machine
+after_set settings = following settings (pos 4294967298) (create_txn ∷ set_txn ∷ []) written []
 
 abbrev with_watches : World → Watching → World
 with_watches w watches = record w { clients = record w.clients { watches = watches } }
@@ -427,41 +428,41 @@ abbrev told_by : World → Fired → Result (Happened Led) Fault
 told_by w fired = Ok (record { outputs = notices fired.events; after = led (with_watches w fired.left) })
 
 -- the create is meant, and the setData behind it
-abbrev meant_create : Config → Clients → World
-meant_create config clients = world_with config (pos 4294967297) (create_txn ∷ []) (mean fresh create_txn).state clients
+abbrev meant_create : Settings → Clients → World
+meant_create settings clients = world_with settings (pos 4294967297) (create_txn ∷ []) (mean fresh create_txn).state clients
 
-abbrev meant_set : Config → Clients → World
-meant_set config clients = world_with config (pos 4294967298) (create_txn ∷ set_txn ∷ [])
+abbrev meant_set : Settings → Clients → World
+meant_set settings clients = world_with settings (pos 4294967298) (create_txn ∷ set_txn ∷ [])
     (mean made set_txn).state clients
 
-create_comes : (again : ReadAgain) (nobody : NobodyTold) (config : Config) (rest : List ℕ)
-    → happen (following config (pos 0) [] fresh rest) created ≡ quiet (after_create config rest)
-create_comes again nobody config rest =
-    let clients = clients_at config rest in
-    let w = world_with config (pos 0) [] fresh clients in
-    inform_comes again config (pos 0) [] fresh clients inform_of_create (pos 4294967297) create_txn
+create_comes : (again : ReadAgain) (nobody : NobodyTold) (settings : Settings) (rest : List ℕ)
+    → happen (following settings (pos 0) [] fresh rest) created ≡ quiet (after_create settings rest)
+create_comes again nobody settings rest =
+    let clients = clients_at settings rest in
+    let w = world_with settings (pos 0) [] fresh clients in
+    inform_comes again settings (pos 0) [] fresh clients inform_of_create (pos 4294967297) create_txn
     create_fits create_found
-    ∙ ap (λ (f : Fired). one_delivered w (told_by (meant_create config clients) f))
+    ∙ ap (λ (f : Fired). one_delivered w (told_by (meant_create settings clients) f))
     (nobody (mean fresh create_txn).triggers)
-    ∙ ap (λ (s : State). quiet (following config (pos 4294967297) (create_txn ∷ []) s rest)) made-is
+    ∙ ap (λ (s : State). quiet (following settings (pos 4294967297) (create_txn ∷ []) s rest)) made-is
 
-set_comes : (again : ReadAgain) (nobody : NobodyTold) (config : Config) → happen (after_create config []) overwritten
-    ≡ quiet (after_set config)
-set_comes again nobody config =
-    let clients = clients_at config [] in
-    let w = (after_create config []).world in
-    inform_comes again config (pos 4294967297) (create_txn ∷ []) made clients inform_of_set_data (pos 4294967298)
+set_comes : (again : ReadAgain) (nobody : NobodyTold) (settings : Settings) → happen (after_create settings []) overwritten
+    ≡ quiet (after_set settings)
+set_comes again nobody settings =
+    let clients = clients_at settings [] in
+    let w = (after_create settings []).world in
+    inform_comes again settings (pos 4294967297) (create_txn ∷ []) made clients inform_of_set_data (pos 4294967298)
     set_txn set_fits set_found
-    ∙ ap (λ (f : Fired). one_delivered w (told_by (meant_set config clients) f)) (nobody (mean made set_txn).triggers)
-    ∙ ap (λ (s : State). quiet (following config (pos 4294967298) (create_txn ∷ set_txn ∷ []) s [])) written-is
+    ∙ ap (λ (f : Fired). one_delivered w (told_by (meant_set settings clients) f)) (nobody (mean made set_txn).triggers)
+    ∙ ap (λ (s : State). quiet (following settings (pos 4294967298) (create_txn ∷ set_txn ∷ []) s [])) written-is
 
-abbrev closed : Config → Machine
-closed config =
-    let w = (after_create config []).world in
-    record { leader = None; world = record w { replica = leave w.replica; clients = without 1 (clients_at config []) } }
+abbrev pub closed : Settings → Machine
+closed settings =
+    let w = (after_create settings []).world in
+    record { leader = None; world = record w { replica = leave w.replica; clients = without 1 (clients_at settings []) } }
 
-abbrev refusing : Config → Happened Machine
-refusing config = record { outputs = CloseLeader OutOfOrder ∷ CloseClient 1 ∷ []; after = closed config }
+abbrev refusing : Settings → Happened Machine
+refusing settings = record { outputs = CloseLeader OutOfOrder ∷ CloseClient 1 ∷ []; after = closed settings }
 
 keys-first : finmap.keys (at_first []) ≡ 1 ∷ []
 keys-first = ap (λ (es : List (ℕ × Connection)). map (λ (e : ℕ × Connection). e.0) es)
@@ -469,60 +470,63 @@ keys-first = ap (λ (es : List (ℕ × Connection)). map (λ (e : ℕ × Connect
     ∙ ap (finmap.put nat_cmp 1 (record { rest = [] })) (entries-empty Connection))
 
 -- its zxid isn't above the last one
-create_comes_again : (again : ReadAgain) (config : Config) → happen (after_create config []) created ≡ refusing config
-create_comes_again again config =
-    inform_comes again config (pos 4294967297) (create_txn ∷ []) made (clients_at config []) inform_of_create
+create_comes_again : (again : ReadAgain) (settings : Settings) → happen (after_create settings []) created ≡ refusing settings
+create_comes_again again settings =
+    inform_comes again settings (pos 4294967297) (create_txn ∷ []) made (clients_at settings []) inform_of_create
     (pos 4294967297) create_txn create_fits create_found
-    ∙ ap (λ (ks : List ℕ). lost (closing ks (clients_at config []))) keys-first
+    ∙ ap (λ (ks : List ℕ). lost (closing ks (clients_at settings []))) keys-first
   where
     w : World
-    w = (after_create config []).world
+    w = (after_create settings []).world
 
     lost : Happened Clients → Happened Machine
     lost h = behind (CloseLeader OutOfOrder ∷ [])
         (beside {L = Leader} None
         (record { outputs = h.outputs; after = record w { replica = leave w.replica; clients = h.after } }))
 
-abbrev replying : List ℕ → Machine → Happened Machine
+abbrev pub replying : List ℕ → Machine → Happened Machine
 replying frame m = record { outputs = ToClient 1 frame ∷ []; after = m }
 
 -- what the first connection's bytes do, by the frames that they make
-abbrev at_frames : World → Items (Unit {0}) (List ℕ) → Happened Machine
+abbrev pub at_frames : World → Items (Unit {0}) (List ℕ) → Happened Machine
 at_frames w i = beside (Some beginning) (serve_all true 1 w i)
 
 -- the bytes of the first connection are taken to hand
-in_hand : (config : Config) (zxid : ℤ) (log : List Txn) (s : State) (rest bytes : List ℕ)
-    → happen (following config zxid log s rest) (ClientBytes 1 bytes) ≡ at_frames (world_at config zxid log s [])
+pub in_hand : (settings : Settings) (zxid : ℤ) (log : List Txn) (s : State) (rest bytes : List ℕ)
+    → happen (following settings zxid log s rest) (ClientBytes 1 bytes) ≡ at_frames (world_at settings zxid log s [])
     (items frames (place_at tt (rest ++ bytes)))
-in_hand config zxid log s rest bytes =
-    let w = world_at config zxid log s rest in
+in_hand settings zxid log s rest bytes =
+    let w = world_at settings zxid log s rest in
     ap (λ (o : Option Connection). beside (Some beginning) (take_client_bytes true 1 w o bytes))
     (get-inserted finmap.empty 1 (record { rest = rest }))
+    ∙ ap (λ (session : Option ℤ). beside (Some beginning)
+    (tell_or_serve true 1 (keep 1 w (record { rest = rest }) []) (rest ++ bytes)
+    (said session (word_of (take 4 (rest ++ bytes)))))) (joined_first settings)
     ∙ ap (λ (c : Connections). at_frames (record w { clients = record w.clients { connections = c } })
     (items frames (place_at tt (rest ++ bytes))))
     (insert-insert finmap.empty 1 (record { rest = [] }) (record { rest = rest }))
 
 -- the bytes that are left wait
-left_waiting : (config : Config) (zxid : ℤ) (log : List Txn) (s : State) (rest : List ℕ)
-    → wait_if_open 1 (world_at config zxid log s []) (finmap.get (at_first []) 1) (Ok rest) ≡ quiet
-    (world_at config zxid log s rest)
-left_waiting config zxid log s rest =
-    let w = world_at config zxid log s [] in
+left_waiting : (settings : Settings) (zxid : ℤ) (log : List Txn) (s : State) (rest : List ℕ)
+    → wait_if_open 1 (world_at settings zxid log s []) (finmap.get (at_first []) 1) (Ok rest) ≡ quiet
+    (world_at settings zxid log s rest)
+left_waiting settings zxid log s rest =
+    let w = world_at settings zxid log s [] in
     ap (λ (o : Option Connection). wait_if_open 1 w o (Ok rest)) (get-inserted finmap.empty 1 (record { rest = [] }))
     ∙ ap (λ (c : Connections). quiet (record w { clients = record w.clients { connections = c } }))
     (insert-insert finmap.empty 1 (record { rest = rest }) (record { rest = [] }))
 
 -- the last byte of a request comes
-get_comes : (config : Config) (zxid : ℤ) (log : List Txn) (s : State) (rest bytes frame : List ℕ)
+get_comes : (settings : Settings) (zxid : ℤ) (log : List Txn) (s : State) (rest bytes frame : List ℕ)
     → items frames (place_at tt (rest ++ bytes)) ≡ one_frame get_frame
-    → serve true 1 (world_at config zxid log s []) get_frame ≡ record {
+    → serve true 1 (world_at settings zxid log s []) get_frame ≡ record {
       outputs = ToClient 1 frame ∷ [];
-      after = world_at config zxid log s [];
+      after = world_at settings zxid log s [];
     }
-    → happen (following config zxid log s rest) (ClientBytes 1 bytes) ≡ replying frame (following config zxid log s [])
-get_comes config zxid log s rest bytes frame found replies =
-    let w = world_at config zxid log s [] in
-    in_hand config zxid log s rest bytes
+    → happen (following settings zxid log s rest) (ClientBytes 1 bytes) ≡ replying frame (following settings zxid log s [])
+get_comes settings zxid log s rest bytes frame found replies =
+    let w = world_at settings zxid log s [] in
+    in_hand settings zxid log s rest bytes
     ∙ ap (at_frames w) found
     ∙ ap (λ (h : Happened World). beside (Some beginning)
     (behind h.outputs (wait_if_open 1 h.after (finmap.get h.after.clients.connections 1) (Ok []))))
@@ -531,30 +535,30 @@ get_comes config zxid log s rest bytes frame found replies =
     ∙ ap (λ (h : Happened World). beside (Some beginning)
     (behind (h.outputs ++ []) (wait_if_open 1 h.after (finmap.get h.after.clients.connections 1) (Ok [])))) replies
     ∙ ap (λ (h : Happened World). beside (Some beginning) (behind (ToClient 1 frame ∷ []) h))
-    (left_waiting config zxid log s [])
+    (left_waiting settings zxid log s [])
 
 -- a part of a request comes
-front_comes : (config : Config) → happen (following config (pos 0) [] fresh []) (ClientBytes 1 get_front) ≡ quiet
-    (following config (pos 0) [] fresh get_front)
-front_comes config =
-    in_hand config (pos 0) [] fresh [] get_front
-    ∙ ap (at_frames (world_at config (pos 0) [] fresh [])) get_waits
-    ∙ ap (λ (h : Happened World). beside (Some beginning) h) (left_waiting config (pos 0) [] fresh get_front)
+front_comes : (settings : Settings) → happen (following settings (pos 0) [] fresh []) (ClientBytes 1 get_front) ≡ quiet
+    (following settings (pos 0) [] fresh get_front)
+front_comes settings =
+    in_hand settings (pos 0) [] fresh [] get_front
+    ∙ ap (at_frames (world_at settings (pos 0) [] fresh [])) get_waits
+    ∙ ap (λ (h : Happened World). beside (Some beginning) h) (left_waiting settings (pos 0) [] fresh get_front)
 
-get_after_create : (config : Config) (rest bytes : List ℕ) → items frames (place_at tt (rest ++ bytes))
+get_after_create : (settings : Settings) (rest bytes : List ℕ) → items frames (place_at tt (rest ++ bytes))
     ≡ one_frame get_frame
-    → happen (after_create config rest) (ClientBytes 1 bytes) ≡ replying reply_of_create (after_create config [])
-get_after_create config rest bytes found =
-    get_comes config (pos 4294967297) (create_txn ∷ []) made rest bytes reply_of_create found
-    (answered_by (after_create config []).world (first_session config) node reply_of_create (joined_first config)
-    (no_ids_first config) node_there refl refl create_replied)
+    → happen (after_create settings rest) (ClientBytes 1 bytes) ≡ replying reply_of_create (after_create settings [])
+get_after_create settings rest bytes found =
+    get_comes settings (pos 4294967297) (create_txn ∷ []) made rest bytes reply_of_create found
+    (answered_by (after_create settings []).world (first_session settings) node reply_of_create (joined_first settings)
+    (no_ids_first settings) node_there refl refl create_replied)
 
-get_after_set : (config : Config) → happen (after_set config) asked ≡ replying reply_of_set_data (after_set config)
-get_after_set config =
-    get_comes config (pos 4294967298) (create_txn ∷ set_txn ∷ []) written [] (get_front ++ get_back)
+get_after_set : (settings : Settings) → happen (after_set settings) asked ≡ replying reply_of_set_data (after_set settings)
+get_after_set settings =
+    get_comes settings (pos 4294967298) (create_txn ∷ set_txn ∷ []) written [] (get_front ++ get_back)
     reply_of_set_data get_found
-    (answered_by (after_set config).world (first_session config) written_node reply_of_set_data (joined_first config)
-    (no_ids_first config) written_there refl refl set_replied)
+    (answered_by (after_set settings).world (first_session settings) written_node reply_of_set_data (joined_first settings)
+    (no_ids_first settings) written_there refl refl set_replied)
 
 -- ---- a watch
 
@@ -600,45 +604,45 @@ missing_replied = refl
 abbrev one_watch : Watching
 one_watch = watches_on ((codes "/a", 1) ∷ []) []
 
-abbrev waiting : Config → World
-waiting config = watching (world_at config (pos 0) [] fresh []) one_watch
+abbrev waiting : Settings → World
+waiting settings = watching (world_at settings (pos 0) [] fresh []) one_watch
 
-exists_served : (config : Config) → serve true 1 (world_at config (pos 0) [] fresh []) exists_frame
-    ≡ record { outputs = ToClient 1 reply_of_missing ∷ []; after = waiting config }
-exists_served config =
-    ap (serve_by true 1 w exists_frame) (joined_first config)
+exists_served : (settings : Settings) → serve true 1 (world_at settings (pos 0) [] fresh []) exists_frame
+    ≡ record { outputs = ToClient 1 reply_of_missing ∷ []; after = waiting settings }
+exists_served settings =
+    ap (serve_by true 1 w exists_frame) (joined_first settings)
     ∙ ap (serve_as 1 w) exists_read
-    ∙ ap (λ (ids : List Id). looked (look w.replica.tree ids watch_wanted)) (no_ids_first config)
+    ∙ ap (λ (ids : List Id). looked (look w.replica.tree ids watch_wanted)) (no_ids_first settings)
     ∙ ap (λ (o : Option Node). looked (look_at_node [] watch_wanted o)) nothing_there
-    ∙ ap (send 1 (waiting config)) missing_replied
+    ∙ ap (send 1 (waiting settings)) missing_replied
   where
     w : World
-    w = world_at config (pos 0) [] fresh []
+    w = world_at settings (pos 0) [] fresh []
 
     looked : Look → Happened World
     looked seen = answer 1 (watching w (watched_if 1 w.clients.watches (watch_of watch_wanted seen.error))) (pos 2) seen
 
-abbrev awaiting : Config → Machine
-awaiting config = record { leader = Some beginning; world = waiting config }
+abbrev awaiting : Settings → Machine
+awaiting settings = record { leader = Some beginning; world = waiting settings }
 
-exists_comes : (config : Config) → happen (primed_machine config) awaited ≡ replying reply_of_missing (awaiting config)
-exists_comes config =
-    let w = world_at config (pos 0) [] fresh [] in
+exists_comes : (settings : Settings) → happen (primed_machine settings) awaited ≡ replying reply_of_missing (awaiting settings)
+exists_comes settings =
+    let w = world_at settings (pos 0) [] fresh [] in
     let open_ = get-inserted finmap.empty 1 (record { rest = [] }) in
-    in_hand config (pos 0) [] fresh [] exists_request
+    in_hand settings (pos 0) [] fresh [] exists_request
     ∙ ap (at_frames w) exists_found
     ∙ ap (λ (h : Happened World). beside (Some beginning)
     (behind h.outputs (wait_if_open 1 h.after (finmap.get h.after.clients.connections 1) (Ok []))))
     (goes_on (is_closed 1) (serve true 1) w exists_frame [] (ap (λ (o : Option Connection). not (is_some o)) open_))
     ∙ ap (λ (h : Happened World). beside (Some beginning)
     (behind (h.outputs ++ []) (wait_if_open 1 h.after (finmap.get h.after.clients.connections 1) (Ok []))))
-    (exists_served config)
+    (exists_served settings)
     ∙ ap (λ (o : Option Connection). beside (Some beginning)
-    (behind (ToClient 1 reply_of_missing ∷ []) (wait_if_open 1 (waiting config) o (Ok [])))) open_
+    (behind (ToClient 1 reply_of_missing ∷ []) (wait_if_open 1 (waiting settings) o (Ok [])))) open_
     ∙ ap (λ (c : Connections). replying reply_of_missing
     (record {
       leader = Some beginning;
-      world = record (waiting config) { clients = record (waiting config).clients { connections = c } };
+      world = record (waiting settings) { clients = record (waiting settings).clients { connections = c } };
     }))
     (insert-insert finmap.empty 1 (record { rest = [] }) (record { rest = [] }))
 
@@ -657,21 +661,21 @@ event_sent : reply NOTIFICATION_XID (negsuc 0) (of_event node_created) ≡ Some 
 unfolding reply_header watcher_event number_bytes
 event_sent = refl
 
-watched_create_comes : (again : ReadAgain) (rows : FiringRows) (config : Config)
-    → happen (awaiting config) created ≡ replying event_of_create (after_create config [])
-watched_create_comes again rows config =
-    let w = waiting config in
+watched_create_comes : (again : ReadAgain) (rows : FiringRows) (settings : Settings)
+    → happen (awaiting settings) created ≡ replying event_of_create (after_create settings [])
+watched_create_comes again rows settings =
+    let w = waiting settings in
     let clients = w.clients in
-    inform_comes again config (pos 0) [] fresh clients inform_of_create (pos 4294967297) create_txn
+    inform_comes again settings (pos 0) [] fresh clients inform_of_create (pos 4294967297) create_txn
     create_fits create_found
-    ∙ ap (λ (f : Fired). one_delivered w (told_by (meant_create config clients) f))
+    ∙ ap (λ (f : Fired). one_delivered w (told_by (meant_create settings clients) f))
     (ap (fire one_watch) create_triggers ∙ rows.created)
     ∙ ap (λ (frame : Option (List ℕ)). one_delivered w
     (Ok (record {
       outputs = sent_to 1 frame ++ [];
-      after = led (with_watches (meant_create config clients) no_watch);
+      after = led (with_watches (meant_create settings clients) no_watch);
     }))) event_sent
-    ∙ ap (λ (s : State). replying event_of_create (following config (pos 4294967297) (create_txn ∷ []) s [])) made-is
+    ∙ ap (λ (s : State). replying event_of_create (following settings (pos 4294967297) (create_txn ∷ []) s [])) made-is
 
 -- ---- the rows
 
@@ -679,77 +683,63 @@ step : (m : Machine) (e : Event) (events : List Event) (h : Happened Machine) �
     → play m (e ∷ events) ≡ behind h.outputs (play h.after events)
 step m e events h is = ap (λ (g : Happened Machine). behind g.outputs (play g.after events)) is
 
-create_get : (again : ReadAgain) (nobody : NobodyTold) (config : Config) (events : List Event)
-    → play (primed_machine config) (created ∷ asked ∷ events) ≡ behind (ToClient 1 reply_of_create ∷ [])
-    (play (after_create config []) events)
-create_get again nobody config events =
-    step (primed_machine config) created (asked ∷ events) (quiet (after_create config []))
-    (create_comes again nobody config [])
-    ∙ step (after_create config []) asked events (replying reply_of_create (after_create config []))
-    (get_after_create config [] (get_front ++ get_back) get_found)
+pub create_get : (again : ReadAgain) (nobody : NobodyTold) (settings : Settings) (events : List Event)
+    → play (primed_machine settings) (created ∷ asked ∷ events) ≡ behind (ToClient 1 reply_of_create ∷ [])
+    (play (after_create settings []) events)
+create_get again nobody settings events =
+    step (primed_machine settings) created (asked ∷ events) (quiet (after_create settings []))
+    (create_comes again nobody settings [])
+    ∙ step (after_create settings []) asked events (replying reply_of_create (after_create settings []))
+    (get_after_create settings [] (get_front ++ get_back) get_found)
 
-set_get : (again : ReadAgain) (nobody : NobodyTold) (config : Config)
-    → play (after_create config []) (overwritten ∷ asked ∷ []) ≡ replying reply_of_set_data (after_set config)
-set_get again nobody config =
-    step (after_create config []) overwritten (asked ∷ []) (quiet (after_set config)) (set_comes again nobody config)
-    ∙ step (after_set config) asked [] (replying reply_of_set_data (after_set config)) (get_after_set config)
+pub set_get : (again : ReadAgain) (nobody : NobodyTold) (settings : Settings)
+    → play (after_create settings []) (overwritten ∷ asked ∷ []) ≡ replying reply_of_set_data (after_set settings)
+set_get again nobody settings =
+    step (after_create settings []) overwritten (asked ∷ []) (quiet (after_set settings)) (set_comes again nobody settings)
+    ∙ step (after_set settings) asked [] (replying reply_of_set_data (after_set settings)) (get_after_set settings)
 
-cut_get : (again : ReadAgain) (nobody : NobodyTold) (config : Config)
-    → play (primed_machine config) (ClientBytes 1 get_front ∷ created ∷ ClientBytes 1 get_back ∷ [])
-    ≡ replying reply_of_create (after_create config [])
-cut_get again nobody config =
-    step (primed_machine config) (ClientBytes 1 get_front) (created ∷ ClientBytes 1 get_back ∷ [])
-    (quiet (following config (pos 0) [] fresh get_front)) (front_comes config)
-    ∙ step (following config (pos 0) [] fresh get_front) created (ClientBytes 1 get_back ∷ [])
-    (quiet (after_create config get_front)) (create_comes again nobody config get_front)
-    ∙ step (after_create config get_front) (ClientBytes 1 get_back) []
-    (replying reply_of_create (after_create config [])) (get_after_create config get_front get_back get_found)
+pub cut_get : (again : ReadAgain) (nobody : NobodyTold) (settings : Settings)
+    → play (primed_machine settings) (ClientBytes 1 get_front ∷ created ∷ ClientBytes 1 get_back ∷ [])
+    ≡ replying reply_of_create (after_create settings [])
+cut_get again nobody settings =
+    step (primed_machine settings) (ClientBytes 1 get_front) (created ∷ ClientBytes 1 get_back ∷ [])
+    (quiet (following settings (pos 0) [] fresh get_front)) (front_comes settings)
+    ∙ step (following settings (pos 0) [] fresh get_front) created (ClientBytes 1 get_back ∷ [])
+    (quiet (after_create settings get_front)) (create_comes again nobody settings get_front)
+    ∙ step (after_create settings get_front) (ClientBytes 1 get_back) []
+    (replying reply_of_create (after_create settings [])) (get_after_create settings get_front get_back get_found)
 
-create_twice : (again : ReadAgain) (nobody : NobodyTold) (config : Config)
-    → play (primed_machine config) (created ∷ created ∷ overwritten ∷ asked ∷ []) ≡ behind
-    (CloseLeader OutOfOrder ∷ CloseClient 1 ∷ []) (play (closed config) (overwritten ∷ asked ∷ []))
-create_twice again nobody config =
-    step (primed_machine config) created (created ∷ overwritten ∷ asked ∷ []) (quiet (after_create config []))
-    (create_comes again nobody config [])
-    ∙ step (after_create config []) created (overwritten ∷ asked ∷ []) (refusing config)
-    (create_comes_again again config)
+pub create_twice : (again : ReadAgain) (nobody : NobodyTold) (settings : Settings)
+    → play (primed_machine settings) (created ∷ created ∷ overwritten ∷ asked ∷ []) ≡ behind
+    (CloseLeader OutOfOrder ∷ CloseClient 1 ∷ []) (play (closed settings) (overwritten ∷ asked ∷ []))
+create_twice again nobody settings =
+    step (primed_machine settings) created (created ∷ overwritten ∷ asked ∷ []) (quiet (after_create settings []))
+    (create_comes again nobody settings [])
+    ∙ step (after_create settings []) created (overwritten ∷ asked ∷ []) (refusing settings)
+    (create_comes_again again settings)
 
-watch_told : (again : ReadAgain) (nobody : NobodyTold) (rows : FiringRows) (config : Config)
-    → play (primed_machine config) (awaited ∷ created ∷ overwritten ∷ [])
-    ≡ record { outputs = ToClient 1 reply_of_missing ∷ ToClient 1 event_of_create ∷ []; after = after_set config }
-watch_told again nobody rows config =
-    step (primed_machine config) awaited (created ∷ overwritten ∷ []) (replying reply_of_missing (awaiting config))
-    (exists_comes config)
+pub watch_told : (again : ReadAgain) (nobody : NobodyTold) (rows : FiringRows) (settings : Settings)
+    → play (primed_machine settings) (awaited ∷ created ∷ overwritten ∷ [])
+    ≡ record { outputs = ToClient 1 reply_of_missing ∷ ToClient 1 event_of_create ∷ []; after = after_set settings }
+watch_told again nobody rows settings =
+    step (primed_machine settings) awaited (created ∷ overwritten ∷ []) (replying reply_of_missing (awaiting settings))
+    (exists_comes settings)
     ∙ ap (behind (ToClient 1 reply_of_missing ∷ []))
-    (step (awaiting config) created (overwritten ∷ []) (replying event_of_create (after_create config []))
-    (watched_create_comes again rows config)
+    (step (awaiting settings) created (overwritten ∷ []) (replying event_of_create (after_create settings []))
+    (watched_create_comes again rows settings)
     ∙ ap (behind (ToClient 1 event_of_create ∷ []))
-    (step (after_create config []) overwritten [] (quiet (after_set config)) (set_comes again nobody config)))
+    (step (after_create settings []) overwritten [] (quiet (after_set settings)) (set_comes again nobody settings)))
 
-idle_is : (config : Config) → (play (new_machine config) (created ∷ asked ∷ [])).outputs ≡ []
-idle_is config = ap (λ (o : Option Connection).
-    (beside {L = Leader} None (take_client_bytes false 1 (new_machine config).world o (get_front ++ get_back))).outputs
+pub idle_is : (settings : Settings) → (play (new_machine settings) (created ∷ asked ∷ [])).outputs ≡ []
+idle_is settings = ap (λ (o : Option Connection).
+    (beside {L = Leader} None (take_client_bytes false 1 (new_machine settings).world o (get_front ++ get_back))).outputs
     ++ []) (finmap.get-empty nat_cmp 1)
 
-closed_passes : (config : Config)
-    → (behind (CloseLeader OutOfOrder ∷ CloseClient 1 ∷ []) (play (closed config) (overwritten ∷ asked ∷ []))).outputs
+pub closed_passes : (settings : Settings)
+    → (behind (CloseLeader OutOfOrder ∷ CloseClient 1 ∷ []) (play (closed settings) (overwritten ∷ asked ∷ []))).outputs
     ≡ CloseLeader OutOfOrder ∷ CloseClient 1 ∷ []
-closed_passes config =
+closed_passes settings =
     ap (λ (o : Option Connection). (CloseLeader OutOfOrder ∷ CloseClient 1 ∷ [])
-    ++ ((beside {L = Leader} None (take_client_bytes false 1 (closed config).world o (get_front ++ get_back))).outputs
+    ++ ((beside {L = Leader} None (take_client_bytes false 1 (closed settings).world o (get_front ++ get_back))).outputs
     ++ []))
     (get-removed (at_first []) 1)
-
-pub rows_hold : ReadAgain → NobodyTold → FiringRows → WorkedRows
-rows_hold again nobody rows = record {
-  create_then_get = λ config. ap (λ (h : Happened Machine). h.outputs) (create_get again nobody config []);
-  set_then_get = λ config. ap (λ (h : Happened Machine). h.outputs)
-      (create_get again nobody config (overwritten ∷ asked ∷ []) ∙ ap (behind (ToClient 1 reply_of_create ∷ []))
-      (set_get again nobody config));
-  cut_request = λ config. ap (λ (h : Happened Machine). h.outputs) (cut_get again nobody config);
-  same_zxid_twice = λ config. ap (λ (h : Happened Machine). h.outputs) (create_twice again nobody config)
-      ∙ closed_passes config;
-  watch_on_missing = λ config. ap (λ (h : Happened Machine). h.outputs) (watch_told again nobody rows config);
-  nothing = λ config. refl;
-  idle = λ config. idle_is config;
-}

@@ -24,13 +24,14 @@ use Rattle.client_frames.specs.Connect.{connecting_in}
 use Rattle.sessions.specs.State.{State as Sessions, Connection as SessionConnection}
 use Rattle.sessions.specs.Sessions.{session_in, session_of, close, expire}
 use Rattle.watch_manager.specs.Pairs.{same_connection}
+use Rattle.four_letter.specs.declared.word.Word.{Word}
 use Rattle.observer_core.specs.declared.event.Event.{Event}
 use Rattle.observer_core.specs.declared.event.Event.TheVariants as event
 use Rattle.observer_core.specs.Machine.{Connection, Clients, World, Leader, Machine}
 use Rattle.observer_core.specs.Steps.{happening}
 use Rattle.observer_core.specs.Clients.{is_open, without, without_each}
 use Rattle.observer_core.specs.Leader.{Led, with_loading, tell, receive, Delivery, deliver_as, deliver, is_refused, deliver_all, end_at, by_parts, kept, meet_leader, disconnected, leave_leader, take_leader_bytes, end_as, end_leader}
-use Rattle.observer_core.specs.Serve.{with_sessions, close_left, join, serve_by, serve, is_closed, keep, wait_if_open, frames, take_client_bytes, open_client, end_client, expire_session}
+use Rattle.observer_core.specs.Serve.{with_sessions, close_left, join, serve_by, serve, word_at, is_closed, keep, wait_if_open, frames, tell_or_serve, take_client_bytes, open_client, end_client, expire_session}
 use Rattle.observer_core.specs.Play.{serving, happen}
 use Rattle.observer_core.specs.Agreement.{ClientsAgree, ConnectionsAgree, SessionsAreServed}
 use Rattle.observer_core.proofs.Keeping.{happening_keeps}
@@ -131,13 +132,22 @@ wait_nobody n w (Some k) (Err e) nobody = closes_nobody n w.clients.sessions nob
 client_nobody : (n : ℕ) (w : World) (o : Option Connection) (bytes : List ℕ) → Nobody w.clients.sessions
     → Nobody (take_client_bytes false n w o bytes).after.clients.sessions
 client_nobody n w None bytes nobody = nobody
-client_nobody n w (Some k) bytes nobody =
-    let v = keep n w k [] in
-    let found = items frames (place_at tt (k.rest ++ bytes)) in
-    let h = happening (is_closed n) (serve false n) v found.found in
-    wait_nobody n h.after (finmap.get h.after.clients.connections n) found.left.unread
-    (happening_keeps (λ (w : World). Nobody w.clients.sessions) (is_closed n) (serve false n)
-    (λ w frame _. serve_nobody n w frame) v found.found nobody)
+client_nobody n w (Some k) bytes nobody = by (word_at n w came)
+  where
+    came : List ℕ
+    came = k.rest ++ bytes
+
+    v : World
+    v = keep n w k []
+
+    by : (o : Option Word) → Nobody (tell_or_serve false n v came o).after.clients.sessions
+    by None =
+        let found = items frames (place_at tt came) in
+        let h = happening (is_closed n) (serve false n) v found.found in
+        wait_nobody n h.after (finmap.get h.after.clients.connections n) found.left.unread
+        (happening_keeps (λ (w : World). Nobody w.clients.sessions) (is_closed n) (serve false n)
+        (λ w frame _. serve_nobody n w frame) v found.found nobody)
+    by (Some word) = closes_nobody n w.clients.sessions nobody
 
 left_nobody : (w : World) (left : Option ℕ) → Nobody w.clients.sessions
     → Nobody (close_left w left).after.clients.sessions
@@ -166,7 +176,7 @@ rebases_serving r = by r.learner.phase refl
 
 meet_served : (leader : Option Leader) (w : World) → Served w → Served (meet_leader by_parts leader w).after.world
 meet_served None w served =
-    stays_served w (meet_leader by_parts None w).after.world (begins_serving w.replica w.config.server_id)
+    stays_served w (meet_leader by_parts None w).after.world (begins_serving w.replica w.settings.server_id)
     (λ _ nobody. nobody) served
 meet_served (Some l) w served = served
 
@@ -247,8 +257,8 @@ module _ (stays : ServingStays) where
 
   pub sessions_are_served : ConnectionsAgree → SessionsAreServed
   sessions_are_served agree = record {
-    starts = λ config none n. ap session_in (finmap.get-empty nat_cmp n);
-    starts_primed = λ config none n. absurd (true≢false none);
+    starts = λ settings none n. ap session_in (finmap.get-empty nat_cmp n);
+    starts_primed = λ settings none n. absurd (true≢false none);
     plays = λ m events agrees only none.
         let kept_by_all =
         happening_keeps (λ (m : Machine). ClientsAgree m.world.clients × Served m.world) (λ _. false) happen

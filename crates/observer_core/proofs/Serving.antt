@@ -11,9 +11,10 @@ use Rattle.jute.specs.Frame.{frame}
 use Rattle.jute.specs.Laws.{IsBytes}
 use Rattle.jute.specs.Stream.{items, place_at, before, nothing, Items, Unread}
 use Rattle.jute.proofs.Public.{items_whole, items_short, items_refused, shorter_rest, refused_other}
-use Rattle.observer_core.specs.Machine.{Connection, World}
+use Rattle.four_letter.specs.declared.word.Word.{Word}
+use Rattle.observer_core.specs.Machine.{Connection, Connections, World}
 use Rattle.observer_core.specs.Steps.{Happened, behind, quiet, and_then, happening}
-use Rattle.observer_core.specs.Serve.{close_client, serve, serve_all, is_closed, wait_if_open, wait_at, take_client_bytes, frames, client_frame_limit}
+use Rattle.observer_core.specs.Serve.{close_client, serve, serve_all, word_at, is_closed, wait_if_open, wait_at, tell_or_serve, take_client_bytes, frames, client_frame_limit}
 use Rattle.observer_core.specs.Inner.{rest_at, with_rest}
 use Rattle.observer_core.proofs.Steps.{behind_behind, passed_over, goes_on}
 use Rattle.observer_core.proofs.Streams.{client_frame_sound, frames_streamed}
@@ -120,16 +121,38 @@ module _ (serving : Bool) (n : ℕ) (w : World) (o : Option Connection) (bytes :
       by (Some k) e = absurd (true≢false (ap is_some e))
 
   pub at_open : (rest : List ℕ) → rest_at o ≡ Some rest
-      → take_client_bytes serving n w o bytes ≡ serve_all serving n
+      → take_client_bytes serving n w o bytes ≡ tell_or_serve serving n
       (record w { clients = record w.clients { connections = with_rest w.clients.connections n o [] } })
-      (items frames (place_at tt (rest ++ bytes)))
+      (rest ++ bytes) (word_at n w (rest ++ bytes))
   at_open rest e = by o e
     where
       by : (o : Option Connection) → rest_at o ≡ Some rest
-          → take_client_bytes serving n w o bytes ≡ serve_all serving n
+          → take_client_bytes serving n w o bytes ≡ tell_or_serve serving n
           (record w { clients = record w.clients { connections = with_rest w.clients.connections n o [] } })
-          (items frames (place_at tt (rest ++ bytes)))
+          (rest ++ bytes) (word_at n w (rest ++ bytes))
       by None e = absurd (true≢false (sym (ap is_some e)))
-      by (Some k) e = ap (λ (x : Option (List ℕ)). serve_all serving n
+      by (Some k) e = ap (λ (x : Option (List ℕ)). tell_or_serve serving n
           (record w { clients = record w.clients { connections = with_rest w.clients.connections n (Some k) [] } })
-          (items frames (place_at tt (unwrap_or x [] ++ bytes)))) e
+          (unwrap_or x [] ++ bytes) (word_at n w (unwrap_or x [] ++ bytes))) e
+
+-- bytes are taken to hand with those that wait
+pub taken_to_hand : (serving : Bool) (n : ℕ) (u w : World) → u ≡ w → (waiting came seen bytes none : List ℕ)
+    (left : Connections) (o : Option Word) →
+    let open_ = u.clients.connections in
+    let v : World = record u { clients = record u.clients { connections = left } } in
+    Some waiting ≡ rest_at (finmap.get open_ n) → left ≡ with_rest open_ n (finmap.get open_ n) none → none ≡ []
+    → came ≡ waiting ++ bytes → seen ≡ came → o ≡ word_at n v seen
+    → take_client_bytes serving n w (finmap.get w.clients.connections n) bytes ≡ tell_or_serve serving n v came o
+taken_to_hand serving n u w is waiting came seen bytes none left o was now empty joined all says =
+    ap (λ (x : World). take_client_bytes serving n x (finmap.get x.clients.connections n) bytes) (sym is)
+    ∙ at_open serving n u (finmap.get open_ n) bytes waiting (sym was)
+    ∙ ap (λ (k : Connections). tell_or_serve serving n (with_open k) (waiting ++ bytes) (word_at n u (waiting ++ bytes)))
+    (sym (now ∙ ap (with_rest open_ n (finmap.get open_ n)) empty))
+    ∙ ap (λ (b : List ℕ). tell_or_serve serving n (with_open left) b (word_at n (with_open left) b)) (sym joined)
+    ∙ ap (tell_or_serve serving n (with_open left) came) (sym (says ∙ ap (word_at n (with_open left)) all))
+  where
+    open_ : Connections
+    open_ = u.clients.connections
+
+    with_open : Connections → World
+    with_open k = record u { clients = record u.clients { connections = k } }

@@ -104,7 +104,7 @@ send_last_has : (n : ℕ) (session : ℤ) (w : World) (frame : Option (List ℕ)
     → HasIfOpen n session (send_last n w frame).after.clients
 send_last_has n session w frame = closed_has n session (send n w frame).after.clients
 
-greet_has : (n : ℕ) (session : ℤ) (has_byte : Bool) (response : SessionResponse) (w : World)
+pub greet_has : (n : ℕ) (session : ℤ) (has_byte : Bool) (response : SessionResponse) (w : World)
     → (int_eq response.session_id (pos 0) ≡ false → HasIfOpen n session w.clients)
     → HasIfOpen n session (greet n has_byte response w).after.clients
 greet_has n session has_byte response w has =

@@ -20,10 +20,12 @@ use Rattle.read_processor.specs.Look.{look, without_body}
 use Rattle.read_processor.specs.Watch.{watch_of}
 use Rattle.read_processor.specs.Renewal.{renew}
 use Rattle.read_processor.specs.Reply.{reply}
+use Rattle.four_letter.specs.Texts.{text}
+use Rattle.four_letter.specs.declared.word.Word.{Word}
 use Rattle.observer_core.specs.Machine.{Connection, World}
 use Rattle.observer_core.specs.Steps.{Happened, happening}
 use Rattle.observer_core.specs.Clients.{at_rest, is_open, with_connection, without}
-use Rattle.observer_core.specs.Serve.{close_client, send, send_last, answer_last, watching, watched_if, watched_each, renewed, with_sessions, shown, ended, end_session, close_left, greet, connected, may_connect, join, call, serve_as, serve_by, serve, is_closed, keep, wait_if_open, frames, take_client_bytes, open_client, end_client, expire_session}
+use Rattle.observer_core.specs.Serve.{close_client, send, send_last, answer_last, watching, watched_if, watched_each, renewed, with_sessions, shown, ended, end_session, close_left, greet, connected, may_connect, join, call, serve_as, serve_by, serve, figures, word_at, is_closed, keep, wait_if_open, frames, tell_or_serve, take_client_bytes, open_client, end_client, expire_session}
 use Rattle.observer_core.proofs.Keeping.{happening_keeps}
 
 abbrev SameReplica : World → World → Type 0
@@ -150,10 +152,19 @@ expire_same w session =
 pub client_same : (serving : Bool) (n : ℕ) (w : World) (o : Option Connection) (bytes : List ℕ)
     → SameReplica w (take_client_bytes serving n w o bytes).after
 client_same serving n w None bytes = refl
-client_same serving n w (Some k) bytes =
-    let v = keep n w k [] in
-    let found = items frames (place_at tt (k.rest ++ bytes)) in
-    let h = happening (is_closed n) (serve serving n) v found.found in
-    wait_same n h.after (finmap.get h.after.clients.connections n) found.left.unread
-    ∙ happening_keeps (SameReplica w) (is_closed n) (serve serving n)
-    (λ x frame _ kept. serve_same serving n x frame ∙ kept) v found.found refl
+client_same serving n w (Some k) bytes = by (word_at n w came)
+  where
+    came : List ℕ
+    came = k.rest ++ bytes
+
+    v : World
+    v = keep n w k []
+
+    by : (o : Option Word) → SameReplica w (tell_or_serve serving n v came o).after
+    by None =
+        let found = items frames (place_at tt came) in
+        let h = happening (is_closed n) (serve serving n) v found.found in
+        wait_same n h.after (finmap.get h.after.clients.connections n) found.left.unread
+        ∙ happening_keeps (SameReplica w) (is_closed n) (serve serving n)
+        (λ x frame _ kept. serve_same serving n x frame ∙ kept) v found.found refl
+    by (Some word) = send-last_same n v (Some (text word (figures serving v)))

@@ -170,8 +170,8 @@ module _ (law : ImagesComeInParts) where
 
   pub parts_are_whole_images : PartsAreWholeImages
   parts_are_whole_images = record {
-    made = λ config events. seen_same (new_machine config) (new_by by_images config) events
+    made = λ settings events. seen_same (new_machine settings) (new_by by_images settings) events
         (record { world = refl; leader = tt });
-    primed = λ config events. seen_same (primed_machine config) (primed_by by_images config) events
+    primed = λ settings events. seen_same (primed_machine settings) (primed_by by_images settings) events
         (record { world = refl; leader = (refl, refl) });
   }

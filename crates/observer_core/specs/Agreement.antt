@@ -5,7 +5,7 @@ use Rattle.settings.specs.Settings.{is_server_id}
 use Rattle.sessions.specs.Sessions.{session_of}
 use Rattle.sessions.specs.Agreement.{Agrees}
 use Rattle.watch_manager.specs.Laws.{WatchersPass}
-use Rattle.observer_core.specs.declared.config.Config.{Config}
+use Rattle.observer_core.specs.declared.config.Settings.{Settings}
 use Rattle.observer_core.specs.declared.event.Event.{Event}
 use Rattle.observer_core.specs.Machine.{Clients, World, Machine}
 use Rattle.observer_core.specs.Clients.{is_open}
@@ -27,10 +27,10 @@ OneSessionEach = (c : Clients) → ClientsAgree c → (m n : ℕ) (session : ℤ
 
 -- it is so at the start, and no event ends it
 pub record ConnectionsAgree : Type 0 where
-  pub starts : (config : Config) → IsTrue (is_server_id config.server_id)
-      → ClientsAgree (new_machine config).world.clients
-  pub starts_primed : (config : Config) → IsTrue (is_server_id config.server_id)
-      → ClientsAgree (primed_machine config).world.clients
+  pub starts : (settings : Settings) → IsTrue (is_server_id settings.server_id)
+      → ClientsAgree (new_machine settings).world.clients
+  pub starts_primed : (settings : Settings) → IsTrue (is_server_id settings.server_id)
+      → ClientsAgree (primed_machine settings).world.clients
   pub plays : (m : Machine) (events : List Event) → ClientsAgree m.world.clients
       → ClientsAgree (play m events).after.world.clients
   pub apart : OneSessionEach
@@ -41,7 +41,7 @@ OnlyServedJoin w = serving w ≡ false → (n : ℕ) → session_of w.clients.se
 
 -- it is so at the start, and no event ends it
 pub record SessionsAreServed : Type 0 where
-  pub starts : (config : Config) → OnlyServedJoin (new_machine config).world
-  pub starts_primed : (config : Config) → OnlyServedJoin (primed_machine config).world
+  pub starts : (settings : Settings) → OnlyServedJoin (new_machine settings).world
+  pub starts_primed : (settings : Settings) → OnlyServedJoin (primed_machine settings).world
   pub plays : (m : Machine) (events : List Event) → ClientsAgree m.world.clients → OnlyServedJoin m.world
       → OnlyServedJoin (play m events).after.world

@@ -149,7 +149,7 @@ beside leader h = record { outputs = h.outputs; after = record { leader = leader
 -- the observer introduces itself; while there is a leader another is passed over
 abbrev pub meet_leader : {L : Type 0} → Side L → Option L → World → Happened (MachineBy L)
 meet_leader side None w =
-    let t = begin w.replica w.config.server_id in
+    let t = begin w.replica w.settings.server_id in
     record {
       outputs = map to_leader t.replies;
       after = record { leader = Some side.opened; world = record w { replica = t.replica } };

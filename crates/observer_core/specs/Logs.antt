@@ -1,24 +1,51 @@
 -- What the log of a world says of its tree, and what a refusal leaves.
-use Rattle.std.specs.Prelude.{◌≡◌, List, Some, Err}
+use Rattle.std.specs.Prelude.{◌≡◌, ℕ, List, ◌∷◌, ◌++◌, Some, None, Err}
 use Rattle.values.specs.declared.fault.Fault.{Fault}
+use Rattle.jute.specs.Stream.{add}
 use Rattle.quorum_packet.specs.declared.item.Item.{Item}
+use Rattle.quorum_packet.specs.Items.{shows}
+use Rattle.replica.specs.Replica.{Replica}
 use Rattle.replica.specs.Laws.{FollowsItsLog}
-use Rattle.observer_core.specs.declared.config.Config.{Config}
+use Rattle.observer_core.specs.declared.config.Settings.{Settings}
 use Rattle.observer_core.specs.declared.event.Event.{Event}
-use Rattle.observer_core.specs.Machine.{Machine}
-use Rattle.observer_core.specs.Steps.{quiet}
-use Rattle.observer_core.specs.Leader.{Led, Delivery, receive, deliver}
-use Rattle.observer_core.specs.Play.{play, new_machine, primed_machine}
+use Rattle.observer_core.specs.declared.event.Event.TheVariants.{LeaderBytes}
+use Rattle.observer_core.specs.Machine.{World, Leader, Machine}
+use Rattle.observer_core.specs.Steps.{Happened, quiet, and_then}
+use Rattle.observer_core.specs.Leader.{Led, Delivery, receive, deliver, deliver_all, lost}
+use Rattle.observer_core.specs.Play.{play, happen, new_machine, primed_machine}
 
 -- The tree is the base with the log applied, and the log's zxids rise up to the last zxid: it is so at the start, and
--- no event ends it. So while one leader is followed a zxid names one tree.
+-- no event ends it.
 pub record LogsAreFollowed : Type 0 where
-  pub starts : (config : Config) → FollowsItsLog (new_machine config).world.replica
-  pub starts_primed : (config : Config) → FollowsItsLog (primed_machine config).world.replica
+  pub starts : (settings : Settings) → FollowsItsLog (new_machine settings).world.replica
+  pub starts_primed : (settings : Settings) → FollowsItsLog (primed_machine settings).world.replica
   pub plays : (m : Machine) (events : List Event) → FollowsItsLog m.world.replica
       → FollowsItsLog (play m events).after.world.replica
 
--- a packet or part that is refused puts nothing out, changes nothing of the world, and ends the stream with its fault
-abbrev pub RefusalsChangeNothing : Type 0
-RefusalsChangeNothing = (d : Delivery Led) (i : Item) (e : Fault)
-    → receive d.left i ≡ Err e → deliver receive d i ≡ quiet (record { left = d.left; fault = Some e })
+-- the items of a leader's stream are taken in a world, one after the other, up to the first that is refused
+abbrev pub delivered : Leader → World → List Item → Happened (Delivery Led)
+delivered l w items = deliver_all receive (record { loading = l.loading; world = w }) items
+
+-- the tree, the base, the log and the epochs are as before
+pub record KeepsState (before after : Replica) : Type 0 where
+  pub tree : after.tree ≡ before.tree
+  pub base : after.base ≡ before.base
+  pub log : after.learner.log ≡ before.learner.log
+  pub last_zxid : after.learner.last_zxid ≡ before.learner.last_zxid
+  pub accepted_epoch : after.learner.accepted_epoch ≡ before.learner.accepted_epoch
+  pub current_epoch : after.learner.current_epoch ≡ before.learner.current_epoch
+
+pub record RefusalsChangeNothing : Type 0 where
+  -- a packet or part that is refused puts nothing out, changes nothing of the world, and ends the stream with its fault
+  pub item : (d : Delivery Led) (i : Item) (e : Fault) → receive d.left i ≡ Err e
+      → deliver receive d i ≡ quiet (record { left = d.left; fault = Some e })
+  -- so where bytes of the leader bring one that is refused, what is put out and what is left are those of the items
+  -- before it, and then of the leader's loss for that fault
+  pub bytes : (l : Leader) (w : World) (bytes : List ℕ) (taken others : List Item) (refused : Item) (e : Fault)
+      → (shows (add l.place bytes)).found ≡ taken ++ refused ∷ others
+      → (delivered l w taken).after.fault ≡ None
+      → receive (delivered l w taken).after.left refused ≡ Err e
+      → happen (record { leader = Some l; world = w }) (LeaderBytes bytes)
+      ≡ and_then (delivered l w taken) (λ d. lost e d.left.world)
+  -- and the loss of a leader leaves tree, base, log and epochs
+  pub loss : (w : World) (e : Fault) → KeepsState w.replica (lost {L = Leader} e w).after.world.replica

@@ -9,7 +9,7 @@ use Rattle.quorum_packet.specs.declared.phase.Phase.{Phase}
 use Rattle.replica.specs.Replica.{Replica}
 use Rattle.sessions.specs.State.{State as Sessions, state_code as sessions_code}
 use Rattle.watch_manager.specs.Watching.{Watching, watching_code}
-use Rattle.observer_core.specs.declared.config.Config.{Config}
+use Rattle.observer_core.specs.declared.config.Settings.{Settings}
 
 -- an open connection of a client: its bytes that wait for more
 pub record Connection : Type 0 where
@@ -29,7 +29,7 @@ pub record Clients : Type 0 where
 
 -- all but the leader's bytes
 pub record World : Type 0 where
-  pub config : Config
+  pub settings : Settings
   -- what a read shows, and how far the leader was followed
   pub replica : Replica
   pub clients : Clients
@@ -61,11 +61,11 @@ clients_code =
     (λ c. (c.connections, (c.sessions, c.watches)))
     (λ p. record { connections = p.0; sessions = p.1.0; watches = p.1.1 }) (λ _. refl)
 
-abbrev pub world_code : Coded Config → Coded Replica → Coded World
-world_code config replica =
-    code_by (Config × (Replica × Clients)) (coded× config (coded× replica clients_code))
-    (λ w. (w.config, (w.replica, w.clients)))
-    (λ p. record { config = p.0; replica = p.1.0; clients = p.1.1 }) (λ _. refl)
+abbrev pub world_code : Coded Settings → Coded Replica → Coded World
+world_code settings replica =
+    code_by (Settings × (Replica × Clients)) (coded× settings (coded× replica clients_code))
+    (λ w. (w.settings, (w.replica, w.clients)))
+    (λ p. record { settings = p.0; replica = p.1.0; clients = p.1.1 }) (λ _. refl)
 
 abbrev pub leader_code : Coded (Place Phase) → Coded Loading → Coded Leader
 leader_code place loading =

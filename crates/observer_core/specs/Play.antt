@@ -7,7 +7,7 @@ use Rattle.sessions.specs.State.{terms_of}
 use Rattle.sessions.specs.Sessions.{no_sessions, connect}
 use Rattle.sessions.specs.declared.request.SessionRequest.{SessionRequest}
 use Rattle.watch_manager.specs.Watching.{no_watch}
-use Rattle.observer_core.specs.declared.config.Config.{Config}
+use Rattle.observer_core.specs.declared.config.Settings.{Settings}
 use Rattle.observer_core.specs.declared.event.Event.{Event}
 use Rattle.observer_core.specs.declared.event.Event.TheVariants.{LeaderUp, LeaderBytes, LeaderEnd, ClientUp, ClientBytes, ClientEnd, Expire, Checkpoint}
 use Rattle.observer_core.specs.Machine.{Clients, World, MachineBy, Machine}
@@ -51,38 +51,38 @@ play m events = play_by by_parts m events
 
 -- ---- the machines at the start
 
-abbrev pub started : {L : Type 0} → Config → Replica → Option L → Clients → MachineBy L
-started config replica leader clients =
-    record { leader = leader; world = record { config = config; replica = replica; clients = clients } }
+abbrev pub started : {L : Type 0} → Settings → Replica → Option L → Clients → MachineBy L
+started settings replica leader clients =
+    record { leader = leader; world = record { settings = settings; replica = replica; clients = clients } }
 
 -- nobody, and no session yet
-abbrev pub no_clients : Config → Clients
-no_clients config = record {
+abbrev pub no_clients : Settings → Clients
+no_clients settings = record {
   connections = finmap.empty;
-  sessions = no_sessions (terms_of config.server_id config.timeouts config.secret);
+  sessions = no_sessions (terms_of settings.server_id settings.timeouts settings.secret);
   watches = no_watch;
 }
 
 -- the configured epochs, without a leader and without a client
-abbrev pub new_by : {L : Type 0} → Side L → Config → MachineBy L
-new_by side config = started config (new_replica config.epochs) None (no_clients config)
+abbrev pub new_by : {L : Type 0} → Side L → Settings → MachineBy L
+new_by side settings = started settings (new_replica settings.epochs) None (no_clients settings)
 
 -- the connect of a client that has no session and wants the shortest timeout
 abbrev pub first_request : SessionRequest
 first_request = record { time_out = pos 0; session_id = pos 0; password = None }
 
 -- connection 1 is open, and has the first session
-abbrev pub first_client : Config → Clients
-first_client config =
-    let nobody = no_clients config in
+abbrev pub first_client : Settings → Clients
+first_client settings =
+    let nobody = no_clients settings in
     with_connection 1 at_rest (record nobody { sessions = (connect nobody.sessions 1 first_request).after })
 
 -- following a leader in epoch 1, with connection 1 open
-abbrev pub primed_by : {L : Type 0} → Side L → Config → MachineBy L
-primed_by side config = started config primed_replica (Some side.opened) (first_client config)
+abbrev pub primed_by : {L : Type 0} → Side L → Settings → MachineBy L
+primed_by side settings = started settings primed_replica (Some side.opened) (first_client settings)
 
-abbrev pub new_machine : Config → Machine
-new_machine config = new_by by_parts config
+abbrev pub new_machine : Settings → Machine
+new_machine settings = new_by by_parts settings
 
-abbrev pub primed_machine : Config → Machine
-primed_machine config = primed_by by_parts config
+abbrev pub primed_machine : Settings → Machine
+primed_machine settings = primed_by by_parts settings

@@ -2,9 +2,9 @@
 use Rattle.std.specs.Prelude.{◌≡◌, ℕ, List, [], ◌∷◌, ◌++◌, codes}
 use Rattle.values.specs.Hex.{spelled}
 use Rattle.values.specs.declared.fault.Fault.TheVariants.{OutOfOrder}
-use Rattle.observer_core.specs.declared.config.Config.{Config}
+use Rattle.observer_core.specs.declared.config.Settings.{Settings}
 use Rattle.observer_core.specs.declared.event.Event.{Event}
-use Rattle.observer_core.specs.declared.event.Event.TheVariants.{LeaderBytes, ClientBytes}
+use Rattle.observer_core.specs.declared.event.Event.TheVariants.{LeaderBytes, ClientUp, ClientBytes}
 use Rattle.observer_core.specs.declared.event.Output.{Output}
 use Rattle.observer_core.specs.declared.event.Output.TheVariants.{ToClient, CloseLeader, CloseClient}
 use Rattle.observer_core.specs.Play.{play, new_machine, primed_machine}
@@ -67,7 +67,7 @@ awaited = ClientBytes 1 exists_request
 
 -- a primed machine answers so
 abbrev pub Answers : List Event → List Output → Type 0
-Answers events outputs = (config : Config) → (play (primed_machine config) events).outputs ≡ outputs
+Answers events outputs = (settings : Settings) → (play (primed_machine settings) events).outputs ≡ outputs
 
 -- a read sees the create, and later the write
 pub record WorkedRows : Type 0 where
@@ -85,4 +85,14 @@ pub record WorkedRows : Type 0 where
       (ToClient 1 reply_of_missing ∷ ToClient 1 event_of_create ∷ [])
   pub nothing : Answers [] []
   -- without a leader and a client nothing is answered
-  pub idle : (config : Config) → (play (new_machine config) (created ∷ asked ∷ [])).outputs ≡ []
+  pub idle : (settings : Settings) → (play (new_machine settings) (created ∷ asked ∷ [])).outputs ≡ []
+  -- a connection that begins with "ruok" is answered "imok" and closed, also where no leader was ever followed
+  pub ruok : (settings : Settings)
+      → (play (new_machine settings) (ClientUp 2 ∷ ClientBytes 2 (codes "ruok") ∷ [])).outputs
+      ≡ ToClient 2 (codes "imok") ∷ CloseClient 2 ∷ []
+  -- to "isro" it says that no client is served
+  pub isro_not_serving : (settings : Settings)
+      → (play (new_machine settings) (ClientUp 2 ∷ ClientBytes 2 (codes "isro") ∷ [])).outputs
+      ≡ ToClient 2 (codes "null") ∷ CloseClient 2 ∷ []
+  -- a client that has a session says no word: the letters are the length of a frame that is too long
+  pub word_with_a_session : Answers (ClientBytes 1 (codes "ruok") ∷ []) (CloseClient 1 ∷ [])

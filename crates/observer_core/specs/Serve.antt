@@ -1,5 +1,6 @@
 -- What the bytes of a client do.
-use Rattle.std.specs.Prelude.{ℕ, ℤ, pos, List, [], ◌∷◌, ◌++◌, Option, Some, None, Result, Ok, Err, Bool, not, int_lt, ◌&&◌, if◌then◌else◌}
+use Rattle.std.specs.Prelude.{ℕ, ℤ, pos, List, [], ◌∷◌, ◌++◌, map, take, Option, Some, None, Result, Ok, Err, Bool, not, int_lt, ◌&&◌, if◌then◌else◌}
+use Rattle.std.specs.Option.{unwrap_or}
 use Rattle.std.specs.Ordering.{int_eq}
 use Rattle.std.specs.FinMap as finmap
 use Rattle.std.specs.FinSet as set
@@ -14,6 +15,13 @@ use Rattle.sessions.specs.State.{State as Sessions}
 use Rattle.sessions.specs.Sessions.{session_of, ids_of, Connects, connect, Shows, auth, expire}
 use Rattle.sessions.specs.declared.request.SessionResponse.{SessionResponse}
 use Rattle.watch_manager.specs.Watching.{Watching}
+use Rattle.watch_manager.specs.Summary.{summary}
+use Rattle.watch_manager.specs.declared.watched.Watched.{Watched}
+use Rattle.four_letter.specs.Words.{word_of}
+use Rattle.four_letter.specs.Texts.{text}
+use Rattle.four_letter.specs.declared.figures.Figures.{Figures}
+use Rattle.four_letter.specs.declared.figures.WatchRow.{WatchRow}
+use Rattle.four_letter.specs.declared.word.Word.{Word}
 use Rattle.read_processor.specs.declared.request.Request.{Request}
 use Rattle.read_processor.specs.declared.watch.Watch.{Watch}
 use Rattle.read_processor.specs.declared.watch.Watch.TheVariants as tables
@@ -28,7 +36,7 @@ use Rattle.client_frames.specs.declared.call.Call.{Call}
 use Rattle.client_frames.specs.declared.call.CallBody.{CallBody}
 use Rattle.client_frames.specs.declared.call.CallBody.TheVariants as bodies
 use Rattle.client_frames.specs.declared.connecting.Connecting.{Connecting}
-use Rattle.observer_core.specs.Machine.{Connection, World}
+use Rattle.observer_core.specs.Machine.{Connection, Clients, World}
 use Rattle.client_frames.specs.Call.{call_in}
 use Rattle.client_frames.specs.Connect.{connecting_in, session_request, answer_to_connect}
 use Rattle.observer_core.specs.Steps.{Happened, behind, quiet, and_then, happening}
@@ -161,6 +169,48 @@ serve_by serving n w frame (Some session) = serve_as n w (call_in frame)
 abbrev pub serve : Bool → ℕ → World → List ℕ → Happened World
 serve serving n w frame = serve_by serving n w frame (session_of w.clients.sessions n)
 
+-- ---- words
+
+-- a watch with the session of its connection, where 0 is none's
+abbrev pub row_of : Sessions → Watched → WatchRow
+row_of sessions watched = record {
+  path = watched.path;
+  conn = watched.conn;
+  session = unwrap_or (session_of sessions watched.conn) (pos 0);
+  table = watched.table;
+}
+
+-- all watches, in the order of paths
+abbrev pub watch_rows : Clients → List WatchRow
+watch_rows c = map (row_of c.sessions) (summary c.watches)
+
+-- what words tell of, with these watches
+abbrev pub figures_with : Bool → World → List WatchRow → Figures
+figures_with serving w watches = record {
+  serving = serving;
+  last = w.replica.learner.last_zxid;
+  connections = finmap.len w.clients.sessions.connections;
+  paths = finmap.len w.replica.tree.nodes;
+  pairs = set.len w.replica.tree.pairs;
+  watches = watches;
+}
+
+abbrev pub figures : Bool → World → Figures
+figures serving w = figures_with serving w (watch_rows w.clients)
+
+-- a word is answered, and the connection is closed
+abbrev pub tell_word : Bool → ℕ → World → Word → Happened World
+tell_word serving n w word = send_last n w (Some (text word (figures serving w)))
+
+-- who has a session says no word
+abbrev pub said : Option ℤ → Option Word → Option Word
+said None word = word
+said (Some session) word = None
+
+-- the word of a connection's first four bytes; of fewer there is none
+abbrev pub word_at : ℕ → World → List ℕ → Option Word
+word_at n w bytes = said (session_of w.clients.sessions n) (word_of (take 4 bytes))
+
 -- ---- bytes
 
 abbrev pub is_closed : ℕ → World → Bool
@@ -197,11 +247,17 @@ abbrev pub serve_all : Bool → ℕ → World → Items (Unit {0}) (List ℕ) �
 serve_all serving n w found = and_then (happening (is_closed n) (serve serving n) w found.found)
     (wait_at n found.left.unread)
 
+-- a word, or frames
+abbrev pub tell_or_serve : Bool → ℕ → World → List ℕ → Option Word → Happened World
+tell_or_serve serving n w bytes None = serve_all serving n w (items frames (place_at tt bytes))
+tell_or_serve serving n w bytes (Some word) = tell_word serving n w word
+
 -- the bytes of a connection that isn't open are passed over
 abbrev pub take_client_bytes : Bool → ℕ → World → Option Connection → List ℕ → Happened World
 take_client_bytes serving n w None bytes = quiet w
 take_client_bytes serving n w (Some connection) bytes =
-    serve_all serving n (keep n w connection []) (items frames (place_at tt (connection.rest ++ bytes)))
+    let came = connection.rest ++ bytes in
+    tell_or_serve serving n (keep n w connection []) came (word_at n w came)
 
 -- ---- coming and going
 

@@ -1,6 +1,6 @@
 -- A leader's stream may be taken part by part: what goes out, and the world that is left, are those of whole images.
 use Rattle.std.specs.Prelude.{◌≡◌, List}
-use Rattle.observer_core.specs.declared.config.Config.{Config}
+use Rattle.observer_core.specs.declared.config.Settings.{Settings}
 use Rattle.observer_core.specs.declared.event.Event.{Event}
 use Rattle.observer_core.specs.Machine.{MachineBy}
 use Rattle.observer_core.specs.Steps.{Happened}
@@ -14,7 +14,7 @@ pub record SameSeen {L M : Type 0} (a : Happened (MachineBy L)) (b : Happened (M
 
 -- from the start on, for every list of events
 pub record PartsAreWholeImages : Type 0 where
-  pub made : (config : Config) (events : List Event)
-      → SameSeen (play (new_machine config) events) (play_by by_images (new_by by_images config) events)
-  pub primed : (config : Config) (events : List Event)
-      → SameSeen (play (primed_machine config) events) (play_by by_images (primed_by by_images config) events)
+  pub made : (settings : Settings) (events : List Event)
+      → SameSeen (play (new_machine settings) events) (play_by by_images (new_by by_images settings) events)
+  pub primed : (settings : Settings) (events : List Event)
+      → SameSeen (play (primed_machine settings) events) (play_by by_images (primed_by by_images settings) events)

@@ -13,6 +13,7 @@ use crate::machine::World;
 use crate::reading::{answer_renewal, answer_request};
 use crate::sending::{answer_without_body, answer_without_body_last, close_client};
 use crate::session::{end_session, show_id};
+use crate::word::{tell_word, word_at};
 use client_frames::{CallBody, read_call};
 use client_records::codes::{NOT_READ_ONLY, OK, PING_XID, UNIMPLEMENTED};
 use jute::codes::BAD_ARGUMENTS;
@@ -149,7 +150,7 @@ fn serve_all(
     Ok(())
 }
 
-/// Lets a client's bytes happen, where clients are served or not.
+/// Lets a client's bytes happen, where clients are served or not: a word, if they begin with one and may, or frames.
 pub fn take_client_bytes(
     alloc: Global,
     serving: bool,
@@ -168,7 +169,10 @@ pub fn take_client_bytes(
         return Ok(());
     };
     waiting.add(bytes)?;
-    serve_all(alloc, serving, number, world, waiting, outputs)
+    match word_at(number, world, waiting.as_slice()) {
+        Some(word) => tell_word(alloc, serving, number, world, word, outputs),
+        None => serve_all(alloc, serving, number, world, waiting, outputs),
+    }
 }
 
 /// Opens a connection; one that is open already stays as it is.

@@ -1,20 +1,29 @@
 //! What an observer is set up with.
 
 ghost use Rattle.std.specs.Prelude.{◌≡◌, ◌↔◌, IsOk, IsTrue, IfOk};
+ghost use Rattle.batcher.specs.Limits.{limit_numbers};
 ghost use Rattle.settings.specs.Settings.{epoch_pair, timeout_pair};
 ghost use Rattle.settings.specs.Settings.{is_server_id, are_epochs, are_timeouts, is_secret};
 
+use batcher::Limits;
 use settings::{Epochs, Secret, ServerId, TimeoutBounds};
 use thiserror::Error;
 use values::Blob;
 
-/// The settings of an observer.
+/// The settings of an observer: all of its set-up that shows in what it answers.
 #[derive(Debug, Drop)]
-pub struct Config {
+pub struct Settings {
     pub server_id: ServerId,
     pub epochs: Epochs,
     pub timeouts: TimeoutBounds,
     pub secret: Secret,
+}
+
+/// The settings of an observer, and how much it does at once.
+#[derive(Drop)]
+pub struct Config {
+    pub settings: Settings,
+    pub limits: Limits,
 }
 
 /// A setting is out of its bounds.
@@ -22,8 +31,18 @@ pub struct Config {
 #[error("a setting is out of its bounds")]
 pub struct BadConfig;
 
+/// The limits where nothing is said: 4 workers, and batches of up to 256 transactions in up to 64 groups.
+pub fn default_limits() -> Limits
+    ensures { result ≡ limit_numbers 4 256 64 }
+{
+    match Limits::new(4, 256, 64) {
+        Ok(limits) => limits,
+        Err(_) => unreachable!(),
+    }
+}
+
 impl Config {
-    /// The settings of these numbers and bytes, if each is within its bounds.
+    /// The settings of these numbers and bytes, if each is within its bounds, with these limits.
     pub fn new(
         server_id: i32,
         accepted_epoch: i32,
@@ -31,16 +50,18 @@ impl Config {
         min_timeout: i32,
         max_timeout: i32,
         secret: Blob,
+        limits: Limits,
     ) -> Result<Config, BadConfig>
         ensures accepted { let epochs = epoch_pair accepted_epoch current_epoch in
             let timeouts = timeout_pair min_timeout max_timeout in
             IsOk result
             ↔ (IsTrue (is_server_id server_id) × IsTrue (are_epochs epochs)
             × IsTrue (are_timeouts timeouts) × IsTrue (is_secret secret)) }
-        ensures server { IfOk result (λ c. c.server_id ≡ server_id) }
-        ensures epochs { IfOk result (λ c. c.epochs ≡ epoch_pair accepted_epoch current_epoch) }
-        ensures timeouts { IfOk result (λ c. c.timeouts ≡ timeout_pair min_timeout max_timeout) }
-        ensures secret { IfOk result (λ c. c.secret ≡ secret) }
+        ensures server { IfOk result (λ c. c.settings.server_id ≡ server_id) }
+        ensures epochs { IfOk result (λ c. c.settings.epochs ≡ epoch_pair accepted_epoch current_epoch) }
+        ensures timeouts { IfOk result (λ c. c.settings.timeouts ≡ timeout_pair min_timeout max_timeout) }
+        ensures secret { IfOk result (λ c. c.settings.secret ≡ secret) }
+        ensures limits { IfOk result (λ c. c.limits ≡ limits) }
     {
         let Some(server_id) = ServerId::new(server_id) else {
             return Err(BadConfig);
@@ -54,26 +75,20 @@ impl Config {
         let Some(secret) = Secret::new(secret) else {
             return Err(BadConfig);
         };
-        Ok(Config::from_settings(server_id, epochs, timeouts, secret))
-    }
-
-    /// These settings, each of which is within its bounds.
-    pub fn from_settings(
-        server_id: ServerId,
-        epochs: Epochs,
-        timeouts: TimeoutBounds,
-        secret: Secret,
-    ) -> Config
-        ensures server { result.server_id ≡ server_id }
-        ensures epochs { result.epochs ≡ epochs }
-        ensures timeouts { result.timeouts ≡ timeouts }
-        ensures secret { result.secret ≡ secret }
-    {
-        Config {
+        let settings = Settings {
             server_id,
             epochs,
             timeouts,
             secret,
-        }
+        };
+        Ok(Config::from_settings(settings, limits))
+    }
+
+    /// These settings, each of which is within its bounds, with these limits.
+    pub fn from_settings(settings: Settings, limits: Limits) -> Config
+        ensures settings { result.settings ≡ settings }
+        ensures limits { result.limits ≡ limits }
+    {
+        Config { settings, limits }
     }
 }

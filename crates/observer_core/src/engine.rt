@@ -6,11 +6,13 @@ ghost use Rattle.observer_core.specs.Machine.{Machine as TheMachine};
 ghost use Rattle.observer_core.specs.Plays.{Plays};
 
 use crate::clients::Clients;
-use crate::config::Config;
+use crate::config::{Config, Settings};
 use crate::connections::Connections;
 use crate::event::{Event, Output};
 use crate::machine::{Leader, Machine, World};
 use crate::run::run;
+use apply_workers::Gate;
+use batcher::Limits;
 use data_tree::Tree;
 use learner_sync::Learner;
 use quorum_packet::PacketFeed;
@@ -19,6 +21,7 @@ use sessions::{SessionRequest, Sessions};
 use snapshot_codec::Loader;
 use std::alloc::Global;
 use std::marker::Model;
+use std::thread::Threads;
 use thiserror::Error;
 use values::NoMemory;
 use watch_manager::Watches;
@@ -40,6 +43,8 @@ pub enum Stop {
 #[derive(Drop)]
 pub struct Engine {
     machine: Machine,
+    // How much is done at once, which no answer shows.
+    limits: Limits,
     closed: bool,
 }
 
@@ -57,22 +62,22 @@ impl Model for Engine {
 }
 
 // Nobody, and no session yet.
-fn no_clients(alloc: Global, config: &Config) -> Result<Clients, NoMemory>
-    ensures { IfOk result (λ clients. clients ≡ no_clients config.now) }
+fn no_clients(alloc: Global, settings: &Settings) -> Result<Clients, NoMemory>
+    ensures { IfOk result (λ clients. clients ≡ no_clients settings.now) }
 {
-    let secret = config.secret.clone()?;
+    let secret = settings.secret.clone()?;
     Ok(Clients {
         connections: Connections::new(alloc),
-        sessions: Sessions::new(alloc, config.server_id, config.timeouts, secret),
+        sessions: Sessions::new(alloc, settings.server_id, settings.timeouts, secret),
         watches: Watches::new(alloc),
     })
 }
 
 // One connection that is open, and has the first session.
-fn first_client(alloc: Global, config: &Config) -> Result<Clients, NoMemory>
-    ensures { IfOk result (λ clients. clients ≡ first_client config.now) }
+fn first_client(alloc: Global, settings: &Settings) -> Result<Clients, NoMemory>
+    ensures { IfOk result (λ clients. clients ≡ first_client settings.now) }
 {
-    let mut clients = no_clients(alloc, config)?;
+    let mut clients = no_clients(alloc, settings)?;
     let request = SessionRequest {
         time_out: 0,
         session_id: 0,
@@ -87,37 +92,46 @@ impl Engine {
     /// An observer that has followed no leader yet. Until one has brought it up to date, it closes a client that wants
     /// a session.
     pub fn new(alloc: Global, config: Config) -> Result<Engine, NoMemory>
-        ensures { IfOk result (λ e. e ≡ Some (new_machine config)) }
+        ensures { IfOk result (λ e. e ≡ Some (new_machine config.settings)) }
     {
-        let replica = Replica::new(alloc, config.epochs)?;
-        let clients = no_clients(alloc, &config)?;
-        Ok(Engine::started(config, replica, None, clients))
+        let Config { settings, limits } = config;
+        let replica = Replica::new(alloc, settings.epochs)?;
+        let clients = no_clients(alloc, &settings)?;
+        Ok(Engine::started(limits, settings, replica, None, clients))
     }
 
     /// An observer that follows a leader in epoch 1, with connection 1 open.
     pub fn primed(alloc: Global, config: Config) -> Result<Engine, NoMemory>
-        ensures { IfOk result (λ e. e ≡ Some (primed_machine config)) }
+        ensures { IfOk result (λ e. e ≡ Some (primed_machine config.settings)) }
     {
+        let Config { settings, limits } = config;
         let replica = Replica::primed(alloc)?;
-        let clients = first_client(alloc, &config)?;
+        let clients = first_client(alloc, &settings)?;
         let leader = Leader {
             feed: PacketFeed::new(alloc),
             loader: Loader::new(alloc),
         };
-        Ok(Engine::started(config, replica, Some(leader), clients))
+        Ok(Engine::started(limits, settings, replica, Some(leader), clients))
     }
 
     // A machine that isn't closed.
-    fn started(config: Config, replica: Replica, leader: Option<Leader>, clients: Clients) -> Engine
-        ensures { result ≡ Some (started config replica leader clients) }
+    fn started(
+        limits: Limits,
+        settings: Settings,
+        replica: Replica,
+        leader: Option<Leader>,
+        clients: Clients,
+    ) -> Engine
+        ensures { result ≡ Some (started settings replica leader clients) }
     {
         let world = World {
-            config,
+            settings,
             replica,
             clients,
         };
         Engine {
             machine: Machine { leader, world },
+            limits,
             closed: false,
         }
     }
@@ -155,5 +169,19 @@ impl Engine {
                 Err(Stop::NoMemory)
             }
         }
+    }
+    /// The same, for an engine that may have workers do a part of it: it waits for them, and they pass the gate. As yet
+    /// all is done on the calling thread.
+    pub fn feed<G: Gate + Sync, R: Threads + Sync>(
+        &mut self,
+        _rt: &R,
+        alloc: Global,
+        events: &[Event<'_>],
+        _gate: &G,
+        outputs: &mut Vec<Output>,
+    ) -> Result<(), Stop>
+        ensures { Plays result self.old events.now outputs.old.items outputs.new.items self.new }
+    {
+        self.feed_inline(alloc, events, outputs)
     }
 }

@@ -44,7 +44,9 @@ pub fn parts_are_whole_images()
     replica::law::images();
 }
 
-/// A packet or part that is refused leaves the world as what stands before it left it.
+/// A packet or part that is refused changes nothing. Where bytes of the leader bring one, what goes out and what is left
+/// are those of the items before it, and then of the leader's loss for that fault; and the loss leaves tree, base, log
+/// and epochs.
 pub fn refusals_change_nothing()
     ensures { RefusalsChangeNothing }
 {}

@@ -155,7 +155,7 @@ pub fn meet_leader(
     if machine.leader.is_some() {
         return Ok(());
     }
-    let server_id = machine.world.config.server_id;
+    let server_id = machine.world.settings.server_id;
     let replies = machine.world.replica.start(alloc, server_id)?;
     machine.leader = Some(Leader {
         feed: PacketFeed::new(alloc),

@@ -1,7 +1,7 @@
 //! The machine of the definitions, as it is held.
 
 use crate::clients::Clients;
-use crate::config::Config;
+use crate::config::Settings;
 use quorum_packet::PacketFeed;
 use replica::Replica;
 use snapshot_codec::Loader;
@@ -10,22 +10,22 @@ use std::marker::Model;
 /// All but the leader's bytes.
 #[derive(Drop)]
 pub struct World {
-    pub config: Config,
+    pub settings: Settings,
     /// What a read shows, and how far the leader was followed.
     pub replica: Replica,
     pub clients: Clients,
 }
 
 impl Model for World {
-    ghost use Rattle.observer_core.specs.contracts.config.Config as of_config;
+    ghost use Rattle.observer_core.specs.contracts.config.Settings as of_settings;
     ghost use Rattle.replica.specs.contracts.replica.Replica as of_replica;
     ghost use Rattle.observer_core.specs.Machine.{World as TheWorld, world_code};
 
     ghost Value = { TheWorld };
 
-    ghost coded = { world_code of_config.the_row.coded of_replica.the_row.coded };
+    ghost coded = { world_code of_settings.the_row.coded of_replica.the_row.coded };
 
-    ghost view = { λ w. record { config = w.config; replica = w.replica; clients = w.clients } };
+    ghost view = { λ w. record { settings = w.settings; replica = w.replica; clients = w.clients } };
 }
 
 /// A leader's stream.

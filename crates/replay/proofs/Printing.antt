@@ -16,7 +16,7 @@ use Rattle.replay_script.specs.declared.script.Script.{Script}
 use Rattle.replay.specs.Lines.{output_line}
 use Rattle.replay.specs.Replay.{happened, printed, WritesFront, PrintsFront, Ends}
 use Rattle.replay.specs.declared.ending.Ending.{Ending}
-use Rattle.replay.specs.declared.ending.Ending.TheVariants.{Done, BadLine, Failed, NoMemory}
+use Rattle.replay.specs.declared.ending.Ending.TheVariants.{Done, BadLine, Failed, NoMemory, NotClean, NoNode}
 
 pub appends_both : (a b c : Option (List ℕ)) (xs ys : List ℕ) → Appends a b xs → Appends b c ys → Appends a c (xs ++ ys)
 appends_both None b c xs ys p q = tt
@@ -82,13 +82,13 @@ first_of_first w f = record {
   written = w.written;
 }
 
-keeps_both : (a b c : Option (List ℕ)) → Keeps a b → Keeps b c → Keeps a c
+pub keeps_both : (a b c : Option (List ℕ)) → Keeps a b → Keeps b c → Keeps a c
 keeps_both None b c p q = tt
 keeps_both (Some x) None c p q = absurd p
 keeps_both (Some x) (Some y) None p q = absurd q
 keeps_both (Some x) (Some y) (Some z) p q = q ∙ p
 
-appends_kept : (a b c : Option (List ℕ)) (xs : List ℕ) → Appends a b xs → Keeps b c → Appends a c xs
+pub appends_kept : (a b c : Option (List ℕ)) (xs : List ℕ) → Appends a b xs → Keeps b c → Appends a c xs
 appends_kept None b c xs p q = tt
 appends_kept (Some x) None c xs p q = absurd p
 appends_kept (Some x) (Some y) None xs p q = absurd q
@@ -120,6 +120,8 @@ ends_kept NoMemory text a b c p q =
       | inl same ↦ inl (keeps_both a b c same q)
       | inr found ↦ inr (found.0, found.1, front_kept found.0 a b c found.2 q)
     ]
+ends_kept NotClean text a b c p q = p
+ends_kept NoNode text a b c p q = p
 
 pub if_some : {A : Type 0} (o : Option A) (P Q : A → Type 0) → ((x : A) → P x → Q x) → IfSome o P → IfSome o Q
 if_some None P Q f h = tt

@@ -3,12 +3,19 @@ use Rattle.std.specs.Prelude.{ℕ, List, [], ◌∷◌, Option, Some, None, if�
 use Rattle.std.specs.Str.{bytes_eq}
 use Rattle.replay.specs.declared.command.Source.{Source}
 use Rattle.replay.specs.declared.command.Source.TheVariants.{Input, File}
+use Rattle.replay.specs.declared.command.Command.{Command}
+use Rattle.replay.specs.declared.command.Command.TheVariants.{Replay, Audit}
 
--- Where the script is read from: `replay` and the name of a file, of which `-` is standard input, as no word at all
--- is. Nothing else is a command line.
-abbrev pub source_of : List (List ℕ) → Option Source
-source_of [] = Some Input
-source_of (command ∷ []) = None
-source_of (command ∷ name ∷ []) = if bytes_eq command (codes "replay")
-    then (if bytes_eq name (codes "-") then Some Input else Some (File name)) else None
-source_of (command ∷ name ∷ word ∷ words) = None
+-- where a script of this name is read from: `-` is standard input
+abbrev pub source_of : List ℕ → Source
+source_of name = if bytes_eq name (codes "-") then Input else File name
+
+-- `replay` and the name of a script; `audit`, the name of a script and a path; and no word at all replays standard
+-- input. Nothing else is a command line.
+abbrev pub command_of : List (List ℕ) → Option Command
+command_of [] = Some (Replay Input)
+command_of (command ∷ []) = None
+command_of (command ∷ name ∷ []) = if bytes_eq command (codes "replay") then Some (Replay (source_of name)) else None
+command_of (command ∷ name ∷ path ∷ []) =
+    if bytes_eq command (codes "audit") then Some (Audit (source_of name) path) else None
+command_of (command ∷ name ∷ path ∷ word ∷ words) = None

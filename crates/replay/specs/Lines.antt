@@ -1,7 +1,7 @@
--- The lines that a replay prints.
+-- The lines that a replay and an audit print.
 use Rattle.std.specs.Prelude.{ℕ, ℤ, List, [], ◌∷◌, ◌++◌, false, codes, decimal}
 use Rattle.std.specs.Int.{w64, cast_unsigned}
-use Rattle.std.specs.Fmt.{radix_digits}
+use Rattle.std.specs.Fmt.{radix_digits, signed_decimal}
 use Rattle.values.specs.Faults.{fault_number, fault_word}
 use Rattle.observer_core.specs.declared.event.Output.{Output}
 use Rattle.observer_core.specs.declared.event.Output.TheVariants.{ToLeader, ToClient, CloseLeader, CloseClient}
@@ -27,3 +27,8 @@ hex_number number = radix_digits 16 false (cast_unsigned w64 number)
 -- the last line: the last zxid and the number of paths
 abbrev pub end_line : ℤ → ℕ → List ℕ
 end_line zxid paths = codes "end zxid=0x" ++ hex_number zxid ++ codes " paths=" ++ decimal paths ++ line_end
+
+-- the one line of an audit: the counted cversion and pzxid
+abbrev pub count_line : ℤ → ℤ → List ℕ
+count_line cversion pzxid =
+    codes "cversion=" ++ signed_decimal cversion ++ codes " pzxid=0x" ++ hex_number pzxid ++ line_end

@@ -3,7 +3,7 @@ use Rattle.std.specs.Prelude.{◌≡◌, ℕ, List, [], ◌++◌, map, Option, O
 use Rattle.std.specs.List.{flat_map}
 use Rattle.std.specs.FinMap as finmap
 use Rattle.std.specs.Io.KnownBytes.{Appends, Keeps}
-use Rattle.observer_core.specs.declared.config.Config.{Config}
+use Rattle.observer_core.specs.declared.config.Settings.{Settings}
 use Rattle.observer_core.specs.declared.event.Event.{Event}
 use Rattle.observer_core.specs.declared.event.Event.TheVariants as events
 use Rattle.observer_core.specs.declared.event.Output.{Output}
@@ -18,7 +18,7 @@ use Rattle.replay_script.specs.declared.script.Script.{Script}
 use Rattle.replay.specs.Lines.{output_line, end_line}
 use Rattle.replay.specs.Ending.{status_of}
 use Rattle.replay.specs.declared.ending.Ending.{Ending}
-use Rattle.replay.specs.declared.ending.Ending.TheVariants.{Done, BadLine, Failed, NoMemory}
+use Rattle.replay.specs.declared.ending.Ending.TheVariants.{Done, BadLine, Failed, NoMemory, NotClean, NoNode}
 
 abbrev pub event_of : ScriptEvent → Event
 event_of LeaderUp = events.LeaderUp
@@ -31,8 +31,8 @@ event_of (Expire session) = events.Expire session
 event_of Checkpoint = events.Checkpoint
 
 -- what the script sets up
-abbrev pub config_of : Script → Config
-config_of script = record {
+abbrev pub settings_of : Script → Settings
+settings_of script = record {
   server_id = script.server_id;
   epochs = script.epochs;
   timeouts = script.timeouts;
@@ -41,7 +41,7 @@ config_of script = record {
 
 -- the observer at the start
 abbrev pub machine_of : Script → Machine
-machine_of script = if script.primed then primed_machine (config_of script) else new_machine (config_of script)
+machine_of script = if script.primed then primed_machine (settings_of script) else new_machine (settings_of script)
 
 -- what happens when the script's events come to the observer that its settings set up
 abbrev pub happened : Script → Happened Machine
@@ -77,6 +77,8 @@ Ends (BadLine number) text old new = (script_of text ≡ Err number) × Keeps ol
 Ends Failed text old new = Keeps old new ⊎ ((script : Script) × (script_of text ≡ Ok script))
 Ends NoMemory text old new =
     Keeps old new ⊎ ((script : Script) × (script_of text ≡ Ok script) × PrintsFront script old new)
+Ends NotClean text old new = ⊥
+Ends NoNode text old new = ⊥
 
 -- the same by the exit status
 abbrev pub EndsWith : ℕ → List ℕ → Option (List ℕ) → Option (List ℕ) → Type 0

@@ -1,4 +1,4 @@
-//! How a replay ends.
+//! How a replay, or an audit, ends.
 
 ghost use Rattle.std.specs.Prelude.{◌≡◌, IsOk, OnOk};
 ghost use Rattle.std.specs.Io.KnownBytes.{Appends};
@@ -7,7 +7,7 @@ ghost use Rattle.replay.specs.Ending.{status_of, message_of};
 use std::io;
 use std::io::Write;
 
-/// How a replay ended.
+/// How a replay, or an audit, ended.
 #[derive(Clone, Copy, Debug, PartialEq, Eq)]
 pub enum Ending {
     /// All was fed and printed.
@@ -18,6 +18,10 @@ pub enum Ending {
     Failed,
     /// A growth was refused.
     NoMemory,
+    /// The log isn't clean, or doesn't begin with the fresh tree: it has no count.
+    NotClean,
+    /// There is no node at the path.
+    NoNode,
 }
 
 impl Ending {
@@ -30,6 +34,8 @@ impl Ending {
             Ending::BadLine(_) => 1,
             Ending::Failed => 3,
             Ending::NoMemory => 4,
+            Ending::NotClean => 5,
+            Ending::NoNode => 6,
         }
     }
 
@@ -44,6 +50,8 @@ impl Ending {
             Ending::BadLine(number) => writeln!(writer, "line {number}: bad line"),
             Ending::Failed => writeln!(writer, "cannot open"),
             Ending::NoMemory => writeln!(writer, "no memory"),
+            Ending::NotClean => writeln!(writer, "not clean"),
+            Ending::NoNode => writeln!(writer, "no node"),
         }
     }
 }

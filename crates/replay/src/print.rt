@@ -1,7 +1,8 @@
-//! The lines that a replay prints.
+//! The lines that a replay and an audit print.
 
 ghost use Rattle.std.specs.Prelude.{◌≡◌, ◌++◌, OnOk, decimal};
-ghost use Rattle.replay.specs.Lines.{output_line, hex_number, end_line};
+ghost use Rattle.replay.specs.Lines.{output_line, hex_number, end_line, count_line};
+ghost use Rattle.std.specs.Fmt.{signed_decimal};
 
 use observer_core::Output;
 use replay_script::put_hex;
@@ -17,6 +18,15 @@ fn put(out: &mut Vec<u8>, text: &[u8]) -> Result<(), NoMemory>
 
 fn put_decimal(out: &mut Vec<u8>, number: u64) -> Result<(), NoMemory>
     ensures { OnOk result (out.new.items ≡ out.old.items ++ decimal number) }
+{
+    match write!(out, "{number}") {
+        Ok(()) => Ok(()),
+        Err(_) => Err(NoMemory),
+    }
+}
+
+fn put_signed(out: &mut Vec<u8>, number: i32) -> Result<(), NoMemory>
+    ensures { OnOk result (out.new.items ≡ out.old.items ++ signed_decimal number) }
 {
     match write!(out, "{number}") {
         Ok(()) => Ok(()),
@@ -73,5 +83,16 @@ pub fn put_end(out: &mut Vec<u8>, zxid: i64, paths: usize) -> Result<(), NoMemor
     put_hex_number(out, zxid)?;
     put(out, b" paths=")?;
     put_decimal(out, paths as u64)?;
+    put(out, b"\n")
+}
+
+/// Appends the line of an audit: the counted cversion and pzxid.
+pub fn put_count(out: &mut Vec<u8>, cversion: i32, pzxid: i64) -> Result<(), NoMemory>
+    ensures { OnOk result (out.new.items ≡ out.old.items ++ count_line cversion pzxid) }
+{
+    put(out, b"cversion=")?;
+    put_signed(out, cversion)?;
+    put(out, b" pzxid=0x")?;
+    put_hex_number(out, pzxid)?;
     put(out, b"\n")
 }

@@ -11,7 +11,7 @@ ghost use Rattle.replay.specs.declared.replaying.PrintError.TheVariants as print
 
 use crate::ending::Ending;
 use crate::print::{put_end, put_output};
-use observer_core::{Config, Engine, Event, Output, Stop};
+use observer_core::{Config, Engine, Event, Output, Settings, Stop, default_limits};
 use replay_script::{Script, ScriptError, ScriptEvent, parse};
 use std::alloc::Global;
 use std::io::{ErrorKind, Read, Write};
@@ -34,7 +34,8 @@ impl From<NoMemory> for PrintError {
     }
 }
 
-fn event_of(event: &ScriptEvent) -> Event<'_>
+/// The event that a line of a script says.
+pub fn event_of(event: &ScriptEvent) -> Event<'_>
     ensures { result ≡ event_of event.now }
 {
     match event {
@@ -62,11 +63,12 @@ fn events_of(alloc: Global, script: &[ScriptEvent]) -> Result<Vec<Event<'_>>, No
     Ok(events)
 }
 
-// The observer that a script sets up.
-fn engine_of(alloc: Global, primed: bool, config: Config) -> Result<Engine, NoMemory>
+/// The observer that a script sets up.
+pub fn engine_of(alloc: Global, primed: bool, settings: Settings) -> Result<Engine, NoMemory>
     ensures { IfOk result
-        (λ e. e ≡ Some (if primed then primed_machine config else new_machine config)) }
+        (λ e. e ≡ Some (if primed then primed_machine settings else new_machine settings)) }
 {
+    let config = Config::from_settings(settings, default_limits());
     if primed {
         Engine::primed(alloc, config)
     } else {
@@ -183,13 +185,13 @@ fn play_script<W: Write>(alloc: Global, script: Script, writer: &mut W) -> Resul
         events,
     } = script;
     let events = events_of(alloc, events.as_slice())?;
-    let config = Config {
+    let settings = Settings {
         server_id,
         epochs,
         timeouts,
         secret,
     };
-    let engine = engine_of(alloc, primed, config)?;
+    let engine = engine_of(alloc, primed, settings)?;
     feed(alloc, engine, events.as_slice(), writer)
 }
 

@@ -1,18 +1,24 @@
-//! Replays scripts: feeds an observer the events of a script, and prints what goes out.
+//! The observer's program: replays and audits scripts, and serves.
+//!
+//! A script's events are fed to an observer, and what goes out is printed, or what its log made of a node's children.
+//! `serve` follows a leader and serves clients over sockets.
 #![tactic(auto)]
 
 ghost use Rattle.std.specs.Prelude.{◌≡◌, ◌≢◌, IfSome, None};
 ghost use Rattle.std.specs.IoError.{error_kind};
 ghost use Rattle.replay.specs.Ending.{status_of};
 ghost use Rattle.replay.specs.Replay.{EndsWith};
+ghost use Rattle.auditing.specs.Auditing.{EndsWith as AuditEndsWith};
 
-use replay::{Ending, Source, replay_on, source_of};
+use auditing::audit_on;
+use replay::{Command, Ending, Source, command_of, replay_on};
+use serve::serve;
 use std::alloc::AllocError;
 use std::io::{BufWriter, Error, ErrorKind, Read};
 use std::process::ExitCode;
 use std::{env, fs};
 
-// Where no script was replayed.
+// Where no script was read.
 fn fail(rt: &HostRuntime, ending: Ending) -> u8
     ensures { result ≡ status_of ending }
 {
@@ -49,6 +55,16 @@ fn replay_from<R: Read>(rt: &HostRuntime, reader: &mut R) -> u8
     }
 }
 
+// The same of an audit.
+fn audit_from<R: Read>(rt: &HostRuntime, reader: &mut R, path: &str) -> u8
+    ensures { IfSome (R.remaining reader.old) (λ text. AuditEndsWith result text path.now None None) }
+{
+    match BufWriter::new(rt.alloc(), rt.stdout()) {
+        Ok(mut writer) => audit_on(rt.alloc(), reader, path, &mut writer, &mut rt.stderr()),
+        Err(_) => fail(rt, Ending::NoMemory),
+    }
+}
+
 fn replay_source(rt: &HostRuntime, source: Source<'_>) -> u8 {
     match source {
         Source::Input => replay_from(rt, &mut rt.stdin()),
@@ -59,7 +75,17 @@ fn replay_source(rt: &HostRuntime, source: Source<'_>) -> u8 {
     }
 }
 
-// The words behind the program's name.
+fn audit_source(rt: &HostRuntime, source: Source<'_>, path: &str) -> u8 {
+    match source {
+        Source::Input => audit_from(rt, &mut rt.stdin(), path),
+        Source::File(name) => match fs::File::open(rt, name.as_str()) {
+            Ok(mut file) => audit_from(rt, &mut file, path),
+            Err(error) => fail(rt, ending_of(&error)),
+        },
+    }
+}
+
+// The words after the program's name.
 fn words(rt: &HostRuntime) -> Result<Vec<String>, Error> {
     let mut words = Vec::new(rt.alloc());
     for word in env::args(rt)?.skip(1) {
@@ -68,22 +94,33 @@ fn words(rt: &HostRuntime) -> Result<Vec<String>, Error> {
     Ok(words)
 }
 
-fn run(rt: &HostRuntime) -> u8 {
-    let words = match words(rt) {
-        Ok(words) => words,
-        Err(error) => {
-            return match ending_of(&error) {
-                Ending::NoMemory => fail(rt, Ending::NoMemory),
-                Ending::Done | Ending::BadLine(_) | Ending::Failed => usage(rt),
-            };
-        }
-    };
-    match source_of(words.as_slice()) {
-        Some(source) => replay_source(rt, source),
+// Where the words can't be told.
+fn wordless(rt: &HostRuntime, error: &Error) -> u8 {
+    match ending_of(error) {
+        Ending::NoMemory => fail(rt, Ending::NoMemory),
+        Ending::Done | Ending::BadLine(_) | Ending::Failed | Ending::NotClean | Ending::NoNode =>
+            usage(rt),
+    }
+}
+
+// Does what the words ask for, where that needs no threads.
+fn run(rt: &HostRuntime, words: &[String]) -> u8 {
+    match command_of(words) {
+        Some(Command::Replay(source)) => replay_source(rt, source),
+        Some(Command::Audit(source, path)) => audit_source(rt, source, path.as_str()),
         None => usage(rt),
     }
 }
 
 fn main(rt: HostRuntime) -> ExitCode {
-    ExitCode::from(run(&rt))
+    let words = match words(&rt) {
+        Ok(words) => words,
+        Err(error) => return ExitCode::from(wordless(&rt, &error)),
+    };
+    if let [command, options @ ..] = words.as_slice() {
+        if command.as_str() == "serve" {
+            return ExitCode::from(serve(&rt, rt.alloc(), options));
+        }
+    }
+    ExitCode::from(run(&rt, words.as_slice()))
 }

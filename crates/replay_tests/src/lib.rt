@@ -4,8 +4,9 @@
 //! proof needs to know nothing of that.
 #![tactic(auto)]
 
+use auditing::audit_on;
 use observer_core::Output;
-use replay::{put_end, put_output, replay_on, source_of};
+use replay::{Command, Source, command_of, put_end, put_output, replay_on};
 use replay_script::{Script, ScriptError, parse, put_hex};
 use std::alloc::Global;
 use std::io::{Read, Write};
@@ -44,12 +45,25 @@ pub fn put_lines(
     put_end(out, zxid, paths)
 }
 
-/// What a command line names: a file, `-` for standard input, and nothing where it is none.
-pub fn named(words: &[String]) -> &str {
-    match source_of(words) {
-        None => "",
-        Some(replay::Source::Input) => "-",
-        Some(replay::Source::File(name)) => name.as_str(),
+/// Audits a script.
+pub fn audited<R: Read, W: Write, E: Write>(
+    alloc: Global,
+    reader: &mut R,
+    path: &str,
+    writer: &mut W,
+    errors: &mut E,
+) -> u8 {
+    audit_on(alloc, reader, path, writer, errors)
+}
+
+/// What a command line names: a file, `-` for standard input, and nothing where it is none; and the path of an audit.
+pub fn named(words: &[String]) -> (&str, &str) {
+    match command_of(words) {
+        None => ("", ""),
+        Some(Command::Replay(Source::Input)) => ("-", ""),
+        Some(Command::Replay(Source::File(name))) => (name.as_str(), ""),
+        Some(Command::Audit(Source::Input, path)) => ("-", path.as_str()),
+        Some(Command::Audit(Source::File(name), path)) => (name.as_str(), path.as_str()),
     }
 }
 

@@ -125,21 +125,25 @@ fn each_output_has_a_line(rt: HostRuntime) -> Result<(), Fail> {
 
 #[test]
 fn command_lines(rt: HostRuntime) -> Result<(), Fail> {
-    for (line, name) in [
-        ("", "-"),
-        ("replay -", "-"),
-        ("replay a", "a"),
-        ("replay", ""),
-        ("replay a b", ""),
-        ("audit a b", ""),
-        ("serve", ""),
-        ("repla -", ""),
+    for (line, file, path) in [
+        ("", "-", ""),
+        ("replay -", "-", ""),
+        ("replay a", "a", ""),
+        ("replay", "", ""),
+        ("replay a b", "", ""),
+        ("audit a b", "a", "b"),
+        ("audit - b", "-", "b"),
+        ("audit a", "", ""),
+        ("serve", "", ""),
+        ("repla -", "", ""),
     ] {
         let mut words = Vec::new(rt.alloc());
         for word in line.split_whitespace() {
             words.push(String::from_str(rt.alloc(), word)?)?;
         }
-        assert_eq!(rt; named(words.as_slice()), name, "at {line}");
+        let (named_file, named_path) = named(words.as_slice());
+        assert_eq!(rt; named_file, file, "at {line}");
+        assert_eq!(rt; named_path, path, "at {line}");
     }
     Ok(())
 }

@@ -14,3 +14,5 @@ pub mod Kept
 pub mod Others
 -- What stays of a session that has ended
 pub mod Ended
+-- How many entries a map has
+pub mod Counting

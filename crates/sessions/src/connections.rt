@@ -93,6 +93,13 @@ impl Connections {
         Ok(())
     }
 
+    /// How many connections there are.
+    pub fn count(&self) -> usize
+        ensures { result ≡ finmap.len self.now }
+    {
+        self.map.len()
+    }
+
     /// The connection, if it has a session.
     pub fn get(&self, number: u64) -> Option<&Connection>
         ensures { option_copied result ≡ finmap.get self.now number }

@@ -134,6 +134,13 @@ impl Sessions {
         }
     }
 
+    /// How many connections have a session.
+    pub fn count(&self) -> usize
+        ensures { result ≡ finmap.len self.now.connections }
+    {
+        self.connections.count()
+    }
+
     /// The ids that the connection has shown, in order.
     pub fn ids(&self, connection: u64) -> &[Id]
         ensures { result.now ≡ ids_of self.now connection }

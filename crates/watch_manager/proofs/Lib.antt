@@ -20,3 +20,7 @@ mod Silent
 mod Told
 -- What others keep
 mod Others
+-- Lists in ascending order. Public
+pub mod Ascending
+-- The watches of a table, listed
+mod Listing

@@ -2,6 +2,9 @@ pub mod Pairs
 pub mod Watching
 pub mod Events
 pub mod Watches
+pub mod Ascending
+pub mod Summary
+pub mod Totals
 pub mod Laws
 pub mod Rows
 pub mod Inner

@@ -1,8 +1,10 @@
 //! For each path the connections that watch it.
 
-ghost use Rattle.std.specs.Prelude.{◌≡◌, ℕ, OnOk, OnErr, IfOk, IfSome, IfNone, IsTrue, not, false};
+ghost use Rattle.std.specs.Prelude.{◌≡◌, ℕ, OnOk, OnErr, IfOk, IfSome, IfNone, IsTrue, not, false, String};
 ghost use Rattle.std.specs.FinSet as set;
-ghost use Rattle.watch_manager.specs.Pairs.{watchers, without_path};
+ghost use Rattle.std.specs.Map.Iter.{ShowsInOrder, deref_pair};
+ghost use Rattle.ephemerals.specs.Grouped.{all_pairs, by_bytes};
+ghost use Rattle.watch_manager.specs.Pairs.{Connections, watchers, without_path};
 ghost use Rattle.watch_manager.specs.Inner.Grouped.{without_paths};
 ghost use Rattle.ephemerals.specs.Orders.{in_order};
 
@@ -10,6 +12,7 @@ use crate::conn_set::ConnSet;
 use ephemerals::TextSet;
 use std::alloc::Global;
 use std::collections::BTreeMap;
+use std::collections::btree_map::Iter;
 use std::marker::Model;
 use values::NoMemory;
 
@@ -51,6 +54,14 @@ impl ByPath {
             None => return None,
             Some(conns) => Some(conns),
         }
+    }
+
+    /// The paths with a set of connections, in ascending bytes, each with that set.
+    pub fn iter(&self) -> Iter<'_, String, ConnSet>
+        ensures pairs { set.from_list (all_pairs (by_bytes result)) ≡ self.now }
+        ensures runs { ShowsInOrder (deref_pair {K = String Global} {X = Connections}) }
+    {
+        self.map.iter()
     }
 
     /// Adds a pair, and says whether it is new.

@@ -5,7 +5,7 @@ ghost use Rattle.std.specs.FinSet as set;
 ghost use Rattle.watch_manager.specs.Pairs.{watchers, without_path};
 
 use crate::conn_set::ConnSet;
-use crate::table::Table;
+use crate::table::WatchTable;
 use ephemerals::TextSet;
 use std::alloc::Global;
 use std::marker::Model;
@@ -15,7 +15,7 @@ use values::NoMemory;
 /// still be refused.
 #[derive(Drop)]
 pub struct Left<'a> {
-    table: &'a Table,
+    table: &'a WatchTable,
     // The paths whose watches are used up.
     used: TextSet,
     nobody: ConnSet,
@@ -39,7 +39,7 @@ impl<'a> Model for Left<'a> {
 
 impl<'a> Left<'a> {
     /// The whole table.
-    pub fn new(alloc: Global, table: &'a Table) -> Left<'a>
+    pub fn new(alloc: Global, table: &'a WatchTable) -> Left<'a>
         ensures { result ≡ table.now }
     {
         Left {

@@ -18,9 +18,12 @@ mod conn_set;
 mod event;
 pub mod law;
 mod left;
+mod summary;
 mod table;
 mod telling;
+mod watched;
 mod watches;
 
 pub use event::{Event, EventKind};
+pub use watched::{Table, Watched};
 pub use watches::Watches;

@@ -1,25 +1,28 @@
 //! One table of watches.
 
-ghost use Rattle.std.specs.Prelude.{◌≡◌, OnOk, OnErr, IfSome, IfNone};
+ghost use Rattle.std.specs.Prelude.{◌≡◌, OnOk, OnErr, IfSome, IfNone, String};
 ghost use Rattle.std.specs.FinSet as set;
-ghost use Rattle.watch_manager.specs.Pairs.{watchers, without_path, without_connection};
+ghost use Rattle.std.specs.Map.Iter.{ShowsInOrder, deref_pair};
+ghost use Rattle.ephemerals.specs.Grouped.{all_pairs, by_bytes};
+ghost use Rattle.watch_manager.specs.Pairs.{Connections, watchers, without_path, without_connection};
 
 use crate::by_conn::ByConn;
 use crate::by_path::ByPath;
 use crate::conn_set::ConnSet;
 use std::alloc::Global;
+use std::collections::btree_map::Iter;
 use std::marker::Model;
 use values::NoMemory;
 
 /// Pairs of a path and a connection, kept by path and by connection: what fires is found by its path, and what goes
 /// with a connection by the connection.
 #[derive(Drop)]
-pub struct Table {
+pub struct WatchTable {
     by_path: ByPath,
     by_conn: ByConn,
 }
 
-impl Model for Table {
+impl Model for WatchTable {
     ghost use Rattle.watch_manager.specs.Pairs.{Pairs};
     ghost use Rattle.watch_manager.specs.Inner.Grouped.{AgreeOn};
     ghost use Rattle.std.specs.FinSet as set;
@@ -34,12 +37,12 @@ impl Model for Table {
     ghost invariant = { λ t. AgreeOn t.by_path t.by_conn };
 }
 
-impl Table {
+impl WatchTable {
     /// No watch, which takes no memory.
-    pub fn new(alloc: Global) -> Table
+    pub fn new(alloc: Global) -> WatchTable
         ensures { result ≡ set.empty }
     {
-        Table {
+        WatchTable {
             by_path: ByPath::new(alloc),
             by_conn: ByConn::new(alloc),
         }
@@ -51,6 +54,14 @@ impl Table {
         ensures none { IfNone result (watchers path.now self.now ≡ set.empty) }
     {
         self.by_path.of(path)
+    }
+
+    /// The paths that are watched, in ascending bytes, each with its connections.
+    pub fn iter(&self) -> Iter<'_, String, ConnSet>
+        ensures pairs { set.from_list (all_pairs (by_bytes result)) ≡ self.now }
+        ensures runs { ShowsInOrder (deref_pair {K = String Global} {X = Connections}) }
+    {
+        self.by_path.iter()
     }
 
     /// Sets a watch, which may be set already.

@@ -4,13 +4,17 @@ ghost use Rattle.std.specs.Prelude.{◌≡◌, OnOk, OnErr, IfOk};
 ghost use Rattle.std.specs.FinSet as set;
 ghost use Rattle.watch_manager.specs.Watching.{no_watch, dropped};
 ghost use Rattle.watch_manager.specs.Watches.{fire, after};
+ghost use Rattle.watch_manager.specs.Summary.{summary};
 
 use crate::event::Event;
 use crate::left::Left;
-use crate::table::Table;
+use crate::summary::{add_table, in_order};
+use crate::table::WatchTable;
 use crate::telling::tell;
+use crate::watched::{Table, Watched};
 use data_tree::Trigger;
 use std::alloc::Global;
+use std::collections::BTreeSet;
 use std::marker::Model;
 use values::NoMemory;
 
@@ -19,8 +23,8 @@ use values::NoMemory;
 #[derive(Drop)]
 pub struct Watches {
     // The data watches.
-    own: Table,
-    child: Table,
+    own: WatchTable,
+    child: WatchTable,
 }
 
 impl Model for Watches {
@@ -39,8 +43,8 @@ impl Watches {
         ensures { result ≡ no_watch }
     {
         Watches {
-            own: Table::new(alloc),
-            child: Table::new(alloc),
+            own: WatchTable::new(alloc),
+            child: WatchTable::new(alloc),
         }
     }
 
@@ -68,6 +72,17 @@ impl Watches {
     {
         self.own.drop_conn(conn);
         self.child.drop_conn(conn);
+    }
+
+    /// All watches in their order: ascending path, then ascending connection, and the data watch before the child
+    /// watch. The paths are borrowed, so none is copied.
+    pub fn summary(&self, alloc: Global) -> Result<Vec<Watched<'_>>, NoMemory>
+        ensures { IfOk result (λ rows. rows.items ≡ summary self.now) }
+    {
+        let mut rows = BTreeSet::new(alloc);
+        add_table(&mut rows, &self.own, Table::Own)?;
+        add_table(&mut rows, &self.child, Table::Child)?;
+        in_order(alloc, rows)
     }
 
     // What the changes tell, one after the other.

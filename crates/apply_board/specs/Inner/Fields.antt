@@ -1,30 +1,33 @@
 -- How the fields of a seat and of a board hang together.
-use Rattle.std.specs.Prelude.{◌≡◌, ℕ, ◌+◌, ◌-◌, ◌<◌, ◌≤◌, ◌^◌, Bool, true, ◌||◌, List, [], ◌∷◌, ◌++◌, map, drop, length, slice_index, Option, None}
+use Rattle.std.specs.Prelude.{◌≡◌, ℕ, ◌+◌, ◌-◌, ◌<◌, ◌≤◌, ◌^◌, Bool, true, cond, List, [], ◌∷◌, ◌++◌, map, drop, length, slice_index, Option, None}
 use Rattle.apply_board.specs.declared.view.View.{View}
 use Rattle.apply_board.specs.declared.group.Group.{Group}
 use Rattle.apply_board.specs.Sitting.{BoardId, Sitting}
+use Rattle.apply_board.specs.Board.{Moment}
 
 module _ {W F : Type 0} where
   -- the slots that a seat holds: those of the numbers that it claimed and didn't give, emptied
   abbrev pub held_by : View W F → List (ℕ × Option (Group W F))
   held_by v = map (λ k. (k, None)) (drop (length v.given) v.claimed)
 
-  -- a seat that was not taken in; the fields say what its view does
-  pub record IsSitting (slots : ℕ) (v : View W F) (hand : List (ℕ × Option (Group W F))) (spent : Bool)
-      (made : ℕ) : Type 0 where
+  -- a seat that was not taken in: the fields say what its view does, and it had this view at some moment
+  pub record IsSitting (gives : W → F → Type 0) (slots : ℕ) (v : View W F) (hand : List (ℕ × Option (Group W F)))
+      (spent : Bool) (made : ℕ) : Type 0 where
     pub seated : v.seated ≡ true
     pub alone : v.gathered ≡ []
+    pub unmarked : v.gathered_marks ≡ 0
     pub spent_is : v.spent ≡ spent
     pub made_is : v.made ≡ made
     pub hand_is : hand ≡ held_by v
     pub within : (i : ℕ) → i < length v.claimed → slice_index v.claimed i < slots
+    pub history : Moment gives v
 
 module _ {W F : Type 0} where
   -- what the opener's seat v knows once this seat was taken in, which took in none itself
   abbrev pub taking : View W F → Sitting W F → View W F
   taking v seat = record v {
     gathered = v.gathered ++ seat.view.given;
-    spent = v.spent || seat.view.spent;
+    gathered_marks = v.gathered_marks + cond seat.view.spent 1 0;
     unjoined = v.unjoined - 1;
   }
 

@@ -1,4 +1,5 @@
-use Rattle.observer_core.proofs.Rows.{rows_hold, unwatched}
+use Rattle.observer_core.proofs.Rows.{unwatched}
+use Rattle.observer_core.proofs.AllRows.{rows_hold}
 use Rattle.observer_core.proofs.law.worked_rows.Goals as goal
 
 pub returns : goal.returns

@@ -8,7 +8,7 @@ use Rattle.observer_core.proofs.leader.receive_item.Goals as goal
 pub returns-in-Err : goal.returns-in-Err
 returns-in-Err c =
     let inside : World = record {
-      config = c.world.inside.config;
+      settings = c.world.inside.settings;
       replica = c.world.inside.replica;
       clients = c.world.inside.clients;
     } in

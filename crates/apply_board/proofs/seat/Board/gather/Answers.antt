@@ -42,7 +42,7 @@ loop-other-preserved g c = let inv = c.loop-other.invariant in let e = ap (λ l.
     let is = c.other.view_is in
     let j = c.join_seat.ensures in let v = c.loop-other.place.me.0 in let rest = reverse c.pop.new.self.items in
     let taken = ap (λ s. joined v s.view) is ∙ takes_in v seat (ap (λ s. s.view.gathered) (sym is)
-    ∙ c.other.invariant.alone) in record {
+    ∙ c.other.invariant.alone) (ap (λ s. s.view.gathered_marks) (sym is) ∙ c.other.invariant.unmarked) in record {
       own = j.0 ∙ inv.own;
       id = j.1 ∙ inv.id;
       hand = ap (λ m. m.1) j.2 ∙ inv.hand;

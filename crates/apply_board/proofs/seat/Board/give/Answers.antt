@@ -3,6 +3,7 @@ use lib.ListN.{get_elem?}
 use Rattle.atomic_table.specs.Table.{rest}
 use Rattle.apply_board.specs.declared.group.Group.TheVariants.{Home}
 use Rattle.apply_board.specs.Views.{numbers, giving}
+use Rattle.apply_board.specs.Board.{Moment}
 use Rattle.apply_board.specs.Inner.Fields.{IsSitting}
 use Rattle.apply_board.proofs.Giving.{gives_back}
 use Rattle.apply_board.proofs.Hands.{one_hand, held_within, gives_all, sits_given}
@@ -31,10 +32,11 @@ invariant_of-seat g c = let x = c.exchange.ensures in let v = c.seat.view_is in 
     let n = c.store.ensures.2.gone k f (ap (λ m. m.1) x.3 ∙ ap (λ l. (k, Some (Home f)) ∷ rest l)
     (c.seat.invariant.hand_is ∙ one_hand c.seat.inside.place.me.0 k holds)) ∙ ap (λ m. (giving m.0 k f, [])) x.3 in
     let slots = ap (λ z. z.slots) (c.store.ensures.0 ∙ x.0) in
-    subst (λ z. IsSitting z c.store.new.seat.me.0 c.store.new.seat.me.1 c.seat.inside.spent c.seat.inside.made)
+    let y = g.W.Yields.gives in
+    subst (λ z. IsSitting y z c.store.new.seat.me.0 c.store.new.seat.me.1 c.seat.inside.spent c.seat.inside.made)
     (sym slots)
-    (subst (λ m. IsSitting c.seat.inside.place.table_id.slots m.0 m.1 c.seat.inside.spent c.seat.inside.made) (sym n)
-    (sits_given _ _ _ _ _ k f c.seat.invariant holds))
+    (subst (λ m. IsSitting y c.seat.inside.place.table_id.slots m.0 m.1 c.seat.inside.spent c.seat.inside.made) (sym n)
+    (sits_given _ _ _ _ _ _ k f c.seat.invariant holds (subst (λ m. Moment y m.0) n c.store.ensures.2.history)))
 
 pub returns-clause-given : goal.returns-clause-given
 returns-clause-given g c = let x = c.exchange.ensures in let v = c.seat.view_is in let k = c.args.claim.number in

@@ -3,6 +3,7 @@ use Rattle.std.proofs.Math.Facts.{to_z-of_z}
 use Rattle.std.specs.Prelude.{ℤ, Option, FitsSigned}
 use Rattle.settings.specs.Settings.{epoch_pair, timeout_pair, is_server_id, are_epochs, are_timeouts, is_secret, server_id_of, epochs_of, timeouts_of}
 use Rattle.settings.proofs.Making.{made}
+use Rattle.observer_core.specs.declared.config.Settings.{Settings}
 use Rattle.observer_core.proofs.config.Config.new.Goals as goal
 
 -- numbers are passed by their bits
@@ -36,13 +37,13 @@ pub returns-clause-accepted : goal.returns-clause-accepted
 returns-clause-accepted c = (λ _. ((server c).0, (epochs c).0, (timeouts c).0, (secret c).0), λ _. refl)
 
 pub returns-clause-server : goal.returns-clause-server
-returns-clause-server c = c.from_settings.ensures.server ∙ (server c).1
+returns-clause-server c = ap (λ (s : Settings). s.server_id) c.from_settings.ensures.settings ∙ (server c).1
 
 pub returns-clause-epochs : goal.returns-clause-epochs
-returns-clause-epochs c = c.from_settings.ensures.epochs ∙ (epochs c).1
+returns-clause-epochs c = ap (λ (s : Settings). s.epochs) c.from_settings.ensures.settings ∙ (epochs c).1
 
 pub returns-clause-timeouts : goal.returns-clause-timeouts
-returns-clause-timeouts c = c.from_settings.ensures.timeouts ∙ (timeouts c).1
+returns-clause-timeouts c = ap (λ (s : Settings). s.timeouts) c.from_settings.ensures.settings ∙ (timeouts c).1
 
 pub returns-clause-secret : goal.returns-clause-secret
-returns-clause-secret c = c.from_settings.ensures.secret ∙ (secret c).1
+returns-clause-secret c = ap (λ (s : Settings). s.secret) c.from_settings.ensures.settings ∙ (secret c).1

@@ -1,0 +1,319 @@
+#!/usr/bin/env python3
+"""Measures the server over sockets on 127.0.0.1, beside a bare echo and beside the engine alone.
+
+    bench/serve.py PROGRAM                  as bench/serve.py crates/replay_runner/out/replay_runner
+    bench/serve.py PROGRAM --engine LOAD_RUNNER     the backlog beside crates/load_runner/out/load_runner too
+    bench/serve.py PROGRAM --only backlog   one of sync, pipelined, idle, backlog
+    bench/serve.py PROGRAM --install        gets Debian's C compiler first, where there is none (as root)
+
+The echo is bench/echo.c: one thread over epoll that answers each frame with one as long as the server's answer, and
+does nothing else. Clients are bench/load.c; both are compiled by `cc` into a folder that is removed again. Measured are
+
+- one client that waits for each answer, alone and beside 5,000 connections that say nothing, against one at the echo;
+- 8 clients with 100 getDatas of 100 bytes under way each, in a tree of 100,103 nodes;
+- what 5,000 idle connections take of memory and of a processor;
+- a backlog of 1,100,100 INFORMs over the leader's socket, against the engine alone, which makes their bytes too.
+
+What is compared takes turns in one run, several times. Other work on the machine shows in all figures: the load stands
+at both ends, and each figure with the least and the greatest of its rounds. A bound is judged at the best round, since
+other work makes a round worse and never better. The exit status is 0 where all bounds are met.
+"""
+import argparse
+import pathlib
+import re
+import resource
+import shutil
+import socket
+import struct
+import subprocess
+import sys
+import tempfile
+import time
+
+sys.dont_write_bytecode = True
+import generate  # noqa: E402
+from run import machine, timed  # noqa: E402
+
+HERE = pathlib.Path(__file__).resolve().parent
+PARENTS, CHILDREN, SETS, CONTENT, LONG_CONTENT = 100, 1000, 1_000_000, 16, 100
+CLIENTS, DEPTH = 8, 100
+# A reply's header, a length, the data and a Stat.
+ANSWER = 16 + 4 + LONG_CONTENT + 68
+EPOCH = generate.EPOCH << 32
+NULL = generate.NULL
+LEADERINFO, DIFF, NEWLEADER, UPTODATE, PING = 17, 13, 10, 12, 5
+FIGURE = re.compile(r"rate=(\d+) p50=([\d.]+) p99=([\d.]+)")
+OPEN_FILES = 20_000
+
+
+def packet(kind, zxid, data=None):
+    return struct.pack(">iq", kind, zxid) + (NULL if data is None else generate.text(data)) + NULL
+
+
+def transactions(width, content, sets):
+    """Returns the INFORMs that make the tree, and then set nodes by chance, as crates/load_runner makes them."""
+    paths = [b"/p%02d" % parent for parent in range(PARENTS)]
+    children = [b"%s/n%03d" % (parent, child) for parent in paths for child in range(width)]
+    data = b"x" * content
+    bodies = [(generate.CREATE, generate.create(it, data)) for it in paths + children]
+    written = bytearray()
+    for number, (kind, body) in enumerate(bodies, 1):
+        written += generate.inform(number, kind, body)
+    state, set_data = 1, [generate.set_data(it, data, 1) for it in children]
+    for number in range(len(bodies) + 1, len(bodies) + 1 + sets):
+        state = (state * 6364136223846793005 + 1442695040888963407) % 2**64
+        written += generate.inform(number, generate.SET_DATA, set_data[(state >> 33) % len(set_data)])
+    return bytes(written), len(bodies) + sets
+
+
+class Server:
+    """The program as a server behind a leader that this script plays."""
+
+    def __init__(self, program):
+        with socket.create_server(("127.0.0.1", 0)) as listener:
+            words = [program, "serve", "--leader", str(listener.getsockname()[1]), "--client", "0"]
+            self.ran = subprocess.Popen(words, stdin=subprocess.DEVNULL, stdout=subprocess.PIPE, encoding="ascii")
+            listener.settimeout(60)
+            self.leader, _ = listener.accept()
+        self.leader.setsockopt(socket.IPPROTO_TCP, socket.TCP_NODELAY, 1)
+        self.answers = self.leader.makefile("rb")
+        self.port = int(self.ran.stdout.readline().split()[1])
+        self.bring_up()
+
+    def __enter__(self):
+        return self
+
+    def __exit__(self, *_):
+        self.leader.close()
+        self.answers.close()
+        try:
+            self.ran.wait(10)
+        finally:
+            self.ran.kill()
+            self.ran.stdout.close()
+
+    def answered(self):
+        """Takes a packet of the observer, and returns its kind and zxid."""
+        kind, zxid, length = struct.unpack(">iqi", self.answers.read(16))
+        self.answers.read(max(length, 0) + 4)
+        return kind, zxid
+
+    def bring_up(self):
+        self.answered()
+        self.leader.sendall(packet(LEADERINFO, EPOCH, struct.pack(">i", 0x10000)))
+        self.answered()
+        self.leader.sendall(packet(DIFF, 0) + packet(NEWLEADER, EPOCH) + packet(UPTODATE, -1))
+        self.answered()
+        self.answered()
+
+    def take(self, written):
+        """Sends packets, and returns the seconds until all of them have been done, which the answer to a PING shows."""
+        began = time.perf_counter()
+        self.leader.sendall(written + packet(PING, 0))
+        while self.answered()[0] != PING:
+            pass
+        return time.perf_counter() - began
+
+    def resident(self):
+        """Returns the resident set in bytes."""
+        with open(f"/proc/{self.ran.pid}/statm", encoding="ascii") as it:
+            return int(it.read().split()[1]) * resource.getpagesize()
+
+    def processor(self):
+        """Returns the processor's seconds that it has used."""
+        with open(f"/proc/{self.ran.pid}/stat", encoding="ascii") as it:
+            fields = it.read().rpartition(")")[2].split()
+        return (int(fields[11]) + int(fields[12])) / 100
+
+
+class Tools:
+    """The compiled load and echo."""
+
+    def __init__(self, room):
+        self.load, self.echo = room / "load", room / "echo"
+        for it in (self.load, self.echo):
+            source = HERE / f"{it.name}.c"
+            subprocess.run(["cc", "-O2", "-o", str(it), str(source)], check=True)
+
+    def read(self, port, clients, depth, options):
+        """Returns the answers a second, and the microseconds of the middle one and of the last hundredth."""
+        numbers = (port, clients, depth, options.seconds, PARENTS, options.children)
+        words = [str(self.load), "read", *(str(it) for it in numbers)]
+        done = subprocess.run(words, stdin=subprocess.DEVNULL, stdout=subprocess.PIPE, encoding="ascii", check=True)
+        return tuple(float(it) for it in FIGURE.match(done.stdout).groups())
+
+
+class Kept:
+    """A tool that runs until its standard input ends, and says something first."""
+
+    def __init__(self, *words):
+        how = {"stdin": subprocess.PIPE, "stdout": subprocess.PIPE, "encoding": "ascii"}
+        self.ran = subprocess.Popen([str(it) for it in words], **how)
+        self.said = self.ran.stdout.readline().split()
+        if not self.said:
+            sys.exit(f"{words[0]} has ended with status {self.ran.wait()}")
+
+    def __enter__(self):
+        return self
+
+    def __exit__(self, *_):
+        self.ran.stdin.close()
+        self.ran.stdout.close()
+        self.ran.wait(20)
+
+
+class Figures:
+    """What the rounds gave, by name, and which bounds were met."""
+
+    def __init__(self):
+        self.found, self.passes = {}, []
+
+    def add(self, name, figure):
+        self.found.setdefault(name, []).append(figure)
+
+    def shown(self, name, form):
+        least, most = min(self.found[name]), max(self.found[name])
+        return form.format(least) if len(self.found[name]) == 1 else f"{form.format(least)} to {form.format(most)}"
+
+    def tell(self, name, form):
+        print(f"      {name}: {self.shown(name, form)}", flush=True)
+
+    def judge(self, name, form, least=None, most=None):
+        """Prints a figure with its bound, which holds at the best round."""
+        found = self.found[name]
+        passes = max(found) >= least if least is not None else min(found) <= most
+        bound = f"at least {form.format(least)}" if least is not None else f"at most {form.format(most)}"
+        print(f"{'PASS' if passes else 'FAIL'}  {name}: {self.shown(name, form)} ({bound})", flush=True)
+        self.passes.append(passes)
+
+
+def sync(server, tools, options, figures):
+    """One client, alone and beside idle connections, and the same at the echo; ratios are of one round."""
+    for _ in range(options.rounds):
+        with Kept(tools.echo, ANSWER) as echo:
+            bare = tools.read(echo.said[1], 1, 1, options)
+            alone = tools.read(server.port, 1, 1, options)
+            with Kept(tools.load, "idle", server.port, options.idle):
+                beside = tools.read(server.port, 1, 1, options)
+        for name, it in (("echo", bare), ("server", alone), (f"server beside {options.idle:,} idle", beside)):
+            figures.add(f"one client, {name}, round trips a second", it[0])
+            figures.add(f"one client, {name}, microseconds of the middle one", it[1])
+            figures.add(f"one client, {name}, microseconds of the last hundredth", it[2])
+        figures.add("one client against the echo", alone[0] / bare[0])
+        figures.add(f"beside {options.idle:,} idle connections against alone", beside[0] / alone[0])
+    for name in list(figures.found):
+        if name.startswith("one client, "):
+            figures.tell(name, "{:,.0f}")
+    figures.judge("one client against the echo", "{:.2f}", least=0.5)
+    figures.judge(f"beside {options.idle:,} idle connections against alone", "{:.2f}", least=0.8)
+
+
+def pipelined(server, tools, options, figures):
+    for _ in range(options.rounds):
+        with Kept(tools.echo, ANSWER) as echo:
+            bare = tools.read(echo.said[1], CLIENTS, DEPTH, options)
+        before = server.processor()
+        found = tools.read(server.port, CLIENTS, DEPTH, options)
+        figures.add("getDatas a second, echo", bare[0])
+        figures.add("getDatas a second", found[0])
+        figures.add("their microseconds, the last hundredth", found[2])
+        figures.add("processors used meanwhile", (server.processor() - before) / (options.seconds + 0.3))
+    print(f"{CLIENTS} clients with {DEPTH} getDatas of {LONG_CONTENT} bytes under way each")
+    figures.tell("getDatas a second, echo", "{:,.0f}")
+    figures.tell("their microseconds, the last hundredth", "{:,.0f}")
+    figures.tell("processors used meanwhile", "{:.2f}")
+    figures.judge("getDatas a second", "{:,.0f}", least=400_000)
+
+
+def idle(server, tools, options, figures):
+    """What idle connections take; the first ones are opened before, so that what is taken once isn't counted."""
+    for _ in range(options.rounds):
+        with Kept(tools.load, "idle", server.port, 100):
+            before = server.resident()
+            began = time.perf_counter()
+            with Kept(tools.load, "idle", server.port, options.idle):
+                figures.add("seconds to open them", time.perf_counter() - began)
+                figures.add("KiB a connection", (server.resident() - before) / options.idle / 1024)
+                used = server.processor()
+                time.sleep(options.seconds)
+                figures.add("per cent of a processor", 100 * (server.processor() - used) / options.seconds)
+    print(f"{options.idle:,} idle connections")
+    figures.tell("seconds to open them", "{:.2f}")
+    # Only the first round takes all of its memory anew.
+    figures.found["KiB a connection"] = [max(figures.found["KiB a connection"])]
+    figures.judge("KiB a connection", "{:.1f}", most=32)
+    figures.judge("per cent of a processor", "{:.2f}", most=2)
+
+
+def backlog(options, figures):
+    written, count = transactions(options.children, CONTENT, options.sets)
+    words = [options.engine, str(PARENTS), str(options.children), str(options.sets), "0"]
+    for _ in range(options.rounds):
+        with Server(options.program) as server:
+            figures.add("INFORMs a second over the socket", count / server.take(written))
+        if options.engine:
+            status, seconds, _ = timed(words, subprocess.DEVNULL)
+            if status:
+                sys.exit(f"{options.engine} has ended with status {status}")
+            figures.add("INFORMs a second of the engine alone", count / seconds)
+            over = figures.found["INFORMs a second over the socket"][-1]
+            figures.add("over the socket against the engine alone", over * seconds / count)
+    print(f"a backlog of {count:,} INFORMs, {len(written) / 1e6:.0f} MB")
+    figures.tell("INFORMs a second over the socket", "{:,.0f}")
+    if options.engine:
+        figures.tell("INFORMs a second of the engine alone", "{:,.0f}")
+        figures.judge("over the socket against the engine alone", "{:.2f}", least=0.8)
+
+
+def read_options():
+    parser = argparse.ArgumentParser(description=__doc__, formatter_class=argparse.RawDescriptionHelpFormatter)
+    parser.add_argument("--engine", metavar="LOAD_RUNNER", help="an executable of crates/load_runner")
+    parser.add_argument("--install", action="store_true", help="get a C compiler first, where there is none")
+    parser.add_argument("--rounds", type=int, default=3, help="how often each is measured (3)")
+    parser.add_argument("--seconds", type=float, default=3, help="how long a load lasts (3)")
+    parser.add_argument("--only", choices=("sync", "pipelined", "idle", "backlog"), help="one of the measurements")
+    for name, number, what in (
+        ("idle", 5000, "how many connections say nothing"),
+        ("children", CHILDREN, "nodes below each of the 100 nodes below the root, at most 1000"),
+        ("sets", SETS, "setDatas in the backlog"),
+    ):
+        parser.add_argument(f"--{name}", type=int, default=number, help=f"{what} ({number:,})")
+    parser.add_argument("program")
+    return parser.parse_args()
+
+
+def has_compiler(options):
+    """Returns whether there is a C compiler, after getting one where that is asked for."""
+    if options.install and not shutil.which("cc"):
+        for words in (["update"], ["install", "-y", "gcc", "libc6-dev"]):
+            subprocess.run(["apt-get", *words], stdin=subprocess.DEVNULL, check=True)
+    return shutil.which("cc") is not None
+
+
+def main():
+    options = read_options()
+    if not has_compiler(options):
+        sys.exit("there is no C compiler `cc` (--install gets one)")
+    soft, hard = resource.getrlimit(resource.RLIMIT_NOFILE)
+    most = hard if hard != resource.RLIM_INFINITY else OPEN_FILES
+    resource.setrlimit(resource.RLIMIT_NOFILE, (max(soft, most), hard))
+    figures = Figures()
+    machine("before")
+    with tempfile.TemporaryDirectory(prefix="bench-") as name:
+        tools = Tools(pathlib.Path(name))
+        measured = {"sync": sync, "pipelined": pipelined, "idle": idle}
+        wanted = [it for it in measured if options.only in (None, it)]
+        if wanted:
+            with Server(options.program) as server:
+                server.take(transactions(options.children, LONG_CONTENT, 0)[0])
+                # Idle first, before the allocator has memory to spare.
+                for it in sorted(wanted):
+                    measured[it](server, tools, options, figures)
+        if options.only in (None, "backlog"):
+            backlog(options, figures)
+    machine("after")
+    return 0 if all(figures.passes) else 1
+
+
+if __name__ == "__main__":
+    sys.exit(main())

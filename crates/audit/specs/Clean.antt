@@ -1,0 +1,69 @@
+-- Which logs are clean: nothing fails, what is deleted has no children, and a create counts its parent's stored
+-- cversion up by one.
+use Rattle.std.specs.Prelude.{ℤ, pos, negsuc, ◌+ℤ◌, ◌&&◌, ◌||◌, ◌==◌, Bool, true, List, [], ◌∷◌, Option, Some, None, is_none}
+use Rattle.std.specs.Int.{int_wrap, w32}
+use Rattle.std.specs.List.{list_all}
+use Rattle.std.specs.Ordering.{int_eq}
+use Rattle.std.specs.FinMap as finmap
+use Rattle.std.specs.FinSet as set
+use Rattle.ephemerals.specs.Orders.{Bytes, in_order}
+use Rattle.ephemerals.specs.Pairs.{paths_of}
+use Rattle.txn_codec.specs.Paths.{parent_of}
+use Rattle.txn_codec.specs.declared.txn.TxnHeader.{TxnHeader}
+use Rattle.txn_codec.specs.declared.txn.Txn.{Txn}
+use Rattle.txn_codec.specs.declared.txn.Operation.{Operation}
+use Rattle.txn_codec.specs.declared.txn.Operation.TheVariants as op
+use Rattle.txn_codec.specs.declared.txn.Body.{Body}
+use Rattle.txn_codec.specs.declared.txn.Body.TheVariants as body
+use Rattle.data_tree.specs.State.{State, Nodes}
+use Rattle.data_tree.specs.Meaning.{error_of, of_operation, of_set_acl, mean}
+use Rattle.data_tree.specs.declared.node.Node.{Node}
+
+abbrev pub is_childless : Option Node → Bool
+is_childless None = true
+is_childless (Some node) = set.len node.children == 0
+
+abbrev pub are_childless : Nodes → List Bytes → Bool
+are_childless nodes paths = list_all (λ (path : Bytes). is_childless (finmap.get nodes path)) paths
+
+-- a create asks for -1, which counts up by one, or for the next number itself; Java's 32-bit numbers wrap
+abbrev pub counts_up : ℤ → Option Node → Bool
+counts_up wanted None = true
+counts_up wanted (Some parent) =
+    int_eq wanted (negsuc 0) || int_eq wanted (int_wrap w32 (parent.stat.cversion +ℤ pos 1))
+
+abbrev pub is_orderly : Operation → Nodes → Bool
+is_orderly (op.Create create) nodes = counts_up create.parent_cversion (finmap.get nodes (parent_of create.path))
+is_orderly (op.Delete path) nodes = is_childless (finmap.get nodes path)
+is_orderly (op.SetData body) nodes = true
+is_orderly (op.Check body) nodes = true
+is_orderly (op.Error error) nodes = true
+
+abbrev pub is_clean_operation : TxnHeader → Operation → State → Bool
+is_clean_operation header o s = is_orderly o s.nodes && int_eq (of_operation header o s).err (pos 0)
+
+-- no part is an error part, and each is clean where the parts before it were done
+abbrev pub are_clean_parts : TxnHeader → List Operation → State → Bool
+are_clean_parts header [] s = true
+are_clean_parts header (o ∷ os) s =
+    is_none (error_of o) && (is_clean_operation header o s && are_clean_parts header os (of_operation header o s).state)
+
+-- No ephemeral of the session that ends has a child. They are deleted in ascending bytes, so that a node goes before
+-- what is below it, and none has lost its children to a delete before its own.
+abbrev pub closes_clean : ℤ → State → Bool
+closes_clean session s = are_childless s.nodes (in_order (paths_of session s.pairs))
+
+abbrev pub is_clean_body : TxnHeader → Body → State → Bool
+is_clean_body header (body.Single o) s = is_clean_operation header o s
+is_clean_body header (body.SetAcl set_acl) s = int_eq (of_set_acl set_acl s).err (pos 0)
+is_clean_body header (body.Multi parts) s = are_clean_parts header parts s
+is_clean_body header (body.CreateSession timeout) s = true
+is_clean_body header body.CloseSession s = closes_clean header.client_id s
+
+abbrev pub is_clean : State → Txn → Bool
+is_clean s t = is_clean_body t.header t.body s
+
+-- each transaction is clean where those before it were done
+abbrev pub are_clean : State → List Txn → Bool
+are_clean s [] = true
+are_clean s (t ∷ ts) = is_clean s t && are_clean (mean s t).state ts

@@ -1,0 +1,44 @@
+-- What the count of a clean log is, and how a session closes clean.
+use Rattle.std.specs.Prelude.{◌≡◌, ℤ, Bool, true, ◌&&◌, List, [], ◌∷◌, Some, All}
+use Rattle.std.specs.FinMap as finmap
+use Rattle.std.specs.FinSet as set
+use Rattle.ephemerals.specs.Orders.{Bytes, in_order}
+use Rattle.ephemerals.specs.Pairs.{paths_of}
+use Rattle.txn_codec.specs.Parents.{HaveParents}
+use Rattle.txn_codec.specs.Paths.{is_child_path}
+use Rattle.txn_codec.specs.declared.txn.TxnHeader.{TxnHeader}
+use Rattle.txn_codec.specs.declared.txn.Txn.{Txn}
+use Rattle.txn_codec.specs.declared.txn.Operation.TheVariants as op
+use Rattle.data_tree.specs.State.{State}
+use Rattle.data_tree.specs.Meaning.{of_operation, state_without_session, after, fresh}
+use Rattle.data_tree.specs.Stats.{shown}
+use Rattle.data_tree.specs.declared.node.Node.{Node}
+use Rattle.audit.specs.declared.count.Count.{Count}
+use Rattle.audit.specs.Clean.{is_childless, closes_clean, are_clean}
+use Rattle.audit.specs.Count.{count}
+
+-- the numbers that the node shows of itself
+pub record IsShown (counted : Count) (node : Node) : Type 0 where
+  pub cversion : counted.cversion ≡ (shown node).cversion
+  pub pzxid : counted.pzxid ≡ (shown node).pzxid
+
+-- of a clean log in which no "/" is made or removed, as in each that was decoded
+abbrev pub CountsAreShown : Type 0
+CountsAreShown =
+    (log : List Txn) (path : Bytes) (node : Node) → All (λ (t : Txn). HaveParents t.body) log
+    → are_clean fresh log ≡ true → finmap.get (after fresh log).nodes path ≡ Some node → IsShown (count log path) node
+
+-- each of these deletes, in turn, is of a node without children
+abbrev pub are_childless_in_turn : TxnHeader → List Bytes → State → Bool
+are_childless_in_turn header [] s = true
+are_childless_in_turn header (p ∷ ps) s =
+    is_childless (finmap.get s.nodes p) && are_childless_in_turn header ps (of_operation header (op.Delete p) s).state
+
+-- no ephemeral of a session has a child before the first delete, just where none has one when its turn comes
+abbrev pub DeletesGoInTurn : Type 0
+DeletesGoInTurn =
+    (header : TxnHeader) (s : State)
+    → ((session : ℤ) (path : Bytes) → set.contains s.pairs (session, path) ≡ true → is_child_path path ≡ true)
+    → closes_clean header.client_id s
+    ≡ are_childless_in_turn header (in_order (paths_of header.client_id s.pairs))
+    (state_without_session header.client_id s)

@@ -1,0 +1,5 @@
+pub mod Clean
+pub mod Count
+pub mod Audit
+pub mod Laws
+pub mod Rows

@@ -1,0 +1,30 @@
+-- Counts that were worked out by hand, of a create with any header.
+use Rattle.std.specs.Prelude.{pos, negsuc, [], ◌∷◌, Some, None, false, codes}
+use Rattle.ephemerals.specs.Orders.{Bytes}
+use Rattle.txn_codec.specs.declared.txn.Create.{Create}
+use Rattle.txn_codec.specs.declared.txn.Txn.{Txn}
+use Rattle.txn_codec.specs.declared.txn.TxnHeader.{TxnHeader}
+use Rattle.txn_codec.specs.declared.txn.Operation.TheVariants as op
+use Rattle.txn_codec.specs.declared.txn.Body.TheVariants as body
+use Rattle.audit.specs.Audit.{IsCounted, IsFirstUnclean}
+
+abbrev pub a : Bytes
+a = codes "/a"
+
+abbrev pub create : Create
+create = record { path = a; bytes = None; acl = None; ephemeral = false; parent_cversion = negsuc 0 }
+
+abbrev pub creates : TxnHeader → Txn
+creates header = record { header = header; body = body.Single (op.Create create) }
+
+pub record WorkedCounts (h : TxnHeader) : Type 0 where
+  -- After a create of /a: the new node, its parent, another node, and none.
+  pub made : IsCounted (creates h ∷ []) a (Some (pos 0, h.zxid))
+  pub parent : IsCounted (creates h ∷ []) (codes "/") (Some (pos 0, h.zxid))
+  pub other : IsCounted (creates h ∷ []) (codes "/zookeeper") (Some (negsuc 0, pos 0))
+  pub missing : IsCounted (creates h ∷ []) (codes "/q") None
+  -- The second create of /a fails.
+  pub twice : IsFirstUnclean (creates h ∷ creates h ∷ []) 1
+
+abbrev pub CountsAreWorked : Type 0
+CountsAreWorked = (h : TxnHeader) → WorkedCounts h

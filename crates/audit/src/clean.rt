@@ -1,0 +1,76 @@
+//! Whether what comes next leaves the log clean.
+
+ghost use Rattle.std.specs.Prelude.{◌≡◌, is_none};
+ghost use Rattle.std.specs.Option.{option_copied};
+ghost use Rattle.data_tree.specs.Meaning.{error_of};
+ghost use Rattle.audit.specs.Clean.{is_childless, are_childless, counts_up, is_orderly, closes_clean};
+ghost use Rattle.ephemerals.specs.Orders.{in_order};
+
+use data_tree::{Node, Tree};
+use ephemerals::TextSet;
+use txn_codec::{Operation, TxnHeader};
+
+fn is_childless(node: Option<&Node>) -> bool
+    ensures { result ≡ is_childless (option_copied node.entry) }
+{
+    match node {
+        None => true,
+        Some(node) => node.children.len() == 0,
+    }
+}
+
+// Whether a create that asks for this number counts the parent's cversion up by one.
+fn counts_up(wanted: i32, parent: Option<&Node>) -> bool
+    ensures { result ≡ counts_up wanted (option_copied parent.entry) }
+{
+    match parent {
+        None => true,
+        Some(parent) => wanted == -1 || wanted == parent.stat.cversion.wrapping_add(1),
+    }
+}
+
+/// Whether a create counts its parent's cversion up by one, and a delete is of a node without children.
+pub fn is_orderly(operation: &Operation, tree: &Tree) -> bool
+    ensures { result ≡ is_orderly operation.now tree.now.nodes }
+{
+    match operation {
+        Operation::Create(create) => counts_up(
+            create.parent_cversion,
+            tree.node(create.path.parent()),
+        ),
+        Operation::Delete(path) => is_childless(tree.node(path.as_str())),
+        Operation::SetData(_) | Operation::Check(_) | Operation::Error(_) => true,
+    }
+}
+
+/// Whether a part of a multi is no error part.
+pub fn is_no_error(part: &Operation) -> bool
+    ensures { result ≡ is_none (error_of part.now) }
+{
+    match part {
+        Operation::Error(_) => false,
+        Operation::Create(_) | Operation::Delete(_) | Operation::SetData(_) | Operation::Check(_) =>
+            true,
+    }
+}
+
+fn are_childless(paths: &TextSet, tree: &Tree) -> bool
+    ensures { result ≡ are_childless tree.now.nodes (in_order paths.now) }
+{
+    for path in paths.iter() {
+        if !is_childless(tree.node(path.as_str())) {
+            return false;
+        }
+    }
+    true
+}
+
+/// Whether no ephemeral of the session that ends has a child.
+pub fn closes_clean(header: &TxnHeader, tree: &Tree) -> bool
+    ensures { result ≡ closes_clean header.now.client_id tree.now }
+{
+    match tree.ephemerals().of(header.client_id) {
+        None => true,
+        Some(paths) => are_childless(paths, tree),
+    }
+}

@@ -1,0 +1,84 @@
+//! The count of a node's children that were made and deleted.
+
+ghost use Rattle.std.specs.Prelude.{◌≡◌};
+ghost use Rattle.audit.specs.Count.{is_same, one_more, counted, counted_all, first_count};
+
+use data_tree::Trigger;
+use txn_codec::{TxnHeader, parent_of};
+
+/// How many children of a node were made or deleted since it was made, as a Java int, and by which transaction the last
+/// one; where there was none, by which one the node was made.
+#[derive(Clone, Copy, Debug, PartialEq, Eq)]
+pub struct Count {
+    pub cversion: i32,
+    pub pzxid: i64,
+}
+
+fn is_same(a: &str, b: &str) -> bool
+    ensures { result ≡ is_same a.now b.now }
+{
+    a == b
+}
+
+// The count in the fresh tree, where / and /zookeeper have a child that nobody made.
+pub fn first_count(path: &str) -> Count
+    ensures { result ≡ first_count path.now }
+{
+    if is_same(path, "/") || is_same(path, "/zookeeper") {
+        return Count {
+            cversion: -1,
+            pzxid: 0,
+        };
+    }
+    Count {
+        cversion: 0,
+        pzxid: 0,
+    }
+}
+
+fn one_more(count: &Count, header: &TxnHeader) -> Count
+    ensures { result ≡ one_more count.now header.now.zxid }
+{
+    Count {
+        cversion: count.cversion.wrapping_add(1),
+        pzxid: header.zxid,
+    }
+}
+
+// The count of the node at the path after one trigger more.
+fn counted(path: &str, count: &Count, header: &TxnHeader, trigger: &Trigger) -> Count
+    ensures { result ≡ counted path.now count.now header.now.zxid trigger.now }
+{
+    match trigger {
+        Trigger::Created(at) => {
+            if is_same(at.as_str(), path) {
+                return Count {
+                    cversion: 0,
+                    pzxid: header.zxid,
+                };
+            }
+            if is_same(parent_of(at.as_str()), path) {
+                return one_more(count, header);
+            }
+            *count
+        }
+        Trigger::Deleted(at) => {
+            if is_same(parent_of(at.as_str()), path) {
+                return one_more(count, header);
+            }
+            *count
+        }
+        Trigger::DataChanged(_) | Trigger::ChildrenChanged(_) => *count,
+    }
+}
+
+impl Count {
+    /// Counts what a transaction triggered.
+    pub fn add(&mut self, path: &str, header: &TxnHeader, triggers: &[Trigger])
+        ensures { self.new ≡ counted_all path.now self.old header.now.zxid triggers.now }
+    {
+        for trigger in triggers {
+            *self = counted(path, self, header, trigger);
+        }
+    }
+}

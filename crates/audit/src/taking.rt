@@ -1,0 +1,111 @@
+//! A log's transactions, each counted as it is done.
+
+ghost use Rattle.std.specs.Prelude.{◌≡◌, pos, IfOk, IsTrue};
+ghost use Rattle.std.specs.Ordering.{int_eq};
+ghost use Rattle.data_tree.specs.Meaning.{of_operation, of_parts, mean};
+ghost use Rattle.audit.specs.Clean.{is_clean_operation, are_clean_parts, is_clean};
+ghost use Rattle.audit.specs.Count.{counted_all};
+
+use crate::clean::{closes_clean, is_no_error, is_orderly};
+use crate::count::Count;
+use data_tree::Tree;
+use std::alloc::Global;
+use txn_codec::{Body, Operation, Txn, TxnHeader};
+use values::NoMemory;
+
+// Does a transaction and counts what it triggers. Says whether its error is 0; where it isn't, nothing more is counted.
+fn apply(
+    alloc: Global,
+    tree: &mut Tree,
+    txn: &Txn,
+    path: &str,
+    count: &mut Count,
+) -> Result<bool, NoMemory>
+    ensures clean { IfOk result (λ clean. clean ≡ int_eq (mean tree.old txn.now).err (pos 0)) }
+    ensures state { IfOk result (λ clean. IsTrue clean → tree.new ≡ (mean tree.old txn.now).state) }
+    ensures count { IfOk result
+        (λ clean. IsTrue clean → count.new ≡ counted_all path.now count.old txn.now.header.zxid (mean tree.old txn.now).triggers) }
+{
+    let outcome = tree.apply(alloc, txn)?;
+    if outcome.err != 0 {
+        return Ok(false);
+    }
+    count.add(path, &txn.header, outcome.triggers.as_slice());
+    Ok(true)
+}
+
+// Does an operation as a transaction of its own, if it is clean.
+fn take_operation(
+    alloc: Global,
+    tree: &mut Tree,
+    header: &TxnHeader,
+    operation: &Operation,
+    path: &str,
+    count: &mut Count,
+) -> Result<bool, NoMemory>
+    ensures clean { IfOk result (λ clean. clean ≡ is_clean_operation header.now operation.now tree.old) }
+    ensures state { IfOk result (λ clean. IsTrue clean → tree.new ≡ (of_operation header.now operation.now tree.old).state) }
+    ensures count { IfOk result
+        (λ clean. IsTrue clean → count.new ≡ counted_all path.now count.old header.now.zxid (of_operation header.now operation.now tree.old).triggers) }
+{
+    if !is_orderly(operation, tree) {
+        return Ok(false);
+    }
+    let txn = Txn {
+        header: *header,
+        body: Body::Single(operation.clone()?),
+    };
+    apply(alloc, tree, &txn, path, count)
+}
+
+// Does the parts of a multi one after the other, as long as they are clean.
+fn take_parts(
+    alloc: Global,
+    tree: &mut Tree,
+    header: &TxnHeader,
+    parts: &[Operation],
+    path: &str,
+    count: &mut Count,
+) -> Result<bool, NoMemory>
+    ensures clean { IfOk result (λ clean. clean ≡ are_clean_parts header.now parts.now tree.old) }
+    ensures state { IfOk result (λ clean. IsTrue clean → tree.new ≡ (of_parts header.now parts.now tree.old).state) }
+    ensures count { IfOk result
+        (λ clean. IsTrue clean → count.new ≡ counted_all path.now count.old header.now.zxid (of_parts header.now parts.now tree.old).triggers) }
+{
+    for part in parts {
+        if !is_no_error(part) {
+            return Ok(false);
+        }
+        if !take_operation(alloc, tree, header, part, path, count)? {
+            return Ok(false);
+        }
+    }
+    Ok(true)
+}
+
+/// Does a transaction and counts what it triggers, if it is clean, and says whether it is. Where it isn't, and where
+/// memory is refused, tree and count are only to be dropped.
+pub fn take(
+    alloc: Global,
+    tree: &mut Tree,
+    txn: &Txn,
+    path: &str,
+    count: &mut Count,
+) -> Result<bool, NoMemory>
+    ensures clean { IfOk result (λ clean. clean ≡ is_clean tree.old txn.now) }
+    ensures state { IfOk result (λ clean. IsTrue clean → tree.new ≡ (mean tree.old txn.now).state) }
+    ensures count { IfOk result
+        (λ clean. IsTrue clean → count.new ≡ counted_all path.now count.old txn.now.header.zxid (mean tree.old txn.now).triggers) }
+{
+    match &txn.body {
+        Body::Single(operation) => take_operation(alloc, tree, &txn.header, operation, path, count),
+        Body::Multi(parts) => take_parts(alloc, tree, &txn.header, parts.as_slice(), path, count),
+        Body::SetAcl(_) | Body::CreateSession(_) => apply(alloc, tree, txn, path, count),
+        Body::CloseSession => {
+            if !closes_clean(&txn.header, tree) {
+                return Ok(false);
+            }
+            apply(alloc, tree, txn, path, count)
+        }
+    }
+}

@@ -1,0 +1,18 @@
+use Rattle.std.proofs.Common.{List, ℕ, ◌++◌, subst, ap, ◌∙◌}
+use Rattle.replay.proofs.Printing.{if_some}
+use Rattle.auditing.specs.Auditing.{Ends}
+use Rattle.auditing.proofs.Feeding.{ends_kept}
+use Rattle.auditing.proofs.auditing.audit.Goals as goal
+
+-- what was read is the text, and flushing keeps what was printed
+pub returns-in-Ok : goal.returns-in-Ok
+returns-in-Ok g c =
+    let old = g.W.Write.contents c.args.writer.now in
+    let ending = c.audit_text-ending.result in
+    if_some (g.R.Read.remaining c.args.reader.now) _ _
+    (λ (text : List ℕ) e.
+    ends_kept ending text c.args.path.now old (g.W.Write.contents c.audit_text-ending.new.writer) _
+    (subst (λ t. Ends ending t c.args.path.now old (g.W.Write.contents c.audit_text-ending.new.writer))
+    (c.as_slice.ensures.value ∙ e ∙ ap (λ xs. xs ++ text) c.new-text.ensures.items) c.audit_text-ending.ensures)
+    c.in-Ok.ensures.bytes)
+    c.in_default.ensures.bytes

@@ -1,6 +1,0 @@
-use Rattle.std.proofs.Common.{◌≡◌}
-use Rattle.apply_board.specs.Seats.{IsOpener}
-use Rattle.board_tests.proofs.boards.seats_beside.Given as goal
-
-abbrev pub invariant-loop-made : goal.invariant-loop-made
-invariant-loop-made l = (l.opener.board ≡ l.board) × IsOpener l.opener

@@ -1,0 +1,26 @@
+//! Where the frames of a client end.
+
+ghost use Rattle.std.specs.Prelude.{◌≡◌};
+ghost use Rattle.connection_loop.specs.Frames.{whole_frames};
+
+use jute::{Reader, read_frame};
+use observer_core::CLIENT_FRAME_LIMIT;
+use values::Fault;
+
+/// The length of the longest front of the bytes that is at most so many whole frames. Where a length out of its bounds
+/// follows them it is all bytes: that length ends the connection, whatever comes after it.
+pub fn whole_frames(bytes: &[u8], most: usize) -> usize
+    ensures { result ≡ whole_frames most bytes.now }
+{
+    let mut ahead = Reader::new(bytes);
+    for _ in 0..most {
+        match read_frame(&mut ahead, CLIENT_FRAME_LIMIT) {
+            Ok(_) => {}
+            Err(fault) => match fault {
+                Fault::Short => break,
+                _ => return bytes.len(),
+            },
+        }
+    }
+    bytes.len().saturating_sub(ahead.rest().len())
+}

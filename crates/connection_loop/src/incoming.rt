@@ -1,0 +1,166 @@
+//! What a connection brings, until it is sent on.
+
+ghost use Rattle.std.specs.Prelude.{◌≡◌, ◌≢◌, ◌+◌, IfSome, IsTrue};
+ghost use Rattle.connection_loop.specs.Frames.{whole_frames};
+
+use crate::frames::whole_frames;
+use std::alloc::Global;
+use std::io;
+use std::io::Read;
+use values::{Blob, NoMemory};
+
+/// How many bytes are read at once at most, and wait to be sent on.
+pub const READ_LEN: usize = 16_384;
+
+/// The most whole frames that are sent on at once. So a client has no more than so many answers in one turn of the
+/// hub, however much it sends.
+pub const FRAMES_AT_ONCE: usize = 16;
+
+/// How what a connection brings is cut into messages.
+#[derive(Clone, Copy, Debug, PartialEq, Eq)]
+pub enum Cutting {
+    /// A client's: whole frames, and those of one message at a time.
+    Frames,
+    /// The leader's: whatever came.
+    Reads,
+}
+
+/// A front of what came, to be sent on as one message.
+#[derive(Clone, Copy, Debug, PartialEq, Eq)]
+pub struct Piece {
+    pub len: usize,
+    /// Whether a frame ends in it.
+    pub ends_frame: bool,
+    // How much of its last frame comes after it, where that is longer than the buffer.
+    missing: usize,
+}
+
+/// What a connection brought and is not sent on yet.
+#[derive(Drop)]
+pub struct Incoming {
+    cutting: Cutting,
+    buffer: Vec<u8>,
+    start: usize,
+    end: usize,
+    // How much of a frame that is longer than the buffer is still to come.
+    missing: usize,
+}
+
+// How long the frame is that the bytes begin, with its length in front.
+fn frame_len(bytes: &[u8]) -> usize {
+    match bytes.first_chunk::<4>() {
+        Some(length) => (u32::from_be_bytes(*length) as usize).saturating_add(4),
+        None => 0,
+    }
+}
+
+// The next piece of a client's bytes, of which the first ones may be missing at a frame that was sent on in part.
+fn next_frames(waiting: &[u8], missing: usize) -> Option<Piece>
+    ensures frames { missing ≡ 0
+        → IfSome result (λ p. IsTrue p.ends_frame → p.len ≡ whole_frames 16 waiting.now) }
+    ensures rest { missing ≢ 0 → IfSome result (λ p. p.len + p.missing ≡ missing) }
+{
+    if missing > 0 {
+        let len = waiting.len().min(missing);
+        return Some(Piece {
+            len,
+            ends_frame: len == missing,
+            missing: missing - len,
+        });
+    }
+    let len = whole_frames(waiting, FRAMES_AT_ONCE);
+    if len > 0 {
+        return Some(Piece {
+            len,
+            ends_frame: true,
+            missing: 0,
+        });
+    }
+    if waiting.len() < READ_LEN {
+        return None;
+    }
+    Some(Piece {
+        len: waiting.len(),
+        ends_frame: false,
+        missing: frame_len(waiting).saturating_sub(waiting.len()),
+    })
+}
+
+impl Incoming {
+    /// Nothing came yet. The buffer is made for the first read.
+    pub fn new(alloc: Global, cutting: Cutting) -> Incoming {
+        Incoming {
+            cutting,
+            buffer: Vec::new(alloc),
+            start: 0,
+            end: 0,
+            missing: 0,
+        }
+    }
+
+    /// What is not sent on yet.
+    pub fn waiting(&self) -> &[u8] {
+        self.buffer.get(self.start..self.end).unwrap_or(&[])
+    }
+
+    /// Whether nothing more can be read before something is sent on.
+    pub fn is_full(&self) -> bool {
+        self.waiting().len() >= READ_LEN
+    }
+
+    // Moves what waits to the buffer's start.
+    fn make_room(&mut self) {
+        let len = self.waiting().len();
+        if self.start > 0 && self.start <= self.end && self.end <= self.buffer.len() {
+            self.buffer.copy_within(self.start..self.end, 0);
+        }
+        self.start = 0;
+        self.end = len;
+    }
+
+    /// Reads what there is room for, and answers how much that was.
+    pub fn read_from<R: Read>(&mut self, reader: &mut R) -> io::Result<usize> {
+        self.make_room();
+        self.buffer.resize(READ_LEN, 0)?;
+        if self.end > self.buffer.len() {
+            return Ok(0);
+        }
+        let count = reader.read(&mut self.buffer[self.end..])?;
+        self.end = self.end.saturating_add(count);
+        Ok(count)
+    }
+
+    /// What is to be sent on next. A client's frame waits until it is whole, or fills the buffer.
+    pub fn next(&self) -> Option<Piece> {
+        let waiting = self.waiting();
+        if waiting.is_empty() {
+            return None;
+        }
+        match self.cutting {
+            Cutting::Frames => next_frames(waiting, self.missing),
+            Cutting::Reads => self.last(),
+        }
+    }
+
+    /// All that waits, for a connection that brings no more.
+    pub fn last(&self) -> Option<Piece> {
+        let len = self.waiting().len();
+        if len == 0 {
+            return None;
+        }
+        Some(Piece {
+            len,
+            ends_frame: false,
+            missing: 0,
+        })
+    }
+
+    /// Takes the piece off the front.
+    pub fn take(&mut self, alloc: Global, piece: Piece) -> Result<Blob, NoMemory> {
+        let bytes = self.waiting().get(..piece.len).unwrap_or(&[]);
+        let blob = Blob::new(alloc, bytes)?;
+        self.start = self.start.saturating_add(piece.len);
+        self.missing = piece.missing;
+        Ok(blob)
+    }
+}

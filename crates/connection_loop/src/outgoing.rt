@@ -1,0 +1,102 @@
+//! What a connection is sent, until it is written.
+
+use intake::Port;
+use observer_core::Output;
+use std::alloc::Global;
+use std::io;
+use std::io::Write;
+use values::{Fault, NoMemory};
+
+/// No more outputs are gathered once so many bytes are.
+const ENOUGH: usize = 65_536;
+
+/// A buffer that is longer is given up when all of it is written.
+const KEPT: usize = 4096;
+
+/// Outputs that are gathered in one buffer, and written from there.
+#[derive(Drop)]
+pub struct Outgoing {
+    alloc: Global,
+    bytes: Vec<u8>,
+    // How much of it is written.
+    at: usize,
+    closing: bool,
+    fault: Option<Fault>,
+}
+
+impl Outgoing {
+    pub fn new(alloc: Global) -> Outgoing {
+        Outgoing {
+            alloc,
+            bytes: Vec::new(alloc),
+            at: 0,
+            closing: false,
+            fault: None,
+        }
+    }
+
+    /// Whether all that was gathered is written.
+    pub fn is_written(&self) -> bool {
+        self.at >= self.bytes.len()
+    }
+
+    /// Whether the connection is to be closed after what was gathered.
+    pub fn is_closing(&self) -> bool {
+        self.closing
+    }
+
+    /// The fault for which the leader is closed.
+    pub fn fault(&self) -> Option<Fault> {
+        self.fault
+    }
+
+    // Makes room for what is gathered next.
+    fn clear(&mut self) {
+        if self.bytes.capacity() > KEPT {
+            self.bytes = Vec::new(self.alloc);
+        } else {
+            self.bytes.clear();
+        }
+        self.at = 0;
+    }
+
+    fn put(&mut self, output: Output) -> Result<(), NoMemory> {
+        match output {
+            Output::ToLeader(bytes) | Output::ToClient(_, bytes) => {
+                self.bytes.extend_from_slice(bytes.as_slice())?;
+            }
+            Output::CloseLeader(fault) => {
+                self.closing = true;
+                self.fault = Some(fault);
+            }
+            Output::CloseClient(_) => self.closing = true,
+        }
+        Ok(())
+    }
+
+    /// Gathers the port's outputs while they are few, up to one that closes the connection. Answers
+    /// whether there was one.
+    pub fn gather(&mut self, port: &mut Port) -> Result<bool, NoMemory> {
+        self.clear();
+        let mut found = false;
+        for _ in 0..u64::MAX {
+            if self.closing || self.bytes.len() >= ENOUGH {
+                break;
+            }
+            let Some(output) = port.receive() else {
+                break;
+            };
+            self.put(output)?;
+            found = true;
+        }
+        Ok(found)
+    }
+
+    /// Writes what is left, as far as the writer takes it.
+    pub fn write_to<W: Write>(&mut self, writer: &mut W) -> io::Result<usize> {
+        let rest = self.bytes.get(self.at..).unwrap_or(&[]);
+        let count = writer.write(rest)?;
+        self.at = self.at.saturating_add(count);
+        Ok(count)
+    }
+}

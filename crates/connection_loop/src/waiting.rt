@@ -1,0 +1,200 @@
+//! A socket whose reader waits.
+
+ghost use Rattle.std.specs.Io.{ReadsAtMost};
+
+use crate::bell::Bell;
+use mio::net::TcpStream;
+use mio::{Events, Interest, Poll, Token, Waker};
+use std::alloc::Global;
+use std::io;
+use std::io::{ErrorKind, Read, Write};
+use std::net::{Net, Shutdown};
+use std::sync::Arc;
+use std::time::Duration;
+
+const SOCKET: usize = 0;
+
+const BELL: usize = 1;
+
+/// The longest wait for bytes, in milliseconds. A wake that is lost costs no more than this, and a thread with nothing to
+/// do looks so seldom.
+const LONGEST_WAIT: u64 = 10_000;
+
+/// The longest wait with no room to read into, in milliseconds.
+pub const LONGEST_REST: u64 = 1000;
+
+/// The reader of a socket. Where nothing can be read, `read` waits until the socket can be read or written, or the bell
+/// is rung, and then answers `WouldBlock` if there is still nothing. With no room to read into, it only waits.
+///
+/// Once the bell says so, it answers 0, the end of the stream; and with no room, where nobody takes any more what the
+/// session sends, `ConnectionAborted`.
+pub struct Waiting {
+    stream: Arc<TcpStream, Global>,
+    poll: Poll,
+    events: Events,
+    bell: Arc<Bell, Global>,
+    // A read may give something.
+    ready: bool,
+    // The peer has closed, so a short read is not the last one.
+    ended: bool,
+}
+
+/// The writer of a socket. When it is dropped the socket is shut down, both ways.
+pub struct Writing {
+    stream: Arc<TcpStream, Global>,
+    bell: Arc<Bell, Global>,
+}
+
+impl Drop for Waiting {
+    fn drop(self) {
+        let Waiting {
+            stream,
+            poll,
+            events,
+            bell,
+            ready: _,
+            ended: _,
+        } = self;
+        drop(poll);
+        drop(events);
+        drop(bell);
+        drop(stream);
+    }
+}
+
+impl Drop for Writing {
+    fn drop(self) {
+        let Writing { stream, bell } = self;
+        let _ = stream.shutdown(Shutdown::Both);
+        drop(stream);
+        drop(bell);
+    }
+}
+
+/// The two sides of a socket, and the bell at its reader.
+#[derive(Drop)]
+pub struct Sides {
+    pub reader: Waiting,
+    pub writer: Writing,
+    pub bell: Arc<Bell, Global>,
+}
+
+/// Takes a socket apart into its sides.
+pub fn split(net: &impl Net, alloc: Global, stream: TcpStream) -> io::Result<Sides> {
+    let mut stream = stream;
+    let poll = Poll::new(net)?;
+    let interest = Interest::READABLE | Interest::WRITABLE;
+    poll.registry()
+        .register(&mut stream, Token(SOCKET), interest)?;
+    let waker = Waker::new(poll.registry(), Token(BELL))?;
+    let events = Events::with_capacity(alloc, 4)?;
+    let bell = Arc::new(alloc, Bell::new(waker))?;
+    let stream = Arc::new(alloc, stream)?;
+    let writer = Writing {
+        stream: Arc::try_clone(&stream)?,
+        bell: Arc::try_clone(&bell)?,
+    };
+    let reader = Waiting {
+        stream,
+        poll,
+        events,
+        bell: Arc::try_clone(&bell)?,
+        ready: true,
+        ended: false,
+    };
+    Ok(Sides {
+        reader,
+        writer,
+        bell,
+    })
+}
+
+impl Waiting {
+    // Waits for at most so many milliseconds; not at all where the bell was rung.
+    fn wait(&mut self, longest: u64) -> io::Result<()> {
+        let most = if self.bell.begin_wait() { longest } else { 0 };
+        let polled = self
+            .poll
+            .poll(&mut self.events, Some(Duration::from_millis(most)));
+        self.bell.end_wait();
+        polled?;
+        for event in self.events.iter() {
+            if event.token() == Token(SOCKET) {
+                self.ready = true;
+                if event.is_read_closed() || event.is_error() {
+                    self.ended = true;
+                }
+            }
+        }
+        Ok(())
+    }
+
+    // Waits where there is no room to read into, and answers why nothing is read.
+    fn rest(&mut self) -> io::Error {
+        if let Err(error) = self.wait(LONGEST_REST) {
+            return error;
+        }
+        if self.bell.is_abandoned() {
+            return io::Error::from(ErrorKind::ConnectionAborted);
+        }
+        io::Error::from(ErrorKind::WouldBlock)
+    }
+
+    // Reads what is there.
+    fn read_now(&mut self, buf: &mut [u8]) -> io::Result<usize>
+        ensures { ReadsAtMost result buf.new }
+    {
+        let room = buf.len();
+        match (&*self.stream).read(buf) {
+            Ok(count) => {
+                if count < room && !self.ended {
+                    self.ready = false;
+                }
+                Ok(count)
+            }
+            Err(error) => {
+                if error.kind() == ErrorKind::WouldBlock {
+                    self.ready = false;
+                }
+                Err(error)
+            }
+        }
+    }
+}
+
+impl Read for Waiting {
+    fn read(&mut self, buf: &mut [u8]) -> io::Result<usize> {
+        if buf.is_empty() {
+            return Err(self.rest());
+        }
+        if !self.ready && !self.bell.is_stopped() {
+            self.wait(LONGEST_WAIT)?;
+        }
+        if self.bell.is_stopped() {
+            return Ok(0);
+        }
+        if !self.ready {
+            return Err(io::Error::from(ErrorKind::WouldBlock));
+        }
+        self.read_now(buf)
+    }
+}
+
+impl Write for Writing {
+    fn write(&mut self, buf: &[u8]) -> io::Result<usize> {
+        match (&*self.stream).write(buf) {
+            Ok(count) => Ok(count),
+            Err(error) => {
+                // A peer that doesn't read isn't waited for at the end.
+                if error.kind() == ErrorKind::WouldBlock && self.bell.is_stopped() {
+                    return Err(io::Error::from(ErrorKind::BrokenPipe));
+                }
+                Err(error)
+            }
+        }
+    }
+
+    fn flush(&mut self) -> io::Result<()> {
+        Ok(())
+    }
+}

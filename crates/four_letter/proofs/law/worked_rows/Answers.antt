@@ -1,0 +1,22 @@
+use Rattle.std.proofs.Common.{refl, []}
+use Rattle.std.specs.Fmt.{digits}
+use Rattle.four_letter.specs.Rows.{one_watches, three_watch}
+use Rattle.four_letter.proofs.Evaluating.{wchs-placed, wchp-placed}
+use Rattle.four_letter.proofs.law.worked_rows.Goals as goal
+
+pub returns : goal.returns
+unfolding digits
+returns c = record {
+  ruok = refl;
+  isro = refl;
+  isro_without_leader = refl;
+  srvr = refl;
+  srvr_without_leader = refl;
+  mntr = refl;
+  wchs = wchs-placed [];
+  wchp = wchp-placed [];
+  wchs_one = wchs-placed one_watches.watches;
+  wchp_one = wchp-placed one_watches.watches;
+  wchs_three = wchs-placed three_watch.watches;
+  wchp_three = wchp-placed three_watch.watches;
+}

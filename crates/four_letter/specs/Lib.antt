@@ -1,0 +1,5 @@
+pub mod Words
+pub mod Watched
+pub mod Texts
+pub mod Rows
+pub mod Inner

@@ -1,0 +1,30 @@
+-- The four-letter words (ZooKeeper Administrator's Guide, "The Four Letter Words").
+use Rattle.std.specs.Prelude.{ℕ, List, [], ◌∷◌, Bool, true, false, Option, codes}
+use Rattle.std.specs.List.{find}
+use Rattle.std.specs.Str.{bytes_eq}
+use Rattle.four_letter.specs.declared.word.Word.{Word}
+use Rattle.four_letter.specs.declared.word.Word.TheVariants.{Ruok, Isro, Srvr, Mntr, Wchs, Wchp}
+
+abbrev pub letters : Word → List ℕ
+letters Ruok = codes "ruok"
+letters Isro = codes "isro"
+letters Srvr = codes "srvr"
+letters Mntr = codes "mntr"
+letters Wchs = codes "wchs"
+letters Wchp = codes "wchp"
+
+abbrev pub all_words : List Word
+all_words = Ruok ∷ Isro ∷ Srvr ∷ Mntr ∷ Wchs ∷ Wchp ∷ []
+
+-- the word that these bytes spell
+abbrev pub word_of : List ℕ → Option Word
+word_of bytes = find (λ word. bytes_eq bytes (letters word)) all_words
+
+-- whether the answer tells of watches
+abbrev pub needs_watches : Word → Bool
+needs_watches Ruok = false
+needs_watches Isro = false
+needs_watches Srvr = false
+needs_watches Mntr = true
+needs_watches Wchs = true
+needs_watches Wchp = true

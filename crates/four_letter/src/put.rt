@@ -1,0 +1,47 @@
+//! Pieces of a text.
+
+ghost use Rattle.std.specs.Prelude.{◌≡◌, ◌++◌, OnOk, decimal, codes};
+ghost use Rattle.four_letter.specs.Texts.{line, hex_number};
+
+use std::io::Write;
+use values::NoMemory;
+
+/// Appends a text.
+pub fn put(out: &mut Vec<u8>, text: &str) -> Result<(), NoMemory>
+    ensures { OnOk result (out.new.items ≡ out.old.items ++ text.now) }
+{
+    out.extend_from_slice(text.as_bytes())?;
+    Ok(())
+}
+
+/// Appends a line of a name and a count.
+pub fn put_count(out: &mut Vec<u8>, name: &str, count: u128) -> Result<(), NoMemory>
+    ensures { OnOk result (out.new.items ≡ out.old.items ++ line name.now (decimal count)) }
+{
+    match writeln!(out, "{name}{count}") {
+        Ok(()) => Ok(()),
+        Err(_) => Err(NoMemory),
+    }
+}
+
+/// Appends a line of a name and a number as the 64 bits of two's complement.
+pub fn put_hex(out: &mut Vec<u8>, name: &str, number: i64) -> Result<(), NoMemory>
+    ensures { OnOk result (out.new.items ≡ out.old.items ++ line name.now (hex_number number)) }
+{
+    let bits = number.cast_unsigned();
+    match writeln!(out, "{name}0x{bits:x}") {
+        Ok(()) => Ok(()),
+        Err(_) => Err(NoMemory),
+    }
+}
+
+/// Appends the line that says how many connections watch how many paths.
+pub fn put_watching(out: &mut Vec<u8>, connections: usize, paths: usize) -> Result<(), NoMemory>
+    ensures { OnOk result (out.new.items ≡ out.old.items ++ (decimal connections
+        ++ codes " connections watching " ++ decimal paths ++ codes " paths\n")) }
+{
+    match writeln!(out, "{connections} connections watching {paths} paths") {
+        Ok(()) => Ok(()),
+        Err(_) => Err(NoMemory),
+    }
+}

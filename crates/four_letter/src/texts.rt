@@ -1,0 +1,119 @@
+//! What each word is answered.
+
+ghost use Rattle.std.specs.Prelude.{◌≡◌, ◌++◌, List, ℕ, Ok, false, true, OnOk, OnErr, IfOk, IfSome, IfNone, is_some};
+ghost use Rattle.std.specs.List.{flat_map};
+ghost use Rattle.four_letter.specs.Words.{word_of};
+ghost use Rattle.four_letter.specs.Texts.{text, srvr_text, mntr_text, wchs_text, wchp_text, node_count, session_line};
+
+use crate::figures::{Figures, WatchRow};
+use crate::put::{put, put_count, put_hex, put_watching};
+use crate::watched::{by_path, count_connections, count_paths};
+use crate::word::Word;
+use std::alloc::Global;
+use std::collections::BTreeSet;
+use values::NoMemory;
+
+// One more than the greatest number of paths doesn't fit their type.
+fn node_count(figures: &Figures<'_>) -> u128
+    ensures { result ≡ node_count figures.now }
+{
+    figures.paths as u128 + 1
+}
+
+fn put_srvr(out: &mut Vec<u8>, figures: &Figures<'_>) -> Result<(), NoMemory>
+    ensures { OnOk result (out.new.items ≡ out.old.items ++ srvr_text figures.now) }
+{
+    put_count(out, "Connections: ", figures.connections as u128)?;
+    put_hex(out, "Zxid: ", figures.last)?;
+    put(out, "Mode: observer\n")?;
+    put_count(out, "Node count: ", node_count(figures))
+}
+
+fn put_mntr(out: &mut Vec<u8>, figures: &Figures<'_>) -> Result<(), NoMemory>
+    ensures { OnOk result (out.new.items ≡ out.old.items ++ mntr_text figures.now) }
+{
+    put(out, "zk_server_state\tobserver\n")?;
+    put_count(
+        out,
+        "zk_num_alive_connections\t",
+        figures.connections as u128,
+    )?;
+    put_count(out, "zk_znode_count\t", node_count(figures))?;
+    put_count(out, "zk_watch_count\t", figures.watches.len() as u128)?;
+    put_count(out, "zk_ephemerals_count\t", figures.pairs as u128)
+}
+
+fn put_wchs(out: &mut Vec<u8>, alloc: Global, rows: &[WatchRow<'_>]) -> Result<(), NoMemory>
+    ensures { OnOk result (out.new.items ≡ out.old.items ++ wchs_text rows.now) }
+{
+    let connections = count_connections(alloc, rows)?;
+    let paths = count_paths(alloc, rows)?;
+    put_watching(out, connections, paths)?;
+    put_count(out, "Total watches:", rows.len() as u128)
+}
+
+fn put_sessions(out: &mut Vec<u8>, sessions: &BTreeSet<i64>) -> Result<(), NoMemory>
+    ensures { OnOk result
+        (out.new.items ≡ out.old.items ++ flat_map session_line sessions.now.keys) }
+{
+    for session in sessions {
+        put_hex(out, "\t", *session)?;
+    }
+    Ok(())
+}
+
+fn put_wchp(out: &mut Vec<u8>, alloc: Global, rows: &[WatchRow<'_>]) -> Result<(), NoMemory>
+    ensures { OnOk result (out.new.items ≡ out.old.items ++ wchp_text rows.now) }
+{
+    let by_path = by_path(alloc, rows)?;
+    for (path, sessions) in &by_path {
+        put(out, *path)?;
+        put(out, "\n")?;
+        put_sessions(out, sessions)?;
+    }
+    Ok(())
+}
+
+// Appends the word's text.
+fn put_text(
+    out: &mut Vec<u8>,
+    alloc: Global,
+    word: Word,
+    figures: &Figures<'_>,
+) -> Result<(), NoMemory>
+    ensures { OnOk result (out.new.items ≡ out.old.items ++ text word figures.now) }
+{
+    let rows = figures.watches.as_slice();
+    match word {
+        Word::Ruok => put(out, "imok"),
+        Word::Isro if figures.serving => put(out, "rw"),
+        Word::Isro => put(out, "null"),
+        _ if !figures.serving => put(out, "not serving\n"),
+        Word::Srvr => put_srvr(out, figures),
+        Word::Mntr => put_mntr(out, figures),
+        Word::Wchs => put_wchs(out, alloc, rows),
+        Word::Wchp => put_wchp(out, alloc, rows),
+    }
+}
+
+/// Appends what the word is answered, where the bytes spell one, and says whether they do. Refused, the list stays as
+/// it was.
+pub fn answer(word: [u8; 4], figures: &Figures<'_>, out: &mut Vec<u8>) -> Result<bool, NoMemory>
+    ensures known { IfOk result (λ known. known ≡ is_some (word_of word)) }
+    ensures text { IfSome (word_of word)
+        (λ w. OnOk result (out.new.items ≡ out.old.items ++ text w figures.now)) }
+    ensures unknown { IfNone (word_of word) (result ≡ Ok false) }
+    ensures untouched { IfNone (word_of word) (out.new.items ≡ out.old.items) }
+    ensures err { OnErr result (out.new.items ≡ out.old.items) }
+{
+    match Word::from_bytes(word) {
+        None => return Ok(false),
+        Some(word) => {
+            let alloc = *out.allocator();
+            let mut text = Vec::new(alloc);
+            put_text(&mut text, alloc, word, figures)?;
+            out.extend_from_slice(text.as_slice())?;
+            Ok(true)
+        }
+    }
+}

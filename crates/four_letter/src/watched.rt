@@ -1,0 +1,70 @@
+//! What the watches amount to.
+
+ghost use Rattle.std.specs.Prelude.{◌≡◌, IfOk, OnOk, length};
+ghost use Rattle.four_letter.specs.Watched.{watched_paths, watching_connections};
+ghost use Rattle.four_letter.specs.Inner.Gathered.{gathered, AddsSession, Gathers};
+
+use crate::figures::WatchRow;
+use std::alloc::Global;
+use std::collections::{BTreeMap, BTreeSet};
+use values::NoMemory;
+
+/// How many paths are watched.
+pub fn count_paths(alloc: Global, rows: &[WatchRow<'_>]) -> Result<usize, NoMemory>
+    ensures { IfOk result (λ count. count ≡ length (watched_paths rows.now)) }
+{
+    let mut paths = BTreeSet::new(alloc);
+    for row in rows {
+        paths.insert(row.path.as_str())?;
+    }
+    Ok(paths.len())
+}
+
+/// How many connections watch something.
+pub fn count_connections(alloc: Global, rows: &[WatchRow<'_>]) -> Result<usize, NoMemory>
+    ensures { IfOk result (λ count. count ≡ length (watching_connections rows.now)) }
+{
+    let mut connections = BTreeSet::new(alloc);
+    for row in rows {
+        connections.insert(row.conn)?;
+    }
+    Ok(connections.len())
+}
+
+// Adds the session of a watch to those that watch its path.
+fn add<'a>(
+    alloc: Global,
+    by_path: &mut BTreeMap<&'a str, BTreeSet<i64>>,
+    row: &'a WatchRow<'_>,
+) -> Result<(), NoMemory>
+    ensures { OnOk result
+        (AddsSession row.now (gathered by_path.old.entries) (gathered by_path.new.entries)) }
+{
+    let path = row.path.as_str();
+    match by_path.get_mut(path) {
+        Some(sessions) => {
+            sessions.insert(row.session)?;
+            Ok(())
+        }
+        None => {
+            let mut sessions = BTreeSet::new(alloc);
+            sessions.insert(row.session)?;
+            by_path.insert(path, sessions)?;
+            Ok(())
+        }
+    }
+}
+
+/// The watched paths, each with the sessions that watch it.
+pub fn by_path<'a>(
+    alloc: Global,
+    rows: &'a [WatchRow<'_>],
+) -> Result<BTreeMap<&'a str, BTreeSet<i64>>, NoMemory>
+    ensures { IfOk result (λ all. Gathers rows.now (gathered all.entries)) }
+{
+    let mut by_path = BTreeMap::new(alloc);
+    for row in rows {
+        add(alloc, &mut by_path, row)?;
+    }
+    Ok(by_path)
+}

@@ -1,0 +1,74 @@
+//! The words.
+
+ghost use Rattle.std.specs.Prelude.{◌≡◌, Some, false};
+ghost use Rattle.four_letter.specs.Words.{word_of, needs_watches};
+ghost use Rattle.four_letter.specs.Texts.{TellsOfNoWatch};
+
+/// A four-letter word.
+#[derive(Clone, Copy)]
+pub enum Word {
+    /// Whether it runs.
+    Ruok,
+    /// Whether it serves clients that write, too.
+    Isro,
+    /// Its place and its size.
+    Srvr,
+    /// The same, and its watches and ephemeral nodes, to be read by a program.
+    Mntr,
+    /// How much is watched.
+    Wchs,
+    /// Which session watches which path.
+    Wchp,
+}
+
+impl Word {
+    /// The word that the bytes spell, if they spell one.
+    pub fn from_bytes(bytes: [u8; 4]) -> Option<Word>
+        ensures { result ≡ word_of bytes }
+    {
+        if bytes == *b"ruok" {
+            return Some(Word::Ruok);
+        }
+        if bytes == *b"isro" {
+            return Some(Word::Isro);
+        }
+        if bytes == *b"srvr" {
+            return Some(Word::Srvr);
+        }
+        if bytes == *b"mntr" {
+            return Some(Word::Mntr);
+        }
+        if bytes == *b"wchs" {
+            return Some(Word::Wchs);
+        }
+        if bytes == *b"wchp" {
+            return Some(Word::Wchp);
+        }
+        None
+    }
+
+    /// The bytes that spell it.
+    pub fn letters(self) -> [u8; 4]
+        ensures { word_of result ≡ Some self }
+    {
+        match self {
+            Word::Ruok => *b"ruok",
+            Word::Isro => *b"isro",
+            Word::Srvr => *b"srvr",
+            Word::Mntr => *b"mntr",
+            Word::Wchs => *b"wchs",
+            Word::Wchp => *b"wchp",
+        }
+    }
+
+    /// Whether its answer tells of watches. Where it doesn't, it is the same whatever is watched.
+    pub fn needs_watches(self) -> bool
+        ensures needed { result ≡ needs_watches self }
+        ensures unseen { result ≡ false → TellsOfNoWatch self }
+    {
+        match self {
+            Word::Ruok | Word::Isro | Word::Srvr => false,
+            Word::Mntr | Word::Wchs | Word::Wchp => true,
+        }
+    }
+}

@@ -1,0 +1,89 @@
+//! Tests of the four-letter words and of the list of watches, over public calls alone. They stand in a crate of their
+//! own, since a crate that has tests is proved twice; and the calls stand in functions without clauses, so that a
+//! test's own proof is short.
+#![tactic(auto)]
+
+#[cfg(test)]
+mod answers;
+
+use four_letter::{Figures, WatchRow, Word, answer};
+use std::alloc::Global;
+use values::{Listed, NoMemory};
+use watch_manager::{Table, Watched, Watches};
+
+// The first session of server 255 for connection 2, that of server 3 for any other.
+fn session_of(conn: u64) -> i64 {
+    if conn == 2 {
+        -72_057_594_037_927_935
+    } else {
+        216_172_782_113_783_809
+    }
+}
+
+/// What the word is answered by an observer with these watches, and whether it is a word.
+pub fn answered(
+    alloc: Global,
+    word: [u8; 4],
+    serving: bool,
+    watches: &Watches,
+) -> Result<(bool, Vec<u8>), NoMemory> {
+    let mut rows = Vec::new(alloc);
+    for watched in watches.summary(alloc)? {
+        let Watched { path, conn, table } = watched;
+        let session = session_of(conn);
+        rows.push(WatchRow {
+            path,
+            conn,
+            session,
+            table,
+        })?;
+    }
+    let figures = Figures {
+        serving,
+        last: 4_294_967_301,
+        connections: 2,
+        paths: 3,
+        pairs: 5,
+        watches: Listed::from_vec(rows),
+    };
+    let mut out = Vec::new(alloc);
+    out.push(b'>')?;
+    let known = answer(word, &figures, &mut out)?;
+    Ok((known, out))
+}
+
+/// The watches as they are listed: path, connection, and "d" or "c" for the table.
+pub fn listed(alloc: Global, watches: &Watches) -> Result<Vec<u8>, NoMemory> {
+    let mut text = Vec::new(alloc);
+    for row in &watches.summary(alloc)? {
+        text.extend_from_slice(row.path.as_str().as_bytes())?;
+        text.push(b' ')?;
+        text.push(if row.conn < 10 {
+            b'0' + row.conn as u8
+        } else {
+            b'?'
+        })?;
+        text.push(match row.table {
+            Table::Own => b'd',
+            Table::Child => b'c',
+        })?;
+        text.push(b';')?;
+    }
+    Ok(text)
+}
+
+/// Whether the bytes are a word whose answer tells of watches; none where they are no word.
+pub fn tells_of_watches(bytes: [u8; 4]) -> Option<bool> {
+    match Word::from_bytes(bytes) {
+        None => None,
+        Some(word) => Some(word.needs_watches()),
+    }
+}
+
+/// The bytes that spell the word of these bytes; none where they are no word.
+pub fn spelled_again(bytes: [u8; 4]) -> Option<[u8; 4]> {
+    match Word::from_bytes(bytes) {
+        None => None,
+        Some(word) => Some(word.letters()),
+    }
+}

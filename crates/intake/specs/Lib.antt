@@ -1,0 +1,6 @@
+pub mod Messages
+pub mod Ports
+pub mod Links
+pub mod Desk
+pub mod Agreement
+pub mod Hub

@@ -1,0 +1,100 @@
+-- What was taken of a port, and what is put out to it, by the hub's ends of all open ports.
+use Rattle.std.specs.Prelude.{◌≡◌, ℕ, List, [], ◌++◌, Option, Some, None, Bool, true}
+use Rattle.std.specs.Ordering.{nat_cmp}
+use Rattle.std.specs.FinMap as finmap
+use Rattle.rtrb.specs.Ring.{sent, received, known_items, IsPair, SameProducer, SameConsumer}
+use Rattle.observer_core.specs.declared.event.Output.{Output}
+use Rattle.intake.specs.declared.message.Message.{Message}
+use Rattle.intake.specs.declared.port.PortEnd.{PortEnd}
+use Rattle.intake.specs.declared.link.Link.{Link}
+use Rattle.intake.specs.Messages.{Came, part, share}
+
+-- the hub's ends of each open port, by the ports' numbers
+abbrev pub Links : Type 0
+Links = finmap.FinMap nat_cmp Link
+
+abbrev pub is_open : ℕ → Links → Bool
+is_open n links = finmap.contains_key links n
+
+-- ---- of one port
+
+-- what was put into a port's outbox, and then what is kept for it
+abbrev pub owed : Link → List Output
+owed link = sent link.outbox ++ link.kept.items
+
+abbrev pub taken_from : Option Link → List Message
+taken_from None = []
+taken_from (Some link) = received link.inbox
+
+abbrev pub waiting_from : Option Link → List Message
+waiting_from None = []
+waiting_from (Some link) = known_items link.inbox
+
+abbrev pub put_to : Option Link → List Output
+put_to None = []
+put_to (Some link) = sent link.outbox
+
+abbrev pub owed_to : Option Link → List Output
+owed_to None = []
+owed_to (Some link) = owed link
+
+-- the end is that of the rings of which the hub has these ends
+abbrev pub IsEndBy : PortEnd → Option Link → Type 0
+IsEndBy end None = ⊥
+IsEndBy end (Some link) = IsPair end.inbox link.inbox × IsPair link.outbox end.outbox
+
+-- a port's ends as they were, but for what went through
+pub record Stays (old new : Link) : Type 0 where
+  pub inbox : SameConsumer old.inbox new.inbox
+  pub outbox : SameProducer old.outbox new.outbox
+
+-- a port is open as before, and its rings are the same
+abbrev pub StaysOpen : Option Link → Option Link → Type 0
+StaysOpen None None = Unit {0}
+StaysOpen (Some old) (Some new) = Stays old new
+StaysOpen None (Some new) = ⊥
+StaysOpen (Some old) None = ⊥
+
+-- ---- of all ports; of one that isn't open there is nothing
+
+-- what was taken of a port
+abbrev pub taken_at : Links → ℕ → List Message
+taken_at links n = taken_from (finmap.get links n)
+
+-- the messages that were seen in a port's inbox and are still to be taken
+abbrev pub waiting_at : Links → ℕ → List Message
+waiting_at links n = waiting_from (finmap.get links n)
+
+-- what was put into a port's outbox
+abbrev pub put_at : Links → ℕ → List Output
+put_at links n = put_to (finmap.get links n)
+
+-- what was put into a port's outbox, and then what is kept for it
+abbrev pub owed_at : Links → ℕ → List Output
+owed_at links n = owed_to (finmap.get links n)
+
+-- the end is that of an open port
+abbrev pub IsEnd : PortEnd → Links → Type 0
+IsEnd end links = IsEndBy end (finmap.get links end.number)
+
+-- the same ports are open, and their rings are the same
+pub record AllStay (old new : Links) : Type 0 where
+  pub at : (n : ℕ) → StaysOpen (finmap.get old n) (finmap.get new n)
+
+-- Nothing is taken, and what is put comes of what was kept.
+pub record Rests (old new : Links) : Type 0 where
+  pub stay : AllStay old new
+  pub took : (n : ℕ) → taken_at new n ≡ taken_at old n
+  pub owes : (n : ℕ) → owed_at new n ≡ owed_at old n
+
+-- What is taken of each port comes at the end of a list, in order.
+pub record Takes (old : Links) (before : List Came) (new : Links) (after : List Came) : Type 0 where
+  pub stay : AllStay old new
+  pub took : (n : ℕ) (r : List Message) → taken_at old n ≡ r ++ part n before → taken_at new n ≡ r ++ part n after
+  pub owes : (n : ℕ) → owed_at new n ≡ owed_at old n
+
+-- Each open port gets its share of the outputs.
+pub record PutsOut (old : Links) (outputs : List Output) (new : Links) : Type 0 where
+  pub stay : AllStay old new
+  pub took : (n : ℕ) → taken_at new n ≡ taken_at old n
+  pub owes : (n : ℕ) → is_open n old ≡ true → owed_at new n ≡ owed_at old n ++ share n outputs

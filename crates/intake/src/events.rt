@@ -1,0 +1,58 @@
+//! The events that messages stand for.
+
+ghost use Rattle.std.specs.Prelude.{◌≡◌, IfOk};
+ghost use Rattle.intake.specs.Messages.{event_of, events_of, port_of};
+
+use crate::message::Message;
+use observer_core::{Event, Output};
+use std::alloc::Global;
+use values::{Bytes, NoMemory};
+
+/// The event that a port's message stands for.
+pub fn event_of(number: usize, message: &Message) -> Event<'_>
+    ensures { result ≡ event_of number message.now }
+{
+    match message {
+        Message::Checkpoint => Event::Checkpoint,
+        Message::Expire(session) => Event::Expire(*session),
+        Message::Up => {
+            if number == 0 {
+                return Event::LeaderUp;
+            }
+            Event::ClientUp(number as u64)
+        }
+        Message::Bytes(bytes) => {
+            if number == 0 {
+                return Event::LeaderBytes(Bytes::new(bytes.as_slice()));
+            }
+            Event::ClientBytes(number as u64, Bytes::new(bytes.as_slice()))
+        }
+        Message::End => {
+            if number == 0 {
+                return Event::LeaderEnd;
+            }
+            Event::ClientEnd(number as u64)
+        }
+    }
+}
+
+/// The events that the messages stand for, in order.
+pub fn events_of(alloc: Global, messages: &[(usize, Message)]) -> Result<Vec<Event<'_>>, NoMemory>
+    ensures { IfOk result (λ v. v.items ≡ events_of messages.now) }
+{
+    let mut events = Vec::with_capacity(alloc, messages.len())?;
+    for message in messages {
+        events.push(event_of(message.0, &message.1))?;
+    }
+    Ok(events)
+}
+
+/// The port that an output is for.
+pub fn port_of(output: &Output) -> usize
+    ensures { result ≡ port_of output.now }
+{
+    match output {
+        Output::ToLeader(_) | Output::CloseLeader(_) => 0,
+        Output::ToClient(number, _) | Output::CloseClient(number) => *number as usize,
+    }
+}

@@ -1,0 +1,234 @@
+//! The hub's ends of a port.
+
+ghost use Rattle.std.specs.Prelude.{◌≡◌, ◌≢◌, ◌++◌, [], ◌∷◌, length, OnOk, Some, ℕ, List};
+ghost use Rattle.rtrb.specs.Ring.{sent, received, known_items, IsPair, SameProducer, SameConsumer, ConsumerLooked};
+ghost use Rattle.intake.specs.declared.message.Message.{Message as AMessage};
+ghost use Rattle.intake.specs.Messages.{part};
+ghost use Rattle.intake.specs.Links.{owed, IsEndBy, Stays};
+ghost use Rattle.intake.specs.Ports.{sent_by, received_by, unread_by, SamePort};
+
+use crate::marks::Marks;
+use crate::message::Message;
+use crate::notes::Notes;
+use crate::port::PortEnd;
+use observer_core::Output;
+use rtrb::{Consumer, Producer};
+use std::alloc::Global;
+use std::collections::VecDeque;
+use values::NoMemory;
+
+// Nothing is taken of a port for which more bytes of outputs are kept, so that it fills up and its thread stops.
+const KEPT_LIMIT: usize = 1 << 20;
+
+/// The hub's ends of a port.
+#[derive(Drop)]
+pub struct Link {
+    pub inbox: Consumer<Message>,
+    pub outbox: Producer<Output>,
+    /// What the outbox has no room for, in order.
+    pub kept: VecDeque<Output>,
+    /// How many bytes are kept, about.
+    pub kept_bytes: usize,
+    pub slot: usize,
+    /// The port sends no more, so all that it sent is taken.
+    pub is_finished: bool,
+    /// The last turn in which it was told of something.
+    pub told_in: u64,
+}
+
+// How much memory an output holds, about.
+fn size(output: &Output) -> usize {
+    match output {
+        Output::ToLeader(bytes) | Output::ToClient(_, bytes) => bytes
+            .as_slice()
+            .len()
+            .saturating_add(64),
+        Output::CloseLeader(_) | Output::CloseClient(_) => 64,
+    }
+}
+
+impl Link {
+    /// The hub's ends of a new port.
+    pub fn new(
+        alloc: Global,
+        inbox: Consumer<Message>,
+        outbox: Producer<Output>,
+        slot: usize,
+        turn: u64,
+    ) -> Link
+        ensures { (result.inbox ≡ inbox) × (result.outbox ≡ outbox) × (result.kept.items ≡ []) }
+    {
+        Link {
+            inbox,
+            outbox,
+            kept: VecDeque::new(alloc),
+            kept_bytes: 0,
+            slot,
+            is_finished: false,
+            told_in: turn,
+        }
+    }
+
+    // Has the port's thread told, once a turn.
+    fn tell(&mut self, number: usize, notes: &mut Notes) -> Result<(), NoMemory>
+        ensures { (self.new.inbox ≡ self.old.inbox) × (self.new.outbox ≡ self.old.outbox) × (self.new.kept ≡ self.old.kept) }
+    {
+        if self.told_in != notes.turn {
+            self.told_in = notes.turn;
+            notes.told.push(number)?;
+        }
+        Ok(())
+    }
+
+    // Puts kept outputs until the outbox is full or none is kept.
+    fn move_kept(&mut self)
+        ensures owes { owed self.new ≡ owed self.old }
+        ensures outbox { SameProducer self.old.outbox self.new.outbox }
+        ensures inbox { self.new.inbox ≡ self.old.inbox }
+    {
+        for _ in 0..u64::MAX {
+            if self.outbox.is_full() {
+                break;
+            }
+            let Some(output) = self.kept.pop_front() else {
+                break;
+            };
+            self.kept_bytes = self.kept_bytes.saturating_sub(size(&output));
+            self.outbox.push_reserved(output);
+        }
+    }
+
+    /// Puts kept outputs until the outbox is full or none is kept.
+    pub fn put_kept(&mut self, number: usize, notes: &mut Notes) -> Result<(), NoMemory>
+        ensures owes { owed self.new ≡ owed self.old }
+        ensures outbox { SameProducer self.old.outbox self.new.outbox }
+        ensures inbox { self.new.inbox ≡ self.old.inbox }
+    {
+        let before = self.kept.len();
+        self.move_kept();
+        if self.kept.len() < before {
+            self.tell(number, notes)?;
+        }
+        if !self.kept.is_empty() {
+            notes.keeping.push(number)?;
+        }
+        Ok(())
+    }
+
+    // Puts an output behind those kept, or keeps it.
+    fn add_output(&mut self, output: Output) -> Result<(), NoMemory>
+        ensures owes { OnOk result (owed self.new ≡ owed self.old ++ output ∷ []) }
+        ensures outbox { SameProducer self.old.outbox self.new.outbox }
+        ensures inbox { self.new.inbox ≡ self.old.inbox }
+    {
+        if self.kept.is_empty() && !self.outbox.is_full() {
+            self.outbox.push_reserved(output);
+            return Ok(());
+        }
+        self.kept_bytes = self.kept_bytes.saturating_add(size(&output));
+        self.kept.push_back(output)?;
+        Ok(())
+    }
+
+    /// Puts an output behind those kept, or keeps it.
+    pub fn put(&mut self, number: usize, output: Output, notes: &mut Notes) -> Result<(), NoMemory>
+        ensures owes { OnOk result (owed self.new ≡ owed self.old ++ output ∷ []) }
+        ensures outbox { SameProducer self.old.outbox self.new.outbox }
+        ensures inbox { self.new.inbox ≡ self.old.inbox }
+    {
+        let kept_before = !self.kept.is_empty();
+        self.add_output(output)?;
+        if !kept_before && !self.kept.is_empty() {
+            notes.keeping.push(number)?;
+        }
+        self.tell(number, notes)
+    }
+
+    // Whether nothing is to be taken for now.
+    fn is_blocked(&self) -> bool {
+        self.kept_bytes > KEPT_LIMIT && !self.is_finished
+    }
+
+    /// Looks how many messages there are to take.
+    pub fn look(&mut self) -> usize
+        ensures inbox { ConsumerLooked self.old.inbox self.new.inbox }
+        ensures outbox { (self.new.outbox ≡ self.old.outbox) × (self.new.kept ≡ self.old.kept) }
+    {
+        if self.is_blocked() {
+            return 0;
+        }
+        self.inbox.slots()
+    }
+
+    // Takes the messages that were seen, and answers whether the end is among them.
+    #[tactic(auto, using(crate::proofs::Parts::part_own, crate::proofs::Parts::part_others))]
+    fn take_seen(
+        &mut self,
+        number: usize,
+        fresh: &mut Vec<(usize, Message)>,
+    ) -> Result<bool, NoMemory>
+        ensures own { (r : List AMessage) → received self.old.inbox ≡ r ++ part number fresh.old.items
+            → OnOk result (received self.new.inbox ≡ r ++ part number fresh.new.items) }
+        ensures others { (n : ℕ) → n ≢ number → part n fresh.new.items ≡ part n fresh.old.items }
+        ensures inbox { SameConsumer self.old.inbox self.new.inbox }
+        ensures outbox { (self.new.outbox ≡ self.old.outbox) × (self.new.kept ≡ self.old.kept) }
+    {
+        let mut ended = false;
+        for _ in 0..self.inbox.cached_slots() {
+            let Ok(message) = self.inbox.pop() else {
+                break;
+            };
+            if matches!(&message, Message::End) {
+                ended = true;
+            }
+            fresh.push((number, message))?;
+        }
+        Ok(ended)
+    }
+
+    /// Takes the messages that the last look saw. Where the inbox was full, or nothing is taken for now, the port is
+    /// looked at again in the next turn.
+    pub fn take(
+        &mut self,
+        number: usize,
+        fresh: &mut Vec<(usize, Message)>,
+        notes: &mut Notes,
+        marks: &Marks,
+    ) -> Result<(), NoMemory>
+        ensures own { (r : List AMessage) → received self.old.inbox ≡ r ++ part number fresh.old.items
+            → OnOk result (received self.new.inbox ≡ r ++ part number fresh.new.items) }
+        ensures others { (n : ℕ) → n ≢ number → part n fresh.new.items ≡ part n fresh.old.items }
+        ensures inbox { SameConsumer self.old.inbox self.new.inbox }
+        ensures outbox { (self.new.outbox ≡ self.old.outbox) × (self.new.kept ≡ self.old.kept) }
+    {
+        if self.is_blocked() {
+            marks.raise(self.slot);
+            return Ok(());
+        }
+        let count = self.inbox.cached_slots();
+        let ended = self.take_seen(number, fresh)?;
+        if ended {
+            notes.ended.push(number)?;
+        }
+        if count == self.inbox.capacity() {
+            self.tell(number, notes)?;
+        }
+        Ok(())
+    }
+
+    /// How many messages of a finished port are still there.
+    pub fn left(&mut self, end: &mut PortEnd) -> usize
+        requires { IsEndBy end.old (Some self.old) }
+        ensures count { result ≡ length (known_items self.new.inbox) }
+        ensures sent { received self.new.inbox ++ known_items self.new.inbox ≡ sent_by end.new }
+        ensures received { received_by end.new ++ unread_by end.new ≡ sent self.new.outbox }
+        ensures took { received self.new.inbox ≡ received self.old.inbox }
+        ensures owes { owed self.new ≡ owed self.old }
+        ensures link { Stays self.old self.new }
+        ensures end { SamePort end.old end.new }
+    {
+        self.is_finished = true;
+        end.outbox.slots_beside(&mut self.outbox);
+        self.inbox.slots_beside(&mut end.inbox)
+    }
+}

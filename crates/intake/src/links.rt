@@ -1,0 +1,192 @@
+//! The hub's ends of all ports.
+
+ghost use Rattle.std.specs.Prelude.{◌≡◌, ◌++◌, [], ◌∷◌, length, OnOk, OnErr};
+ghost use Rattle.std.specs.FinMap as finmap;
+ghost use Rattle.intake.specs.Ports.{sent_by, received_by, unread_by, SamePort};
+ghost use Rattle.intake.specs.Links.{taken_at, waiting_at, put_at, IsEnd, Rests, Takes, PutsOut};
+
+use crate::events::port_of;
+use crate::link::Link;
+use crate::marks::Marks;
+use crate::message::Message;
+use crate::notes::Notes;
+use crate::port::PortEnd;
+use observer_core::Output;
+use std::alloc::Global;
+use std::collections::BTreeMap;
+use std::marker::Model;
+use values::NoMemory;
+
+/// The hub's ends of each open port, by the ports' numbers. A number that has no port is passed over.
+#[derive(Drop)]
+pub struct Links {
+    map: BTreeMap<usize, Link>,
+}
+
+impl Model for Links {
+    ghost use Rattle.std.specs.Coded.{coded_ℕ};
+    ghost use Rattle.std.specs.FinMap as finmap;
+    ghost use Rattle.intake.specs.contracts.link.Link as of_link;
+    ghost use Rattle.intake.specs.Links.{Links as TheLinks};
+
+    ghost Value = { TheLinks };
+
+    ghost coded = { finmap.code coded_ℕ of_link.the_row.coded };
+
+    ghost view = { λ l. finmap.from_entries l.map.entries };
+}
+
+impl Links {
+    pub fn new(alloc: Global) -> Links
+        ensures { result ≡ finmap.empty }
+    {
+        Links {
+            map: BTreeMap::new(alloc),
+        }
+    }
+
+    pub fn len(&self) -> usize {
+        self.map.len()
+    }
+
+    pub fn add(&mut self, number: usize, link: Link) -> Result<(), NoMemory>
+        ensures ok { OnOk result (self.new ≡ finmap.insert self.old number link) }
+        ensures err { OnErr result (self.new ≡ self.old) }
+    {
+        self.map.insert(number, link)?;
+        Ok(())
+    }
+
+    pub fn remove(&mut self, number: usize) -> Option<Link>
+        ensures { self.new ≡ finmap.remove self.old number }
+    {
+        self.map.remove(&number)
+    }
+
+    /// Puts outputs that are kept for the port.
+    pub fn put_kept(&mut self, number: usize, notes: &mut Notes) -> Result<(), NoMemory>
+        ensures { Rests self.old self.new }
+    {
+        match self.map.get_mut(&number) {
+            None => return Ok(()),
+            Some(link) => link.put_kept(number, notes),
+        }
+    }
+
+    /// Puts an output out to the port.
+    pub fn put(&mut self, output: Output, notes: &mut Notes) -> Result<(), NoMemory>
+        ensures { OnOk result (PutsOut self.old (output ∷ []) self.new) }
+    {
+        let number = port_of(&output);
+        match self.map.get_mut(&number) {
+            None => return Ok(()),
+            Some(link) => link.put(number, output, notes),
+        }
+    }
+
+    /// Looks how many messages there are to take of the port.
+    pub fn look(&mut self, number: usize) -> usize
+        ensures { Rests self.old self.new }
+    {
+        match self.map.get_mut(&number) {
+            None => return 0,
+            Some(link) => link.look(),
+        }
+    }
+
+    /// Takes the messages that the last look saw.
+    pub fn take(
+        &mut self,
+        number: usize,
+        fresh: &mut Vec<(usize, Message)>,
+        notes: &mut Notes,
+        marks: &Marks,
+    ) -> Result<(), NoMemory>
+        ensures { OnOk result (Takes self.old fresh.old.items self.new fresh.new.items) }
+    {
+        match self.map.get_mut(&number) {
+            None => return Ok(()),
+            Some(link) => link.take(number, fresh, notes, marks),
+        }
+    }
+
+    /// Has the port looked at again.
+    pub fn mark(&self, number: usize, marks: &Marks) {
+        if let Some(link) = self.map.get(&number) {
+            marks.raise(link.slot);
+        }
+    }
+
+    /// How many messages of a finished port are still there.
+    pub fn left(&mut self, end: &mut PortEnd) -> usize
+        requires { IsEnd end.old self.old }
+        ensures count { result ≡ length (waiting_at self.new end.old.number) }
+        ensures sent { taken_at self.new end.old.number ++ waiting_at self.new end.old.number ≡ sent_by end.new }
+        ensures received { received_by end.new ++ unread_by end.new ≡ put_at self.new end.old.number }
+        ensures links { Rests self.old self.new }
+        ensures end { SamePort end.old end.new }
+    {
+        match self.map.get_mut(&end.number) {
+            None => return 0,
+            Some(link) => link.left(end),
+        }
+    }
+
+    /// Puts what is kept for these ports.
+    #[tactic(auto, using(crate::proofs::Keeping::rests_same, crate::proofs::Keeping::rests_on))]
+    pub fn put_all_kept(&mut self, numbers: &[usize], notes: &mut Notes) -> Result<(), NoMemory>
+        ensures { Rests self.old self.new }
+    {
+        for number in numbers {
+            self.put_kept(*number, notes)?;
+        }
+        Ok(())
+    }
+
+    /// Looks how many messages there are to take of these ports.
+    #[tactic(auto, using(crate::proofs::Keeping::rests_same, crate::proofs::Keeping::rests_on))]
+    pub fn look_all(&mut self, numbers: &[usize]) -> usize
+        ensures { Rests self.old self.new }
+    {
+        let mut count = 0usize;
+        for number in numbers {
+            count = count.saturating_add(self.look(*number));
+        }
+        count
+    }
+
+    /// Has these ports looked at again.
+    pub fn mark_all(&self, numbers: &[usize], marks: &Marks) {
+        for number in numbers {
+            self.mark(*number, marks);
+        }
+    }
+
+    /// Takes the messages that were seen, port by port.
+    #[tactic(auto, using(crate::proofs::Keeping::takes_none, crate::proofs::Keeping::takes_on))]
+    pub fn take_all(
+        &mut self,
+        numbers: &[usize],
+        fresh: &mut Vec<(usize, Message)>,
+        notes: &mut Notes,
+        marks: &Marks,
+    ) -> Result<(), NoMemory>
+        ensures { OnOk result (Takes self.old fresh.old.items self.new fresh.new.items) }
+    {
+        for number in numbers {
+            self.take(*number, fresh, notes, marks)?;
+        }
+        Ok(())
+    }
+
+    /// Puts each output out to its port.
+    #[tactic(auto, using(crate::proofs::Keeping::puts_none, crate::proofs::Keeping::puts_on))]
+    pub fn put_all(&mut self, outputs: Vec<Output>, notes: &mut Notes) -> Result<(), NoMemory>
+        ensures { OnOk result (PutsOut self.old outputs.items self.new) }
+    {
+        for output in outputs {
+            self.put(output, notes)?;
+        }
+        Ok(())
+    }
+}

@@ -1,0 +1,123 @@
+//! The end of a port that a thread of its own has.
+
+ghost use Rattle.std.specs.Prelude.{◌≡◌, ◌++◌, [], ◌∷◌, OnOk, IfErr, IfSome, IfNone};
+ghost use Rattle.intake.specs.Ports.{sent_by, received_by, IsFull, SamePort};
+
+use crate::marks::Mark;
+use crate::message::{Full, Message};
+use observer_core::Output;
+use rtrb::{Consumer, Producer, PushError};
+use std::marker::Model;
+
+/// What is left of a port that sends no more.
+#[derive(Drop)]
+pub struct PortEnd {
+    pub(crate) number: usize,
+    pub(crate) inbox: Producer<Message>,
+    pub(crate) outbox: Consumer<Output>,
+}
+
+/// A way to the hub for messages, and back for outputs. Port 0 is the leader's, and port n is connection n.
+#[derive(Drop)]
+pub struct Port {
+    end: PortEnd,
+    mark: Mark,
+    // How many outputs came since none was there.
+    came: usize,
+}
+
+impl Model for Port {
+    ghost use Rattle.intake.specs.declared.port.PortEnd.{PortEnd as ThePortEnd};
+    ghost use Rattle.intake.specs.contracts.port.PortEnd as of_end;
+
+    ghost Value = { ThePortEnd };
+
+    ghost coded = { of_end.the_row.coded };
+
+    ghost view = { λ p. p.end };
+}
+
+impl PortEnd {
+    pub fn number(&self) -> usize
+        ensures { result ≡ self.now.number }
+    {
+        self.number
+    }
+}
+
+impl Port {
+    pub(crate) fn new(end: PortEnd, mark: Mark) -> Port
+        ensures { result ≡ end }
+    {
+        Port { end, mark, came: 0 }
+    }
+
+    pub fn number(&self) -> usize
+        ensures { result ≡ self.now.number }
+    {
+        self.end.number
+    }
+
+    /// How many messages, and how many outputs, may wait.
+    pub fn capacity(&self) -> usize {
+        self.end.inbox.capacity()
+    }
+
+    /// Sends a message to the hub and wakes it, or hands the message back where there is no room. It waits for nobody.
+    pub fn send(&mut self, message: Message) -> Result<(), Full>
+        ensures ok { OnOk result (sent_by self.new ≡ sent_by self.old ++ message ∷ []) }
+        ensures full { IfErr result (λ full. (full.0 ≡ message) × (sent_by self.new ≡ sent_by self.old)
+            × IsFull self.new) }
+        ensures received { received_by self.new ≡ received_by self.old }
+        ensures port { SamePort self.old self.new }
+    {
+        match self.end.inbox.push(message) {
+            Ok(()) => {
+                self.mark.raise();
+                Ok(())
+            }
+            Err(PushError::Full(message)) => Err(Full(message)),
+        }
+    }
+
+    /// The next output, if one is there. Where none is, after so many that the outbox may have been full, it wakes the
+    /// hub, which may keep some more.
+    pub fn receive(&mut self) -> Option<Output>
+        ensures some { IfSome result (λ o. received_by self.new ≡ received_by self.old ++ o ∷ []) }
+        ensures none { IfNone result (received_by self.new ≡ received_by self.old) }
+        ensures sent { sent_by self.new ≡ sent_by self.old }
+        ensures port { SamePort self.old self.new }
+    {
+        match self.end.outbox.pop() {
+            Ok(output) => {
+                self.came = self.came.saturating_add(1);
+                Some(output)
+            }
+            Err(_) => {
+                if self.came >= self.end.outbox.capacity() {
+                    self.mark.wake();
+                }
+                self.came = 0;
+                None
+            }
+        }
+    }
+
+    /// Whether the hub has taken all that was sent.
+    pub fn is_drained(&mut self) -> bool
+        ensures sent { sent_by self.new ≡ sent_by self.old }
+        ensures received { received_by self.new ≡ received_by self.old }
+        ensures port { SamePort self.old self.new }
+    {
+        self.end.inbox.slots() == self.end.inbox.capacity()
+    }
+
+    /// Sends no more.
+    pub fn finish(self) -> PortEnd
+        ensures { result ≡ self }
+    {
+        let Port { end, mark, came: _ } = self;
+        drop(mark);
+        end
+    }
+}

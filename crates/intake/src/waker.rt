@@ -1,0 +1,28 @@
+//! What wakes the hub's thread.
+
+use std::sync::Wait;
+use std::thread::Parker;
+use std::time::Duration;
+
+/// Wakes the hub's thread where it waits, and else has its next wait end at once.
+#[derive(Drop)]
+pub struct Waker {
+    parker: Parker,
+}
+
+impl Waker {
+    pub(crate) fn new() -> Waker {
+        Waker {
+            parker: Parker::new(),
+        }
+    }
+
+    pub fn wake(&self) {
+        self.parker.unpark();
+    }
+
+    // Waits until somebody wakes this, at most so long. It may return early.
+    pub(crate) fn wait<R: Wait>(&self, rt: &R, at_most: Duration) {
+        self.parker.park_timeout(rt, at_most);
+    }
+}

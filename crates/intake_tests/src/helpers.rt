@@ -1,0 +1,68 @@
+//! What the tests share.
+use apply_workers::OpenGate;
+use intake::{Desk, Full, Hub, Message, Port};
+use observer_core::{Config, Output, default_limits};
+use std::alloc::Global;
+use std::thread::Threads;
+use values::Blob;
+
+/// The settings of server 3.
+pub fn config(alloc: Global) -> Result<Config, &'static str> {
+    let secret = blob(alloc, &[])?;
+    Config::new(3, 0, 0, 4000, 40_000, secret, default_limits())
+        .ok()
+        .ok_or("settings")
+}
+
+/// A desk whose engine is primed.
+pub fn primed(alloc: Global) -> Result<Desk, &'static str> {
+    Desk::primed(alloc, config(alloc)?).ok().ok_or("memory")
+}
+
+/// A hub whose engine is primed.
+pub fn primed_hub(alloc: Global) -> Result<Hub, &'static str> {
+    Hub::primed(alloc, config(alloc)?).ok().ok_or("memory")
+}
+
+pub fn blob(alloc: Global, bytes: &[u8]) -> Result<Blob, &'static str> {
+    Blob::new(alloc, bytes).ok().ok_or("memory")
+}
+
+/// The next port.
+pub fn port(desk: &mut Desk, capacity: usize) -> Result<Port, &'static str> {
+    desk.add_port(capacity).ok().ok_or("port")
+}
+
+/// The frame that asks whether there is a root, with this xid.
+pub fn asks(xid: u8) -> [u8; 18] {
+    [0, 0, 0, 14, 0, 0, 0, xid, 0, 0, 0, 3, 0, 0, 0, 1, 47, 0]
+}
+
+/// Sends bytes, and answers whether there was room.
+pub fn sends(alloc: Global, port: &mut Port, bytes: &[u8]) -> Result<bool, &'static str> {
+    Ok(port.send(Message::Bytes(blob(alloc, bytes)?)).is_ok())
+}
+
+/// How many messages a turn takes.
+pub fn turn<R: Threads + Sync>(rt: &R, desk: &mut Desk) -> Option<usize> {
+    desk.turn(rt, &OpenGate).ok()
+}
+
+/// The xid of the reply that comes next, if one is there.
+pub fn receives(port: &mut Port) -> Option<u8> {
+    match port.receive() {
+        Some(Output::ToClient(_, bytes)) => {
+            let xid = bytes.as_slice().get(7)?;
+            Some(*xid)
+        }
+        _ => None,
+    }
+}
+
+/// Whether a message was handed back, and is this one.
+pub fn is_handed_back(sent: Result<(), Full>, bytes: &[u8]) -> bool {
+    match sent {
+        Err(Full(Message::Bytes(back))) => back.as_slice() == bytes,
+        _ => false,
+    }
+}

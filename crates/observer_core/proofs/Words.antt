@@ -1,0 +1,111 @@
+-- What a connection says before it has a session: words, and what waits of them.
+use Rattle.std.proofs.Common.{◌≡◌, ◌⊎◌, inl, inr, ℕ, ◌<◌, ◌≤◌, ℤ, Bool, true, false, List, ◌++◌, length, take, Option, Some, None, Result, Ok, Err, refl, sym, ap, ◌∙◌, arith}
+use Rattle.std.specs.Prelude.{is_some, nat_lt}
+use Rattle.std.specs.Str.{bytes_eq}
+use Rattle.std.proofs.lemmas.Bool.{cases_lt, cond_both, lt-ltb}
+use Rattle.std.proofs.lemmas.Option.{none-some}
+use Rattle.std.proofs.lemmas.Slice.Eq.{bytes_eq-Decides}
+use Rattle.std.proofs.lemmas.List.{take-append-le, length-take}
+use mathlib.Core.Bool.{true≢false}
+use Rattle.values.specs.declared.fault.Fault.{Fault}
+use Rattle.values.specs.declared.fault.Fault.TheVariants.{Short}
+use Rattle.jute.specs.Format.{◌>>=◌, int, judged_at}
+use Rattle.jute.specs.Frame.{frame, frame_at, frame_length, front_of}
+use Rattle.jute.specs.Stream.{refused}
+use Rattle.four_letter.specs.Words.{letters, word_of, needs_watches}
+use Rattle.four_letter.specs.Texts.{text}
+use Rattle.four_letter.specs.declared.figures.Figures.{Figures}
+use Rattle.four_letter.specs.declared.figures.WatchRow.{WatchRow}
+use Rattle.four_letter.specs.declared.word.Word.{Word}
+use Rattle.four_letter.specs.declared.word.Word.TheVariants.{Ruok, Isro, Srvr, Mntr, Wchs, Wchp}
+use Rattle.observer_core.specs.Serve.{said, client_frame_limit}
+
+-- ---- words and bytes
+
+-- the letters of a word are four
+four : (word : Word) → length (letters word) ≡ 4
+four Ruok = refl
+four Isro = refl
+four Srvr = refl
+four Mntr = refl
+four Wchs = refl
+four Wchp = refl
+
+spelt : (word : Word) (bytes : List ℕ) → length bytes < 4 → bytes_eq bytes (letters word) ≡ false
+spelt word bytes short = by (bytes_eq bytes (letters word)) refl
+  where
+    by : (b : Bool) → bytes_eq bytes (letters word) ≡ b → b ≡ false
+    by true e =
+        let same = ap length ((bytes_eq-Decides bytes (letters word)).0 e) in
+        let count = four word in
+        absurd (omega arith)
+    by false e = refl
+
+-- fewer bytes are no word
+pub no_word : (bytes : List ℕ) → length bytes < 4 → word_of bytes ≡ None
+no_word bytes short = rw (
+  spelt Ruok bytes short,
+  spelt Isro bytes short,
+  spelt Srvr bytes short,
+  spelt Mntr bytes short,
+  spelt Wchs bytes short,
+  spelt Wchp bytes short,
+) refl
+
+pub says_none : (session : Option ℤ) (word : Option Word) → word ≡ None → said session word ≡ None
+says_none None word e = e
+says_none (Some session) word e = refl
+
+-- who has a session says none
+pub has_said : (session : Option ℤ) (word : Option Word) → is_some session ≡ true → said session word ≡ None
+has_said None word has = absurd (true≢false (sym has))
+has_said (Some session) word has = refl
+
+-- four bytes say the same whatever comes behind them
+pub same_front : (bytes more : List ℕ) → 4 ≤ length bytes → word_of (take 4 (bytes ++ more)) ≡ word_of (take 4 bytes)
+same_front bytes more enough = ap word_of (take-append-le 4 bytes more enough)
+
+-- a word that was said is said still with more behind it
+pub still_says : (session : Option ℤ) (word : Word) (bytes more : List ℕ)
+    → said session (word_of (take 4 bytes)) ≡ Some word → said session (word_of (take 4 (bytes ++ more))) ≡ Some word
+still_says session word bytes more says = by (cases_lt (length bytes) 4)
+  where
+    by : (length bytes < 4) ⊎ (4 ≤ length bytes) → said session (word_of (take 4 (bytes ++ more))) ≡ Some word
+    by (inl short) =
+        let none = says_none session (word_of (take 4 bytes))
+        (no_word (take 4 bytes) (omega (arith, length-take 4 bytes))) in
+        absurd (none-some word (sym none ∙ says))
+    by (inr enough) = ap (said session) (same_front bytes more enough) ∙ says
+
+-- ---- words and frames
+
+int_short : (bytes : List ℕ) → length bytes < 4 → int.read bytes ≡ Err Short
+int_short bytes short =
+    cond_both (nat_lt (length bytes) 4) _ _ (λ (r : Result (ℤ × List ℕ) Fault). r ≡ Err Short) (λ _. refl)
+    (λ other. absurd (true≢false (sym (lt-ltb (length bytes) 4 short) ∙ other)))
+
+abbrev counted_in : Result (ℤ × List ℕ) Fault → Result (ℕ × List ℕ) Fault
+counted_in r = r >>= λ a. frame_length client_frame_limit a.0 >>= λ v. Ok (v, a.1)
+
+-- fewer bytes have no length
+pub short_frame : (bytes : List ℕ) → length bytes < 4 → (frame client_frame_limit).read bytes ≡ Err Short
+unfolding frame_at judged_at
+short_frame bytes short =
+    ap (λ (r : Result (ℤ × List ℕ) Fault). counted_in r >>= λ k. front_of k.0 k.1) (int_short bytes short)
+
+-- bytes that wait where no frame is whole are all
+pub still_waits : (e : Fault) (bytes rest : List ℕ) → refused e bytes ≡ Ok rest → bytes ≡ rest
+still_waits Short bytes rest is = cc
+still_waits e bytes rest is = cc
+
+-- ---- what is told
+
+-- a word that tells of no watch is answered alike whatever is watched
+pub same_text : (word : Word) (f : Figures) (rows : List WatchRow) → (needs_watches word ≡ true → rows ≡ f.watches)
+    → text word (record f { watches = rows }) ≡ text word f
+same_text Ruok f rows same = refl
+same_text Isro f rows same = refl
+same_text Srvr f rows same = refl
+same_text Mntr f rows same = ap (λ (r : List WatchRow). text Mntr (record f { watches = r })) (same refl)
+same_text Wchs f rows same = ap (λ (r : List WatchRow). text Wchs (record f { watches = r })) (same refl)
+same_text Wchp f rows same = ap (λ (r : List WatchRow). text Wchp (record f { watches = r })) (same refl)

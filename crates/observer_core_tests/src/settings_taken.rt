@@ -1,0 +1,80 @@
+//! Which numbers and bytes make settings: those at a bound, and those one beyond it.
+use super::*;
+use observer_core::Settings;
+use settings::{Epochs, Secret, ServerId, TimeoutBounds};
+use std::test::*;
+
+// Whether they make settings that say the same again. The secret has this many bytes.
+fn takes(
+    alloc: Global,
+    server_id: i32,
+    epochs: (i32, i32),
+    timeouts: (i32, i32),
+    length: usize,
+) -> Result<bool, &'static str> {
+    let secret = [7; 65];
+    let secret = secret.get(..length).ok_or("a longer secret")?;
+    let (accepted, current) = epochs;
+    let (least, greatest) = timeouts;
+    let made = Config::new(
+        server_id,
+        accepted,
+        current,
+        least,
+        greatest,
+        blob(alloc, secret)?,
+        default_limits(),
+    );
+    Ok(match made {
+        Ok(config) => says(&config.settings, server_id, epochs, timeouts, secret),
+        Err(_) => false,
+    })
+}
+
+// Whether the settings are these.
+fn says(
+    settings: &Settings,
+    server_id: i32,
+    epochs: (i32, i32),
+    timeouts: (i32, i32),
+    secret: &[u8],
+) -> bool {
+    settings.server_id.number() == server_id
+        && (settings.epochs.accepted(), settings.epochs.current()) == epochs
+        && (settings.timeouts.least(), settings.timeouts.greatest()) == timeouts
+        && settings.secret.as_slice() == secret
+}
+
+// The settings of values that are within their bounds.
+fn from_settings(alloc: Global) -> Result<Config, &'static str> {
+    let settings = Settings {
+        server_id: ServerId::new(255).ok_or("server")?,
+        epochs: Epochs::new(2, 1).ok_or("epochs")?,
+        timeouts: TimeoutBounds::new(5, 6).ok_or("timeouts")?,
+        secret: Secret::new(blob(alloc, b"key")?).ok_or("secret")?,
+    };
+    Ok(Config::from_settings(settings, default_limits()))
+}
+
+#[test]
+fn within_bounds(rt: HostRuntime) -> Result<(), Fail> {
+    let alloc = rt.alloc();
+    assert!(rt; takes(alloc, 1, (0, 0), (1, 1), 0)?);
+    assert!(rt; takes(alloc, 255, (i32::MAX, 0), (4000, 40_000), 64)?);
+    assert!(rt; takes(alloc, 3, (0, i32::MAX), (1, i32::MAX), 1)?);
+    assert!(rt; says(&from_settings(alloc)?.settings, 255, (2, 1), (5, 6), b"key"));
+    Ok(())
+}
+
+#[test]
+fn out_of_bounds(rt: HostRuntime) -> Result<(), Fail> {
+    let alloc = rt.alloc();
+    assert!(rt; !takes(alloc, 0, (0, 0), (4000, 40_000), 0)?);
+    assert!(rt; !takes(alloc, 256, (0, 0), (4000, 40_000), 0)?);
+    assert!(rt; !takes(alloc, 3, (-1, 0), (4000, 40_000), 0)?);
+    assert!(rt; !takes(alloc, 3, (0, -1), (4000, 40_000), 0)?);
+    assert!(rt; !takes(alloc, 3, (0, 0), (0, 40_000), 0)?);
+    assert!(rt; !takes(alloc, 3, (0, 0), (5, 4), 0)?);
+    assert!(rt; !takes(alloc, 3, (0, 0), (4000, 40_000), 65)?);
+    Ok(())
+}

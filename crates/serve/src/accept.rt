@@ -1,0 +1,191 @@
+//! The thread that takes connections.
+
+use intake::Waker as HubWaker;
+use mio::net::TcpListener;
+use mio::{Events, Interest, Poll, Token, Waker};
+use rtrb::{Consumer, Producer, PushError, RingBuffer};
+use std::alloc::Global;
+use std::io::ErrorKind;
+use std::net::{Net, TcpStream};
+use std::sync::atomic::{AtomicBool, AtomicU64, Ordering};
+use std::sync::{Arc, Wait};
+use std::time::{Clock, Duration};
+use std::{io, thread};
+
+const LISTENER: usize = 0;
+
+const STOP: usize = 1;
+
+// How many connections may wait for the hub.
+const RING_LEN: usize = 1024;
+
+// The longest wait for a connection, in milliseconds: a wake that is lost costs no more than this.
+const LONGEST_WAIT: u64 = 1000;
+
+// How long it waits where the system has no descriptor left, or the hub no room, in milliseconds.
+const PAUSE: u64 = 10;
+
+/// What the acceptor and the hub share.
+#[derive(Drop)]
+pub struct Door {
+    // How many connections of clients are open.
+    open: AtomicU64,
+    most: Option<u64>,
+    stopped: AtomicBool,
+    waker: Waker,
+}
+
+impl Door {
+    // Counts a connection, unless there are too many.
+    fn enter(&self) -> bool {
+        let before = self.open.fetch_add(1, Ordering::SeqCst);
+        let fits = match self.most {
+            Some(most) => before < most,
+            None => true,
+        };
+        if !fits {
+            self.leave();
+        }
+        fits
+    }
+
+    /// Counts a connection that has gone.
+    pub fn leave(&self) {
+        self.open.fetch_sub(1, Ordering::SeqCst);
+    }
+
+    /// No connection is taken from now on.
+    pub fn stop(&self) {
+        self.stopped.store(true, Ordering::SeqCst);
+        // A waker that fails leaves the thread its longest wait.
+        let _ = self.waker.wake();
+    }
+
+    fn is_stopped(&self) -> bool {
+        self.stopped.load(Ordering::SeqCst)
+    }
+}
+
+/// What the thread that takes connections has.
+pub struct Acceptor {
+    listener: TcpListener,
+    poll: Poll,
+    events: Events,
+    to_hub: Producer<TcpStream>,
+    door: Arc<Door, Global>,
+}
+
+impl Drop for Acceptor {
+    fn drop(self) {
+        let Acceptor {
+            listener,
+            poll,
+            events,
+            to_hub,
+            door,
+        } = self;
+        drop(poll);
+        drop(listener);
+        drop(events);
+        drop(to_hub);
+        drop(door);
+    }
+}
+
+/// An acceptor, and what its thread shares with the hub's.
+pub struct Accepting {
+    pub acceptor: Acceptor,
+    pub from_acceptor: Consumer<TcpStream>,
+    pub door: Arc<Door, Global>,
+}
+
+/// Makes ready to take connections, at most so many at a time.
+pub fn open_door(
+    net: &impl Net,
+    alloc: Global,
+    listener: TcpListener,
+    most: Option<u64>,
+) -> io::Result<Accepting> {
+    let mut listener = listener;
+    let poll = Poll::new(net)?;
+    poll.registry()
+        .register(&mut listener, Token(LISTENER), Interest::READABLE)?;
+    let waker = Waker::new(poll.registry(), Token(STOP))?;
+    let events = Events::with_capacity(alloc, 4)?;
+    let door = Arc::new(
+        alloc,
+        Door {
+            open: AtomicU64::new(0),
+            most,
+            stopped: AtomicBool::new(false),
+            waker,
+        },
+    )?;
+    let (to_hub, from_acceptor) = RingBuffer::new(alloc, RING_LEN)?;
+    let acceptor = Acceptor {
+        listener,
+        poll,
+        events,
+        to_hub,
+        door: Arc::try_clone(&door)?,
+    };
+    Ok(Accepting {
+        acceptor,
+        from_acceptor,
+        door,
+    })
+}
+
+impl Acceptor {
+    // Hands a connection to the hub. Where the hub has no room it waits, unless it is to stop.
+    fn hand_over<R: Wait + Clock>(&mut self, rt: &R, hub: &HubWaker, stream: TcpStream) {
+        let mut stream = stream;
+        for _ in rt.forever() {
+            match self.to_hub.push(stream) {
+                Ok(()) => break,
+                Err(PushError::Full(back)) => stream = back,
+            }
+            if self.door.is_stopped() {
+                return;
+            }
+            hub.wake();
+            thread::sleep(rt, Duration::from_millis(PAUSE));
+        }
+        hub.wake();
+    }
+
+    // Takes the next connection, or waits for one.
+    fn accept_next<R: Wait + Clock>(&mut self, rt: &R, hub: &HubWaker) {
+        match self.listener.accept() {
+            Ok((stream, _)) => {
+                if self.door.enter() {
+                    // Without it an answer may wait for an acknowledgement, and that is all.
+                    let _ = stream.set_nodelay(true);
+                    self.hand_over(rt, hub, TcpStream::from(stream));
+                }
+            }
+            Err(error) => match error.kind() {
+                ErrorKind::WouldBlock => self.wait(),
+                ErrorKind::Interrupted | ErrorKind::ConnectionAborted => {}
+                // Such as out of descriptors: connections end, so there will be some again.
+                _ => thread::sleep(rt, Duration::from_millis(PAUSE)),
+            },
+        }
+    }
+
+    fn wait(&mut self) {
+        // Where the wait fails, the next look does what it would have waited for.
+        let _ = self.poll.poll(&mut self.events, Some(Duration::from_millis(LONGEST_WAIT)));
+    }
+}
+
+/// Takes connections until it is told to stop, and wakes the hub for each.
+pub fn accept_all<R: Wait + Clock>(rt: &R, acceptor: Acceptor, hub: &HubWaker) {
+    let mut acceptor = acceptor;
+    for _ in rt.forever() {
+        if acceptor.door.is_stopped() {
+            return;
+        }
+        acceptor.accept_next(rt, hub);
+    }
+}

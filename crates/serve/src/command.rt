@@ -1,0 +1,95 @@
+//! The command `serve`.
+
+use crate::failure::Failure;
+use crate::options::{Address, Options, options_of};
+use crate::serving::{logger, try_serve_on};
+use log::error;
+use mio::net::TcpListener;
+use std::alloc::Global;
+use std::io;
+use std::net::{Net, TcpStream, ToSocketAddrs};
+use std::rt::Files;
+use std::sync::Wait;
+use std::thread::Threads;
+use std::time::Clock;
+
+// Connects to the leader. Its answers are small, so none waits for an acknowledgement.
+fn connect<R: Net<Stream = TcpStream>>(rt: &R, address: &Address<'_>) -> io::Result<TcpStream> {
+    let stream = TcpStream::connect(rt, (address.host, address.port))?;
+    stream.set_nodelay(true)?;
+    Ok(stream)
+}
+
+// Listens for clients.
+fn listen<R: Net>(rt: &R, address: &Address<'_>) -> io::Result<TcpListener> {
+    let mut found = (address.host, address.port).to_socket_addrs(rt)?;
+    match found.next() {
+        Some(address) => TcpListener::bind(rt, address),
+        None => Err(io::Error::from(io::ErrorKind::NotFound)),
+    }
+}
+
+// Opens the sockets, says at which port clients are served, and serves them.
+fn run<
+    R: Threads
+        + Wait
+        + Net<Stream = TcpStream>
+        + Clock
+        + Files
+        + Print
+        + Eprint
+        + Copy
+        + Send
+        + Sync
+        + 'static,
+>(rt: &R, alloc: Global, options: &Options<'_>) -> Result<(), Failure> {
+    let log = logger(rt, options.log);
+    let leader = match connect(rt, &options.leader) {
+        Ok(leader) => leader,
+        Err(error) => {
+            let Address { host, port } = options.leader;
+            error!(log; target: "leader", "{host}:{port}: {error}");
+            return Err(Failure::from(error));
+        }
+    };
+    let listener = match listen(rt, &options.client) {
+        Ok(listener) => listener,
+        Err(error) => {
+            let Address { host, port } = options.client;
+            error!(log; target: "client", "{host}:{port}: {error}");
+            return Err(Failure::from(error));
+        }
+    };
+    let port = listener.local_addr()?.port();
+    println!(rt; "serving {port}")?;
+    try_serve_on(rt, alloc, options, leader, listener)
+}
+
+fn tell<R: Eprint>(rt: &R, failure: Failure) -> u8 {
+    // Where standard error can't be written, the status tells it alone.
+    let _ = eprintln!(rt; "{failure}");
+    failure.status()
+}
+
+/// Serves as the words after `serve` ask, and answers the exit status. Where it isn't 0, standard error is told why.
+pub fn serve<
+    R: Threads
+        + Wait
+        + Net<Stream = TcpStream>
+        + Clock
+        + Files
+        + Print
+        + Eprint
+        + Copy
+        + Send
+        + Sync
+        + 'static,
+>(rt: &R, alloc: Global, words: &[String]) -> u8 {
+    let Some(options) = options_of(words) else {
+        return tell(rt, Failure::Usage);
+    };
+    match run(rt, alloc, &options) {
+        Ok(()) => 0,
+        Err(failure) => tell(rt, failure),
+    }
+}

@@ -1,0 +1,60 @@
+//! Why a server could not be started, or has ended.
+
+use std::alloc::{AllocError, AllocFailed};
+use std::io;
+use std::io::ErrorKind;
+use thiserror::Error;
+use values::NoMemory;
+
+/// Why a server could not be started, or has ended before its leader did.
+#[derive(Clone, Copy, Debug, PartialEq, Eq, Error)]
+pub enum Failure {
+    /// The command line is none.
+    #[error("usage")]
+    Usage,
+    /// A socket or a file could not be opened, or a file not be written.
+    #[error("cannot open")]
+    Failed,
+    /// A growth was refused.
+    #[error("no memory")]
+    NoMemory,
+}
+
+impl Failure {
+    /// The exit status.
+    pub fn status(self) -> u8 {
+        match self {
+            Failure::Usage => 2,
+            Failure::Failed => 3,
+            Failure::NoMemory => 4,
+        }
+    }
+}
+
+impl From<NoMemory> for Failure {
+    fn from(_error: NoMemory) -> Failure {
+        Failure::NoMemory
+    }
+}
+
+impl From<AllocError> for Failure {
+    fn from(_error: AllocError) -> Failure {
+        Failure::NoMemory
+    }
+}
+
+impl<T: Drop> From<AllocFailed<T>> for Failure {
+    fn from(_error: AllocFailed<T>) -> Failure {
+        Failure::NoMemory
+    }
+}
+
+impl From<io::Error> for Failure {
+    fn from(error: io::Error) -> Failure {
+        if error.kind() == ErrorKind::OutOfMemory {
+            Failure::NoMemory
+        } else {
+            Failure::Failed
+        }
+    }
+}

@@ -1,0 +1,132 @@
+//! A record of what came, as a script that a replay takes.
+
+ghost use Rattle.std.specs.Prelude.{◌≡◌, ◌++◌, OnOk};
+ghost use Rattle.serve.specs.Lines.{port_words, session_digits, message_line};
+
+use intake::Message;
+use replay_script::put_hex;
+use settings::ServerId;
+use std::alloc::Global;
+use std::io::Write;
+use values::NoMemory;
+
+fn put(out: &mut Vec<u8>, text: &[u8]) -> Result<(), NoMemory>
+    ensures { OnOk result (out.new.items ≡ out.old.items ++ text.now) }
+{
+    out.extend_from_slice(text)?;
+    Ok(())
+}
+
+// Who sends: the leader, or a client by its number.
+fn put_port(out: &mut Vec<u8>, port: usize) -> Result<(), NoMemory>
+    ensures { OnOk result (out.new.items ≡ out.old.items ++ port_words port) }
+{
+    if port == 0 {
+        return put(out, b"leader ");
+    }
+    match write!(out, "client {port} ") {
+        Ok(()) => Ok(()),
+        Err(_) => Err(NoMemory),
+    }
+}
+
+// Appends a session's id.
+#[tactic(auto, unfolding(crate::specs::Lines::session_digits))]
+fn put_session(out: &mut Vec<u8>, session: i64) -> Result<(), NoMemory>
+    ensures { OnOk result (out.new.items ≡ out.old.items ++ session_digits session) }
+{
+    put_hex(out, &session.to_be_bytes())
+}
+
+/// Appends the line of a message. Where memory is refused, a part of it may be there.
+pub fn put_message(out: &mut Vec<u8>, port: usize, message: &Message) -> Result<(), NoMemory>
+    ensures { OnOk result (out.new.items ≡ out.old.items ++ message_line port message.now) }
+{
+    match message {
+        Message::Up => {
+            put_port(out, port)?;
+            put(out, b"up\n")
+        }
+        Message::Bytes(bytes) => {
+            put_port(out, port)?;
+            put_hex(out, bytes.as_slice())?;
+            put(out, b"\n")
+        }
+        Message::End => {
+            put_port(out, port)?;
+            put(out, b"end\n")
+        }
+        Message::Checkpoint => put(out, b"checkpoint\n"),
+        Message::Expire(session) => {
+            put(out, b"expire ")?;
+            put_session(out, *session)?;
+            put(out, b"\n")
+        }
+    }
+}
+
+/// What is recorded, as long as it can be written.
+#[derive(Drop)]
+pub struct Record<W> {
+    lines: Vec<u8>,
+    writer: Option<W>,
+    is_whole: bool,
+}
+
+impl<W: Write + Drop> Record<W> {
+    /// A record, or none where there is no writer.
+    pub fn new(alloc: Global, writer: Option<W>) -> Record<W> {
+        Record {
+            lines: Vec::new(alloc),
+            writer,
+            is_whole: true,
+        }
+    }
+
+    /// Whether all that was to be recorded is.
+    pub fn is_whole(&self) -> bool {
+        self.is_whole
+    }
+
+    // Writes the lines, and gives the record up where they can't be written.
+    fn write_lines(&mut self, made: Result<(), NoMemory>) {
+        let Some(mut writer) = self.writer.take() else {
+            return;
+        };
+        if made.is_ok() && writer.write_all(self.lines.as_slice()).is_ok() {
+            self.writer = Some(writer);
+        } else {
+            self.is_whole = false;
+        }
+        self.lines.clear();
+    }
+
+    /// Records the observer's settings.
+    pub fn begin(&mut self, server_id: ServerId) {
+        if self.writer.is_none() {
+            return;
+        }
+        let number = server_id.number();
+        let made = match writeln!(self.lines, "server {number}") {
+            Ok(()) => Ok(()),
+            Err(_) => Err(NoMemory),
+        };
+        self.write_lines(made);
+    }
+
+    fn put_all(&mut self, messages: &[(usize, Message)]) -> Result<(), NoMemory> {
+        for (port, message) in messages {
+            put_message(&mut self.lines, *port, message)?;
+        }
+        Ok(())
+    }
+
+    /// Records messages.
+    pub fn add(&mut self, messages: &[(usize, Message)]) {
+        if self.writer.is_none() || messages.is_empty() {
+            return;
+        }
+        let made = self.put_all(messages);
+        self.write_lines(made);
+    }
+}

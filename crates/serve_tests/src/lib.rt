@@ -1,0 +1,15 @@
+//! Tests of `serve`: over sockets, over streams in memory, and of what is recorded.
+#![tactic(auto)]
+
+#[cfg(test)]
+mod loopback;
+#[cfg(test)]
+mod loops;
+#[cfg(test)]
+mod options;
+#[cfg(test)]
+mod records;
+#[cfg(test)]
+mod rows;
+#[cfg(test)]
+mod streams;

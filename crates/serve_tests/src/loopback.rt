@@ -1,0 +1,136 @@
+//! A leader and a client over loopback.
+
+use crate::rows::{
+    CONNECTED_LEN, ack, ack_epoch, connect, create, diff_and_new_leader, get, got, leader_info,
+    observer_info, up_to_date,
+};
+use mio::net::TcpListener as ClientListener;
+use serve::{options_of, serve_on};
+use std::alloc::Global;
+use std::io::{Read, Write};
+use std::net::{Ipv4Addr, Net, SocketAddr, SocketAddrV4, TcpListener, TcpStream};
+use std::rt::Files;
+use std::sync::Wait;
+use std::test::Fail;
+use std::thread::{Builder, Threads};
+use std::time::{Clock, Duration};
+use std::{io, thread};
+
+// Reads so many bytes, and answers whether they are these.
+fn reads(stream: &TcpStream, wanted: &[u8]) -> io::Result<bool> {
+    let mut found = [0u8; 128];
+    let length = wanted.len().min(found.len());
+    let mut reader = stream;
+    reader.read_exact(&mut found[..length])?;
+    Ok(&found[..length] == wanted)
+}
+
+fn writes(stream: &TcpStream, bytes: &[u8]) -> io::Result<()> {
+    let mut writer = stream;
+    writer.write_all(bytes)
+}
+
+// Leads one observer through its handshake and a create. Answers whether all that it sent was right.
+fn lead(stream: &TcpStream) -> io::Result<bool> {
+    let mut is_right = reads(stream, observer_info())?;
+    writes(stream, leader_info())?;
+    is_right &= reads(stream, ack_epoch())?;
+    writes(stream, diff_and_new_leader())?;
+    is_right &= reads(stream, ack())?;
+    writes(stream, up_to_date())?;
+    is_right &= reads(stream, ack())?;
+    writes(stream, create())?;
+    Ok(is_right)
+}
+
+// A connection to this port on this machine, whose reads take no longer than some seconds.
+fn connection<R: Net<Stream = TcpStream>>(rt: &R, port: u16) -> io::Result<TcpStream> {
+    let stream = TcpStream::connect(rt, (Ipv4Addr::LOCALHOST, port))?;
+    stream.set_read_timeout(Some(Duration::from_secs(20)))?;
+    Ok(stream)
+}
+
+// Opens a session, and asks until the node is there, at most so often. Answers whether it got the reply that is wanted.
+fn ask<R: Net<Stream = TcpStream> + Clock>(rt: &R, port: u16) -> io::Result<bool> {
+    let stream = connection(rt, port)?;
+    writes(&stream, connect())?;
+    let mut connected = [0u8; CONNECTED_LEN];
+    let mut reader = &stream;
+    reader.read_exact(&mut connected)?;
+    for _ in 0..1000 {
+        writes(&stream, get())?;
+        let mut header = [0u8; 4];
+        reader.read_exact(&mut header)?;
+        // A reply without a body says that there is no such node yet.
+        if header != [0, 0, 0, 90] {
+            let mut rest = [0u8; 16];
+            reader.read_exact(&mut rest)?;
+            thread::sleep(rt, Duration::from_millis(10));
+            continue;
+        }
+        let rest = got().get(4..).unwrap_or(&[]);
+        return reads(&stream, rest);
+    }
+    Ok(false)
+}
+
+// The leader's thread: takes one observer, leads it, and goes when a client has asked it.
+fn lead_one<R: Net<Stream = TcpStream> + Clock>(rt: &R, listener: TcpListener, port: u16) -> bool {
+    let Ok((stream, _)) = listener.accept() else {
+        return false;
+    };
+    let is_led = lead(&stream).unwrap_or(false);
+    is_led && ask(rt, port).unwrap_or(false)
+}
+
+// Serves, as the words ask for, what a leader and a client of its own do. Answers the exit status, and whether both got
+// what they wanted.
+fn serve_one<
+    R: Threads
+        + Wait
+        + Net<Stream = TcpStream, Listener = TcpListener>
+        + Clock
+        + Files
+        + Eprint
+        + Copy
+        + Send
+        + Sync
+        + 'static,
+>(rt: &R, alloc: Global, words: &str) -> Result<(u8, bool), Fail> {
+    let leading = TcpListener::bind(rt, (Ipv4Addr::LOCALHOST, 0))?;
+    let leader_port = leading.local_addr()?.port();
+    let any = SocketAddr::V4(SocketAddrV4::new(Ipv4Addr::LOCALHOST, 0));
+    let serving = ClientListener::bind(rt, any)?;
+    let port = serving.local_addr()?.port();
+    let mine = *rt;
+    let leader = Builder::new()
+        .stack_size(256 * 1024)
+        .spawn(rt, move || lead_one(&mine, leading, port))?;
+    let stream = TcpStream::connect(rt, (Ipv4Addr::LOCALHOST, leader_port))?;
+    let words = words_of(alloc, words)?;
+    let options = options_of(words.as_slice()).ok_or("refused")?;
+    let status = serve_on(rt, alloc, &options, stream, serving);
+    Ok((status, leader.join(rt)))
+}
+
+// The words of a line.
+fn words_of(alloc: Global, line: &str) -> Result<Vec<String>, Fail> {
+    let mut words = Vec::new(alloc);
+    for word in line.split_ascii_whitespace() {
+        words.push(String::from_str(alloc, word)?)?;
+    }
+    Ok(words)
+}
+
+#[test]
+fn a_client_reads_what_the_leader_made(rt: HostRuntime) -> Result<(), Fail> {
+    for words in [
+        "--leader 1 --client 0",
+        "--leader 1 --client 0 --workers 1 --batch 1 --max-clients 1",
+    ] {
+        let (status, is_right) = serve_one(&rt, rt.alloc(), words)?;
+        assert!(rt; is_right, "{words}");
+        assert_eq!(rt; status, 0, "{words}");
+    }
+    Ok(())
+}

@@ -1,0 +1,274 @@
+//! Sessions over streams in memory, at a desk whose observer follows a leader.
+
+use crate::rows::{create, get, got};
+use crate::streams::{Shared, Source, Target};
+use apply_workers::OpenGate;
+use connection_loop::whole_frames;
+use intake::{Desk, Message};
+use observer_core::{Config, default_limits};
+use serve::session_loop;
+use std::alloc::Global;
+use std::sync::{Arc, Wait};
+use std::test::Fail;
+use std::thread::{Builder, Threads};
+use std::time::{Clock, Duration};
+use values::Blob;
+
+// How a session goes: which read and which write fails, how many bytes a read and a write take, and how many messages
+// have room.
+#[derive(Clone, Copy)]
+struct Way {
+    read_fails: u64,
+    write_fails: u64,
+    most: usize,
+    capacity: usize,
+    asks: u64,
+}
+
+const WELL: Way = Way {
+    read_fails: 0,
+    write_fails: 0,
+    most: 100_000,
+    capacity: 64,
+    asks: 1,
+};
+
+// What the desk took of the session's port, and what was written.
+#[derive(Drop)]
+struct Seen {
+    ups: usize,
+    ends: usize,
+    // How many messages had bytes, and all these bytes.
+    pieces: usize,
+    bytes: Vec<u8>,
+    // The most whole frames of a message that begins with one.
+    most_frames: usize,
+    // Messages that were still there when the session had ended.
+    left: usize,
+    written: Vec<u8>,
+    late: u64,
+}
+
+// How many whole frames of the length of `get` the bytes have.
+fn frames_in(bytes: &[u8]) -> usize {
+    whole_frames(bytes, 1000) / get().len()
+}
+
+impl Seen {
+    fn new(alloc: Global) -> Seen {
+        Seen {
+            ups: 0,
+            ends: 0,
+            pieces: 0,
+            bytes: Vec::new(alloc),
+            most_frames: 0,
+            left: 0,
+            written: Vec::new(alloc),
+            late: 0,
+        }
+    }
+
+    fn see(&mut self, message: &Message) -> Result<(), Fail> {
+        match message {
+            Message::Up => self.ups = self.ups.saturating_add(1),
+            Message::End => self.ends = self.ends.saturating_add(1),
+            Message::Bytes(bytes) => {
+                self.pieces = self.pieces.saturating_add(1);
+                self.bytes.extend_from_slice(bytes.as_slice())?;
+                self.most_frames = self.most_frames.max(frames_in(bytes.as_slice()));
+            }
+            Message::Checkpoint | Message::Expire(_) => {}
+        }
+        Ok(())
+    }
+}
+
+// A desk whose observer follows a leader that has made /a.
+fn desk_of<R: Threads + Sync>(rt: &R, alloc: Global) -> Result<Desk, Fail> {
+    let secret = Blob::new(alloc, &[])?;
+    let config = Config::new(1, 0, 0, 4000, 40_000, secret, default_limits())?;
+    let mut desk = Desk::primed(alloc, config)?;
+    let mut leader = desk.add_port(64)?;
+    if leader
+        .send(Message::Bytes(Blob::new(alloc, create())?))
+        .is_err()
+    {
+        return Err(Fail::from("full"));
+    }
+    desk.turn(rt, &OpenGate)?;
+    let end = leader.finish();
+    desk.close(end);
+    Ok(desk)
+}
+
+// Requests, as many as are asked for.
+fn requests(alloc: Global, count: u64) -> Result<Vec<u8>, Fail> {
+    let mut bytes = Vec::new(alloc);
+    for _ in 0..count {
+        bytes.extend_from_slice(get())?;
+    }
+    Ok(bytes)
+}
+
+// Takes what the session sends, until its end.
+fn take_all<R: Threads + Wait + Sync>(
+    rt: &R,
+    desk: &mut Desk,
+    seen: &mut Seen,
+) -> Result<(), Fail> {
+    for _ in 0..1_000_000 {
+        let took = desk.turn(rt, &OpenGate)?;
+        for (_, message) in desk.fresh() {
+            seen.see(message)?;
+        }
+        if seen.ends > 0 {
+            return Ok(());
+        }
+        if took == 0 {
+            desk.wait(rt, Duration::from_millis(20));
+        }
+    }
+    Err(Fail::from("no end"))
+}
+
+// A session that goes this way.
+fn run<R: Threads + Wait + Clock + Copy + Send + Sync + 'static>(
+    rt: &R,
+    alloc: Global,
+    way: Way,
+) -> Result<Seen, Fail> {
+    let mut desk = desk_of(rt, alloc)?;
+    let port = desk.add_port(way.capacity)?;
+    let shared = Arc::new(alloc, Shared::new(alloc))?;
+    let answers = way.asks.saturating_mul(got().len() as u64);
+    let source = Source {
+        bytes: requests(alloc, way.asks)?,
+        at: 0,
+        most: way.most,
+        answers,
+        fails_at: way.read_fails,
+        reads: 0,
+        shared: Arc::try_clone(&shared)?,
+    };
+    let target = Target {
+        rt: *rt,
+        most: way.most,
+        fails_at: way.write_fails,
+        shared: Arc::try_clone(&shared)?,
+    };
+    let mine = *rt;
+    let handle = Builder::new().stack_size(256 * 1024).spawn(
+        rt,
+        move || session_loop(&mine, alloc, source, target, port),
+    )?;
+    let mut seen = Seen::new(alloc);
+    let taken = take_all(rt, &mut desk, &mut seen);
+    let mut end = handle.join(rt);
+    taken?;
+    seen.left = desk.left(&mut end);
+    let sink = shared.sink.lock(rt);
+    seen.written.extend_from_slice(sink.bytes.as_slice())?;
+    seen.late = sink.late;
+    Ok(seen)
+}
+
+// Whether the session sent itself on and off once each, and nothing after its end.
+fn is_framed(seen: &Seen) -> bool {
+    seen.ups == 1 && seen.ends == 1 && seen.left == 0 && seen.late == 0
+}
+
+// Whether what was written is a front of so many answers, or all of them.
+fn are_answers(written: &[u8], count: usize) -> bool {
+    let whole = got();
+    if written.len() > whole.len().saturating_mul(count) {
+        return false;
+    }
+    for piece in written.chunks(whole.len()) {
+        if !whole.starts_with(piece) {
+            return false;
+        }
+    }
+    true
+}
+
+#[test]
+fn a_client_is_answered(rt: HostRuntime) -> Result<(), Fail> {
+    for most in [100_000, 7, 1] {
+        let seen = run(&rt, rt.alloc(), Way { most, ..WELL })?;
+        assert!(rt; is_framed(&seen));
+        assert!(rt; seen.bytes.as_slice() == get());
+        assert!(rt; seen.written.as_slice() == got());
+    }
+    Ok(())
+}
+
+#[test]
+fn each_read_fails_in_turn(rt: HostRuntime) -> Result<(), Fail> {
+    // 19 bytes, 5 a read: four reads, and one of the end.
+    for read_fails in 1..=5 {
+        let way = Way {
+            read_fails,
+            most: 5,
+            ..WELL
+        };
+        let seen = run(&rt, rt.alloc(), way)?;
+        assert!(rt; is_framed(&seen), "at read {read_fails}");
+        // The last read comes after the answer.
+        assert!(rt;
+            seen.written.is_empty() == (read_fails < 5),
+            "at read {read_fails}"
+        );
+    }
+    Ok(())
+}
+
+#[test]
+fn each_write_fails_in_turn(rt: HostRuntime) -> Result<(), Fail> {
+    // 94 bytes, 20 a write.
+    for write_fails in 1..=5u64 {
+        let way = Way {
+            write_fails,
+            most: 20,
+            ..WELL
+        };
+        let seen = run(&rt, rt.alloc(), way)?;
+        assert!(rt; is_framed(&seen), "at write {write_fails}");
+        assert!(rt;
+            seen.written.len() as u64 == (write_fails - 1) * 20,
+            "at write {write_fails}"
+        );
+        assert!(rt;
+            are_answers(seen.written.as_slice(), 1),
+            "at write {write_fails}"
+        );
+    }
+    Ok(())
+}
+
+#[test]
+fn a_message_has_at_most_sixteen_frames(rt: HostRuntime) -> Result<(), Fail> {
+    let way = Way { asks: 50, ..WELL };
+    let seen = run(&rt, rt.alloc(), way)?;
+    assert!(rt; is_framed(&seen));
+    assert!(rt; seen.most_frames == 16 && seen.pieces == 4);
+    assert!(rt; seen.written.len() == 50 * got().len());
+    assert!(rt; are_answers(seen.written.as_slice(), 50));
+    Ok(())
+}
+
+#[test]
+fn a_full_port_drops_nothing(rt: HostRuntime) -> Result<(), Fail> {
+    let alloc = rt.alloc();
+    let way = Way {
+        asks: 300,
+        capacity: 1,
+        most: 40,
+        ..WELL
+    };
+    let seen = run(&rt, alloc, way)?;
+    assert!(rt; is_framed(&seen));
+    assert!(rt; seen.bytes.as_slice() == requests(alloc, 300)?.as_slice());
+    assert!(rt; seen.written.len() == 300 * got().len());
+    assert!(rt; are_answers(seen.written.as_slice(), 300));
+    Ok(())
+}

@@ -1,0 +1,62 @@
+//! Which words are a command line.
+
+use serve::options_of;
+use std::alloc::Global;
+use std::test::Fail;
+
+// The words of a line.
+fn words(alloc: Global, line: &str) -> Result<Vec<String>, Fail> {
+    let mut words = Vec::new(alloc);
+    for word in line.split_ascii_whitespace() {
+        words.push(String::from_str(alloc, word)?)?;
+    }
+    Ok(words)
+}
+
+// Whether the line is one.
+fn is_line(alloc: Global, line: &str) -> Result<bool, Fail> {
+    let words = words(alloc, line)?;
+    Ok(options_of(words.as_slice()).is_some())
+}
+
+#[test]
+fn some_lines_are_refused(rt: HostRuntime) -> Result<(), Fail> {
+    let alloc = rt.alloc();
+    for line in [
+        "",
+        "--leader 1",
+        "--leader 1 --client",
+        "--leader 1 --client 2 --client 2",
+        "--leader 65536 --client 2",
+        "--leader +1 --client 2",
+        "--leader :1 --client 2",
+        "--leader [::1:1 --client 2",
+        "--leader 1 --client 2 --workers 65",
+        "--leader 1 --client 2 --batch 0",
+        "--leader 1 --client 2 --id 256",
+        "--leader 1 --client 2 --max-clients 0",
+        "--leader 1 --client 2 --record --log",
+        "--leader 1 --client 2 --log --log",
+        "--leader 1 --client 2 --quiet",
+        "--leader 1 --client 2 3",
+    ] {
+        assert!(rt; !is_line(alloc, line)?, "{line}");
+    }
+    Ok(())
+}
+
+#[test]
+fn each_option_is_read(rt: HostRuntime) -> Result<(), Fail> {
+    let alloc = rt.alloc();
+    let words = words(
+        alloc,
+        "--log --client 0021 --leader [::1]:2888 --id 7 --workers 2 --batch 8 --max-clients 9 --record f",
+    )?;
+    let options = options_of(words.as_slice()).ok_or("refused")?;
+    assert!(rt; options.leader.host == "::1" && options.leader.port == 2888);
+    assert!(rt; options.client.host == "127.0.0.1" && options.client.port == 21);
+    assert!(rt; options.limits.workers() == 2 && options.limits.batch() == 8);
+    assert!(rt; options.server_id.number() == 7 && options.max_clients == Some(9));
+    assert!(rt; options.record == Some("f") && options.log);
+    Ok(())
+}

@@ -1,0 +1,141 @@
+//! Streams in memory, of which the k-th read or write fails.
+
+use std::alloc::Global;
+use std::io;
+use std::io::{ErrorKind, Read, Write};
+use std::sync::atomic::{AtomicU64, Ordering};
+use std::sync::{Arc, Mutex, Wait};
+
+/// What was written so far, and how.
+#[derive(Drop)]
+pub struct Sink {
+    pub bytes: Vec<u8>,
+    pub writes: u64,
+    /// How many writes came after the one that failed.
+    pub late: u64,
+}
+
+/// What a reader and a writer share.
+#[derive(Drop)]
+pub struct Shared {
+    pub sink: Mutex<Sink>,
+    // How many bytes were written.
+    written: AtomicU64,
+}
+
+impl Shared {
+    pub fn new(alloc: Global) -> Shared {
+        Shared {
+            sink: Mutex::new(Sink {
+                bytes: Vec::new(alloc),
+                writes: 0,
+                late: 0,
+            }),
+            written: AtomicU64::new(0),
+        }
+    }
+}
+
+/// Gives bytes, at most so many a read, and the end once so many were written. Before that, it would block. One read
+/// may fail.
+pub struct Source {
+    pub bytes: Vec<u8>,
+    pub at: usize,
+    pub most: usize,
+    /// How many bytes are to be written before the end.
+    pub answers: u64,
+    /// Which read fails, from 1 on; 0 for none.
+    pub fails_at: u64,
+    pub reads: u64,
+    pub shared: Arc<Shared, Global>,
+}
+
+impl Drop for Source {
+    fn drop(self) {
+        let Source {
+            bytes,
+            at: _,
+            most: _,
+            answers: _,
+            fails_at: _,
+            reads: _,
+            shared,
+        } = self;
+        drop(bytes);
+        drop(shared);
+    }
+}
+
+impl Source {
+    // Whether this read fails.
+    fn fails(&mut self) -> bool {
+        self.reads = self.reads.saturating_add(1);
+        self.reads == self.fails_at
+    }
+}
+
+impl Read for Source {
+    fn read(&mut self, buf: &mut [u8]) -> io::Result<usize> {
+        if buf.is_empty() {
+            return Ok(0);
+        }
+        let is_at_end = self.at >= self.bytes.len();
+        if is_at_end && self.shared.written.load(Ordering::SeqCst) < self.answers {
+            return Err(io::Error::from(ErrorKind::WouldBlock));
+        }
+        if self.fails() {
+            return Err(io::Error::from(ErrorKind::ConnectionReset));
+        }
+        let rest = self.bytes.get(self.at..).unwrap_or(&[]);
+        let count = rest.len().min(self.most).min(buf.len());
+        buf[..count].copy_from_slice(&rest[..count]);
+        self.at = self.at.saturating_add(count);
+        Ok(count)
+    }
+}
+
+/// Takes at most so many bytes a write. One write may fail.
+pub struct Target<R> {
+    pub rt: R,
+    pub most: usize,
+    /// Which write fails, from 1 on; 0 for none.
+    pub fails_at: u64,
+    pub shared: Arc<Shared, Global>,
+}
+
+impl<R: Drop> Drop for Target<R> {
+    fn drop(self) {
+        let Target {
+            rt,
+            most: _,
+            fails_at: _,
+            shared,
+        } = self;
+        drop(rt);
+        drop(shared);
+    }
+}
+
+impl<R: Wait + Drop> Write for Target<R> {
+    fn write(&mut self, buf: &[u8]) -> io::Result<usize> {
+        let mut guard = self.shared.sink.lock(&self.rt);
+        let sink = &mut *guard;
+        sink.writes = sink.writes.saturating_add(1);
+        if self.fails_at > 0 && sink.writes >= self.fails_at {
+            if sink.writes > self.fails_at {
+                sink.late = sink.late.saturating_add(1);
+            }
+            return Err(io::Error::from(ErrorKind::BrokenPipe));
+        }
+        let count = buf.len().min(self.most);
+        sink.bytes.extend_from_slice(&buf[..count])?;
+        self.shared
+            .written
+            .fetch_add(count as u64, Ordering::SeqCst);
+        Ok(count)
+    }
+
+    fn flush(&mut self) -> io::Result<()> {
+        Ok(())
+    }
+}

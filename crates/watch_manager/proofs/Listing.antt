@@ -1,0 +1,203 @@
+-- The watches of a table, listed.
+use Rattle.std.proofs.Common.{◌≡◌, ℕ, List, [], ◌∷◌, ◌++◌, Bool, true, false, T, ◌||◌, ◌&&◌, map, refl, sym, ap, subst, ◌∙◌, string_bytes}
+use Rattle.std.specs.declared.cmp.Ordering.{Ordering}
+use Rattle.std.specs.declared.cmp.Ordering.TheVariants.{Less, Equal, Greater}
+use Rattle.std.specs.BTreeSet.{insert_key}
+use Rattle.std.specs.FinSet as set
+use Rattle.std.specs.List.{list_any, AllByRecursion}
+use Rattle.std.specs.List.Sorted.{IsStrictlySortedBy}
+use Rattle.std.specs.Map.{keys_of}
+use Rattle.std.specs.String.{string_cmp}
+use Rattle.std.specs.declared.string.String.{String}
+use Rattle.std.specs.Ordering.{eq_by_cmp, is_eq, nat_cmp, ordering_then}
+use Rattle.std.specs.Cmp.{nat_cmp_total}
+use Rattle.std.proofs.lemmas.List.Folds.{list_any-append}
+use Rattle.std.proofs.lemmas.Map.Lookups.{CmpEqualImpliesEq}
+use Rattle.ephemerals.specs.Orders.{Bytes, path_cmp}
+use Rattle.ephemerals.specs.Grouped.{all_pairs, by_bytes}
+use Rattle.ephemerals.proofs.Ascending.{any-ascending}
+use Rattle.ephemerals.proofs.Ties.{tied_then}
+use Rattle.watch_manager.specs.Pairs.{Connections, Pairs, watch_cmp, in_number}
+use Rattle.watch_manager.specs.Summary.{table_rank, watched_cmp, watched_in}
+use Rattle.watch_manager.specs.Ascending.{ascending, inserted}
+use Rattle.watch_manager.specs.Totals.{watched_total}
+use Rattle.watch_manager.specs.Inner.Listing.{path_rows, rows_of, AddsInOrder}
+use Rattle.watch_manager.specs.declared.watched.Table.{Table}
+use Rattle.watch_manager.specs.declared.watched.Table.TheVariants.{Own, Child}
+use Rattle.watch_manager.specs.declared.watched.Watched.{Watched}
+use Rattle.watch_manager.proofs.Totals.{watch_total, watch_exact}
+use Rattle.watch_manager.proofs.Ascending.{same_ascending, inserted-ascending}
+
+-- ---- the order of watches
+
+first_ties : (a b : Ordering) → ordering_then a b ≡ Equal → a ≡ Equal
+first_ties Less b e = e
+first_ties Equal b e = refl
+first_ties Greater b e = e
+
+second_ties : (a b : Ordering) → ordering_then a b ≡ Equal → b ≡ Equal
+second_ties Less b e = absurd (subst (λ r. T (is_eq r)) (sym e) tt)
+second_ties Equal b e = e
+second_ties Greater b e = absurd (subst (λ r. T (is_eq r)) (sym e) tt)
+
+-- it ties only what is equal
+pub watched_exact : CmpEqualImpliesEq watched_cmp
+watched_exact x y tie = by x.table y.table tie
+  where
+    same : watch_cmp (x.path, x.conn) (y.path, y.conn) ≡ Equal
+        → ◌≡◌ {A = Bytes × ℕ} (x.path, x.conn) (y.path, y.conn)
+    same e = watch_exact (x.path, x.conn) (y.path, y.conn) e
+
+    by : (s t : Table)
+        → ordering_then (watch_cmp (x.path, x.conn) (y.path, y.conn)) (nat_cmp (table_rank s) (table_rank t)) ≡ Equal
+        → watched_in s (x.path, x.conn) ≡ watched_in t (y.path, y.conn)
+    by Own Own e = ap (watched_in Own) (same (first_ties (watch_cmp (x.path, x.conn) (y.path, y.conn)) (nat_cmp 0 0) e))
+    by Own Child e =
+        absurd (subst (λ r. T (is_eq r))
+        (sym (second_ties (watch_cmp (x.path, x.conn) (y.path, y.conn)) (nat_cmp 0 1) e)) tt)
+    by Child Own e =
+        absurd (subst (λ r. T (is_eq r))
+        (sym (second_ties (watch_cmp (x.path, x.conn) (y.path, y.conn)) (nat_cmp 1 0) e)) tt)
+    by Child Child e =
+        ap (watched_in Child) (same (first_ties (watch_cmp (x.path, x.conn) (y.path, y.conn)) (nat_cmp 1 1) e))
+
+-- ---- which watches are listed
+
+and_or : (a b k : Bool) → ((a && k) || (b && k)) ≡ ((a || b) && k)
+and_or true true true = refl
+and_or true true false = refl
+and_or true false true = refl
+and_or true false false = refl
+and_or false b k = refl
+
+abbrev same_table : Watched → Table → Bool
+same_table q table = eq_by_cmp nat_cmp (table_rank q.table) (table_rank table)
+
+-- a pair stands in the table
+any-watched_in : (table : Table) (pairs : List (Bytes × ℕ)) (q : Watched)
+    → list_any (eq_by_cmp watched_cmp q) (map (watched_in table) pairs)
+    ≡ (list_any (eq_by_cmp watch_cmp (q.path, q.conn)) pairs && same_table q table)
+any-watched_in table [] q = refl
+any-watched_in table (p ∷ ps) q =
+    (λ i. tied_then (watch_cmp (q.path, q.conn) p) (nat_cmp (table_rank q.table) (table_rank table)) i
+    || any-watched_in table ps q i)
+    ∙ and_or (eq_by_cmp watch_cmp (q.path, q.conn) p) (list_any (eq_by_cmp watch_cmp (q.path, q.conn)) ps)
+    (same_table q table)
+
+at_path : (path : Bytes) (conns : List ℕ) (q : Bytes × ℕ)
+    → list_any (eq_by_cmp watch_cmp q) (map (λ (c : ℕ). (path, c)) conns)
+    ≡ (list_any (eq_by_cmp nat_cmp q.1) conns && eq_by_cmp path_cmp q.0 path)
+at_path path [] q = refl
+at_path path (c ∷ cs) q =
+    (λ i. (tied_then (path_cmp q.0 path) (nat_cmp q.1 c)
+    ∙ and_comm (eq_by_cmp path_cmp q.0 path) (eq_by_cmp nat_cmp q.1 c)) i
+    || at_path path cs q i)
+    ∙ and_or (eq_by_cmp nat_cmp q.1 c) (list_any (eq_by_cmp nat_cmp q.1) cs) (eq_by_cmp path_cmp q.0 path)
+  where
+    and_comm : (a b : Bool) → (a && b) ≡ (b && a)
+    and_comm true true = refl
+    and_comm true false = refl
+    and_comm false true = refl
+    and_comm false false = refl
+
+-- the connections of a set, in order or not
+any-in_number : (path : Bytes) (conns : Connections) (q : Bytes × ℕ)
+    → list_any (eq_by_cmp watch_cmp q) (map (λ (c : ℕ). (path, c)) (in_number conns))
+    ≡ list_any (eq_by_cmp watch_cmp q) (map (λ (c : ℕ). (path, c)) (set.items conns))
+any-in_number path conns q =
+    at_path path (in_number conns) q
+    ∙ ap (λ b. b && eq_by_cmp path_cmp q.0 path) (any-ascending nat_cmp_total (set.items conns) q.1)
+    ∙ sym (at_path path (set.items conns) q)
+
+path_rows-pairs : (table : Table) (path : Bytes) (conns : List ℕ)
+    → path_rows table path conns ≡ map (watched_in table) (map (λ (c : ℕ). (path, c)) conns)
+path_rows-pairs table path [] = refl
+path_rows-pairs table path (c ∷ cs) = ap (λ rows. watched_in table (path, c) ∷ rows) (path_rows-pairs table path cs)
+
+any-path_rows : (table : Table) (path : Bytes) (conns : Connections) (q : Watched)
+    → list_any (eq_by_cmp watched_cmp q) (path_rows table path (in_number conns))
+    ≡ (list_any (eq_by_cmp watch_cmp (q.path, q.conn)) (map (λ (c : ℕ). (path, c)) (set.items conns))
+    && same_table q table)
+any-path_rows table path conns q =
+    ap (list_any (eq_by_cmp watched_cmp q)) (path_rows-pairs table path (in_number conns))
+    ∙ any-watched_in table (map (λ (c : ℕ). (path, c)) (in_number conns)) q
+    ∙ ap (λ b. b && same_table q table) (any-in_number path conns (q.path, q.conn))
+
+any-rows_of : (table : Table) (es : List (Bytes × Connections)) (q : Watched)
+    → list_any (eq_by_cmp watched_cmp q) (rows_of table es)
+    ≡ (list_any (eq_by_cmp watch_cmp (q.path, q.conn)) (all_pairs es) && same_table q table)
+any-rows_of table [] q = refl
+any-rows_of table (e ∷ es) q =
+    list_any-append (eq_by_cmp watched_cmp q) (path_rows table e.0 (in_number e.1)) (rows_of table es)
+    ∙ (λ i. any-path_rows table e.0 e.1 q i || any-rows_of table es q i)
+    ∙ and_or (list_any (eq_by_cmp watch_cmp (q.path, q.conn)) (map (λ (c : ℕ). (e.0, c)) (set.items e.1)))
+    (list_any (eq_by_cmp watch_cmp (q.path, q.conn)) (all_pairs es)) (same_table q table)
+    ∙ ap (λ b. b && same_table q table)
+    (sym (list_any-append (eq_by_cmp watch_cmp (q.path, q.conn)) (map (λ (c : ℕ). (e.0, c)) (set.items e.1))
+    (all_pairs es)))
+
+-- the rows of a table are its watches
+any-table : (table : Table) (es : List (Bytes × Connections)) (watches : Pairs) → set.from_list (all_pairs es) ≡ watches
+    → (q : Watched) → list_any (eq_by_cmp watched_cmp q) (rows_of table es)
+    ≡ list_any (eq_by_cmp watched_cmp q) (map (watched_in table) (set.items watches))
+any-table table es watches are q =
+    any-rows_of table es q
+    ∙ ap (λ b. b && same_table q table)
+    (sym (set.contains-from_list watch_total (all_pairs es) (q.path, q.conn))
+    ∙ ap (λ s. set.contains s (q.path, q.conn)) are
+    ∙ set.contains-items watches (q.path, q.conn))
+    ∙ sym (any-watched_in table (set.items watches) q)
+
+-- the paths of entries that are in order
+pub sorted_bytes : {X Z : Type 0} (es : List (String Z × X)) → IsStrictlySortedBy string_cmp (keys_of es)
+    → IsStrictlySortedBy path_cmp (keys_of (by_bytes es))
+unfolding IsStrictlySortedBy
+sorted_bytes [] s = tt
+sorted_bytes {X} {Z} (e ∷ es) s = (each es s.0, sorted_bytes es s.1)
+  where
+    each : (fs : List (String Z × X)) → AllByRecursion (λ y. string_cmp e.0 y ≡ Less) (keys_of fs)
+        → AllByRecursion (λ y. path_cmp (string_bytes e.0) y ≡ Less) (keys_of (by_bytes fs))
+    each [] h = tt
+    each (f ∷ fs) h = (h.0, each fs h.1)
+
+-- ---- a table, added path by path
+
+-- the rest leads where all the watches lead
+pub record Adding (table : Table) (watches : Pairs) (old now : List Watched) (rest : List (Bytes × Connections))
+    : Type 0 where
+  pub all : List (Bytes × Connections)
+  pub are : set.from_list (all_pairs all) ≡ watches
+  pub leads : inserted watched_cmp now (rows_of table rest) ≡ inserted watched_cmp old (rows_of table all)
+
+inserted-append : (keys xs ys : List Watched)
+    → inserted watched_cmp keys (xs ++ ys) ≡ inserted watched_cmp (inserted watched_cmp keys xs) ys
+inserted-append keys [] ys = refl
+inserted-append keys (x ∷ xs) ys = inserted-append (insert_key watched_cmp keys x) xs ys
+
+pub begins : (table : Table) (watches : Pairs) (old : List Watched) (all : List (Bytes × Connections))
+    → set.from_list (all_pairs all) ≡ watches → Adding table watches old old all
+begins table watches old all are = record { all = all; are = are; leads = refl }
+
+pub adds : (table : Table) (watches : Pairs) (old now new : List Watched) (path : Bytes) (conns : Connections)
+    (rest : List (Bytes × Connections)) → Adding table watches old now ((path, conns) ∷ rest)
+    → new ≡ inserted watched_cmp now (path_rows table path (in_number conns)) → Adding table watches old new rest
+adds table watches old now new path conns rest h is = record {
+  all = h.all;
+  are = h.are;
+  leads =
+      ap (λ keys. inserted watched_cmp keys (rows_of table rest)) is
+      ∙ sym (inserted-append now (path_rows table path (in_number conns)) (rows_of table rest))
+      ∙ h.leads;
+}
+
+pub ends : (table : Table) (watches : Pairs) (old now : List Watched) → Adding table watches old now []
+    → AddsInOrder old (map (watched_in table) (set.items watches)) now
+ends table watches old now h before is =
+    h.leads
+    ∙ ap (λ keys. inserted watched_cmp keys (rows_of table h.all)) is
+    ∙ inserted-ascending watched_total watched_exact before (rows_of table h.all)
+    ∙ same_ascending watched_total watched_exact (before ++ rows_of table h.all)
+    (before ++ map (watched_in table) (set.items watches)) (λ q.
+    list_any-append (eq_by_cmp watched_cmp q) before (rows_of table h.all)
+    ∙ ap (λ b. list_any (eq_by_cmp watched_cmp q) before || b) (any-table table h.all watches h.are q)
+    ∙ sym (list_any-append (eq_by_cmp watched_cmp q) before (map (watched_in table) (set.items watches))))

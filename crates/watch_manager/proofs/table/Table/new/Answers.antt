@@ -1,9 +1,0 @@
-use Rattle.std.proofs.Common.{ap, sym, ◌∙◌}
-use Rattle.std.specs.FinSet as set
-use Rattle.watch_manager.proofs.Tables.{agree-empty}
-use Rattle.watch_manager.proofs.table.Table.new.Goals as goal
-
-pub invariant_of-result : goal.invariant_of-result
-invariant_of-result c path conn =
-    ap (λ s. set.contains s (path, conn)) c.new.ensures ∙ agree-empty path conn
-    ∙ ap (λ s. set.contains s (conn, path)) (sym c.new-2.ensures)

@@ -1,0 +1,30 @@
+-- All watches as one list.
+use Rattle.std.specs.Prelude.{ℕ, List, ◌++◌, map}
+use Rattle.std.specs.declared.cmp.Ordering.{Ordering}
+use Rattle.std.specs.Ordering.{nat_cmp, then_cmp, on}
+use Rattle.std.specs.FinSet as set
+use Rattle.ephemerals.specs.Orders.{Bytes, path_cmp}
+use Rattle.watch_manager.specs.Ascending.{ascending}
+use Rattle.watch_manager.specs.Watching.{Watching}
+use Rattle.watch_manager.specs.declared.watched.Table.{Table}
+use Rattle.watch_manager.specs.declared.watched.Table.TheVariants.{Own, Child}
+use Rattle.watch_manager.specs.declared.watched.Watched.{Watched}
+
+-- the data watches first
+abbrev pub table_rank : Table → ℕ
+table_rank Own = 0
+table_rank Child = 1
+
+-- ascending path, then ascending connection, then the data watch before the child watch
+abbrev pub watched_cmp : Watched → Watched → Ordering
+watched_cmp =
+    then_cmp (then_cmp (on (λ (w : Watched). w.path) path_cmp) (on (λ (w : Watched). w.conn) nat_cmp))
+    (on (λ (w : Watched). table_rank w.table) nat_cmp)
+
+-- the pair as a watch of this table
+abbrev pub watched_in : Table → Bytes × ℕ → Watched
+watched_in table pair = record { path = pair.0; conn = pair.1; table = table }
+
+-- each watch of both tables once, in ascending order
+abbrev pub summary : Watching → List Watched
+summary w = ascending watched_cmp (map (watched_in Own) (set.items w.own) ++ map (watched_in Child) (set.items w.child))

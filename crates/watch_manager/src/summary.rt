@@ -1,0 +1,62 @@
+//! The watches of both tables, listed.
+
+ghost use Rattle.std.specs.Prelude.{◌≡◌, IfOk, OnOk, map};
+ghost use Rattle.std.specs.FinSet as set;
+ghost use Rattle.watch_manager.specs.Pairs.{in_number};
+ghost use Rattle.watch_manager.specs.Summary.{watched_cmp, watched_in};
+ghost use Rattle.watch_manager.specs.Inner.Listing.{path_rows, AddsInOrder};
+ghost use Rattle.watch_manager.specs.Ascending.{inserted};
+
+use crate::conn_set::ConnSet;
+use crate::table::WatchTable;
+use crate::watched::{Table, Watched};
+use std::alloc::Global;
+use std::collections::BTreeSet;
+use values::{NoMemory, Str};
+
+// Adds the watches of these connections on a path.
+fn add_conns<'a>(
+    rows: &mut BTreeSet<Watched<'a>>,
+    path: &'a str,
+    conns: &ConnSet,
+    table: Table,
+) -> Result<(), NoMemory>
+    ensures { OnOk result (rows.new.keys ≡
+        inserted watched_cmp rows.old.keys (path_rows table path.now (in_number conns.now))) }
+{
+    for conn in conns.iter() {
+        let path = Str::new(path);
+        let conn = *conn;
+        rows.insert(Watched { path, conn, table })?;
+    }
+    Ok(())
+}
+
+/// Adds the watches of a table.
+pub fn add_table<'a>(
+    rows: &mut BTreeSet<Watched<'a>>,
+    watches: &'a WatchTable,
+    table: Table,
+) -> Result<(), NoMemory>
+    ensures { OnOk result
+        (AddsInOrder rows.old.keys (map (watched_in table) (set.items watches.now)) rows.new.keys) }
+{
+    for (path, conns) in watches.iter() {
+        add_conns(rows, path.as_str(), conns, table)?;
+    }
+    Ok(())
+}
+
+/// The watches in their order.
+pub fn in_order<'a>(
+    alloc: Global,
+    rows: BTreeSet<Watched<'a>>,
+) -> Result<Vec<Watched<'a>>, NoMemory>
+    ensures { IfOk result (λ listed. listed.items ≡ rows.entry.keys) }
+{
+    let mut listed = Vec::with_capacity(alloc, rows.len())?;
+    for row in rows {
+        listed.push(row)?;
+    }
+    Ok(listed)
+}

@@ -1,0 +1,76 @@
+"""The six four-letter words, against what the leader says of the same tree."""
+import socket
+
+from kazoo.client import KazooClient
+
+from lab import word, zxid_of
+from raw import Raw
+
+
+def mntr(port):
+    return dict(line.split("\t") for line in word(port, "mntr").splitlines() if "\t" in line)
+
+
+def short_ones(bench):
+    """ruok and isro."""
+    assert word(bench.observer.client, "ruok") == "imok"
+    assert word(bench.observer.client, "isro") == word(bench.leader.client, "isro") == "rw"
+
+
+def srvr(bench):
+    """The last zxid and the number of nodes are the leader's."""
+    client = KazooClient(f"127.0.0.1:{bench.leader.client}")
+    client.start(15)
+    for number in range(30):
+        client.create(f"/words-{number}", b"", ephemeral=number % 2 == 0)
+    client.create("/words", b"")
+    bench.observer.reaches(zxid_of(bench.leader.client))
+    lines = word(bench.observer.client, "srvr").splitlines()
+    theirs = {it.partition(": ")[0]: it.partition(": ")[2] for it in word(bench.leader.client, "srvr").splitlines()}
+    assert lines[0] == "Connections: 0", lines
+    assert lines[1] == f"Zxid: {theirs['Zxid']}", lines
+    assert lines[2] == "Mode: observer", lines
+    name, _, count = lines[3].partition(": ")
+    assert name == "Node count" and int(theirs["Node count"]) - int(count) in (0, 1), (lines, theirs)
+    ours, at_leader = mntr(bench.observer.client), mntr(bench.leader.client)
+    assert ours["zk_server_state"] == "observer", ours
+    assert ours["zk_znode_count"] == count, ours
+    assert ours["zk_ephemerals_count"] == at_leader["zk_ephemerals_count"] == "15", (ours, at_leader)
+    client.stop()
+    client.close()
+
+
+def watches(bench):
+    """wchs, wchp and mntr count the watches of both tables."""
+    port = bench.observer.client
+    one, two = Raw(port), Raw(port)
+    one.data("/words", True)
+    one.children("/words", True)
+    one.stat("/nowhere", True)
+    two.data("/words", True)
+    assert word(port, "wchs") == "2 connections watching 2 paths\nTotal watches:4\n", word(port, "wchs")
+    first, second = sorted((one.session, two.session))
+    listed = f"/nowhere\n\t0x{one.session:x}\n/words\n\t0x{first:x}\n\t0x{second:x}\n"
+    assert word(port, "wchp") == listed, word(port, "wchp")
+    figures = mntr(port)
+    assert figures["zk_num_alive_connections"] == "2" and figures["zk_watch_count"] == "4", figures
+    one.leave()
+    two.leave()
+    assert word(port, "wchs") == "0 connections watching 0 paths\nTotal watches:0\n"
+
+
+def no_words(bench):
+    """A word that isn't one of the six is no frame either, so the connection is closed without an answer."""
+    for asked in ("stat", "envi", "dump", "cons", "xxxx"):
+        assert word(bench.observer.client, asked) == "", asked
+
+
+def in_pieces(bench):
+    """A word may come byte by byte."""
+    with socket.create_connection(("127.0.0.1", bench.observer.client), 5) as connection:
+        for letter in b"ruok":
+            connection.sendall(bytes([letter]))
+        assert b"".join(iter(lambda: connection.recv(100), b"")) == b"imok"
+
+
+CHECKS = [short_ones, srvr, watches, no_words, in_pieces]
