@@ -56,14 +56,20 @@ pub fn audited<R: Read, W: Write, E: Write>(
     audit_on(alloc, reader, path, writer, errors)
 }
 
-/// What a command line names: a file, `-` for standard input, and nothing where it is none; and the path of an audit.
+/// What a source names: a file, and `-` for standard input.
+pub fn file_of(source: Source<'_>) -> &str {
+    match source {
+        Source::Input => "-",
+        Source::File(name) => name.as_str(),
+    }
+}
+
+/// What a command line names: what is replayed or audited, and the path of an audit. Each is empty where there is none.
 pub fn named(words: &[String]) -> (&str, &str) {
     match command_of(words) {
         None => ("", ""),
-        Some(Command::Replay(Source::Input)) => ("-", ""),
-        Some(Command::Replay(Source::File(name))) => (name.as_str(), ""),
-        Some(Command::Audit(Source::Input, path)) => ("-", path.as_str()),
-        Some(Command::Audit(Source::File(name), path)) => (name.as_str(), path.as_str()),
+        Some(Command::Replay(source)) => (file_of(source), ""),
+        Some(Command::Audit(source, path)) => (file_of(source), path.as_str()),
     }
 }
 
