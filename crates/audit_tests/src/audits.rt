@@ -40,9 +40,7 @@ fn single(zxid: i64, operation: Operation) -> Txn {
 // Each operation as a transaction, numbered from 1.
 fn log_of(alloc: Global, operations: Vec<Operation>) -> Result<Vec<Txn>, Fail> {
     let mut log = Vec::new(alloc);
-    let mut zxid = 0;
-    for operation in operations {
-        zxid += 1;
+    for (zxid, operation) in (1..).zip(operations) {
         log.push(single(zxid, operation))?;
     }
     Ok(log)

@@ -39,8 +39,11 @@ pub fn asks(xid: u8) -> [u8; 18] {
 }
 
 /// Sends bytes, and answers whether there was room.
-pub fn sends(alloc: Global, port: &mut Port, bytes: &[u8]) -> Result<bool, &'static str> {
-    Ok(port.send(Message::Bytes(blob(alloc, bytes)?)).is_ok())
+pub fn sends(alloc: Global, port: &mut Port, bytes: &[u8]) -> bool {
+    match blob(alloc, bytes) {
+        Ok(bytes) => port.send(Message::Bytes(bytes)).is_ok(),
+        Err(_) => false,
+    }
 }
 
 /// How many messages a turn takes.

@@ -1,42 +1,56 @@
 //! What a port does by itself, and how it comes and goes.
+//!
+//! A test makes the desk and has a function of its own do the rest, so that the desk is dropped at one place.
 use crate::helpers::{asks, blob, is_handed_back, port, primed, sends};
-use intake::{AddPortError, Message};
+use intake::{AddPortError, Desk, Message};
+use std::alloc::Global;
+use std::process::Abort;
 use std::test::Fail;
 
-#[test]
-fn a_full_port_hands_the_message_back(rt: HostRuntime) -> Result<(), Fail> {
-    let alloc = rt.alloc();
-    let mut desk = primed(alloc)?;
-    let mut leader = port(&mut desk, 1)?;
-    let first = sends(alloc, &mut leader, &asks(1))?;
-    assert!(rt; first);
-    let second = leader.send(Message::Bytes(blob(alloc, &asks(2))?));
-    let is_back = is_handed_back(second, &asks(2));
-    assert!(rt; is_back);
+fn fill<R: Abort>(rt: &R, alloc: Global, desk: &mut Desk) -> Result<(), Fail> {
+    let again = blob(alloc, &asks(2))?;
+    let mut leader = port(desk, 1)?;
+    assert!(rt; sends(alloc, &mut leader, &asks(1)));
+    let sent = leader.send(Message::Bytes(again));
+    assert!(rt; is_handed_back(sent, &asks(2)));
     Ok(())
 }
 
 #[test]
-fn a_port_has_room_for_1_to_1024(rt: HostRuntime) -> Result<(), Fail> {
+fn a_full_port_hands_the_message_back(rt: HostRuntime) -> Result<(), Fail> {
     let mut desk = primed(rt.alloc())?;
+    fill(&rt, rt.alloc(), &mut desk)
+}
+
+fn add<R: Abort>(rt: &R, desk: &mut Desk) -> Result<(), Fail> {
     let none = desk.add_port(0).err();
     assert_eq!(rt; none, Some(AddPortError::BadCapacity));
     let more = desk.add_port(1025).err();
     assert_eq!(rt; more, Some(AddPortError::BadCapacity));
-    let most = port(&mut desk, 1024)?;
+    let most = port(desk, 1024)?;
     assert_eq!(rt; most.number(), 0);
     assert_eq!(rt; most.capacity(), 1024);
     Ok(())
 }
 
 #[test]
-fn ports_come_and_go(rt: HostRuntime) -> Result<(), Fail> {
+fn a_port_has_room_for_1_to_1024(rt: HostRuntime) -> Result<(), Fail> {
     let mut desk = primed(rt.alloc())?;
+    add(&rt, &mut desk)
+}
+
+fn come_and_go<R: Abort>(rt: &R, desk: &mut Desk) -> Result<(), Fail> {
     for _ in 0..1000 {
-        let port = port(&mut desk, 1)?;
+        let port = port(desk, 1)?;
         desk.close(port.finish());
     }
-    let last = port(&mut desk, 1)?;
+    let last = port(desk, 1)?;
     assert_eq!(rt; last.number(), 1000);
     Ok(())
+}
+
+#[test]
+fn ports_come_and_go(rt: HostRuntime) -> Result<(), Fail> {
+    let mut desk = primed(rt.alloc())?;
+    come_and_go(&rt, &mut desk)
 }

@@ -108,7 +108,9 @@ fn serve_one<
         .spawn(rt, move || lead_one(&mine, leading, port))?;
     let stream = TcpStream::connect(rt, (Ipv4Addr::LOCALHOST, leader_port))?;
     let words = words_of(alloc, words)?;
-    let options = options_of(words.as_slice()).ok_or("refused")?;
+    let Some(options) = options_of(words.as_slice()) else {
+        return Err(Fail::from("refused"));
+    };
     let status = serve_on(rt, alloc, &options, stream, serving);
     Ok((status, leader.join(rt)))
 }

@@ -51,7 +51,9 @@ struct Seen {
 
 // How many whole frames of the length of `get` the bytes have.
 fn frames_in(bytes: &[u8]) -> usize {
-    whole_frames(bytes, 1000) / get().len()
+    whole_frames(bytes, 1000)
+        .checked_div(get().len())
+        .unwrap_or(0)
 }
 
 impl Seen {
@@ -83,22 +85,19 @@ impl Seen {
     }
 }
 
-// A desk whose observer follows a leader that has made /a.
-fn desk_of<R: Threads + Sync>(rt: &R, alloc: Global) -> Result<Desk, Fail> {
-    let secret = Blob::new(alloc, &[])?;
-    let config = Config::new(1, 0, 0, 4000, 40_000, secret, default_limits())?;
-    let mut desk = Desk::primed(alloc, config)?;
+// Has the desk's leader make /a, and end.
+fn lead<R: Threads + Sync>(rt: &R, alloc: Global, desk: &mut Desk) -> Result<(), Fail> {
     let mut leader = desk.add_port(64)?;
-    if leader
+    let is_sent = leader
         .send(Message::Bytes(Blob::new(alloc, create())?))
-        .is_err()
-    {
+        .is_ok();
+    let end = leader.finish();
+    if !is_sent {
         return Err(Fail::from("full"));
     }
     desk.turn(rt, &OpenGate)?;
-    let end = leader.finish();
     desk.close(end);
-    Ok(desk)
+    Ok(())
 }
 
 // Requests, as many as are asked for.
@@ -131,41 +130,78 @@ fn take_all<R: Threads + Wait + Sync>(
     Err(Fail::from("no end"))
 }
 
+// The client's side of a session that goes this way.
+fn source_of(alloc: Global, way: Way, shared: &Arc<Shared, Global>) -> Result<Source, Fail> {
+    Ok(Source {
+        bytes: requests(alloc, way.asks)?,
+        at: 0,
+        most: way.most,
+        answers: way.asks.saturating_mul(got().len() as u64),
+        fails_at: way.read_fails,
+        reads: 0,
+        shared: Arc::try_clone(shared)?,
+    })
+}
+
+fn target_of<R: Copy>(rt: &R, way: Way, shared: &Arc<Shared, Global>) -> Result<Target<R>, Fail> {
+    Ok(Target {
+        rt: *rt,
+        most: way.most,
+        fails_at: way.write_fails,
+        shared: Arc::try_clone(shared)?,
+    })
+}
+
+// Runs a session on a thread of its own, at a port of this desk, until it ends.
+fn run_at<R: Threads + Wait + Clock + Copy + Send + Sync + 'static>(
+    rt: &R,
+    alloc: Global,
+    way: Way,
+    desk: &mut Desk,
+    shared: &Arc<Shared, Global>,
+    seen: &mut Seen,
+) -> Result<(), Fail> {
+    let source = source_of(alloc, way, shared)?;
+    let target = target_of(rt, way, shared)?;
+    let port = desk.add_port(way.capacity)?;
+    let mine = *rt;
+    let session = Builder::new().stack_size(256 * 1024).spawn(
+        rt,
+        move || session_loop(&mine, alloc, source, target, port),
+    )?;
+    let taken = take_all(rt, desk, seen);
+    let mut end = session.join(rt);
+    seen.left = desk.left(&mut end);
+    taken
+}
+
+// Runs a session at a desk whose observer follows a leader that has made /a.
+fn run_led<R: Threads + Wait + Clock + Copy + Send + Sync + 'static>(
+    rt: &R,
+    alloc: Global,
+    way: Way,
+    desk: &mut Desk,
+    shared: &Arc<Shared, Global>,
+    seen: &mut Seen,
+) -> Result<(), Fail> {
+    lead(rt, alloc, desk)?;
+    run_at(rt, alloc, way, desk, shared, seen)
+}
+
 // A session that goes this way.
 fn run<R: Threads + Wait + Clock + Copy + Send + Sync + 'static>(
     rt: &R,
     alloc: Global,
     way: Way,
 ) -> Result<Seen, Fail> {
-    let mut desk = desk_of(rt, alloc)?;
-    let port = desk.add_port(way.capacity)?;
     let shared = Arc::new(alloc, Shared::new(alloc))?;
-    let answers = way.asks.saturating_mul(got().len() as u64);
-    let source = Source {
-        bytes: requests(alloc, way.asks)?,
-        at: 0,
-        most: way.most,
-        answers,
-        fails_at: way.read_fails,
-        reads: 0,
-        shared: Arc::try_clone(&shared)?,
-    };
-    let target = Target {
-        rt: *rt,
-        most: way.most,
-        fails_at: way.write_fails,
-        shared: Arc::try_clone(&shared)?,
-    };
-    let mine = *rt;
-    let handle = Builder::new().stack_size(256 * 1024).spawn(
-        rt,
-        move || session_loop(&mine, alloc, source, target, port),
-    )?;
     let mut seen = Seen::new(alloc);
-    let taken = take_all(rt, &mut desk, &mut seen);
-    let mut end = handle.join(rt);
-    taken?;
-    seen.left = desk.left(&mut end);
+    let secret = Blob::new(alloc, &[])?;
+    let config = Config::new(1, 0, 0, 4000, 40_000, secret, default_limits())?;
+    let mut desk = Desk::primed(alloc, config)?;
+    let ran = run_led(rt, alloc, way, &mut desk, &shared, &mut seen);
+    drop(desk);
+    ran?;
     let sink = shared.sink.lock(rt);
     seen.written.extend_from_slice(sink.bytes.as_slice())?;
     seen.late = sink.late;
@@ -183,7 +219,7 @@ fn are_answers(written: &[u8], count: usize) -> bool {
     if written.len() > whole.len().saturating_mul(count) {
         return false;
     }
-    for piece in written.chunks(whole.len()) {
+    for piece in written.chunks(whole.len().max(1)) {
         if !whole.starts_with(piece) {
             return false;
         }

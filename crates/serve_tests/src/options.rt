@@ -52,7 +52,9 @@ fn each_option_is_read(rt: HostRuntime) -> Result<(), Fail> {
         alloc,
         "--log --client 0021 --leader [::1]:2888 --id 7 --workers 2 --batch 8 --max-clients 9 --record f",
     )?;
-    let options = options_of(words.as_slice()).ok_or("refused")?;
+    let Some(options) = options_of(words.as_slice()) else {
+        return Err(Fail::from("refused"));
+    };
     assert!(rt; options.leader.host == "::1" && options.leader.port == 2888);
     assert!(rt; options.client.host == "127.0.0.1" && options.client.port == 21);
     assert!(rt; options.limits.workers() == 2 && options.limits.batch() == 8);
