@@ -54,3 +54,19 @@ fn ports_come_and_go(rt: HostRuntime) -> Result<(), Fail> {
     let mut desk = primed(rt.alloc())?;
     come_and_go(&rt, &mut desk)
 }
+
+fn finish_with_a_message<R: Abort>(rt: &R, desk: &mut Desk) -> Result<(), Fail> {
+    let mut port = desk.add_port(2)?;
+    assert!(rt; port.send(Message::End).is_ok());
+    let mut end = port.finish();
+    let left = desk.left(&mut end);
+    desk.close(end);
+    assert_eq!(rt; left, 1);
+    Ok(())
+}
+
+#[test]
+fn a_finished_port_has_messages_left(rt: HostRuntime) -> Result<(), Fail> {
+    let mut desk = primed(rt.alloc())?;
+    finish_with_a_message(&rt, &mut desk)
+}

@@ -19,9 +19,7 @@ fn serve<R: Abort + Threads + Sync>(rt: &R, alloc: Global, desk: &mut Desk) -> R
     assert_eq!(rt; turn(rt, desk), Some(1));
     assert_eq!(rt; desk.told(), [1].as_slice());
     assert_eq!(rt; receives(&mut client), Some(1));
-    let mut end = client.finish();
-    assert_eq!(rt; desk.left(&mut end), 0);
-    desk.close(end);
+    desk.close(client.finish());
     Ok(())
 }
 
@@ -59,11 +57,9 @@ fn finish_with_an_end<R: Abort + Threads + Sync>(rt: &R, desk: &mut Desk) -> Res
     let _leader = port(desk, 2)?;
     let mut client = port(desk, 2)?;
     assert!(rt; client.send(Message::End).is_ok());
-    let mut end = client.finish();
-    assert_eq!(rt; desk.left(&mut end), 1);
+    let end = client.finish();
     assert_eq!(rt; turn(rt, desk), Some(1));
     assert_eq!(rt; desk.ended(), [1].as_slice());
-    assert_eq!(rt; desk.left(&mut end), 0);
     desk.close(end);
     Ok(())
 }

@@ -43,7 +43,7 @@ struct Seen {
     bytes: Vec<u8>,
     // The most whole frames of a message that begins with one.
     most_frames: usize,
-    // Messages that were still there when the session had ended.
+    // Messages that the session sent after its end.
     left: usize,
     written: Vec<u8>,
     late: u64,
@@ -170,8 +170,9 @@ fn run_at<R: Threads + Wait + Clock + Copy + Send + Sync + 'static>(
         move || session_loop(&mine, alloc, source, target, port),
     )?;
     let taken = take_all(rt, desk, seen);
-    let mut end = session.join(rt);
-    seen.left = desk.left(&mut end);
+    let end = session.join(rt);
+    seen.left = desk.turn(rt, &OpenGate).unwrap_or(1);
+    desk.close(end);
     taken
 }
 
@@ -287,7 +288,7 @@ fn a_message_has_at_most_sixteen_frames(rt: HostRuntime) -> Result<(), Fail> {
     let seen = run(&rt, rt.alloc(), way)?;
     assert!(rt; is_framed(&seen));
     assert!(rt; seen.most_frames == 16 && seen.pieces == 4);
-    assert!(rt; seen.written.len() == 50 * got().len());
+    assert!(rt; seen.written.len() == got().len().saturating_mul(50));
     assert!(rt; are_answers(seen.written.as_slice(), 50));
     Ok(())
 }
@@ -304,7 +305,7 @@ fn a_full_port_drops_nothing(rt: HostRuntime) -> Result<(), Fail> {
     let seen = run(&rt, alloc, way)?;
     assert!(rt; is_framed(&seen));
     assert!(rt; seen.bytes.as_slice() == requests(alloc, 300)?.as_slice());
-    assert!(rt; seen.written.len() == 300 * got().len());
+    assert!(rt; seen.written.len() == got().len().saturating_mul(300));
     assert!(rt; are_answers(seen.written.as_slice(), 300));
     Ok(())
 }
