@@ -38,6 +38,15 @@ pub fn asks(xid: u8) -> [u8; 18] {
     [0, 0, 0, 14, 0, 0, 0, xid, 0, 0, 0, 3, 0, 0, 0, 1, 47, 0]
 }
 
+/// The frames of the xids 1 and 2.
+pub fn asks_twice(alloc: Global) -> Result<Blob, &'static str> {
+    let mut frames = Vec::new(alloc);
+    for xid in 1..3u8 {
+        frames.extend_from_slice(&asks(xid)).ok().ok_or("memory")?;
+    }
+    blob(alloc, frames.as_slice())
+}
+
 /// Sends bytes, and answers whether there was room.
 pub fn sends(alloc: Global, port: &mut Port, bytes: &[u8]) -> bool {
     match blob(alloc, bytes) {
@@ -49,6 +58,21 @@ pub fn sends(alloc: Global, port: &mut Port, bytes: &[u8]) -> bool {
 /// How many messages a turn takes.
 pub fn turn<R: Threads + Sync>(rt: &R, desk: &mut Desk) -> Option<usize> {
     desk.turn(rt, &OpenGate).ok()
+}
+
+/// How many messages a turn of a hub takes.
+pub fn hub_turn<R: Threads + Sync>(rt: &R, hub: &mut Hub) -> Option<usize> {
+    hub.turn(rt, &OpenGate).ok()
+}
+
+/// How many messages a hub has taken.
+pub fn taken(hub: &Hub) -> usize {
+    hub.taken().len()
+}
+
+/// The next port of a hub.
+pub fn hub_port(hub: &mut Hub, capacity: usize) -> Result<Port, &'static str> {
+    hub.add_port(capacity).ok().ok_or("port")
 }
 
 /// The xid of the reply that comes next, if one is there.

@@ -1,8 +1,9 @@
 //! What turns take and put.
 //!
 //! A test makes the desk and has a function of its own do the rest, so that the desk is dropped at one place.
-use crate::helpers::{asks, port, primed, primed_hub, receives, sends, turn};
-use apply_workers::OpenGate;
+use crate::helpers::{
+    asks, asks_twice, hub_port, hub_turn, port, primed, primed_hub, receives, sends, taken, turn,
+};
 use intake::{Desk, Hub, Message};
 use std::alloc::Global;
 use std::process::Abort;
@@ -34,10 +35,10 @@ fn serve_through_a_small_outbox<R: Abort + Threads + Sync>(
     alloc: Global,
     desk: &mut Desk,
 ) -> Result<(), Fail> {
+    let frames = asks_twice(alloc)?;
     let _leader = port(desk, 1)?;
     let mut client = port(desk, 1)?;
-    let frames = [asks(1), asks(2)];
-    assert!(rt; sends(alloc, &mut client, frames.as_flattened()));
+    assert!(rt; client.send(Message::Bytes(frames)).is_ok());
     assert_eq!(rt; turn(rt, desk), Some(1));
     assert_eq!(rt; receives(&mut client), Some(1));
     assert_eq!(rt; receives(&mut client), None);
@@ -96,11 +97,11 @@ fn a_thread_wakes_the_hub(rt: HostRuntime) -> Result<(), Fail> {
 }
 
 fn take_three<R: Abort + Threads + Sync>(rt: &R, hub: &mut Hub) -> Result<(), Fail> {
-    let mut leader = hub.add_port(2)?;
+    let mut leader = hub_port(hub, 2)?;
     for count in 1..4usize {
         assert!(rt; leader.send(Message::Checkpoint).is_ok());
-        assert_eq!(rt; hub.turn(rt, &OpenGate).ok(), Some(1));
-        assert_eq!(rt; hub.taken().len(), count);
+        assert_eq!(rt; hub_turn(rt, hub), Some(1));
+        assert_eq!(rt; taken(hub), count);
     }
     Ok(())
 }
