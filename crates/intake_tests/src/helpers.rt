@@ -75,14 +75,22 @@ pub fn hub_port(hub: &mut Hub, capacity: usize) -> Result<Port, &'static str> {
     hub.add_port(capacity).ok().ok_or("port")
 }
 
-/// The xid of the reply that comes next, if one is there.
-pub fn receives(port: &mut Port) -> Option<u8> {
-    match port.receive() {
-        Some(Output::ToClient(_, bytes)) => {
+/// The xid of a reply.
+pub fn xid_of(output: Output) -> Option<u8> {
+    match output {
+        Output::ToClient(_, bytes) => {
             let xid = bytes.as_slice().get(7)?;
             Some(*xid)
         }
         _ => None,
+    }
+}
+
+/// The xid of the reply that comes next, if one is there.
+pub fn receives(port: &mut Port) -> Option<u8> {
+    match port.receive() {
+        Some(output) => xid_of(output),
+        None => None,
     }
 }
 

@@ -1,11 +1,13 @@
 //! What a port does by itself, and how it comes and goes.
 //!
 //! A test makes the desk and has a function of its own do the rest, so that the desk is dropped at one place.
-use crate::helpers::{asks, blob, is_handed_back, port, primed, sends};
+use crate::helpers::{asks, blob, is_handed_back, port, primed, sends, xid_of};
+use apply_workers::OpenGate;
 use intake::{AddPortError, Desk, Message};
 use std::alloc::Global;
 use std::process::Abort;
 use std::test::Fail;
+use std::thread::Threads;
 
 fn fill<R: Abort>(rt: &R, alloc: Global, desk: &mut Desk) -> Result<(), Fail> {
     let again = blob(alloc, &asks(2))?;
@@ -69,4 +71,31 @@ fn finish_with_a_message<R: Abort>(rt: &R, desk: &mut Desk) -> Result<(), Fail> 
 fn a_finished_port_has_messages_left(rt: HostRuntime) -> Result<(), Fail> {
     let mut desk = primed(rt.alloc())?;
     finish_with_a_message(&rt, &mut desk)
+}
+
+#[tactic(auto, using(crate::proofs::Ends::is_end_kept, crate::proofs::Ends::all_stay_in_a_turn))]
+fn finish_when_served<R: Abort + Threads + Sync>(
+    rt: &R,
+    alloc: Global,
+    desk: &mut Desk,
+) -> Result<(), Fail> {
+    let frame = blob(alloc, &asks(1))?;
+    let _leader = port(desk, 1)?;
+    let mut client = desk.add_port(2)?;
+    assert!(rt; client.send(Message::Bytes(frame)).is_ok());
+    let Ok(took) = desk.turn(rt, &OpenGate) else {
+        return Err(Fail::from("closed"));
+    };
+    let xid = client.receive().and_then(xid_of);
+    let mut end = client.finish();
+    let left = desk.left(&mut end);
+    desk.close(end);
+    assert_eq!(rt; (took, xid, left), (1, Some(1), 0));
+    Ok(())
+}
+
+#[test]
+fn a_port_that_was_served_has_nothing_left(rt: HostRuntime) -> Result<(), Fail> {
+    let mut desk = primed(rt.alloc())?;
+    finish_when_served(&rt, rt.alloc(), &mut desk)
 }
