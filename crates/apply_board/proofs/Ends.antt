@@ -12,12 +12,12 @@ use Rattle.atomic_table.proofs.Lists.{at_map}
 use Rattle.apply_board.specs.declared.view.View.{View}
 use Rattle.apply_board.specs.declared.group.Group.{Group}
 use Rattle.apply_board.specs.declared.group.Group.TheVariants.{Home, Unclaimed}
-use Rattle.apply_board.specs.Views.{numbers, opener, marks_of, joined}
-use Rattle.apply_board.specs.Board.{total, times, Shared, drawn, claims_of, seats_of, IsSeat, BoardHistory, Moment}
+use Rattle.apply_board.specs.Views.{result_numbers, opener_view, marks_of, with_seat_joined}
+use Rattle.apply_board.specs.Board.{sum_of, occurrences_of, Shared, draw_count, claims_of, seats_of, IsSeat, BoardHistory, Moment}
 use Rattle.apply_board.specs.Sitting.{Sitting}
-use Rattle.apply_board.specs.Seats.{IsIdle, AreAll, all_given, any_spent}
+use Rattle.apply_board.specs.Seats.{IsIdle, AreAllSeats, all_given, any_spent}
 use Rattle.apply_board.specs.Closing.{IsSettled}
-use Rattle.apply_board.specs.Inner.Fields.{taking, gathering}
+use Rattle.apply_board.specs.Inner.Fields.{with_sitting, with_sittings}
 use Rattle.apply_board.specs.Inner.Slots.{AreFull}
 use Rattle.apply_board.proofs.Sums.{bit_zero, total_only, times-append, place_of, unmap, at_inside, there}
 use Rattle.apply_board.proofs.Histories.{numbers-append, at_most_one}
@@ -32,11 +32,11 @@ pub record Lies {W F : Type 0} (gives : W → F → Type 0) (works : List W) (gs
     (xs : List (Option (Group W F))) : Type 0 where
   pub count : length xs ≡ length works
   pub home : (i k : ℕ) (f : F) → get_elem? gs i ≡ some (k, f) → get_elem? xs k ≡ some (Some (Home f))
-  pub unclaimed : (k : ℕ) (w : W) → get_elem? works k ≡ some w → times k (numbers gs) ≡ 0
+  pub unclaimed : (k : ℕ) (w : W) → get_elem? works k ≡ some w → occurrences_of k (result_numbers gs) ≡ 0
       → get_elem? xs k ≡ some (Some (Unclaimed w))
   pub fits : (i k : ℕ) (f : F) (w : W) → get_elem? gs i ≡ some (k, f) → get_elem? works k ≡ some w → gives w f
-  pub once : (k : ℕ) → times k (numbers gs) ≤ 1
-  pub whole : spent ≡ true → (k : ℕ) → k < length works → times k (numbers gs) ≡ 1
+  pub once : (k : ℕ) → occurrences_of k (result_numbers gs) ≤ 1
+  pub whole : spent ≡ true → (k : ℕ) → k < length works → occurrences_of k (result_numbers gs) ≡ 1
 
 module _ {W F : Type 0} (gives : W → F → Type 0) (works : List W) where
   only_one : (v : View W F) (j : ℕ) (d : View W F) → get_elem? (v ∷ []) j ≡ some d → (j ≡ 0) × (v ≡ d)
@@ -45,10 +45,10 @@ module _ {W F : Type 0} (gives : W → F → Type 0) (works : List W) where
 
   pub opens : (ws : List ℕ) (xs : List (Option (Group W F))) → length ws ≡ length works + 1
       → ((i : ℕ) → get_or ws i 0 ≡ 0) → xs ≡ map (λ (w : W). Some (Unclaimed w)) works → length works < 2 ^ 63
-      → BoardHistory gives works (opening ws xs (opener works))
-  opens ws xs wide zeros are few = let s : Shared W F = opening ws xs (opener works) in let z0 = zeros 0 in
-      let one : (j : ℕ) (d : View W F) → get_elem? (opener works ∷ []) j ≡ some d
-      → (j ≡ 0) × (opener works ≡ d) = only_one (opener works) in
+      → BoardHistory gives works (opening ws xs (opener_view works))
+  opens ws xs wide zeros are few = let s : Shared W F = opening ws xs (opener_view works) in let z0 = zeros 0 in
+      let one : (j : ℕ) (d : View W F) → get_elem? (opener_view works ∷ []) j ≡ some d
+      → (j ≡ 0) × (opener_view works ≡ d) = only_one (opener_view works) in
       record {
         words_count = wide;
         slots_count = length-map xs (λ (x : Option (Group W F)). some x)
@@ -79,9 +79,9 @@ module _ {W F : Type 0} (gives : W → F → Type 0) (works : List W) where
 
   -- the board that is opened is a moment of the seat that it is opened with
   pub opening_moment : (ws : List ℕ) (xs : List (Option (Group W F)))
-      → BoardHistory gives works (opening ws xs (opener works)) → Moment gives (opener works)
+      → BoardHistory gives works (opening ws xs (opener_view works)) → Moment gives (opener_view works)
   opening_moment ws xs history = record {
-    board = opening ws xs (opener works);
+    board = opening ws xs (opener_view works);
     history = history;
     seat = 0;
     has = refl;
@@ -90,7 +90,7 @@ module _ {W F : Type 0} (gives : W → F → Type 0) (works : List W) where
   -- where all other seats were taken into the seat v, which has no claim
   lies : (ws : List ℕ) (xs : List (Option (Group W F))) (id : ℕ) (v : View W F) (spent : Bool)
       → Final (Seen (BoardHistory gives works) id v) ws xs → v.seated ≡ true → 0 < v.made → v.unjoined ≡ 1
-      → v.claimed ≡ numbers v.given → (spent ≡ true → 0 < marks_of v)
+      → v.claimed ≡ result_numbers v.given → (spent ≡ true → 0 < marks_of v)
       → Lies gives v.works (v.given ++ v.gathered) spent xs
   lies ws xs id v spent final seated made alone idle marked =
       let s = final.0 in let r = final.1.0 in let at = final.1.1 in let back = final.4 in
@@ -99,10 +99,12 @@ module _ {W F : Type 0} (gives : W → F → Type 0) (works : List W) where
       let here = ap (λ (x : Bool). cond {A = ℕ} x 1 0) seated in
       let count = c.2 in
       let gs : List (ℕ × F) = v.given ++ v.gathered in
-      let mine : (k : ℕ) → claims_of k v ≡ times k (numbers gs) = λ k. let e = ap (times k) idle in
-      let n = ap (times k) (numbers-append v.given v.gathered) in
-      omega (arith, times-append k (numbers v.given) (numbers v.gathered)) in
-      let sums : (k : ℕ) → total (claims_of k) s.views ≡ times k (numbers gs) = λ k. total_only seats_of
+      let mine : (k : ℕ) → claims_of k v ≡ occurrences_of k (result_numbers gs) = λ k. let e =
+      ap (occurrences_of k) idle in
+      let n = ap (occurrences_of k) (numbers-append v.given v.gathered) in
+      omega (arith, times-append k (result_numbers v.given) (result_numbers v.gathered)) in
+      let sums : (k : ℕ) → sum_of (claims_of k) s.views ≡ occurrences_of k (result_numbers gs) =
+      λ k. total_only seats_of
       (claims_of k) s.views id v
       (λ j x a z. ap (claims_of k) (r.each_vacated j x a (bit_zero x.seated z))) at (omega arith) ∙ mine k in
       subst (λ (l : List W). Lies gives l gs spent xs) (sym o.keeps) record {
@@ -110,7 +112,7 @@ module _ {W F : Type 0} (gives : W → F → Type 0) (works : List W) where
         home = λ i k f e. back k (Some (Home f)) (o.home i k f e);
         unclaimed = λ k w a z. let h = sums k in let i = at_inside works k w a in
             back k (Some (Unclaimed w)) (r.waits k w
-            (dite (dec_le (suc k) (drawn s)) (λ l. let d = r.claimed k (omega arith) in absurd (omega arith))
+            (dite (dec_le (suc k) (draw_count s)) (λ l. let d = r.claimed k (omega arith) in absurd (omega arith))
             (λ n. omega arith)) a);
         fits = o.fits;
         once = λ k. let h = sums k in let m = at_most_one gives works s r k in omega arith;
@@ -120,7 +122,7 @@ module _ {W F : Type 0} (gives : W → F → Type 0) (works : List W) where
 module _ {W F : Type 0} where
   -- how many of these seats are spent
   abbrev marks_in : List (Sitting W F) → ℕ
-  marks_in seats = total (λ seat. cond seat.view.spent 1 0) seats
+  marks_in seats = sum_of (λ seat. cond seat.view.spent 1 0) seats
 
   any_mark : (first : Bool) (seats : List (Sitting W F)) → first || any_spent seats ≡ true
       → 0 < cond {A = ℕ} first 1 0 + marks_in seats
@@ -139,7 +141,7 @@ module _ {W F : Type 0} where
     made : u.made ≡ v.made
     unjoined : (n : ℕ) → v.unjoined ≡ length seats + n → u.unjoined ≡ n
 
-  gathers : (v : View W F) (seats : List (Sitting W F)) → Gathered v seats (gathering v seats)
+  gathers : (v : View W F) (seats : List (Sitting W F)) → Gathered v seats (with_sittings v seats)
   gathers v [] = record {
     works = refl;
     claimed = refl;
@@ -150,7 +152,7 @@ module _ {W F : Type 0} where
     made = refl;
     unjoined = λ n e. omega arith;
   }
-  gathers v (seat ∷ seats) = let g = gathers (taking v seat) seats in record {
+  gathers v (seat ∷ seats) = let g = gathers (with_sitting v seat) seats in record {
     works = g.works;
     claimed = g.claimed;
     given = g.given;
@@ -165,22 +167,23 @@ module _ {W F : Type 0} where
   pub are_full : (gives : W → F → Type 0) (works : List W) (gs : List (ℕ × F)) (b : Bool)
       (xs : List (Option (Group W F))) → Lies gives works gs b xs → AreFull xs
   are_full gives works gs b xs s k l = let n = s.count in let w = there works k (omega arith) in
-      dite (ℕ_discrete (times k (numbers gs)) 0) (λ z. (Unclaimed w.0, s.unclaimed k w.0 w.1 z))
-      (λ o. let p = place_of k (numbers gs) (omega arith) in let q = unmap (λ (g : ℕ × F). g.0) gs p.0 k p.1 in
+      dite (ℕ_discrete (occurrences_of k (result_numbers gs)) 0) (λ z. (Unclaimed w.0, s.unclaimed k w.0 w.1 z))
+      (λ o. let p = place_of k (result_numbers gs) (omega arith) in let q = unmap (λ (g : ℕ × F). g.0) gs p.0 k p.1 in
       (Home q.0.1, s.home p.0 k q.0.1 (q.1 ∙ ap (λ (j : ℕ). some (j, q.0.1)) q.2)))
 
   pub closes : (gives : W → F → Type 0) (works : List W) (ws : List ℕ) (xs : List (Option (Group W F))) (id : ℕ)
       (v u : View W F) (seats : List (Sitting W F)) → Final (Seen (BoardHistory gives works) id u) ws xs
-      → u ≡ gathering v seats
-      → 0 < v.made → v.seated ≡ true → v.gathered ≡ [] → v.claimed ≡ numbers v.given → v.unjoined ≡ length seats + 1
+      → u ≡ with_sittings v seats
+      → 0 < v.made → v.seated ≡ true → v.gathered ≡ [] → v.claimed ≡ result_numbers v.given
+      → v.unjoined ≡ length seats + 1
       → Lies gives v.works (v.given ++ all_given seats) (v.spent || any_spent seats) xs
   closes gives works ws xs id v u seats final is made seated none idle unjoined = let w = gathers v seats in
-      let g : View W F = gathering v seats in let m = w.made in
+      let g : View W F = with_sittings v seats in let m = w.made in
       let spent : Bool = v.spent || any_spent seats in
       let s = lies gives works ws xs id g spent (subst
       (λ (z : View W F). Final (Seen (BoardHistory gives works) id z) ws xs) is final) (w.seated ∙ seated)
       (omega arith) (w.unjoined 1 unjoined) (w.claimed
-      ∙ (idle ∙ ap (λ (l : List (ℕ × F)). numbers l) (sym w.given)))
+      ∙ (idle ∙ ap (λ (l : List (ℕ × F)). result_numbers l) (sym w.given)))
       (λ e. let some = any_mark v.spent seats e in let all = w.marks in omega arith) in
       let q : g.gathered ≡ all_given seats = w.gathered ∙ ap (λ (l : List (ℕ × F)). l ++ all_given seats) none in
       subst (λ (t : List W × List (ℕ × F)). Lies gives t.0 t.1 spent xs) (λ i. (w.works i, w.given i ++ q i)) s
@@ -202,7 +205,7 @@ module _ {W F : Type 0} where
         unclaimed = λ k w a z. at k (Unclaimed w) (s.unclaimed k w a z);
         fits = s.fits;
         once = s.once;
-        whole = λ e k w a. let p = place_of k (numbers gs) (let t = s.whole e k (at_inside works k w a) in
+        whole = λ e k w a. let p = place_of k (result_numbers gs) (let t = s.whole e k (at_inside works k w a) in
             omega arith) in let q = unmap (λ (g : ℕ × F). g.0) gs p.0 k p.1 in
             let there : get_elem? gs p.0 ≡ some (k, q.0.1) = q.1 ∙ ap (λ (j : ℕ). some (j, q.0.1)) q.2 in
             (q.0.1, at k (Home q.0.1) (s.home p.0 k q.0.1 there), s.fits p.0 k q.0.1 w there a);
@@ -210,7 +213,7 @@ module _ {W F : Type 0} where
 
   -- taking a seat in is what is said of it, where it took in none itself
   pub takes_in : (v : View W F) (seat : Sitting W F) → seat.view.gathered ≡ [] → seat.view.gathered_marks ≡ 0
-      → joined v seat.view ≡ taking v seat
+      → with_seat_joined v seat.view ≡ with_sitting v seat
   takes_in v seat none unmarked = λ i. record v {
     gathered = v.gathered ++
         (ap (λ (l : List (ℕ × F)). seat.view.given ++ l) none ∙ append-nil seat.view.given) i;
@@ -227,7 +230,7 @@ module _ {W F : Type 0} where
     pub rest : All (λ seat. (seat.board ≡ board) × IsIdle seat) others
 
   pub first_and_others : (board : TableId) (seats : List (Sitting W F)) (first : Sitting W F)
-      (others : List (Sitting W F)) → AreAll board seats → first ≡ get_or seats 0 first → others ≡ remove seats 0
+      (others : List (Sitting W F)) → AreAllSeats board seats → first ≡ get_or seats 0 first → others ≡ remove seats 0
       → (seats ≡ first ∷ others) × IsCrew board first others
   first_and_others board [] first others all is are = absurd all
   first_and_others board (x ∷ xs) first others all is are = let h = all.2 0 x (omega arith) in (

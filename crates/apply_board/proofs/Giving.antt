@@ -9,9 +9,9 @@ use Rattle.atomic_table.proofs.Lists.{set_here, set_else, at_map}
 use Rattle.apply_board.specs.declared.view.View.{View}
 use Rattle.apply_board.specs.declared.group.Group.{Group}
 use Rattle.apply_board.specs.declared.group.Group.TheVariants.{Home, Unclaimed}
-use Rattle.apply_board.specs.Views.{numbers, marks_of, vacated, giving}
-use Rattle.apply_board.specs.Board.{total, times, Shared, drawn, word_of, LiesIn, claims_of, gifts_of, seats_of, IsSeat, BoardHistory}
-use Rattle.apply_board.specs.Inner.Steps.{Holding, Gives}
+use Rattle.apply_board.specs.Views.{result_numbers, marks_of, vacated_view, with_result}
+use Rattle.apply_board.specs.Board.{sum_of, occurrences_of, Shared, draw_count, work_word, LiesIn, claims_of, gifts_of, seats_of, IsSeat, BoardHistory}
+use Rattle.apply_board.specs.Inner.Steps.{ViewAndSlots, GivesResult}
 use Rattle.apply_board.proofs.Sums.{total-set, term_le, terms_le, times-snoc, times-snoc_here, same_bit, other_bit, in_times, times-append, at_insert, at_inside, there}
 use Rattle.apply_board.proofs.Histories.{numbers-append, at_most_one, claimed_below, none_given, stays, seats_stay, opener_stays, counts_stay}
 
@@ -38,15 +38,15 @@ module _ {W F : Type 0} (yields : W → F → Type 0) (works : List W) where
 
   -- the seat v claimed q last, and gives it
   gives_one : (s : S) (r : BoardHistory yields works s) (id : ℕ) (v : V) (q : ℕ) (f : F) (w : W)
-      → get_elem? s.views id ≡ some v → v.seated ≡ true → v.claimed ≡ numbers v.given ++ q ∷ []
+      → get_elem? s.views id ≡ some v → v.seated ≡ true → v.claimed ≡ result_numbers v.given ++ q ∷ []
       → get_elem? works q ≡ some w → yields w f
       → BoardHistory yields works record {
         words = set s.words (q + 1) 1;
         homes = set s.homes q (some (Some (Home f)));
-        views = set s.views id (giving v q f);
+        views = set s.views id (with_result v q f);
       }
   gives_one s r id v q f w at seated holding work right =
-      let v' : V = giving v q f in
+      let v' : V = with_result v q f in
       let s' : S = record {
         words = set s.words (q + 1) 1;
         homes = set s.homes q (some (Some (Home f)));
@@ -55,34 +55,37 @@ module _ {W F : Type 0} (yields : W → F → Type 0) (works : List W) where
       let wide = r.words_count in
       let deep = r.slots_count in
       let o = r.each_seat id v at seated in
-      let mine : 1 ≤ times q v.claimed = let e = ap (times q) holding in
-      omega (arith, times-snoc_here q (numbers v.given)) in
+      let mine : 1 ≤ occurrences_of q v.claimed = let e = ap (occurrences_of q) holding in
+      omega (arith, times-snoc_here q (result_numbers v.given)) in
       let below = claimed_below yields works s r id v at q (omega arith) in
       let lone : claims_of q v ≤ 1 = let t = term_le (claims_of q) s.views id v at in
       let m = at_most_one yields works s r q in omega arith in
-      let ungiven : times q (numbers v.given) + times q (numbers v.gathered) ≡ 0 = let e = ap (times q) holding in
-      omega (arith, times-snoc_here q (numbers v.given)) in
-      let nobody : total (gifts_of q) s.views ≡ 0 = none_given yields works s r id v at q (omega arith) ungiven in
-      let now : drawn s' ≡ drawn s = get_or-set_other s.words (q + 1) 0 1 0 (λ e. omega arith) in
-      let raised : word_of s' q ≡ 1 = get_or-set_same s.words (q + 1) 1 0 (omega arith) in
-      let words : (k : ℕ) → k ≢ q → word_of s' k ≡ word_of s k = λ k n. get_or-set_other s.words (q + 1) (k + 1) 1 0
+      let ungiven : occurrences_of q (result_numbers v.given) + occurrences_of q (result_numbers v.gathered) ≡ 0 =
+      let e = ap (occurrences_of q) holding in
+      omega (arith, times-snoc_here q (result_numbers v.given)) in
+      let nobody : sum_of (gifts_of q) s.views ≡ 0 = none_given yields works s r id v at q (omega arith) ungiven in
+      let now : draw_count s' ≡ draw_count s = get_or-set_other s.words (q + 1) 0 1 0 (λ e. omega arith) in
+      let raised : work_word s' q ≡ 1 = get_or-set_same s.words (q + 1) 1 0 (omega arith) in
+      let words : (k : ℕ) → k ≢ q → work_word s' k ≡ work_word s k = λ k n. get_or-set_other s.words (q + 1) (k + 1) 1 0
       (λ e. n (omega arith)) in
       let homes : (k : ℕ) → k ≢ q → get_elem? s'.homes k ≡ get_elem? s.homes k = λ k n. set_else s.homes q k
       (some (Some (Home f))) n in
-      let same : (k : ℕ) → total (claims_of k) s'.views ≡ total (claims_of k) s.views = λ k. omega
+      let same : (k : ℕ) → sum_of (claims_of k) s'.views ≡ sum_of (claims_of k) s.views = λ k. omega
       (arith, total-set (claims_of k) s.views id v v' at) in
-      let grows : (k : ℕ) → total (gifts_of k) s'.views ≡ total (gifts_of k) s.views + cond (eqb q k) 1 0 = λ k.
-      let n = ap (times k) (numbers-append v.given ((q, f) ∷ [])) in
-      omega (arith, total-set (gifts_of k) s.views id v v' at, times-snoc k q (numbers v.given)) in
-      let marks : total marks_of s'.views ≡ total marks_of s.views = omega
+      let grows : (k : ℕ) → sum_of (gifts_of k) s'.views ≡ sum_of (gifts_of k) s.views + cond (eqb q k) 1 0 = λ k.
+      let n = ap (occurrences_of k) (numbers-append v.given ((q, f) ∷ [])) in
+      omega (arith, total-set (gifts_of k) s.views id v v' at, times-snoc k q (result_numbers v.given)) in
+      let marks : sum_of marks_of s'.views ≡ sum_of marks_of s.views = omega
       (arith, total-set marks_of s.views id v v' at) in
       let in_v : (i k : ℕ) (g : F) → get_elem? (v.given ++ v.gathered) i ≡ some (k, g) → k ≢ q = λ i k g e is.
-      let a : 1 ≤ times k (numbers (v.given ++ v.gathered)) = in_times (numbers (v.given ++ v.gathered)) i k
+      let a : 1 ≤ occurrences_of k (result_numbers (v.given ++ v.gathered)) =
+      in_times (result_numbers (v.given ++ v.gathered)) i k
       (at_map (λ (x : ℕ × F). x.0) (v.given ++ v.gathered) i (k, g) e) in
-      let b = ap (times k) (numbers-append v.given v.gathered) in
-      let c = times-append k (numbers v.given) (numbers v.gathered) in
-      let z : times k (numbers v.given) + times k (numbers v.gathered) ≡ 0 = subst
-      (λ (y : ℕ). times y (numbers v.given) + times y (numbers v.gathered) ≡ 0) (sym is) ungiven in omega arith in
+      let b = ap (occurrences_of k) (numbers-append v.given v.gathered) in
+      let c = times-append k (result_numbers v.given) (result_numbers v.gathered) in
+      let z : occurrences_of k (result_numbers v.given) + occurrences_of k (result_numbers v.gathered) ≡ 0 = subst
+      (λ (y : ℕ). occurrences_of y (result_numbers v.given) + occurrences_of y (result_numbers v.gathered) ≡ 0)
+      (sym is) ungiven in omega arith in
       record {
         words_count = length-set s.words (q + 1) 1 ∙ wide;
         slots_count = length-set s.homes q (some (Some (Home f))) ∙ deep;
@@ -90,9 +93,9 @@ module _ {W F : Type 0} (yields : W → F → Type 0) (works : List W) where
         claimed = λ k b. same k ∙ r.claimed k (omega arith);
         unclaimed = λ k above. same k ∙ r.unclaimed k (omega arith);
         words = λ k i. let g = grows k in dite (ℕ_discrete q k)
-            (λ e. let b = same_bit k q e in let z : total (gifts_of k) s.views ≡ 0 = subst
-            (λ (y : ℕ). total (gifts_of y) s.views ≡ 0) e nobody in
-            let one : word_of s' k ≡ 1 = subst (λ (y : ℕ). word_of s' y ≡ 1) e raised in omega arith)
+            (λ e. let b = same_bit k q e in let z : sum_of (gifts_of k) s.views ≡ 0 = subst
+            (λ (y : ℕ). sum_of (gifts_of y) s.views ≡ 0) e nobody in
+            let one : work_word s' k ≡ 1 = subst (λ (y : ℕ). work_word s' y ≡ 1) e raised in omega arith)
             (λ ne. let b = other_bit k q ne in let u = words k (λ e. ne (sym e)) in let h = r.words k i in omega arith);
         waits = λ k u above a. homes k (λ e. omega arith) ∙ r.waits k u (omega arith) a;
         marks = let b = r.marks in omega arith;
@@ -125,39 +128,40 @@ module _ {W F : Type 0} (yields : W → F → Type 0) (works : List W) where
             let m = at_most_one yields works s r k in let d' : 1 ≤ claims_of k v = subst
             (λ (y : ℕ). 1 ≤ claims_of y v) (sym is) (omega arith) in omega arith in
             homes k n) (r.each_seat j u a e));
-        each_vacated = seats_stay yields works (λ j u. u.seated ≡ false → u ≡ vacated) s.views id v'
+        each_vacated = seats_stay yields works (λ j u. u.seated ≡ false → u ≡ vacated_view) s.views id v'
             (λ e. absurd (true≢false (sym seated ∙ e))) (λ j u _ a e. r.each_vacated j u a e);
       }
 
-  pub gives_back : (slots id q : ℕ) (f : F) (me : Holding W F) → me.1 ≡ (q, Some (Home f)) ∷ [] → me.0.seated ≡ true
-      → me.0.claimed ≡ numbers me.0.given ++ q ∷ []
+  pub gives_back : (slots id q : ℕ) (f : F) (me : ViewAndSlots W F) → me.1 ≡ (q, Some (Home f)) ∷ []
+      → me.0.seated ≡ true
+      → me.0.claimed ≡ result_numbers me.0.given ++ q ∷ []
       → ((w : W) → get_elem? me.0.works q ≡ some w → yields w f)
       → Allows (BoardHistory yields works) slots id me (q + 1) (λ _. 1)
-      (λ _. Gives yields (step slots (q + 1) 1 0 none) me)
+      (λ _. GivesResult yields (step slots (q + 1) 1 0 none) me)
   gives_back slots id q f me hand seated holding right s r deep at _ = let v : V = me.0 in
       let o = r.each_seat id v at seated in
-      let mine : 1 ≤ times q v.claimed = let e = ap (times q) holding in
-      omega (arith, times-snoc_here q (numbers v.given)) in
+      let mine : 1 ≤ occurrences_of q v.claimed = let e = ap (occurrences_of q) holding in
+      omega (arith, times-snoc_here q (result_numbers v.given)) in
       let w = there works q (claimed_below yields works s r id v at q (omega arith)).1 in
-      let s' : S = stepped s (q + 1) 1 id me.1 (giving v q f) returns_slot in
+      let s' : S = stepped s (q + 1) 1 id me.1 (with_result v q f) returns_slot in
       let kept : BoardHistory yields works s' = subst
       (λ (c : List (ℕ × Option (Group W F))). BoardHistory yields works
-      (stepped s (q + 1) 1 id c (giving v q f) returns_slot)) (sym hand)
+      (stepped s (q + 1) 1 id c (with_result v q f) returns_slot)) (sym hand)
       (gives_one s r id v q f w.0 at seated holding w.1
       (right w.0 (ap (λ (l : List W). get_elem? l q) o.keeps ∙ w.1))) in (
-        giving v q f,
+        with_result v q f,
         returns_slot,
         tt,
         kept,
         record {
           gone = λ k g e. let is : (q, f) ≡ (k, g) = ap (held_of (q, f)) (sym hand ∙ e) in
-              λ i. (giving v (is i).0 (is i).1, ap rest hand i);
+              λ i. (with_result v (is i).0 (is i).1, ap rest hand i);
           history = record {
             board = s';
             history = subst (λ (l : List W). BoardHistory yields l s')
                 (sym o.keeps) kept;
             seat = id;
-            has = set_here s.views id (giving v q f) (at_inside s.views id v at);
+            has = set_here s.views id (with_result v q f) (at_inside s.views id v at);
           };
         },
       )

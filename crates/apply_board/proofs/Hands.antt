@@ -3,64 +3,66 @@ use Rattle.std.proofs.Common.{◌≡◌, ℕ, ◌+◌, ◌<◌, false, List, [],
 use Rattle.std.proofs.lemmas.List.{append-nil}
 use Rattle.apply_board.specs.declared.view.View.{View}
 use Rattle.apply_board.specs.declared.group.Group.{Group}
-use Rattle.apply_board.specs.Views.{numbers, opener, newcomer, seating, giving}
+use Rattle.apply_board.specs.Views.{result_numbers, opener_view, new_seat_view, with_seat_made, with_result}
 use Rattle.apply_board.specs.Board.{Moment}
 use Rattle.apply_board.specs.Inner.Fields.{held_by, IsSitting}
 use Rattle.apply_board.proofs.Histories.{numbers-append}
 
-drop_numbers : {F : Type 0} (given : List (ℕ × F)) (more : List ℕ) → drop (length given) (numbers given ++ more) ≡ more
+drop_numbers : {F : Type 0} (given : List (ℕ × F)) (more : List ℕ)
+    → drop (length given) (result_numbers given ++ more) ≡ more
 drop_numbers [] more = refl
 drop_numbers (one ∷ given) more = drop_numbers given more
 
-length_numbers : {F : Type 0} (given : List (ℕ × F)) (k : ℕ) → length given < length (numbers given ++ k ∷ [])
+length_numbers : {F : Type 0} (given : List (ℕ × F)) (k : ℕ) → length given < length (result_numbers given ++ k ∷ [])
 length_numbers [] k = omega arith
 length_numbers (one ∷ given) k = omega (arith, length_numbers given k)
 
-last_number : {F : Type 0} (given : List (ℕ × F)) (k : ℕ) → get_or (numbers given ++ k ∷ []) (length given) 0 ≡ k
+last_number : {F : Type 0} (given : List (ℕ × F)) (k : ℕ) → get_or (result_numbers given ++ k ∷ []) (length given) 0 ≡ k
 last_number [] k = refl
 last_number (one ∷ given) k = last_number given k
 
 module _ {W F : Type 0} where
-  pub idle_hand : (v : View W F) → v.claimed ≡ numbers v.given → held_by v ≡ []
+  pub idle_hand : (v : View W F) → v.claimed ≡ result_numbers v.given → held_by v ≡ []
   idle_hand v idle = ap (λ l. map (λ k. (k, None)) (drop (length v.given) l))
-      (idle ∙ sym (append-nil (numbers v.given))) ∙ ap (λ l. map (λ k. (k, None)) l) (drop_numbers v.given [])
+      (idle ∙ sym (append-nil (result_numbers v.given))) ∙ ap (λ l. map (λ k. (k, None)) l) (drop_numbers v.given [])
 
-  pub one_hand : (v : View W F) (k : ℕ) → v.claimed ≡ numbers v.given ++ k ∷ [] → held_by v ≡ (k, None) ∷ []
+  pub one_hand : (v : View W F) (k : ℕ) → v.claimed ≡ result_numbers v.given ++ k ∷ [] → held_by v ≡ (k, None) ∷ []
   one_hand v k holds = ap (λ l. map (λ k. (k, None)) (drop (length v.given) l)) holds
       ∙ ap (λ l. map (λ k. (k, None)) l) (drop_numbers v.given (k ∷ []))
 
   -- a number that is held is a slot's
   pub held_within : (slots : ℕ) (v : View W F) (k : ℕ)
-      → ((i : ℕ) → i < length v.claimed → get_or v.claimed i 0 < slots) → v.claimed ≡ numbers v.given ++ k ∷ []
+      → ((i : ℕ) → i < length v.claimed → get_or v.claimed i 0 < slots) → v.claimed ≡ result_numbers v.given ++ k ∷ []
       → k < slots
   held_within slots v k within holds = let n = length_numbers v.given k in let last = last_number v.given k in
       let l = ap (λ (xs : List ℕ). length xs) holds in
       let g = ap (λ (xs : List ℕ). get_or xs (length v.given) 0) holds in
       let w = within (length v.given) (omega arith) in omega arith
 
-  pub gives_all : (v : View W F) (k : ℕ) (f : F) → v.claimed ≡ numbers v.given ++ k ∷ []
-      → v.claimed ≡ numbers (v.given ++ (k, f) ∷ [])
+  pub gives_all : (v : View W F) (k : ℕ) (f : F) → v.claimed ≡ result_numbers v.given ++ k ∷ []
+      → v.claimed ≡ result_numbers (v.given ++ (k, f) ∷ [])
   gives_all v k f holds = holds ∙ sym (numbers-append v.given ((k, f) ∷ []))
 
   -- a seat that has given k
   pub sits_given : (gives : W → F → Type 0) (slots : ℕ) (v : View W F) (hand : List (ℕ × Option (Group W F)))
       (spent : Bool) (made k : ℕ) (f : F) → IsSitting gives slots v hand spent made
-      → v.claimed ≡ numbers v.given ++ k ∷ [] → Moment gives (giving v k f)
-      → IsSitting gives slots (giving v k f) [] spent made
+      → v.claimed ≡ result_numbers v.given ++ k ∷ [] → Moment gives (with_result v k f)
+      → IsSitting gives slots (with_result v k f) [] spent made
   sits_given gives slots v hand spent made k f sits holds moment = record {
     seated = sits.seated;
     alone = sits.alone;
     unmarked = sits.unmarked;
     spent_is = sits.spent_is;
     made_is = sits.made_is;
-    hand_is = sym (idle_hand (giving v k f) (gives_all v k f holds));
+    hand_is = sym (idle_hand (with_result v k f) (gives_all v k f holds));
     within = sits.within;
     history = moment;
   }
 
 module _ {W F : Type 0} (gives : W → F → Type 0) (slots : ℕ) where
   -- the seat that a board is opened with
-  pub sits_opening : (works : List W) → Moment gives (opener works) → IsSitting gives slots (opener works) [] false 1
+  pub sits_opening : (works : List W) → Moment gives (opener_view works)
+      → IsSitting gives slots (opener_view works) [] false 1
   sits_opening works moment = record {
     seated = refl;
     alone = refl;
@@ -73,7 +75,7 @@ module _ {W F : Type 0} (gives : W → F → Type 0) (slots : ℕ) where
   }
 
   -- a seat that was made
-  pub sits_new : (v : View W F) → Moment gives (newcomer v) → IsSitting gives slots (newcomer v) [] false 0
+  pub sits_new : (v : View W F) → Moment gives (new_seat_view v) → IsSitting gives slots (new_seat_view v) [] false 0
   sits_new v moment = record {
     seated = refl;
     alone = refl;
@@ -87,8 +89,8 @@ module _ {W F : Type 0} (gives : W → F → Type 0) (slots : ℕ) where
 
   -- the opener's seat that made it
   pub sits_seating : (v : View W F) (hand : List (ℕ × Option (Group W F))) (spent : Bool) (made : ℕ)
-      → IsSitting gives slots v hand spent made → Moment gives (seating v)
-      → IsSitting gives slots (seating v) hand spent (made + 1)
+      → IsSitting gives slots v hand spent made → Moment gives (with_seat_made v)
+      → IsSitting gives slots (with_seat_made v) hand spent (made + 1)
   sits_seating v hand spent made sits moment = record {
     seated = sits.seated;
     alone = sits.alone;

@@ -7,11 +7,11 @@ use native.Mathlib.Decide.{dec_le}
 use lib.ListN.{get_elem?}
 use Rattle.atomic_table.proofs.Lists.{at_set, at_map}
 use Rattle.apply_board.specs.declared.view.View.{View}
-use Rattle.apply_board.specs.Views.{numbers, marks_of}
-use Rattle.apply_board.specs.Board.{total, times, Shared, drawn, claims_of, gifts_of, seats_of, OpenerIsFirst, IsSeat, BoardHistory}
+use Rattle.apply_board.specs.Views.{result_numbers, marks_of}
+use Rattle.apply_board.specs.Board.{sum_of, occurrences_of, Shared, draw_count, claims_of, gifts_of, seats_of, OpenerIsFirst, IsSeat, BoardHistory}
 use Rattle.apply_board.proofs.Sums.{bit_le, total-set, total-both, total_le, total_le_at, term_le, in_times, times-append}
 
-pub numbers-append : {F : Type 0} (a b : List (ℕ × F)) → numbers (a ++ b) ≡ numbers a ++ numbers b
+pub numbers-append : {F : Type 0} (a b : List (ℕ × F)) → result_numbers (a ++ b) ≡ result_numbers a ++ result_numbers b
 numbers-append {F} a b = map-append (λ (g : ℕ × F). g.0) a b
 
 module _ {W F : Type 0} (gives : W → F → Type 0) (works : List W) where
@@ -22,9 +22,11 @@ module _ {W F : Type 0} (gives : W → F → Type 0) (works : List W) where
   S = Shared W F
 
   -- what a seat gave it had claimed
-  given_le : (s : S) (v : V) (k : ℕ) → IsSeat gives works s v → times k (numbers v.given) ≤ times k v.claimed
-  given_le s v k o = ⊎_elim (λ (e : v.claimed ≡ numbers v.given). let t = ap (times k) e in omega arith)
-      (λ t. let e = ap (times k) t.1 in omega (arith, times-append k (numbers v.given) (t.0 ∷ []))) o.given_is
+  given_le : (s : S) (v : V) (k : ℕ) → IsSeat gives works s v
+      → occurrences_of k (result_numbers v.given) ≤ occurrences_of k v.claimed
+  given_le s v k o = ⊎_elim (λ (e : v.claimed ≡ result_numbers v.given). let t = ap (occurrences_of k) e in omega arith)
+      (λ t. let e = ap (occurrences_of k) t.1 in
+      omega (arith, times-append k (result_numbers v.given) (t.0 ∷ []))) o.given_is
 
   gifts_le : (s : S) → BoardHistory gives works s → (k j : ℕ) (v : V) → get_elem? s.views j ≡ some v
       → gifts_of k v ≤ claims_of k v
@@ -36,20 +38,20 @@ module _ {W F : Type 0} (gives : W → F → Type 0) (works : List W) where
 
   pub gift_claimed : (s : S) (v : V) (i k : ℕ) (f : F) → IsSeat gives works s v
       → get_elem? (v.given ++ v.gathered) i ≡ some (k, f) → 1 ≤ claims_of k v
-  gift_claimed s v i k f o e = let a : 1 ≤ times k (numbers (v.given ++ v.gathered)) = in_times
-      (numbers (v.given ++ v.gathered)) i k (at_map (λ (g : ℕ × F). g.0) (v.given ++ v.gathered) i (k, f) e) in
-      let b = ap (times k) (numbers-append v.given v.gathered) in
-      omega (arith, times-append k (numbers v.given) (numbers v.gathered), given_le s v k o)
+  gift_claimed s v i k f o e = let a : 1 ≤ occurrences_of k (result_numbers (v.given ++ v.gathered)) = in_times
+      (result_numbers (v.given ++ v.gathered)) i k (at_map (λ (g : ℕ × F). g.0) (v.given ++ v.gathered) i (k, f) e) in
+      let b = ap (occurrences_of k) (numbers-append v.given v.gathered) in
+      omega (arith, times-append k (result_numbers v.given) (result_numbers v.gathered), given_le s v k o)
 
-  pub at_most_one : (s : S) → BoardHistory gives works s → (k : ℕ) → total (claims_of k) s.views ≤ 1
-  at_most_one s r k = dite (dec_le (suc k) (min (drawn s) (length works)))
+  pub at_most_one : (s : S) → BoardHistory gives works s → (k : ℕ) → sum_of (claims_of k) s.views ≤ 1
+  at_most_one s r k = dite (dec_le (suc k) (min (draw_count s) (length works)))
       (λ below. omega (arith, r.claimed k (omega arith))) (λ past. omega (arith, r.unclaimed k (omega arith)))
 
   -- what is claimed is below word 0, and a work
   pub claimed_below : (s : S) → BoardHistory gives works s → (j : ℕ) (v : V) → get_elem? s.views j ≡ some v → (k : ℕ)
-      → 1 ≤ claims_of k v → (k < drawn s) × (k < length works)
+      → 1 ≤ claims_of k v → (k < draw_count s) × (k < length works)
   claimed_below s r j v at k d = let t = term_le (claims_of k) s.views j v at in
-      dite (dec_le (suc k) (min (drawn s) (length works)))
+      dite (dec_le (suc k) (min (draw_count s) (length works)))
       (λ below. (omega arith, omega arith))
       (λ past. let z = r.unclaimed k (omega arith) in absurd (omega arith))
 
@@ -64,7 +66,7 @@ module _ {W F : Type 0} (gives : W → F → Type 0) (works : List W) where
             (omega arith)
       ] in by v.seated refl
 
-  pub marks_few : (s : S) → BoardHistory gives works s → total marks_of s.views ≤ 64
+  pub marks_few : (s : S) → BoardHistory gives works s → sum_of marks_of s.views ≤ 64
   marks_few s r = let kept = r.gathered_marks_few in let few = r.seats_at_most_64 in omega (
     arith,
     total_le marks_of (λ v. v.gathered_marks + seats_of v) s.views (marks_le s r),
@@ -73,12 +75,12 @@ module _ {W F : Type 0} (gives : W → F → Type 0) (works : List W) where
 
   -- a number that the seat v claimed and didn't give was given by nobody
   pub none_given : (s : S) → BoardHistory gives works s → (j : ℕ) (v : V) → get_elem? s.views j ≡ some v → (k : ℕ)
-      → 1 ≤ claims_of k v → gifts_of k v ≡ 0 → total (gifts_of k) s.views ≡ 0
+      → 1 ≤ claims_of k v → gifts_of k v ≡ 0 → sum_of (gifts_of k) s.views ≡ 0
   none_given s r j v at k held ungiven = let t = total_le_at (gifts_of k) (claims_of k) s.views j v at
       (gifts_le s r k) in let m = at_most_one s r k in omega arith
 
   -- a seat is as it was where a step leaves the slots of what it claimed
-  pub stays : (s s' : S) (v : V) → drawn s ≤ drawn s'
+  pub stays : (s s' : S) (v : V) → draw_count s ≤ draw_count s'
       → ((k : ℕ) → 1 ≤ claims_of k v → get_elem? s'.homes k ≡ get_elem? s.homes k) → IsSeat gives works s v
       → IsSeat gives works s' v
   stays s s' v up same o = record {
@@ -121,7 +123,7 @@ module _ {W F : Type 0} (gives : W → F → Type 0) (works : List W) where
   opener_ahead (x ∷ xs) more first = first
 
   abbrev pub Counts : List V → ℕ → V → Type 0
-  Counts vs j v = 0 < v.made → (j ≡ 0) × (v.made ≡ length vs) × (v.unjoined ≡ total seats_of vs)
+  Counts vs j v = 0 < v.made → (j ≡ 0) × (v.made ≡ length vs) × (v.unjoined ≡ sum_of seats_of vs)
 
   -- a step that makes no seat and takes none in leaves the counts
   pub counts_stay : (s : S) → BoardHistory gives works s → (id : ℕ) (v w : V) → get_elem? s.views id ≡ some v

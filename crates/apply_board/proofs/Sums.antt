@@ -5,7 +5,7 @@ use native.Mathlib.Decide.{ℕ_discrete}
 use mathlib.Core.Option.{some, some-injective, some-ne-none}
 use lib.ListN.{get_elem?}
 use Rattle.std.specs.List.Sorted.{IsStrictlyIncreasing}
-use Rattle.apply_board.specs.Board.{total, times}
+use Rattle.apply_board.specs.Board.{sum_of, occurrences_of}
 
 pub bit_le : (b : Bool) → cond b 1 0 ≤ 1
 bit_le true = omega arith
@@ -17,42 +17,42 @@ bit_zero false e = refl
 
 module _ {A : Type 0} where
   module _ (g : A → ℕ) where
-    pub total-append : (l m : List A) → total g (l ++ m) ≡ total g l + total g m
+    pub total-append : (l m : List A) → sum_of g (l ++ m) ≡ sum_of g l + sum_of g m
     total-append [] m = omega arith
     total-append (x ∷ xs) m = omega (arith, total-append xs m)
 
     pub total-set : (l : List A) (j : ℕ) (v w : A) → get_elem? l j ≡ some v
-        → total g (set l j w) + g v ≡ total g l + g w
+        → sum_of g (set l j w) + g v ≡ sum_of g l + g w
     total-set [] j v w e = absurd (some-ne-none v (sym e))
     total-set (x ∷ xs) zero v w e = omega (arith, ap g (some-injective x v e))
     total-set (x ∷ xs) (suc j) v w e = omega (arith, total-set xs j v w e)
 
-    pub term_le : (l : List A) (j : ℕ) (v : A) → get_elem? l j ≡ some v → g v ≤ total g l
+    pub term_le : (l : List A) (j : ℕ) (v : A) → get_elem? l j ≡ some v → g v ≤ sum_of g l
     term_le [] j v e = absurd (some-ne-none v (sym e))
     term_le (x ∷ xs) zero v e = omega (arith, ap g (some-injective x v e))
     term_le (x ∷ xs) (suc j) v e = omega (arith, term_le xs j v e)
 
     pub terms_le : (l : List A) (j k : ℕ) (v u : A) → k ≢ j → get_elem? l j ≡ some v → get_elem? l k ≡ some u
-        → g v + g u ≤ total g l
+        → g v + g u ≤ sum_of g l
     terms_le [] j k v u n e d = absurd (some-ne-none v (sym e))
     terms_le (x ∷ xs) zero zero v u n e d = absurd (n refl)
     terms_le (x ∷ xs) zero (suc k) v u n e d = omega (arith, ap g (some-injective x v e), term_le xs k u d)
     terms_le (x ∷ xs) (suc j) zero v u n e d = omega (arith, ap g (some-injective x u d), term_le xs j v e)
     terms_le (x ∷ xs) (suc j) (suc k) v u n e d = omega (arith, terms_le xs j k v u (λ h. n (ap suc h)) e d)
 
-    pub total_few : (l : List A) → ((x : A) → g x ≤ 1) → total g l ≤ length l
+    pub total_few : (l : List A) → ((x : A) → g x ≤ 1) → sum_of g l ≤ length l
     total_few [] h = omega arith
     total_few (x ∷ xs) h = omega (arith, h x, total_few xs h)
 
     pub total_none : (h : A → ℕ) (l : List A) → ((j : ℕ) (x : A) → get_elem? l j ≡ some x → g x ≡ 0 → h x ≡ 0)
-        → total g l ≡ 0 → total h l ≡ 0
+        → sum_of g l ≡ 0 → sum_of h l ≡ 0
     total_none h [] z e = refl
     total_none h (x ∷ xs) z e = let a : g x ≡ 0 = omega arith in
         omega (arith, z 0 x refl a, total_none h xs (λ j. z (suc j)) (omega arith))
 
     -- where only v weighs anything under g, and h is 0 where g is, only v weighs anything under h
     pub total_only : (h : A → ℕ) (l : List A) (j : ℕ) (v : A) → ((j : ℕ) (x : A) → get_elem? l j ≡ some x → g x ≡ 0
-        → h x ≡ 0) → get_elem? l j ≡ some v → total g l ≡ g v → total h l ≡ h v
+        → h x ≡ 0) → get_elem? l j ≡ some v → sum_of g l ≡ g v → sum_of h l ≡ h v
     total_only h [] j v z e t = absurd (some-ne-none v (sym e))
     total_only h (x ∷ xs) zero v z e t = let is = some-injective x v e in let a = ap g is in let b = ap h is in
         omega (arith, total_none h xs (λ j. z (suc j)) (omega arith))
@@ -60,25 +60,25 @@ module _ {A : Type 0} where
         omega (arith, z 0 x refl a, total_only h xs j v (λ j. z (suc j)) e (omega arith))
 
 module _ {A : Type 0} (g h : A → ℕ) where
-  pub total-both : (l : List A) → total (λ x. g x + h x) l ≡ total g l + total h l
+  pub total-both : (l : List A) → sum_of (λ x. g x + h x) l ≡ sum_of g l + sum_of h l
   total-both [] = refl
   total-both (x ∷ xs) = omega (arith, total-both xs)
 
   -- where g is at most h everywhere
-  pub total_le : (l : List A) → ((i : ℕ) (x : A) → get_elem? l i ≡ some x → g x ≤ h x) → total g l ≤ total h l
+  pub total_le : (l : List A) → ((i : ℕ) (x : A) → get_elem? l i ≡ some x → g x ≤ h x) → sum_of g l ≤ sum_of h l
   total_le [] below = omega arith
   total_le (x ∷ xs) below = let a = below 0 x refl in let b = total_le xs (λ i. below (suc i)) in omega arith
 
   -- the sums are at least as far apart as the terms of v
   pub total_le_at : (l : List A) (j : ℕ) (v : A) → get_elem? l j ≡ some v
-      → ((i : ℕ) (x : A) → get_elem? l i ≡ some x → g x ≤ h x) → total g l + h v ≤ total h l + g v
+      → ((i : ℕ) (x : A) → get_elem? l i ≡ some x → g x ≤ h x) → sum_of g l + h v ≤ sum_of h l + g v
   total_le_at [] j v e below = absurd (some-ne-none v (sym e))
   total_le_at (x ∷ xs) zero v e below = let is = some-injective x v e in let a = ap g is in let b = ap h is in
       let c = total_le xs (λ i. below (suc i)) in omega arith
   total_le_at (x ∷ xs) (suc j) v e below = let a = below 0 x refl in
       let b = total_le_at xs j v e (λ i. below (suc i)) in omega arith
 
-pub times-snoc : (k x : ℕ) (xs : List ℕ) → times k (xs ++ x ∷ []) ≡ times k xs + cond (eqb x k) 1 0
+pub times-snoc : (k x : ℕ) (xs : List ℕ) → occurrences_of k (xs ++ x ∷ []) ≡ occurrences_of k xs + cond (eqb x k) 1 0
 times-snoc k x xs = omega (arith, total-append (λ y. cond (eqb y k) 1 0) xs (x ∷ []))
 
 pub same_bit : (k x : ℕ) → x ≡ k → cond {A = ℕ} (eqb x k) 1 0 ≡ 1
@@ -87,13 +87,13 @@ same_bit k x e = ap (λ (b : Bool). cond {A = ℕ} b 1 0) (eq-eqb x k e)
 pub other_bit : (k x : ℕ) → x ≢ k → cond {A = ℕ} (eqb x k) 1 0 ≡ 0
 other_bit k x n = ap (λ (b : Bool). cond {A = ℕ} b 1 0) (ne_eqb x k n)
 
-pub in_times : (xs : List ℕ) (i k : ℕ) → get_elem? xs i ≡ some k → 1 ≤ times k xs
+pub in_times : (xs : List ℕ) (i k : ℕ) → get_elem? xs i ≡ some k → 1 ≤ occurrences_of k xs
 in_times xs i k e = omega (arith, term_le (λ y. cond (eqb y k) 1 0) xs i k e, same_bit k k refl)
 
-pub times-append : (k : ℕ) (xs ys : List ℕ) → times k (xs ++ ys) ≡ times k xs + times k ys
+pub times-append : (k : ℕ) (xs ys : List ℕ) → occurrences_of k (xs ++ ys) ≡ occurrences_of k xs + occurrences_of k ys
 times-append k xs ys = total-append (λ y. cond (eqb y k) 1 0) xs ys
 
-pub times-snoc_here : (k : ℕ) (xs : List ℕ) → times k (xs ++ k ∷ []) ≡ times k xs + 1
+pub times-snoc_here : (k : ℕ) (xs : List ℕ) → occurrences_of k (xs ++ k ∷ []) ≡ occurrences_of k xs + 1
 times-snoc_here k xs = omega (arith, times-snoc k k xs, same_bit k k refl)
 
 pub at_of : (xs : List ℕ) (i : ℕ) → i < length xs → get_elem? xs i ≡ some (get_or xs i 0)
@@ -102,7 +102,7 @@ at_of (x ∷ xs) zero h = refl
 at_of (x ∷ xs) (suc i) h = at_of xs i (omega arith)
 
 -- a number that stands in the list has a place there
-pub place_of : (k : ℕ) (xs : List ℕ) → 1 ≤ times k xs → (i : ℕ) × (get_elem? xs i ≡ some k)
+pub place_of : (k : ℕ) (xs : List ℕ) → 1 ≤ occurrences_of k xs → (i : ℕ) × (get_elem? xs i ≡ some k)
 place_of k [] h = absurd (omega arith)
 place_of k (x ∷ xs) h = dite (ℕ_discrete x k) (λ e. (0, ap some e)) (λ n. let b = other_bit k x n in
     let p = place_of k xs (omega arith) in (suc p.0, p.1))

@@ -7,16 +7,16 @@ use Rattle.atomic_table.specs.Table.{State}
 use Rattle.apply_board.specs.declared.view.View.{View}
 use Rattle.apply_board.specs.declared.group.Group.{Group}
 use Rattle.apply_board.specs.declared.group.Group.TheVariants.{Home, Unclaimed}
-use Rattle.apply_board.specs.Views.{numbers, marks_of, vacated}
+use Rattle.apply_board.specs.Views.{result_numbers, marks_of, vacated_view}
 
 -- the sum of a number of each
-abbrev pub total : {A : Type 0} → (A → ℕ) → List A → ℕ
-total f [] = 0
-total f (x ∷ xs) = f x + total f xs
+abbrev pub sum_of : {A : Type 0} → (A → ℕ) → List A → ℕ
+sum_of f [] = 0
+sum_of f (x ∷ xs) = f x + sum_of f xs
 
 -- how often k stands in the list
-abbrev pub times : ℕ → List ℕ → ℕ
-times k list = total (λ x. cond (x == k) 1 0) list
+abbrev pub occurrences_of : ℕ → List ℕ → ℕ
+occurrences_of k list = sum_of (λ x. cond (x == k) 1 0) list
 
 -- what all seats of a board share: its words, its slots and their views
 abbrev pub Shared : Type 0 → Type 0 → Type 0
@@ -24,12 +24,12 @@ Shared W F = State (Option (Group W F)) (View W F)
 
 module _ {W F : Type 0} where
   -- word 0: how often a number was drawn
-  abbrev pub drawn : Shared W F → ℕ
-  drawn board = slice_index board.words 0
+  abbrev pub draw_count : Shared W F → ℕ
+  draw_count board = slice_index board.words 0
 
   -- the word of the work k
-  abbrev pub word_of : Shared W F → ℕ → ℕ
-  word_of board k = slice_index board.words (k + 1)
+  abbrev pub work_word : Shared W F → ℕ → ℕ
+  work_word board k = slice_index board.words (k + 1)
 
   -- the slot of k is at home, and this lies in it
   abbrev pub LiesIn : Shared W F → ℕ → Group W F → Type 0
@@ -37,11 +37,11 @@ module _ {W F : Type 0} where
 
   -- how often k was claimed by this seat and those that it took in, which gave all that they had claimed
   abbrev pub claims_of : ℕ → View W F → ℕ
-  claims_of k v = times k v.claimed + times k (numbers v.gathered)
+  claims_of k v = occurrences_of k v.claimed + occurrences_of k (result_numbers v.gathered)
 
   -- how often k was given by this seat and those that it took in
   abbrev pub gifts_of : ℕ → View W F → ℕ
-  gifts_of k v = times k (numbers v.given) + times k (numbers v.gathered)
+  gifts_of k v = occurrences_of k (result_numbers v.given) + occurrences_of k (result_numbers v.gathered)
 
   abbrev pub seats_of : View W F → ℕ
   seats_of v = cond v.seated 1 0
@@ -59,7 +59,7 @@ pub record IsSeat {W F : Type 0} (gives : W → F → Type 0) (works : List W) (
   -- each claim is of a number above all before
   pub claimed_rises : IsStrictlyIncreasing v.claimed
   -- what was given is what was claimed, perhaps without the last
-  pub given_is : (v.claimed ≡ numbers v.given) ⊎ ((k : ℕ) × (v.claimed ≡ numbers v.given ++ k ∷ []))
+  pub given_is : (v.claimed ≡ result_numbers v.given) ⊎ ((k : ℕ) × (v.claimed ≡ result_numbers v.given ++ k ∷ []))
   -- the slot of a number that was given holds the result
   pub home : (i k : ℕ) (finished : F) → get_elem? (v.given ++ v.gathered) i ≡ some (k, finished)
       → LiesIn board k (Home finished)
@@ -67,7 +67,7 @@ pub record IsSeat {W F : Type 0} (gives : W → F → Type 0) (works : List W) (
   pub fits : (i k : ℕ) (finished : F) (w : W) → get_elem? (v.given ++ v.gathered) i ≡ some (k, finished)
       → get_elem? works k ≡ some w → gives w finished
   -- it, or one that it took in, is spent only where every number was drawn
-  pub spent_late : 0 < marks_of v → length works ≤ drawn board
+  pub spent_late : 0 < marks_of v → length works ≤ draw_count board
 
 -- what holds of a board with these works
 pub record BoardHistory {W F : Type 0} (gives : W → F → Type 0) (works : List W) (board : Shared W F) : Type 0 where
@@ -76,24 +76,24 @@ pub record BoardHistory {W F : Type 0} (gives : W → F → Type 0) (works : Lis
   pub slots_count : length board.homes ≡ length works
   pub works_count : length works < 2 ^ 63
   -- the numbers claimed are those below word 0, each once in the lists of all seats together
-  pub claimed : (k : ℕ) → k < min (drawn board) (length works) → total (claims_of k) board.views ≡ 1
-  pub unclaimed : (k : ℕ) → min (drawn board) (length works) ≤ k → total (claims_of k) board.views ≡ 0
+  pub claimed : (k : ℕ) → k < min (draw_count board) (length works) → sum_of (claims_of k) board.views ≡ 1
+  pub unclaimed : (k : ℕ) → min (draw_count board) (length works) ≤ k → sum_of (claims_of k) board.views ≡ 0
   -- the word of a number is 1 where it stands in a given list, and else 0
-  pub words : (k : ℕ) → k < length works → word_of board k ≡ total (gifts_of k) board.views
+  pub words : (k : ℕ) → k < length works → work_word board k ≡ sum_of (gifts_of k) board.views
   -- the slot of a number that isn't claimed holds its work as it was opened
-  pub waits : (k : ℕ) (w : W) → drawn board ≤ k → get_elem? works k ≡ some w → LiesIn board k (Unclaimed w)
+  pub waits : (k : ℕ) (w : W) → draw_count board ≤ k → get_elem? works k ≡ some w → LiesIn board k (Unclaimed w)
   -- word 0 counts the numbers that were claimed and the seats that were marked as spent, and nothing else
-  pub marks : drawn board ≡ min (drawn board) (length works) + total marks_of board.views
+  pub marks : draw_count board ≡ min (draw_count board) (length works) + sum_of marks_of board.views
   -- no more marks were taken in than seats were, so word 0 never wraps
-  pub gathered_marks_few : total (λ v. v.gathered_marks) board.views + total seats_of board.views ≤ length board.views
+  pub gathered_marks_few : sum_of (λ v. v.gathered_marks) board.views + sum_of seats_of board.views ≤ length board.views
   pub seats_at_most_64 : length board.views ≤ 64
   -- the opener's seat is the first; it alone counts the seats made, and those of them not taken in
   pub opener_is_first : OpenerIsFirst board.views
   pub opener_counts : (j : ℕ) (v : View W F) → get_elem? board.views j ≡ some v → 0 < v.made
-      → (j ≡ 0) × (v.made ≡ length board.views) × (v.unjoined ≡ total seats_of board.views)
+      → (j ≡ 0) × (v.made ≡ length board.views) × (v.unjoined ≡ sum_of seats_of board.views)
   pub each_seat : (j : ℕ) (v : View W F) → get_elem? board.views j ≡ some v → v.seated ≡ true
       → IsSeat gives works board v
-  pub each_vacated : (j : ℕ) (v : View W F) → get_elem? board.views j ≡ some v → v.seated ≡ false → v ≡ vacated
+  pub each_vacated : (j : ℕ) (v : View W F) → get_elem? board.views j ≡ some v → v.seated ≡ false → v ≡ vacated_view
 
 -- a moment between two steps of the board, and a seat that had this view then
 pub record Moment {W F : Type 0} (gives : W → F → Type 0) (v : View W F) : Type 0 where

@@ -4,8 +4,8 @@ use mathlib.Core.Option.{some}
 use lib.ListN.{get_elem?}
 use Rattle.apply_board.specs.declared.group.Group.{Group}
 use Rattle.apply_board.specs.declared.group.Group.TheVariants.{Home, Unclaimed}
-use Rattle.apply_board.specs.Views.{numbers}
-use Rattle.apply_board.specs.Board.{times}
+use Rattle.apply_board.specs.Views.{result_numbers}
+use Rattle.apply_board.specs.Board.{occurrences_of}
 
 -- a result stands for each work
 abbrev pub AreHome : {W F : Type 0} → (W → F → Type 0) → List W → List (Group W F) → Type 0
@@ -21,12 +21,12 @@ pub record IsSettled {W F : Type 0} (gives : W → F → Type 0) (works : List W
   pub home : (i k : ℕ) (finished : F) → get_elem? given i ≡ some (k, finished)
       → get_elem? groups k ≡ some (Home finished)
   -- where none was given, the work as it was opened
-  pub unclaimed : (k : ℕ) (w : W) → get_elem? works k ≡ some w → times k (numbers given) ≡ 0
+  pub unclaimed : (k : ℕ) (w : W) → get_elem? works k ≡ some w → occurrences_of k (result_numbers given) ≡ 0
       → get_elem? groups k ≡ some (Unclaimed w)
   -- each result is of its work
   pub fits : (i k : ℕ) (finished : F) (w : W) → get_elem? given i ≡ some (k, finished) → get_elem? works k ≡ some w
       → gives w finished
   -- no number was given twice
-  pub once : (k : ℕ) → times k (numbers given) ≤ 1
+  pub once : (k : ℕ) → occurrences_of k (result_numbers given) ≤ 1
   -- where a seat is spent, a result stands for each work
   pub whole : spent ≡ true → AreHome gives works groups

@@ -1,25 +1,25 @@
 -- What clauses ask of seats.
 use Rattle.std.specs.Prelude.{◌≡◌, ℕ, ◌<◌, Bool, false, ◌||◌, List, [], ◌∷◌, ◌++◌, length, All}
 use Rattle.apply_board.specs.Sitting.{BoardId, Sitting}
-use Rattle.apply_board.specs.Views.{numbers}
+use Rattle.apply_board.specs.Views.{result_numbers}
 
 module _ {W F : Type 0} where
   -- the seat has given all that it claimed
   abbrev pub IsIdle : Sitting W F → Type 0
-  IsIdle seat = seat.view.claimed ≡ numbers seat.view.given
+  IsIdle seat = seat.view.claimed ≡ result_numbers seat.view.given
 
   -- the seat claimed k last, and has given all before
-  abbrev pub Holds : Sitting W F → ℕ → Type 0
-  Holds seat k = seat.view.claimed ≡ numbers seat.view.given ++ k ∷ []
+  abbrev pub HoldsClaim : Sitting W F → ℕ → Type 0
+  HoldsClaim seat k = seat.view.claimed ≡ result_numbers seat.view.given ++ k ∷ []
 
   -- the seat that the board was opened with
   abbrev pub IsOpener : Sitting W F → Type 0
   IsOpener seat = 0 < seat.view.made
 
   -- all seats of the board, none with a claim: the opener's first, and as many as that counts
-  abbrev pub AreAll : BoardId → List (Sitting W F) → Type 0
-  AreAll board [] = ⊥
-  AreAll board (first ∷ others) = IsOpener first × (first.view.unjoined ≡ length (first ∷ others))
+  abbrev pub AreAllSeats : BoardId → List (Sitting W F) → Type 0
+  AreAllSeats board [] = ⊥
+  AreAllSeats board (first ∷ others) = IsOpener first × (first.view.unjoined ≡ length (first ∷ others))
       × All (λ seat. (seat.board ≡ board) × IsIdle seat) (first ∷ others)
 
   -- what these seats gave

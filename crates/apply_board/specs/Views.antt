@@ -3,13 +3,13 @@ use Rattle.std.specs.Prelude.{ℕ, ◌+◌, ◌-◌, true, false, cond, List, []
 use Rattle.apply_board.specs.declared.view.View.{View}
 
 -- the numbers under which these results were given
-abbrev pub numbers : {F : Type 0} → List (ℕ × F) → List ℕ
-numbers given = map (λ one. one.0) given
+abbrev pub result_numbers : {F : Type 0} → List (ℕ × F) → List ℕ
+result_numbers given = map (λ one. one.0) given
 
 module _ {W F : Type 0} where
   -- the first seat of a board
-  abbrev pub opener : List W → View W F
-  opener works = record {
+  abbrev pub opener_view : List W → View W F
+  opener_view works = record {
     marker = record {};
     works = works;
     claimed = [];
@@ -23,8 +23,8 @@ module _ {W F : Type 0} where
   }
 
   -- a seat that this one makes
-  abbrev pub newcomer : View W F → View W F
-  newcomer v = record {
+  abbrev pub new_seat_view : View W F → View W F
+  new_seat_view v = record {
     marker = record {};
     works = v.works;
     claimed = [];
@@ -38,36 +38,36 @@ module _ {W F : Type 0} where
   }
 
   -- the opener's seat has made another
-  abbrev pub seating : View W F → View W F
-  seating v = record v { made = v.made + 1; unjoined = v.unjoined + 1 }
+  abbrev pub with_seat_made : View W F → View W F
+  with_seat_made v = record v { made = v.made + 1; unjoined = v.unjoined + 1 }
 
   -- the seat has claimed k
-  abbrev pub claiming : View W F → ℕ → View W F
-  claiming v k = record v { claimed = v.claimed ++ k ∷ [] }
+  abbrev pub with_claim : View W F → ℕ → View W F
+  with_claim v k = record v { claimed = v.claimed ++ k ∷ [] }
 
   -- the seat has found every number claimed
-  abbrev pub ending : View W F → View W F
-  ending v = record v { spent = true }
+  abbrev pub with_spent : View W F → View W F
+  with_spent v = record v { spent = true }
 
   -- the seat has given a result under k
-  abbrev pub giving : View W F → ℕ → F → View W F
-  giving v k finished = record v { given = v.given ++ (k, finished) ∷ [] }
+  abbrev pub with_result : View W F → ℕ → F → View W F
+  with_result v k finished = record v { given = v.given ++ (k, finished) ∷ [] }
 
   -- how many of this seat and those that it took in were marked as spent
   abbrev pub marks_of : View W F → ℕ
   marks_of v = cond v.spent 1 0 + v.gathered_marks
 
   -- the opener's seat v has taken in the seat w, whose results and mark it keeps apart from its own
-  abbrev pub joined : View W F → View W F → View W F
-  joined v w = record v {
+  abbrev pub with_seat_joined : View W F → View W F → View W F
+  with_seat_joined v w = record v {
     gathered = v.gathered ++ (w.given ++ w.gathered);
     gathered_marks = v.gathered_marks + marks_of w;
     unjoined = v.unjoined - 1;
   }
 
   -- what is left of a seat that was taken in
-  abbrev pub vacated : View W F
-  vacated = record {
+  abbrev pub vacated_view : View W F
+  vacated_view = record {
     marker = record {};
     works = [];
     claimed = [];

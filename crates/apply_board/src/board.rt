@@ -2,9 +2,9 @@
 ghost use Rattle.std.specs.Prelude.{◌≡◌, ◌↔◌, ◌<◌, ◌≤◌, true, false, IfSome, IfNone, IsNone, All};
 ghost use mathlib.Core.Option.{some};
 ghost use lib.ListN.{get_elem?};
-ghost use Rattle.apply_board.specs.Views.{newcomer, seating, claiming, ending, giving};
+ghost use Rattle.apply_board.specs.Views.{new_seat_view, with_seat_made, with_claim, with_spent, with_result};
 ghost use Rattle.apply_board.specs.Board.{Moment};
-ghost use Rattle.apply_board.specs.Seats.{IsIdle, Holds, IsOpener};
+ghost use Rattle.apply_board.specs.Seats.{IsIdle, HoldsClaim, IsOpener};
 
 use crate::group::{Group, Yields};
 use crate::plays::{Another, Draw, Give};
@@ -25,11 +25,11 @@ impl<W: Yields<F> + Drop, F: Drop> Board<W, F> {
         requires own { seat.old.board ≡ self.now }
         requires idle { IsIdle seat.old }
         ensures own { seat.new.board ≡ seat.old.board }
-        ensures claimed { IfSome result (λ c. seat.new.view ≡ claiming seat.old.view c.0.number) }
-        ensures holds { IfSome result (λ c. Holds seat.new c.0.number) }
+        ensures claimed { IfSome result (λ c. seat.new.view ≡ with_claim seat.old.view c.0.number) }
+        ensures holds { IfSome result (λ c. HoldsClaim seat.new c.0.number) }
         ensures above { IfSome result (λ c. All (λ k. k < c.0.number) seat.old.view.claimed) }
         ensures work { IfSome result (λ c. get_elem? seat.old.view.works c.0.number ≡ some c.1) }
-        ensures none { IfNone result (seat.new.view ≡ ending seat.old.view) }
+        ensures none { IfNone result (seat.new.view ≡ with_spent seat.old.view) }
         ensures spent { seat.old.view.spent ≡ true → IsNone result }
         ensures history { Moment W.gives seat.new.view }
     {
@@ -52,10 +52,10 @@ impl<W: Yields<F> + Drop, F: Drop> Board<W, F> {
     /// Brings the result of a claim home. The result is of the claim's work.
     pub fn give(&self, seat: &mut Seat<W, F>, claim: Claim, finished: F)
         requires own { seat.old.board ≡ self.now }
-        requires holds { Holds seat.old claim.number }
+        requires holds { HoldsClaim seat.old claim.number }
         requires fits { (w : W) → get_elem? seat.old.view.works claim.number ≡ some w → W.gives w finished }
         ensures own { seat.new.board ≡ seat.old.board }
-        ensures given { seat.new.view ≡ giving seat.old.view claim.number finished }
+        ensures given { seat.new.view ≡ with_result seat.old.view claim.number finished }
         ensures idle { IsIdle seat.new }
         ensures history { Moment W.gives seat.new.view }
     {
@@ -72,8 +72,8 @@ impl<W: Yields<F> + Drop, F: Drop> Board<W, F> {
         requires own { opener.old.board ≡ self.now }
         requires opener { IsOpener opener.old }
         ensures own { opener.new.board ≡ opener.old.board }
-        ensures newcomer { IfSome result (λ s. (s.board ≡ opener.old.board) × (s.view ≡ newcomer opener.old.view)) }
-        ensures counted { IfSome result (λ _. opener.new.view ≡ seating opener.old.view) }
+        ensures newcomer { IfSome result (λ s. (s.board ≡ opener.old.board) × (s.view ≡ new_seat_view opener.old.view)) }
+        ensures counted { IfSome result (λ _. opener.new.view ≡ with_seat_made opener.old.view) }
         ensures none { IfNone result (opener.new.view ≡ opener.old.view) }
         ensures full { IsNone result ↔ (64 ≤ opener.old.view.made) }
         ensures history { IfSome result (λ s. Moment W.gives s.view) }

@@ -3,11 +3,11 @@ ghost use Rattle.std.specs.Prelude.{◌≡◌, ◌<◌, ◌≤◌, [], true, map
 ghost use Rattle.std.specs.Vec.{vec_capacity};
 ghost use Rattle.std.specs.Mem.Slots.{slots_items, slots_len, IsFull};
 ghost use Rattle.apply_board.specs.declared.group.Group.TheVariants.{Unclaimed};
-ghost use Rattle.apply_board.specs.Views.{opener};
+ghost use Rattle.apply_board.specs.Views.{opener_view};
 ghost use Rattle.apply_board.specs.Board.{Moment};
-ghost use Rattle.apply_board.specs.Seats.{IsIdle, AreAll, all_given, any_spent, works_of};
+ghost use Rattle.apply_board.specs.Seats.{IsIdle, AreAllSeats, all_given, any_spent, works_of};
 ghost use Rattle.apply_board.specs.Closing.{IsSettled};
-ghost use Rattle.apply_board.specs.Inner.Fields.{gathering};
+ghost use Rattle.apply_board.specs.Inner.Fields.{with_sittings};
 ghost use Rattle.apply_board.specs.Inner.Slots.{AreFull};
 
 use crate::group::{Group, Yields};
@@ -20,7 +20,7 @@ use std::snapshot::Snapshot;
 use values::NoMemory;
 
 // What lies in the slots at first.
-fn laid<W: Drop, F: Drop>(
+fn initial_slots<W: Drop, F: Drop>(
     alloc: Global,
     mut works: Vec<W>,
 ) -> Result<Vec<Option<Group<W, F>>>, NoMemory>
@@ -35,7 +35,7 @@ fn laid<W: Drop, F: Drop>(
 }
 
 // What lies in the slots, in order.
-fn emptied<W: Drop, F: Drop>(
+fn drain_slots<W: Drop, F: Drop>(
     mut closed: Closed<Option<Group<W, F>>, Global>,
     mut groups: Vec<Group<W, F>>,
 ) -> Vec<Group<W, F>>
@@ -63,14 +63,14 @@ impl<W: Yields<F> + Drop, F: Drop> Board<W, F> {
     /// that the other calls need; `NoMemory` where that isn't to be had, and the works are dropped.
     pub fn open(alloc: Global, works: Vec<W>) -> Result<(Board<W, F>, Seat<W, F>), NoMemory>
         ensures own { IfOk result (λ b. b.1.board ≡ b.0) }
-        ensures opener { IfOk result (λ b. b.1.view ≡ opener works.items) }
+        ensures opener { IfOk result (λ b. b.1.view ≡ opener_view works.items) }
         ensures history { IfOk result (λ b. Moment W.gives b.1.view) }
     {
         let count = works.len();
         let opened = Snapshot::of(&works);
         let words = Vec::from_elem(alloc, 0u64, count + 1)?;
         let groups = Vec::with_capacity(alloc, count)?;
-        let slots = laid(alloc, works)?;
+        let slots = initial_slots(alloc, works)?;
         match Table::new(alloc, words.as_slice(), slots, &opened) {
             Ok((table, place)) => Ok((
                 Board { table, groups },
@@ -94,7 +94,7 @@ impl<W: Yields<F> + Drop, F: Drop> Board<W, F> {
         requires opener { (0 < place.old.me.0.made) × (place.old.me.0.seated ≡ true) }
         requires others { All (λ s. (s.board ≡ self.now) × IsIdle s) others.items }
         ensures own { (place.new.table_id ≡ place.old.table_id) × (place.new.id ≡ place.old.id) }
-        ensures view { place.new.me ≡ (gathering place.old.me.0 others.items, place.old.me.1) }
+        ensures view { place.new.me ≡ (with_sittings place.old.me.0 others.items, place.old.me.1) }
     {
         others.reverse();
         while let Some(other) = others.pop() {
@@ -109,7 +109,7 @@ impl<W: Yields<F> + Drop, F: Drop> Board<W, F> {
 
     /// Each group once, by number: the result where one was given, and else the work as it was opened.
     pub fn close(self, mut seats: Vec<Seat<W, F>>) -> Vec<Group<W, F>>
-        requires { AreAll self seats.items }
+        requires { AreAllSeats self seats.items }
         ensures { IsSettled W.gives (works_of seats.items) (all_given seats.items) (any_spent seats.items)
             result.items }
     {
@@ -120,6 +120,6 @@ impl<W: Yields<F> + Drop, F: Drop> Board<W, F> {
         } = seats.remove(0);
         self.gather(&mut place, seats);
         let Board { table, groups } = self;
-        emptied(table.close_with(place), groups)
+        drain_slots(table.close_with(place), groups)
     }
 }

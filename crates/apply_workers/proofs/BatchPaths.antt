@@ -10,8 +10,8 @@ use Rattle.txn_codec.specs.declared.txn.Txn.{Txn}
 use Rattle.txn_codec.specs.declared.txn.TxnHeader.{TxnHeader}
 use Rattle.txn_codec.specs.declared.txn.Body.{Body}
 use Rattle.txn_codec.specs.declared.txn.Body.TheVariants as body
-use Rattle.data_tree.specs.Footprint.{touches, footprint, KeepsToCells}
-use Rattle.data_tree.specs.Commuting.{Tagged, of_group, batch_of, KeepsTo, at_group}
+use Rattle.data_tree.specs.Footprint.{has_path, footprint, KeepsToCells}
+use Rattle.data_tree.specs.Commuting.{GroupedTxn, txns_of_group, batch_of, KeepsToGroupPaths, entries_of_group}
 use Rattle.footprint.specs.Footprints.{is_barrier}
 use Rattle.batcher.specs.Groups.{paths_in}
 use Rattle.batcher.specs.Laws.{AreAmong}
@@ -33,86 +33,87 @@ pub all_free : (txns : List Txn) → AllByRecursion (λ t. is_barrier t ≡ fals
 all_free [] none = tt
 all_free (t ∷ txns) none = (free t none.0, all_free txns none.1)
 
-pub keeps_to : (paths : ℕ → List Bytes) (batch : List Tagged) → AllByRecursion KeepsToCells (batch_of batch)
-    → AllByRecursion (λ (t : Tagged). AreAmong (footprint t.1) (paths t.0)) batch → KeepsTo paths batch
+pub keeps_to : (paths : ℕ → List Bytes) (batch : List GroupedTxn) → AllByRecursion KeepsToCells (batch_of batch)
+    → AllByRecursion (λ (t : GroupedTxn). AreAmong (footprint t.1) (paths t.0)) batch → KeepsToGroupPaths paths batch
 keeps_to paths [] free among = tt
 keeps_to paths (t ∷ ts) free among = ((free.0, among.0), keeps_to paths ts free.1 among.1)
 
 -- ---- whose a path is
 
-in_front : (p : Bytes) (xs ys : List Bytes) → touches xs p ≡ true → touches (xs ++ ys) p ≡ true
-in_front p xs ys h = list_any-append (eq_by_cmp path_cmp p) xs ys ∙ ap (λ b. b || touches ys p) h
+in_front : (p : Bytes) (xs ys : List Bytes) → has_path xs p ≡ true → has_path (xs ++ ys) p ≡ true
+in_front p xs ys h = list_any-append (eq_by_cmp path_cmp p) xs ys ∙ ap (λ b. b || has_path ys p) h
 
 or_true : (b : Bool) → (b || true) ≡ true
 or_true true = refl
 or_true false = refl
 
-in_rest : (p : Bytes) (xs ys : List Bytes) → touches ys p ≡ true → touches (xs ++ ys) p ≡ true
+in_rest : (p : Bytes) (xs ys : List Bytes) → has_path ys p ≡ true → has_path (xs ++ ys) p ≡ true
 in_rest p xs ys h =
-    list_any-append (eq_by_cmp path_cmp p) xs ys ∙ ap (λ b. touches xs p || b) h ∙ or_true (touches xs p)
+    list_any-append (eq_by_cmp path_cmp p) xs ys ∙ ap (λ b. has_path xs p || b) h ∙ or_true (has_path xs p)
 
 -- a group below the number that has the path
 pub record HasGroup (n : ℕ) (paths : ℕ → List Bytes) (p : Bytes) : Type 0 where
   pub number : ℕ
   pub below : number < n
-  pub there : touches (paths number) p ≡ true
+  pub there : has_path (paths number) p ≡ true
 
-pub group_of : (n : ℕ) (paths : ℕ → List Bytes) (batch : List Tagged) (p : Bytes)
-    → AllByRecursion (λ (t : Tagged). AreAmong (footprint t.1) (paths t.0)) batch
-    → AllByRecursion (λ (t : Tagged). t.0 < n) batch
-    → touches (flat_map footprint (batch_of batch)) p ≡ true → HasGroup n paths p
+pub group_of : (n : ℕ) (paths : ℕ → List Bytes) (batch : List GroupedTxn) (p : Bytes)
+    → AllByRecursion (λ (t : GroupedTxn). AreAmong (footprint t.1) (paths t.0)) batch
+    → AllByRecursion (λ (t : GroupedTxn). t.0 < n) batch
+    → has_path (flat_map footprint (batch_of batch)) p ≡ true → HasGroup n paths p
 group_of n paths [] p among below h = absurd (true≢false (sym h))
 group_of n paths (t ∷ ts) p among below h =
-    by (touches (footprint t.1) p) refl (λ e. group_of n paths ts p among.1 below.1 e)
+    by (has_path (footprint t.1) p) refl (λ e. group_of n paths ts p among.1 below.1 e)
     (sym (list_any-append (eq_by_cmp path_cmp p) (footprint t.1) (flat_map footprint (batch_of ts))) ∙ h)
   where
-    by : (b : Bool) → touches (footprint t.1) p ≡ b
-        → (touches (flat_map footprint (batch_of ts)) p ≡ true → HasGroup n paths p)
-        → (touches (footprint t.1) p || touches (flat_map footprint (batch_of ts)) p) ≡ true → HasGroup n paths p
+    by : (b : Bool) → has_path (footprint t.1) p ≡ b
+        → (has_path (flat_map footprint (batch_of ts)) p ≡ true → HasGroup n paths p)
+        → (has_path (footprint t.1) p || has_path (flat_map footprint (batch_of ts)) p) ≡ true → HasGroup n paths p
     by true e rest h = record { number = t.0; below = below.0; there = among.0 p e }
-    by false e rest h = rest (ap (λ b. b || touches (flat_map footprint (batch_of ts)) p) (sym e) ∙ h)
+    by false e rest h = rest (ap (λ b. b || has_path (flat_map footprint (batch_of ts)) p) (sym e) ∙ h)
 
 -- a group's path is the batch's
-pub in_batch : (k : ℕ) (batch : List Tagged) (p : Bytes) → touches (paths_in k batch) p ≡ true
-    → touches (flat_map footprint (batch_of batch)) p ≡ true
+pub in_batch : (k : ℕ) (batch : List GroupedTxn) (p : Bytes) → has_path (paths_in k batch) p ≡ true
+    → has_path (flat_map footprint (batch_of batch)) p ≡ true
 in_batch k [] p h = h
 in_batch k (t ∷ ts) p h = by (nat_eq t.0 k) (in_batch k ts p) h
   where
-    either : (b : Bool) → touches (footprint t.1) p ≡ b
-        → (touches (paths_in k ts) p ≡ true → touches (flat_map footprint (batch_of ts)) p ≡ true)
-        → (touches (footprint t.1) p || touches (paths_in k ts) p) ≡ true
-        → touches (footprint t.1 ++ flat_map footprint (batch_of ts)) p ≡ true
+    either : (b : Bool) → has_path (footprint t.1) p ≡ b
+        → (has_path (paths_in k ts) p ≡ true → has_path (flat_map footprint (batch_of ts)) p ≡ true)
+        → (has_path (footprint t.1) p || has_path (paths_in k ts) p) ≡ true
+        → has_path (footprint t.1 ++ flat_map footprint (batch_of ts)) p ≡ true
     either true e rest h = in_front p (footprint t.1) (flat_map footprint (batch_of ts)) e
     either false e rest h =
         in_rest p (footprint t.1) (flat_map footprint (batch_of ts))
-        (rest (ap (λ b. b || touches (paths_in k ts) p) (sym e) ∙ h))
+        (rest (ap (λ b. b || has_path (paths_in k ts) p) (sym e) ∙ h))
 
-    by : (b : Bool) → (touches (paths_in k ts) p ≡ true → touches (flat_map footprint (batch_of ts)) p ≡ true)
-        → touches (flat_map footprint (cond b (t.1 ∷ of_group k ts) (of_group k ts))) p ≡ true
-        → touches (footprint t.1 ++ flat_map footprint (batch_of ts)) p ≡ true
+    by : (b : Bool) → (has_path (paths_in k ts) p ≡ true → has_path (flat_map footprint (batch_of ts)) p ≡ true)
+        → has_path (flat_map footprint (cond b (t.1 ∷ txns_of_group k ts) (txns_of_group k ts))) p ≡ true
+        → has_path (footprint t.1 ++ flat_map footprint (batch_of ts)) p ≡ true
     by true rest h =
-        either (touches (footprint t.1) p) refl rest
+        either (has_path (footprint t.1) p) refl rest
         (sym (list_any-append (eq_by_cmp path_cmp p) (footprint t.1) (paths_in k ts)) ∙ h)
     by false rest h = in_rest p (footprint t.1) (flat_map footprint (batch_of ts)) (rest h)
 
 -- and a group that has a path was opened
-pub is_below : (n k : ℕ) (batch : List Tagged) (p : Bytes) → AllByRecursion (λ (t : Tagged). t.0 < n) batch
-    → touches (paths_in k batch) p ≡ true → k < n
+pub is_below : (n k : ℕ) (batch : List GroupedTxn) (p : Bytes) → AllByRecursion (λ (t : GroupedTxn). t.0 < n) batch
+    → has_path (paths_in k batch) p ≡ true → k < n
 is_below n k [] p below h = absurd (true≢false (sym h))
 is_below n k (t ∷ ts) p below h = by (nat_eq t.0 k) refl (is_below n k ts p below.1) h
   where
-    by : (b : Bool) → nat_eq t.0 k ≡ b → (touches (paths_in k ts) p ≡ true → k < n)
-        → touches (flat_map footprint (cond b (t.1 ∷ of_group k ts) (of_group k ts))) p ≡ true → k < n
+    by : (b : Bool) → nat_eq t.0 k ≡ b → (has_path (paths_in k ts) p ≡ true → k < n)
+        → has_path (flat_map footprint (cond b (t.1 ∷ txns_of_group k ts) (txns_of_group k ts))) p ≡ true → k < n
     by true e rest h = subst (λ j. j < n) (eqb-true t.0 k e) below.0
     by false e rest h = rest h
 
 -- nothing stands at the places of a group that wasn't opened
-pub nothing_at : {A : Type 0} (n k : ℕ) (batch : List Tagged) (xs : List A)
-    → AllByRecursion (λ (t : Tagged). t.0 < n) batch → n ≤ k → at_group k batch xs ≡ []
+pub nothing_at : {A : Type 0} (n k : ℕ) (batch : List GroupedTxn) (xs : List A)
+    → AllByRecursion (λ (t : GroupedTxn). t.0 < n) batch → n ≤ k → entries_of_group k batch xs ≡ []
 nothing_at n k [] xs below above = refl
 nothing_at n k (t ∷ ts) [] below above = refl
 nothing_at {A} n k (t ∷ ts) (x ∷ xs) below above = by (nat_eq t.0 k) refl (nothing_at n k ts xs below.1 above)
   where
-    by : (b : Bool) → nat_eq t.0 k ≡ b → at_group k ts xs ≡ [] → cond b (x ∷ at_group k ts xs) (at_group k ts xs) ≡ []
+    by : (b : Bool) → nat_eq t.0 k ≡ b → entries_of_group k ts xs ≡ []
+        → cond b (x ∷ entries_of_group k ts xs) (entries_of_group k ts xs) ≡ []
     by true e rest = let same = eqb-true t.0 k e in let less = below.0 in absurd (omega arith)
     by false e rest = rest

@@ -10,18 +10,18 @@ use Rattle.apply_board.specs.Closing.{AreHome}
 use Rattle.txn_codec.specs.declared.txn.Txn.{Txn}
 use Rattle.data_tree.specs.State.{State}
 use Rattle.data_tree.specs.Cells.{without_cells}
-use Rattle.data_tree.specs.Commuting.{Tagged}
+use Rattle.data_tree.specs.Commuting.{GroupedTxn}
 use Rattle.data_tree.specs.declared.outcome.Outcome.{Outcome}
-use Rattle.batcher.specs.Class.{Class}
-use Rattle.batcher.specs.Groups.{opened, grouped, grouped_behind, group_next, classes_of}
-use Rattle.batcher.specs.Cut.{groups_of, listed, is_batch, is_barrier_alone}
+use Rattle.batcher.specs.Class.{TxnGroup}
+use Rattle.batcher.specs.Groups.{group_count, tagged_txns, tagged_txns_after, group_of_next, txn_groups_of}
+use Rattle.batcher.specs.Cut.{groups_of, groups_if_tagged, is_batch, is_barrier_alone}
 use Rattle.apply_workers.specs.declared.group_work.Work.{Work}
 use Rattle.apply_workers.specs.declared.group_work.Finished.{Finished}
 use Rattle.apply_workers.specs.declared.group_work.Finished.TheVariants.{Done}
 use Rattle.apply_workers.specs.Works.{cells_of, txns_of, IsOfWork}
 use Rattle.apply_workers.specs.Taking.{cells_of_each}
-use Rattle.apply_workers.specs.Homing.{at_each, after_each, outcomes_of_each, AreShares}
-use Rattle.apply_workers.specs.Inner.{homes, put_at, put_each_at}
+use Rattle.apply_workers.specs.Homing.{split_by_group, after_each, outcomes_of_each, IsSplitByGroup}
+use Rattle.apply_workers.specs.Inner.{finished_groups, put_at, put_each_at}
 use Rattle.apply_workers.proofs.Places.{class_below, shares_are_whole}
 use Rattle.apply_workers.proofs.Returning.{has_groups, classes_length}
 
@@ -32,7 +32,7 @@ if_ok (Err e) f h = tt
 -- ---- groups that came home
 
 homes_behind : (cs : List State) (os : List (List Outcome)) (c : State) (o : List Outcome) → length cs ≡ length os
-    → homes (cs ++ c ∷ []) (os ++ o ∷ []) ≡ homes cs os ++ Home (Done c o) ∷ []
+    → finished_groups (cs ++ c ∷ []) (os ++ o ∷ []) ≡ finished_groups cs os ++ Home (Done c o) ∷ []
 homes_behind [] [] c o l = refl
 homes_behind [] (p ∷ ps) c o l = absurd (omega arith)
 homes_behind (d ∷ ds) [] c o l = absurd (omega arith)
@@ -41,16 +41,17 @@ homes_behind (d ∷ ds) (p ∷ ps) c o l = λ i. Home (Done d p) ∷ homes_behin
 pub one_more_home : (cs cs' : List State) (os os' : List (List Outcome)) (c : State) (o : List Outcome)
     (group : Group Work Finished) (old rest groups : List (Group Work Finished)) → old ≡ group ∷ rest
     → group ≡ Home (Done c o) → cs' ≡ cs ++ c ∷ [] → os' ≡ os ++ o ∷ [] → length cs ≡ length os
-    → homes cs os ++ old ≡ groups → homes cs' os' ++ rest ≡ groups
+    → finished_groups cs os ++ old ≡ groups → finished_groups cs' os' ++ rest ≡ groups
 one_more_home cs cs' os os' c o group old rest groups next is left answered l before =
-    subst₂ (λ ds ps. homes ds ps ++ rest ≡ groups) (sym left) (sym answered)
+    subst₂ (λ ds ps. finished_groups ds ps ++ rest ≡ groups) (sym left) (sym answered)
     (ap (λ gs. gs ++ rest) (homes_behind cs os c o l)
-    ∙ append_assoc (homes cs os) (Home (Done c o) ∷ []) rest
-    ∙ ap (λ g. homes cs os ++ g ∷ rest) (sym is)
-    ∙ ap (λ gs. homes cs os ++ gs) (sym next)
+    ∙ append_assoc (finished_groups cs os) (Home (Done c o) ∷ []) rest
+    ∙ ap (λ g. finished_groups cs os ++ g ∷ rest) (sym is)
+    ∙ ap (λ gs. finished_groups cs os ++ gs) (sym next)
     ∙ before)
 
-homes_length : (cs : List State) (os : List (List Outcome)) → length cs ≡ length os → length (homes cs os) ≡ length cs
+homes_length : (cs : List State) (os : List (List Outcome)) → length cs ≡ length os
+    → length (finished_groups cs os) ≡ length cs
 homes_length [] os l = refl
 homes_length (c ∷ cs) [] l = absurd (omega arith)
 homes_length (c ∷ cs) (o ∷ os) l = omega (arith, homes_length cs os (omega arith))
@@ -68,7 +69,7 @@ record AreDone (works : List Work) (cs : List State) (os : List (List Outcome)) 
   answered : os ≡ outcomes_of_each (map cells_of works) (map txns_of works)
 
 all_done : (works : List Work) (cs : List State) (os : List (List Outcome)) → length cs ≡ length works
-    → length cs ≡ length os → AreHome IsOfWork works (homes cs os) → AreDone works cs os
+    → length cs ≡ length os → AreHome IsOfWork works (finished_groups cs os) → AreDone works cs os
 all_done [] [] [] l m h = record { left = refl; answered = refl }
 all_done [] [] (o ∷ os) l m h = absurd (omega arith)
 all_done [] (c ∷ cs) os l m h = absurd (omega arith)
@@ -88,7 +89,7 @@ pub record CameHome (taken : List State) (todo : List (List Txn)) (cs : List Sta
 
 pub came_home : (works : List Work) (groups : List (Group Work Finished)) (taken : List State) (todo : List (List Txn))
     (cs : List State) (os : List (List Outcome)) → length groups ≡ length works → AreHome IsOfWork works groups
-    → groups ≡ homes cs os → length cs ≡ length os → map cells_of works ≡ taken → map txns_of works ≡ todo
+    → groups ≡ finished_groups cs os → length cs ≡ length os → map cells_of works ≡ taken → map txns_of works ≡ todo
     → CameHome taken todo cs os
 came_home works groups taken todo cs os l home is m cells txns =
     let count : length cs ≡ length works = sym (homes_length cs os m) ∙ ap (λ gs. length gs) (sym is) ∙ l in
@@ -101,52 +102,53 @@ came_home works groups taken todo cs os l home is m cells txns =
           refl;
     }
 
-pub cells_length : (cs : List Class) (s : State) → length (cells_of_each cs s) ≡ length cs
+pub cells_length : (cs : List TxnGroup) (s : State) → length (cells_of_each cs s) ≡ length cs
 cells_length [] s = refl
 cells_length (c ∷ cs) s = omega (arith, cells_length cs (without_cells c.paths s))
 
 -- ---- groups and their places
 
-behind_length : (before : List Tagged) (t : Tagged) → length (before ++ t ∷ []) ≡ length before + 1
+behind_length : (before : List GroupedTxn) (t : GroupedTxn) → length (before ++ t ∷ []) ≡ length before + 1
 behind_length [] t = refl
 behind_length (b ∷ bs) t = omega (arith, behind_length bs t)
 
-grouped_length : (before : List Tagged) (txns : List Txn) (ts : List Tagged) → grouped_behind before txns ≡ Some ts
+grouped_length : (before : List GroupedTxn) (txns : List Txn) (ts : List GroupedTxn)
+    → tagged_txns_after before txns ≡ Some ts
     → length ts ≡ length before + length txns
 grouped_length before [] ts e = let same : before ≡ ts = cc in omega (arith, ap (λ us. length us) same)
 grouped_length before (t ∷ txns) ts e =
-    by (λ k. grouped_length (before ++ (k, t) ∷ []) txns ts) (group_next before t) e
+    by (λ k. grouped_length (before ++ (k, t) ∷ []) txns ts) (group_of_next before t) e
   where
-    by : ((k : ℕ) → grouped_behind (before ++ (k, t) ∷ []) txns ≡ Some ts
+    by : ((k : ℕ) → tagged_txns_after (before ++ (k, t) ∷ []) txns ≡ Some ts
         → length ts ≡ length (before ++ (k, t) ∷ []) + length txns)
-        → (o : Option ℕ) → option_and_then (λ k. grouped_behind (before ++ (k, t) ∷ []) txns) o ≡ Some ts
+        → (o : Option ℕ) → option_and_then (λ k. tagged_txns_after (before ++ (k, t) ∷ []) txns) o ≡ Some ts
         → length ts ≡ length before + length (t ∷ txns)
     by rest None is = absurd (none-some ts is)
     by rest (Some k) is = let r = rest k is in let l = behind_length before (k, t) in omega arith
 
-below : (ts : List Tagged) (n : ℕ) → opened ts ≤ n → AllByRecursion (λ (t : Tagged). t.0 < n) ts
+below : (ts : List GroupedTxn) (n : ℕ) → group_count ts ≤ n → AllByRecursion (λ (t : GroupedTxn). t.0 < n) ts
 below [] n h = tt
 below (t ∷ ts) n h = (omega arith, below ts n (omega arith))
 
 -- a group's places are places of the batch
-pub members_within : (txns : List Txn) (i : ℕ) (d : Class) → i < length (groups_of txns)
+pub members_within : (txns : List Txn) (i : ℕ) (d : TxnGroup) → i < length (groups_of txns)
     → All (λ p. p < length txns) (get_or (groups_of txns) i d).members
-members_within txns i d l = by (grouped txns) refl l
+members_within txns i d l = by (tagged_txns txns) refl l
   where
-    by : (o : Option (List Tagged)) → grouped txns ≡ o → i < length (listed o)
-        → All (λ p. p < length txns) (get_or (listed o) i d).members
+    by : (o : Option (List GroupedTxn)) → tagged_txns txns ≡ o → i < length (groups_if_tagged o)
+        → All (λ p. p < length txns) (get_or (groups_if_tagged o) i d).members
     by None e n = absurd (omega arith)
     by (Some ts) e n =
-        let count = classes_length ts 0 (opened ts) in
-        subst (λ m. All (λ p. p < m) (get_or (classes_of ts) i d).members)
-        (grouped_length [] txns ts e ∙ omega arith) (class_below ts 0 (opened ts) i d (omega arith))
+        let count = classes_length ts 0 (group_count ts) in
+        subst (λ m. All (λ p. p < m) (get_or (txn_groups_of ts) i d).members)
+        (grouped_length [] txns ts e ∙ omega arith) (class_below ts 0 (group_count ts) i d (omega arith))
 
 module _ {A : Type 0} where
   pub put_none : (all : List A) (ps : List ℕ) → put_at all ps [] ≡ all
   put_none all [] = refl
   put_none all (p ∷ ps) = refl
 
-  pub put_no_share : (all : List A) (cs : List Class) → put_each_at all cs [] ≡ all
+  pub put_no_share : (all : List A) (cs : List TxnGroup) → put_each_at all cs [] ≡ all
   put_no_share all [] = refl
   put_no_share all (c ∷ cs) = refl
 
@@ -155,7 +157,7 @@ module _ {A : Type 0} where
   put_length all (p ∷ ps) [] = refl
   put_length all (p ∷ ps) (x ∷ xs) = put_length (set all p x) ps xs ∙ length-set all p x
 
-  pub one_share_more : (all new : List A) (cs cs' : List Class) (c : Class) (shares shares' : List (List A))
+  pub one_share_more : (all new : List A) (cs cs' : List TxnGroup) (c : TxnGroup) (shares shares' : List (List A))
       (xs whole : List A) → cs ≡ c ∷ cs' → shares ≡ xs ∷ shares' → new ≡ put_at all c.members xs
       → put_each_at all cs shares ≡ whole → put_each_at new cs' shares' ≡ whole
   one_share_more all new cs cs' c shares shares' xs whole next share put before =
@@ -164,14 +166,14 @@ module _ {A : Type 0} where
 
   -- shares at their places are the whole list
   pub all_placed : (txns : List Txn) → is_batch txns ≡ true → is_barrier_alone txns ≡ false → (whole xs : List A)
-      (shares : List (List A)) → length xs ≡ length txns → AreShares txns whole shares
+      (shares : List (List A)) → length xs ≡ length txns → IsSplitByGroup txns whole shares
       → put_each_at xs (groups_of txns) shares ≡ whole
   all_placed txns batch alone whole xs shares l are =
       let found = has_groups txns batch alone in
       let ts = found.0 in
-      let is : groups_of txns ≡ classes_of ts = ap listed found.1 in
+      let is : groups_of txns ≡ txn_groups_of ts = ap groups_if_tagged found.1 in
       let count : length ts ≡ length txns = grouped_length [] txns ts found.1 ∙ omega arith in
       ap (λ ss. put_each_at xs (groups_of txns) ss) are.each
-      ∙ subst (λ cs. put_each_at xs cs (at_each whole cs) ≡ whole) (sym is)
-      (shares_are_whole (opened ts) ts whole xs (below ts (opened ts) (omega arith)) (are.count ∙ sym count)
+      ∙ subst (λ cs. put_each_at xs cs (split_by_group whole cs) ≡ whole) (sym is)
+      (shares_are_whole (group_count ts) ts whole xs (below ts (group_count ts) (omega arith)) (are.count ∙ sym count)
       (l ∙ sym count))

@@ -4,7 +4,7 @@ use Rattle.std.proofs.lemmas.List.{reverse-append, length-reverse}
 use Rattle.apply_board.specs.Sitting.{BoardId, Sitting}
 use Rattle.apply_board.specs.Seats.{IsIdle, IsOpener, any_spent}
 use Rattle.apply_workers.specs.declared.crew.Worker.{Worker}
-use Rattle.apply_workers.specs.Working.{Worked}
+use Rattle.apply_workers.specs.Working.{IsWorked}
 use Rattle.apply_workers.specs.Inner.{AreReady, AreWorked}
 
 module _ {W F : Type 0} where
@@ -63,7 +63,7 @@ module _ {W F : Type 0} where
 
   pub pointwise : (crew : List (Worker W F)) (ts : List (Sitting W F)) → length ts ≡ length crew
       → ((i : ℕ) (w : Worker W F) (t : Sitting W F) → i < length crew
-      → Worked (get_or crew i w).seat (get_or ts i t)) → AreWorked (seats_of crew) ts
+      → IsWorked (get_or crew i w).seat (get_or ts i t)) → AreWorked (seats_of crew) ts
   pointwise [] [] n h = tt
   pointwise [] (t ∷ ts) n h = absurd (omega arith)
   pointwise (w ∷ ws) [] n h = absurd (omega arith)

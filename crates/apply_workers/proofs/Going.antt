@@ -5,9 +5,9 @@ use mathlib.Core.Option.{some, some-ne-none}
 use lib.ListN.{get_elem?}
 use Rattle.apply_board.specs.declared.view.View.{View}
 use Rattle.apply_board.specs.Sitting.{Sitting}
-use Rattle.apply_board.specs.Views.{claiming, giving, ending}
+use Rattle.apply_board.specs.Views.{with_claim, with_result, with_spent}
 use Rattle.apply_board.specs.Seats.{IsIdle}
-use Rattle.apply_workers.specs.Working.{Worked}
+use Rattle.apply_workers.specs.Working.{IsWorked}
 
 -- one more than the greatest number of the list
 abbrev pub reach : List ℕ → ℕ
@@ -49,10 +49,10 @@ module _ {W F : Type 0} where
   }
 
   -- the seat t claims k, as m, and gives it, as u
-  pub goes_on : (s t m u : Sitting W F) (k : ℕ) (f : F) → Going s t → m.board ≡ t.board → m.view ≡ claiming t.view k
-      → u.board ≡ m.board → u.view ≡ giving m.view k f → IsIdle u → Going s u
-  goes_on s t m u k f h own claimed own' given idle = let e : u.view ≡ giving (claiming t.view k) k f = given
-      ∙ ap (λ (v : View W F). giving v k f) claimed in record {
+  pub goes_on : (s t m u : Sitting W F) (k : ℕ) (f : F) → Going s t → m.board ≡ t.board → m.view ≡ with_claim t.view k
+      → u.board ≡ m.board → u.view ≡ with_result m.view k f → IsIdle u → Going s u
+  goes_on s t m u k f h own claimed own' given idle = let e : u.view ≡ with_result (with_claim t.view k) k f = given
+      ∙ ap (λ (v : View W F). with_result v k f) claimed in record {
         own = own' ∙ (own ∙ h.own);
         idle = idle;
         works = ap (λ (v : View W F). v.works) e ∙ h.works;
@@ -67,17 +67,17 @@ module _ {W F : Type 0} where
       }
 
   -- fewer numbers are above those that the seat claimed
-  pub gets_near : (t m u : Sitting W F) (k : ℕ) (f : F) (w : W) → m.view ≡ claiming t.view k
-      → u.view ≡ giving m.view k f → All (λ x. x < k) t.view.claimed → get_elem? t.view.works k ≡ some w
+  pub gets_near : (t m u : Sitting W F) (k : ℕ) (f : F) (w : W) → m.view ≡ with_claim t.view k
+      → u.view ≡ with_result m.view k f → All (λ x. x < k) t.view.claimed → get_elem? t.view.works k ≡ some w
       → length u.view.works - reach u.view.claimed < length t.view.works - reach t.view.claimed
-  gets_near t m u k f w claimed given above work = let e : u.view ≡ giving (claiming t.view k) k f = given
-      ∙ ap (λ (v : View W F). giving v k f) claimed in
+  gets_near t m u k f w claimed given above work = let e : u.view ≡ with_result (with_claim t.view k) k f = given
+      ∙ ap (λ (v : View W F). with_result v k f) claimed in
       let r = ap (λ (v : View W F). reach v.claimed) e in let n = ap (λ (v : View W F). length v.works) e in
       let a = reach_le t.view.claimed k above in let b = reach_snoc t.view.claimed k in
       let l = at_inside t.view.works k w work in omega arith
 
-  pub comes_back : (s t u : Sitting W F) → Going s t → u.board ≡ t.board → u.view ≡ ending t.view → IsIdle u
-      → Worked s u
+  pub comes_back : (s t u : Sitting W F) → Going s t → u.board ≡ t.board → u.view ≡ with_spent t.view → IsIdle u
+      → IsWorked s u
   comes_back s t u h own e idle = record {
     own = own ∙ h.own;
     idle = idle;

@@ -10,15 +10,15 @@ use Rattle.ephemerals.specs.Orders.{Bytes, Names, path_cmp}
 use Rattle.ephemerals.proofs.Totals.{path_total}
 use Rattle.txn_codec.specs.declared.txn.Txn.{Txn}
 use Rattle.data_tree.specs.State.{State}
-use Rattle.data_tree.specs.Meaning.{mean, after, answer_of}
+use Rattle.data_tree.specs.Meaning.{effect_of_txn, state_after, answer_of}
 use Rattle.data_tree.specs.Meaning as meaning
-use Rattle.data_tree.specs.Footprint.{touches, footprint, KeepsToCells, IsSameCell}
+use Rattle.data_tree.specs.Footprint.{has_path, footprint, KeepsToCells, IsSameCell}
 use Rattle.data_tree.specs.Cells.{cells_at, IsEmptyCell, TakenCellsMove, CellsComeToEmptyCells}
-use Rattle.data_tree.specs.Commuting.{Tagged, of_group, at_group, batch_of, with_timeouts, KeepsTo, AreDisjoint, IsOfTheBatch, GroupsAreTheBatch, CellsPutBackAreTheBatch, TransactionsKeepToTheirFootprints}
-use Rattle.batcher.specs.Groups.{opened, grouped, paths_in}
+use Rattle.data_tree.specs.Commuting.{GroupedTxn, txns_of_group, entries_of_group, batch_of, with_timeouts, KeepsToGroupPaths, AreDisjoint, AgreesWithBatch, GroupsAreTheBatch, CellsPutBackAreTheBatch, TransactionsKeepToTheirFootprints}
+use Rattle.batcher.specs.Groups.{group_count, tagged_txns, paths_in}
 use Rattle.batcher.specs.Laws.{AreAmong, GroupsAreApart, EachIsInAGroup, NoneIsABarrier, GroupsCoverTheirPaths}
 use Rattle.apply_workers.specs.declared.step.Step.{Step}
-use Rattle.apply_workers.specs.Schedule.{GroupState, opened_group, opened_groups, at_start, beside, run, finished, put_back, outcomes_of, in_batch_order, put_together, started_with, left_with, ended_with}
+use Rattle.apply_workers.specs.Schedule.{GroupState, opened_group, opened_groups, at_start, without_batch_cells, run_steps, with_rest_done, put_back, outcomes_of, in_batch_order, put_together, initial_progress_with, left_with, batch_result_with}
 use Rattle.apply_workers.specs.Schedules.{one_by_one, SchedulesAreTheBatch, PathsAreWithOneGroup}
 use Rattle.apply_workers.proofs.BatchPaths.{all_free, keeps_to, HasGroup, group_of, in_batch, is_below, nothing_at}
 use Rattle.apply_workers.proofs.Stepping.{run_same, count_finished, IsLeft, IsApart, same_empty, run_apart}
@@ -38,13 +38,13 @@ pub record Laws : Type 0 where
   pub barriers : NoneIsABarrier
   pub cover : GroupsCoverTheirPaths
 
-record OfBatch (batch : List Tagged) : Type 0 where
+record OfBatch (batch : List GroupedTxn) : Type 0 where
   disjoint : AreDisjoint (λ k. paths_in k batch)
-  below : AllByRecursion (λ (t : Tagged). t.0 < opened batch) batch
-  among : AllByRecursion (λ (t : Tagged). AreAmong (footprint t.1) (paths_in t.0 batch)) batch
+  below : AllByRecursion (λ (t : GroupedTxn). t.0 < group_count batch) batch
+  among : AllByRecursion (λ (t : GroupedTxn). AreAmong (footprint t.1) (paths_in t.0 batch)) batch
   free : AllByRecursion KeepsToCells (batch_of batch)
 
-of_batch : Laws → (txns : List Txn) (batch : List Tagged) → grouped txns ≡ Some batch → OfBatch batch
+of_batch : Laws → (txns : List Txn) (batch : List GroupedTxn) → tagged_txns txns ≡ Some batch → OfBatch batch
 of_batch laws txns batch is =
     let each = laws.each txns batch is in
     record {
@@ -54,98 +54,98 @@ of_batch laws txns batch is =
       free = subst (AllByRecursion KeepsToCells) (sym each.0) (all_free txns (laws.barriers txns batch is));
     }
 
-keeps : (batch : List Tagged) → OfBatch batch → KeepsTo (λ k. paths_in k batch) batch
+keeps : (batch : List GroupedTxn) → OfBatch batch → KeepsToGroupPaths (λ k. paths_in k batch) batch
 keeps batch of = keeps_to (λ k. paths_in k batch) batch of.free of.among
 
 -- the paths of the group k, and of all of them
-abbrev names_in : ℕ → List Tagged → Names
+abbrev names_in : ℕ → List GroupedTxn → Names
 names_in k batch = set.from_list (paths_in k batch)
 
-abbrev all_names : List Tagged → Names
+abbrev all_names : List GroupedTxn → Names
 all_names batch = set.from_list (flat_map footprint (batch_of batch))
 
-named : (paths : List Bytes) (p : Bytes) (b : Bool) → touches paths p ≡ b
+named : (paths : List Bytes) (p : Bytes) (b : Bool) → has_path paths p ≡ b
     → set.contains (set.from_list {R = path_cmp} paths) p ≡ b
 named paths p b is = set.contains-from_list path_total paths p ∙ is
 
 -- ---- a group that is done
 
 -- the group k when it is done
-abbrev whole : State → List Tagged → ℕ → GroupState
-whole s batch k = finished (opened_group s batch k)
+abbrev whole : State → List GroupedTxn → ℕ → GroupState
+whole s batch k = with_rest_done (opened_group s batch k)
 
-of_the_batch : Laws → (s : State) (batch : List Tagged) → OfBatch batch → (k : ℕ)
-    → IsOfTheBatch (paths_in k batch) batch s (cells_at (names_in k batch) s) k
+of_the_batch : Laws → (s : State) (batch : List GroupedTxn) → OfBatch batch → (k : ℕ)
+    → AgreesWithBatch (paths_in k batch) batch s (cells_at (names_in k batch) s) k
 of_the_batch laws s batch of k =
     laws.groups (λ k. paths_in k batch) batch of.disjoint (keeps batch of) s (cells_at (names_in k batch) s) k
     (λ p at. (laws.moved (names_in k batch) s).taken p (named (paths_in k batch) p true at))
 
-empty_elsewhere : Laws → (s : State) (batch : List Tagged) → OfBatch batch → (k : ℕ) (p : Bytes)
-    → touches (paths_in k batch) p ≡ false → IsEmptyCell (whole s batch k).cells p
+empty_elsewhere : Laws → (s : State) (batch : List GroupedTxn) → OfBatch batch → (k : ℕ) (p : Bytes)
+    → has_path (paths_in k batch) p ≡ false → IsEmptyCell (whole s batch k).cells p
 empty_elsewhere laws s batch of k p out =
     same_empty ((of_the_batch laws s batch of k).others p out)
     ((laws.moved (names_in k batch) s).nothing p (named (paths_in k batch) p false out))
 
 -- another group hasn't the path
-not_there : (batch : List Tagged) → OfBatch batch → (k : ℕ) (p : Bytes) → touches (paths_in k batch) p ≡ true
-    → (j : ℕ) → j ≢ k → touches (paths_in j batch) p ≡ false
+not_there : (batch : List GroupedTxn) → OfBatch batch → (k : ℕ) (p : Bytes) → has_path (paths_in k batch) p ≡ true
+    → (j : ℕ) → j ≢ k → has_path (paths_in j batch) p ≡ false
 not_there batch of k p at j other = of.disjoint k j (λ e. other (sym e)) p at
 
 -- ---- the state
 
-abbrev all_put : State → List Tagged → State
-all_put s batch = put_back (beside s batch) (map (whole s batch) (range_with_len 0 (opened batch)))
+abbrev all_put : State → List GroupedTxn → State
+all_put s batch = put_back (without_batch_cells s batch) (map (whole s batch) (range_with_len 0 (group_count batch)))
 
-put_there : Laws → (s : State) (batch : List Tagged) → OfBatch batch → (k : ℕ) (p : Bytes)
-    → touches (paths_in k batch) p ≡ true → IsSameCell (all_put s batch) (whole s batch k).cells p
+put_there : Laws → (s : State) (batch : List GroupedTxn) → OfBatch batch → (k : ℕ) (p : Bytes)
+    → has_path (paths_in k batch) p ≡ true → IsSameCell (all_put s batch) (whole s batch k).cells p
 put_there laws s batch of k p at =
-    let below = is_below (opened batch) k batch p of.below at in
+    let below = is_below (group_count batch) k batch p of.below at in
     one_put laws.come (whole s batch) k p
     (λ j other. empty_elsewhere laws s batch of j p (not_there batch of k p at j other))
-    0 (opened batch) (omega arith) (omega arith) (beside s batch)
+    0 (group_count batch) (omega arith) (omega arith) (without_batch_cells s batch)
     ((laws.moved (all_names batch) s).gone p
     (named (flat_map footprint (batch_of batch)) p true (in_batch k batch p at)))
 
-in_no_group : (batch : List Tagged) → OfBatch batch → (p : Bytes)
-    → ((k : ℕ) → touches (paths_in k batch) p ≡ false) → (b : Bool)
-    → touches (flat_map footprint (batch_of batch)) p ≡ b → touches (flat_map footprint (batch_of batch)) p ≡ false
+in_no_group : (batch : List GroupedTxn) → OfBatch batch → (p : Bytes)
+    → ((k : ℕ) → has_path (paths_in k batch) p ≡ false) → (b : Bool)
+    → has_path (flat_map footprint (batch_of batch)) p ≡ b → has_path (flat_map footprint (batch_of batch)) p ≡ false
 in_no_group batch of p out true e =
-    let has = group_of (opened batch) (λ k. paths_in k batch) batch p of.among of.below e in
+    let has = group_of (group_count batch) (λ k. paths_in k batch) batch p of.among of.below e in
     absurd (true≢false (sym has.there ∙ out has.number))
 in_no_group batch of p out false e = e
 
-put_elsewhere : Laws → (s : State) (batch : List Tagged) → OfBatch batch → (p : Bytes)
-    → ((k : ℕ) → touches (paths_in k batch) p ≡ false) → IsSameCell (all_put s batch) s p
+put_elsewhere : Laws → (s : State) (batch : List GroupedTxn) → OfBatch batch → (p : Bytes)
+    → ((k : ℕ) → has_path (paths_in k batch) p ≡ false) → IsSameCell (all_put s batch) s p
 put_elsewhere laws s batch of p out =
     same_cell_trans
-    (nothing_put laws.come (map (whole s batch) (range_with_len 0 (opened batch))) (beside s batch) p
-    (all_numbered (λ (g : GroupState). IsEmptyCell g.cells p) (whole s batch) 0 (opened batch)
+    (nothing_put laws.come (map (whole s batch) (range_with_len 0 (group_count batch))) (without_batch_cells s batch) p
+    (all_numbered (λ (g : GroupState). IsEmptyCell g.cells p) (whole s batch) 0 (group_count batch)
     (λ j above. empty_elsewhere laws s batch of j p (out j))))
     ((laws.moved (all_names batch) s).left p
     (named (flat_map footprint (batch_of batch)) p false (in_no_group batch of p out _ refl)))
 
 -- which group has a path, if one has
-find : (batch : List Tagged) → OfBatch batch → (p : Bytes)
-    → ((k : ℕ) × (touches (paths_in k batch) p ≡ true)) ⊎ ((k : ℕ) → touches (paths_in k batch) p ≡ false)
-find batch of p = by (touches (flat_map footprint (batch_of batch)) p) refl
+find : (batch : List GroupedTxn) → OfBatch batch → (p : Bytes)
+    → ((k : ℕ) × (has_path (paths_in k batch) p ≡ true)) ⊎ ((k : ℕ) → has_path (paths_in k batch) p ≡ false)
+find batch of p = by (has_path (flat_map footprint (batch_of batch)) p) refl
   where
-    not_in : touches (flat_map footprint (batch_of batch)) p ≡ false → (k : ℕ) (b : Bool)
-        → touches (paths_in k batch) p ≡ b → touches (paths_in k batch) p ≡ false
+    not_in : has_path (flat_map footprint (batch_of batch)) p ≡ false → (k : ℕ) (b : Bool)
+        → has_path (paths_in k batch) p ≡ b → has_path (paths_in k batch) p ≡ false
     not_in out k true e = absurd (true≢false (sym (in_batch k batch p e) ∙ out))
     not_in out k false e = e
 
-    by : (b : Bool) → touches (flat_map footprint (batch_of batch)) p ≡ b
-        → ((k : ℕ) × (touches (paths_in k batch) p ≡ true)) ⊎ ((k : ℕ) → touches (paths_in k batch) p ≡ false)
+    by : (b : Bool) → has_path (flat_map footprint (batch_of batch)) p ≡ b
+        → ((k : ℕ) × (has_path (paths_in k batch) p ≡ true)) ⊎ ((k : ℕ) → has_path (paths_in k batch) p ≡ false)
     by true e =
-        let has = group_of (opened batch) (λ k. paths_in k batch) batch p of.among of.below e in
+        let has = group_of (group_count batch) (λ k. paths_in k batch) batch p of.among of.below e in
         inl (has.number, has.there)
     by false e = inr (λ k. not_in e k _ refl)
 
-abbrev with_sessions_set : State → List Tagged → State
+abbrev with_sessions_set : State → List GroupedTxn → State
 with_sessions_set put batch = record put { sessions = with_timeouts put.sessions (batch_of batch) }
 
-state_is : Laws → (s : State) (batch : List Tagged) → OfBatch batch
-    → with_sessions_set (all_put s batch) batch ≡ after s (batch_of batch)
+state_is : Laws → (s : State) (batch : List GroupedTxn) → OfBatch batch
+    → with_sessions_set (all_put s batch) batch ≡ state_after s (batch_of batch)
 state_is laws s batch of =
     laws.put_back (λ k. paths_in k batch) batch of.disjoint (keeps batch of) s
     (with_sessions_set (all_put s batch) batch) (λ k. cells_at (names_in k batch) s)
@@ -153,40 +153,44 @@ state_is laws s batch of =
     (λ k p at. let cell = put_there laws s batch of k p at in record { node = cell.node; owners = cell.owners })
     (λ p out. let cell = put_elsewhere laws s batch of p out in record { node = cell.node; owners = cell.owners })
     (ap (λ sessions. with_timeouts sessions (batch_of batch))
-    (put_back_sessions (beside s batch) (map (whole s batch) (range_with_len 0 (opened batch)))))
+    (put_back_sessions (without_batch_cells s batch) (map (whole s batch) (range_with_len 0 (group_count batch)))))
     (find batch of)
 
 -- ---- the outcomes
 
 -- what stands at each group's places, in the order of the batch
-in_order_is : (s : State) (batch : List Tagged)
-    → in_batch_order batch (λ k. at_group k batch (meaning.outcomes s (batch_of batch)))
-    ≡ meaning.outcomes s (batch_of batch)
+in_order_is : (s : State) (batch : List GroupedTxn)
+    → in_batch_order batch (λ k. entries_of_group k batch (meaning.outcomes_of_txns s (batch_of batch)))
+    ≡ meaning.outcomes_of_txns s (batch_of batch)
 in_order_is s [] = refl
 in_order_is s (t ∷ ts) =
     (λ i. first i ++ in_batch_order ts (λ k. next k (nat_eq t.0 k) i))
-    ∙ ap (λ os. answer_of (mean s t.1) ∷ os) (in_order_is (mean s t.1).state ts)
+    ∙ ap (λ os. answer_of (effect_of_txn s t.1) ∷ os) (in_order_is (effect_of_txn s t.1).state ts)
   where
     first : take 1
         (cond (nat_eq t.0 t.0)
-        (answer_of (mean s t.1) ∷ at_group t.0 ts (meaning.outcomes (mean s t.1).state (batch_of ts)))
-        (at_group t.0 ts (meaning.outcomes (mean s t.1).state (batch_of ts))))
-        ≡ answer_of (mean s t.1) ∷ []
+        (answer_of (effect_of_txn s t.1) ∷ entries_of_group t.0 ts
+        (meaning.outcomes_of_txns (effect_of_txn s t.1).state (batch_of ts)))
+        (entries_of_group t.0 ts (meaning.outcomes_of_txns (effect_of_txn s t.1).state (batch_of ts))))
+        ≡ answer_of (effect_of_txn s t.1) ∷ []
     first =
         ap
         (λ b. take 1
-        (cond b (answer_of (mean s t.1) ∷ at_group t.0 ts (meaning.outcomes (mean s t.1).state (batch_of ts)))
-        (at_group t.0 ts (meaning.outcomes (mean s t.1).state (batch_of ts)))))
+        (cond b (answer_of (effect_of_txn s t.1) ∷ entries_of_group t.0 ts
+        (meaning.outcomes_of_txns (effect_of_txn s t.1).state (batch_of ts)))
+        (entries_of_group t.0 ts (meaning.outcomes_of_txns (effect_of_txn s t.1).state (batch_of ts)))))
         (eq-eqb t.0 t.0 refl)
 
     next : (k : ℕ) (b : Bool)
         → cond b
         (drop 1
-        (cond b (answer_of (mean s t.1) ∷ at_group k ts (meaning.outcomes (mean s t.1).state (batch_of ts)))
-        (at_group k ts (meaning.outcomes (mean s t.1).state (batch_of ts)))))
-        (cond b (answer_of (mean s t.1) ∷ at_group k ts (meaning.outcomes (mean s t.1).state (batch_of ts)))
-        (at_group k ts (meaning.outcomes (mean s t.1).state (batch_of ts))))
-        ≡ at_group k ts (meaning.outcomes (mean s t.1).state (batch_of ts))
+        (cond b (answer_of (effect_of_txn s t.1) ∷ entries_of_group k ts
+        (meaning.outcomes_of_txns (effect_of_txn s t.1).state (batch_of ts)))
+        (entries_of_group k ts (meaning.outcomes_of_txns (effect_of_txn s t.1).state (batch_of ts)))))
+        (cond b (answer_of (effect_of_txn s t.1) ∷ entries_of_group k ts
+        (meaning.outcomes_of_txns (effect_of_txn s t.1).state (batch_of ts)))
+        (entries_of_group k ts (meaning.outcomes_of_txns (effect_of_txn s t.1).state (batch_of ts))))
+        ≡ entries_of_group k ts (meaning.outcomes_of_txns (effect_of_txn s t.1).state (batch_of ts))
     next k true = refl
     next k false = refl
 
@@ -196,70 +200,72 @@ is_less a b e = grind (arith, nat_tests)
 is_not_less : (a b : ℕ) → nat_lt a b ≡ false → b ≤ a
 is_not_less a b e = grind (arith, nat_tests)
 
-outcomes_are : Laws → (s : State) (batch : List Tagged) → OfBatch batch
-    → in_batch_order batch (λ k. outcomes_of k (map (whole s batch) (range_with_len 0 (opened batch))))
-    ≡ meaning.outcomes s (batch_of batch)
+outcomes_are : Laws → (s : State) (batch : List GroupedTxn) → OfBatch batch
+    → in_batch_order batch (λ k. outcomes_of k (map (whole s batch) (range_with_len 0 (group_count batch))))
+    ≡ meaning.outcomes_of_txns s (batch_of batch)
 outcomes_are laws s batch of =
-    (λ i. in_batch_order batch (λ k. each k (nat_lt k (opened batch)) refl i)) ∙ in_order_is s batch
+    (λ i. in_batch_order batch (λ k. each k (nat_lt k (group_count batch)) refl i)) ∙ in_order_is s batch
   where
-    each : (k : ℕ) (b : Bool) → nat_lt k (opened batch) ≡ b
-        → outcomes_of k (map (whole s batch) (range_with_len 0 (opened batch)))
-        ≡ at_group k batch (meaning.outcomes s (batch_of batch))
+    each : (k : ℕ) (b : Bool) → nat_lt k (group_count batch) ≡ b
+        → outcomes_of k (map (whole s batch) (range_with_len 0 (group_count batch)))
+        ≡ entries_of_group k batch (meaning.outcomes_of_txns s (batch_of batch))
     each k true e =
-        let below = is_less k (opened batch) e in
-        own_outcomes (whole s batch) (λ j. refl) k 0 (opened batch) (omega arith) (omega arith)
+        let below = is_less k (group_count batch) e in
+        own_outcomes (whole s batch) (λ j. refl) k 0 (group_count batch) (omega arith) (omega arith)
         ∙ (of_the_batch laws s batch of k).answers
     each k false e =
-        let above = is_not_less k (opened batch) e in
-        no_outcomes (whole s batch) (λ j. refl) k 0 (opened batch) (omega arith)
-        ∙ sym (nothing_at (opened batch) k batch (meaning.outcomes s (batch_of batch)) of.below above)
+        let above = is_not_less k (group_count batch) e in
+        no_outcomes (whole s batch) (λ j. refl) k 0 (group_count batch) (omega arith)
+        ∙ sym (nothing_at (group_count batch) k batch (meaning.outcomes_of_txns s (batch_of batch)) of.below above)
 
 -- ---- the laws
 
 -- whatever was done, and in whatever order: when the rest is done each group is as if it had been done alone
-finished_are : (s : State) (batch : List Tagged) (steps : List Step)
-    → map finished (run (at_start s batch) steps).groups
-    ≡ map (whole s batch) (range_with_len 0 (opened batch))
+finished_are : (s : State) (batch : List GroupedTxn) (steps : List Step)
+    → map with_rest_done (run_steps (at_start s batch) steps).groups
+    ≡ map (whole s batch) (range_with_len 0 (group_count batch))
 finished_are s batch steps =
-    run_same (at_start s batch) steps ∙ map-map finished (opened_group s batch) (range_with_len 0 (opened batch))
+    run_same (at_start s batch) steps
+    ∙ map-map with_rest_done (opened_group s batch) (range_with_len 0 (group_count batch))
 
-together : Laws → (s : State) (batch : List Tagged) → OfBatch batch
-    → put_together (beside s batch) batch (map (whole s batch) (range_with_len 0 (opened batch)))
+together : Laws → (s : State) (batch : List GroupedTxn) → OfBatch batch
+    → put_together (without_batch_cells s batch) batch (map (whole s batch) (range_with_len 0 (group_count batch)))
     ≡ one_by_one s (batch_of batch)
 together laws s batch of = λ i. record { state = state_is laws s batch of i; outcomes = outcomes_are laws s batch of i }
 
 pub schedules_are_the_batch : Laws → SchedulesAreTheBatch
-schedules_are_the_batch laws s txns steps = by (grouped txns) refl
+schedules_are_the_batch laws s txns steps = by (tagged_txns txns) refl
   where
-    by : (o : Option (List Tagged)) → grouped txns ≡ o
-        → ended_with (left_with s o) txns o (run (started_with s o) steps).groups ≡ one_by_one s txns
+    by : (o : Option (List GroupedTxn)) → tagged_txns txns ≡ o
+        → batch_result_with (left_with s o) txns o (run_steps (initial_progress_with s o) steps).groups
+        ≡ one_by_one s txns
     by None is = refl
     by (Some batch) is =
-        ap (put_together (beside s batch) batch) (finished_are s batch steps)
+        ap (put_together (without_batch_cells s batch) batch) (finished_are s batch steps)
         ∙ together laws s batch (of_batch laws txns batch is)
         ∙ ap (one_by_one s) (laws.each txns batch is).0
 
-left_within : (paths : ℕ → List Bytes) (k : ℕ) (batch : List Tagged) → KeepsTo paths batch
-    → AllByRecursion (IsLeft (set.from_list (paths k))) (of_group k batch)
+left_within : (paths : ℕ → List Bytes) (k : ℕ) (batch : List GroupedTxn) → KeepsToGroupPaths paths batch
+    → AllByRecursion (IsLeft (set.from_list (paths k))) (txns_of_group k batch)
 left_within paths k [] keep = tt
 left_within paths k (t ∷ ts) keep = by (nat_eq t.0 k) refl (left_within paths k ts keep.1)
   where
-    by : (b : Bool) → nat_eq t.0 k ≡ b → AllByRecursion (IsLeft (set.from_list (paths k))) (of_group k ts)
-        → AllByRecursion (IsLeft (set.from_list (paths k))) (cond b (t.1 ∷ of_group k ts) (of_group k ts))
+    by : (b : Bool) → nat_eq t.0 k ≡ b → AllByRecursion (IsLeft (set.from_list (paths k))) (txns_of_group k ts)
+        → AllByRecursion (IsLeft (set.from_list (paths k))) (cond b (t.1 ∷ txns_of_group k ts) (txns_of_group k ts))
     by true e rest = (
       (
         keep.0.0,
         λ q at. named (paths k) q true
-            (subst (λ j. touches (paths j) q ≡ true) (eqb-true t.0 k e) (keep.0.1 q at)),
+            (subst (λ j. has_path (paths j) q ≡ true) (eqb-true t.0 k e) (keep.0.1 q at)),
       ),
       rest,
     )
     by false e rest = rest
 
-opened_apart : Laws → (s : State) (batch : List Tagged) → OfBatch batch
+opened_apart : Laws → (s : State) (batch : List GroupedTxn) → OfBatch batch
     → AllByRecursion IsApart (opened_groups s batch)
 opened_apart laws s batch of =
-    all_numbered IsApart (opened_group s batch) 0 (opened batch)
+    all_numbered IsApart (opened_group s batch) 0 (group_count batch)
     (λ k above. record {
       left = left_within (λ k. paths_in k batch) k batch (keeps batch of);
       cells = (laws.moved (names_in k batch) s).nothing;
@@ -274,15 +280,15 @@ pub paths_are_with_one_group : Laws → PathsAreWithOneGroup
 paths_are_with_one_group laws s txns batch steps is path at =
     record {
       one =
-          sym (count_finished path (run (at_start s batch) steps).groups)
+          sym (count_finished path (run_steps (at_start s batch) steps).groups)
           ∙ ap (count_by (λ (g : GroupState). set.contains g.paths path)) (finished_are s batch steps)
           ∙ one_passes (λ (g : GroupState). set.contains g.paths path) (whole s batch) has.number
           (named (paths_in has.number batch) path true has.there)
           (λ j other. named (paths_in j batch) path false
           (not_there batch of has.number path has.there j other))
-          0 (opened batch) (omega arith) (let below = has.below in omega arith);
+          0 (group_count batch) (omega arith) (let below = has.below in omega arith);
       others =
-          empty_in_others path (run (at_start s batch) steps).groups
+          empty_in_others path (run_steps (at_start s batch) steps).groups
           (run_apart laws.keep (at_start s batch) steps (opened_apart laws s batch of));
       not_beside =
           (laws.moved (all_names batch) s).gone path
@@ -292,8 +298,8 @@ paths_are_with_one_group laws s txns batch steps is path at =
     of : OfBatch batch
     of = of_batch laws txns batch is
 
-    inside : touches (flat_map footprint (batch_of batch)) path ≡ true
-    inside = ap (λ ts. touches (flat_map footprint ts) path) (laws.each txns batch is).0 ∙ at
+    inside : has_path (flat_map footprint (batch_of batch)) path ≡ true
+    inside = ap (λ ts. has_path (flat_map footprint ts) path) (laws.each txns batch is).0 ∙ at
 
-    has : HasGroup (opened batch) (λ k. paths_in k batch) path
-    has = group_of (opened batch) (λ k. paths_in k batch) batch path of.among of.below inside
+    has : HasGroup (group_count batch) (λ k. paths_in k batch) path
+    has = group_of (group_count batch) (λ k. paths_in k batch) batch path of.among of.below inside

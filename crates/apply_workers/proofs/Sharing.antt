@@ -6,18 +6,18 @@ use Rattle.std.proofs.lemmas.List.Elements.{All-drop}
 use Rattle.std.proofs.lemmas.Bool.{eq-eqb, eqb-true, eqb-false, cases_lt}
 use Rattle.txn_codec.specs.declared.txn.Txn.{Txn}
 use Rattle.data_tree.specs.State.{State}
-use Rattle.data_tree.specs.Cells.{mean_in_cells, outcomes_in_cells}
+use Rattle.data_tree.specs.Cells.{effect_in_cells, outcomes_in_cells}
 use Rattle.data_tree.specs.Footprint.{footprint}
-use Rattle.data_tree.specs.Commuting.{Tagged, of_group, at_group, batch_of}
+use Rattle.data_tree.specs.Commuting.{GroupedTxn, txns_of_group, entries_of_group, batch_of}
 use Rattle.data_tree.specs.declared.outcome.Outcome.{Outcome}
-use Rattle.batcher.specs.Cut.{groups_of, listed, is_batch, is_barrier_alone}
-use Rattle.batcher.specs.Groups.{opened, grouped, grouped_behind, group_for, places_from, class_of, classes_of}
+use Rattle.batcher.specs.Cut.{groups_of, groups_if_tagged, is_batch, is_barrier_alone}
+use Rattle.batcher.specs.Groups.{group_count, tagged_txns, tagged_txns_after, group_for, places_from, txn_group_at, txn_groups_of}
 use Rattle.batcher.specs.Laws.{EachIsInAGroup}
 use Rattle.apply_workers.specs.Places.{at_places}
-use Rattle.apply_workers.specs.Homing.{at_each, with_each, timed, AreShares}
-use Rattle.apply_workers.specs.Schedule.{GroupState, finished, outcomes_of, in_batch_order, ended_with, ended}
+use Rattle.apply_workers.specs.Homing.{split_by_group, with_all_cells, with_timeouts_set, IsSplitByGroup}
+use Rattle.apply_workers.specs.Schedule.{GroupState, with_rest_done, outcomes_of, in_batch_order, batch_result_with, batch_result}
 use Rattle.apply_workers.specs.Schedules.{one_by_one}
-use Rattle.apply_workers.specs.Hands.{InHand, shown, all_shown, AreHeld}
+use Rattle.apply_workers.specs.Hands.{GroupProgress, group_state_of, group_states_from, AreWithinGroups}
 use Rattle.apply_workers.proofs.BatchPaths.{nothing_at}
 use Rattle.apply_workers.proofs.Loops.{nothing_left, places_length}
 use Rattle.apply_workers.proofs.Places.{at_its_places, txns_at_places, own_txns, places_below, batch_length}
@@ -26,11 +26,11 @@ use Rattle.apply_workers.proofs.Returning.{classes_from, has_groups}
 -- ---- a list in the batch's order, of what each group has
 
 -- each group has one for each of its transactions
-abbrev Fits : List Tagged → (ℕ → List Outcome) → Type 0
-Fits ts of = (k : ℕ) → length (of k) ≡ length (of_group k ts)
+abbrev Fits : List GroupedTxn → (ℕ → List Outcome) → Type 0
+Fits ts of = (k : ℕ) → length (of k) ≡ length (txns_of_group k ts)
 
 -- what is left of it behind the first transaction
-abbrev behind : Tagged → (ℕ → List Outcome) → ℕ → List Outcome
+abbrev behind : GroupedTxn → (ℕ → List Outcome) → ℕ → List Outcome
 behind t of k = cond (t.0 == k) (drop 1 (of k)) (of k)
 
 one_less : (xs : List Outcome) (n : ℕ) → length xs ≡ suc n → length (drop 1 xs) ≡ n
@@ -45,45 +45,47 @@ whole_again : (xs : List Outcome) → take 1 xs ++ drop 1 xs ≡ xs
 whole_again [] = refl
 whole_again (x ∷ xs) = refl
 
-fits_behind : (t : Tagged) (ts : List Tagged) (of : ℕ → List Outcome) → Fits (t ∷ ts) of → Fits ts (behind t of)
+fits_behind : (t : GroupedTxn) (ts : List GroupedTxn) (of : ℕ → List Outcome) → Fits (t ∷ ts) of → Fits ts (behind t of)
 fits_behind t ts of fits k = by (t.0 == k) (fits k)
   where
-    by : (b : Bool) → length (of k) ≡ length (cond b (t.1 ∷ of_group k ts) (of_group k ts))
-        → length (cond b (drop 1 (of k)) (of k)) ≡ length (of_group k ts)
-    by true e = one_less (of k) (length (of_group k ts)) e
+    by : (b : Bool) → length (of k) ≡ length (cond b (t.1 ∷ txns_of_group k ts) (txns_of_group k ts))
+        → length (cond b (drop 1 (of k)) (of k)) ≡ length (txns_of_group k ts)
+    by true e = one_less (of k) (length (txns_of_group k ts)) e
     by false e = e
 
-has_first : (t : Tagged) (ts : List Tagged) (of : ℕ → List Outcome) → Fits (t ∷ ts) of
-    → length (of t.0) ≡ suc (length (of_group t.0 ts))
+has_first : (t : GroupedTxn) (ts : List GroupedTxn) (of : ℕ → List Outcome) → Fits (t ∷ ts) of
+    → length (of t.0) ≡ suc (length (txns_of_group t.0 ts))
 has_first t ts of fits =
     fits t.0
-    ∙ ap (λ b. length (cond b (t.1 ∷ of_group t.0 ts) (of_group t.0 ts))) (eq-eqb t.0 t.0 refl)
+    ∙ ap (λ b. length (cond b (t.1 ∷ txns_of_group t.0 ts) (txns_of_group t.0 ts))) (eq-eqb t.0 t.0 refl)
 
-in_order_length : (ts : List Tagged) (of : ℕ → List Outcome) → Fits ts of → length (in_batch_order ts of) ≡ length ts
+in_order_length : (ts : List GroupedTxn) (of : ℕ → List Outcome) → Fits ts of
+    → length (in_batch_order ts of) ≡ length ts
 in_order_length [] of fits = refl
 in_order_length (t ∷ ts) of fits =
     let all = length-append (take 1 (of t.0)) (in_batch_order ts (behind t of)) in
-    let one = just_one (of t.0) (length (of_group t.0 ts)) (has_first t ts of fits) in
+    let one = just_one (of t.0) (length (txns_of_group t.0 ts)) (has_first t ts of fits) in
     let rest = in_order_length ts (behind t of) (fits_behind t ts of fits) in
     omega arith
 
-first_of : (k : ℕ) (t : Tagged) (ts : List Tagged) (xs rest : List Outcome) (n : ℕ) → length xs ≡ suc n
-    → at_group k (t ∷ ts) (take 1 xs ++ rest) ≡ cond (t.0 == k) (take 1 xs ++ at_group k ts rest) (at_group k ts rest)
+first_of : (k : ℕ) (t : GroupedTxn) (ts : List GroupedTxn) (xs rest : List Outcome) (n : ℕ) → length xs ≡ suc n
+    → entries_of_group k (t ∷ ts) (take 1 xs ++ rest)
+    ≡ cond (t.0 == k) (take 1 xs ++ entries_of_group k ts rest) (entries_of_group k ts rest)
 first_of k t ts [] rest n e = absurd (omega arith)
 first_of k t ts (x ∷ xs) rest n e = refl
 
-own_in_order : (k : ℕ) (ts : List Tagged) (of : ℕ → List Outcome) → Fits ts of
-    → at_group k ts (in_batch_order ts of) ≡ of k
+own_in_order : (k : ℕ) (ts : List GroupedTxn) (of : ℕ → List Outcome) → Fits ts of
+    → entries_of_group k ts (in_batch_order ts of) ≡ of k
 own_in_order k [] of fits = sym (nothing_left (of k) (fits k))
 own_in_order k (t ∷ ts) of fits =
-    first_of k t ts (of t.0) rest (length (of_group t.0 ts)) (has_first t ts of fits)
+    first_of k t ts (of t.0) rest (length (txns_of_group t.0 ts)) (has_first t ts of fits)
     ∙ by (t.0 == k) refl (own_in_order k ts (behind t of) (fits_behind t ts of fits))
   where
     rest : List Outcome
     rest = in_batch_order ts (behind t of)
 
-    by : (b : Bool) → (t.0 == k) ≡ b → at_group k ts rest ≡ cond b (drop 1 (of k)) (of k)
-        → cond b (take 1 (of t.0) ++ at_group k ts rest) (at_group k ts rest) ≡ of k
+    by : (b : Bool) → (t.0 == k) ≡ b → entries_of_group k ts rest ≡ cond b (drop 1 (of k)) (of k)
+        → cond b (take 1 (of t.0) ++ entries_of_group k ts rest) (entries_of_group k ts rest) ≡ of k
     by true e own =
         ap (λ xs. take 1 (of t.0) ++ xs) own
         ∙ ap (λ j. take 1 (of j) ++ drop 1 (of k)) (eqb-true t.0 k e)
@@ -94,23 +96,23 @@ own_in_order k (t ∷ ts) of fits =
 
 outcomes_length : (cells : State) (txns : List Txn) → length (outcomes_in_cells cells txns) ≡ length txns
 outcomes_length cells [] = refl
-outcomes_length cells (t ∷ ts) = omega (arith, outcomes_length (mean_in_cells cells t).state ts)
+outcomes_length cells (t ∷ ts) = omega (arith, outcomes_length (effect_in_cells cells t).state ts)
 
-places_within : (k : ℕ) (ts : List Tagged) → All (λ p. p < length ts) (places_from 0 k ts)
+places_within : (k : ℕ) (ts : List GroupedTxn) → All (λ p. p < length ts) (places_from 0 k ts)
 places_within k ts =
     let same : 0 + length ts ≡ length ts = omega arith in
     subst (λ n. All (λ p. p < n) (places_from 0 k ts)) same (places_below 0 k ts)
 
-places_count : (k : ℕ) (ts : List Tagged) → length (places_from 0 k ts) ≡ length (of_group k ts)
+places_count : (k : ℕ) (ts : List GroupedTxn) → length (places_from 0 k ts) ≡ length (txns_of_group k ts)
 places_count k ts =
     sym (places_length (batch_of ts) (places_from 0 k ts)
     (subst (λ n. All (λ p. p < n) (places_from 0 k ts)) (sym (batch_length ts)) (places_within k ts)))
     ∙ ap (λ us. length us) (txns_at_places k ts)
 
 -- a group that is finished has answered each of its transactions
-finished_length : (txns : List Txn) (ts : List Tagged) → batch_of ts ≡ txns → (k : ℕ) (h : InHand)
+finished_length : (txns : List Txn) (ts : List GroupedTxn) → batch_of ts ≡ txns → (k : ℕ) (h : GroupProgress)
     → length h.outcomes ≤ length (places_from 0 k ts)
-    → length (finished (shown txns k (class_of ts k) h)).outcomes ≡ length (of_group k ts)
+    → length (with_rest_done (group_state_of txns k (txn_group_at ts k) h)).outcomes ≡ length (txns_of_group k ts)
 finished_length txns ts is k h l =
     let left = drop (length h.outcomes) (places_from 0 k ts) in
     let all = length-append h.outcomes (outcomes_in_cells h.cells (at_places txns left)) in
@@ -122,12 +124,12 @@ finished_length txns ts is k h l =
     let places = places_count k ts in
     omega arith
 
-abbrev finished_from : List Txn → List Tagged → ℕ → ℕ → List InHand → List GroupState
-finished_from txns ts j m hs = map finished (all_shown txns j (classes_from ts j m) hs)
+abbrev finished_from : List Txn → List GroupedTxn → ℕ → ℕ → List GroupProgress → List GroupState
+finished_from txns ts j m hs = map with_rest_done (group_states_from txns j (classes_from ts j m) hs)
 
-answers_of : (txns : List Txn) (ts : List Tagged) → batch_of ts ≡ txns → (j m : ℕ) (hs : List InHand)
-    → AreHeld (classes_from ts j m) hs → (k : ℕ) → j ≤ k → k < j + m
-    → length (outcomes_of k (finished_from txns ts j m hs)) ≡ length (of_group k ts)
+answers_of : (txns : List Txn) (ts : List GroupedTxn) → batch_of ts ≡ txns → (j m : ℕ) (hs : List GroupProgress)
+    → AreWithinGroups (classes_from ts j m) hs → (k : ℕ) → j ≤ k → k < j + m
+    → length (outcomes_of k (finished_from txns ts j m hs)) ≡ length (txns_of_group k ts)
 answers_of txns ts is j zero hs held k l n = absurd (omega arith)
 answers_of txns ts is j (suc m) [] held k l n = absurd held
 answers_of txns ts is j (suc m) (h ∷ hs) held k l n =
@@ -136,13 +138,14 @@ answers_of txns ts is j (suc m) (h ∷ hs) held k l n =
     rest : List Outcome
     rest = outcomes_of k (finished_from txns ts (j + 1) m hs)
 
-    by : (b : Bool) → (j == k) ≡ b → (j + 1 ≤ k → k < j + 1 + m → length rest ≡ length (of_group k ts))
-        → length (cond b (finished (shown txns j (class_of ts j) h)).outcomes rest) ≡ length (of_group k ts)
+    by : (b : Bool) → (j == k) ≡ b → (j + 1 ≤ k → k < j + 1 + m → length rest ≡ length (txns_of_group k ts))
+        → length (cond b (with_rest_done (group_state_of txns j (txn_group_at ts j) h)).outcomes rest)
+        ≡ length (txns_of_group k ts)
     by true e more =
-        finished_length txns ts is j h held.0 ∙ ap (λ i. length (of_group i ts)) (eqb-true j k e)
+        finished_length txns ts is j h held.0 ∙ ap (λ i. length (txns_of_group i ts)) (eqb-true j k e)
     by false e more = let other = eqb-false j k e in more (omega arith) (omega arith)
 
-nothing_above : (txns : List Txn) (ts : List Tagged) (j m : ℕ) (hs : List InHand) (k : ℕ) → j + m ≤ k
+nothing_above : (txns : List Txn) (ts : List GroupedTxn) (j m : ℕ) (hs : List GroupProgress) (k : ℕ) → j + m ≤ k
     → outcomes_of k (finished_from txns ts j m hs) ≡ []
 nothing_above txns ts j zero hs k l = refl
 nothing_above txns ts j (suc m) [] k l = refl
@@ -152,35 +155,36 @@ nothing_above txns ts j (suc m) (h ∷ hs) k l = by (j == k) refl (nothing_above
     rest = outcomes_of k (finished_from txns ts (j + 1) m hs)
 
     by : (b : Bool) → (j == k) ≡ b → rest ≡ []
-        → cond b (finished (shown txns j (class_of ts j) h)).outcomes rest ≡ []
+        → cond b (with_rest_done (group_state_of txns j (txn_group_at ts j) h)).outcomes rest ≡ []
     by true e none = let same = eqb-true j k e in absurd (omega arith)
     by false e none = none
 
-all_fit : (txns : List Txn) (ts : List Tagged) → batch_of ts ≡ txns
-    → AllByRecursion (λ (t : Tagged). t.0 < opened ts) ts → (hs : List InHand) → AreHeld (classes_of ts) hs
-    → Fits ts (λ k. outcomes_of k (finished_from txns ts 0 (opened ts) hs))
-all_fit txns ts is below hs held k = by (cases_lt k (opened ts))
+all_fit : (txns : List Txn) (ts : List GroupedTxn) → batch_of ts ≡ txns
+    → AllByRecursion (λ (t : GroupedTxn). t.0 < group_count ts) ts → (hs : List GroupProgress)
+    → AreWithinGroups (txn_groups_of ts) hs
+    → Fits ts (λ k. outcomes_of k (finished_from txns ts 0 (group_count ts) hs))
+all_fit txns ts is below hs held k = by (cases_lt k (group_count ts))
   where
-    by : (k < opened ts) ⊎ (opened ts ≤ k)
-        → length (outcomes_of k (finished_from txns ts 0 (opened ts) hs)) ≡ length (of_group k ts)
-    by (inl l) = answers_of txns ts is 0 (opened ts) hs held k (omega arith) (omega arith)
+    by : (k < group_count ts) ⊎ (group_count ts ≤ k)
+        → length (outcomes_of k (finished_from txns ts 0 (group_count ts) hs)) ≡ length (txns_of_group k ts)
+    by (inl l) = answers_of txns ts is 0 (group_count ts) hs held k (omega arith) (omega arith)
     by (inr l) =
-        ap (λ os. length os) (nothing_above txns ts 0 (opened ts) hs k (omega arith))
-        ∙ sym (ap (λ us. length us) (sym (own_txns k ts) ∙ nothing_at (opened ts) k ts (batch_of ts) below l))
+        ap (λ os. length os) (nothing_above txns ts 0 (group_count ts) hs k (omega arith))
+        ∙ sym (ap (λ us. length us) (sym (own_txns k ts) ∙ nothing_at (group_count ts) k ts (batch_of ts) below l))
 
 -- from the group j on, where each has its own answers
-shares_from : (txns : List Txn) (ts : List Tagged) (whole : List Outcome) → length whole ≡ length ts
-    → (of : ℕ → List Outcome) → ((k : ℕ) → at_group k ts whole ≡ of k) → (j m : ℕ) (hs : List InHand)
-    → AreHeld (classes_from ts j m) hs
+shares_from : (txns : List Txn) (ts : List GroupedTxn) (whole : List Outcome) → length whole ≡ length ts
+    → (of : ℕ → List Outcome) → ((k : ℕ) → entries_of_group k ts whole ≡ of k) → (j m : ℕ) (hs : List GroupProgress)
+    → AreWithinGroups (classes_from ts j m) hs
     → ((k : ℕ) → j ≤ k → k < j + m → of k ≡ outcomes_of k (finished_from txns ts j m hs))
-    → map (λ (g : GroupState). g.outcomes) (finished_from txns ts j m hs) ≡ at_each whole (classes_from ts j m)
+    → map (λ (g : GroupState). g.outcomes) (finished_from txns ts j m hs) ≡ split_by_group whole (classes_from ts j m)
 shares_from txns ts whole count of own j zero hs held each = refl
 shares_from txns ts whole count of own j (suc m) [] held each = absurd held
 shares_from txns ts whole count of own j (suc m) (h ∷ hs) held each = λ i.
     first i ∷ shares_from txns ts whole count of own (j + 1) m hs held.1 more i
   where
     mine : List Outcome
-    mine = (finished (shown txns j (class_of ts j) h)).outcomes
+    mine = (with_rest_done (group_state_of txns j (txn_group_at ts j) h)).outcomes
 
     rest : List GroupState
     rest = finished_from txns ts (j + 1) m hs
@@ -202,53 +206,58 @@ shares_from txns ts whole count of own j (suc m) (h ∷ hs) held each = λ i.
 -- ---- the batch
 
 pub record IsBrought (tree : State) (txns : List Txn) (groups : List GroupState) : Type 0 where
-  pub state : timed txns (with_each (map (λ (g : GroupState). g.cells) (map finished groups)) tree)
-      ≡ (ended tree txns groups).state
-  pub shares : AreShares txns (ended tree txns groups).outcomes
-      (map (λ (g : GroupState). g.outcomes) (map finished groups))
+  pub state : with_timeouts_set txns
+      (with_all_cells (map (λ (g : GroupState). g.cells) (map with_rest_done groups)) tree)
+      ≡ (batch_result tree txns groups).state
+  pub shares : IsSplitByGroup txns (batch_result tree txns groups).outcomes
+      (map (λ (g : GroupState). g.outcomes) (map with_rest_done groups))
 
-abbrev Brought : State → List Txn → List InHand → Option (List Tagged) → Type 0
+abbrev Brought : State → List Txn → List GroupProgress → Option (List GroupedTxn) → Type 0
 Brought tree txns hs o =
-    let groups = all_shown txns 0 (listed o) hs in
-    let ended = ended_with tree txns o groups in
-    (timed txns (with_each (map (λ (g : GroupState). g.cells) (map finished groups)) tree) ≡ ended.state)
+    let groups = group_states_from txns 0 (groups_if_tagged o) hs in
+    let ended = batch_result_with tree txns o groups in
+    (with_timeouts_set txns (with_all_cells (map (λ (g : GroupState). g.cells) (map with_rest_done groups)) tree)
+    ≡ ended.state)
     × ((length ended.outcomes ≡ length txns)
-    × (map (λ (g : GroupState). g.outcomes) (map finished groups) ≡ at_each ended.outcomes (listed o)))
+    × (map (λ (g : GroupState). g.outcomes) (map with_rest_done groups)
+    ≡ split_by_group ended.outcomes (groups_if_tagged o)))
 
 pub are_brought : EachIsInAGroup → (tree : State) (txns : List Txn) → is_batch txns ≡ true
-    → is_barrier_alone txns ≡ false → (hs : List InHand) → AreHeld (groups_of txns) hs
-    → IsBrought tree txns (all_shown txns 0 (groups_of txns) hs)
+    → is_barrier_alone txns ≡ false → (hs : List GroupProgress) → AreWithinGroups (groups_of txns) hs
+    → IsBrought tree txns (group_states_from txns 0 (groups_of txns) hs)
 are_brought each tree txns batch alone hs held =
     let found = has_groups txns batch alone in by found.0 found.1
   where
-    by : (ts : List Tagged) → grouped txns ≡ Some ts
-        → IsBrought tree txns (all_shown txns 0 (groups_of txns) hs)
+    by : (ts : List GroupedTxn) → tagged_txns txns ≡ Some ts
+        → IsBrought tree txns (group_states_from txns 0 (groups_of txns) hs)
     by ts e =
         let of_ts = each txns ts e in
-        let mine = subst (λ o. AreHeld (listed o) hs) e held in
-        let of : ℕ → List Outcome = λ k. outcomes_of k (finished_from txns ts 0 (opened ts) hs) in
+        let mine = subst (λ o. AreWithinGroups (groups_if_tagged o) hs) e held in
+        let of : ℕ → List Outcome = λ k. outcomes_of k (finished_from txns ts 0 (group_count ts) hs) in
         let fits = all_fit txns ts of_ts.0 of_ts.1 hs mine in
         let count = in_order_length ts of fits in
-        let all : Brought tree txns hs (grouped txns) =
+        let all : Brought tree txns hs (tagged_txns txns) =
         subst (Brought tree txns hs) (sym e) (
-          ap (λ us. timed us (with_each (map (λ (g : GroupState). g.cells) (finished_from txns ts 0 (opened ts) hs))
+          ap (λ us. with_timeouts_set us (with_all_cells
+              (map (λ (g : GroupState). g.cells) (finished_from txns ts 0 (group_count ts) hs))
               tree))
               (sym of_ts.0),
           (
             count ∙ sym (batch_length ts) ∙ ap (λ us. length us) of_ts.0,
-            shares_from txns ts (in_batch_order ts of) count of (λ k. own_in_order k ts of fits) 0 (opened ts) hs mine
+            shares_from txns ts (in_batch_order ts of) count of (λ k. own_in_order k ts of fits) 0 (group_count ts) hs
+                mine
                 (λ k l n. refl),
           ),
         ) in
         record { state = all.0; shares = record { count = all.1.0; each = all.1.1 } }
 
 -- a barrier alone has no groups
-no_groups : (txns : List Txn) → is_barrier_alone txns ≡ true → grouped txns ≡ None
+no_groups : (txns : List Txn) → is_barrier_alone txns ≡ true → tagged_txns txns ≡ None
 no_groups [] e = absurd (true≢false (sym e))
 no_groups (t ∷ []) e =
-    ap (λ b. option_and_then (λ k. grouped_behind ((k, t) ∷ []) []) (cond b None (group_for [] (footprint t)))) e
+    ap (λ b. option_and_then (λ k. tagged_txns_after ((k, t) ∷ []) []) (cond b None (group_for [] (footprint t)))) e
 no_groups (t ∷ u ∷ ts) e = absurd (true≢false (sym e))
 
 pub barrier_ends : (tree : State) (txns : List Txn) (groups : List GroupState) → is_barrier_alone txns ≡ true
-    → one_by_one tree txns ≡ ended tree txns groups
-barrier_ends tree txns groups e = ap (λ o. ended_with tree txns o groups) (sym (no_groups txns e))
+    → one_by_one tree txns ≡ batch_result tree txns groups
+barrier_ends tree txns groups e = ap (λ o. batch_result_with tree txns o groups) (sym (no_groups txns e))

@@ -6,13 +6,13 @@ use Rattle.ephemerals.specs.Orders.{Bytes, Names}
 use Rattle.ephemerals.proofs.Totals.{path_total}
 use Rattle.data_tree.specs.State.{State}
 use Rattle.data_tree.specs.Cells.{cells_at, without_cells, IsEmptyCell}
-use Rattle.data_tree.specs.Footprint.{touches, footprint, IsSameCell}
-use Rattle.data_tree.specs.Commuting.{Tagged, batch_of, AreDisjoint, CellsPutBackAreTheBatch}
-use Rattle.batcher.specs.Class.{Class}
-use Rattle.batcher.specs.Cut.{listed}
-use Rattle.batcher.specs.Groups.{opened, grouped, paths_in, class_of, classes_of}
-use Rattle.apply_workers.specs.Taking.{cells_of_each, without_each}
-use Rattle.apply_workers.specs.Schedule.{beside, left_with}
+use Rattle.data_tree.specs.Footprint.{has_path, footprint, IsSameCell}
+use Rattle.data_tree.specs.Commuting.{GroupedTxn, batch_of, AreDisjoint, CellsPutBackAreTheBatch}
+use Rattle.batcher.specs.Class.{TxnGroup}
+use Rattle.batcher.specs.Cut.{groups_if_tagged}
+use Rattle.batcher.specs.Groups.{group_count, tagged_txns, paths_in, txn_group_at, txn_groups_of}
+use Rattle.apply_workers.specs.Taking.{cells_of_each, without_group_cells}
+use Rattle.apply_workers.specs.Schedule.{without_batch_cells, left_with}
 use Rattle.apply_workers.specs.Schedules.{GroupsAreTaken}
 use Rattle.apply_workers.proofs.BatchPaths.{group_of, in_batch, is_below}
 use Rattle.apply_workers.proofs.Returning.{Laws, AreGroups, same_sym, same_trans, left_elsewhere, left_empty, left_sessions, IsNear, near_next, classes_from, find_group, are_groups}
@@ -29,17 +29,17 @@ both_empty s t p e f = record { node = e.node ∙ sym f.node; owners = λ o. e.o
 -- ---- the cells
 
 -- from a state that has the old cells of the group the same is taken
-same_taken : Laws → (ts : List Tagged) (s : State) (j : ℕ) (u : State) → IsNear ts s j u
-    → cells_at (class_of ts j).paths u ≡ cells_at (class_of ts j).paths s
+same_taken : Laws → (ts : List GroupedTxn) (s : State) (j : ℕ) (u : State) → IsNear ts s j u
+    → cells_at (txn_group_at ts j).paths u ≡ cells_at (txn_group_at ts j).paths s
 same_taken laws ts s j u near =
     is_same laws.state (cells_at names s) (cells_at names u) (λ p. by p (set.contains names p) refl) refl
   where
     names : Names
-    names = (class_of ts j).paths
+    names = (txn_group_at ts j).paths
 
     by : (p : Bytes) (b : Bool) → set.contains names p ≡ b → IsSameCell (cells_at names u) (cells_at names s) p
     by p true e =
-        let at : touches (paths_in j ts) p ≡ true = sym (set.contains-from_list path_total (paths_in j ts) p) ∙ e in
+        let at : has_path (paths_in j ts) p ≡ true = sym (set.contains-from_list path_total (paths_in j ts) p) ∙ e in
         same_trans (cells_at names u) u (cells_at names s) p ((laws.moved names u).taken p e)
         (same_trans u s (cells_at names s) p (near j p (omega arith) at)
         (same_sym (cells_at names s) s p ((laws.moved names s).taken p e)))
@@ -47,61 +47,63 @@ same_taken laws ts s j u near =
         both_empty (cells_at names u) (cells_at names s) p ((laws.moved names u).nothing p e)
         ((laws.moved names s).nothing p e)
 
-all_taken : Laws → (ts : List Tagged) → AreDisjoint (λ k. paths_in k ts) → (s : State) (j m : ℕ) (u : State)
+all_taken : Laws → (ts : List GroupedTxn) → AreDisjoint (λ k. paths_in k ts) → (s : State) (j m : ℕ) (u : State)
     → IsNear ts s j u
-    → cells_of_each (classes_from ts j m) u ≡ map (λ (c : Class). cells_at c.paths s) (classes_from ts j m)
+    → cells_of_each (classes_from ts j m) u ≡ map (λ (c : TxnGroup). cells_at c.paths s) (classes_from ts j m)
 all_taken laws ts apart s j zero u near = refl
 all_taken laws ts apart s j (suc m) u near = λ i.
     same_taken laws ts s j u near i
-    ∷ all_taken laws ts apart s (j + 1) m (without_cells (class_of ts j).paths u)
+    ∷ all_taken laws ts apart s (j + 1) m (without_cells (txn_group_at ts j).paths u)
     (near_next laws ts apart s j u near) i
 
 -- ---- what is left
 
-rest_is : Laws → (ts : List Tagged) → AreGroups ts → (s : State) → without_each (classes_of ts) s ≡ beside s ts
+rest_is : Laws → (ts : List GroupedTxn) → AreGroups ts → (s : State)
+    → without_group_cells (txn_groups_of ts) s ≡ without_batch_cells s ts
 rest_is laws ts groups s =
-    is_same laws.state (beside s ts) left (λ p. by p (find_group ts groups.below p)) (left_sessions (classes_of ts) s)
+    is_same laws.state (without_batch_cells s ts) left (λ p. by p (find_group ts groups.below p))
+    (left_sessions (txn_groups_of ts) s)
   where
     left : State
-    left = without_each (classes_of ts) s
+    left = without_group_cells (txn_groups_of ts) s
 
     names : Names
     names = set.from_list (flat_map footprint (batch_of ts))
 
-    named : (p : Bytes) (b : Bool) → touches (flat_map footprint (batch_of ts)) p ≡ b → set.contains names p ≡ b
+    named : (p : Bytes) (b : Bool) → has_path (flat_map footprint (batch_of ts)) p ≡ b → set.contains names p ≡ b
     named p b e = set.contains-from_list path_total (flat_map footprint (batch_of ts)) p ∙ e
 
-    in_none : (p : Bytes) → ((k : ℕ) → touches (paths_in k ts) p ≡ false) → (b : Bool)
-        → touches (flat_map footprint (batch_of ts)) p ≡ b → set.contains names p ≡ false
+    in_none : (p : Bytes) → ((k : ℕ) → has_path (paths_in k ts) p ≡ false) → (b : Bool)
+        → has_path (flat_map footprint (batch_of ts)) p ≡ b → set.contains names p ≡ false
     in_none p out false e = named p false e
     in_none p out true e =
-        let has = group_of (opened ts) (λ k. paths_in k ts) ts p (laws.cover ts) groups.below e in
+        let has = group_of (group_count ts) (λ k. paths_in k ts) ts p (laws.cover ts) groups.below e in
         absurd (true≢false (sym has.there ∙ out has.number))
 
-    by : (p : Bytes) → ((k : ℕ) × (touches (paths_in k ts) p ≡ true)) ⊎ ((k : ℕ) → touches (paths_in k ts) p ≡ false)
-        → IsSameCell left (beside s ts) p
+    by : (p : Bytes) → ((k : ℕ) × (has_path (paths_in k ts) p ≡ true)) ⊎ ((k : ℕ) → has_path (paths_in k ts) p ≡ false)
+        → IsSameCell left (without_batch_cells s ts) p
     by p (inl found) =
         let k = found.0 in
         let at = found.1 in
-        let below = is_below (opened ts) k ts p groups.below at in
-        both_empty left (beside s ts) p
-        (left_empty laws ts groups.apart 0 (opened ts) s k p (omega arith) (omega arith) at)
+        let below = is_below (group_count ts) k ts p groups.below at in
+        both_empty left (without_batch_cells s ts) p
+        (left_empty laws ts groups.apart 0 (group_count ts) s k p (omega arith) (omega arith) at)
         ((laws.moved names s).gone p (named p true (in_batch k ts p at)))
     by p (inr out) =
-        same_trans left s (beside s ts) p (left_elsewhere laws ts 0 (opened ts) s p (λ k l. out k))
-        (same_sym (beside s ts) s p ((laws.moved names s).left p (in_none p out _ refl)))
+        same_trans left s (without_batch_cells s ts) p (left_elsewhere laws ts 0 (group_count ts) s p (λ k l. out k))
+        (same_sym (without_batch_cells s ts) s p ((laws.moved names s).left p (in_none p out _ refl)))
 
 pub groups_are_taken : Laws → GroupsAreTaken
 groups_are_taken laws s txns =
-    let both = by (grouped txns) refl in record { each = both.0; rest = both.1 }
+    let both = by (tagged_txns txns) refl in record { each = both.0; rest = both.1 }
   where
-    by : (o : Option (List Tagged)) → grouped txns ≡ o
-        → (cells_of_each (listed o) s ≡ map (λ (c : Class). cells_at c.paths s) (listed o))
-        × (without_each (listed o) s ≡ left_with s o)
+    by : (o : Option (List GroupedTxn)) → tagged_txns txns ≡ o
+        → (cells_of_each (groups_if_tagged o) s ≡ map (λ (c : TxnGroup). cells_at c.paths s) (groups_if_tagged o))
+        × (without_group_cells (groups_if_tagged o) s ≡ left_with s o)
     by None e = (refl, refl)
     by (Some ts) e =
         let groups = are_groups laws txns ts e in (
-          all_taken laws ts groups.apart s 0 (opened ts) s
+          all_taken laws ts groups.apart s 0 (group_count ts) s
               (λ k p l at. record { node = refl; owners = λ o. refl }),
           rest_is laws ts groups s,
         )

@@ -9,24 +9,24 @@ use Rattle.txn_codec.specs.Paths.{parent_of, name_of}
 use Rattle.txn_codec.specs.declared.txn.Create.{Create}
 use Rattle.txn_codec.specs.declared.txn.Txn.{Txn}
 use Rattle.txn_codec.specs.declared.txn.TxnHeader.{TxnHeader}
-use Rattle.data_tree.specs.State.{State, Sessions}
-use Rattle.data_tree.specs.Meaning.{Meant, mean, outcomes, answer_of, of_effect, create_under, create_taken, create_new, with_children, next_cversion}
+use Rattle.data_tree.specs.State.{State, SessionTimeouts}
+use Rattle.data_tree.specs.Meaning.{TxnEffect, effect_of_txn, outcomes_of_txns, answer_of, of_effect, create_under, create_taken, create_new, with_children, next_cversion}
 use Rattle.data_tree.specs.Commuting.{TransactionsSetTheirTimeouts}
 use Rattle.data_tree.specs.declared.node.Node.{Node}
-use Rattle.batcher.specs.Rows.{creates, a, b, a_x, a_y, b_z}
+use Rattle.batcher.specs.Rows.{create_txn_of, path_a, path_b, path_a_x, path_a_y, path_b_z}
 use Rattle.apply_workers.specs.declared.step.Step.{Step}
-use Rattle.apply_workers.specs.Schedule.{scheduled}
+use Rattle.apply_workers.specs.Schedule.{schedule_result}
 use Rattle.apply_workers.specs.Schedules.{SchedulesAreTheBatch}
 use Rattle.apply_workers.proofs.Stopping.{stopped_behind_one}
-use Rattle.apply_workers.specs.ScheduleRows.{SchedulesAreWorked, opens, three_creates, created, two_workers}
+use Rattle.apply_workers.specs.ScheduleRows.{SchedulesAreWorked, new_session_with, three_creates, create_outcome, two_workers}
 
 -- ---- two timeouts of one session
 
 abbrev two_timeouts : TxnHeader → List Txn
-two_timeouts h = opens h 5000 ∷ creates h a_x ∷ opens h 6000 ∷ []
+two_timeouts h = new_session_with h 5000 ∷ create_txn_of h path_a_x ∷ new_session_with h 6000 ∷ []
 
 timeouts_are : SchedulesAreTheBatch → TransactionsSetTheirTimeouts → (h : TxnHeader) (s : State) (steps : List Step)
-    → finmap.get (scheduled s (two_timeouts h) steps).state.sessions h.client_id ≡ Some (pos 6000)
+    → finmap.get (schedule_result s (two_timeouts h) steps).state.sessions h.client_id ≡ Some (pos 6000)
 timeouts_are law set_in_order h s steps =
     ap (λ d. finmap.get d.state.sessions h.client_id) (law s (two_timeouts h) steps)
     ∙ ap (λ sessions. finmap.get sessions h.client_id) (set_in_order (two_timeouts h) s (tt, (tt, (tt, tt))))
@@ -34,7 +34,7 @@ timeouts_are law set_in_order h s steps =
     ∙ ap (λ b. cond b (Some (pos 6000)) (finmap.get before h.client_id))
     ((eq_by_cmp_equiv int_cmp_total).refl h.client_id)
   where
-    before : Sessions
+    before : SessionTimeouts
     before = finmap.insert s.sessions h.client_id (pos 5000)
 
 -- ---- creates under two parents
@@ -43,11 +43,12 @@ abbrev body_of : Bytes → Create
 body_of path = record { path = path; bytes = None; acl = None; ephemeral = false; parent_cversion = negsuc 0 }
 
 -- what a create does that finds its parent without the child
-abbrev made : TxnHeader → Bytes → Node → State → Meant
+abbrev made : TxnHeader → Bytes → Node → State → TxnEffect
 made h path parent s = of_effect (create_new h (body_of path) parent) s
 
 is_made : (h : TxnHeader) (s : State) (path : Bytes) (parent : Node) → finmap.get s.nodes (parent_of path) ≡ Some parent
-    → set.contains parent.children (name_of path) ≡ false → mean s (creates h path) ≡ made h path parent s
+    → set.contains parent.children (name_of path) ≡ false
+    → effect_of_txn s (create_txn_of h path) ≡ made h path parent s
 is_made h s path parent is new =
     ap (λ found. of_effect (create_under h (body_of path) found) s) is
     ∙ ap
@@ -59,37 +60,40 @@ with_child h parent name =
     with_children parent (set.insert parent.children name) (next_cversion parent.stat.cversion (negsuc 0)) h.zxid
 
 outcomes_are : SchedulesAreTheBatch → (h : TxnHeader) (s : State) (parent other : Node)
-    → finmap.get s.nodes a ≡ Some parent → finmap.get s.nodes b ≡ Some other
+    → finmap.get s.nodes path_a ≡ Some parent → finmap.get s.nodes path_b ≡ Some other
     → set.contains parent.children (codes "x") ≡ false → set.contains parent.children (codes "y") ≡ false
     → set.contains other.children (codes "z") ≡ false
-    → (scheduled s (three_creates h) two_workers).outcomes ≡ created a_x a ∷ created a_y a ∷ created b_z b ∷ []
+    → (schedule_result s (three_creates h) two_workers).outcomes
+    ≡ create_outcome path_a_x path_a ∷ create_outcome path_a_y path_a ∷ create_outcome path_b_z path_b ∷ []
 outcomes_are law h s parent other is_a is_b no_x no_y no_z =
     ap (λ d. d.outcomes) (law s (three_creates h) two_workers)
-    ∙ ap (λ m. answer_of m ∷ outcomes m.state (creates h a_y ∷ creates h b_z ∷ [])) (is_made h s a_x parent is_a no_x)
-    ∙ ap (λ m. created a_x a ∷ answer_of m ∷ outcomes m.state (creates h b_z ∷ []))
-    (is_made h one a_y (with_child h parent (codes "x")) is_one no_more)
-    ∙ ap (λ m. created a_x a ∷ created a_y a ∷ answer_of m ∷ []) (is_made h two b_z other is_two no_z)
+    ∙ ap (λ m. answer_of m ∷ outcomes_of_txns m.state (create_txn_of h path_a_y ∷ create_txn_of h path_b_z ∷ []))
+    (is_made h s path_a_x parent is_a no_x)
+    ∙ ap (λ m. create_outcome path_a_x path_a ∷ answer_of m ∷ outcomes_of_txns m.state (create_txn_of h path_b_z ∷ []))
+    (is_made h one path_a_y (with_child h parent (codes "x")) is_one no_more)
+    ∙ ap (λ m. create_outcome path_a_x path_a ∷ create_outcome path_a_y path_a ∷ answer_of m ∷ [])
+    (is_made h two path_b_z other is_two no_z)
   where
     one : State
-    one = (made h a_x parent s).state
+    one = (made h path_a_x parent s).state
 
     two : State
-    two = (made h a_y (with_child h parent (codes "x")) one).state
+    two = (made h path_a_y (with_child h parent (codes "x")) one).state
 
-    is_one : finmap.get one.nodes a ≡ Some (with_child h parent (codes "x"))
+    is_one : finmap.get one.nodes path_a ≡ Some (with_child h parent (codes "x"))
     is_one =
-        finmap.get-insert path_total _ a_x _ a
-        ∙ finmap.get-insert path_total s.nodes a _ a
+        finmap.get-insert path_total _ path_a_x _ path_a
+        ∙ finmap.get-insert path_total s.nodes path_a _ path_a
 
     no_more : set.contains (with_child h parent (codes "x")).children (codes "y") ≡ false
     no_more = set.contains-insert path_total parent.children (codes "x") (codes "y") ∙ no_y
 
-    is_two : finmap.get two.nodes b ≡ Some other
+    is_two : finmap.get two.nodes path_b ≡ Some other
     is_two =
-        finmap.get-insert path_total _ a_y _ b
-        ∙ finmap.get-insert path_total one.nodes a _ b
-        ∙ finmap.get-insert path_total _ a_x _ b
-        ∙ finmap.get-insert path_total s.nodes a _ b
+        finmap.get-insert path_total _ path_a_y _ path_b
+        ∙ finmap.get-insert path_total one.nodes path_a _ path_b
+        ∙ finmap.get-insert path_total _ path_a_x _ path_b
+        ∙ finmap.get-insert path_total s.nodes path_a _ path_b
         ∙ is_b
 
 pub schedules_are_worked : SchedulesAreTheBatch → TransactionsSetTheirTimeouts → SchedulesAreWorked
@@ -98,5 +102,6 @@ schedules_are_worked law set_in_order h = record {
   steps = λ s. refl;
   outcomes = outcomes_are law h;
   timeouts = timeouts_are law set_in_order h;
-  stopped = λ s new stopped. stopped_behind_one s new (creates h a_x) (creates h a_y ∷ []) stopped;
+  stopped = λ s new stopped. stopped_behind_one s new (create_txn_of h path_a_x) (create_txn_of h path_a_y ∷ [])
+      stopped;
 }

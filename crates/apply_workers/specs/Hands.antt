@@ -4,25 +4,25 @@ use Rattle.std.specs.Coded.{Coded, code_by, coded×, coded_list}
 use Rattle.txn_codec.specs.declared.txn.Txn.{Txn}
 use Rattle.data_tree.specs.State.{State}
 use Rattle.data_tree.specs.declared.outcome.Outcome.{Outcome}
-use Rattle.batcher.specs.Class.{Class}
+use Rattle.batcher.specs.Class.{TxnGroup}
 use Rattle.apply_workers.specs.Places.{at_places}
 use Rattle.apply_workers.specs.Schedule.{GroupState}
 use Rattle.apply_workers.specs.declared.holder.Holder.{Holder}
 use Rattle.apply_workers.specs.declared.holder.Holder.TheVariants.{Waiting}
 
 -- who has a group, its cells, and what the transactions that are done answered
-pub record InHand : Type 0 where
+pub record GroupProgress : Type 0 where
   pub holder : Holder
   pub cells : State
   pub outcomes : List Outcome
 
 -- nobody has claimed it, and nothing is done in its cells
-abbrev pub untouched : State → InHand
-untouched cells = record { holder = Waiting; cells = cells; outcomes = [] }
+abbrev pub unclaimed_group : State → GroupProgress
+unclaimed_group cells = record { holder = Waiting; cells = cells; outcomes = [] }
 
 -- the group k of the transactions, with this class: as many are done as have answered
-abbrev pub shown : List Txn → ℕ → Class → InHand → GroupState
-shown txns k class hand = record {
+abbrev pub group_state_of : List Txn → ℕ → TxnGroup → GroupProgress → GroupState
+group_state_of txns k class hand = record {
   number = k;
   holder = hand.holder;
   paths = class.paths;
@@ -32,20 +32,20 @@ shown txns k class hand = record {
 }
 
 -- the groups from the number k on
-abbrev pub all_shown : List Txn → ℕ → List Class → List InHand → List GroupState
-all_shown txns k [] hands = []
-all_shown txns k (c ∷ cs) [] = []
-all_shown txns k (c ∷ cs) (h ∷ hs) = shown txns k c h ∷ all_shown txns (k + 1) cs hs
+abbrev pub group_states_from : List Txn → ℕ → List TxnGroup → List GroupProgress → List GroupState
+group_states_from txns k [] hands = []
+group_states_from txns k (c ∷ cs) [] = []
+group_states_from txns k (c ∷ cs) (h ∷ hs) = group_state_of txns k c h ∷ group_states_from txns (k + 1) cs hs
 
 -- each class is held, and no more have answered than it has members
-abbrev pub AreHeld : List Class → List InHand → Type 0
-AreHeld [] [] = Unit {0}
-AreHeld [] (h ∷ hs) = ⊥
-AreHeld (c ∷ cs) [] = ⊥
-AreHeld (c ∷ cs) (h ∷ hs) = (length h.outcomes ≤ length c.members) × AreHeld cs hs
+abbrev pub AreWithinGroups : List TxnGroup → List GroupProgress → Type 0
+AreWithinGroups [] [] = Unit {0}
+AreWithinGroups [] (h ∷ hs) = ⊥
+AreWithinGroups (c ∷ cs) [] = ⊥
+AreWithinGroups (c ∷ cs) (h ∷ hs) = (length h.outcomes ≤ length c.members) × AreWithinGroups cs hs
 
 -- by which values are told apart
-abbrev pub in_hand_code : Coded Holder → Coded State → Coded Outcome → Coded InHand
-in_hand_code holder state outcome =
+abbrev pub group_progress_code : Coded Holder → Coded State → Coded Outcome → Coded GroupProgress
+group_progress_code holder state outcome =
     code_by (Holder × (State × List Outcome)) (coded× holder (coded× state (coded_list outcome)))
     (λ h. (h.holder, (h.cells, h.outcomes))) (λ p. record { holder = p.0; cells = p.1.0; outcomes = p.1.1 }) (λ _. refl)

@@ -1,9 +1,9 @@
 -- What only private contracts cite.
 use Rattle.std.specs.Prelude.{◌≡◌, ℕ, List, [], ◌∷◌, slice_set}
-use Rattle.batcher.specs.Class.{Class}
+use Rattle.batcher.specs.Class.{TxnGroup}
 use Rattle.apply_board.specs.Sitting.{BoardId, Sitting}
-use Rattle.apply_board.specs.Seats.{AreAll, works_of}
-use Rattle.apply_workers.specs.Working.{Worked}
+use Rattle.apply_board.specs.Seats.{AreAllSeats, works_of}
+use Rattle.apply_workers.specs.Working.{IsWorked}
 use Rattle.apply_board.specs.declared.group.Group.{Group}
 use Rattle.apply_board.specs.declared.group.Group.TheVariants.{Home}
 use Rattle.data_tree.specs.State.{State}
@@ -15,12 +15,12 @@ use Rattle.apply_workers.specs.declared.group_work.Finished.TheVariants.{Done}
 module _ {W F : Type 0} where
   -- all seats of a board with these works
   abbrev pub AreReady : BoardId → List W → List (Sitting W F) → Type 0
-  AreReady board works seats = AreAll board seats × (works_of seats ≡ works)
+  AreReady board works seats = AreAllSeats board seats × (works_of seats ≡ works)
 
   -- each seat as its worker left it
   abbrev pub AreWorked : List (Sitting W F) → List (Sitting W F) → Type 0
   AreWorked [] [] = Unit {0}
-  AreWorked (s ∷ ss) (t ∷ ts) = Worked s t × AreWorked ss ts
+  AreWorked (s ∷ ss) (t ∷ ts) = IsWorked s t × AreWorked ss ts
   AreWorked [] (t ∷ ts) = ⊥
   AreWorked (s ∷ ss) [] = ⊥
 
@@ -32,13 +32,13 @@ module _ {A : Type 0} where
   put_at all (p ∷ ps) (x ∷ xs) = put_at (slice_set all p x) ps xs
 
   -- each group's share at its places
-  abbrev pub put_each_at : List A → List Class → List (List A) → List A
+  abbrev pub put_each_at : List A → List TxnGroup → List (List A) → List A
   put_each_at all [] shares = all
   put_each_at all (c ∷ cs) [] = all
   put_each_at all (c ∷ cs) (xs ∷ shares) = put_each_at (put_at all c.members xs) cs shares
 
 -- the groups that came home with these cells and these outcomes
-abbrev pub homes : List State → List (List Outcome) → List (Group Work Finished)
-homes [] answers = []
-homes (c ∷ cs) [] = []
-homes (c ∷ cs) (os ∷ answers) = Home (Done c os) ∷ homes cs answers
+abbrev pub finished_groups : List State → List (List Outcome) → List (Group Work Finished)
+finished_groups [] answers = []
+finished_groups (c ∷ cs) [] = []
+finished_groups (c ∷ cs) (os ∷ answers) = Home (Done c os) ∷ finished_groups cs answers

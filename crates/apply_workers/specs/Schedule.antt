@@ -5,13 +5,13 @@ use Rattle.std.specs.FinSet as set
 use Rattle.ephemerals.specs.Orders.{Names}
 use Rattle.txn_codec.specs.declared.txn.Txn.{Txn}
 use Rattle.data_tree.specs.State.{State}
-use Rattle.data_tree.specs.Meaning.{after, outcomes, answer_of}
+use Rattle.data_tree.specs.Meaning.{state_after, outcomes_of_txns, answer_of}
 use Rattle.data_tree.specs.Footprint.{footprint}
-use Rattle.data_tree.specs.Cells.{cells_at, without_cells, mean_in_cells, after_in_cells, outcomes_in_cells}
-use Rattle.data_tree.specs.Commuting.{Tagged, of_group, batch_of}
+use Rattle.data_tree.specs.Cells.{cells_at, without_cells, effect_in_cells, after_in_cells, outcomes_in_cells}
+use Rattle.data_tree.specs.Commuting.{GroupedTxn, txns_of_group, batch_of}
 use Rattle.data_tree.specs.declared.outcome.Outcome.{Outcome}
-use Rattle.batcher.specs.Groups.{opened, grouped, paths_in}
-use Rattle.apply_workers.specs.Homing.{with_each, timed}
+use Rattle.batcher.specs.Groups.{group_count, tagged_txns, paths_in}
+use Rattle.apply_workers.specs.Homing.{with_all_cells, with_timeouts_set}
 use Rattle.apply_workers.specs.declared.holder.Holder.{Holder}
 use Rattle.apply_workers.specs.declared.holder.Holder.TheVariants.{Waiting, Held, Home}
 use Rattle.apply_workers.specs.declared.step.Step.{Step}
@@ -35,7 +35,7 @@ pub record Progress : Type 0 where
 -- ---- the first state
 
 -- no transaction of the group k is done
-abbrev pub opened_group : State → List Tagged → ℕ → GroupState
+abbrev pub opened_group : State → List GroupedTxn → ℕ → GroupState
 opened_group s batch k =
     let paths = set.from_list (paths_in k batch) in
     record {
@@ -43,20 +43,20 @@ opened_group s batch k =
       holder = Waiting;
       paths = paths;
       cells = cells_at paths s;
-      left = of_group k batch;
+      left = txns_of_group k batch;
       outcomes = [];
     }
 
 -- each group has its cells of the state
-abbrev pub opened_groups : State → List Tagged → List GroupState
-opened_groups s batch = map (opened_group s batch) (range_with_len 0 (opened batch))
+abbrev pub opened_groups : State → List GroupedTxn → List GroupState
+opened_groups s batch = map (opened_group s batch) (range_with_len 0 (group_count batch))
 
-abbrev pub at_start : State → List Tagged → Progress
+abbrev pub at_start : State → List GroupedTxn → Progress
 at_start s batch = record { next = 0; groups = opened_groups s batch }
 
 -- the state without the cells that the groups have
-abbrev pub beside : State → List Tagged → State
-beside s batch = without_cells (set.from_list (flat_map footprint (batch_of batch))) s
+abbrev pub without_batch_cells : State → List GroupedTxn → State
+without_batch_cells s batch = without_cells (set.from_list (flat_map footprint (batch_of batch))) s
 
 -- ---- a step
 
@@ -84,14 +84,14 @@ can_be_taken p (Claim worker) =
 can_be_taken p (Do worker) = list_any (has_work worker) p.groups
 can_be_taken p (Give worker) = list_any (is_finished_by worker) p.groups
 
-abbrev pub claimed : ℕ → ℕ → GroupState → GroupState
-claimed worker next g = if g.number == next then record g { holder = Held worker } else g
+abbrev pub claimed_by : ℕ → ℕ → GroupState → GroupState
+claimed_by worker next g = if g.number == next then record g { holder = Held worker } else g
 
 -- with its next transaction done on its cells
 abbrev pub with_next_done : GroupState → List Txn → GroupState
 with_next_done g [] = g
 with_next_done g (t ∷ ts) =
-    let meant = mean_in_cells g.cells t in
+    let meant = effect_in_cells g.cells t in
     record g { cells = meant.state; left = ts; outcomes = g.outcomes ++ answer_of meant ∷ [] }
 
 abbrev pub done_by : ℕ → GroupState → GroupState
@@ -100,24 +100,24 @@ done_by worker g = if has_work worker g then with_next_done g g.left else g
 abbrev pub given_by : ℕ → GroupState → GroupState
 given_by worker g = if is_finished_by worker g then record g { holder = Home } else g
 
-abbrev pub taken : Progress → Step → Progress
-taken p (Claim worker) = record { next = p.next + 1; groups = map (claimed worker p.next) p.groups }
-taken p (Do worker) = record p { groups = map (done_by worker) p.groups }
-taken p (Give worker) = record p { groups = map (given_by worker) p.groups }
+abbrev pub progress_after : Progress → Step → Progress
+progress_after p (Claim worker) = record { next = p.next + 1; groups = map (claimed_by worker p.next) p.groups }
+progress_after p (Do worker) = record p { groups = map (done_by worker) p.groups }
+progress_after p (Give worker) = record p { groups = map (given_by worker) p.groups }
 
 -- a step that can't be taken is passed over
-abbrev pub step : Progress → Step → Progress
-step p s = if can_be_taken p s then taken p s else p
+abbrev pub try_step : Progress → Step → Progress
+try_step p s = if can_be_taken p s then progress_after p s else p
 
-abbrev pub run : Progress → List Step → Progress
-run p [] = p
-run p (s ∷ ss) = run (step p s) ss
+abbrev pub run_steps : Progress → List Step → Progress
+run_steps p [] = p
+run_steps p (s ∷ ss) = run_steps (try_step p s) ss
 
 -- ---- the end
 
 -- what is left of it is done
-abbrev pub finished : GroupState → GroupState
-finished g =
+abbrev pub with_rest_done : GroupState → GroupState
+with_rest_done g =
     record g {
       holder = Home;
       cells = after_in_cells g.cells g.left;
@@ -127,61 +127,62 @@ finished g =
 
 -- the groups' cells go back, in the order of the groups
 abbrev pub put_back : State → List GroupState → State
-put_back s groups = with_each (map (λ (g : GroupState). g.cells) groups) s
+put_back s groups = with_all_cells (map (λ (g : GroupState). g.cells) groups) s
 
 abbrev pub outcomes_of : ℕ → List GroupState → List Outcome
 outcomes_of k [] = []
 outcomes_of k (g ∷ gs) = if g.number == k then g.outcomes else outcomes_of k gs
 
 -- for each transaction the next outcome of its group
-abbrev pub in_batch_order : List Tagged → (ℕ → List Outcome) → List Outcome
+abbrev pub in_batch_order : List GroupedTxn → (ℕ → List Outcome) → List Outcome
 in_batch_order [] of = []
 in_batch_order (t ∷ ts) of =
     take 1 (of t.0) ++ in_batch_order ts (λ k. if t.0 == k then drop 1 (of k) else of k)
 
 -- what a batch leaves and answers
-pub record BatchDone : Type 0 where
+pub record BatchResult : Type 0 where
   pub state : State
   pub outcomes : List Outcome
 
 -- groups that are done, put together: the cells go back, and the timeouts are set in the order of the batch, in which
 -- the outcomes stand too
-abbrev pub put_together : State → List Tagged → List GroupState → BatchDone
+abbrev pub put_together : State → List GroupedTxn → List GroupState → BatchResult
 put_together tree batch done = record {
-  state = timed (batch_of batch) (put_back tree done);
+  state = with_timeouts_set (batch_of batch) (put_back tree done);
   outcomes = in_batch_order batch (λ k. outcomes_of k done);
 }
 
 -- what the steps left undone is done first
-abbrev pub home : State → List Tagged → List GroupState → BatchDone
-home tree batch groups = put_together tree batch (map finished groups)
+abbrev pub finish_batch : State → List GroupedTxn → List GroupState → BatchResult
+finish_batch tree batch groups = put_together tree batch (map with_rest_done groups)
 
 -- ---- a batch with its groups, or one that has none, as a barrier alone
 
 -- where there are no groups there is nothing to claim
-abbrev pub started_with : State → Option (List Tagged) → Progress
-started_with s None = record { next = 0; groups = [] }
-started_with s (Some batch) = at_start s batch
+abbrev pub initial_progress_with : State → Option (List GroupedTxn) → Progress
+initial_progress_with s None = record { next = 0; groups = [] }
+initial_progress_with s (Some batch) = at_start s batch
 
-abbrev pub started : State → List Txn → Progress
-started s txns = started_with s (grouped txns)
+abbrev pub initial_progress : State → List Txn → Progress
+initial_progress s txns = initial_progress_with s (tagged_txns txns)
 
 -- what is left of the state while the groups have their cells
-abbrev pub left_with : State → Option (List Tagged) → State
+abbrev pub left_with : State → Option (List GroupedTxn) → State
 left_with s None = s
-left_with s (Some batch) = beside s batch
+left_with s (Some batch) = without_batch_cells s batch
 
 abbrev pub left_by : State → List Txn → State
-left_by s txns = left_with s (grouped txns)
+left_by s txns = left_with s (tagged_txns txns)
 
 -- a batch without groups is done on the tree itself
-abbrev pub ended_with : State → List Txn → Option (List Tagged) → List GroupState → BatchDone
-ended_with tree txns None groups = record { state = after tree txns; outcomes = outcomes tree txns }
-ended_with tree txns (Some batch) groups = home tree batch groups
+abbrev pub batch_result_with : State → List Txn → Option (List GroupedTxn) → List GroupState → BatchResult
+batch_result_with tree txns None groups =
+    record { state = state_after tree txns; outcomes = outcomes_of_txns tree txns }
+batch_result_with tree txns (Some batch) groups = finish_batch tree batch groups
 
-abbrev pub ended : State → List Txn → List GroupState → BatchDone
-ended tree txns groups = ended_with tree txns (grouped txns) groups
+abbrev pub batch_result : State → List Txn → List GroupState → BatchResult
+batch_result tree txns groups = batch_result_with tree txns (tagged_txns txns) groups
 
 -- the batch, done by these steps and then what they leave undone
-abbrev pub scheduled : State → List Txn → List Step → BatchDone
-scheduled s txns steps = ended (left_by s txns) txns (run (started s txns) steps).groups
+abbrev pub schedule_result : State → List Txn → List Step → BatchResult
+schedule_result s txns steps = batch_result (left_by s txns) txns (run_steps (initial_progress s txns) steps).groups

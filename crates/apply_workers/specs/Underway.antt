@@ -7,16 +7,16 @@ use Rattle.txn_codec.specs.declared.txn.Txn.{Txn}
 use Rattle.data_tree.specs.State.{State}
 use Rattle.data_tree.specs.declared.outcome.Outcome.{Outcome}
 use Rattle.apply_workers.specs.declared.holder.Holder.{Holder}
-use Rattle.apply_workers.specs.Schedule.{GroupState, Progress, started}
+use Rattle.apply_workers.specs.Schedule.{GroupState, Progress, initial_progress}
 
 -- its transactions, and how far its groups are
-pub record Underway : Type 0 where
+pub record BatchProgress : Type 0 where
   pub batch : List Txn
   pub progress : Progress
 
 -- no step was taken yet
-abbrev pub opened_on : State → List Txn → Underway
-opened_on s txns = record { batch = txns; progress = started s txns }
+abbrev pub unstarted_batch : State → List Txn → BatchProgress
+unstarted_batch s txns = record { batch = txns; progress = initial_progress s txns }
 
 -- ---- codes, by which values are told apart
 
@@ -38,8 +38,8 @@ group_code holder state txn outcome =
     })
     (λ _. refl)
 
-abbrev pub underway_code : Coded Holder → Coded State → Coded Txn → Coded Outcome → Coded Underway
-underway_code holder state txn outcome =
+abbrev pub batch_progress_code : Coded Holder → Coded State → Coded Txn → Coded Outcome → Coded BatchProgress
+batch_progress_code holder state txn outcome =
     code_by (List Txn × (ℕ × List GroupState))
     (coded× (coded_list txn) (coded× coded_ℕ (coded_list (group_code holder state txn outcome))))
     (λ u. (u.batch, (u.progress.next, u.progress.groups)))

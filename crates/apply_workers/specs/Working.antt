@@ -5,7 +5,7 @@ use Rattle.apply_board.specs.Seats.{IsIdle}
 
 -- a worker's seat s is t when all numbers are claimed: it has given all that it claimed, behind what it had given
 -- before
-pub record Worked {W F : Type 0} (s t : Sitting W F) : Type 0 where
+pub record IsWorked {W F : Type 0} (s t : Sitting W F) : Type 0 where
   pub own : t.board ≡ s.board
   pub idle : IsIdle t
   pub spent : t.view.spent ≡ true

@@ -3,7 +3,7 @@ use Rattle.std.specs.Prelude.{◌≡◌, ℕ, List, [], ◌∷◌, ◌++◌, len
 use Rattle.txn_codec.specs.declared.txn.Txn.{Txn}
 use Rattle.data_tree.specs.State.{State}
 use Rattle.data_tree.specs.Cells.{after_in_cells, outcomes_in_cells}
-use Rattle.data_tree.specs.Refused.{IsLeftBy}
+use Rattle.data_tree.specs.Refused.{IsLeftByRefused}
 use Rattle.data_tree.specs.declared.outcome.Outcome.{Outcome}
 use Rattle.apply_workers.specs.Places.{at_places}
 use Rattle.apply_workers.specs.declared.group_work.Work.{Work}
@@ -19,14 +19,14 @@ abbrev pub txns_of : Work → List Txn
 txns_of work = at_places work.txns.now work.members.now
 
 -- what the transactions leave in the cells, and what they answer
-pub record IsDone (cells : State) (txns : List Txn) (new : State) (answers : List Outcome) : Type 0 where
+pub record AreTxnsDone (cells : State) (txns : List Txn) (new : State) (answers : List Outcome) : Type 0 where
   pub state : new ≡ after_in_cells cells txns
   pub outcomes : answers ≡ outcomes_in_cells cells txns
 
 -- what the first of the transactions leaves where it is refused
 abbrev pub IsLeftByFirst : List Txn → State → State → Type 0
 IsLeftByFirst [] old new = new ≡ old
-IsLeftByFirst (t ∷ ts) old new = IsLeftBy t.header t.body old new
+IsLeftByFirst (t ∷ ts) old new = IsLeftByRefused t.header t.body old new
 
 -- so many transactions were done, and the next one was refused
 pub record IsStopped (cells : State) (txns : List Txn) (new : State) (done : ℕ) : Type 0 where
@@ -37,9 +37,9 @@ pub record IsStopped (cells : State) (txns : List Txn) (new : State) (done : ℕ
   pub state : IsLeftByFirst rest (after_in_cells cells front) new
 
 -- done whole, or stopped before the end
-abbrev pub Finishes : State → List Txn → Finished → Type 0
-Finishes cells txns (Done new answers) = IsDone cells txns new answers
-Finishes cells txns (Stopped new done) = IsStopped cells txns new done
+abbrev pub FinishesTxns : State → List Txn → Finished → Type 0
+FinishesTxns cells txns (Done new answers) = AreTxnsDone cells txns new answers
+FinishesTxns cells txns (Stopped new done) = IsStopped cells txns new done
 
 abbrev pub IsOfWork : Work → Finished → Type 0
-IsOfWork work finished = Finishes (cells_of work) (txns_of work) finished
+IsOfWork work finished = FinishesTxns (cells_of work) (txns_of work) finished

@@ -1,6 +1,6 @@
 //! A batch that is done on threads, or on the tree itself.
 ghost use Rattle.std.specs.Prelude.{◌≡◌, ◌↔◌, ◌<◌, ◌≤◌, IfOk, OnOk, IsTrue, Some, slice_get};
-ghost use Rattle.data_tree.specs.Meaning.{after, outcomes};
+ghost use Rattle.data_tree.specs.Meaning.{state_after, outcomes_of_txns};
 
 use crate::crew::run;
 use crate::gate::Gate;
@@ -16,8 +16,8 @@ use values::NoMemory;
 
 /// Does the transactions on the tree itself, one after the other.
 pub fn apply_each(alloc: Global, tree: &mut Tree, txns: &[Txn]) -> Result<Vec<Outcome>, NoMemory>
-    ensures tree { OnOk result (tree.new ≡ after tree.old txns.now) }
-    ensures outcomes { IfOk result (λ v. v.items ≡ outcomes tree.old txns.now) }
+    ensures tree { OnOk result (tree.new ≡ state_after tree.old txns.now) }
+    ensures outcomes { IfOk result (λ v. v.items ≡ outcomes_of_txns tree.old txns.now) }
 {
     let mut outcomes = Vec::new(alloc);
     for txn in txns {
@@ -44,8 +44,8 @@ fn apply_alone<G: Gate>(
     batch: &Batch,
     gate: &G,
 ) -> Result<Vec<Outcome>, NoMemory>
-    ensures tree { OnOk result (tree.new ≡ after tree.old batch.now) }
-    ensures outcomes { IfOk result (λ v. v.items ≡ outcomes tree.old batch.now) }
+    ensures tree { OnOk result (tree.new ≡ state_after tree.old batch.now) }
+    ensures outcomes { IfOk result (λ v. v.items ≡ outcomes_of_txns tree.old batch.now) }
 {
     let groups = batch.groups();
     let txns = batch.txns();
@@ -76,8 +76,8 @@ pub fn apply_batch<G: Gate + Sync, R: Threads + Sync>(
     gate: &G,
 ) -> Result<Vec<Outcome>, NoMemory>
     requires { (1 ≤ workers) × (workers ≤ 64) }
-    ensures tree { OnOk result (tree.new ≡ after tree.old batch) }
-    ensures outcomes { IfOk result (λ v. v.items ≡ outcomes tree.old batch) }
+    ensures tree { OnOk result (tree.new ≡ state_after tree.old batch) }
+    ensures outcomes { IfOk result (λ v. v.items ≡ outcomes_of_txns tree.old batch) }
 {
     // More workers than groups would only be started in vain.
     let most = workers.min(batch.groups().len());

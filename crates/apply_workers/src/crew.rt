@@ -2,7 +2,7 @@
 ghost use Rattle.std.specs.Prelude.{◌≡◌, ◌<◌, IfOk, All, map, length};
 ghost use Rattle.apply_board.specs.Seats.{IsIdle, IsOpener};
 ghost use Rattle.apply_board.specs.Closing.{AreHome};
-ghost use Rattle.apply_workers.specs.Working.{Worked};
+ghost use Rattle.apply_workers.specs.Working.{IsWorked};
 ghost use Rattle.apply_workers.specs.Inner.{AreReady, AreWorked};
 
 use crate::gate::Gate;
@@ -22,7 +22,7 @@ struct Worker<W: Yields<F>, F> {
 
 // Up to so many workers, one a seat: the opener's first. They are numbered from the last one on, which has number 0:
 // `map_vec` calls on the thread that is there already what comes last.
-fn seated<W: Yields<F> + Drop, F: Drop>(
+fn make_workers<W: Yields<F> + Drop, F: Drop>(
     alloc: Global,
     board: &Board<W, F>,
     mut opener: Seat<W, F>,
@@ -51,7 +51,12 @@ fn seated<W: Yields<F> + Drop, F: Drop>(
 }
 
 // Each worker's seat, when all works are claimed.
-fn worked<W: Job<F> + Drop + Send + Sync, F: Drop + Send + Sync, G: Gate + Sync, R: Threads + Sync>(
+fn run_workers<
+    W: Job<F> + Drop + Send + Sync,
+    F: Drop + Send + Sync,
+    G: Gate + Sync,
+    R: Threads + Sync,
+>(
     rt: &R,
     board: &Board<W, F>,
     crew: Vec<Worker<W, F>>,
@@ -65,7 +70,7 @@ fn worked<W: Job<F> + Drop + Send + Sync, F: Drop + Send + Sync, G: Gate + Sync,
         crew,
         &|worker: Worker<W, F>| -> Seat<W, F>
             requires { (worker.seat.board ≡ board.now) × IsIdle worker.seat }
-            ensures { Worked worker.seat result }
+            ensures { IsWorked worker.seat result }
         { work(board, worker.seat, worker.number, gate) },
     )?;
     Ok(seats)
@@ -90,7 +95,7 @@ pub fn run<
     ensures home { IfOk result (λ v. AreHome W.gives works.items v.items) }
 {
     let (board, opener) = Board::open(alloc, works)?;
-    let crew = seated(alloc, &board, opener, workers)?;
-    let seats = worked(rt, &board, crew, gate)?;
+    let crew = make_workers(alloc, &board, opener, workers)?;
+    let seats = run_workers(rt, &board, crew, gate)?;
     Ok(board.close(seats))
 }

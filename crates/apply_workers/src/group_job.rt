@@ -1,7 +1,7 @@
 //! A group's transactions, done in its cells.
 ghost use Rattle.std.specs.Prelude.{◌<◌, All, length};
 ghost use Rattle.apply_workers.specs.Places.{at_places};
-ghost use Rattle.apply_workers.specs.Works.{Finishes, IsOfWork};
+ghost use Rattle.apply_workers.specs.Works.{FinishesTxns, IsOfWork};
 
 use crate::group_work::{Finished, Work};
 use crate::job::Job;
@@ -14,7 +14,7 @@ use values::Listed;
 // Does the transactions at the places in the cells, in this order.
 fn apply_in_cells(alloc: Global, mut cells: Cells, txns: &[Txn], members: &[usize]) -> Finished
     requires { All (λ place. place < length txns.now) members.now }
-    ensures { Finishes cells (at_places txns.now members.now) result }
+    ensures { FinishesTxns cells (at_places txns.now members.now) result }
 {
     let Ok(mut outcomes) = Vec::with_capacity(alloc, members.len()) else {
         return Finished::Stopped { cells, done: 0 };

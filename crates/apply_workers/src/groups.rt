@@ -2,14 +2,14 @@
 ghost use Rattle.std.specs.Prelude.{◌≡◌, ◌<◌, IfOk, OnOk, map, length, false};
 ghost use Rattle.std.specs.List.{list_any};
 ghost use Rattle.batcher.specs.Cut.{groups_of, is_barrier_alone};
-ghost use Rattle.apply_workers.specs.Hands.{all_shown, AreHeld, untouched};
-ghost use Rattle.apply_workers.specs.Schedule.{GroupState, is_held_by, has_work, is_finished_by, done_by, given_by, claimed, finished, can_be_taken, started, left_by, ended};
-ghost use Rattle.apply_workers.specs.Schedule.{step as stepped};
-ghost use Rattle.apply_workers.specs.Underway.{opened_on};
+ghost use Rattle.apply_workers.specs.Hands.{group_states_from, AreWithinGroups, unclaimed_group};
+ghost use Rattle.apply_workers.specs.Schedule.{GroupState, is_held_by, has_work, is_finished_by, done_by, given_by, claimed_by, with_rest_done, can_be_taken, initial_progress, left_by, batch_result};
+ghost use Rattle.apply_workers.specs.Schedule.{try_step as stepped};
+ghost use Rattle.apply_workers.specs.Underway.{unstarted_batch};
 ghost use Rattle.apply_workers.specs.declared.step.Step.TheVariants.{Claim};
 
 use crate::batch::apply_each;
-use crate::hand::Hand;
+use crate::hand::GroupInProgress;
 use crate::home::{Done, home};
 use crate::law::groups_are_taken;
 use crate::step::Step;
@@ -26,7 +26,7 @@ use values::{Listed, NoMemory};
 pub struct Groups {
     batch: Batch,
     next: usize,
-    hands: Vec<Hand>,
+    hands: Vec<GroupInProgress>,
 }
 
 impl Model for Groups {
@@ -36,38 +36,38 @@ impl Model for Groups {
     ghost use Rattle.data_tree.specs.contracts.outcome.Outcome as of_outcome;
     ghost use Rattle.batcher.specs.Cut.{groups_of};
     ghost use Rattle.apply_workers.specs.contracts.holder.Holder as of_holder;
-    ghost use Rattle.apply_workers.specs.Hands.{all_shown, AreHeld};
-    ghost use Rattle.apply_workers.specs.Underway.{Underway, underway_code};
+    ghost use Rattle.apply_workers.specs.Hands.{group_states_from, AreWithinGroups};
+    ghost use Rattle.apply_workers.specs.Underway.{BatchProgress, batch_progress_code};
 
-    ghost Value = { Underway };
+    ghost Value = { BatchProgress };
 
-    ghost coded = { underway_code of_holder.the_row.coded (state_code of_node.the_row.coded)
+    ghost coded = { batch_progress_code of_holder.the_row.coded (state_code of_node.the_row.coded)
         of_txn.the_row.coded of_outcome.the_row.coded };
 
     ghost view = { λ g. record {
       batch = g.batch;
       progress = record {
         next = g.next;
-        groups = all_shown g.batch 0 (groups_of g.batch) g.hands.items;
+        groups = group_states_from g.batch 0 (groups_of g.batch) g.hands.items;
       };
     } };
 
-    ghost invariant = { λ g. AreHeld (groups_of g.batch) g.hands.items };
+    ghost invariant = { λ g. AreWithinGroups (groups_of g.batch) g.hands.items };
 }
 
 // Hands that hold these cells, of groups that nobody has claimed.
-fn waiting(alloc: Global, each: Vec<Cells>) -> Result<Vec<Hand>, NoMemory>
-    ensures { IfOk result (λ v. v.items ≡ map untouched each.items) }
+fn waiting(alloc: Global, each: Vec<Cells>) -> Result<Vec<GroupInProgress>, NoMemory>
+    ensures { IfOk result (λ v. v.items ≡ map unclaimed_group each.items) }
 {
     let mut hands = Vec::with_capacity(alloc, each.len())?;
     for cells in each {
-        hands.push_reserved(Hand::new(alloc, cells));
+        hands.push_reserved(GroupInProgress::new(alloc, cells));
     }
     Ok(hands)
 }
 
 // Whether the worker has a group.
-fn has_group(hands: &[Hand], worker: usize) -> bool
+fn has_group(hands: &[GroupInProgress], worker: usize) -> bool
     ensures { result ≡ list_any (λ h. is_held_by worker h.holder) hands.now }
 {
     for hand in hands {
@@ -80,17 +80,17 @@ fn has_group(hands: &[Hand], worker: usize) -> bool
 
 // Does the next transaction of the worker's group, and says whether there was one. A worker has one group at most.
 fn do_next(
-    hands: &mut [Hand],
+    hands: &mut [GroupInProgress],
     alloc: Global,
     batch: &Batch,
     worker: usize,
 ) -> Result<bool, NoMemory>
-    requires { AreHeld (groups_of batch.now) hands.old }
-    ensures held { AreHeld (groups_of batch.now) hands.new }
+    requires { AreWithinGroups (groups_of batch.now) hands.old }
+    ensures held { AreWithinGroups (groups_of batch.now) hands.new }
     ensures taken { IfOk result (λ taken. taken
-        ≡ list_any (has_work worker) (all_shown batch.now 0 (groups_of batch.now) hands.old)) }
-    ensures groups { OnOk result (all_shown batch.now 0 (groups_of batch.now) hands.new
-        ≡ map (done_by worker) (all_shown batch.now 0 (groups_of batch.now) hands.old)) }
+        ≡ list_any (has_work worker) (group_states_from batch.now 0 (groups_of batch.now) hands.old)) }
+    ensures groups { OnOk result (group_states_from batch.now 0 (groups_of batch.now) hands.new
+        ≡ map (done_by worker) (group_states_from batch.now 0 (groups_of batch.now) hands.old)) }
 {
     let groups = batch.groups();
     let txns = batch.txns();
@@ -103,13 +103,13 @@ fn do_next(
 }
 
 // Gives the worker's group back, if all its transactions are done, and says whether there was one.
-fn give(hands: &mut [Hand], batch: &Batch, worker: usize) -> bool
-    requires { AreHeld (groups_of batch.now) hands.old }
-    ensures held { AreHeld (groups_of batch.now) hands.new }
+fn give(hands: &mut [GroupInProgress], batch: &Batch, worker: usize) -> bool
+    requires { AreWithinGroups (groups_of batch.now) hands.old }
+    ensures held { AreWithinGroups (groups_of batch.now) hands.new }
     ensures taken { result
-        ≡ list_any (is_finished_by worker) (all_shown batch.now 0 (groups_of batch.now) hands.old) }
-    ensures groups { all_shown batch.now 0 (groups_of batch.now) hands.new
-        ≡ map (given_by worker) (all_shown batch.now 0 (groups_of batch.now) hands.old) }
+        ≡ list_any (is_finished_by worker) (group_states_from batch.now 0 (groups_of batch.now) hands.old) }
+    ensures groups { group_states_from batch.now 0 (groups_of batch.now) hands.new
+        ≡ map (given_by worker) (group_states_from batch.now 0 (groups_of batch.now) hands.old) }
 {
     let groups = batch.groups();
     let txns = batch.txns();
@@ -122,12 +122,12 @@ fn give(hands: &mut [Hand], batch: &Batch, worker: usize) -> bool
 }
 
 // Does what is left of each group.
-fn finish_each(alloc: Global, batch: &Batch, hands: Vec<Hand>) -> Result<Done, NoMemory>
-    requires { AreHeld (groups_of batch.now) hands.items }
+fn finish_each(alloc: Global, batch: &Batch, hands: Vec<GroupInProgress>) -> Result<Done, NoMemory>
+    requires { AreWithinGroups (groups_of batch.now) hands.items }
     ensures cells { IfOk result (λ done. done.cells.items ≡ map (λ g. g.cells)
-        (map finished (all_shown batch.now 0 (groups_of batch.now) hands.items))) }
+        (map with_rest_done (group_states_from batch.now 0 (groups_of batch.now) hands.items))) }
     ensures outcomes { IfOk result (λ done. done.outcomes.items ≡ map (λ g. g.outcomes)
-        (map finished (all_shown batch.now 0 (groups_of batch.now) hands.items))) }
+        (map with_rest_done (group_states_from batch.now 0 (groups_of batch.now) hands.items))) }
 {
     let groups = batch.groups();
     let txns = batch.txns();
@@ -145,7 +145,7 @@ impl Groups {
     /// Takes from the tree the cells of each group's paths, and no other; no group is claimed. Refused, it leaves a
     /// tree that is only to be dropped.
     pub fn open(alloc: Global, tree: &mut Tree, batch: Batch) -> Result<Groups, NoMemory>
-        ensures groups { IfOk result (λ groups. groups ≡ opened_on tree.old batch) }
+        ensures groups { IfOk result (λ groups. groups ≡ unstarted_batch tree.old batch) }
         ensures tree { OnOk result (tree.new ≡ left_by tree.old batch) }
     {
         batcher::law::groups();
@@ -196,9 +196,9 @@ impl Groups {
     /// only to be dropped.
     pub fn home(self, alloc: Global, tree: &mut Tree) -> Result<Vec<Outcome>, NoMemory>
         ensures tree { OnOk result
-            (tree.new ≡ (ended tree.old self.batch self.progress.groups).state) }
+            (tree.new ≡ (batch_result tree.old self.batch self.progress.groups).state) }
         ensures outcomes { IfOk result
-            (λ v. v.items ≡ (ended tree.old self.batch self.progress.groups).outcomes) }
+            (λ v. v.items ≡ (batch_result tree.old self.batch self.progress.groups).outcomes) }
     {
         let Groups { batch, hands, .. } = self;
         if batch.is_barrier() {

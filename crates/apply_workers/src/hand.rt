@@ -3,7 +3,7 @@ ghost use Rattle.std.specs.Prelude.{◌≡◌, ◌<◌, ◌≤◌, ◌++◌, ℕ
 ghost use Rattle.data_tree.specs.Cells.{after_in_cells, outcomes_in_cells};
 ghost use Rattle.apply_workers.specs.Places.{at_places};
 ghost use Rattle.apply_workers.specs.Schedule.{is_held_by, has_work, is_finished_by, done_by, given_by};
-ghost use Rattle.apply_workers.specs.Hands.{shown, untouched};
+ghost use Rattle.apply_workers.specs.Hands.{group_state_of, unclaimed_group};
 ghost use Rattle.apply_workers.specs.declared.holder.Holder.TheVariants.{Held};
 
 use crate::holder::Holder;
@@ -16,32 +16,33 @@ use values::NoMemory;
 
 /// Who has the group, its cells, and what the transactions that are done answered.
 #[derive(Drop)]
-pub struct Hand {
+pub struct GroupInProgress {
     holder: Holder,
     cells: Cells,
     outcomes: Vec<Outcome>,
 }
 
-impl Model for Hand {
+impl Model for GroupInProgress {
     ghost use Rattle.data_tree.specs.State.{state_code};
     ghost use Rattle.data_tree.specs.contracts.node.Node as of_node;
     ghost use Rattle.data_tree.specs.contracts.outcome.Outcome as of_outcome;
     ghost use Rattle.apply_workers.specs.contracts.holder.Holder as of_holder;
-    ghost use Rattle.apply_workers.specs.Hands.{InHand, in_hand_code};
+    ghost use Rattle.apply_workers.specs.Hands.{GroupProgress, group_progress_code};
 
-    ghost Value = { InHand };
+    ghost Value = { GroupProgress };
 
-    ghost coded = { in_hand_code of_holder.the_row.coded (state_code of_node.the_row.coded) of_outcome.the_row.coded };
+    ghost coded = { group_progress_code of_holder.the_row.coded (state_code of_node.the_row.coded)
+        of_outcome.the_row.coded };
 
     ghost view = { λ h. record { holder = h.holder; cells = h.cells; outcomes = h.outcomes.items } };
 }
 
-impl Hand {
+impl GroupInProgress {
     /// Nobody has claimed the group, and nothing is done in its cells.
-    pub fn new(alloc: Global, cells: Cells) -> Hand
-        ensures { result ≡ untouched cells }
+    pub fn new(alloc: Global, cells: Cells) -> GroupInProgress
+        ensures { result ≡ unclaimed_group cells }
     {
-        Hand {
+        GroupInProgress {
             holder: Holder::Waiting,
             cells,
             outcomes: Vec::new(alloc),
@@ -75,9 +76,9 @@ impl Hand {
     ) -> Result<bool, NoMemory>
         requires { All (λ place. place < length txns.now) group.now.members }
         ensures taken { IfOk result (λ taken. (k : ℕ)
-            → taken ≡ has_work worker (shown txns.now k group.now self.old)) }
-        ensures group { OnOk result ((k : ℕ) → shown txns.now k group.now self.new
-            ≡ done_by worker (shown txns.now k group.now self.old)) }
+            → taken ≡ has_work worker (group_state_of txns.now k group.now self.old)) }
+        ensures group { OnOk result ((k : ℕ) → group_state_of txns.now k group.now self.new
+            ≡ done_by worker (group_state_of txns.now k group.now self.old)) }
         ensures count { length self.old.outcomes ≤ length group.now.members
             → length self.new.outcomes ≤ length group.now.members }
     {
@@ -95,9 +96,9 @@ impl Hand {
     pub fn give(&mut self, worker: usize, txns: &[Txn], group: &Group) -> bool
         requires { All (λ place. place < length txns.now) group.now.members }
         ensures taken { (k : ℕ)
-            → result ≡ is_finished_by worker (shown txns.now k group.now self.old) }
-        ensures group { (k : ℕ) → shown txns.now k group.now self.new
-            ≡ given_by worker (shown txns.now k group.now self.old) }
+            → result ≡ is_finished_by worker (group_state_of txns.now k group.now self.old) }
+        ensures group { (k : ℕ) → group_state_of txns.now k group.now self.new
+            ≡ given_by worker (group_state_of txns.now k group.now self.old) }
         ensures count { self.new.outcomes ≡ self.old.outcomes }
     {
         if !self.is_held_by(worker) {
@@ -124,7 +125,7 @@ impl Hand {
         ensures outcomes { IfOk result (λ r. r.1.items ≡ self.outcomes ++ outcomes_in_cells self.cells
             (at_places txns.now (drop (length self.outcomes) group.now.members))) }
     {
-        let Hand {
+        let GroupInProgress {
             mut cells,
             mut outcomes,
             ..

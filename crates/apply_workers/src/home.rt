@@ -2,8 +2,8 @@
 ghost use Rattle.std.specs.Prelude.{◌≡◌, ◌<◌, IfOk, OnOk, All, List, false, length};
 ghost use Rattle.data_tree.specs.declared.outcome.Outcome.{Outcome};
 ghost use Rattle.batcher.specs.Cut.{is_barrier_alone};
-ghost use Rattle.apply_workers.specs.Homing.{with_each, timed, AreShares};
-ghost use Rattle.apply_workers.specs.Inner.{put_at, homes};
+ghost use Rattle.apply_workers.specs.Homing.{with_all_cells, with_timeouts_set, IsSplitByGroup};
+ghost use Rattle.apply_workers.specs.Inner.{put_at, finished_groups};
 
 use crate::group_work::{Finished, Work};
 use apply_board::Group;
@@ -23,7 +23,7 @@ pub struct Done {
 /// What all groups left and answered; `NoMemory` where one was stopped.
 pub fn all_done(alloc: Global, groups: Vec<Group<Work<'_>, Finished>>) -> Result<Done, NoMemory>
     ensures homes { IfOk result (λ done.
-        groups.entry.items ≡ homes done.cells.items done.outcomes.items) }
+        groups.entry.items ≡ finished_groups done.cells.items done.outcomes.items) }
     ensures count { IfOk result (λ done.
         length done.cells.items ≡ length done.outcomes.items) }
 {
@@ -48,7 +48,7 @@ pub fn all_done(alloc: Global, groups: Vec<Group<Work<'_>, Finished>>) -> Result
 
 // Puts each group's cells back.
 fn put_each(alloc: Global, tree: &mut Tree, each: Vec<Cells>) -> Result<(), NoMemory>
-    ensures { OnOk result (tree.new ≡ with_each each.items tree.old) }
+    ensures { OnOk result (tree.new ≡ with_all_cells each.items tree.old) }
 {
     for cells in each {
         tree.put_cells(alloc, cells)?;
@@ -58,7 +58,7 @@ fn put_each(alloc: Global, tree: &mut Tree, each: Vec<Cells>) -> Result<(), NoMe
 
 // Sets the timeouts of the sessions that the transactions create, in their order.
 fn set_timeouts(tree: &mut Tree, txns: &[Txn]) -> Result<(), NoMemory>
-    ensures { OnOk result (tree.new ≡ timed txns.now tree.old) }
+    ensures { OnOk result (tree.new ≡ with_timeouts_set txns.now tree.old) }
 {
     for txn in txns {
         if let Body::CreateSession(timeout) = &txn.body {
@@ -69,7 +69,7 @@ fn set_timeouts(tree: &mut Tree, txns: &[Txn]) -> Result<(), NoMemory>
 }
 
 // An outcome for each transaction, in whose place another comes.
-fn blanks(alloc: Global, count: usize) -> Result<Vec<Outcome>, NoMemory>
+fn empty_outcomes(alloc: Global, count: usize) -> Result<Vec<Outcome>, NoMemory>
     ensures { IfOk result (λ v. length v.items ≡ count) }
 {
     let mut blanks = Vec::with_capacity(alloc, count)?;
@@ -105,9 +105,9 @@ fn in_order(
 ) -> Result<Vec<Outcome>, NoMemory>
     requires groups { is_barrier_alone batch.now ≡ false }
     ensures { IfOk result (λ v. (whole : List Outcome)
-        → AreShares batch.now whole shares.items → v.items ≡ whole) }
+        → IsSplitByGroup batch.now whole shares.items → v.items ≡ whole) }
 {
-    let mut all = blanks(alloc, batch.txns().len())?;
+    let mut all = empty_outcomes(alloc, batch.txns().len())?;
     let mut rest = shares.into_iter();
     for group in batch.groups() {
         let Some(share) = rest.next() else {
@@ -127,9 +127,9 @@ pub fn home(
     done: Done,
 ) -> Result<Vec<Outcome>, NoMemory>
     requires groups { is_barrier_alone batch.now ≡ false }
-    ensures tree { OnOk result (tree.new ≡ timed batch.now (with_each done.cells.items tree.old)) }
+    ensures tree { OnOk result (tree.new ≡ with_timeouts_set batch.now (with_all_cells done.cells.items tree.old)) }
     ensures outcomes { IfOk result (λ v. (whole : List Outcome)
-        → AreShares batch.now whole done.outcomes.items → v.items ≡ whole) }
+        → IsSplitByGroup batch.now whole done.outcomes.items → v.items ≡ whole) }
 {
     let Done { cells, outcomes } = done;
     put_each(alloc, tree, cells)?;

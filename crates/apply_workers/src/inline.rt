@@ -1,6 +1,6 @@
 //! A batch that is done by steps, on one thread.
 ghost use Rattle.std.specs.Prelude.{◌≡◌, IfOk, OnOk};
-ghost use Rattle.data_tree.specs.Meaning.{after, outcomes};
+ghost use Rattle.data_tree.specs.Meaning.{state_after, outcomes_of_txns};
 
 use crate::groups::Groups;
 use crate::law::every_schedule;
@@ -19,8 +19,8 @@ pub fn apply_inline(
     batch: Batch,
     steps: &[Step],
 ) -> Result<Vec<Outcome>, NoMemory>
-    ensures tree { OnOk result (tree.new ≡ after tree.old batch) }
-    ensures outcomes { IfOk result (λ v. v.items ≡ outcomes tree.old batch) }
+    ensures tree { OnOk result (tree.new ≡ state_after tree.old batch) }
+    ensures outcomes { IfOk result (λ v. v.items ≡ outcomes_of_txns tree.old batch) }
 {
     every_schedule();
     let mut groups = Groups::open(alloc, tree, batch)?;

@@ -1,7 +1,7 @@
 //! What one worker does.
 ghost use Rattle.std.specs.Prelude.{◌≡◌};
 ghost use Rattle.apply_board.specs.Seats.{IsIdle};
-ghost use Rattle.apply_workers.specs.Working.{Worked};
+ghost use Rattle.apply_workers.specs.Working.{IsWorked};
 
 use crate::gate::Gate;
 use apply_board::{Board, Seat, Yields};
@@ -21,7 +21,7 @@ pub fn work<W: Job<F> + Drop, F: Drop, G: Gate>(
 ) -> Seat<W, F>
     requires own { seat.board ≡ board.now }
     requires idle { IsIdle seat }
-    ensures { Worked seat result }
+    ensures { IsWorked seat result }
 {
     while let Some((claim, work)) = board.claim(&mut seat) {
         gate.pass(worker, claim.number);

@@ -1,8 +1,8 @@
 //! The cells of a batch's groups, taken from the tree.
 ghost use Rattle.std.specs.Prelude.{◌≡◌, IfOk, OnOk, length, map};
 ghost use Rattle.batcher.specs.Cut.{groups_of};
-ghost use Rattle.apply_workers.specs.Homing.{at_each};
-ghost use Rattle.apply_workers.specs.Taking.{cells_of_each, without_each};
+ghost use Rattle.apply_workers.specs.Homing.{split_by_group};
+ghost use Rattle.apply_workers.specs.Taking.{cells_of_each, without_group_cells};
 ghost use Rattle.apply_workers.specs.Works.{cells_of, txns_of};
 
 use crate::group_work::Work;
@@ -14,7 +14,7 @@ use values::NoMemory;
 /// Takes each group's cells, in order. Refused, it leaves a tree that is only to be dropped.
 pub fn take_each(alloc: Global, tree: &mut Tree, groups: &[Group]) -> Result<Vec<Cells>, NoMemory>
     ensures cells { IfOk result (λ v. v.items ≡ cells_of_each groups.now tree.old) }
-    ensures rest { OnOk result (tree.new ≡ without_each groups.now tree.old) }
+    ensures rest { OnOk result (tree.new ≡ without_group_cells groups.now tree.old) }
 {
     let mut taken = Vec::with_capacity(alloc, groups.len())?;
     for group in groups {
@@ -32,7 +32,7 @@ pub fn works<'a>(
     requires { length cells.items ≡ length (groups_of batch.now) }
     ensures cells { IfOk result (λ v. map cells_of v.items ≡ cells.items) }
     ensures txns { IfOk result (λ v. map txns_of v.items
-        ≡ at_each batch.now (groups_of batch.now)) }
+        ≡ split_by_group batch.now (groups_of batch.now)) }
 {
     let groups = batch.groups();
     let mut works = Vec::new(alloc);

@@ -12,10 +12,10 @@ use Rattle.ephemerals.proofs.Totals.{path_total}
 use Rattle.txn_codec.specs.Parents.{HaveParents}
 use Rattle.txn_codec.specs.Paths.{is_root}
 use Rattle.txn_codec.specs.declared.txn.Txn.{Txn}
-use Rattle.data_tree.specs.Meaning.{after, fresh, first_node}
-use Rattle.data_tree.specs.Whole.{is_listed, lists}
+use Rattle.data_tree.specs.Meaning.{state_after, fresh_state, preset_node}
+use Rattle.data_tree.specs.Whole.{is_listed, is_listed_at}
 use Rattle.data_tree.specs.declared.node.Node.{Node}
-use Rattle.audit.specs.Count.{first_count, count}
+use Rattle.audit.specs.Count.{first_count, count_from_log}
 use Rattle.audit.specs.Laws.{CountsAreShown}
 use Rattle.audit.proofs.Holding.{Agrees, HasPlace}
 use Rattle.audit.proofs.Numbers.{net, shown_is}
@@ -43,7 +43,7 @@ one_name name =
 zero_fits : FitsSigned w32 (pos 0)
 zero_fits = search rules
 
-with_child : (name : Bytes) → Agrees (record { cversion = negsuc 0; pzxid = pos 0 }) (first_node (named name))
+with_child : (name : Bytes) → Agrees (record { cversion = negsuc 0; pzxid = pos 0 }) (preset_node (named name))
 with_child name = record { fits = zero_fits; cversion = shown; pzxid = refl }
   where
     fits : FitsSigned w32 (negsuc 0)
@@ -52,7 +52,7 @@ with_child name = record { fits = zero_fits; cversion = shown; pzxid = refl }
     shown : negsuc 0 ≡ net (pos 0) (set.len (named name))
     shown = sym (int_wrap_fits w32 (negsuc 0) fits) ∙ ap (net (pos 0)) (sym (one_name name))
 
-without_child : Agrees (record { cversion = pos 0; pzxid = pos 0 }) (first_node set.empty)
+without_child : Agrees (record { cversion = pos 0; pzxid = pos 0 }) (preset_node set.empty)
 without_child = record { fits = zero_fits; cversion = shown; pzxid = refl }
   where
     shown : pos 0 ≡ net (pos 0) (set.len (set.empty {R = path_cmp}))
@@ -60,26 +60,26 @@ without_child = record { fits = zero_fits; cversion = shown; pzxid = refl }
 
 abbrev pub fresh_get : Bytes → Bool → Bool → Bool → Option Node
 fresh_get r a b c =
-    cond a (Some (first_node set.empty))
-    (cond b (Some (first_node (named (codes "quota"))))
-    (cond c (Some (first_node (named (codes "zookeeper")))) None))
+    cond a (Some (preset_node set.empty))
+    (cond b (Some (preset_node (named (codes "quota"))))
+    (cond c (Some (preset_node (named (codes "zookeeper")))) None))
 
-pub got : (r : Bytes) → finmap.get fresh.nodes r
+pub got : (r : Bytes) → finmap.get fresh_state.nodes r
     ≡ fresh_get r (eq_by_cmp path_cmp r quota) (eq_by_cmp path_cmp r own) (eq_by_cmp path_cmp r root)
 got r =
-    finmap.get-insert path_total _ quota (first_node set.empty) r
-    ∙ ap (λ (o : Option Node). cond (eq_by_cmp path_cmp r quota) (Some (first_node set.empty)) o)
-    (finmap.get-insert path_total _ own (first_node (named (codes "quota"))) r
-    ∙ ap (λ (o : Option Node). cond (eq_by_cmp path_cmp r own) (Some (first_node (named (codes "quota")))) o)
-    (finmap.get-insert path_total finmap.empty root (first_node (named (codes "zookeeper"))) r
+    finmap.get-insert path_total _ quota (preset_node set.empty) r
+    ∙ ap (λ (o : Option Node). cond (eq_by_cmp path_cmp r quota) (Some (preset_node set.empty)) o)
+    (finmap.get-insert path_total _ own (preset_node (named (codes "quota"))) r
+    ∙ ap (λ (o : Option Node). cond (eq_by_cmp path_cmp r own) (Some (preset_node (named (codes "quota")))) o)
+    (finmap.get-insert path_total finmap.empty root (preset_node (named (codes "zookeeper"))) r
     ∙ ap
-    (λ (o : Option Node). cond (eq_by_cmp path_cmp r root) (Some (first_node (named (codes "zookeeper")))) o)
+    (λ (o : Option Node). cond (eq_by_cmp path_cmp r root) (Some (preset_node (named (codes "zookeeper")))) o)
     (finmap.get-empty path_cmp r)))
 
 same_is : (a b : Bytes) → eq_by_cmp path_cmp a b ≡ true → a ≡ b
 same_is a b e = tells_apart exact_bytes a b e
 
-agree : (r : Bytes) (node : Node) → finmap.get fresh.nodes r ≡ Some node → Agrees (first_count r) node
+agree : (r : Bytes) (node : Node) → finmap.get fresh_state.nodes r ≡ Some node → Agrees (first_count r) node
 agree r node at =
     by (eq_by_cmp path_cmp r quota) (eq_by_cmp path_cmp r own) (eq_by_cmp path_cmp r root) refl refl refl
     (sym (got r) ∙ at)
@@ -87,44 +87,45 @@ agree r node at =
     by : (a b c : Bool) → eq_by_cmp path_cmp r quota ≡ a → eq_by_cmp path_cmp r own ≡ b
         → eq_by_cmp path_cmp r root ≡ c → fresh_get r a b c ≡ Some node → Agrees (first_count r) node
     by true b c e f g is =
-        let here : first_node set.empty ≡ node = cc in
+        let here : preset_node set.empty ≡ node = cc in
         subst (λ (p : Bytes). Agrees (first_count p) node) (sym (same_is r quota e))
         (subst (Agrees (first_count quota)) here without_child)
     by false true c e f g is =
-        let here : first_node (named (codes "quota")) ≡ node = cc in
+        let here : preset_node (named (codes "quota")) ≡ node = cc in
         subst (λ (p : Bytes). Agrees (first_count p) node) (sym (same_is r own f))
         (subst (Agrees (first_count own)) here (with_child (codes "quota")))
     by false false true e f g is =
-        let here : first_node (named (codes "zookeeper")) ≡ node = cc in
+        let here : preset_node (named (codes "zookeeper")) ≡ node = cc in
         subst (λ (p : Bytes). Agrees (first_count p) node) (sym (same_is r root g))
         (subst (Agrees (first_count root)) here (with_child (codes "zookeeper")))
     by false false false e f g is = cc
 
-own_listed : lists fresh.nodes root (codes "zookeeper") ≡ true
+own_listed : is_listed_at fresh_state.nodes root (codes "zookeeper") ≡ true
 own_listed =
     ap (is_listed (codes "zookeeper")) (got root)
     ∙ set.contains-insert path_total set.empty (codes "zookeeper") (codes "zookeeper")
 
-quota_listed : lists fresh.nodes own (codes "quota") ≡ true
+quota_listed : is_listed_at fresh_state.nodes own (codes "quota") ≡ true
 quota_listed =
     ap (is_listed (codes "quota")) (got own)
     ∙ set.contains-insert path_total set.empty (codes "quota") (codes "quota")
 
-placed : (r : Bytes) (node : Node) → finmap.get fresh.nodes r ≡ Some node → is_root r ≡ false → HasPlace fresh.nodes r
+placed : (r : Bytes) (node : Node) → finmap.get fresh_state.nodes r ≡ Some node → is_root r ≡ false
+    → HasPlace fresh_state.nodes r
 placed r node at inner =
     by (eq_by_cmp path_cmp r quota) (eq_by_cmp path_cmp r own) (eq_by_cmp path_cmp r root) refl refl refl
     (sym (got r) ∙ at)
   where
     by : (a b c : Bool) → eq_by_cmp path_cmp r quota ≡ a → eq_by_cmp path_cmp r own ≡ b
-        → eq_by_cmp path_cmp r root ≡ c → fresh_get r a b c ≡ Some node → HasPlace fresh.nodes r
+        → eq_by_cmp path_cmp r root ≡ c → fresh_get r a b c ≡ Some node → HasPlace fresh_state.nodes r
     by true b c e f g is =
-        subst (HasPlace fresh.nodes) (sym (same_is r quota e)) (record { child = refl; listed = quota_listed })
+        subst (HasPlace fresh_state.nodes) (sym (same_is r quota e)) (record { child = refl; listed = quota_listed })
     by false true c e f g is =
-        subst (HasPlace fresh.nodes) (sym (same_is r own f)) (record { child = refl; listed = own_listed })
+        subst (HasPlace fresh_state.nodes) (sym (same_is r own f)) (record { child = refl; listed = own_listed })
     by false false true e f g is = absurd (true≢false (ap is_root (sym (same_is r root g)) ∙ inner))
     by false false false e f g is = cc
 
-fresh_holds : Holds fresh first_count
+fresh_holds : Holds fresh_state first_count
 fresh_holds = record {
   nodes = record { agree = agree; placed = placed };
   root = λ session. set.contains-empty pair_cmp (session, codes "/");
@@ -132,9 +133,9 @@ fresh_holds = record {
 
 pub counts_are_shown : CountsAreShown
 counts_are_shown log path node has clean at =
-    let holds : Holds (after fresh log) (count log) =
-    log_holds log fresh first_count (each_of_all (λ (t : Txn). HaveParents t.body) log has) clean fresh_holds in
-    let agrees : Agrees (count log path) node = holds.nodes.agree path node at in
+    let holds : Holds (state_after fresh_state log) (count_from_log log) =
+    log_holds log fresh_state first_count (each_of_all (λ (t : Txn). HaveParents t.body) log has) clean fresh_holds in
+    let agrees : Agrees (count_from_log log path) node = holds.nodes.agree path node at in
     record {
       cversion = agrees.cversion ∙ sym (shown_is node.stat.cversion (set.len node.children) agrees.fits);
       pzxid = agrees.pzxid;

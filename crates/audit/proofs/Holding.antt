@@ -18,12 +18,12 @@ use Rattle.txn_codec.specs.declared.txn.TxnHeader.{TxnHeader}
 use Rattle.txn_codec.specs.declared.txn.Create.{Create}
 use Rattle.data_tree.specs.State.{Nodes}
 use Rattle.data_tree.specs.Meaning.{next_cversion, with_children, new_node}
-use Rattle.data_tree.specs.Whole.{is_listed, lists}
+use Rattle.data_tree.specs.Whole.{is_listed, is_listed_at}
 use Rattle.data_tree.specs.declared.node.Node.{Node}
 use Rattle.data_tree.specs.declared.outcome.Trigger.TheVariants.{Created, Deleted}
 use Rattle.audit.specs.declared.count.Count.{Count}
 use Rattle.audit.specs.Clean.{is_childless}
-use Rattle.audit.specs.Count.{is_same, newborn, one_more, counted}
+use Rattle.audit.specs.Count.{is_same_path, new_node_count, one_more, count_after_trigger}
 use Rattle.audit.proofs.Names.{or_true, child_no_root, same_child}
 use Rattle.audit.proofs.Numbers.{net, created_net, deleted_net}
 
@@ -36,7 +36,7 @@ pub record Agrees (count : Count) (node : Node) : Type 0 where
 -- a node but the root stands at a path, and its parent lists its name
 pub record HasPlace (nodes : Nodes) (path : Bytes) : Type 0 where
   pub child : is_child_path path ≡ true
-  pub listed : lists nodes (parent_of path) (name_of path) ≡ true
+  pub listed : is_listed_at nodes (parent_of path) (name_of path) ≡ true
 
 pub record AreCounted (nodes : Nodes) (counts : Bytes → Count) : Type 0 where
   pub agree : (path : Bytes) (node : Node) → finmap.get nodes path ≡ Some node → Agrees (counts path) node
@@ -54,7 +54,7 @@ same_is a b e = tells_apart exact_bytes a b e
 same_itself : (a : Bytes) → same a a ≡ true
 same_itself a = (eq_by_cmp_equiv path_total).refl a
 
-turned : (a b : Bytes) → is_same a b ≡ same b a
+turned : (a b : Bytes) → is_same_path a b ≡ same b a
 turned a b = texts_ties a b ∙ (eq_by_cmp_equiv path_total).symm a b
 
 -- ---- the names that nodes list
@@ -73,12 +73,12 @@ some_in names name one = by (set.len names) refl
 
 -- a node that lists a name is there
 lister : (nodes : Nodes) (path name : Bytes) → (o : Option Node) → finmap.get nodes path ≡ o
-    → lists nodes path name ≡ true → is_some o ≡ true
+    → is_listed_at nodes path name ≡ true → is_some o ≡ true
 lister nodes path name None at listed = absurd (true≢false (sym listed ∙ ap (is_listed name) at))
 lister nodes path name (Some node) at listed = refl
 
 childless_lists : (nodes : Nodes) (path name : Bytes) (node : Node) → finmap.get nodes path ≡ Some node
-    → is_childless (Some node) ≡ true → lists nodes path name ≡ true → ⊥
+    → is_childless (Some node) ≡ true → is_listed_at nodes path name ≡ true → ⊥
 childless_lists nodes path name node at none listed =
     not_empty node.children name (ap (is_listed name) (sym at) ∙ listed)
     (eqb-true (set.len node.children) 0 none)
@@ -120,12 +120,13 @@ module _ (nodes : Nodes) (counts : Bytes → Count) (h : TxnHeader) (c : Create)
       ∙ ap (λ (o : Option Node). cond (same r c.path) (Some (new_node h c)) o)
       (finmap.get-insert path_total nodes up grown r)
 
-  told : (r : Bytes) → counted r (counts r) h.zxid (Created c.path)
-      ≡ (if same r c.path then newborn h.zxid else if same r up then one_more (counts r) h.zxid else counts r)
+  told : (r : Bytes) → count_after_trigger r (counts r) h.zxid (Created c.path)
+      ≡ (if same r c.path then new_node_count h.zxid else if same r up then one_more (counts r) h.zxid else counts r)
   told r =
-      (λ i. if turned c.path r i then newborn h.zxid else if turned up r i then one_more (counts r) h.zxid else counts r)
+      (λ i. if turned c.path r i then new_node_count h.zxid else if turned up r i then one_more (counts r) h.zxid
+      else counts r)
 
-  newborn_agrees : Agrees (newborn h.zxid) (new_node h c)
+  newborn_agrees : Agrees (new_node_count h.zxid) (new_node h c)
   newborn_agrees = record { fits = zero_fits; cversion = born; pzxid = refl }
     where
       zero_fits : FitsSigned w32 (pos 0)
@@ -149,14 +150,15 @@ module _ (nodes : Nodes) (counts : Bytes → Count) (h : TxnHeader) (c : Create)
       }
 
   create_agree : (r : Bytes) (node : Node) → finmap.get nodes_with r ≡ Some node
-      → Agrees (counted r (counts r) h.zxid (Created c.path)) node
+      → Agrees (count_after_trigger r (counts r) h.zxid (Created c.path)) node
   create_agree r node at =
       subst (λ (k : Count). Agrees k node) (sym (told r)) (by (same r c.path) (same r up) refl refl (sym (got r) ∙ at))
     where
       by : (a b : Bool) → same r c.path ≡ a → same r up ≡ b
           → cond a (Some (new_node h c)) (cond b (Some grown) (finmap.get nodes r)) ≡ Some node
-          → Agrees (if a then newborn h.zxid else if b then one_more (counts r) h.zxid else counts r) node
-      by true b e f is = let here : new_node h c ≡ node = cc in subst (Agrees (newborn h.zxid)) here newborn_agrees
+          → Agrees (if a then new_node_count h.zxid else if b then one_more (counts r) h.zxid else counts r) node
+      by true b e f is = let here : new_node h c ≡ node = cc in
+          subst (Agrees (new_node_count h.zxid)) here newborn_agrees
       by false true e f is =
           let here : grown ≡ node = cc in
           let at_up : r ≡ up = same_is r up f in
@@ -164,7 +166,7 @@ module _ (nodes : Nodes) (counts : Bytes → Count) (h : TxnHeader) (c : Create)
           (subst (Agrees (one_more (counts up) h.zxid)) here grown_agrees)
       by false false e f is = are.agree r node is
 
-  still_listed : (path name : Bytes) → lists nodes path name ≡ true → lists nodes_with path name ≡ true
+  still_listed : (path name : Bytes) → is_listed_at nodes path name ≡ true → is_listed_at nodes_with path name ≡ true
   still_listed path name listed =
       ap (is_listed name) (got path) ∙ by (same path c.path) (same path up) refl refl
     where
@@ -172,12 +174,12 @@ module _ (nodes : Nodes) (counts : Bytes → Count) (h : TxnHeader) (c : Create)
           → is_listed name (cond a (Some (new_node h c)) (cond b (Some grown) (finmap.get nodes path))) ≡ true
       by true b e f =
           absurd (true≢false
-          (sym listed ∙ ap (λ (p : Bytes). lists nodes p name) (same_is path c.path e)
+          (sym listed ∙ ap (λ (p : Bytes). is_listed_at nodes p name) (same_is path c.path e)
           ∙ ap (is_listed name) was_new))
       by false true e f =
           set.contains-insert path_total parent.children (name_of c.path) name
           ∙ ap (λ (b : Bool). same name (name_of c.path) || b)
-          (ap (is_listed name) (sym at_parent) ∙ ap (λ (p : Bytes). lists nodes p name) (sym (same_is path up f))
+          (ap (is_listed name) (sym at_parent) ∙ ap (λ (p : Bytes). is_listed_at nodes p name) (sym (same_is path up f))
           ∙ listed)
           ∙ or_true (same name (name_of c.path))
       by false false e f = listed
@@ -191,7 +193,7 @@ module _ (nodes : Nodes) (counts : Bytes → Count) (h : TxnHeader) (c : Create)
           absurd (true≢false (ap is_some (sym at_parent) ∙ ap is_some here))
       by false e = refl
 
-  new_listed : lists nodes_with up (name_of c.path) ≡ true
+  new_listed : is_listed_at nodes_with up (name_of c.path) ≡ true
   new_listed =
       ap (is_listed (name_of c.path)) (got up)
       ∙ (λ i. is_listed (name_of c.path)
@@ -215,7 +217,7 @@ module _ (nodes : Nodes) (counts : Bytes → Count) (h : TxnHeader) (c : Create)
       by false true e f is = old_placed r parent (ap (finmap.get nodes) (same_is r up f) ∙ at_parent) other
       by false false e f is = old_placed r node is other
 
-  pub create_counted : AreCounted nodes_with (λ (r : Bytes). counted r (counts r) h.zxid (Created c.path))
+  pub create_counted : AreCounted nodes_with (λ (r : Bytes). count_after_trigger r (counts r) h.zxid (Created c.path))
   create_counted = record { agree = create_agree; placed = create_placed }
 
 -- ---- a delete
@@ -270,7 +272,7 @@ module _ (nodes : Nodes) (counts : Bytes → Count) (h : TxnHeader) (path : Byte
       }
 
   delete_agree : (r : Bytes) (n : Node) → finmap.get nodes_left r ≡ Some n
-      → Agrees (counted r (counts r) h.zxid (Deleted path)) n
+      → Agrees (count_after_trigger r (counts r) h.zxid (Deleted path)) n
   delete_agree r n at =
       subst (λ (k : Count). Agrees k n)
       (λ i. if sym (turned above r) i then one_more (counts r) h.zxid else counts r)
@@ -313,11 +315,11 @@ module _ (nodes : Nodes) (counts : Bytes → Count) (h : TxnHeader) (path : Byte
           set.contains-remove path_total parent.children (name_of path) (name_of r)
           ∙ (λ i. not (names_differ old up i) && set.contains parent.children (name_of r))
           ∙ ap (is_listed (name_of r)) (sym above_other.1)
-          ∙ ap (λ (p : Bytes). lists nodes p (name_of r)) (sym up)
+          ∙ ap (λ (p : Bytes). is_listed_at nodes p (name_of r)) (sym up)
           ∙ old.listed
       by old false true e f =
           absurd (childless_lists nodes path (name_of r) node at_path none
-          (ap (λ (p : Bytes). lists nodes p (name_of r)) (sym (same_is (parent_of r) path f)) ∙ old.listed))
+          (ap (λ (p : Bytes). is_listed_at nodes p (name_of r)) (sym (same_is (parent_of r) path f)) ∙ old.listed))
       by old false false e f = old.listed
 
   delete_placed : (r : Bytes) (n : Node) → finmap.get nodes_left r ≡ Some n → is_root r ≡ false → HasPlace nodes_left r
@@ -332,7 +334,7 @@ module _ (nodes : Nodes) (counts : Bytes → Count) (h : TxnHeader) (path : Byte
       by false true e f is = cc
       by false false e f is = kept r n is f inner
 
-  pub delete_counted : AreCounted nodes_left (λ (r : Bytes). counted r (counts r) h.zxid (Deleted path))
+  pub delete_counted : AreCounted nodes_left (λ (r : Bytes). count_after_trigger r (counts r) h.zxid (Deleted path))
   delete_counted = record { agree = delete_agree; placed = delete_placed }
 
 -- a delete finds the parent
@@ -342,13 +344,13 @@ pub parent_is : (nodes : Nodes) (counts : Bytes → Count) (path : Bytes) (node 
 parent_is nodes counts path node other at none are missing =
     by (same (parent_of path) path) refl (sym (finmap.get-remove path_total nodes path (parent_of path)) ∙ missing)
   where
-    listed : lists nodes (parent_of path) (name_of path) ≡ true
+    listed : is_listed_at nodes (parent_of path) (name_of path) ≡ true
     listed = (are.placed path node at other).listed
 
     by : (b : Bool) → same (parent_of path) path ≡ b → cond b None (finmap.get nodes (parent_of path)) ≡ None → ⊥
     by true e is =
         childless_lists nodes path (name_of path) node at none
-        (ap (λ (p : Bytes). lists nodes p (name_of path)) (sym (same_is (parent_of path) path e)) ∙ listed)
+        (ap (λ (p : Bytes). is_listed_at nodes p (name_of path)) (sym (same_is (parent_of path) path e)) ∙ listed)
     by false e is = true≢false (sym listed ∙ ap (is_listed (name_of path)) is)
 
 -- ---- a node that keeps its children and what counts them
@@ -361,13 +363,14 @@ same_counted nodes counts path old new at children cversion pzxid are = record {
     now : (r : Bytes) → finmap.get (finmap.insert nodes path new) r ≡ cond (same r path) (Some new) (finmap.get nodes r)
     now r = finmap.get-insert path_total nodes path new r
 
-    lists_same : (r name : Bytes) → lists (finmap.insert nodes path new) r name ≡ lists nodes r name
+    lists_same : (r name : Bytes) → is_listed_at (finmap.insert nodes path new) r name ≡ is_listed_at nodes r name
     lists_same r name = ap (is_listed name) (now r) ∙ by (same r path) refl
       where
-        by : (b : Bool) → same r path ≡ b → is_listed name (cond b (Some new) (finmap.get nodes r)) ≡ lists nodes r name
+        by : (b : Bool) → same r path ≡ b
+            → is_listed name (cond b (Some new) (finmap.get nodes r)) ≡ is_listed_at nodes r name
         by true e =
             ap (λ (names : Names). set.contains names name) children ∙ ap (is_listed name) (sym at)
-            ∙ ap (λ (p : Bytes). lists nodes p name) (sym (same_is r path e))
+            ∙ ap (λ (p : Bytes). is_listed_at nodes p name) (sym (same_is r path e))
         by false e = refl
 
     new_agrees : Agrees (counts path) new

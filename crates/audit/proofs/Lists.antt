@@ -6,7 +6,7 @@ use Rattle.std.proofs.Math.Seq.{take-suc}
 use Rattle.std.specs.FinSet as set
 use Rattle.std.specs.List.{list_any}
 use Rattle.std.specs.Ordering.{eq_by_cmp}
-use Rattle.ephemerals.specs.Orders.{Bytes, Names, path_cmp, in_order}
+use Rattle.ephemerals.specs.Orders.{Bytes, Names, path_cmp, sorted_names}
 use Rattle.ephemerals.proofs.Ascending.{any-in_order}
 use Rattle.ephemerals.proofs.Totals.{path_total}
 
@@ -18,9 +18,9 @@ pub front_is : {A : Type 0} (xs : List A) (i : ℕ) (x : A) → i < length xs �
     → take (i + 1) xs ≡ take i xs ++ x ∷ []
 front_is xs i x lt is = ap (λ k. take k xs) (add-one i) ∙ take-suc xs i x lt ∙ (λ j. take i xs ++ sym is j ∷ [])
 
-pub none_in_order : (names : Names) → names ≡ set.empty → in_order names ≡ []
+pub none_in_order : (names : Names) → names ≡ set.empty → sorted_names names ≡ []
 none_in_order names none =
-    by (in_order names)
+    by (sorted_names names)
     (λ q. any-in_order names q ∙ ap (λ (ns : Names). set.contains ns q) none ∙ set.contains-empty path_cmp q)
   where
     by : (ps : List Bytes) → ((q : Bytes) → list_any (eq_by_cmp path_cmp q) ps ≡ false) → ps ≡ []

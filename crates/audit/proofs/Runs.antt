@@ -9,8 +9,8 @@ use Rattle.std.specs.FinSet as set
 use Rattle.std.specs.Int.{int_wrap}
 use Rattle.std.specs.List.{list_any, list_all, AllByRecursion}
 use Rattle.std.specs.Ordering.{eq_by_cmp, int_eq}
-use Rattle.ephemerals.specs.Orders.{Bytes, Names, path_cmp, pair_cmp, in_order}
-use Rattle.ephemerals.specs.Pairs.{paths_of}
+use Rattle.ephemerals.specs.Orders.{Bytes, Names, path_cmp, pair_cmp, sorted_names}
+use Rattle.ephemerals.specs.Pairs.{paths_of_session}
 use Rattle.ephemerals.proofs.Ascending.{any-in_order}
 use Rattle.ephemerals.proofs.SessionPaths.{contains-owned, contains-without}
 use Rattle.ephemerals.proofs.Totals.{path_total, pair_total, pair_exact}
@@ -25,13 +25,13 @@ use Rattle.txn_codec.specs.declared.txn.Operation.TheVariants as op
 use Rattle.txn_codec.specs.declared.txn.Body.{Body}
 use Rattle.txn_codec.specs.declared.txn.Body.TheVariants as body
 use Rattle.data_tree.specs.State.{State, Nodes}
-use Rattle.data_tree.specs.Meaning.{Meant, after_changes, next_cversion, owner_of, gained_pair, create_under, create_taken, create_new, with_children, lost_pair, delete_at, with_data, set_data_at, with_acl, set_acl_at, of_operation, of_parts, deletes, state_without_session, mean_of, mean, after, error_of}
+use Rattle.data_tree.specs.Meaning.{TxnEffect, after_changes, next_cversion, owner_of, gained_pair, create_under, create_taken, create_new, with_children, lost_pair, delete_at, with_data, set_data_at, with_acl, set_acl_at, of_operation, of_parts, delete_operations, state_without_session, effect_of_body, effect_of_txn, state_after, error_of}
 use Rattle.data_tree.specs.Meaning.Change.{Own, Disown}
 use Rattle.data_tree.specs.declared.node.Node.{Node}
 use Rattle.data_tree.specs.declared.outcome.Trigger.{Trigger}
 use Rattle.audit.specs.declared.count.Count.{Count}
 use Rattle.audit.specs.Clean.{is_childless, counts_up, is_clean_operation, are_clean_parts, is_clean_body, is_clean, are_clean}
-use Rattle.audit.specs.Count.{counted_all, counted_log}
+use Rattle.audit.specs.Count.{count_after_triggers, count_after_log}
 use Rattle.audit.proofs.Names.{and_false, root_is, child_no_root}
 use Rattle.audit.proofs.Parts.{both, counted_all-append, multi_is}
 use Rattle.audit.proofs.Holding.{AreCounted, create_counted, delete_counted, parent_is, same_counted}
@@ -42,7 +42,7 @@ pub record Holds (s : State) (counts : Bytes → Count) : Type 0 where
   pub root : (session : ℤ) → set.contains s.pairs (session, codes "/") ≡ false
 
 abbrev counts_after : (Bytes → Count) → ℤ → List Trigger → Bytes → Count
-counts_after counts zxid triggers path = counted_all path (counts path) zxid triggers
+counts_after counts zxid triggers path = count_after_triggers path (counts path) zxid triggers
 
 -- ---- pairs
 
@@ -252,7 +252,8 @@ list_all_map f g leads (x ∷ xs) all =
 closing_holds : (h : TxnHeader) (ps : List Bytes) (s : State) (counts : Bytes → Count)
     → list_any (eq_by_cmp path_cmp (codes "/")) ps ≡ false
     → list_all (λ (path : Bytes). is_childless (finmap.get s.nodes path)) ps ≡ true → Holds s counts
-    → Holds (of_parts h (deletes ps) s).state (counts_after counts h.zxid (of_parts h (deletes ps) s).triggers)
+    → Holds (of_parts h (delete_operations ps) s).state
+    (counts_after counts h.zxid (of_parts h (delete_operations ps) s).triggers)
 closing_holds h [] s counts no_root none holds = holds
 closing_holds h (p ∷ ps) s counts no_root none holds =
     let split = both (is_childless (finmap.get s.nodes p))
@@ -264,9 +265,9 @@ closing_holds h (p ∷ ps) s counts no_root none holds =
     (list_all_map (λ (path : Bytes). is_childless (finmap.get s.nodes path))
     (λ (path : Bytes). is_childless (finmap.get (of_operation h (op.Delete p) s).state.nodes path))
     (still_childless h p s) ps split.1) one in
-    subst (Holds (of_parts h (deletes ps) (of_operation h (op.Delete p) s).state).state)
+    subst (Holds (of_parts h (delete_operations ps) (of_operation h (op.Delete p) s).state).state)
     (λ i (path : Bytes). sym (counted_all-append path (counts path) h.zxid (of_operation h (op.Delete p) s).triggers
-    (of_parts h (deletes ps) (of_operation h (op.Delete p) s).state).triggers) i)
+    (of_parts h (delete_operations ps) (of_operation h (op.Delete p) s).state).triggers) i)
     all
   where
     neither : (a b : Bool) → (a || b) ≡ false → (a ≡ false) × (b ≡ false)
@@ -287,7 +288,7 @@ each_of_all P (x ∷ xs) all = (
 
 body_holds : (h : TxnHeader) (b : Body) (s : State) (counts : Bytes → Count) → HaveParents b
     → is_clean_body h b s ≡ true → Holds s counts
-    → Holds (mean_of h b s).state (counts_after counts h.zxid (mean_of h b s).triggers)
+    → Holds (effect_of_body h b s).state (counts_after counts h.zxid (effect_of_body h b s).triggers)
 body_holds h (body.Single o) s counts has clean holds = operation_holds h o s counts has clean holds
 body_holds h (body.SetAcl b) s counts has clean holds = by (finmap.get s.nodes b.path) refl clean
   where
@@ -299,13 +300,13 @@ body_holds h (body.SetAcl b) s counts has clean holds = by (finmap.get s.nodes b
       root = holds.root;
     }
 body_holds h (body.Multi os) s counts has clean holds =
-    subst (λ (m : Meant). Holds m.state (counts_after counts h.zxid m.triggers)) (sym (multi_is h os s clean))
+    subst (λ (m : TxnEffect). Holds m.state (counts_after counts h.zxid m.triggers)) (sym (multi_is h os s clean))
     (parts_hold h os s counts (each_of_all HasParent os has) clean holds)
 body_holds h (body.CreateSession timeout) s counts has clean holds =
     record { nodes = holds.nodes; root = holds.root }
 body_holds h body.CloseSession s counts has clean holds =
-    closing_holds h (in_order (paths_of h.client_id s.pairs)) (state_without_session h.client_id s) counts
-    (any-in_order (paths_of h.client_id s.pairs) (codes "/")
+    closing_holds h (sorted_names (paths_of_session h.client_id s.pairs)) (state_without_session h.client_id s) counts
+    (any-in_order (paths_of_session h.client_id s.pairs) (codes "/")
     ∙ contains-owned h.client_id s.pairs (codes "/")
     ∙ holds.root h.client_id)
     clean
@@ -317,9 +318,10 @@ body_holds h body.CloseSession s counts has clean holds =
 
 pub log_holds : (log : List Txn) (s : State) (counts : Bytes → Count)
     → AllByRecursion (λ (t : Txn). HaveParents t.body) log → are_clean s log ≡ true → Holds s counts
-    → Holds (after s log) (λ (path : Bytes). counted_log path (counts path) s log)
+    → Holds (state_after s log) (λ (path : Bytes). count_after_log path (counts path) s log)
 log_holds [] s counts has clean holds = holds
 log_holds (t ∷ ts) s counts has clean holds =
-    let split = both (is_clean s t) (are_clean (mean s t).state ts) clean in
-    log_holds ts (mean s t).state (counts_after counts t.header.zxid (mean s t).triggers) has.1 split.1
+    let split = both (is_clean s t) (are_clean (effect_of_txn s t).state ts) clean in
+    log_holds ts (effect_of_txn s t).state (counts_after counts t.header.zxid (effect_of_txn s t).triggers) has.1
+    split.1
     (body_holds t.header t.body s counts has.0 split.0 holds)

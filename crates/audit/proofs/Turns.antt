@@ -9,8 +9,8 @@ use Rattle.std.specs.FinMap.Entries.{is_sorted, below_all}
 use Rattle.std.specs.FinSet as set
 use Rattle.std.specs.List.{list_any, AllByRecursion}
 use Rattle.std.specs.Ordering.{eq_by_cmp, int_eq, is_eq, is_lt, nat_cmp, ordering_then}
-use Rattle.ephemerals.specs.Orders.{Bytes, Names, path_cmp, in_order}
-use Rattle.ephemerals.specs.Pairs.{paths_of}
+use Rattle.ephemerals.specs.Orders.{Bytes, Names, path_cmp, sorted_names}
+use Rattle.ephemerals.specs.Pairs.{paths_of_session}
 use Rattle.ephemerals.proofs.Ascending.{any-in_order}
 use Rattle.ephemerals.proofs.SessionPaths.{contains-owned}
 use Rattle.ephemerals.proofs.Totals.{path_total}
@@ -97,7 +97,7 @@ keys_ascend (e ∷ es) h =
     let parts = split (below_all path_cmp e.0 es) (is_sorted path_cmp es) h in
     (all_above e.0 es parts.0, keys_ascend es parts.1)
 
-in_order_ascends : (names : Names) → Ascends (in_order names)
+in_order_ascends : (names : Names) → Ascends (sorted_names names)
 in_order_ascends names =
     let entries = finmap.from_entries {R = path_cmp} (map (λ (t : Bytes). (t, tt {0})) (set.items names)) in
     keys_ascend (finmap.entries entries) (finmap.entries_sorted entries)
@@ -174,8 +174,8 @@ in_turn h (p ∷ ps) s order children =
 
 pub deletes_go_in_turn : DeletesGoInTurn
 deletes_go_in_turn h s children =
-    in_turn h (in_order (paths_of h.client_id s.pairs)) (state_without_session h.client_id s)
-    (in_order_ascends (paths_of h.client_id s.pairs))
-    (members (λ (p : Bytes). is_child_path p ≡ true) (in_order (paths_of h.client_id s.pairs))
+    in_turn h (sorted_names (paths_of_session h.client_id s.pairs)) (state_without_session h.client_id s)
+    (in_order_ascends (paths_of_session h.client_id s.pairs))
+    (members (λ (p : Bytes). is_child_path p ≡ true) (sorted_names (paths_of_session h.client_id s.pairs))
     (λ q e. children h.client_id q
-    (sym (any-in_order (paths_of h.client_id s.pairs) q ∙ contains-owned h.client_id s.pairs q) ∙ e)))
+    (sym (any-in_order (paths_of_session h.client_id s.pairs) q ∙ contains-owned h.client_id s.pairs q) ∙ e)))

@@ -6,8 +6,8 @@ use Rattle.std.specs.List.{list_all}
 use Rattle.std.specs.Ordering.{int_eq}
 use Rattle.std.specs.FinMap as finmap
 use Rattle.std.specs.FinSet as set
-use Rattle.ephemerals.specs.Orders.{Bytes, in_order}
-use Rattle.ephemerals.specs.Pairs.{paths_of}
+use Rattle.ephemerals.specs.Orders.{Bytes, sorted_names}
+use Rattle.ephemerals.specs.Pairs.{paths_of_session}
 use Rattle.txn_codec.specs.Paths.{parent_of}
 use Rattle.txn_codec.specs.declared.txn.TxnHeader.{TxnHeader}
 use Rattle.txn_codec.specs.declared.txn.Txn.{Txn}
@@ -16,7 +16,7 @@ use Rattle.txn_codec.specs.declared.txn.Operation.TheVariants as op
 use Rattle.txn_codec.specs.declared.txn.Body.{Body}
 use Rattle.txn_codec.specs.declared.txn.Body.TheVariants as body
 use Rattle.data_tree.specs.State.{State, Nodes}
-use Rattle.data_tree.specs.Meaning.{error_of, of_operation, of_set_acl, mean}
+use Rattle.data_tree.specs.Meaning.{error_of, of_operation, of_set_acl, effect_of_txn}
 use Rattle.data_tree.specs.declared.node.Node.{Node}
 
 abbrev pub is_childless : Option Node → Bool
@@ -51,7 +51,7 @@ are_clean_parts header (o ∷ os) s =
 -- No ephemeral of the session that ends has a child. They are deleted in ascending bytes, so that a node goes before
 -- what is below it, and none has lost its children to a delete before its own.
 abbrev pub closes_clean : ℤ → State → Bool
-closes_clean session s = are_childless s.nodes (in_order (paths_of session s.pairs))
+closes_clean session s = are_childless s.nodes (sorted_names (paths_of_session session s.pairs))
 
 abbrev pub is_clean_body : TxnHeader → Body → State → Bool
 is_clean_body header (body.Single o) s = is_clean_operation header o s
@@ -66,4 +66,4 @@ is_clean s t = is_clean_body t.header t.body s
 -- each transaction is clean where those before it were done
 abbrev pub are_clean : State → List Txn → Bool
 are_clean s [] = true
-are_clean s (t ∷ ts) = is_clean s t && are_clean (mean s t).state ts
+are_clean s (t ∷ ts) = is_clean s t && are_clean (effect_of_txn s t).state ts

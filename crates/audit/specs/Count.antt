@@ -6,55 +6,60 @@ use Rattle.ephemerals.specs.Orders.{Bytes}
 use Rattle.txn_codec.specs.Paths.{parent_of}
 use Rattle.txn_codec.specs.declared.txn.Txn.{Txn}
 use Rattle.data_tree.specs.State.{State}
-use Rattle.data_tree.specs.Meaning.{mean, after, fresh}
+use Rattle.data_tree.specs.Meaning.{effect_of_txn, state_after, fresh_state}
 use Rattle.data_tree.specs.Whole.{has_node}
 use Rattle.data_tree.specs.declared.outcome.Trigger.{Trigger}
 use Rattle.data_tree.specs.declared.outcome.Trigger.TheVariants.{Created, Deleted, DataChanged, ChildrenChanged}
 use Rattle.audit.specs.declared.count.Count.{Count}
 
-abbrev pub is_same : Bytes → Bytes → Bool
-is_same a b = pointwise nat_eq a b
+abbrev pub is_same_path : Bytes → Bytes → Bool
+is_same_path a b = pointwise nat_eq a b
 
 -- a node that was just made
-abbrev pub newborn : ℤ → Count
-newborn zxid = record { cversion = pos 0; pzxid = zxid }
+abbrev pub new_node_count : ℤ → Count
+new_node_count zxid = record { cversion = pos 0; pzxid = zxid }
 
 -- one more child was made or deleted; Java's 32-bit numbers wrap
 abbrev pub one_more : Count → ℤ → Count
 one_more count zxid = record { cversion = int_wrap w32 (count.cversion +ℤ pos 1); pzxid = zxid }
 
 -- one trigger more: where the node itself is made its count begins anew
-abbrev pub counted : Bytes → Count → ℤ → Trigger → Count
-counted path count zxid (Created at) =
-    if is_same at path then newborn zxid else if is_same (parent_of at) path then one_more count zxid else count
-counted path count zxid (Deleted at) = if is_same (parent_of at) path then one_more count zxid else count
-counted path count zxid (DataChanged at) = count
-counted path count zxid (ChildrenChanged at) = count
+abbrev pub count_after_trigger : Bytes → Count → ℤ → Trigger → Count
+count_after_trigger path count zxid (Created at) =
+    if is_same_path at path then new_node_count zxid else if is_same_path (parent_of at) path then one_more count zxid
+    else count
+count_after_trigger path count zxid (Deleted at) =
+    if is_same_path (parent_of at) path then one_more count zxid else count
+count_after_trigger path count zxid (DataChanged at) = count
+count_after_trigger path count zxid (ChildrenChanged at) = count
 
 -- all that a transaction triggers
-abbrev pub counted_all : Bytes → Count → ℤ → List Trigger → Count
-counted_all path count zxid [] = count
-counted_all path count zxid (trigger ∷ triggers) = counted_all path (counted path count zxid trigger) zxid triggers
+abbrev pub count_after_triggers : Bytes → Count → ℤ → List Trigger → Count
+count_after_triggers path count zxid [] = count
+count_after_triggers path count zxid (trigger ∷ triggers) =
+    count_after_triggers path (count_after_trigger path count zxid trigger) zxid triggers
 
 -- all that a log triggers, each with the zxid of its transaction
-abbrev pub counted_log : Bytes → Count → State → List Txn → Count
-counted_log path count s [] = count
-counted_log path count s (t ∷ ts) =
-    counted_log path (counted_all path count t.header.zxid (mean s t).triggers) (mean s t).state ts
+abbrev pub count_after_log : Bytes → Count → State → List Txn → Count
+count_after_log path count s [] = count
+count_after_log path count s (t ∷ ts) =
+    count_after_log path (count_after_triggers path count t.header.zxid (effect_of_txn s t).triggers)
+    (effect_of_txn s t).state ts
 
 -- In the fresh tree / and /zookeeper have a child that nobody made.
 abbrev pub first_count : Bytes → Count
 first_count path =
-    if is_same path (codes "/") || is_same path (codes "/zookeeper")
+    if is_same_path path (codes "/") || is_same_path path (codes "/zookeeper")
     then record { cversion = negsuc 0; pzxid = pos 0 } else record { cversion = pos 0; pzxid = pos 0 }
 
 -- the count of the node at the path: since it was made last, or in the fresh tree
-abbrev pub count : List Txn → Bytes → Count
-count log path = counted_log path (first_count path) fresh log
+abbrev pub count_from_log : List Txn → Bytes → Count
+count_from_log log path = count_after_log path (first_count path) fresh_state log
 
 abbrev pub numbers_of : Count → ℤ × ℤ
 numbers_of count = (count.cversion, count.pzxid)
 
 -- the count, where the log leaves a node at the path
 abbrev pub count_at : List Txn → Bytes → Option (ℤ × ℤ)
-count_at log path = if has_node (after fresh log).nodes path then Some (numbers_of (count log path)) else None
+count_at log path = if has_node (state_after fresh_state log).nodes path
+    then Some (numbers_of (count_from_log log path)) else None

@@ -2,31 +2,32 @@
 use Rattle.std.specs.Prelude.{◌≡◌, ℤ, Bool, true, ◌&&◌, List, [], ◌∷◌, Some, All}
 use Rattle.std.specs.FinMap as finmap
 use Rattle.std.specs.FinSet as set
-use Rattle.ephemerals.specs.Orders.{Bytes, in_order}
-use Rattle.ephemerals.specs.Pairs.{paths_of}
+use Rattle.ephemerals.specs.Orders.{Bytes, sorted_names}
+use Rattle.ephemerals.specs.Pairs.{paths_of_session}
 use Rattle.txn_codec.specs.Parents.{HaveParents}
 use Rattle.txn_codec.specs.Paths.{is_child_path}
 use Rattle.txn_codec.specs.declared.txn.TxnHeader.{TxnHeader}
 use Rattle.txn_codec.specs.declared.txn.Txn.{Txn}
 use Rattle.txn_codec.specs.declared.txn.Operation.TheVariants as op
 use Rattle.data_tree.specs.State.{State}
-use Rattle.data_tree.specs.Meaning.{of_operation, state_without_session, after, fresh}
-use Rattle.data_tree.specs.Stats.{shown}
+use Rattle.data_tree.specs.Meaning.{of_operation, state_without_session, state_after, fresh_state}
+use Rattle.data_tree.specs.Stats.{stat_of}
 use Rattle.data_tree.specs.declared.node.Node.{Node}
 use Rattle.audit.specs.declared.count.Count.{Count}
 use Rattle.audit.specs.Clean.{is_childless, closes_clean, are_clean}
-use Rattle.audit.specs.Count.{count}
+use Rattle.audit.specs.Count.{count_from_log}
 
 -- the numbers that the node shows of itself
-pub record IsShown (counted : Count) (node : Node) : Type 0 where
-  pub cversion : counted.cversion ≡ (shown node).cversion
-  pub pzxid : counted.pzxid ≡ (shown node).pzxid
+pub record MatchesStat (counted : Count) (node : Node) : Type 0 where
+  pub cversion : counted.cversion ≡ (stat_of node).cversion
+  pub pzxid : counted.pzxid ≡ (stat_of node).pzxid
 
 -- of a clean log in which no "/" is made or removed, as in each that was decoded
 abbrev pub CountsAreShown : Type 0
 CountsAreShown =
     (log : List Txn) (path : Bytes) (node : Node) → All (λ (t : Txn). HaveParents t.body) log
-    → are_clean fresh log ≡ true → finmap.get (after fresh log).nodes path ≡ Some node → IsShown (count log path) node
+    → are_clean fresh_state log ≡ true → finmap.get (state_after fresh_state log).nodes path ≡ Some node
+    → MatchesStat (count_from_log log path) node
 
 -- each of these deletes, in turn, is of a node without children
 abbrev pub are_childless_in_turn : TxnHeader → List Bytes → State → Bool
@@ -40,5 +41,5 @@ DeletesGoInTurn =
     (header : TxnHeader) (s : State)
     → ((session : ℤ) (path : Bytes) → set.contains s.pairs (session, path) ≡ true → is_child_path path ≡ true)
     → closes_clean header.client_id s
-    ≡ are_childless_in_turn header (in_order (paths_of header.client_id s.pairs))
+    ≡ are_childless_in_turn header (sorted_names (paths_of_session header.client_id s.pairs))
     (state_without_session header.client_id s)

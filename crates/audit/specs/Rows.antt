@@ -8,23 +8,23 @@ use Rattle.txn_codec.specs.declared.txn.Operation.TheVariants as op
 use Rattle.txn_codec.specs.declared.txn.Body.TheVariants as body
 use Rattle.audit.specs.Audit.{IsCounted, IsFirstUnclean}
 
-abbrev pub a : Bytes
-a = codes "/a"
+abbrev pub path_a : Bytes
+path_a = codes "/a"
 
-abbrev pub create : Create
-create = record { path = a; bytes = None; acl = None; ephemeral = false; parent_cversion = negsuc 0 }
+abbrev pub create_of_a : Create
+create_of_a = record { path = path_a; bytes = None; acl = None; ephemeral = false; parent_cversion = negsuc 0 }
 
-abbrev pub creates : TxnHeader → Txn
-creates header = record { header = header; body = body.Single (op.Create create) }
+abbrev pub txn_creating_a : TxnHeader → Txn
+txn_creating_a header = record { header = header; body = body.Single (op.Create create_of_a) }
 
 pub record WorkedCounts (h : TxnHeader) : Type 0 where
   -- After a create of /a: the new node, its parent, another node, and none.
-  pub made : IsCounted (creates h ∷ []) a (Some (pos 0, h.zxid))
-  pub parent : IsCounted (creates h ∷ []) (codes "/") (Some (pos 0, h.zxid))
-  pub other : IsCounted (creates h ∷ []) (codes "/zookeeper") (Some (negsuc 0, pos 0))
-  pub missing : IsCounted (creates h ∷ []) (codes "/q") None
+  pub made : IsCounted (txn_creating_a h ∷ []) path_a (Some (pos 0, h.zxid))
+  pub parent : IsCounted (txn_creating_a h ∷ []) (codes "/") (Some (pos 0, h.zxid))
+  pub other : IsCounted (txn_creating_a h ∷ []) (codes "/zookeeper") (Some (negsuc 0, pos 0))
+  pub missing : IsCounted (txn_creating_a h ∷ []) (codes "/q") None
   -- The second create of /a fails.
-  pub twice : IsFirstUnclean (creates h ∷ creates h ∷ []) 1
+  pub twice : IsFirstUnclean (txn_creating_a h ∷ txn_creating_a h ∷ []) 1
 
 abbrev pub CountsAreWorked : Type 0
 CountsAreWorked = (h : TxnHeader) → WorkedCounts h

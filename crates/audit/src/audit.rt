@@ -1,7 +1,7 @@
 //! The audit of a log.
 
 ghost use Rattle.std.specs.Prelude.{◌≡◌};
-ghost use Rattle.data_tree.specs.Meaning.{fresh};
+ghost use Rattle.data_tree.specs.Meaning.{fresh_state};
 ghost use Rattle.audit.specs.Audit.{IsAudited};
 ghost use Rattle.audit.specs.declared.audit.AuditError.TheVariants as audit_errors;
 
@@ -36,7 +36,7 @@ fn count_in(
     log: &[Txn],
     path: &str,
 ) -> Result<Option<(i32, i64)>, AuditError>
-    requires { tree.old ≡ fresh }
+    requires { tree.old ≡ fresh_state }
     ensures { IsAudited log.now path.now result }
 {
     let mut count = first_count(path);

@@ -4,7 +4,7 @@ ghost use Rattle.std.specs.Prelude.{◌≡◌, is_none};
 ghost use Rattle.std.specs.Option.{option_copied};
 ghost use Rattle.data_tree.specs.Meaning.{error_of};
 ghost use Rattle.audit.specs.Clean.{is_childless, are_childless, counts_up, is_orderly, closes_clean};
-ghost use Rattle.ephemerals.specs.Orders.{in_order};
+ghost use Rattle.ephemerals.specs.Orders.{sorted_names};
 
 use data_tree::{Node, Tree};
 use ephemerals::TextSet;
@@ -55,7 +55,7 @@ pub fn is_no_error(part: &Operation) -> bool
 }
 
 fn are_childless(paths: &TextSet, tree: &Tree) -> bool
-    ensures { result ≡ are_childless tree.now.nodes (in_order paths.now) }
+    ensures { result ≡ are_childless tree.now.nodes (sorted_names paths.now) }
 {
     for path in paths.iter() {
         if !is_childless(tree.node(path.as_str())) {

@@ -1,7 +1,7 @@
 //! The count of a node's children that were made and deleted.
 
 ghost use Rattle.std.specs.Prelude.{◌≡◌};
-ghost use Rattle.audit.specs.Count.{is_same, one_more, counted, counted_all, first_count};
+ghost use Rattle.audit.specs.Count.{is_same_path, one_more, count_after_trigger, count_after_triggers, first_count};
 
 use data_tree::Trigger;
 use txn_codec::{TxnHeader, parent_of};
@@ -15,7 +15,7 @@ pub struct Count {
 }
 
 fn is_same(a: &str, b: &str) -> bool
-    ensures { result ≡ is_same a.now b.now }
+    ensures { result ≡ is_same_path a.now b.now }
 {
     a == b
 }
@@ -46,8 +46,8 @@ fn one_more(count: &Count, header: &TxnHeader) -> Count
 }
 
 // The count of the node at the path after one trigger more.
-fn counted(path: &str, count: &Count, header: &TxnHeader, trigger: &Trigger) -> Count
-    ensures { result ≡ counted path.now count.now header.now.zxid trigger.now }
+fn count_trigger(path: &str, count: &Count, header: &TxnHeader, trigger: &Trigger) -> Count
+    ensures { result ≡ count_after_trigger path.now count.now header.now.zxid trigger.now }
 {
     match trigger {
         Trigger::Created(at) => {
@@ -75,10 +75,10 @@ fn counted(path: &str, count: &Count, header: &TxnHeader, trigger: &Trigger) -> 
 impl Count {
     /// Counts what a transaction triggered.
     pub fn add(&mut self, path: &str, header: &TxnHeader, triggers: &[Trigger])
-        ensures { self.new ≡ counted_all path.now self.old header.now.zxid triggers.now }
+        ensures { self.new ≡ count_after_triggers path.now self.old header.now.zxid triggers.now }
     {
         for trigger in triggers {
-            *self = counted(path, self, header, trigger);
+            *self = count_trigger(path, self, header, trigger);
         }
     }
 }

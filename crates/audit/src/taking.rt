@@ -2,9 +2,9 @@
 
 ghost use Rattle.std.specs.Prelude.{◌≡◌, pos, IfOk, IsTrue};
 ghost use Rattle.std.specs.Ordering.{int_eq};
-ghost use Rattle.data_tree.specs.Meaning.{of_operation, of_parts, mean};
+ghost use Rattle.data_tree.specs.Meaning.{of_operation, of_parts, effect_of_txn};
 ghost use Rattle.audit.specs.Clean.{is_clean_operation, are_clean_parts, is_clean};
-ghost use Rattle.audit.specs.Count.{counted_all};
+ghost use Rattle.audit.specs.Count.{count_after_triggers};
 
 use crate::clean::{closes_clean, is_no_error, is_orderly};
 use crate::count::Count;
@@ -21,10 +21,11 @@ fn apply(
     path: &str,
     count: &mut Count,
 ) -> Result<bool, NoMemory>
-    ensures clean { IfOk result (λ clean. clean ≡ int_eq (mean tree.old txn.now).err (pos 0)) }
-    ensures state { IfOk result (λ clean. IsTrue clean → tree.new ≡ (mean tree.old txn.now).state) }
+    ensures clean { IfOk result (λ clean. clean ≡ int_eq (effect_of_txn tree.old txn.now).err (pos 0)) }
+    ensures state { IfOk result (λ clean. IsTrue clean → tree.new ≡ (effect_of_txn tree.old txn.now).state) }
     ensures count { IfOk result
-        (λ clean. IsTrue clean → count.new ≡ counted_all path.now count.old txn.now.header.zxid (mean tree.old txn.now).triggers) }
+        (λ clean. IsTrue clean → count.new
+        ≡ count_after_triggers path.now count.old txn.now.header.zxid (effect_of_txn tree.old txn.now).triggers) }
 {
     let outcome = tree.apply(alloc, txn)?;
     if outcome.err != 0 {
@@ -44,9 +45,12 @@ fn take_operation(
     count: &mut Count,
 ) -> Result<bool, NoMemory>
     ensures clean { IfOk result (λ clean. clean ≡ is_clean_operation header.now operation.now tree.old) }
-    ensures state { IfOk result (λ clean. IsTrue clean → tree.new ≡ (of_operation header.now operation.now tree.old).state) }
+    ensures state { IfOk result (λ clean. IsTrue clean
+        → tree.new ≡ (of_operation header.now operation.now tree.old).state) }
     ensures count { IfOk result
-        (λ clean. IsTrue clean → count.new ≡ counted_all path.now count.old header.now.zxid (of_operation header.now operation.now tree.old).triggers) }
+        (λ clean. IsTrue clean → count.new
+        ≡ count_after_triggers path.now count.old header.now.zxid
+        (of_operation header.now operation.now tree.old).triggers) }
 {
     if !is_orderly(operation, tree) {
         return Ok(false);
@@ -70,7 +74,9 @@ fn take_parts(
     ensures clean { IfOk result (λ clean. clean ≡ are_clean_parts header.now parts.now tree.old) }
     ensures state { IfOk result (λ clean. IsTrue clean → tree.new ≡ (of_parts header.now parts.now tree.old).state) }
     ensures count { IfOk result
-        (λ clean. IsTrue clean → count.new ≡ counted_all path.now count.old header.now.zxid (of_parts header.now parts.now tree.old).triggers) }
+        (λ clean. IsTrue clean → count.new
+        ≡ count_after_triggers path.now count.old header.now.zxid
+        (of_parts header.now parts.now tree.old).triggers) }
 {
     for part in parts {
         if !is_no_error(part) {
@@ -93,9 +99,10 @@ pub fn take(
     count: &mut Count,
 ) -> Result<bool, NoMemory>
     ensures clean { IfOk result (λ clean. clean ≡ is_clean tree.old txn.now) }
-    ensures state { IfOk result (λ clean. IsTrue clean → tree.new ≡ (mean tree.old txn.now).state) }
+    ensures state { IfOk result (λ clean. IsTrue clean → tree.new ≡ (effect_of_txn tree.old txn.now).state) }
     ensures count { IfOk result
-        (λ clean. IsTrue clean → count.new ≡ counted_all path.now count.old txn.now.header.zxid (mean tree.old txn.now).triggers) }
+        (λ clean. IsTrue clean → count.new
+        ≡ count_after_triggers path.now count.old txn.now.header.zxid (effect_of_txn tree.old txn.now).triggers) }
 {
     match &txn.body {
         Body::Single(operation) => take_operation(alloc, tree, &txn.header, operation, path, count),

@@ -8,43 +8,47 @@ use Rattle.observer_core.specs.declared.engine.Stop.{Stop}
 use Rattle.observer_core.specs.declared.event.Event.{Event}
 use Rattle.observer_core.specs.declared.event.Output.{Output}
 use Rattle.observer_core.specs.Machine.{Machine}
-use Rattle.observer_core.specs.Plays.{Plays}
+use Rattle.observer_core.specs.Plays.{PlaysEvents}
 use Rattle.observer_core.specs.Play.{play}
 use Rattle.replay.specs.Lines.{count_line}
 use Rattle.replay.specs.declared.ending.Ending.{Ending}
 use Rattle.replay.specs.declared.ending.Ending.TheVariants as endings
 use Rattle.replay.proofs.Printing.{keeps_both, appends_kept}
-use Rattle.auditing.specs.Auditing.{log_after, Audits, Ends}
+use Rattle.auditing.specs.Auditing.{log_after, AuditsLog, EndsAudit}
 use Rattle.auditing.specs.declared.auditing.Uncounted.{Uncounted}
 use Rattle.auditing.specs.declared.auditing.Uncounted.TheVariants.{NotClean, NoMemory}
 
 -- where no memory was refused the machine is the one that is left
 left_is : (fed : Result (Unit {0}) Stop) (m : Machine) (events : List Event) (old outputs : List Output)
-    (after : Option Machine) → IsOk fed → Plays fed (Some m) events old outputs after → after ≡ Some (play m events).after
+    (after : Option Machine) → IsOk fed → PlaysEvents fed (Some m) events old outputs after
+    → after ≡ Some (play m events).after
 left_is (Ok u) m events old outputs after ok p = p.1
 left_is (Err e) m events old outputs after ok p = absurd (true≢false (sym ok))
 
 pub fed_audits : (fed : Result (Unit {0}) Stop) (engine : Option Machine) (m : Machine) (events : List Event)
     (old outputs : List Output) (after : Option Machine) (path : Bytes) (r : Result (Option (ℤ × ℤ)) Uncounted)
-    → engine ≡ Some m → Plays fed engine events old outputs after → (r ≢ Err NoMemory → IsOk fed)
-    → ((n : Machine) → after ≡ Some n → Audits (whole_log n.world.replica.learner) path r)
-    → Audits (log_after m events) path r
+    → engine ≡ Some m → PlaysEvents fed engine events old outputs after → (r ≢ Err NoMemory → IsOk fed)
+    → ((n : Machine) → after ≡ Some n → AuditsLog (whole_log n.world.replica.learner) path r)
+    → AuditsLog (log_after m events) path r
 fed_audits fed engine m events old outputs after path (Ok found) is p ok audits =
     audits (play m events).after
-    (left_is fed m events old outputs after (ok (λ e. cc)) (subst (λ e. Plays fed e events old outputs after) is p))
+    (left_is fed m events old outputs after (ok (λ e. cc))
+    (subst (λ e. PlaysEvents fed e events old outputs after) is p))
 fed_audits fed engine m events old outputs after path (Err NotClean) is p ok audits =
     audits (play m events).after
-    (left_is fed m events old outputs after (ok (λ e. cc)) (subst (λ e. Plays fed e events old outputs after) is p))
+    (left_is fed m events old outputs after (ok (λ e. cc))
+    (subst (λ e. PlaysEvents fed e events old outputs after) is p))
 fed_audits fed engine m events old outputs after path (Err NoMemory) is p ok audits = tt
 
 -- ---- flushing keeps what was printed
 
-pub ends_kept : (ending : Ending) (text : List ℕ) (path : Bytes) (a b c : Option (List ℕ)) → Ends ending text path a b
-    → Keeps b c → Ends ending text path a c
+pub ends_kept : (ending : Ending) (text : List ℕ) (path : Bytes) (a b c : Option (List ℕ))
+    → EndsAudit ending text path a b
+    → Keeps b c → EndsAudit ending text path a c
 ends_kept endings.Done text path a b c p q = (p.0, p.1, p.2, p.3, appends_kept a b c (count_line p.1.0 p.1.1) p.4 q)
 ends_kept (endings.BadLine number) text path a b c p q = (p.0, keeps_both a b c p.1 q)
 ends_kept endings.Failed text path a b c p q =
-    elim p as (λ _. Ends endings.Failed text path a c) [
+    elim p as (λ _. EndsAudit endings.Failed text path a c) [
       | inl same ↦ inl (keeps_both a b c same q)
       | inr found ↦ inr found
     ]

@@ -13,7 +13,7 @@ use Rattle.replay_script.specs.declared.event.ScriptEvent.{ScriptEvent}
 use Rattle.replay_script.specs.declared.event.ScriptEvent.TheVariants.{LeaderUp, LeaderBytes, LeaderEnd, ClientUp, ClientBytes, ClientEnd, Expire, Checkpoint}
 use Rattle.replay_script.specs.declared.script.Script.{Script}
 use Rattle.replay.specs.Lines.{count_line}
-use Rattle.replay.specs.Replay.{event_of, machine_of}
+use Rattle.replay.specs.Replay.{event_of_script, machine_of}
 use Rattle.replay.specs.Ending.{status_of}
 use Rattle.replay.specs.declared.ending.Ending.{Ending}
 use Rattle.replay.specs.declared.ending.Ending.TheVariants as endings
@@ -33,7 +33,7 @@ is_checkpoint Checkpoint = true
 -- the events of a script but its checkpoints, each of which would empty the log
 abbrev pub fed_events : List ScriptEvent → List Event
 fed_events [] = []
-fed_events (e ∷ es) = if is_checkpoint e then fed_events es else event_of e ∷ fed_events es
+fed_events (e ∷ es) = if is_checkpoint e then fed_events es else event_of_script e ∷ fed_events es
 
 -- all transactions from the fresh tree on, of the observer to which these events came; none once an image or a TRUNC
 -- took effect
@@ -44,41 +44,42 @@ abbrev pub log_of : Script → Option (List Txn)
 log_of script = log_after (machine_of script) (fed_events script.events)
 
 -- there is a log, and this is its count
-abbrev pub Counts : Option (List Txn) → Bytes → Option (ℤ × ℤ) → Type 0
-Counts kept path found = (log : List Txn) × (kept ≡ Some log) × IsCounted log path found
+abbrev pub FindsCount : Option (List Txn) → Bytes → Option (ℤ × ℤ) → Type 0
+FindsCount kept path found = (log : List Txn) × (kept ≡ Some log) × IsCounted log path found
 
 -- there is no log, or one that isn't clean
 abbrev pub IsNotClean : Option (List Txn) → Type 0
 IsNotClean kept = (kept ≡ None) ⊎ ((log : List Txn) × (i : ℕ) × (kept ≡ Some log) × IsFirstUnclean log i)
 
-abbrev pub Audits : Option (List Txn) → Bytes → Result (Option (ℤ × ℤ)) Uncounted → Type 0
-Audits kept path (Ok found) = Counts kept path found
-Audits kept path (Err NotClean) = IsNotClean kept
-Audits kept path (Err NoMemory) = Unit {0}
+abbrev pub AuditsLog : Option (List Txn) → Bytes → Result (Option (ℤ × ℤ)) Uncounted → Type 0
+AuditsLog kept path (Ok found) = FindsCount kept path found
+AuditsLog kept path (Err NotClean) = IsNotClean kept
+AuditsLog kept path (Err NoMemory) = Unit {0}
 
 -- the line of a count was printed, or a write failed; where memory was refused nothing was
-abbrev pub Prints : Ending → ℤ → ℤ → Option (List ℕ) → Option (List ℕ) → Type 0
-Prints endings.Done cversion pzxid old new = Appends old new (count_line cversion pzxid)
-Prints (endings.BadLine number) cversion pzxid old new = ⊥
-Prints endings.Failed cversion pzxid old new = Unit {0}
-Prints endings.NoMemory cversion pzxid old new = Keeps old new
-Prints endings.NotClean cversion pzxid old new = ⊥
-Prints endings.NoNode cversion pzxid old new = ⊥
+abbrev pub PrintsCount : Ending → ℤ → ℤ → Option (List ℕ) → Option (List ℕ) → Type 0
+PrintsCount endings.Done cversion pzxid old new = Appends old new (count_line cversion pzxid)
+PrintsCount (endings.BadLine number) cversion pzxid old new = ⊥
+PrintsCount endings.Failed cversion pzxid old new = Unit {0}
+PrintsCount endings.NoMemory cversion pzxid old new = Keeps old new
+PrintsCount endings.NotClean cversion pzxid old new = ⊥
+PrintsCount endings.NoNode cversion pzxid old new = ⊥
 
 -- What was printed, by the way in which the audit of a text ended: the line of the count; or nothing, unless the text
 -- is a script and a write failed.
-abbrev pub Ends : Ending → List ℕ → Bytes → Option (List ℕ) → Option (List ℕ) → Type 0
-Ends endings.Done text path old new =
-    (script : Script) × (count : ℤ × ℤ) × (script_of text ≡ Ok script) × Counts (log_of script) path (Some count)
+abbrev pub EndsAudit : Ending → List ℕ → Bytes → Option (List ℕ) → Option (List ℕ) → Type 0
+EndsAudit endings.Done text path old new =
+    (script : Script) × (count : ℤ × ℤ) × (script_of text ≡ Ok script) × FindsCount (log_of script) path (Some count)
     × Appends old new (count_line count.0 count.1)
-Ends (endings.BadLine number) text path old new = (script_of text ≡ Err number) × Keeps old new
-Ends endings.Failed text path old new = Keeps old new ⊎ ((script : Script) × (script_of text ≡ Ok script))
-Ends endings.NoMemory text path old new = Keeps old new
-Ends endings.NotClean text path old new =
+EndsAudit (endings.BadLine number) text path old new = (script_of text ≡ Err number) × Keeps old new
+EndsAudit endings.Failed text path old new = Keeps old new ⊎ ((script : Script) × (script_of text ≡ Ok script))
+EndsAudit endings.NoMemory text path old new = Keeps old new
+EndsAudit endings.NotClean text path old new =
     (script : Script) × (script_of text ≡ Ok script) × IsNotClean (log_of script) × Keeps old new
-Ends endings.NoNode text path old new =
-    (script : Script) × (script_of text ≡ Ok script) × Counts (log_of script) path None × Keeps old new
+EndsAudit endings.NoNode text path old new =
+    (script : Script) × (script_of text ≡ Ok script) × FindsCount (log_of script) path None × Keeps old new
 
 -- the same by the exit status
-abbrev pub EndsWith : ℕ → List ℕ → Bytes → Option (List ℕ) → Option (List ℕ) → Type 0
-EndsWith status text path old new = (ending : Ending) × (status ≡ status_of ending) × Ends ending text path old new
+abbrev pub EndsAuditWith : ℕ → List ℕ → Bytes → Option (List ℕ) → Option (List ℕ) → Type 0
+EndsAuditWith status text path old new =
+    (ending : Ending) × (status ≡ status_of ending) × EndsAudit ending text path old new

@@ -3,7 +3,7 @@
 ghost use Rattle.std.specs.Prelude.{◌≡◌, ◌≢◌, Some, Err, IsOk, IfOk, IfSome};
 ghost use Rattle.learner_sync.specs.Learn.{whole_log};
 ghost use Rattle.observer_core.specs.Machine.{Machine as TheMachine};
-ghost use Rattle.auditing.specs.Auditing.{is_checkpoint, fed_events, log_after, log_of, Audits, Prints, Ends, EndsWith};
+ghost use Rattle.auditing.specs.Auditing.{is_checkpoint, fed_events, log_after, log_of, AuditsLog, PrintsCount, EndsAudit, EndsAuditWith};
 ghost use Rattle.auditing.specs.declared.auditing.Uncounted.TheVariants as uncounted;
 
 use audit::{AuditError, audit_stat};
@@ -67,7 +67,7 @@ fn audit_fed(
 ) -> Result<Option<(i32, i64)>, Uncounted>
     ensures fed { result ≢ Err uncounted.NoMemory → IsOk fed }
     ensures audited { (m : TheMachine) → engine.now ≡ Some m
-        → Audits (whole_log m.world.replica.learner) path.now result }
+        → AuditsLog (whole_log m.world.replica.learner) path.now result }
 {
     if fed.is_err() {
         return Err(Uncounted::NoMemory);
@@ -90,7 +90,7 @@ fn feed(
     events: &[Event<'_>],
     path: &str,
 ) -> Result<Option<(i32, i64)>, Uncounted>
-    ensures { (m : TheMachine) → engine ≡ Some m → Audits (log_after m events.now) path.now result }
+    ensures { (m : TheMachine) → engine ≡ Some m → AuditsLog (log_after m events.now) path.now result }
 {
     let mut outputs = Vec::new(alloc);
     let fed = engine.feed_inline(alloc, events, &mut outputs);
@@ -99,7 +99,7 @@ fn feed(
 
 // Feeds a script's events but its checkpoints to its observer, and audits the log.
 fn audit_script(alloc: Global, script: Script, path: &str) -> Result<Option<(i32, i64)>, Uncounted>
-    ensures { Audits (log_of script) path.now result }
+    ensures { AuditsLog (log_of script) path.now result }
 {
     let Script {
         server_id,
@@ -122,7 +122,7 @@ fn audit_script(alloc: Global, script: Script, path: &str) -> Result<Option<(i32
 
 // Prints the line of a count.
 fn print_count<W: Write>(alloc: Global, cversion: i32, pzxid: i64, writer: &mut W) -> Ending
-    ensures { Prints result cversion pzxid (W.contents writer.old) (W.contents writer.new) }
+    ensures { PrintsCount result cversion pzxid (W.contents writer.old) (W.contents writer.new) }
 {
     let mut line = Vec::new(alloc);
     if put_count(&mut line, cversion, pzxid).is_err() {
@@ -136,7 +136,7 @@ fn print_count<W: Write>(alloc: Global, cversion: i32, pzxid: i64, writer: &mut 
 
 // Audits a text, and prints the count.
 fn audit_text<W: Write>(alloc: Global, text: &[u8], path: &str, writer: &mut W) -> Ending
-    ensures { Ends result text.now path.now (W.contents writer.old) (W.contents writer.new) }
+    ensures { EndsAudit result text.now path.now (W.contents writer.old) (W.contents writer.new) }
 {
     let script = match parse(alloc, text) {
         Ok(script) => script,
@@ -154,7 +154,7 @@ fn audit_text<W: Write>(alloc: Global, text: &[u8], path: &str, writer: &mut W) 
 // Reads a script to its end, audits it, and prints the count. A script that is read in part is not audited.
 fn audit<R: Read, W: Write>(alloc: Global, reader: &mut R, path: &str, writer: &mut W) -> Ending
     ensures { IfSome (R.remaining reader.old)
-        (λ text. Ends result text path.now (W.contents writer.old) (W.contents writer.new)) }
+        (λ text. EndsAudit result text path.now (W.contents writer.old) (W.contents writer.new)) }
 {
     let mut text = Vec::new(alloc);
     if let Err(error) = reader.read_to_end(&mut text) {
@@ -181,7 +181,7 @@ pub fn audit_on<R: Read, W: Write, E: Write>(
     errors: &mut E,
 ) -> u8
     ensures ends { IfSome (R.remaining reader.old)
-        (λ text. EndsWith result text path.now (W.contents writer.old) (W.contents writer.new)) }
+        (λ text. EndsAuditWith result text path.now (W.contents writer.old) (W.contents writer.new)) }
     ensures quiet { result ≡ 0 → errors.new ≡ errors.old }
 {
     let ending = audit(alloc, reader, path, writer);

@@ -8,18 +8,18 @@ use mathlib.Core.Bool.{true≢false}
 use Rattle.std.proofs.lemmas.List.{length-append, length-map, length-take, map-append}
 use Rattle.ephemerals.specs.Orders.{Bytes}
 use Rattle.txn_codec.specs.declared.txn.Txn.{Txn}
-use Rattle.data_tree.specs.Footprint.{touches, footprint}
-use Rattle.data_tree.specs.Commuting.{Tagged, batch_of}
+use Rattle.data_tree.specs.Footprint.{has_path, footprint}
+use Rattle.data_tree.specs.Commuting.{GroupedTxn, batch_of}
 use Rattle.footprint.specs.Footprints.{is_barrier}
-use Rattle.batcher.specs.Class.{Class, no_member}
+use Rattle.batcher.specs.Class.{TxnGroup, empty_group}
 use Rattle.batcher.specs.Limits.{LimitNumbers, are_limits}
 use Rattle.batcher.specs.declared.draft.Draft.{Draft}
 use Rattle.batcher.specs.declared.met.Met.TheVariants.{Nothing}
-use Rattle.batcher.specs.Groups.{group_with, opened, group_for, group_next, grouped, classes_of}
-use Rattle.batcher.specs.Cut.{cut, is_barrier_alone, is_batch, listed, groups_of}
-use Rattle.batcher.specs.Inner.Joining.{joined, with_member, all_met, met_group}
-use Rattle.batcher.specs.Inner.Taking.{within, group_taken, taken_behind, HasTaken, BeginsWithBarrier}
-use Rattle.batcher.specs.Inner.Drafts.{txns_in, taken_in, IsDraft}
+use Rattle.batcher.specs.Groups.{group_with, group_count, group_for, group_of_next, tagged_txns, txn_groups_of}
+use Rattle.batcher.specs.Cut.{cut, is_barrier_alone, is_batch, groups_if_tagged, groups_of}
+use Rattle.batcher.specs.Inner.Joining.{with_txn_at, with_member, all_met, met_group}
+use Rattle.batcher.specs.Inner.Taking.{group_within_limit, group_taken, tagged_front_after, HasTaken, BeginsWithBarrier}
+use Rattle.batcher.specs.Inner.Drafts.{txns_in, tagged_in, IsDraft}
 use Rattle.batcher.proofs.Steps.{IsNext}
 use Rattle.batcher.proofs.Owning.{none, group_with-behind, or_else, met_or_new}
 use Rattle.batcher.proofs.Members.{classes_of-behind, length-classes_of}
@@ -47,10 +47,10 @@ length-zip [] (u ∷ us) same = absurd (omega arith)
 length-zip (j ∷ js) [] same = absurd (omega arith)
 length-zip (j ∷ js) (u ∷ us) same = ap suc (length-zip js us (omega arith))
 
-pub batch_in : (draft : Draft) → IsDraft draft → batch_of (taken_in draft) ≡ txns_in draft
+pub batch_in : (draft : Draft) → IsDraft draft → batch_of (tagged_in draft) ≡ txns_in draft
 batch_in draft is = batch_of-zip draft.numbers.items (txns_in draft) is.numbers
 
-pub length_in : (draft : Draft) → IsDraft draft → length (taken_in draft) ≡ length (txns_in draft)
+pub length_in : (draft : Draft) → IsDraft draft → length (tagged_in draft) ≡ length (txns_in draft)
 length_in draft is = length-zip draft.numbers.items (txns_in draft) is.numbers
 
 -- as many as are kept
@@ -63,13 +63,13 @@ pub txns_more : (old new : Draft) (t : Bor Txn) → new.txns.items ≡ old.txns.
 txns_more old new t is = ap (map (λ (t : Bor Txn). t.now)) is
     ∙ map-append (λ (t : Bor Txn). t.now) old.txns.items (t ∷ [])
 
-pub opened_in : (draft : Draft) → IsDraft draft → length draft.groups.items ≡ opened (taken_in draft)
-opened_in draft is = ap length is.groups ∙ length-classes_of (taken_in draft)
+pub opened_in : (draft : Draft) → IsDraft draft → length draft.groups.items ≡ group_count (tagged_in draft)
+opened_in draft is = ap length is.groups ∙ length-classes_of (tagged_in draft)
 
 -- ---- the group for a transaction
 
 pub for_no_path : (draft : Draft) → IsDraft draft → (paths : List Bytes) → nat_eq (length paths) 0 ≡ true
-    → group_for (taken_in draft) paths ≡ Some (length draft.groups.items - 1)
+    → group_for (tagged_in draft) paths ≡ Some (length draft.groups.items - 1)
 for_no_path draft is [] e = ap (λ n. Some (n - 1)) (sym (opened_in draft is))
 for_no_path draft is (p ∷ ps) e = absurd (true≢false (sym e ∙ not_zero (length ps)))
   where
@@ -78,14 +78,14 @@ for_no_path draft is (p ∷ ps) e = absurd (true≢false (sym e ∙ not_zero (le
 
 pub for_paths : (draft : Draft) → IsDraft draft → (paths : List Bytes) → nat_eq (length paths) 0 ≡ false
     → met_group (length draft.groups.items) (all_met (get_by_text draft.owners) Nothing paths)
-    ≡ group_for (taken_in draft) paths
+    ≡ group_for (tagged_in draft) paths
 for_paths draft is [] e = absurd (true≢false e)
 for_paths draft is (p ∷ ps) e =
     ap (λ n. met_group n (all_met (get_by_text draft.owners) Nothing (p ∷ ps))) (opened_in draft is)
-    ∙ met_is (taken_in draft) (get_by_text draft.owners) is.owners p ps
+    ∙ met_is (tagged_in draft) (get_by_text draft.owners) is.owners p ps
 
-by_the_paths : (before : List Tagged) (t : Txn) → is_barrier t ≡ false
-    → group_next before t ≡ group_for before (footprint t)
+by_the_paths : (before : List GroupedTxn) (t : Txn) → is_barrier t ≡ false
+    → group_of_next before t ≡ group_for before (footprint t)
 by_the_paths before t free = ap (λ b. cond b None (group_for before (footprint t))) free
 
 lt_test : (a b : ℕ) → a < b → nat_lt a b ≡ true
@@ -95,52 +95,58 @@ ge_test : (a b : ℕ) → b ≤ a → nat_lt a b ≡ false
 ge_test a b h = grind (arith, nat_tests)
 
 module _ (limits : LimitNumbers) (draft : Draft) (is : IsDraft draft) (t : Txn) where
-  taken_when : (b : Bool) → nat_lt (length (taken_in draft)) limits.batch ≡ b
-      → group_taken limits (taken_in draft) t ≡ cond b (within limits.groups (group_next (taken_in draft) t)) None
-  taken_when b e = ap (λ b. cond b (within limits.groups (group_next (taken_in draft) t)) None) e
+  taken_when : (b : Bool) → nat_lt (length (tagged_in draft)) limits.batch ≡ b
+      → group_taken limits (tagged_in draft) t
+      ≡ cond b (group_within_limit limits.groups (group_of_next (tagged_in draft) t)) None
+  taken_when b e = ap (λ b. cond b (group_within_limit limits.groups (group_of_next (tagged_in draft) t)) None) e
 
-  pub full_takes_none : limits.batch ≤ length draft.txns.items → group_taken limits (taken_in draft) t ≡ None
+  pub full_takes_none : limits.batch ≤ length draft.txns.items → group_taken limits (tagged_in draft) t ≡ None
   full_takes_none full =
       let long = length_in draft is ∙ count_in draft in
-      taken_when false (ge_test (length (taken_in draft)) limits.batch (omega arith))
+      taken_when false (ge_test (length (tagged_in draft)) limits.batch (omega arith))
 
   module _ (room : length draft.txns.items < limits.batch) where
-    with_room : group_taken limits (taken_in draft) t ≡ within limits.groups (group_next (taken_in draft) t)
+    with_room : group_taken limits (tagged_in draft) t
+        ≡ group_within_limit limits.groups (group_of_next (tagged_in draft) t)
     with_room =
         let long = length_in draft is ∙ count_in draft in
-        taken_when true (lt_test (length (taken_in draft)) limits.batch (omega arith))
+        taken_when true (lt_test (length (tagged_in draft)) limits.batch (omega arith))
 
-    pub barrier_not_taken : is_barrier t ≡ true → group_taken limits (taken_in draft) t ≡ None
+    pub barrier_not_taken : is_barrier t ≡ true → group_taken limits (tagged_in draft) t ≡ None
     barrier_not_taken e =
-        with_room ∙ ap (λ b. within limits.groups (cond b None (group_for (taken_in draft) (footprint t)))) e
+        with_room ∙ ap (λ b. group_within_limit limits.groups
+        (cond b None (group_for (tagged_in draft) (footprint t)))) e
 
     module _ (free : is_barrier t ≡ false) (paths : List Bytes) (has : paths ≡ footprint t) where
-      by_paths : group_taken limits (taken_in draft) t ≡ within limits.groups (group_for (taken_in draft) paths)
+      by_paths : group_taken limits (tagged_in draft) t
+          ≡ group_within_limit limits.groups (group_for (tagged_in draft) paths)
       by_paths =
           with_room
-          ∙ ap (within limits.groups) (by_the_paths (taken_in draft) t free)
-          ∙ ap (λ ps. within limits.groups (group_for (taken_in draft) ps)) (sym has)
+          ∙ ap (group_within_limit limits.groups) (by_the_paths (tagged_in draft) t free)
+          ∙ ap (λ ps. group_within_limit limits.groups (group_for (tagged_in draft) ps)) (sym has)
 
-      pub without_group : group_for (taken_in draft) paths ≡ None → group_taken limits (taken_in draft) t ≡ None
-      without_group e = by_paths ∙ ap (within limits.groups) e
+      pub without_group : group_for (tagged_in draft) paths ≡ None → group_taken limits (tagged_in draft) t ≡ None
+      without_group e = by_paths ∙ ap (group_within_limit limits.groups) e
 
-      pub past_the_last : (k : ℕ) → group_for (taken_in draft) paths ≡ Some k → limits.groups ≤ k
-          → group_taken limits (taken_in draft) t ≡ None
+      pub past_the_last : (k : ℕ) → group_for (tagged_in draft) paths ≡ Some k → limits.groups ≤ k
+          → group_taken limits (tagged_in draft) t ≡ None
       past_the_last k e past =
-          by_paths ∙ ap (within limits.groups) e ∙ ap (λ b. cond b (Some k) None) (ge_test k limits.groups past)
+          by_paths ∙ ap (group_within_limit limits.groups) e
+          ∙ ap (λ b. cond b (Some k) None) (ge_test k limits.groups past)
 
-      pub into_group : (k : ℕ) → group_for (taken_in draft) paths ≡ Some k → k < limits.groups
-          → group_taken limits (taken_in draft) t ≡ Some k
+      pub into_group : (k : ℕ) → group_for (tagged_in draft) paths ≡ Some k → k < limits.groups
+          → group_taken limits (tagged_in draft) t ≡ Some k
       into_group k e fits =
-          by_paths ∙ ap (within limits.groups) e ∙ ap (λ b. cond b (Some k) None) (lt_test k limits.groups fits)
+          by_paths ∙ ap (group_within_limit limits.groups) e
+          ∙ ap (λ b. cond b (Some k) None) (lt_test k limits.groups fits)
 
 -- ---- one transaction more
 
-owner_now : (before : List Tagged) (k : ℕ) (t : Txn) (paths : List Bytes) → group_for before paths ≡ Some k
-    → ((q : Bytes) → touches paths q ≡ touches (footprint t) q) → (q : Bytes)
-    → cond (touches paths q) (Some k) (group_with before q) ≡ group_with (before ++ (k, t) ∷ []) q
+owner_now : (before : List GroupedTxn) (k : ℕ) (t : Txn) (paths : List Bytes) → group_for before paths ≡ Some k
+    → ((q : Bytes) → has_path paths q ≡ has_path (footprint t) q) → (q : Bytes)
+    → cond (has_path paths q) (Some k) (group_with before q) ≡ group_with (before ++ (k, t) ∷ []) q
 owner_now before k t paths is cells q =
-    by (touches paths q) refl
+    by (has_path paths q) refl
     ∙ ap (λ b. or_else (group_with before q) (cond b (Some k) None)) (cells q)
     ∙ sym (group_with-behind before (k, t) q)
   where
@@ -148,19 +154,19 @@ owner_now before k t paths is cells q =
     or_nothing None = refl
     or_nothing (Some j) = refl
 
-    by : (b : Bool) → touches paths q ≡ b
+    by : (b : Bool) → has_path paths q ≡ b
         → cond b (Some k) (group_with before q) ≡ or_else (group_with before q) (cond b (Some k) None)
     by true e = sym (met_or_new before paths k is q e)
     by false e = or_nothing (group_with before q)
 
 pub record Gained (old new : Draft) (k : ℕ) (t : Txn) : Type 0 where
   pub draft : IsDraft new
-  pub taken : taken_in new ≡ taken_in old ++ (k, t) ∷ []
+  pub taken : tagged_in new ≡ tagged_in old ++ (k, t) ∷ []
 
 pub gained : (old new : Draft) (k : ℕ) (t : Txn) (paths : List Bytes) → IsDraft old
-    → group_for (taken_in old) paths ≡ Some k → paths ≡ footprint t
+    → group_for (tagged_in old) paths ≡ Some k → paths ≡ footprint t
     → new.numbers.items ≡ old.numbers.items ++ k ∷ [] → txns_in new ≡ txns_in old ++ t ∷ []
-    → ((q : Bytes) → get_by_text new.owners q ≡ cond (touches paths q) (Some k) (get_by_text old.owners q))
+    → ((q : Bytes) → get_by_text new.owners q ≡ cond (has_path paths q) (Some k) (get_by_text old.owners q))
     → new.groups.items ≡ with_member old.groups.items k (length (txns_in old)) paths → Gained old new k t
 gained old new k t paths is for has numbers txns owners groups =
     record {
@@ -169,75 +175,75 @@ gained old new k t paths is for has numbers txns owners groups =
             let o = length-append old.numbers.items (k ∷ []) in let p = length-append (txns_in old) (t ∷ []) in
             let q = is.numbers in omega arith;
         owners = λ q.
-            owners q ∙ ap (cond (touches paths q) (Some k)) (is.owners q)
-            ∙ owner_now (taken_in old) k t paths for cells q
+            owners q ∙ ap (cond (has_path paths q) (Some k)) (is.owners q)
+            ∙ owner_now (tagged_in old) k t paths for cells q
             ∙ ap (λ ts. group_with ts q) (sym taken);
         groups = groups
             ∙ ap (λ cs. with_member cs k (length (txns_in old)) paths) is.groups
-            ∙ ap (λ n. with_member (classes_of (taken_in old)) k n paths) (sym (length_in old is))
-            ∙ sym (classes_of-behind (taken_in old) k t paths cells (group_for-below (taken_in old) paths k for))
-            ∙ ap classes_of (sym taken);
+            ∙ ap (λ n. with_member (txn_groups_of (tagged_in old)) k n paths) (sym (length_in old is))
+            ∙ sym (classes_of-behind (tagged_in old) k t paths cells (group_for-below (tagged_in old) paths k for))
+            ∙ ap txn_groups_of (sym taken);
       };
       taken = taken;
     }
   where
-    cells : (q : Bytes) → touches paths q ≡ touches (footprint t) q
-    cells q = ap (λ ps. touches ps q) has
+    cells : (q : Bytes) → has_path paths q ≡ has_path (footprint t) q
+    cells q = ap (λ ps. has_path ps q) has
 
-    taken : taken_in new ≡ taken_in old ++ (k, t) ∷ []
+    taken : tagged_in new ≡ tagged_in old ++ (k, t) ∷ []
     taken = (λ i. zip (numbers i) (txns i)) ∙ zip-behind old.numbers.items (txns_in old) k t is.numbers
 
 -- ---- a list of transactions
 
-takes_next : (limits : LimitNumbers) (before : List Tagged) (t : Txn) (k : ℕ) (ts : List Txn)
+takes_next : (limits : LimitNumbers) (before : List GroupedTxn) (t : Txn) (k : ℕ) (ts : List Txn)
     → group_taken limits before t ≡ Some k
-    → taken_behind limits before (t ∷ ts) ≡ taken_behind limits (before ++ (k, t) ∷ []) ts
+    → tagged_front_after limits before (t ∷ ts) ≡ tagged_front_after limits (before ++ (k, t) ∷ []) ts
 takes_next limits before t k ts is =
-    ap (λ o. option_map_or (λ j. taken_behind limits (before ++ (j, t) ∷ []) ts) o before) is
+    ap (λ o. option_map_or (λ j. tagged_front_after limits (before ++ (j, t) ∷ []) ts) o before) is
 
-takes_no_more : (limits : LimitNumbers) (before : List Tagged) (t : Txn) (ts : List Txn)
-    → group_taken limits before t ≡ None → taken_behind limits before (t ∷ ts) ≡ before
+takes_no_more : (limits : LimitNumbers) (before : List GroupedTxn) (t : Txn) (ts : List Txn)
+    → group_taken limits before t ≡ None → tagged_front_after limits before (t ∷ ts) ≡ before
 takes_no_more limits before t ts is =
-    ap (λ o. option_map_or (λ j. taken_behind limits (before ++ (j, t) ∷ []) ts) o before) is
+    ap (λ o. option_map_or (λ j. tagged_front_after limits (before ++ (j, t) ∷ []) ts) o before) is
 
 module _ (limits : LimitNumbers) (txns : List Txn) (i : ℕ) (t : Txn) (next : IsNext txns i t) where
-  pub next_taken : (old new all : List Tagged) (b : Bool) → b ≡ true → HasTaken limits old t b new
-      → taken_behind limits old (drop i txns) ≡ all → taken_behind limits new (drop (i + 1) txns) ≡ all
+  pub next_taken : (old new all : List GroupedTxn) (b : Bool) → b ≡ true → HasTaken limits old t b new
+      → tagged_front_after limits old (drop i txns) ≡ all → tagged_front_after limits new (drop (i + 1) txns) ≡ all
   next_taken old new all false e has is = absurd (true≢false (sym e))
   next_taken old new all true e has is =
-      ap (λ ts. taken_behind limits ts (drop (i + 1) txns)) has.1.1
+      ap (λ ts. tagged_front_after limits ts (drop (i + 1) txns)) has.1.1
       ∙ sym (takes_next limits old t has.0 (drop (i + 1) txns) has.1.0)
-      ∙ sym (ap (taken_behind limits old) next)
+      ∙ sym (ap (tagged_front_after limits old) next)
       ∙ is
 
-  pub next_not_taken : (old new all : List Tagged) (b : Bool) → b ≡ false → HasTaken limits old t b new
-      → taken_behind limits old (drop i txns) ≡ all → new ≡ all
+  pub next_not_taken : (old new all : List GroupedTxn) (b : Bool) → b ≡ false → HasTaken limits old t b new
+      → tagged_front_after limits old (drop i txns) ≡ all → new ≡ all
   next_not_taken old new all true e has is = absurd (true≢false e)
   next_not_taken old new all false e has is =
       has.1
       ∙ sym (takes_no_more limits old t (drop (i + 1) txns) has.0)
-      ∙ sym (ap (taken_behind limits old) next)
+      ∙ sym (ap (tagged_front_after limits old) next)
       ∙ is
 
 -- ---- the batch of a draft
 
 module _ (limits : LimitNumbers) (txns : List Txn) (draft : Draft) (is : IsDraft draft) where
-  module _ (taken : taken_in draft ≡ taken_behind limits [] txns) (ok : are_limits limits ≡ true) where
-    txns_are : (txns_in draft) ≡ batch_of (taken_behind limits [] txns)
+  module _ (taken : tagged_in draft ≡ tagged_front_after limits [] txns) (ok : are_limits limits ≡ true) where
+    txns_are : (txns_in draft) ≡ batch_of (tagged_front_after limits [] txns)
     txns_are = sym (batch_in draft is) ∙ ap batch_of taken
 
-    grouped_are : grouped (txns_in draft) ≡ Some (taken_behind limits [] txns)
-    grouped_are = ap grouped txns_are ∙ taken_is_grouped limits txns ok
+    grouped_are : tagged_txns (txns_in draft) ≡ Some (tagged_front_after limits [] txns)
+    grouped_are = ap tagged_txns txns_are ∙ taken_is_grouped limits txns ok
 
     groups_are : draft.groups.items ≡ groups_of (txns_in draft)
-    groups_are = is.groups ∙ ap classes_of taken ∙ sym (ap listed grouped_are)
+    groups_are = is.groups ∙ ap txn_groups_of taken ∙ sym (ap groups_if_tagged grouped_are)
 
     are_a_batch : is_batch (txns_in draft) ≡ true
     are_a_batch =
         ap (λ o. is_barrier_alone (txns_in draft) || is_some o) grouped_are
         ∙ or_true (is_barrier_alone (txns_in draft))
 
-    long : length (taken_behind limits [] txns) ≡ length (txns_in draft)
+    long : length (tagged_front_after limits [] txns) ≡ length (txns_in draft)
     long = ap length (sym taken) ∙ length_in draft is
 
     pub nothing_but_barrier : (n : ℕ) → n ≡ length draft.txns.items → n ≡ 0 → BeginsWithBarrier txns
@@ -276,20 +282,22 @@ module _ (limits : LimitNumbers) (txns : List Txn) (draft : Draft) (is : IsDraft
 
 -- ---- a group in a list of groups
 
-put_joined : (cs : List Class) (k place : ℕ) (ps : List Bytes) (old : Class) → k < length cs → old ≡ get_or cs k old
-    → set cs k (joined old place ps) ≡ with_member cs k place ps
+put_joined : (cs : List TxnGroup) (k place : ℕ) (ps : List Bytes) (old : TxnGroup) → k < length cs
+    → old ≡ get_or cs k old
+    → set cs k (with_txn_at old place ps) ≡ with_member cs k place ps
 put_joined [] k place ps old within is = absurd (omega arith)
-put_joined (c ∷ cs) zero place ps old within is = λ i. joined (is i) place ps ∷ cs
+put_joined (c ∷ cs) zero place ps old within is = λ i. with_txn_at (is i) place ps ∷ cs
 put_joined (c ∷ cs) (suc k) place ps old within is = ap (λ r. c ∷ r) (put_joined cs k place ps old (omega arith) is)
 
-pub put_within : {A E : Type 0} (r : Result A E) (cs : List Class) (k place : ℕ) (ps : List Bytes) (old new : Class)
-    → k < length cs → old ≡ get_or cs k old → OnOk r (new ≡ joined old place ps)
+pub put_within : {A E : Type 0} (r : Result A E) (cs : List TxnGroup) (k place : ℕ) (ps : List Bytes)
+    (old new : TxnGroup)
+    → k < length cs → old ≡ get_or cs k old → OnOk r (new ≡ with_txn_at old place ps)
     → OnOk r (set cs k new ≡ with_member cs k place ps)
 put_within (Ok x) cs k place ps old new within is joins = ap (set cs k) joins ∙ put_joined cs k place ps old within is
 put_within (Err e) cs k place ps old new within is joins = tt
 
-pub put_behind : (cs : List Class) (k place : ℕ) (ps : List Bytes) (new : Class) → length cs ≤ k
-    → new ≡ joined no_member place ps → cs ++ new ∷ [] ≡ with_member cs k place ps
+pub put_behind : (cs : List TxnGroup) (k place : ℕ) (ps : List Bytes) (new : TxnGroup) → length cs ≤ k
+    → new ≡ with_txn_at empty_group place ps → cs ++ new ∷ [] ≡ with_member cs k place ps
 put_behind [] k place ps new past is = ap (λ c. c ∷ []) is
 put_behind (c ∷ cs) zero place ps new past is = absurd (omega arith)
 put_behind (c ∷ cs) (suc k) place ps new past is = ap (λ r. c ∷ r) (put_behind cs k place ps new (omega arith) is)

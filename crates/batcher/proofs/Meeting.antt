@@ -7,11 +7,11 @@ use Rattle.std.proofs.lemmas.Bool.{eqb-true, eq-eqb}
 use mathlib.Core.Bool.{true≢false}
 use Rattle.ephemerals.specs.Orders.{Bytes, path_cmp}
 use Rattle.ephemerals.proofs.Totals.{path_total}
-use Rattle.data_tree.specs.Footprint.{touches, footprint}
-use Rattle.data_tree.specs.Commuting.{Tagged}
+use Rattle.data_tree.specs.Footprint.{has_path, footprint}
+use Rattle.data_tree.specs.Commuting.{GroupedTxn}
 use Rattle.batcher.specs.declared.met.Met.TheVariants.{Nothing, Group, Several}
-use Rattle.batcher.specs.Groups.{group_with, opened, only_group, group_for}
-use Rattle.batcher.specs.Inner.Joining.{also, all_met, met_group}
+use Rattle.batcher.specs.Groups.{group_with, group_count, only_group, group_for}
+use Rattle.batcher.specs.Inner.Joining.{met_with, all_met, met_group}
 use Rattle.batcher.proofs.Owning.{same, none}
 
 -- ---- what is met path by path
@@ -21,7 +21,7 @@ several new owner [] = refl
 several new owner (p ∷ ps) = by (owner p) (several new owner ps)
   where
     by : (o : Option ℕ) → met_group new (all_met owner Several ps) ≡ None
-        → met_group new (all_met owner (also Several o) ps) ≡ None
+        → met_group new (all_met owner (met_with Several o) ps) ≡ None
     by None rest = rest
     by (Some k) rest = rest
 
@@ -41,7 +41,7 @@ met_more new owner k (p ∷ ps) = by (owner p) (met_more new owner k ps)
     by : (o : Option ℕ)
         → met_group new (all_met owner (Group k) ps)
         ≡ cond (list_all (λ j. nat_eq j k) (filter_map owner ps)) (Some k) None
-        → met_group new (all_met owner (also (Group k) o) ps)
+        → met_group new (all_met owner (met_with (Group k) o) ps)
         ≡ cond (list_all (λ j. nat_eq j k) (cons_option o (filter_map owner ps))) (Some k) None
     by None rest = rest
     by (Some j) rest = known j (nat_eq j k) rest
@@ -52,16 +52,17 @@ met_first new owner [] = refl
 met_first new owner (p ∷ ps) = by (owner p) (met_first new owner ps)
   where
     by : (o : Option ℕ) → met_group new (all_met owner Nothing ps) ≡ only_group new (filter_map owner ps)
-        → met_group new (all_met owner (also Nothing o) ps) ≡ only_group new (cons_option o (filter_map owner ps))
+        → met_group new (all_met owner (met_with Nothing o) ps) ≡ only_group new (cons_option o (filter_map owner ps))
     by None rest = rest
     by (Some k) rest = met_more new owner k ps
 
-pub met_is : (before : List Tagged) (owner : Bytes → Option ℕ) → ((path : Bytes) → owner path ≡ group_with before path)
+pub met_is : (before : List GroupedTxn) (owner : Bytes → Option ℕ)
+    → ((path : Bytes) → owner path ≡ group_with before path)
     → (p : Bytes) (ps : List Bytes)
-    → met_group (opened before) (all_met owner Nothing (p ∷ ps)) ≡ group_for before (p ∷ ps)
+    → met_group (group_count before) (all_met owner Nothing (p ∷ ps)) ≡ group_for before (p ∷ ps)
 met_is before owner is p ps =
-    ap (λ (f : Bytes → Option ℕ). met_group (opened before) (all_met f Nothing (p ∷ ps))) (λ i path. is path i)
-    ∙ met_first (opened before) (group_with before) (p ∷ ps)
+    ap (λ (f : Bytes → Option ℕ). met_group (group_count before) (all_met f Nothing (p ∷ ps))) (λ i path. is path i)
+    ∙ met_first (group_count before) (group_with before) (p ∷ ps)
 
 -- ---- the same paths meet the same group
 
@@ -71,7 +72,7 @@ is_one j ks = list_any (λ i. nat_eq i j) ks
 -- where a path of the group stands
 record Has (owner : Bytes → Option ℕ) (j : ℕ) (ps : List Bytes) : Type 0 where
   path : Bytes
-  there : touches ps path ≡ true
+  there : has_path ps path ≡ true
   own : owner path ≡ Some j
 
 reflexive : (p : Bytes) → eq_by_cmp path_cmp p p ≡ true
@@ -98,7 +99,7 @@ met_from owner j (p ∷ ps) h = by (met_from owner j ps) (owner p) refl h
     here rest k e true eq h =
         record {
           path = p;
-          there = ap (λ b. b || touches ps p) (reflexive p);
+          there = ap (λ b. b || has_path ps p) (reflexive p);
           own = e ∙ ap Some (eqb-true k j eq);
         }
     here rest k e false eq h = later (rest h)
@@ -110,17 +111,18 @@ met_from owner j (p ∷ ps) h = by (met_from owner j ps) (owner p) refl h
 
 -- ---- a group that is met was opened
 
-group_with-below : (before : List Tagged) (p : Bytes) (k : ℕ) → group_with before p ≡ Some k → k < opened before
+group_with-below : (before : List GroupedTxn) (p : Bytes) (k : ℕ) → group_with before p ≡ Some k
+    → k < group_count before
 group_with-below [] p k is = absurd (none k (sym is))
-group_with-below (t ∷ ts) p k is = by (λ e. group_with-below ts p k e) (touches (footprint t.1) p) is
+group_with-below (t ∷ ts) p k is = by (λ e. group_with-below ts p k e) (has_path (footprint t.1) p) is
   where
-    by : (group_with ts p ≡ Some k → k < opened ts) → (b : Bool) → cond b (Some t.0) (group_with ts p) ≡ Some k
-        → k < max (t.0 + 1) (opened ts)
+    by : (group_with ts p ≡ Some k → k < group_count ts) → (b : Bool) → cond b (Some t.0) (group_with ts p) ≡ Some k
+        → k < max (t.0 + 1) (group_count ts)
     by rest true is = let e = same is in omega arith
     by rest false is = let below = rest is in omega arith
 
-pub group_for-below : (before : List Tagged) (ps : List Bytes) (k : ℕ) → group_for before ps ≡ Some k
-    → k ≤ opened before
+pub group_for-below : (before : List GroupedTxn) (ps : List Bytes) (k : ℕ) → group_for before ps ≡ Some k
+    → k ≤ group_count before
 group_for-below before [] k is = let e = same is in omega arith
 group_for-below before (p ∷ ps) k is = by (filter_map (group_with before) (p ∷ ps)) refl is
   where
@@ -128,8 +130,8 @@ group_for-below before (p ∷ ps) k is = by (filter_map (group_with before) (p �
     only_first j true is = same is
     only_first j false is = absurd (none k (sym is))
 
-    by : (ks : List ℕ) → filter_map (group_with before) (p ∷ ps) ≡ ks → only_group (opened before) ks ≡ Some k
-        → k ≤ opened before
+    by : (ks : List ℕ) → filter_map (group_with before) (p ∷ ps) ≡ ks → only_group (group_count before) ks ≡ Some k
+        → k ≤ group_count before
     by [] e is = let new = same is in omega arith
     by (j ∷ js) e is =
         let has = met_from (group_with before) j (p ∷ ps)

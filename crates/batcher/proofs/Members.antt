@@ -14,55 +14,58 @@ use Rattle.std.proofs.lemmas.List.FromFn.{length-map-range_with_len}
 use Rattle.ephemerals.specs.Orders.{Bytes, path_cmp}
 use Rattle.ephemerals.proofs.Totals.{path_total}
 use Rattle.txn_codec.specs.declared.txn.Txn.{Txn}
-use Rattle.data_tree.specs.Footprint.{touches, footprint}
-use Rattle.data_tree.specs.Commuting.{Tagged, of_group, batch_of}
+use Rattle.data_tree.specs.Footprint.{has_path, footprint}
+use Rattle.data_tree.specs.Commuting.{GroupedTxn, txns_of_group, batch_of}
 use Rattle.footprint.specs.Footprints.{is_barrier}
-use Rattle.batcher.specs.Class.{Class, no_member}
-use Rattle.batcher.specs.Groups.{opened, group_for, group_next, grouped_behind, places_from, paths_in, class_of, classes_of}
+use Rattle.batcher.specs.Class.{TxnGroup, empty_group}
+use Rattle.batcher.specs.Groups.{group_count, group_for, group_of_next, tagged_txns_after, places_from, paths_in, txn_group_at, txn_groups_of}
 use Rattle.batcher.specs.Laws.{AreAmong, EachIsInAGroup, NoneIsABarrier, GroupsCoverTheirPaths, PlacesNameTheGroup}
-use Rattle.batcher.specs.Inner.Joining.{joined, with_member}
+use Rattle.batcher.specs.Inner.Joining.{with_txn_at, with_member}
 use Rattle.batcher.proofs.Owning.{same, none, opened-behind}
 
 -- ---- each is in a group
 
-pub batch_of-behind : (before : List Tagged) (t : Tagged) → batch_of (before ++ t ∷ []) ≡ batch_of before ++ t.1 ∷ []
+pub batch_of-behind : (before : List GroupedTxn) (t : GroupedTxn)
+    → batch_of (before ++ t ∷ []) ≡ batch_of before ++ t.1 ∷ []
 batch_of-behind [] t = refl
 batch_of-behind (b ∷ bs) t = ap (λ ts. b.1 ∷ ts) (batch_of-behind bs t)
 
-pub batch_is : (before : List Tagged) (txns : List Txn) (ts : List Tagged) → grouped_behind before txns ≡ Some ts
+pub batch_is : (before : List GroupedTxn) (txns : List Txn) (ts : List GroupedTxn)
+    → tagged_txns_after before txns ≡ Some ts
     → batch_of ts ≡ batch_of before ++ txns
 batch_is before [] ts is = ap batch_of (sym (same is)) ∙ sym (append-nil (batch_of before))
-batch_is before (t ∷ txns) ts is = by (λ k. batch_is (before ++ (k, t) ∷ []) txns ts) (group_next before t) is
+batch_is before (t ∷ txns) ts is = by (λ k. batch_is (before ++ (k, t) ∷ []) txns ts) (group_of_next before t) is
   where
-    by : ((k : ℕ) → grouped_behind (before ++ (k, t) ∷ []) txns ≡ Some ts
+    by : ((k : ℕ) → tagged_txns_after (before ++ (k, t) ∷ []) txns ≡ Some ts
         → batch_of ts ≡ batch_of (before ++ (k, t) ∷ []) ++ txns)
         → (o : Option ℕ)
-        → option_and_then (λ k. grouped_behind (before ++ (k, t) ∷ []) txns) o ≡ Some ts
+        → option_and_then (λ k. tagged_txns_after (before ++ (k, t) ∷ []) txns) o ≡ Some ts
         → batch_of ts ≡ batch_of before ++ (t ∷ txns)
     by rest None is = absurd (none ts (sym is))
     by rest (Some k) is =
         rest k is ∙ ap (λ bs. bs ++ txns) (batch_of-behind before (k, t))
         ∙ append_assoc (batch_of before) (t ∷ []) txns
 
-opened_above : (ts : List Tagged) (n : ℕ) → opened ts ≤ n → AllByRecursion (λ (t : Tagged). t.0 < n) ts
+opened_above : (ts : List GroupedTxn) (n : ℕ) → group_count ts ≤ n → AllByRecursion (λ (t : GroupedTxn). t.0 < n) ts
 opened_above [] n h = tt
 opened_above (t ∷ ts) n h = (omega arith, opened_above ts n (omega arith))
 
 pub each_is_in_a_group : EachIsInAGroup
-each_is_in_a_group txns ts is = (batch_is [] txns ts is, opened_above ts (opened ts) (omega arith))
+each_is_in_a_group txns ts is = (batch_is [] txns ts is, opened_above ts (group_count ts) (omega arith))
 
 -- ---- none is a barrier
 
-no_barrier : (before : List Tagged) (txns : List Txn) (ts : List Tagged) → grouped_behind before txns ≡ Some ts
+no_barrier : (before : List GroupedTxn) (txns : List Txn) (ts : List GroupedTxn)
+    → tagged_txns_after before txns ≡ Some ts
     → AllByRecursion (λ t. is_barrier t ≡ false) txns
 no_barrier before [] ts is = tt
 no_barrier before (t ∷ txns) ts is =
     by (λ k. no_barrier (before ++ (k, t) ∷ []) txns ts) (is_barrier t) refl (group_for before (footprint t)) is
   where
-    by : ((k : ℕ) → grouped_behind (before ++ (k, t) ∷ []) txns ≡ Some ts
+    by : ((k : ℕ) → tagged_txns_after (before ++ (k, t) ∷ []) txns ≡ Some ts
         → AllByRecursion (λ t. is_barrier t ≡ false) txns)
         → (b : Bool) → is_barrier t ≡ b → (o : Option ℕ)
-        → option_and_then (λ k. grouped_behind (before ++ (k, t) ∷ []) txns) (cond b None o) ≡ Some ts
+        → option_and_then (λ k. tagged_txns_after (before ++ (k, t) ∷ []) txns) (cond b None o) ≡ Some ts
         → AllByRecursion (λ t. is_barrier t ≡ false) (t ∷ txns)
     by rest true e o is = absurd (none ts (sym is))
     by rest false e None is = absurd (none ts (sym is))
@@ -73,35 +76,35 @@ none_is_a_barrier txns ts is = no_barrier [] txns ts is
 
 -- ---- whose paths are covered
 
-in_front : (p : Bytes) (xs ys : List Bytes) → touches xs p ≡ true → touches (xs ++ ys) p ≡ true
+in_front : (p : Bytes) (xs ys : List Bytes) → has_path xs p ≡ true → has_path (xs ++ ys) p ≡ true
 in_front p xs ys h =
-    list_any-append (eq_by_cmp path_cmp p) xs ys ∙ ap (λ b. b || touches ys p) h
+    list_any-append (eq_by_cmp path_cmp p) xs ys ∙ ap (λ b. b || has_path ys p) h
 
 or_true : (b : Bool) → (b || true) ≡ true
 or_true true = refl
 or_true false = refl
 
-in_rest : (p : Bytes) (xs ys : List Bytes) → touches ys p ≡ true → touches (xs ++ ys) p ≡ true
+in_rest : (p : Bytes) (xs ys : List Bytes) → has_path ys p ≡ true → has_path (xs ++ ys) p ≡ true
 in_rest p xs ys h =
-    list_any-append (eq_by_cmp path_cmp p) xs ys ∙ ap (λ b. touches xs p || b) h ∙ or_true (touches xs p)
+    list_any-append (eq_by_cmp path_cmp p) xs ys ∙ ap (λ b. has_path xs p || b) h ∙ or_true (has_path xs p)
 
 -- the group of the first transaction has its paths, and those that it had without it
-paths_here : (t : Tagged) (ts : List Tagged) (p : Bytes) → touches (footprint t.1) p ≡ true
-    → touches (paths_in t.0 (t ∷ ts)) p ≡ true
+paths_here : (t : GroupedTxn) (ts : List GroupedTxn) (p : Bytes) → has_path (footprint t.1) p ≡ true
+    → has_path (paths_in t.0 (t ∷ ts)) p ≡ true
 paths_here t ts p h =
-    subst (λ b. touches (flat_map footprint (cond b (t.1 ∷ of_group t.0 ts) (of_group t.0 ts))) p ≡ true)
+    subst (λ b. has_path (flat_map footprint (cond b (t.1 ∷ txns_of_group t.0 ts) (txns_of_group t.0 ts))) p ≡ true)
     (sym (eq-eqb t.0 t.0 refl)) (in_front p (footprint t.1) (paths_in t.0 ts) h)
 
-paths_there : (k : ℕ) (t : Tagged) (ts : List Tagged) (p : Bytes) → touches (paths_in k ts) p ≡ true
-    → touches (paths_in k (t ∷ ts)) p ≡ true
+paths_there : (k : ℕ) (t : GroupedTxn) (ts : List GroupedTxn) (p : Bytes) → has_path (paths_in k ts) p ≡ true
+    → has_path (paths_in k (t ∷ ts)) p ≡ true
 paths_there k t ts p h = by (nat_eq t.0 k)
   where
-    by : (b : Bool) → touches (flat_map footprint (cond b (t.1 ∷ of_group k ts) (of_group k ts))) p ≡ true
+    by : (b : Bool) → has_path (flat_map footprint (cond b (t.1 ∷ txns_of_group k ts) (txns_of_group k ts))) p ≡ true
     by true = in_rest p (footprint t.1) (paths_in k ts) h
     by false = h
 
-covered : (all ts : List Tagged) → ((k : ℕ) → AreAmong (paths_in k ts) (paths_in k all))
-    → AllByRecursion (λ (t : Tagged). AreAmong (footprint t.1) (paths_in t.0 all)) ts
+covered : (all ts : List GroupedTxn) → ((k : ℕ) → AreAmong (paths_in k ts) (paths_in k all))
+    → AllByRecursion (λ (t : GroupedTxn). AreAmong (footprint t.1) (paths_in t.0 all)) ts
 covered all [] more = tt
 covered all (t ∷ ts) more = (
   λ p h. more t.0 p (paths_here t ts p h),
@@ -113,8 +116,8 @@ groups_cover_their_paths ts = covered ts ts (λ k p h. h)
 
 -- ---- places
 
-named : (at : ℕ → Option Txn) (n k : ℕ) (ts : List Tagged) → ((i : ℕ) → at (n + i) ≡ slice_get (batch_of ts) i)
-    → map at (places_from n k ts) ≡ map Some (of_group k ts)
+named : (at : ℕ → Option Txn) (n k : ℕ) (ts : List GroupedTxn) → ((i : ℕ) → at (n + i) ≡ slice_get (batch_of ts) i)
+    → map at (places_from n k ts) ≡ map Some (txns_of_group k ts)
 named at n k [] is = refl
 named at n k (t ∷ ts) is =
     by (named at (n + 1) k ts (λ i. ap at (next i) ∙ is (suc i))) (ap at (here n) ∙ is 0) (nat_eq t.0 k)
@@ -125,9 +128,9 @@ named at n k (t ∷ ts) is =
     here : (n : ℕ) → n ≡ n + 0
     here n = omega arith
 
-    by : map at (places_from (n + 1) k ts) ≡ map Some (of_group k ts) → at n ≡ Some t.1 → (b : Bool)
+    by : map at (places_from (n + 1) k ts) ≡ map Some (txns_of_group k ts) → at n ≡ Some t.1 → (b : Bool)
         → map at (cond b (n ∷ places_from (n + 1) k ts) (places_from (n + 1) k ts))
-        ≡ map Some (cond b (t.1 ∷ of_group k ts) (of_group k ts))
+        ≡ map Some (cond b (t.1 ∷ txns_of_group k ts) (txns_of_group k ts))
     by rest first true = λ i. first i ∷ rest i
     by rest first false = rest
 
@@ -140,7 +143,7 @@ places_name_the_group ts k =
 
 -- ---- the groups with one transaction more
 
-places_from-behind : (n k : ℕ) (bs : List Tagged) (t : Tagged)
+places_from-behind : (n k : ℕ) (bs : List GroupedTxn) (t : GroupedTxn)
     → places_from n k (bs ++ t ∷ []) ≡ places_from n k bs ++ cond (nat_eq t.0 k) ((n + length bs) ∷ []) []
 places_from-behind n k [] t = ap (λ m. cond (nat_eq t.0 k) (m ∷ []) []) (here n)
   where
@@ -164,37 +167,38 @@ places_from-behind n k (b ∷ bs) t = by (nat_eq b.0 k) (places_from-behind (n +
     by true rest = ap (λ r. n ∷ r) rest
     by false rest = rest
 
-of_group-behind : (k : ℕ) (bs : List Tagged) (t : Tagged)
-    → of_group k (bs ++ t ∷ []) ≡ of_group k bs ++ cond (nat_eq t.0 k) (t.1 ∷ []) []
+of_group-behind : (k : ℕ) (bs : List GroupedTxn) (t : GroupedTxn)
+    → txns_of_group k (bs ++ t ∷ []) ≡ txns_of_group k bs ++ cond (nat_eq t.0 k) (t.1 ∷ []) []
 of_group-behind k [] t = refl
 of_group-behind k (b ∷ bs) t = by (nat_eq b.0 k) (of_group-behind k bs t)
   where
-    by : (x : Bool) → of_group k (bs ++ t ∷ []) ≡ of_group k bs ++ cond (nat_eq t.0 k) (t.1 ∷ []) []
-        → cond x (b.1 ∷ of_group k (bs ++ t ∷ [])) (of_group k (bs ++ t ∷ []))
-        ≡ cond x (b.1 ∷ of_group k bs) (of_group k bs) ++ cond (nat_eq t.0 k) (t.1 ∷ []) []
+    by : (x : Bool) → txns_of_group k (bs ++ t ∷ []) ≡ txns_of_group k bs ++ cond (nat_eq t.0 k) (t.1 ∷ []) []
+        → cond x (b.1 ∷ txns_of_group k (bs ++ t ∷ [])) (txns_of_group k (bs ++ t ∷ []))
+        ≡ cond x (b.1 ∷ txns_of_group k bs) (txns_of_group k bs) ++ cond (nat_eq t.0 k) (t.1 ∷ []) []
     by true rest = ap (λ r. b.1 ∷ r) rest
     by false rest = rest
 
-paths_in-behind : (k : ℕ) (bs : List Tagged) (t : Tagged)
+paths_in-behind : (k : ℕ) (bs : List GroupedTxn) (t : GroupedTxn)
     → paths_in k (bs ++ t ∷ []) ≡ paths_in k bs ++ flat_map footprint (cond (nat_eq t.0 k) (t.1 ∷ []) [])
 paths_in-behind k bs t =
     ap (flat_map footprint) (of_group-behind k bs t)
-    ∙ flat_map-append footprint (of_group k bs) (cond (nat_eq t.0 k) (t.1 ∷ []) [])
+    ∙ flat_map-append footprint (txns_of_group k bs) (cond (nat_eq t.0 k) (t.1 ∷ []) [])
 
-joined_sets : (xs ys zs : List Bytes) → ((q : Bytes) → touches zs q ≡ touches ys q)
+joined_sets : (xs ys zs : List Bytes) → ((q : Bytes) → has_path zs q ≡ has_path ys q)
     → set.from_list {R = path_cmp} (xs ++ (ys ++ [])) ≡ set.union (set.from_list xs) (set.from_list zs)
 joined_sets xs ys zs is = set.same_set path_total exact_bytes _ _ (λ q.
     set.contains-from_list path_total (xs ++ (ys ++ [])) q
-    ∙ ap (λ l. touches (xs ++ l) q) (append-nil ys)
+    ∙ ap (λ l. has_path (xs ++ l) q) (append-nil ys)
     ∙ list_any-append (eq_by_cmp path_cmp q) xs ys
-    ∙ ap (λ b. touches xs q || b) (sym (is q))
+    ∙ ap (λ b. has_path xs q || b) (sym (is q))
     ∙ (λ i.
     sym (set.contains-from_list path_total xs q) i || sym (set.contains-from_list path_total zs q) i)
     ∙ sym (set.contains-union path_total (set.from_list xs) (set.from_list zs) q))
 
-class_of-behind : (bs : List Tagged) (t : Tagged) (paths : List Bytes)
-    → ((q : Bytes) → touches paths q ≡ touches (footprint t.1) q) → (k : ℕ)
-    → class_of (bs ++ t ∷ []) k ≡ cond (nat_eq t.0 k) (joined (class_of bs k) (length bs) paths) (class_of bs k)
+class_of-behind : (bs : List GroupedTxn) (t : GroupedTxn) (paths : List Bytes)
+    → ((q : Bytes) → has_path paths q ≡ has_path (footprint t.1) q) → (k : ℕ)
+    → txn_group_at (bs ++ t ∷ []) k
+    ≡ cond (nat_eq t.0 k) (with_txn_at (txn_group_at bs k) (length bs) paths) (txn_group_at bs k)
 class_of-behind bs t paths is k =
     (λ i. record { members = places_from-behind 0 k bs t i; paths = set.from_list (paths_in-behind k bs t i) })
     ∙ by (nat_eq t.0 k)
@@ -202,11 +206,11 @@ class_of-behind bs t paths is k =
     none_more : (n : ℕ) → 0 + n ≡ n
     none_more n = omega arith
 
-    by : (b : Bool) → (let c : Class = record {
+    by : (b : Bool) → (let c : TxnGroup = record {
       members = places_from 0 k bs ++ cond b ((0 + length bs) ∷ []) [];
       paths = set.from_list (paths_in k bs ++ flat_map footprint (cond b (t.1 ∷ []) []));
     } in c)
-        ≡ cond b (joined (class_of bs k) (length bs) paths) (class_of bs k)
+        ≡ cond b (with_txn_at (txn_group_at bs k) (length bs) paths) (txn_group_at bs k)
     by true =
         λ i. record {
           members = places_from 0 k bs ++ none_more (length bs) i ∷ [];
@@ -224,38 +228,38 @@ not_same a b h = grind (arith, nat_tests)
 differ : (a b : ℕ) → a ≢ b → nat_eq a b ≡ false
 differ a b h = grind (arith, nat_tests)
 
-no_places : (n k : ℕ) (ts : List Tagged) → opened ts ≤ k → places_from n k ts ≡ []
+no_places : (n k : ℕ) (ts : List GroupedTxn) → group_count ts ≤ k → places_from n k ts ≡ []
 no_places n k [] h = refl
 no_places n k (t ∷ ts) h =
     ap (λ b. cond b (n ∷ places_from (n + 1) k ts) (places_from (n + 1) k ts)) (not_same t.0 k (omega arith))
     ∙ no_places (n + 1) k ts (omega arith)
 
-no_transaction : (k : ℕ) (ts : List Tagged) → opened ts ≤ k → of_group k ts ≡ []
+no_transaction : (k : ℕ) (ts : List GroupedTxn) → group_count ts ≤ k → txns_of_group k ts ≡ []
 no_transaction k [] h = refl
 no_transaction k (t ∷ ts) h =
-    ap (λ b. cond b (t.1 ∷ of_group k ts) (of_group k ts)) (not_same t.0 k (omega arith))
+    ap (λ b. cond b (t.1 ∷ txns_of_group k ts) (txns_of_group k ts)) (not_same t.0 k (omega arith))
     ∙ no_transaction k ts (omega arith)
 
-class_of-fresh : (ts : List Tagged) (k : ℕ) → opened ts ≤ k → class_of ts k ≡ no_member
+class_of-fresh : (ts : List GroupedTxn) (k : ℕ) → group_count ts ≤ k → txn_group_at ts k ≡ empty_group
 class_of-fresh ts k h =
     λ i. record {
       members = no_places 0 k ts h i;
       paths = set.from_list (flat_map footprint (no_transaction k ts h i));
     }
 
-same_classes : (f g : ℕ → Class) (a n : ℕ) → ((j : ℕ) → a ≤ j → g j ≡ f j)
+same_classes : (f g : ℕ → TxnGroup) (a n : ℕ) → ((j : ℕ) → a ≤ j → g j ≡ f j)
     → map f (range_with_len a n) ≡ map g (range_with_len a n)
 same_classes f g a zero is = refl
 same_classes f g a (suc n) is =
     (λ i. sym (is a (omega arith)) i ∷ map f (range_with_len (a + 1) n))
     ∙ ap (λ r. g a ∷ r) (same_classes f g (a + 1) n (λ j le. is j (omega arith)))
 
-with_member-map : (f g : ℕ → Class) (place : ℕ) (ps : List Bytes) (n k a : ℕ) → k ≤ n
-    → g (a + k) ≡ joined (f (a + k)) place ps → ((j : ℕ) → a ≤ j → j ≢ a + k → g j ≡ f j)
-    → (k ≡ n → f (a + k) ≡ no_member) → (m : ℕ) → m ≡ max n (k + 1)
+with_member-map : (f g : ℕ → TxnGroup) (place : ℕ) (ps : List Bytes) (n k a : ℕ) → k ≤ n
+    → g (a + k) ≡ with_txn_at (f (a + k)) place ps → ((j : ℕ) → a ≤ j → j ≢ a + k → g j ≡ f j)
+    → (k ≡ n → f (a + k) ≡ empty_group) → (m : ℕ) → m ≡ max n (k + 1)
     → with_member (map f (range_with_len a n)) k place ps ≡ map g (range_with_len a m)
 with_member-map f g place ps zero k a le here others fresh m is =
-    (λ i. joined (sym (fresh none) i) place ps ∷ [])
+    (λ i. with_txn_at (sym (fresh none) i) place ps ∷ [])
     ∙ (λ i. sym here i ∷ [])
     ∙ (λ i. g (at i) ∷ [])
     ∙ ap (λ x. map g (range_with_len a x)) (sym one)
@@ -269,7 +273,7 @@ with_member-map f g place ps zero k a le here others fresh m is =
     one : m ≡ 1
     one = omega arith
 with_member-map f g place ps (suc n) zero a le here others fresh m is =
-    (λ i. joined (f (sym at i)) place ps ∷ map f (range_with_len (a + 1) n))
+    (λ i. with_txn_at (f (sym at i)) place ps ∷ map f (range_with_len (a + 1) n))
     ∙ (λ i. sym here i ∷ map f (range_with_len (a + 1) n))
     ∙ (λ i. g (at i) ∷ map f (range_with_len (a + 1) n))
     ∙ ap (λ r. g a ∷ r) (same_classes f g (a + 1) n (λ j above. others j (omega arith) (beyond j above)))
@@ -287,7 +291,7 @@ with_member-map f g place ps (suc n) (suc k) a le here others fresh m is =
     (λ i. sym (others a (omega arith) before) i ∷ with_member (map f (range_with_len (a + 1) n)) k place ps)
     ∙ ap (λ r. g a ∷ r)
     (with_member-map f g place ps n k (a + 1) (omega arith)
-    (ap g at ∙ here ∙ ap (λ x. joined (f x) place ps) (sym at))
+    (ap g at ∙ here ∙ ap (λ x. with_txn_at (f x) place ps) (sym at))
     (λ j above other. others j (omega arith) (λ e. other (e ∙ sym at)))
     (λ e. ap f at ∙ fresh (ap suc e)) (max n (k + 1)) refl)
     ∙ ap (λ x. map g (range_with_len a x)) (sym more)
@@ -301,31 +305,34 @@ with_member-map f g place ps (suc n) (suc k) a le here others fresh m is =
     more : m ≡ suc (max n (k + 1))
     more = omega arith
 
-pub classes_of-behind : (before : List Tagged) (k : ℕ) (t : Txn) (paths : List Bytes)
-    → ((q : Bytes) → touches paths q ≡ touches (footprint t) q) → k ≤ opened before
-    → classes_of (before ++ (k, t) ∷ []) ≡ with_member (classes_of before) k (length before) paths
+pub classes_of-behind : (before : List GroupedTxn) (k : ℕ) (t : Txn) (paths : List Bytes)
+    → ((q : Bytes) → has_path paths q ≡ has_path (footprint t) q) → k ≤ group_count before
+    → txn_groups_of (before ++ (k, t) ∷ []) ≡ with_member (txn_groups_of before) k (length before) paths
 classes_of-behind before k t paths is le =
     sym
-    (with_member-map (class_of before) (class_of (before ++ (k, t) ∷ [])) (length before) paths (opened before) k 0 le
-    here others fresh (opened (before ++ (k, t) ∷ [])) (opened-behind before (k, t)))
+    (with_member-map (txn_group_at before) (txn_group_at (before ++ (k, t) ∷ [])) (length before) paths
+    (group_count before) k 0 le
+    here others fresh (group_count (before ++ (k, t) ∷ [])) (opened-behind before (k, t)))
   where
     none_more : 0 + k ≡ k
     none_more = omega arith
 
-    here : class_of (before ++ (k, t) ∷ []) (0 + k) ≡ joined (class_of before (0 + k)) (length before) paths
+    here : txn_group_at (before ++ (k, t) ∷ []) (0 + k)
+        ≡ with_txn_at (txn_group_at before (0 + k)) (length before) paths
     here =
         class_of-behind before (k, t) paths is (0 + k)
-        ∙ ap (λ b. cond b (joined (class_of before (0 + k)) (length before) paths) (class_of before (0 + k)))
+        ∙ ap (λ b. cond b (with_txn_at (txn_group_at before (0 + k)) (length before) paths)
+        (txn_group_at before (0 + k)))
         (eq-eqb k (0 + k) (sym none_more))
 
-    others : (j : ℕ) → 0 ≤ j → j ≢ 0 + k → class_of (before ++ (k, t) ∷ []) j ≡ class_of before j
+    others : (j : ℕ) → 0 ≤ j → j ≢ 0 + k → txn_group_at (before ++ (k, t) ∷ []) j ≡ txn_group_at before j
     others j above other =
         class_of-behind before (k, t) paths is j
-        ∙ ap (λ b. cond b (joined (class_of before j) (length before) paths) (class_of before j))
+        ∙ ap (λ b. cond b (with_txn_at (txn_group_at before j) (length before) paths) (txn_group_at before j))
         (differ k j (λ e. other (sym e ∙ sym none_more)))
 
-    fresh : k ≡ opened before → class_of before (0 + k) ≡ no_member
+    fresh : k ≡ group_count before → txn_group_at before (0 + k) ≡ empty_group
     fresh e = class_of-fresh before (0 + k) (omega arith)
 
-pub length-classes_of : (ts : List Tagged) → length (classes_of ts) ≡ opened ts
-length-classes_of ts = length-map-range_with_len (class_of ts) 0 (opened ts)
+pub length-classes_of : (ts : List GroupedTxn) → length (txn_groups_of ts) ≡ group_count ts
+length-classes_of ts = length-map-range_with_len (txn_group_at ts) 0 (group_count ts)

@@ -10,10 +10,10 @@ use Rattle.std.proofs.lemmas.Map.Lookups.{exact_bytes}
 use mathlib.Core.Bool.{true≢false}
 use Rattle.ephemerals.specs.Orders.{Bytes, path_cmp}
 use Rattle.txn_codec.specs.declared.txn.Txn.{Txn}
-use Rattle.data_tree.specs.Footprint.{touches, footprint}
-use Rattle.data_tree.specs.Commuting.{Tagged, of_group}
+use Rattle.data_tree.specs.Footprint.{has_path, footprint}
+use Rattle.data_tree.specs.Commuting.{GroupedTxn, txns_of_group}
 use Rattle.footprint.specs.Footprints.{is_barrier}
-use Rattle.batcher.specs.Groups.{group_with, opened, only_group, group_for, group_next, grouped_behind, grouped, paths_in}
+use Rattle.batcher.specs.Groups.{group_with, group_count, only_group, group_for, group_of_next, tagged_txns_after, tagged_txns, paths_in}
 use Rattle.batcher.specs.Laws.{GroupsAreApart}
 
 pub same : {A : Type 0} {x y : A} → Some x ≡ Some y → x ≡ y
@@ -24,21 +24,24 @@ none x e = cc
 
 -- ---- whatever each transaction keeps that comes into a group holds of all
 
-pub grouped-keeps : (P : List Tagged → Type 0)
-    → ((before : List Tagged) (t : Txn) (k : ℕ) → P before → group_next before t ≡ Some k → P (before ++ (k, t) ∷ []))
-    → (before : List Tagged) (txns : List Txn) (ts : List Tagged) → P before → grouped_behind before txns ≡ Some ts
+pub grouped-keeps : (P : List GroupedTxn → Type 0)
+    → ((before : List GroupedTxn) (t : Txn) (k : ℕ) → P before → group_of_next before t ≡ Some k
+    → P (before ++ (k, t) ∷ []))
+    → (before : List GroupedTxn) (txns : List Txn) (ts : List GroupedTxn) → P before
+    → tagged_txns_after before txns ≡ Some ts
     → P ts
 grouped-keeps P step before [] ts p is = subst P (same is) p
 grouped-keeps P step before (t ∷ txns) ts p is =
-    by (λ k q. grouped-keeps P step (before ++ (k, t) ∷ []) txns ts q) (group_next before t) refl is
+    by (λ k q. grouped-keeps P step (before ++ (k, t) ∷ []) txns ts q) (group_of_next before t) refl is
   where
-    by : ((k : ℕ) → P (before ++ (k, t) ∷ []) → grouped_behind (before ++ (k, t) ∷ []) txns ≡ Some ts → P ts)
-        → (o : Option ℕ) → group_next before t ≡ o
-        → option_and_then (λ k. grouped_behind (before ++ (k, t) ∷ []) txns) o ≡ Some ts → P ts
+    by : ((k : ℕ) → P (before ++ (k, t) ∷ []) → tagged_txns_after (before ++ (k, t) ∷ []) txns ≡ Some ts → P ts)
+        → (o : Option ℕ) → group_of_next before t ≡ o
+        → option_and_then (λ k. tagged_txns_after (before ++ (k, t) ∷ []) txns) o ≡ Some ts → P ts
     by rest None e is = absurd (none ts (sym is))
     by rest (Some k) e is = rest k (step before t k p e) is
 
-pub opened-behind : (before : List Tagged) (t : Tagged) → opened (before ++ t ∷ []) ≡ max (opened before) (t.0 + 1)
+pub opened-behind : (before : List GroupedTxn) (t : GroupedTxn)
+    → group_count (before ++ t ∷ []) ≡ max (group_count before) (t.0 + 1)
 opened-behind [] t = omega arith
 opened-behind (b ∷ bs) t = let rest = opened-behind bs t in omega arith
 
@@ -48,13 +51,13 @@ abbrev pub or_else : Option ℕ → Option ℕ → Option ℕ
 or_else None y = y
 or_else (Some x) y = Some x
 
-abbrev pub owner_of : Tagged → Bytes → Option ℕ
-owner_of t p = cond (touches (footprint t.1) p) (Some t.0) None
+abbrev pub owner_of : GroupedTxn → Bytes → Option ℕ
+owner_of t p = cond (has_path (footprint t.1) p) (Some t.0) None
 
-pub group_with-behind : (before : List Tagged) (t : Tagged) (p : Bytes)
+pub group_with-behind : (before : List GroupedTxn) (t : GroupedTxn) (p : Bytes)
     → group_with (before ++ t ∷ []) p ≡ or_else (group_with before p) (owner_of t p)
 group_with-behind [] t p = refl
-group_with-behind (b ∷ bs) t p = by (group_with-behind bs t p) (touches (footprint b.1) p)
+group_with-behind (b ∷ bs) t p = by (group_with-behind bs t p) (has_path (footprint b.1) p)
   where
     by : group_with (bs ++ t ∷ []) p ≡ or_else (group_with bs p) (owner_of t p) → (x : Bool)
         → cond x (Some b.0) (group_with (bs ++ t ∷ []) p)
@@ -86,7 +89,7 @@ only_one new (i ∷ is') k j is some = by (list_all (λ x. nat_eq x i) is') refl
     by true all is true ey some = sym (eqb-true i j ey) ∙ same is
     by true all is false ey some = all_equal i j is' all some ∙ same is
 
-pub met_one : (g : Bytes → Option ℕ) (p : Bytes) (j : ℕ) → g p ≡ Some j → (ps : List Bytes) → touches ps p ≡ true
+pub met_one : (g : Bytes → Option ℕ) (p : Bytes) (j : ℕ) → g p ≡ Some j → (ps : List Bytes) → has_path ps p ≡ true
     → list_any (λ i. nat_eq i j) (filter_map g ps) ≡ true
 met_one g p j is [] h = absurd (true≢false (sym h))
 met_one g p j is (q ∷ qs) h = by (met_one g p j is qs) (eq_by_cmp path_cmp p q) refl h
@@ -100,8 +103,8 @@ met_one g p j is (q ∷ qs) h = by (met_one g p j is qs) (eq_by_cmp path_cmp p q
     keep None h = h
     keep (Some x) h = ap (λ b. nat_eq x j || b) h ∙ or_true (nat_eq x j)
 
-    by : (touches qs p ≡ true → list_any (λ i. nat_eq i j) (filter_map g qs) ≡ true) → (b : Bool)
-        → eq_by_cmp path_cmp p q ≡ b → (b || touches qs p) ≡ true
+    by : (has_path qs p ≡ true → list_any (λ i. nat_eq i j) (filter_map g qs) ≡ true) → (b : Bool)
+        → eq_by_cmp path_cmp p q ≡ b → (b || has_path qs p) ≡ true
         → list_any (λ i. nat_eq i j) (filter_map g (q ∷ qs)) ≡ true
     by rest true e h =
         subst (λ (o : Option ℕ). list_any (λ i. nat_eq i j) (cons_option o (filter_map g qs)) ≡ true)
@@ -110,8 +113,8 @@ met_one g p j is (q ∷ qs) h = by (met_one g p j is qs) (eq_by_cmp path_cmp p q
     by rest false e h = keep (g q) (rest h)
 
 -- a path of what comes into a group is that group's, or nobody's yet
-pub met_or_new : (before : List Tagged) (ps : List Bytes) (k : ℕ) → group_for before ps ≡ Some k
-    → (p : Bytes) → touches ps p ≡ true → or_else (group_with before p) (Some k) ≡ Some k
+pub met_or_new : (before : List GroupedTxn) (ps : List Bytes) (k : ℕ) → group_for before ps ≡ Some k
+    → (p : Bytes) → has_path ps p ≡ true → or_else (group_with before p) (Some k) ≡ Some k
 met_or_new before [] k is p h = absurd (true≢false (sym h))
 met_or_new before (q ∷ qs) k is p h = by (group_with before p) refl
   where
@@ -119,15 +122,16 @@ met_or_new before (q ∷ qs) k is p h = by (group_with before p) refl
     by None e = refl
     by (Some j) e =
         ap Some
-        (only_one (opened before) (filter_map (group_with before) (q ∷ qs)) k j is
+        (only_one (group_count before) (filter_map (group_with before) (q ∷ qs)) k j is
         (met_one (group_with before) p j e (q ∷ qs) h))
 
 -- ---- each path is the group's of whoever has it
 
-abbrev pub Own : (Bytes → Option ℕ) → List Tagged → Type 0
-Own owner ts = AllByRecursion (λ (t : Tagged). (p : Bytes) → touches (footprint t.1) p ≡ true → owner p ≡ Some t.0) ts
+abbrev pub Own : (Bytes → Option ℕ) → List GroupedTxn → Type 0
+Own owner ts = AllByRecursion (λ (t : GroupedTxn). (p : Bytes) → has_path (footprint t.1) p ≡ true
+    → owner p ≡ Some t.0) ts
 
-pub next_group : (before : List Tagged) (t : Txn) (k : ℕ) → group_next before t ≡ Some k
+pub next_group : (before : List GroupedTxn) (t : Txn) (k : ℕ) → group_of_next before t ≡ Some k
     → group_for before (footprint t) ≡ Some k
 next_group before t k = by (is_barrier t)
   where
@@ -135,50 +139,53 @@ next_group before t k = by (is_barrier t)
     by true is = absurd (none k (sym is))
     by false is = is
 
-own_more : (before : List Tagged) (t : Txn) (k : ℕ) → Own (group_with before) before → group_next before t ≡ Some k
+own_more : (before : List GroupedTxn) (t : Txn) (k : ℕ) → Own (group_with before) before
+    → group_of_next before t ≡ Some k
     → Own (group_with (before ++ (k, t) ∷ [])) (before ++ (k, t) ∷ [])
 own_more before t k own is = each before own
   where
-    old : (b : Tagged) (p : Bytes) → group_with before p ≡ Some b.0 → group_with (before ++ (k, t) ∷ []) p ≡ Some b.0
+    old : (b : GroupedTxn) (p : Bytes) → group_with before p ≡ Some b.0
+        → group_with (before ++ (k, t) ∷ []) p ≡ Some b.0
     old b p e = group_with-behind before (k, t) p ∙ ap (λ o. or_else o (owner_of (k, t) p)) e
 
-    new : (p : Bytes) → touches (footprint t) p ≡ true → group_with (before ++ (k, t) ∷ []) p ≡ Some k
+    new : (p : Bytes) → has_path (footprint t) p ≡ true → group_with (before ++ (k, t) ∷ []) p ≡ Some k
     new p h =
         group_with-behind before (k, t) p
         ∙ ap (λ b. or_else (group_with before p) (cond b (Some k) None)) h
         ∙ met_or_new before (footprint t) k (next_group before t k is) p h
 
-    each : (bs : List Tagged) → Own (group_with before) bs
+    each : (bs : List GroupedTxn) → Own (group_with before) bs
         → Own (group_with (before ++ (k, t) ∷ [])) (bs ++ (k, t) ∷ [])
     each [] own = (new, tt)
     each (b ∷ bs) own = ((λ p h. old b p (own.0 p h)), each bs own.1)
 
-pub groups_own : (txns : List Txn) (ts : List Tagged) → grouped txns ≡ Some ts → Own (group_with ts) ts
+pub groups_own : (txns : List Txn) (ts : List GroupedTxn) → tagged_txns txns ≡ Some ts → Own (group_with ts) ts
 groups_own txns ts is = grouped-keeps (λ bs. Own (group_with bs) bs) own_more [] txns ts tt is
 
 -- a path of a group is its own
-in_group : (owner : Bytes → Option ℕ) (k : ℕ) (p : Bytes) (ts : List Tagged) → Own owner ts
-    → touches (paths_in k ts) p ≡ true → owner p ≡ Some k
+in_group : (owner : Bytes → Option ℕ) (k : ℕ) (p : Bytes) (ts : List GroupedTxn) → Own owner ts
+    → has_path (paths_in k ts) p ≡ true → owner p ≡ Some k
 in_group owner k p [] own h = absurd (true≢false (sym h))
 in_group owner k p (t ∷ ts) own h = by (in_group owner k p ts own.1) (nat_eq t.0 k) refl h
   where
-    here : (touches (paths_in k ts) p ≡ true → owner p ≡ Some k) → t.0 ≡ k → (x : Bool)
-        → touches (footprint t.1) p ≡ x → (x || touches (paths_in k ts) p) ≡ true
+    here : (has_path (paths_in k ts) p ≡ true → owner p ≡ Some k) → t.0 ≡ k → (x : Bool)
+        → has_path (footprint t.1) p ≡ x → (x || has_path (paths_in k ts) p) ≡ true
         → owner p ≡ Some k
     here rest e true ex h = own.0 p ex ∙ ap Some e
     here rest e false ex h = rest h
 
-    by : (touches (paths_in k ts) p ≡ true → owner p ≡ Some k) → (b : Bool) → nat_eq t.0 k ≡ b
-        → touches (flat_map footprint (cond b (t.1 ∷ of_group k ts) (of_group k ts))) p ≡ true → owner p ≡ Some k
+    by : (has_path (paths_in k ts) p ≡ true → owner p ≡ Some k) → (b : Bool) → nat_eq t.0 k ≡ b
+        → has_path (flat_map footprint (cond b (t.1 ∷ txns_of_group k ts) (txns_of_group k ts))) p ≡ true
+        → owner p ≡ Some k
     by rest true e h =
-        here rest (eqb-true t.0 k e) (touches (footprint t.1) p) refl
+        here rest (eqb-true t.0 k e) (has_path (footprint t.1) p) refl
         (sym (list_any-append (eq_by_cmp path_cmp p) (footprint t.1) (paths_in k ts)) ∙ h)
     by rest false e h = rest h
 
 pub groups_are_apart : GroupsAreApart
-groups_are_apart txns ts is j k apart p h = by (touches (paths_in k ts) p) refl
+groups_are_apart txns ts is j k apart p h = by (has_path (paths_in k ts) p) refl
   where
-    by : (b : Bool) → touches (paths_in k ts) p ≡ b → b ≡ false
+    by : (b : Bool) → has_path (paths_in k ts) p ≡ b → b ≡ false
     by false e = refl
     by true e =
         absurd

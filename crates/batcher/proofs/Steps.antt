@@ -19,7 +19,7 @@ use Rattle.std.proofs.lemmas.Map.Views.{tells_apart}
 use Rattle.ephemerals.specs.Orders.{Bytes, Names, path_cmp}
 use Rattle.ephemerals.proofs.Totals.{path_total}
 use Rattle.ephemerals.proofs.TextKeys.{query, same_test}
-use Rattle.data_tree.specs.Footprint.{touches}
+use Rattle.data_tree.specs.Footprint.{has_path}
 
 -- the next one, and those behind it
 abbrev pub IsNext : {A : Type 0} → List A → ℕ → A → Type 0
@@ -49,22 +49,22 @@ gained_before s p is = set.same_set path_total exact_bytes _ _ (λ q.
     by q false e = refl
 
 pub gained_step : (paths : List Bytes) (i : ℕ) (p : Bytes) → IsNext paths i p → (old new : Names)
-    → new ≡ set.insert old p → (q : Bytes) (all : Bool) → (touches (drop i paths) q || set.contains old q) ≡ all
-    → (touches (drop (i + 1) paths) q || set.contains new q) ≡ all
+    → new ≡ set.insert old p → (q : Bytes) (all : Bool) → (has_path (drop i paths) q || set.contains old q) ≡ all
+    → (has_path (drop (i + 1) paths) q || set.contains new q) ≡ all
 gained_step paths i p next old new is q all before =
-    ap (λ b. touches (drop (i + 1) paths) q || b)
+    ap (λ b. has_path (drop (i + 1) paths) q || b)
     (ap (λ s. set.contains s q) is ∙ set.contains-insert path_total old p q)
-    ∙ sym (one_less (eq_by_cmp path_cmp q p) (touches (drop (i + 1) paths) q) (set.contains old q))
-    ∙ sym (ap (λ ps. touches ps q || set.contains old q) next)
+    ∙ sym (one_less (eq_by_cmp path_cmp q p) (has_path (drop (i + 1) paths) q) (set.contains old q))
+    ∙ sym (ap (λ ps. has_path ps q || set.contains old q) next)
     ∙ before
 
 pub gained_all : (paths : List Bytes) (i : ℕ) → length paths ≤ i → (old new : Names)
-    → ((q : Bytes) → (touches (drop i paths) q || set.contains new q) ≡ (touches paths q || set.contains old q))
+    → ((q : Bytes) → (has_path (drop i paths) q || set.contains new q) ≡ (has_path paths q || set.contains old q))
     → new ≡ set.union old (set.from_list paths)
 gained_all paths i past old new gained = set.same_set path_total exact_bytes _ _ (λ q.
-    sym (ap (λ ps. touches ps q || set.contains new q) (drop_of_length-le paths past))
+    sym (ap (λ ps. has_path ps q || set.contains new q) (drop_of_length-le paths past))
     ∙ gained q
-    ∙ or_comm (touches paths q) (set.contains old q)
+    ∙ or_comm (has_path paths q) (set.contains old q)
     ∙ ap (λ b. set.contains old q || b) (sym (set.contains-from_list path_total paths q))
     ∙ sym (set.contains-union path_total old (set.from_list paths) q))
 
@@ -87,16 +87,16 @@ owned_before m k p is q = by (eq_by_cmp path_cmp q p) refl
 
 -- the first n of these paths are the group's, and all others whose they were
 abbrev pub IsOwned : (Bytes → Option ℕ) → (Bytes → Option ℕ) → ℕ → List Bytes → ℕ → Type 0
-IsOwned old now k paths n = (q : Bytes) → now q ≡ cond (touches (take n paths) q) (Some k) (old q)
+IsOwned old now k paths n = (q : Bytes) → now q ≡ cond (has_path (take n paths) q) (Some k) (old q)
 
 module _ (paths : List Bytes) (i : ℕ) (p : Bytes) (within : i < length paths) (is : p ≡ get_or paths i p) where
-  one_more : (q : Bytes) → touches (take (i + 1) paths) q ≡ (touches (take i paths) q || eq_by_cmp path_cmp q p)
+  one_more : (q : Bytes) → has_path (take (i + 1) paths) q ≡ (has_path (take i paths) q || eq_by_cmp path_cmp q p)
   one_more q =
-      ap (λ n. touches (take n paths) q) (more i)
-      ∙ ap (λ ps. touches ps q) (take-suc paths i p within)
-      ∙ ap (λ x. touches (take i paths ++ x ∷ []) q) (sym is)
+      ap (λ n. has_path (take n paths) q) (more i)
+      ∙ ap (λ ps. has_path ps q) (take-suc paths i p within)
+      ∙ ap (λ x. has_path (take i paths ++ x ∷ []) q) (sym is)
       ∙ list_any-append (eq_by_cmp path_cmp q) (take i paths) (p ∷ [])
-      ∙ ap (λ b. touches (take i paths) q || b) (or_false (eq_by_cmp path_cmp q p))
+      ∙ ap (λ b. has_path (take i paths) q || b) (or_false (eq_by_cmp path_cmp q p))
     where
       more : (i : ℕ) → i + 1 ≡ suc i
       more i = omega arith
@@ -110,7 +110,7 @@ module _ (paths : List Bytes) (i : ℕ) (p : Bytes) (within : i < length paths) 
   owned_next old m n k before is q =
       is q
       ∙ ap (cond (eq_by_cmp path_cmp q p) (Some k)) (before q)
-      ∙ both (eq_by_cmp path_cmp q p) (touches (take i paths) q)
+      ∙ both (eq_by_cmp path_cmp q p) (has_path (take i paths) q)
       ∙ ap (λ b. cond b (Some k) (old q)) (sym (one_more q))
     where
       both : (e t : Bool) → cond e (Some k) (cond t (Some k) (old q)) ≡ cond (t || e) (Some k) (old q)
@@ -124,8 +124,8 @@ module _ (paths : List Bytes) (i : ℕ) (p : Bytes) (within : i < length paths) 
       → IsOwned old m k paths (i + 1)
   owned_still old m k before was =
       owned_next old m m k before
-      (owned_before m k p (before p ∙ ap (cond (touches (take i paths) p) (Some k)) was
-      ∙ same (touches (take i paths) p)))
+      (owned_before m k p (before p ∙ ap (cond (has_path (take i paths) p) (Some k)) was
+      ∙ same (has_path (take i paths) p)))
     where
       same : (b : Bool) → cond b (Some k) (Some k) ≡ Some k
       same true = refl
@@ -138,9 +138,9 @@ take_all (p ∷ ps) zero past = absurd (omega arith)
 take_all (p ∷ ps) (suc n) past = ap (λ r. p ∷ r) (take_all ps n (omega arith))
 
 pub owned_all : (old m : Bytes → Option ℕ) (k : ℕ) (paths : List Bytes) (n : ℕ) → length paths ≤ n
-    → IsOwned old m k paths n → (q : Bytes) → m q ≡ cond (touches paths q) (Some k) (old q)
+    → IsOwned old m k paths n → (q : Bytes) → m q ≡ cond (has_path paths q) (Some k) (old q)
 owned_all old m k paths n past before q =
-    before q ∙ ap (λ ps. cond (touches ps q) (Some k) (old q)) (take_all paths n past)
+    before q ∙ ap (λ ps. cond (has_path ps q) (Some k) (old q)) (take_all paths n past)
 
 pub found_at : (f : Bytes → Option ℕ) (paths : List Bytes) (found : List (Option ℕ)) (i k : ℕ) (none : Option ℕ)
     → found ≡ map f paths → i < length paths → get_or found i none ≡ Some k → f (get_or paths i []) ≡ Some k

@@ -10,14 +10,14 @@ use mathlib.Core.Bool.{true≢false}
 use Rattle.ephemerals.specs.Orders.{Bytes}
 use Rattle.txn_codec.specs.declared.txn.Txn.{Txn}
 use Rattle.data_tree.specs.Footprint.{footprint}
-use Rattle.data_tree.specs.Commuting.{Tagged, batch_of}
+use Rattle.data_tree.specs.Commuting.{GroupedTxn, batch_of}
 use Rattle.footprint.specs.Footprints.{is_barrier}
-use Rattle.batcher.specs.Class.{Class}
+use Rattle.batcher.specs.Class.{TxnGroup}
 use Rattle.batcher.specs.Limits.{LimitNumbers, are_limits}
-use Rattle.batcher.specs.Groups.{group_with, opened, only_group, group_for, group_next, grouped_behind, grouped}
-use Rattle.batcher.specs.Cut.{has_at_most, is_allowed, longest_of, cut, is_barrier_alone, is_batch, listed, groups_of}
+use Rattle.batcher.specs.Groups.{group_with, group_count, only_group, group_for, group_of_next, tagged_txns_after, tagged_txns}
+use Rattle.batcher.specs.Cut.{has_at_most, is_allowed, longest_of, cut, is_barrier_alone, is_batch, groups_if_tagged, groups_of}
 use Rattle.batcher.specs.Laws.{IsLongest, CutsAreLongest}
-use Rattle.batcher.specs.Inner.Taking.{within, group_taken, taken_behind, BeginsWithBarrier}
+use Rattle.batcher.specs.Inner.Taking.{group_within_limit, group_taken, tagged_front_after, BeginsWithBarrier}
 use Rattle.batcher.proofs.Owning.{same, none, grouped-keeps, opened-behind}
 use Rattle.batcher.proofs.Members.{batch_is, batch_of-behind, length-classes_of}
 
@@ -95,26 +95,27 @@ longest_is passes xs (suc n) m le holds longer =
 
 -- ---- grouping in two parts
 
-grouped-append : (before : List Tagged) (xs ys : List Txn)
-    → grouped_behind before (xs ++ ys) ≡ option_and_then (λ mid. grouped_behind mid ys) (grouped_behind before xs)
+grouped-append : (before : List GroupedTxn) (xs ys : List Txn)
+    → tagged_txns_after before (xs ++ ys)
+    ≡ option_and_then (λ mid. tagged_txns_after mid ys) (tagged_txns_after before xs)
 grouped-append before [] ys = refl
-grouped-append before (t ∷ xs) ys = by (λ k. grouped-append (before ++ (k, t) ∷ []) xs ys) (group_next before t)
+grouped-append before (t ∷ xs) ys = by (λ k. grouped-append (before ++ (k, t) ∷ []) xs ys) (group_of_next before t)
   where
-    by : ((k : ℕ) → grouped_behind (before ++ (k, t) ∷ []) (xs ++ ys)
-        ≡ option_and_then (λ mid. grouped_behind mid ys) (grouped_behind (before ++ (k, t) ∷ []) xs))
-        → (o : Option ℕ) → option_and_then (λ k. grouped_behind (before ++ (k, t) ∷ []) (xs ++ ys)) o
-        ≡ option_and_then (λ mid. grouped_behind mid ys)
-        (option_and_then (λ k. grouped_behind (before ++ (k, t) ∷ []) xs) o)
+    by : ((k : ℕ) → tagged_txns_after (before ++ (k, t) ∷ []) (xs ++ ys)
+        ≡ option_and_then (λ mid. tagged_txns_after mid ys) (tagged_txns_after (before ++ (k, t) ∷ []) xs))
+        → (o : Option ℕ) → option_and_then (λ k. tagged_txns_after (before ++ (k, t) ∷ []) (xs ++ ys)) o
+        ≡ option_and_then (λ mid. tagged_txns_after mid ys)
+        (option_and_then (λ k. tagged_txns_after (before ++ (k, t) ∷ []) xs) o)
     by rest None = refl
     by rest (Some k) = rest k
 
-opened_least : (n : ℕ) (before : List Tagged) (txns : List Txn) (ts : List Tagged) → n ≤ opened before
-    → grouped_behind before txns ≡ Some ts → n ≤ opened ts
+opened_least : (n : ℕ) (before : List GroupedTxn) (txns : List Txn) (ts : List GroupedTxn) → n ≤ group_count before
+    → tagged_txns_after before txns ≡ Some ts → n ≤ group_count ts
 opened_least n before txns ts h is =
-    grouped-keeps (λ bs. n ≤ opened bs)
+    grouped-keeps (λ bs. n ≤ group_count bs)
     (λ bs t k le _. let more = opened-behind bs (k, t) in omega arith) before txns ts h is
 
-length-batch_of : (ts : List Tagged) → length (batch_of ts) ≡ length ts
+length-batch_of : (ts : List GroupedTxn) → length (batch_of ts) ≡ length ts
 length-batch_of [] = refl
 length-batch_of (t ∷ ts) = ap suc (length-batch_of ts)
 
@@ -122,49 +123,50 @@ length-batch_of (t ∷ ts) = ap suc (length-batch_of ts)
 
 module _ (limits : LimitNumbers) where
   -- a front that is taken
-  pub record IsTaken (front : List Tagged) : Type 0 where
-    pub grouped_is : grouped (batch_of front) ≡ Some front
+  pub record IsTaken (front : List GroupedTxn) : Type 0 where
+    pub grouped_is : tagged_txns (batch_of front) ≡ Some front
     pub short : length front ≤ limits.batch
-    pub few : opened front ≤ limits.groups
+    pub few : group_count front ≤ limits.groups
 
-  too_many : (front : List Tagged) (t : Txn) (xs : List Txn) (k : ℕ) → nat_lt k limits.groups ≡ false
-      → has_at_most limits.groups (grouped_behind (front ++ (k, t) ∷ []) xs) ≡ false
-  too_many front t xs k past = by (grouped_behind (front ++ (k, t) ∷ []) xs) refl
+  too_many : (front : List GroupedTxn) (t : Txn) (xs : List Txn) (k : ℕ) → nat_lt k limits.groups ≡ false
+      → has_at_most limits.groups (tagged_txns_after (front ++ (k, t) ∷ []) xs) ≡ false
+  too_many front t xs k past = by (tagged_txns_after (front ++ (k, t) ∷ []) xs) refl
     where
-      by : (o : Option (List Tagged)) → grouped_behind (front ++ (k, t) ∷ []) xs ≡ o
+      by : (o : Option (List GroupedTxn)) → tagged_txns_after (front ++ (k, t) ∷ []) xs ≡ o
           → has_at_most limits.groups o ≡ false
       by None e = refl
       by (Some ts) e =
           let more = opened-behind front (k, t) in
           let above : limits.groups ≤ k = lt_false k limits.groups past in
-          let least : k + 1 ≤ opened ts = opened_least (k + 1) (front ++ (k, t) ∷ []) xs ts (omega arith) e in
-          le_false (opened ts) limits.groups (omega arith)
+          let least : k + 1 ≤ group_count ts = opened_least (k + 1) (front ++ (k, t) ∷ []) xs ts (omega arith) e in
+          le_false (group_count ts) limits.groups (omega arith)
 
-  not_grouped : (front : List Tagged) (t : Txn) (xs : List Txn) → within limits.groups (group_next front t) ≡ None
-      → has_at_most limits.groups (grouped_behind front (t ∷ xs)) ≡ false
-  not_grouped front t xs = by (group_next front t)
+  not_grouped : (front : List GroupedTxn) (t : Txn) (xs : List Txn)
+      → group_within_limit limits.groups (group_of_next front t) ≡ None
+      → has_at_most limits.groups (tagged_txns_after front (t ∷ xs)) ≡ false
+  not_grouped front t xs = by (group_of_next front t)
     where
       past : (k : ℕ) (b : Bool) → nat_lt k limits.groups ≡ b → cond b (Some k) None ≡ None
           → nat_lt k limits.groups ≡ false
       past k true e is = absurd (none k is)
       past k false e is = e
 
-      by : (o : Option ℕ) → within limits.groups o ≡ None
-          → has_at_most limits.groups (option_and_then (λ k. grouped_behind (front ++ (k, t) ∷ []) xs) o) ≡ false
+      by : (o : Option ℕ) → group_within_limit limits.groups o ≡ None
+          → has_at_most limits.groups (option_and_then (λ k. tagged_txns_after (front ++ (k, t) ∷ []) xs) o) ≡ false
       by None is = refl
       by (Some k) is = too_many front t xs k (past k (nat_lt k limits.groups) refl is)
 
-  not_allowed : (front : List Tagged) (t : Txn) (xs : List Txn) → grouped (batch_of front) ≡ Some front
+  not_allowed : (front : List GroupedTxn) (t : Txn) (xs : List Txn) → tagged_txns (batch_of front) ≡ Some front
       → group_taken limits front t ≡ None → is_allowed limits (batch_of front ++ (t ∷ xs)) ≡ false
   not_allowed front t xs is = by (nat_lt (length front) limits.batch) refl
     where
-      behind : grouped (batch_of front ++ (t ∷ xs)) ≡ grouped_behind front (t ∷ xs)
+      behind : tagged_txns (batch_of front ++ (t ∷ xs)) ≡ tagged_txns_after front (t ∷ xs)
       behind =
           grouped-append [] (batch_of front) (t ∷ xs)
-          ∙ ap (option_and_then (λ mid. grouped_behind mid (t ∷ xs))) is
+          ∙ ap (option_and_then (λ mid. tagged_txns_after mid (t ∷ xs))) is
 
       by : (b : Bool) → nat_lt (length front) limits.batch ≡ b
-          → cond b (within limits.groups (group_next front t)) None ≡ None
+          → cond b (group_within_limit limits.groups (group_of_next front t)) None ≡ None
           → is_allowed limits (batch_of front ++ (t ∷ xs)) ≡ false
       by true e stop =
           ap (λ o. nat_le (length (batch_of front ++ (t ∷ xs))) limits.batch && has_at_most limits.groups o) behind
@@ -174,35 +176,36 @@ module _ (limits : LimitNumbers) where
           let full : limits.batch ≤ length front = lt_false (length front) limits.batch e in
           let long : length (batch_of front ++ (t ∷ xs)) ≡ length front + suc (length xs) =
           length-append (batch_of front) (t ∷ xs) ∙ ap (λ n. n + suc (length xs)) (length-batch_of front) in
-          ap (λ b. b && has_at_most limits.groups (grouped (batch_of front ++ (t ∷ xs))))
+          ap (λ b. b && has_at_most limits.groups (tagged_txns (batch_of front ++ (t ∷ xs))))
           (le_false (length (batch_of front ++ (t ∷ xs))) limits.batch (omega arith))
 
   -- ---- the front that is taken
 
-  abbrev pub Stops : List Tagged → List Txn → Type 0
+  abbrev pub Stops : List GroupedTxn → List Txn → Type 0
   Stops front [] = Unit {0}
   Stops front (t ∷ ts) = group_taken limits front t ≡ None
 
   -- the front is taken of this list, and no more
-  pub record IsEnd (txns : List Txn) (front : List Tagged) : Type 0 where
+  pub record IsEnd (txns : List Txn) (front : List GroupedTxn) : Type 0 where
     pub rest : List Txn
     pub all : txns ≡ batch_of front ++ rest
     pub taken : IsTaken front
     pub stops : Stops front rest
 
-  taken_next : (before : List Tagged) (t : Txn) (k : ℕ) → IsTaken before → group_taken limits before t ≡ Some k
+  taken_next : (before : List GroupedTxn) (t : Txn) (k : ℕ) → IsTaken before → group_taken limits before t ≡ Some k
       → IsTaken (before ++ (k, t) ∷ [])
   taken_next before t k taken =
       by (nat_lt (length before) limits.batch) refl
     where
-      next : group_next before t ≡ Some k → grouped (batch_of (before ++ (k, t) ∷ [])) ≡ Some (before ++ (k, t) ∷ [])
+      next : group_of_next before t ≡ Some k
+          → tagged_txns (batch_of (before ++ (k, t) ∷ [])) ≡ Some (before ++ (k, t) ∷ [])
       next e =
-          ap grouped (batch_of-behind before (k, t))
+          ap tagged_txns (batch_of-behind before (k, t))
           ∙ grouped-append [] (batch_of before) (t ∷ [])
-          ∙ ap (option_and_then (λ mid. grouped_behind mid (t ∷ []))) taken.grouped_is
-          ∙ ap (option_and_then (λ j. grouped_behind (before ++ (j, t) ∷ []) [])) e
+          ∙ ap (option_and_then (λ mid. tagged_txns_after mid (t ∷ []))) taken.grouped_is
+          ∙ ap (option_and_then (λ j. tagged_txns_after (before ++ (j, t) ∷ []) [])) e
 
-      made : group_next before t ≡ Some k → length before < limits.batch → k < limits.groups
+      made : group_of_next before t ≡ Some k → length before < limits.batch → k < limits.groups
           → IsTaken (before ++ (k, t) ∷ [])
       made e room fits =
           let more = opened-behind before (k, t) in
@@ -210,24 +213,26 @@ module _ (limits : LimitNumbers) where
           let few = taken.few in
           record { grouped_is = next e; short = omega arith; few = omega arith }
 
-      fitting : length before < limits.batch → (j : ℕ) → group_next before t ≡ Some j → (b : Bool)
+      fitting : length before < limits.batch → (j : ℕ) → group_of_next before t ≡ Some j → (b : Bool)
           → nat_lt j limits.groups ≡ b → cond b (Some j) None ≡ Some k → IsTaken (before ++ (k, t) ∷ [])
       fitting room j e true lt is =
           made (e ∙ is) room (subst (λ i. i < limits.groups) (same is) (lt_true j limits.groups lt))
       fitting room j e false lt is = absurd (none k (sym is))
 
-      known : length before < limits.batch → (o : Option ℕ) → group_next before t ≡ o → within limits.groups o ≡ Some k
+      known : length before < limits.batch → (o : Option ℕ) → group_of_next before t ≡ o
+          → group_within_limit limits.groups o ≡ Some k
           → IsTaken (before ++ (k, t) ∷ [])
       known room None e is = absurd (none k (sym is))
       known room (Some j) e is = fitting room j e (nat_lt j limits.groups) refl is
 
       by : (b : Bool) → nat_lt (length before) limits.batch ≡ b
-          → cond b (within limits.groups (group_next before t)) None ≡ Some k → IsTaken (before ++ (k, t) ∷ [])
-      by true e is = known (lt_true (length before) limits.batch e) (group_next before t) refl is
+          → cond b (group_within_limit limits.groups (group_of_next before t)) None ≡ Some k
+          → IsTaken (before ++ (k, t) ∷ [])
+      by true e is = known (lt_true (length before) limits.batch e) (group_of_next before t) refl is
       by false e is = absurd (none k (sym is))
 
-  pub taken_ends : (before : List Tagged) (ts : List Txn) → IsTaken before
-      → IsEnd (batch_of before ++ ts) (taken_behind limits before ts)
+  pub taken_ends : (before : List GroupedTxn) (ts : List Txn) → IsTaken before
+      → IsEnd (batch_of before ++ ts) (tagged_front_after limits before ts)
   taken_ends before [] taken = record { rest = []; all = refl; taken = taken; stops = tt }
   taken_ends before (t ∷ ts) taken =
       by (λ k next. taken_ends (before ++ (k, t) ∷ []) ts next) (group_taken limits before t) refl
@@ -237,20 +242,20 @@ module _ (limits : LimitNumbers) where
           ap (λ bs. bs ++ ts) (batch_of-behind before (k, t)) ∙ append_assoc (batch_of before) (t ∷ []) ts
 
       by : ((k : ℕ) → IsTaken (before ++ (k, t) ∷ [])
-          → IsEnd (batch_of (before ++ (k, t) ∷ []) ++ ts) (taken_behind limits (before ++ (k, t) ∷ []) ts))
+          → IsEnd (batch_of (before ++ (k, t) ∷ []) ++ ts) (tagged_front_after limits (before ++ (k, t) ∷ []) ts))
           → (o : Option ℕ) → group_taken limits before t ≡ o
           → IsEnd (batch_of before ++ (t ∷ ts))
-          (option_map_or (λ k. taken_behind limits (before ++ (k, t) ∷ []) ts) o before)
+          (option_map_or (λ k. tagged_front_after limits (before ++ (k, t) ∷ []) ts) o before)
       by rest None e = record { rest = t ∷ ts; all = refl; taken = taken; stops = e }
       by rest (Some k) e =
-          subst (λ txns. IsEnd txns (taken_behind limits (before ++ (k, t) ∷ []) ts)) (shifted k)
+          subst (λ txns. IsEnd txns (tagged_front_after limits (before ++ (k, t) ∷ []) ts)) (shifted k)
           (rest k (taken_next before t k taken e))
 
   pub nothing_taken : are_limits limits ≡ true → IsTaken []
   nothing_taken ok = record { grouped_is = refl; short = omega arith; few = omega arith }
 
-  longer_fails : (txns : List Txn) (front : List Tagged) → (rest : List Txn) → txns ≡ batch_of front ++ rest
-      → grouped (batch_of front) ≡ Some front → Stops front rest
+  longer_fails : (txns : List Txn) (front : List GroupedTxn) → (rest : List Txn) → txns ≡ batch_of front ++ rest
+      → tagged_txns (batch_of front) ≡ Some front → Stops front rest
       → (n : ℕ) → length (batch_of front) < n → n ≤ length txns → is_allowed limits (take n txns) ≡ false
   longer_fails txns front [] all grouped_is stops n above below =
       let long = ap length all ∙ length-append (batch_of front) [] in absurd (omega arith)
@@ -266,15 +271,17 @@ module _ (limits : LimitNumbers) where
           ∙ ap (λ m. take m (batch_of front ++ (t ∷ ts))) number
           ∙ take-append-add (batch_of front) (t ∷ ts) (suc (n - length (batch_of front) - 1))
 
-  allowed : (front : List Tagged) → IsTaken front → is_allowed limits (batch_of front) ≡ true
+  allowed : (front : List GroupedTxn) → IsTaken front → is_allowed limits (batch_of front) ≡ true
   allowed front taken =
       let long = length-batch_of front in
       ap (λ o. nat_le (length (batch_of front)) limits.batch && has_at_most limits.groups o) taken.grouped_is
-      ∙ ap (λ b. nat_le (length (batch_of front)) limits.batch && b) (le_true (opened front) limits.groups taken.few)
+      ∙ ap (λ b. nat_le (length (batch_of front)) limits.batch && b)
+      (le_true (group_count front) limits.groups taken.few)
       ∙ ap (λ b. b && true)
       (le_true (length (batch_of front)) limits.batch (subst (λ n. n ≤ limits.batch) (sym long) taken.short))
 
-  pub ends_longest : (txns : List Txn) (front : List Tagged) → IsEnd txns front → IsLongest limits txns (batch_of front)
+  pub ends_longest : (txns : List Txn) (front : List GroupedTxn) → IsEnd txns front
+      → IsLongest limits txns (batch_of front)
   ends_longest txns front end =
       record {
         of = ap (take (length (batch_of front))) end.all ∙ take-append_seam (batch_of front) end.rest;
@@ -290,35 +297,37 @@ module _ (limits : LimitNumbers) where
 
   pub first_taken : (t : Txn) → are_limits limits ≡ true → is_barrier t ≡ false → group_taken limits [] t ≡ Some 0
   first_taken t ok free =
-      ap (λ b. cond b (within limits.groups (group_next [] t)) None) (is_lt 0 limits.batch (at_least_one limits ok).0)
-      ∙ ap (within limits.groups) (ap (λ b. cond b None (group_for [] (footprint t))) free ∙ first_group (footprint t))
+      ap (λ b. cond b (group_within_limit limits.groups (group_of_next [] t)) None)
+      (is_lt 0 limits.batch (at_least_one limits ok).0)
+      ∙ ap (group_within_limit limits.groups)
+      (ap (λ b. cond b None (group_for [] (footprint t))) free ∙ first_group (footprint t))
       ∙ ap (λ b. cond b (Some 0) None) (is_lt 0 limits.groups (at_least_one limits ok).1)
     where
       first_group : (ps : List Bytes) → group_for [] ps ≡ Some 0
       first_group [] = refl
       first_group (p ∷ ps) = ap (only_group 0) (no_met (p ∷ ps))
 
-  taken_more : (before : List Tagged) (ts : List Txn) → length before ≤ length (taken_behind limits before ts)
+  taken_more : (before : List GroupedTxn) (ts : List Txn) → length before ≤ length (tagged_front_after limits before ts)
   taken_more before [] = omega arith
   taken_more before (t ∷ ts) = by (λ k. taken_more (before ++ (k, t) ∷ []) ts) (group_taken limits before t)
     where
-      by : ((k : ℕ) → length (before ++ (k, t) ∷ []) ≤ length (taken_behind limits (before ++ (k, t) ∷ []) ts))
+      by : ((k : ℕ) → length (before ++ (k, t) ∷ []) ≤ length (tagged_front_after limits (before ++ (k, t) ∷ []) ts))
           → (o : Option ℕ)
-          → length before ≤ length (option_map_or (λ k. taken_behind limits (before ++ (k, t) ∷ []) ts) o before)
+          → length before ≤ length (option_map_or (λ k. tagged_front_after limits (before ++ (k, t) ∷ []) ts) o before)
       by rest None = omega arith
       by rest (Some k) = let long = length-append before ((k, t) ∷ []) in let more = rest k in omega arith
 
   pub some_taken : (t : Txn) (ts : List Txn) → are_limits limits ≡ true → is_barrier t ≡ false
-      → 1 ≤ length (taken_behind limits [] (t ∷ ts))
+      → 1 ≤ length (tagged_front_after limits [] (t ∷ ts))
   some_taken t ts ok free =
-      subst (λ o. 1 ≤ length (option_map_or (λ k. taken_behind limits ((k, t) ∷ []) ts) o []))
+      subst (λ o. 1 ≤ length (option_map_or (λ k. tagged_front_after limits ((k, t) ∷ []) ts) o []))
       (sym (first_taken t ok free))
       (taken_more ((0, t) ∷ []) ts)
 
   -- ---- the cut
 
   pub cut_is : (t : Txn) (ts : List Txn) → are_limits limits ≡ true → is_barrier t ≡ false
-      → cut limits (t ∷ ts) ≡ batch_of (taken_behind limits [] (t ∷ ts))
+      → cut limits (t ∷ ts) ≡ batch_of (tagged_front_after limits [] (t ∷ ts))
   cut_is t ts ok free =
       ap (λ b. cond b (t ∷ []) (longest_of (is_allowed limits) (t ∷ ts) (length (t ∷ ts)))) free
       ∙ longest_is (is_allowed limits) (t ∷ ts) (length (t ∷ ts)) (length front)
@@ -326,13 +335,13 @@ module _ (limits : LimitNumbers) where
       ∙ longest.of
     where
       front : List Txn
-      front = batch_of (taken_behind limits [] (t ∷ ts))
+      front = batch_of (tagged_front_after limits [] (t ∷ ts))
 
-      end : IsEnd (t ∷ ts) (taken_behind limits [] (t ∷ ts))
+      end : IsEnd (t ∷ ts) (tagged_front_after limits [] (t ∷ ts))
       end = taken_ends [] (t ∷ ts) (nothing_taken ok)
 
       longest : IsLongest limits (t ∷ ts) front
-      longest = ends_longest (t ∷ ts) (taken_behind limits [] (t ∷ ts)) end
+      longest = ends_longest (t ∷ ts) (tagged_front_after limits [] (t ∷ ts)) end
 
       within_all : length front ≤ length (t ∷ ts)
       within_all = let long = ap length end.all ∙ length-append front end.rest in omega arith
@@ -340,14 +349,15 @@ module _ (limits : LimitNumbers) where
 pub cuts_are_longest : CutsAreLongest
 cuts_are_longest limits t ts ok free =
     subst (λ front. IsLongest limits (t ∷ ts) front × (1 ≤ length front)) (sym (cut_is limits t ts ok free)) (
-      ends_longest limits (t ∷ ts) (taken_behind limits [] (t ∷ ts))
+      ends_longest limits (t ∷ ts) (tagged_front_after limits [] (t ∷ ts))
           (taken_ends limits [] (t ∷ ts) (nothing_taken limits ok)),
-      subst (λ n. 1 ≤ n) (sym (length-batch_of (taken_behind limits [] (t ∷ ts)))) (some_taken limits t ts ok free),
+      subst (λ n. 1 ≤ n) (sym (length-batch_of (tagged_front_after limits [] (t ∷ ts))))
+          (some_taken limits t ts ok free),
     )
 
 -- where nothing is taken there is a barrier in front, or nothing
 pub begins_with_barrier : (limits : LimitNumbers) (txns : List Txn) → are_limits limits ≡ true
-    → length (taken_behind limits [] txns) ≡ 0 → BeginsWithBarrier txns
+    → length (tagged_front_after limits [] txns) ≡ 0 → BeginsWithBarrier txns
 begins_with_barrier limits [] ok none = tt
 begins_with_barrier limits (t ∷ ts) ok none = by (is_barrier t) refl
   where
@@ -357,32 +367,34 @@ begins_with_barrier limits (t ∷ ts) ok none = by (is_barrier t) refl
 
 -- and where something is, that is the cut
 pub taken_is_cut : (limits : LimitNumbers) (txns : List Txn) → are_limits limits ≡ true
-    → 1 ≤ length (taken_behind limits [] txns) → batch_of (taken_behind limits [] txns) ≡ cut limits txns
+    → 1 ≤ length (tagged_front_after limits [] txns) → batch_of (tagged_front_after limits [] txns) ≡ cut limits txns
 taken_is_cut limits [] ok some = absurd (omega arith)
 taken_is_cut limits (t ∷ ts) ok some = by (is_barrier t) refl
   where
-    no_group : (b : Bool) → cond b (within limits.groups None) None ≡ None
+    no_group : (b : Bool) → cond b (group_within_limit limits.groups None) None ≡ None
     no_group true = refl
     no_group false = refl
 
-    nothing : is_barrier t ≡ true → taken_behind limits [] (t ∷ ts) ≡ []
+    nothing : is_barrier t ≡ true → tagged_front_after limits [] (t ∷ ts) ≡ []
     nothing e =
-        ap (λ o. option_map_or (λ k. taken_behind limits ((k, t) ∷ []) ts) o [])
-        (ap (λ b. cond (nat_lt 0 limits.batch) (within limits.groups (cond b None (group_for [] (footprint t)))) None) e
+        ap (λ o. option_map_or (λ k. tagged_front_after limits ((k, t) ∷ []) ts) o [])
+        (ap (λ b. cond (nat_lt 0 limits.batch)
+        (group_within_limit limits.groups (cond b None (group_for [] (footprint t)))) None) e
         ∙ no_group (nat_lt 0 limits.batch))
 
-    by : (b : Bool) → is_barrier t ≡ b → batch_of (taken_behind limits [] (t ∷ ts)) ≡ cut limits (t ∷ ts)
+    by : (b : Bool) → is_barrier t ≡ b → batch_of (tagged_front_after limits [] (t ∷ ts)) ≡ cut limits (t ∷ ts)
     by true e = let few = ap length (nothing e) in absurd (omega arith)
     by false e = sym (cut_is limits t ts ok e)
 
 -- what is taken is a front
 pub taken_is_front : (limits : LimitNumbers) (txns : List Txn) → are_limits limits ≡ true
-    → take (length (batch_of (taken_behind limits [] txns))) txns ≡ batch_of (taken_behind limits [] txns)
+    → take (length (batch_of (tagged_front_after limits [] txns))) txns ≡ batch_of (tagged_front_after limits [] txns)
 taken_is_front limits txns ok =
-    (ends_longest limits txns (taken_behind limits [] txns) (taken_ends limits [] txns (nothing_taken limits ok))).of
+    (ends_longest limits txns (tagged_front_after limits [] txns)
+    (taken_ends limits [] txns (nothing_taken limits ok))).of
 
 pub taken_is_grouped : (limits : LimitNumbers) (txns : List Txn) → are_limits limits ≡ true
-    → grouped (batch_of (taken_behind limits [] txns)) ≡ Some (taken_behind limits [] txns)
+    → tagged_txns (batch_of (tagged_front_after limits [] txns)) ≡ Some (tagged_front_after limits [] txns)
 taken_is_grouped limits txns ok = (taken_ends limits [] txns (nothing_taken limits ok)).taken.grouped_is
 
 -- ---- a barrier alone
@@ -399,14 +411,14 @@ alone limits [] n is barrier = record { taken = ap (λ j. take j []) is; no_grou
 alone limits (t ∷ ts) n is barrier =
     record {
       taken = ap (λ j. take j (t ∷ ts)) one ∙ sym first;
-      no_groups = sym (ap groups_of first ∙ ap (λ b. listed (of_first b)) barrier);
-      allowed = ap is_batch first ∙ ap (λ b. b || is_some (grouped (t ∷ []))) barrier;
+      no_groups = sym (ap groups_of first ∙ ap (λ b. groups_if_tagged (of_first b)) barrier);
+      allowed = ap is_batch first ∙ ap (λ b. b || is_some (tagged_txns (t ∷ []))) barrier;
     }
   where
     one : n ≡ 1
     one = omega arith
 
-    of_first : Bool → Option (List Tagged)
+    of_first : Bool → Option (List GroupedTxn)
     of_first b =
         option_and_then (λ k. Some ((k, t) ∷ [])) (cond b None (group_for [] (footprint t)))
 
@@ -419,16 +431,17 @@ alone_when_empty [] n is groups batch = ap (λ m. not (nat_eq m 0)) is
 alone_when_empty (t ∷ ts) n is groups batch =
     ap (λ m. not (nat_eq m 0)) is
     ∙ ap not (some_length (length ts))
-    ∙ sym (by (is_barrier_alone (t ∷ ts)) (grouped (t ∷ ts)) refl groups batch)
+    ∙ sym (by (is_barrier_alone (t ∷ ts)) (tagged_txns (t ∷ ts)) refl groups batch)
   where
     some_length : (m : ℕ) → nat_eq (suc m) 0 ≡ false
     some_length m = grind (arith, nat_tests)
 
-    opened_some : (gs : List Tagged) → batch_of gs ≡ t ∷ ts → 1 ≤ opened gs
+    opened_some : (gs : List GroupedTxn) → batch_of gs ≡ t ∷ ts → 1 ≤ group_count gs
     opened_some [] e = let l = ap length e in absurd (omega arith)
     opened_some (g ∷ gs) e = omega arith
 
-    by : (b : Bool) → (o : Option (List Tagged)) → grouped (t ∷ ts) ≡ o → listed o ≡ [] → (b || is_some o) ≡ true
+    by : (b : Bool) → (o : Option (List GroupedTxn)) → tagged_txns (t ∷ ts) ≡ o → groups_if_tagged o ≡ []
+        → (b || is_some o) ≡ true
         → b ≡ true
     by true o e none batch = refl
     by false None e none batch = absurd (true≢false (sym batch))
@@ -437,11 +450,12 @@ alone_when_empty (t ∷ ts) n is groups batch =
         let m = opened_some gs (batch_is [] (t ∷ ts) gs e) in
         absurd (omega arith)
 
-pub alone_is_barrier : (txns : List Txn) (m n : ℕ) (groups : List Class) → groups ≡ groups_of txns → m ≡ length groups
+pub alone_is_barrier : (txns : List Txn) (m n : ℕ) (groups : List TxnGroup) → groups ≡ groups_of txns
+    → m ≡ length groups
     → nat_eq m 0 ≡ true → n ≡ length txns → is_batch txns ≡ true → not (nat_eq n 0) ≡ is_barrier_alone txns
 alone_is_barrier txns m n groups are long none is batch =
     alone_when_empty txns n is (sym are ∙ empty groups (sym long ∙ eqb-true m 0 none)) batch
   where
-    empty : (cs : List Class) → length cs ≡ 0 → cs ≡ []
+    empty : (cs : List TxnGroup) → length cs ≡ 0 → cs ≡ []
     empty [] e = refl
     empty (c ∷ cs) e = absurd (omega arith)

@@ -7,11 +7,11 @@ use Rattle.ephemerals.proofs.Totals.{path_total}
 use Rattle.txn_codec.specs.declared.txn.Txn.{Txn}
 use Rattle.txn_codec.specs.declared.txn.TxnHeader.{TxnHeader}
 use Rattle.data_tree.specs.Footprint.{footprint}
-use Rattle.footprint.specs.Footprints.{is_barrier, paths_of}
+use Rattle.footprint.specs.Footprints.{is_barrier, txn_paths}
 use Rattle.std.specs.Option.{option_and_then}
-use Rattle.batcher.specs.Groups.{group_for, grouped_behind, grouped}
-use Rattle.batcher.specs.Cut.{has_at_most, is_allowed, longest_of, cut, listed, groups_of}
-use Rattle.batcher.specs.Rows.{creates, both, usual, class, a, a_x, a_p, b, b_y, b_q, WorkedCuts, CutsAreWorked}
+use Rattle.batcher.specs.Groups.{group_for, tagged_txns_after, tagged_txns}
+use Rattle.batcher.specs.Cut.{has_at_most, is_allowed, longest_of, cut, groups_if_tagged, groups_of}
+use Rattle.batcher.specs.Rows.{create_txn_of, two_creates_txn, usual_limits, group_row, path_a, path_a_x, path_a_p, path_b, path_b_y, path_b_q, WorkedCuts, CutsAreWorked}
 
 -- a set has at most as many members as the list that it is made of
 len_most : (paths : List Bytes) → set.len (set.from_list {R = path_cmp} paths) ≤ length paths
@@ -31,37 +31,42 @@ few : (n : ℕ) → n ≤ 4 → nat_lt 16 n ≡ false
 few n h = grind (arith, nat_tests)
 
 -- the multi isn't done alone
-both_free : (h : TxnHeader) → is_barrier (both h) ≡ false
-both_free h = few (set.len (paths_of (both h))) (len_most (footprint (both h)))
+both_free : (h : TxnHeader) → is_barrier (two_creates_txn h) ≡ false
+both_free h = few (set.len (txn_paths (two_creates_txn h))) (len_most (footprint (two_creates_txn h)))
 
 -- the multi behind a create under each of its parents
-refused : (h : TxnHeader) → is_allowed usual (creates h a_x ∷ creates h b_y ∷ both h ∷ []) ≡ false
+refused : (h : TxnHeader) → is_allowed usual_limits
+    (create_txn_of h path_a_x ∷ create_txn_of h path_b_y ∷ two_creates_txn h ∷ []) ≡ false
 refused h =
     ap
     (λ b. has_at_most 64
-    (option_and_then (λ k. grouped_behind ((0, creates h a_x) ∷ (1, creates h b_y) ∷ (k, both h) ∷ []) [])
-    (cond b None (group_for ((0, creates h a_x) ∷ (1, creates h b_y) ∷ []) (footprint (both h))))))
+    (option_and_then (λ k. tagged_txns_after
+    ((0, create_txn_of h path_a_x) ∷ (1, create_txn_of h path_b_y) ∷ (k, two_creates_txn h) ∷ []) [])
+    (cond b None (group_for ((0, create_txn_of h path_a_x) ∷ (1, create_txn_of h path_b_y) ∷ [])
+    (footprint (two_creates_txn h))))))
     (both_free h)
 
 front_of : (h : TxnHeader)
-    → cut usual (creates h a_x ∷ creates h b_y ∷ both h ∷ []) ≡ creates h a_x ∷ creates h b_y ∷ []
+    → cut usual_limits (create_txn_of h path_a_x ∷ create_txn_of h path_b_y ∷ two_creates_txn h ∷ [])
+    ≡ create_txn_of h path_a_x ∷ create_txn_of h path_b_y ∷ []
 front_of h =
-    let all : List Txn = creates h a_x ∷ creates h b_y ∷ both h ∷ [] in
-    ap (λ b. cond b all (longest_of (is_allowed usual) all 2)) (refused h)
+    let all : List Txn = create_txn_of h path_a_x ∷ create_txn_of h path_b_y ∷ two_creates_txn h ∷ [] in
+    ap (λ b. cond b all (longest_of (is_allowed usual_limits) all 2)) (refused h)
 
-grouped_both : (h : TxnHeader) → grouped (both h ∷ []) ≡ Some ((0, both h) ∷ [])
+grouped_both : (h : TxnHeader) → tagged_txns (two_creates_txn h ∷ []) ≡ Some ((0, two_creates_txn h) ∷ [])
 grouped_both h =
-    ap (λ b. option_and_then (λ k. grouped_behind ((k, both h) ∷ []) []) (cond b None (Some 0))) (both_free h)
+    ap (λ b. option_and_then (λ k. tagged_txns_after ((k, two_creates_txn h) ∷ []) []) (cond b None (Some 0)))
+    (both_free h)
 
-alone : (h : TxnHeader) → cut usual (both h ∷ []) ≡ both h ∷ []
+alone : (h : TxnHeader) → cut usual_limits (two_creates_txn h ∷ []) ≡ two_creates_txn h ∷ []
 alone h =
-    let all : List Txn = both h ∷ [] in
-    ap (λ b. cond b all (longest_of (is_allowed usual) all 1)) (both_free h)
+    let all : List Txn = two_creates_txn h ∷ [] in
+    ap (λ b. cond b all (longest_of (is_allowed usual_limits) all 1)) (both_free h)
     ∙ ap (λ o. cond (has_at_most 64 o) all []) (grouped_both h)
 
 groups_of_both : (h : TxnHeader)
-    → groups_of (both h ∷ []) ≡ class (0 ∷ []) (a_p ∷ a ∷ b_q ∷ b ∷ []) ∷ []
-groups_of_both h = ap listed (grouped_both h)
+    → groups_of (two_creates_txn h ∷ []) ≡ group_row (0 ∷ []) (path_a_p ∷ path_a ∷ path_b_q ∷ path_b ∷ []) ∷ []
+groups_of_both h = ap groups_if_tagged (grouped_both h)
 
 worked : (h : TxnHeader) → WorkedCuts h
 worked h =

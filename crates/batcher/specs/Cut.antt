@@ -1,21 +1,21 @@
 -- What is cut from the front of a list of transactions, to be done at once.
 use Rattle.std.specs.Prelude.{ℕ, zero, suc, Bool, false, ◌&&◌, ◌||◌, List, [], ◌∷◌, Option, Some, None, length, take, is_some, nat_le, if◌then◌else◌}
 use Rattle.txn_codec.specs.declared.txn.Txn.{Txn}
-use Rattle.data_tree.specs.Commuting.{Tagged}
+use Rattle.data_tree.specs.Commuting.{GroupedTxn}
 use Rattle.footprint.specs.Footprints.{is_barrier}
-use Rattle.batcher.specs.Class.{Class}
+use Rattle.batcher.specs.Class.{TxnGroup}
 use Rattle.batcher.specs.Limits.{LimitNumbers}
-use Rattle.batcher.specs.Groups.{opened, grouped, classes_of}
+use Rattle.batcher.specs.Groups.{group_count, tagged_txns, txn_groups_of}
 
 -- at most so many groups
-abbrev pub has_at_most : ℕ → Option (List Tagged) → Bool
+abbrev pub has_at_most : ℕ → Option (List GroupedTxn) → Bool
 has_at_most groups None = false
-has_at_most groups (Some ts) = nat_le (opened ts) groups
+has_at_most groups (Some ts) = nat_le (group_count ts) groups
 
 -- neither too many transactions nor too many groups; and each comes into a group, so that none is a barrier and none
 -- meets two
 abbrev pub is_allowed : LimitNumbers → List Txn → Bool
-is_allowed limits front = nat_le (length front) limits.batch && has_at_most limits.groups (grouped front)
+is_allowed limits front = nat_le (length front) limits.batch && has_at_most limits.groups (tagged_txns front)
 
 -- the longest front that passes, of those of at most n
 abbrev pub longest_of : {A : Type 0} → (List A → Bool) → List A → ℕ → List A
@@ -36,13 +36,13 @@ is_barrier_alone _ = false
 
 -- what may be cut: a barrier alone, or transactions that each come into a group, or none at all
 abbrev pub is_batch : List Txn → Bool
-is_batch txns = is_barrier_alone txns || is_some (grouped txns)
+is_batch txns = is_barrier_alone txns || is_some (tagged_txns txns)
 
 -- the groups of transactions that came into some
-abbrev pub listed : Option (List Tagged) → List Class
-listed None = []
-listed (Some ts) = classes_of ts
+abbrev pub groups_if_tagged : Option (List GroupedTxn) → List TxnGroup
+groups_if_tagged None = []
+groups_if_tagged (Some ts) = txn_groups_of ts
 
 -- a barrier alone has none
-abbrev pub groups_of : List Txn → List Class
-groups_of txns = listed (grouped txns)
+abbrev pub groups_of : List Txn → List TxnGroup
+groups_of txns = groups_if_tagged (tagged_txns txns)

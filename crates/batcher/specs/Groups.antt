@@ -4,21 +4,21 @@ use Rattle.std.specs.List.{filter_map, flat_map, list_all, range_with_len}
 use Rattle.std.specs.FinSet as set
 use Rattle.ephemerals.specs.Orders.{Bytes}
 use Rattle.txn_codec.specs.declared.txn.Txn.{Txn}
-use Rattle.data_tree.specs.Footprint.{touches, footprint}
-use Rattle.data_tree.specs.Commuting.{Tagged, of_group}
+use Rattle.data_tree.specs.Footprint.{has_path, footprint}
+use Rattle.data_tree.specs.Commuting.{GroupedTxn, txns_of_group}
 use Rattle.footprint.specs.Footprints.{is_barrier}
 use Rattle.values.specs.Maybe.{◌>>=◌}
-use Rattle.batcher.specs.Class.{Class}
+use Rattle.batcher.specs.Class.{TxnGroup}
 
 -- the group that has the path
-abbrev pub group_with : List Tagged → Bytes → Option ℕ
+abbrev pub group_with : List GroupedTxn → Bytes → Option ℕ
 group_with [] path = None
-group_with (t ∷ ts) path = if touches (footprint t.1) path then Some t.0 else group_with ts path
+group_with (t ∷ ts) path = if has_path (footprint t.1) path then Some t.0 else group_with ts path
 
 -- how many groups were opened
-abbrev pub opened : List Tagged → ℕ
-opened [] = 0
-opened (t ∷ ts) = max (t.0 + 1) (opened ts)
+abbrev pub group_count : List GroupedTxn → ℕ
+group_count [] = 0
+group_count (t ∷ ts) = max (t.0 + 1) (group_count ts)
 
 -- one group, where all of these are that one; a new one, where there is none; nothing, where there are two
 abbrev pub only_group : ℕ → List ℕ → Option ℕ
@@ -27,38 +27,38 @@ only_group new (k ∷ ks) = if list_all (λ j. j == k) ks then Some k else None
 
 -- The group of what has these paths, behind others: the one whose paths it meets, a new one where it meets none, and
 -- nothing where it meets two. What has no path joins the group opened last, or opens the first.
-abbrev pub group_for : List Tagged → List Bytes → Option ℕ
-group_for before [] = Some (opened before - 1)
-group_for before (p ∷ ps) = only_group (opened before) (filter_map (group_with before) (p ∷ ps))
+abbrev pub group_for : List GroupedTxn → List Bytes → Option ℕ
+group_for before [] = Some (group_count before - 1)
+group_for before (p ∷ ps) = only_group (group_count before) (filter_map (group_with before) (p ∷ ps))
 
 -- a barrier comes into no group
-abbrev pub group_next : List Tagged → Txn → Option ℕ
-group_next before t = if is_barrier t then None else group_for before (footprint t)
+abbrev pub group_of_next : List GroupedTxn → Txn → Option ℕ
+group_of_next before t = if is_barrier t then None else group_for before (footprint t)
 
 -- transactions with their groups, one after the other, behind others; nothing, where one of them comes into no group
-abbrev pub grouped_behind : List Tagged → List Txn → Option (List Tagged)
-grouped_behind before [] = Some before
-grouped_behind before (t ∷ ts) = group_next before t >>= λ k. grouped_behind (before ++ (k, t) ∷ []) ts
+abbrev pub tagged_txns_after : List GroupedTxn → List Txn → Option (List GroupedTxn)
+tagged_txns_after before [] = Some before
+tagged_txns_after before (t ∷ ts) = group_of_next before t >>= λ k. tagged_txns_after (before ++ (k, t) ∷ []) ts
 
-abbrev pub grouped : List Txn → Option (List Tagged)
-grouped txns = grouped_behind [] txns
+abbrev pub tagged_txns : List Txn → Option (List GroupedTxn)
+tagged_txns txns = tagged_txns_after [] txns
 
 -- ---- a group as it is shown
 
 -- the places of a group's transactions in the list that begins at this place
-abbrev pub places_from : ℕ → ℕ → List Tagged → List ℕ
+abbrev pub places_from : ℕ → ℕ → List GroupedTxn → List ℕ
 places_from place k [] = []
 places_from place k (t ∷ ts) =
     if t.0 == k then place ∷ places_from (place + 1) k ts else places_from (place + 1) k ts
 
 -- the paths of a group's transactions
-abbrev pub paths_in : ℕ → List Tagged → List Bytes
-paths_in k ts = flat_map footprint (of_group k ts)
+abbrev pub paths_in : ℕ → List GroupedTxn → List Bytes
+paths_in k ts = flat_map footprint (txns_of_group k ts)
 
 -- a group by its number
-abbrev pub class_of : List Tagged → ℕ → Class
-class_of ts k = record { members = places_from 0 k ts; paths = set.from_list (paths_in k ts) }
+abbrev pub txn_group_at : List GroupedTxn → ℕ → TxnGroup
+txn_group_at ts k = record { members = places_from 0 k ts; paths = set.from_list (paths_in k ts) }
 
 -- in the order in which they were opened
-abbrev pub classes_of : List Tagged → List Class
-classes_of ts = map (class_of ts) (range_with_len 0 (opened ts))
+abbrev pub txn_groups_of : List GroupedTxn → List TxnGroup
+txn_groups_of ts = map (txn_group_at ts) (range_with_len 0 (group_count ts))

@@ -4,12 +4,12 @@ ghost use Rattle.std.specs.Prelude.{◌≡◌, ◌↔◌, ◌++◌, ◌∷◌, [
 ghost use Rattle.std.specs.BTreeMap.{get_by_text};
 ghost use Rattle.std.specs.Ordering.{eq_by_cmp};
 ghost use Rattle.ephemerals.specs.Orders.{Bytes, path_cmp};
-ghost use Rattle.data_tree.specs.Footprint.{touches, footprint};
+ghost use Rattle.data_tree.specs.Footprint.{has_path, footprint};
 ghost use Rattle.batcher.specs.Limits.{are_limits};
 ghost use Rattle.batcher.specs.Groups.{group_for};
 ghost use Rattle.batcher.specs.Inner.Joining.{with_member, met_group};
-ghost use Rattle.batcher.specs.Inner.Taking.{HasTaken, taken_behind};
-ghost use Rattle.batcher.specs.Inner.Drafts.{taken_in, IsDraft};
+ghost use Rattle.batcher.specs.Inner.Taking.{HasTaken, tagged_front_after};
+ghost use Rattle.batcher.specs.Inner.Drafts.{tagged_in, IsDraft};
 
 use crate::group::Group;
 use crate::limits::Limits;
@@ -65,7 +65,7 @@ fn own(
 ) -> Result<(), NoMemory>
     requires { found.now ≡ map (get_by_text owners.old) paths.now }
     ensures { OnOk result ((path : Bytes) → get_by_text owners.new path
-        ≡ (if touches paths.now path then Some group else get_by_text owners.old path)) }
+        ≡ (if has_path paths.now path then Some group else get_by_text owners.old path)) }
 {
     for place in 0..paths.len() {
         if !is_group(found[place], group) {
@@ -110,7 +110,7 @@ impl<'a> Draft<'a> {
     // No transaction, and room for so many.
     fn with_capacity(alloc: Global, most: usize) -> Result<Draft<'a>, NoMemory>
         ensures draft { IfOk result IsDraft }
-        ensures taken { IfOk result (λ draft. taken_in draft ≡ []) }
+        ensures taken { IfOk result (λ draft. tagged_in draft ≡ []) }
     {
         Ok(Draft {
             txns: Vec::with_capacity(alloc, most)?,
@@ -127,7 +127,7 @@ impl<'a> Draft<'a> {
         found: &mut Vec<Option<usize>>,
     ) -> Result<Option<usize>, NoMemory>
         requires { IsDraft self.now }
-        ensures group { IfOk result (λ group. group ≡ group_for (taken_in self.now) paths.now) }
+        ensures group { IfOk result (λ group. group ≡ group_for (tagged_in self.now) paths.now) }
         ensures found { OnOk result (found.new.items ≡ map (get_by_text self.now.owners) paths.now) }
     {
         let met = met_by(&self.owners, paths, found)?;
@@ -147,12 +147,12 @@ impl<'a> Draft<'a> {
         found: &[Option<usize>],
     ) -> Result<(), NoMemory>
         requires draft { IsDraft self.old }
-        requires group { group_for (taken_in self.old) paths.now ≡ Some group }
+        requires group { group_for (tagged_in self.old) paths.now ≡ Some group }
         requires paths { paths.now ≡ footprint txn.now }
         requires found { found.now ≡ map (get_by_text self.old.owners) paths.now }
         ensures draft { OnOk result (IsDraft self.new) }
         ensures taken { OnOk result
-            (taken_in self.new ≡ taken_in self.old ++ (group, txn.now) ∷ []) }
+            (tagged_in self.new ≡ tagged_in self.old ++ (group, txn.now) ∷ []) }
     {
         add_to(&mut self.groups, alloc, group, self.txns.len(), paths)?;
         own(&mut self.owners, alloc, group, paths, found)?;
@@ -174,7 +174,7 @@ impl<'a> Draft<'a> {
         requires paths { paths.now ≡ footprint txn.now }
         ensures draft { OnOk result (IsDraft self.new) }
         ensures taken { IfOk result (λ taken.
-            HasTaken limits.now (taken_in self.old) txn.now taken (taken_in self.new)) }
+            HasTaken limits.now (tagged_in self.old) txn.now taken (tagged_in self.new)) }
     {
         if self.txns.len() >= limits.batch() {
             return Ok(false);
@@ -198,7 +198,7 @@ impl<'a> Draft<'a> {
     pub fn of_front(alloc: Global, txns: &'a [Txn], limits: &Limits) -> Result<Draft<'a>, NoMemory>
         ensures draft { IfOk result IsDraft }
         ensures taken { IfOk result
-            (λ draft. taken_in draft ≡ taken_behind limits.now [] txns.now) }
+            (λ draft. tagged_in draft ≡ tagged_front_after limits.now [] txns.now) }
         ensures limits { OnOk result (IsTrue (are_limits limits.now)) }
     {
         let most = limits.batch().min(txns.len());

@@ -2,8 +2,8 @@
 
 ghost use Rattle.std.specs.Prelude.{◌≡◌, OnOk};
 ghost use Rattle.std.specs.FinSet as set;
-ghost use Rattle.batcher.specs.Class.{no_member};
-ghost use Rattle.batcher.specs.Inner.Joining.{joined};
+ghost use Rattle.batcher.specs.Class.{empty_group};
+ghost use Rattle.batcher.specs.Inner.Joining.{with_txn_at};
 
 use ephemerals::TextSet;
 use std::alloc::Global;
@@ -19,11 +19,11 @@ pub struct Group {
 }
 
 impl Model for Group {
-    ghost use Rattle.batcher.specs.Class.{Class, class_code};
+    ghost use Rattle.batcher.specs.Class.{TxnGroup, txn_group_code};
 
-    ghost Value = { Class };
+    ghost Value = { TxnGroup };
 
-    ghost coded = { class_code };
+    ghost coded = { txn_group_code };
 
     ghost view = { λ g. record { members = g.members.items; paths = g.paths } };
 }
@@ -52,7 +52,7 @@ fn add_paths(alloc: Global, names: &mut TextSet, paths: &[Str<'_>]) -> Result<()
 impl Group {
     /// No transaction, which takes no memory.
     pub(crate) fn new(alloc: Global) -> Group
-        ensures { result ≡ no_member }
+        ensures { result ≡ empty_group }
     {
         Group {
             members: Vec::new(alloc),
@@ -81,7 +81,7 @@ impl Group {
         place: usize,
         paths: &[Str<'_>],
     ) -> Result<(), NoMemory>
-        ensures { OnOk result (self.new ≡ joined self.old place paths.now) }
+        ensures { OnOk result (self.new ≡ with_txn_at self.old place paths.now) }
     {
         self.members.push(place)?;
         add_paths(alloc, &mut self.paths, paths)

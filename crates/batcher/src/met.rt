@@ -2,7 +2,7 @@
 
 ghost use Rattle.std.specs.Prelude.{◌≡◌, IfOk, OnOk, map};
 ghost use Rattle.std.specs.BTreeMap.{get_by_text};
-ghost use Rattle.batcher.specs.Inner.Joining.{also, all_met};
+ghost use Rattle.batcher.specs.Inner.Joining.{met_with, all_met};
 ghost use Rattle.batcher.specs.declared.met.Met.TheVariants.{Nothing};
 
 use std::collections::BTreeMap;
@@ -25,8 +25,8 @@ fn owner(owners: &BTreeMap<String, usize>, path: &str) -> Option<usize>
 }
 
 // What was met, and what has one path more.
-fn also(met: Met, owner: Option<usize>) -> Met
-    ensures { result ≡ also met owner }
+fn met_with(met: Met, owner: Option<usize>) -> Met
+    ensures { result ≡ met_with met owner }
 {
     let Some(group) = owner else {
         return met;
@@ -57,7 +57,7 @@ pub fn met_by(
     for path in paths {
         let group = owner(owners, path.as_str());
         found.push(group)?;
-        met = also(met, group);
+        met = met_with(met, group);
     }
     Ok(met)
 }

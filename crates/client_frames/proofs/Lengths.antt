@@ -1,8 +1,8 @@
 -- How long the answer to a connect is.
 use Rattle.std.proofs.Common.{◌≡◌, ℕ, ◌+◌, List, [], ◌∷◌, ◌++◌, length, w32, pos, ap, ◌∙◌, arith}
 use Rattle.std.proofs.lemmas.List.{length-append}
-use Rattle.jute.specs.Format.{number_bytes, counted}
-use Rattle.jute.specs.Frame.{framed}
+use Rattle.jute.specs.Format.{number_bytes, with_count}
+use Rattle.jute.specs.Frame.{frame_bytes}
 use Rattle.client_records.specs.Responses.{connect_response}
 use Rattle.sessions.specs.declared.request.SessionResponse.{SessionResponse}
 use Rattle.client_frames.specs.Connect.{response_of}
@@ -19,9 +19,9 @@ answer_writable r e = (tt, (tt, (tt, omega (arith, e))))
 -- with the byte behind it
 pub longer_framed : (r : SessionResponse) → length r.password ≡ 16
     → let body = connect_response.written (response_of r) ++ 0 ∷ [] in
-    framed body ≡ number_bytes w32 (pos 37) ++ body
+    frame_bytes body ≡ number_bytes w32 (pos 37) ++ body
 longer_framed r e =
     let body = connect_response.written (response_of r) ++ 0 ∷ [] in
     let long : length body ≡ 37 = length-append (connect_response.written (response_of r)) (0 ∷ [])
     ∙ ap (λ (n : ℕ). n + 1) (answer_length r e) in
-    ap (λ (n : ℕ). counted n body) long
+    ap (λ (n : ℕ). with_count n body) long

@@ -15,42 +15,42 @@ use Rattle.client_frames.specs.declared.call.CallBody.{CallBody}
 use Rattle.client_frames.specs.declared.call.CallBody.TheVariants.{Read, SetWatches, Auth, CloseSession, Unreadable, Ping, Write, Unknown}
 
 -- a record at the front, if it can be read there; bytes behind it are passed over
-abbrev pub front_in : {A : Type 0} → Result (A × List ℕ) Fault → Option A
-front_in (Ok x) = Some x.0
-front_in (Err e) = None
+abbrev pub value_if_read : {A : Type 0} → Result (A × List ℕ) Fault → Option A
+value_if_read (Ok x) = Some x.0
+value_if_read (Err e) = None
 
 -- what it asks for, or that it can't be read
-abbrev pub asked_as : {A : Type 0} → (A → CallBody) → Option A → CallBody
-asked_as body None = Unreadable
-asked_as body (Some found) = body found
+abbrev pub body_or_unreadable : {A : Type 0} → (A → CallBody) → Option A → CallBody
+body_or_unreadable body None = Unreadable
+body_or_unreadable body (Some found) = body found
 
 abbrev pub read_as : {A : Type 0} → (A → Request) → Option A → CallBody
-read_as request found = asked_as (λ r. Read (request r)) found
+read_as request found = body_or_unreadable (λ r. Read (request r)) found
 
 -- the body of a change isn't read
-abbrev pub body_of : Option RequestKind → List ℕ → CallBody
-body_of None bytes = Unknown
-body_of (Some kinds.Exists) bytes = read_as Exists (front_in (path_and_watch.read bytes))
-body_of (Some kinds.GetData) bytes = read_as GetData (front_in (path_and_watch.read bytes))
-body_of (Some kinds.GetAcl) bytes = read_as GetAcl (front_in (get_acl_request.read bytes))
-body_of (Some kinds.GetChildren) bytes = read_as GetChildren (front_in (path_and_watch.read bytes))
-body_of (Some kinds.GetChildren2) bytes = read_as GetChildren2 (front_in (path_and_watch.read bytes))
-body_of (Some kinds.Ping) bytes = Ping
-body_of (Some kinds.Create) bytes = Write
-body_of (Some kinds.Delete) bytes = Write
-body_of (Some kinds.SetData) bytes = Write
-body_of (Some kinds.SetAcl) bytes = Write
-body_of (Some kinds.Sync) bytes = Write
-body_of (Some kinds.Check) bytes = Write
-body_of (Some kinds.Multi) bytes = Write
-body_of (Some kinds.Auth) bytes = asked_as Auth (front_in (auth_packet.read bytes))
-body_of (Some kinds.SetWatches) bytes = asked_as SetWatches (front_in (set_watches.read bytes))
-body_of (Some kinds.CloseSession) bytes = CloseSession
+abbrev pub call_body : Option RequestKind → List ℕ → CallBody
+call_body None bytes = Unknown
+call_body (Some kinds.Exists) bytes = read_as Exists (value_if_read (path_and_watch.read bytes))
+call_body (Some kinds.GetData) bytes = read_as GetData (value_if_read (path_and_watch.read bytes))
+call_body (Some kinds.GetAcl) bytes = read_as GetAcl (value_if_read (get_acl_request.read bytes))
+call_body (Some kinds.GetChildren) bytes = read_as GetChildren (value_if_read (path_and_watch.read bytes))
+call_body (Some kinds.GetChildren2) bytes = read_as GetChildren2 (value_if_read (path_and_watch.read bytes))
+call_body (Some kinds.Ping) bytes = Ping
+call_body (Some kinds.Create) bytes = Write
+call_body (Some kinds.Delete) bytes = Write
+call_body (Some kinds.SetData) bytes = Write
+call_body (Some kinds.SetAcl) bytes = Write
+call_body (Some kinds.Sync) bytes = Write
+call_body (Some kinds.Check) bytes = Write
+call_body (Some kinds.Multi) bytes = Write
+call_body (Some kinds.Auth) bytes = body_or_unreadable Auth (value_if_read (auth_packet.read bytes))
+call_body (Some kinds.SetWatches) bytes = body_or_unreadable SetWatches (value_if_read (set_watches.read bytes))
+call_body (Some kinds.CloseSession) bytes = CloseSession
 
-abbrev pub call_behind : Result (RequestHeader × List ℕ) Fault → Result Call Fault
-call_behind (Ok x) = Ok (record { xid = x.0.xid; body = body_of (kind_of x.0.kind) x.1 })
-call_behind (Err e) = Err e
+abbrev pub call_after_header : Result (RequestHeader × List ℕ) Fault → Result Call Fault
+call_after_header (Ok x) = Ok (record { xid = x.0.xid; body = call_body (kind_of x.0.kind) x.1 })
+call_after_header (Err e) = Err e
 
 -- the call that a frame is, if it has a whole header
 abbrev pub call_in : List ℕ → Result Call Fault
-call_in frame = call_behind (request_header.read frame)
+call_in frame = call_after_header (request_header.read frame)

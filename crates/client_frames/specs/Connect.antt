@@ -1,7 +1,7 @@
 -- The first frame of a connection, and its answer (zookeeper.jute, ConnectRequest and ConnectResponse).
 use Rattle.std.specs.Prelude.{ℕ, pos, List, [], ◌∷◌, ◌++◌, length, Some, Result, Ok, Err, Bool, true, false, nat_lt}
 use Rattle.values.specs.declared.fault.Fault.{Fault}
-use Rattle.jute.specs.Frame.{framed}
+use Rattle.jute.specs.Frame.{frame_bytes}
 use Rattle.client_records.specs.declared.connect.ConnectRequest.{ConnectRequest}
 use Rattle.client_records.specs.declared.connect.ConnectResponse.{ConnectResponse}
 use Rattle.client_records.specs.Requests.{connect_request}
@@ -11,12 +11,12 @@ use Rattle.sessions.specs.declared.request.SessionResponse.{SessionResponse}
 use Rattle.client_frames.specs.declared.connecting.Connecting.{Connecting}
 
 -- a byte may follow the request, by which newer clients say that a read-only server would do
-abbrev pub connecting_behind : Result (ConnectRequest × List ℕ) Fault → Result Connecting Fault
-connecting_behind (Ok x) = Ok (record { request = x.0; has_byte = nat_lt 0 (length x.1) })
-connecting_behind (Err e) = Err e
+abbrev pub connecting_after_request : Result (ConnectRequest × List ℕ) Fault → Result Connecting Fault
+connecting_after_request (Ok x) = Ok (record { request = x.0; has_byte = nat_lt 0 (length x.1) })
+connecting_after_request (Err e) = Err e
 
 abbrev pub connecting_in : List ℕ → Result Connecting Fault
-connecting_in frame = connecting_behind (connect_request.read frame)
+connecting_in frame = connecting_after_request (connect_request.read frame)
 
 -- which session is asked for
 abbrev pub session_request : ConnectRequest → SessionRequest
@@ -33,4 +33,4 @@ read_only_byte true = 0 ∷ []
 read_only_byte false = []
 
 abbrev pub answer_to_connect : SessionResponse → Bool → List ℕ
-answer_to_connect r has_byte = framed (connect_response.written (response_of r) ++ read_only_byte has_byte)
+answer_to_connect r has_byte = frame_bytes (connect_response.written (response_of r) ++ read_only_byte has_byte)

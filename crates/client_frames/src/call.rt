@@ -1,10 +1,10 @@
 //! What a client's frame asks for.
 
 ghost use Rattle.std.specs.Prelude.{◌≡◌, IfOk};
-ghost use Rattle.jute.specs.Reads.{GivesWhole};
+ghost use Rattle.jute.specs.Reads.{ReadsOwnedWhole};
 ghost use Rattle.client_records.specs.Kinds.{kind_of};
 ghost use Rattle.client_records.specs.Requests.{auth_packet, set_watches};
-ghost use Rattle.client_frames.specs.Call.{front_in, asked_as, body_of, call_in};
+ghost use Rattle.client_frames.specs.Call.{value_if_read, body_or_unreadable, call_body, call_in};
 
 use client_records::{AuthPacket, RequestKind, SetWatches};
 use jute::{ReadRecord, Reader, RequestHeader};
@@ -37,11 +37,11 @@ pub struct Call<'a> {
 }
 
 // The record at the front, if it can be read.
-fn front<'a, T: ReadRecord<'a>>(
+fn read_or_none<'a, T: ReadRecord<'a>>(
     alloc: Global,
     reader: &mut Reader<'a>,
 ) -> Result<Option<T>, NoMemory>
-    ensures { IfOk result (λ found. found ≡ front_in (T.read_of reader.old)) }
+    ensures { IfOk result (λ found. found ≡ value_if_read (T.read_of reader.old)) }
 {
     match T::read(alloc, reader) {
         Ok(record) => Ok(Some(record)),
@@ -52,9 +52,9 @@ fn front<'a, T: ReadRecord<'a>>(
 
 fn read_auth<'a>(alloc: Global, reader: &mut Reader<'a>) -> Result<CallBody<'a>, NoMemory>
     ensures { IfOk result
-        (λ body. body ≡ asked_as CallBody.Auth (front_in (auth_packet.read reader.old))) }
+        (λ body. body ≡ body_or_unreadable CallBody.Auth (value_if_read (auth_packet.read reader.old))) }
 {
-    match front(alloc, reader)? {
+    match read_or_none(alloc, reader)? {
         None => Ok(CallBody::Unreadable),
         Some(packet) => Ok(CallBody::Auth(packet)),
     }
@@ -62,9 +62,9 @@ fn read_auth<'a>(alloc: Global, reader: &mut Reader<'a>) -> Result<CallBody<'a>,
 
 fn read_set_watches<'a>(alloc: Global, reader: &mut Reader<'a>) -> Result<CallBody<'a>, NoMemory>
     ensures { IfOk result
-        (λ body. body ≡ asked_as CallBody.SetWatches (front_in (set_watches.read reader.old))) }
+        (λ body. body ≡ body_or_unreadable CallBody.SetWatches (value_if_read (set_watches.read reader.old))) }
 {
-    match front(alloc, reader)? {
+    match read_or_none(alloc, reader)? {
         None => Ok(CallBody::Unreadable),
         Some(asked) => Ok(CallBody::SetWatches(asked)),
     }
@@ -76,17 +76,17 @@ fn read_body<'a>(
     kind: Option<RequestKind>,
     reader: &mut Reader<'a>,
 ) -> Result<CallBody<'a>, NoMemory>
-    ensures { IfOk result (λ body. body ≡ body_of kind reader.old) }
+    ensures { IfOk result (λ body. body ≡ call_body kind reader.old) }
 {
     let Some(kind) = kind else {
         return Ok(CallBody::Unknown);
     };
     let request = match kind {
-        RequestKind::Exists => front(alloc, reader)?.map(Request::Exists),
-        RequestKind::GetData => front(alloc, reader)?.map(Request::GetData),
-        RequestKind::GetAcl => front(alloc, reader)?.map(Request::GetAcl),
-        RequestKind::GetChildren => front(alloc, reader)?.map(Request::GetChildren),
-        RequestKind::GetChildren2 => front(alloc, reader)?.map(Request::GetChildren2),
+        RequestKind::Exists => read_or_none(alloc, reader)?.map(Request::Exists),
+        RequestKind::GetData => read_or_none(alloc, reader)?.map(Request::GetData),
+        RequestKind::GetAcl => read_or_none(alloc, reader)?.map(Request::GetAcl),
+        RequestKind::GetChildren => read_or_none(alloc, reader)?.map(Request::GetChildren),
+        RequestKind::GetChildren2 => read_or_none(alloc, reader)?.map(Request::GetChildren2),
         RequestKind::Auth => return read_auth(alloc, reader),
         RequestKind::SetWatches => return read_set_watches(alloc, reader),
         RequestKind::CloseSession => return Ok(CallBody::CloseSession),
@@ -107,7 +107,7 @@ fn read_body<'a>(
 
 /// The call that a frame is. A fault: it has no whole header.
 pub fn read_call<'a>(alloc: Global, frame: &'a [u8]) -> Result<Call<'a>, ReadError>
-    ensures { GivesWhole (call_in frame.now) result }
+    ensures { ReadsOwnedWhole (call_in frame.now) result }
 {
     let mut reader = Reader::new(frame);
     let header = RequestHeader::read(alloc, &mut reader)?;

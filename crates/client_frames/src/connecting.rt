@@ -1,7 +1,7 @@
 //! The first frame of a connection, and its answer.
 
 ghost use Rattle.std.specs.Prelude.{◌≡◌, IfOk, OnOk, length};
-ghost use Rattle.jute.specs.Reads.{GivesWhole};
+ghost use Rattle.jute.specs.Reads.{ReadsOwnedWhole};
 ghost use Rattle.client_frames.specs.Connect.{connecting_in, session_request, response_of, answer_to_connect};
 
 use client_records::{ConnectRequest, ConnectResponse};
@@ -26,7 +26,7 @@ pub struct Connecting<'a> {
 
 /// What a first frame asks for. A fault: it can't be read.
 pub fn read_connecting<'a>(alloc: Global, frame: &'a [u8]) -> Result<Connecting<'a>, ReadError>
-    ensures { GivesWhole (connecting_in frame.now) result }
+    ensures { ReadsOwnedWhole (connecting_in frame.now) result }
 {
     let mut reader = Reader::new(frame);
     let request = ConnectRequest::read(alloc, &mut reader)?;

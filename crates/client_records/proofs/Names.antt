@@ -6,8 +6,8 @@ use Rattle.std.proofs.lemmas.List.{length-map}
 use Rattle.std.proofs.lemmas.List.Elements.{All-head, All-tail}
 use Rattle.std.proofs.lemmas.List.Folds.{flat_map-map}
 use Rattle.std.proofs.lemmas.Int.{to_z_pos}
-use Rattle.jute.specs.Format.{name, number_bytes}
-use Rattle.client_records.specs.Fields.{names}
+use Rattle.jute.specs.Format.{text_or_empty, number_bytes}
+use Rattle.client_records.specs.Fields.{names_format}
 use Rattle.values.specs.Gains.{Gains}
 use Rattle.values.proofs.Gaining.{gains_first, gains_behind, gains_same}
 
@@ -15,15 +15,15 @@ abbrev pub MayBeWritten : String Global → Type 0
 MayBeWritten t = length (string_bytes t) < 2 ^ 31
 
 pub each_may : (texts : List (String Global))
-    → All name.Writable (map string_bytes texts) → AllByRecursion MayBeWritten texts
+    → All text_or_empty.Writable (map string_bytes texts) → AllByRecursion MayBeWritten texts
 each_may [] h = tt
 each_may (t ∷ ts) h = (
-  All-head name.Writable (string_bytes t) (map string_bytes ts) h,
-  each_may ts (All-tail name.Writable (string_bytes t) (map string_bytes ts) h),
+  All-head text_or_empty.Writable (string_bytes t) (map string_bytes ts) h,
+  each_may ts (All-tail text_or_empty.Writable (string_bytes t) (map string_bytes ts) h),
 )
 
 abbrev pub spelled : String Global → List ℕ
-spelled t = name.written (string_bytes t)
+spelled t = text_or_empty.written (string_bytes t)
 
 -- a front of all was put behind the old bytes, and the texts that are left are the rest of it
 pub record Written (old all out : List ℕ) (left : List (String Global)) : Type 0 where
@@ -35,13 +35,13 @@ pub record Written (old all out : List ℕ) (left : List (String Global)) : Type
 pub put_count : (old out : List ℕ) (count : ℕ) (texts : List (String Global)) → length texts ≡ count
     → length texts < 2 ^ 31
     → out ≡ old ++ number_bytes w32 (to_z w32 count)
-    → Written old (names.written (map string_bytes texts)) out texts
+    → Written old (names_format.written (map string_bytes texts)) out texts
 put_count old out count texts same few e =
     let shown : to_z w32 count ≡ pos (length texts) = ap (to_z w32) (sym same) ∙ to_z_pos w32 (length texts) few in
     record {
       front = number_bytes w32 (pos (length texts));
       put = e ∙ ap (λ z. old ++ number_bytes w32 z) shown;
-      rest = rw (length-map texts string_bytes, flat_map-map name.written string_bytes texts) refl;
+      rest = rw (length-map texts string_bytes, flat_map-map text_or_empty.written string_bytes texts) refl;
     }
 
 -- the next text was put

@@ -1,17 +1,17 @@
 -- The laws of the records, each from those of its fields.
 use Rattle.std.proofs.Common.{refl}
-use Rattle.jute.specs.Format.{name}
-use Rattle.jute.specs.Owned.{acl}
-use Rattle.jute.specs.Laws.{Sound}
+use Rattle.jute.specs.Format.{text_or_empty}
+use Rattle.jute.specs.Owned.{acl_format}
+use Rattle.jute.specs.Laws.{IsSound}
 use Rattle.jute.proofs.Public.{int_sound, long_sound, boolean_sound, buffer_sound, text_sound, name_sound, acl_sound, stat_sound, null_vector_sound, both_sound, mapped_sound}
-use Rattle.client_records.specs.Fields.{names}
+use Rattle.client_records.specs.Fields.{names_format}
 use Rattle.client_records.specs.Requests.{connect_request, path_and_watch, get_acl_request, set_watches, auth_packet}
 use Rattle.client_records.specs.Responses.{connect_response, exists_response, get_data_response, get_children_response, get_children2_response, get_acl_response, watcher_event}
 
-names_sound : Sound names
-names_sound = null_vector_sound name name_sound
+names_sound : IsSound names_format
+names_sound = null_vector_sound text_or_empty name_sound
 
-pub connect_request_sound : Sound connect_request
+pub connect_request_sound : IsSound connect_request
 unfolding connect_request
 connect_request_sound =
     mapped_sound _ _ _ (λ v. refl) (λ r. refl)
@@ -20,15 +20,15 @@ connect_request_sound =
     (both_sound _ _ int_sound
     (both_sound _ _ long_sound buffer_sound))))
 
-pub path_and_watch_sound : Sound path_and_watch
+pub path_and_watch_sound : IsSound path_and_watch
 unfolding path_and_watch
 path_and_watch_sound = mapped_sound _ _ _ (λ v. refl) (λ r. refl) (both_sound _ _ text_sound boolean_sound)
 
-pub get_acl_request_sound : Sound get_acl_request
+pub get_acl_request_sound : IsSound get_acl_request
 unfolding get_acl_request
 get_acl_request_sound = mapped_sound _ _ _ (λ v. refl) (λ r. refl) text_sound
 
-pub set_watches_sound : Sound set_watches
+pub set_watches_sound : IsSound set_watches
 unfolding set_watches
 set_watches_sound =
     mapped_sound _ _ _ (λ v. refl) (λ r. refl)
@@ -36,12 +36,12 @@ set_watches_sound =
     (both_sound _ _ names_sound
     (both_sound _ _ names_sound names_sound)))
 
-pub auth_packet_sound : Sound auth_packet
+pub auth_packet_sound : IsSound auth_packet
 unfolding auth_packet
 auth_packet_sound =
     mapped_sound _ _ _ (λ v. refl) (λ r. refl) (both_sound _ _ int_sound (both_sound _ _ text_sound buffer_sound))
 
-pub connect_response_sound : Sound connect_response
+pub connect_response_sound : IsSound connect_response
 unfolding connect_response
 connect_response_sound =
     mapped_sound _ _ _ (λ v. refl) (λ r. refl)
@@ -49,28 +49,28 @@ connect_response_sound =
     (both_sound _ _ int_sound
     (both_sound _ _ long_sound buffer_sound)))
 
-pub exists_response_sound : Sound exists_response
+pub exists_response_sound : IsSound exists_response
 unfolding exists_response
 exists_response_sound = mapped_sound _ _ _ (λ v. refl) (λ r. refl) stat_sound
 
-pub get_data_response_sound : Sound get_data_response
+pub get_data_response_sound : IsSound get_data_response
 unfolding get_data_response
 get_data_response_sound = mapped_sound _ _ _ (λ v. refl) (λ r. refl) (both_sound _ _ buffer_sound stat_sound)
 
-pub get_children_response_sound : Sound get_children_response
+pub get_children_response_sound : IsSound get_children_response
 unfolding get_children_response
 get_children_response_sound = mapped_sound _ _ _ (λ v. refl) (λ r. refl) names_sound
 
-pub get_children2_response_sound : Sound get_children2_response
+pub get_children2_response_sound : IsSound get_children2_response
 unfolding get_children2_response
 get_children2_response_sound = mapped_sound _ _ _ (λ v. refl) (λ r. refl) (both_sound _ _ names_sound stat_sound)
 
-pub get_acl_response_sound : Sound get_acl_response
+pub get_acl_response_sound : IsSound get_acl_response
 unfolding get_acl_response
 get_acl_response_sound =
-    mapped_sound _ _ _ (λ v. refl) (λ r. refl) (both_sound _ _ (null_vector_sound acl acl_sound) stat_sound)
+    mapped_sound _ _ _ (λ v. refl) (λ r. refl) (both_sound _ _ (null_vector_sound acl_format acl_sound) stat_sound)
 
-pub watcher_event_sound : Sound watcher_event
+pub watcher_event_sound : IsSound watcher_event
 unfolding watcher_event
 watcher_event_sound =
     mapped_sound _ _ _ (λ v. refl) (λ r. refl) (both_sound _ _ int_sound (both_sound _ _ int_sound text_sound))

@@ -6,17 +6,17 @@ use Rattle.std.proofs.lemmas.List.Elements.{All-from_recursion}
 use Rattle.std.proofs.lemmas.Option.{none-some, cond_some}
 use Rattle.std.proofs.lemmas.Bool.{lt-leb}
 use Rattle.std.proofs.lemmas.Bool.Decides.{leb_tells}
-use Rattle.jute.specs.Format.{Format, name, number_bytes, vector, or_null}
-use Rattle.jute.specs.Owned.{acl, id}
+use Rattle.jute.specs.Format.{Format, text_or_empty, number_bytes, vector_of, or_null}
+use Rattle.jute.specs.Owned.{acl_format, id_format}
 use Rattle.jute.specs.declared.owned.Acl.{Acl}
-use Rattle.client_records.specs.Fields.{acls, names, within}
+use Rattle.client_records.specs.Fields.{acls_format, names_format, length_within}
 
 pub next_len : {A : Type 0} (f : Format A) (v : A) (vs : List A)
     → length (flat_map f.written (v ∷ vs)) ≡ length (f.written v) + length (flat_map f.written vs)
 next_len f v vs = length-append (f.written v) (flat_map f.written vs)
 
 pub list_len : {A : Type 0} (f : Format A) (vs : List A)
-    → length ((or_null (vector f)).written vs) ≡ 4 + length (flat_map f.written vs)
+    → length ((or_null (vector_of f)).written vs) ≡ 4 + length (flat_map f.written vs)
 unfolding number_bytes
 list_len f vs = omega arith
 
@@ -42,46 +42,47 @@ module _ {A : Type 0} (f : Format A) (some : (v : A) → 1 ≤ length (f.written
   each_small (v ∷ vs) h =
       (small v (omega (arith, h, next_len f v vs)), each_small vs (omega (arith, h, next_len f v vs)))
 
-  list_writable : (vs : List A) → length ((or_null (vector f)).written vs) < 2 ^ 31 → (or_null (vector f)).Writable vs
+  list_writable : (vs : List A) → length ((or_null (vector_of f)).written vs) < 2 ^ 31
+      → (or_null (vector_of f)).Writable vs
   list_writable vs h =
       let few : length (flat_map f.written vs) < 2 ^ 31 = omega (arith, h, list_len f vs) in
       (omega (arith, few, each_count vs), All-from_recursion f.Writable vs (each_small vs few))
 
 -- ---- texts
 
-pub name_len : (n : List ℕ) → length (name.written n) ≡ 4 + length n
+pub name_len : (n : List ℕ) → length (text_or_empty.written n) ≡ 4 + length n
 unfolding number_bytes
 name_len n = omega arith
 
 pub next_name : (n : List ℕ) (ns : List (List ℕ))
-    → length (flat_map name.written (n ∷ ns)) ≡ 4 + length n + length (flat_map name.written ns)
-next_name n ns = omega (arith, name_len n, next_len name n ns)
+    → length (flat_map text_or_empty.written (n ∷ ns)) ≡ 4 + length n + length (flat_map text_or_empty.written ns)
+next_name n ns = omega (arith, name_len n, next_len text_or_empty n ns)
 
-pub names_writable : (ns : List (List ℕ)) → length (names.written ns) < 2 ^ 31 → names.Writable ns
-names_writable = list_writable name (λ n. omega (arith, name_len n)) (λ n h. omega (arith, h, name_len n))
+pub names_writable : (ns : List (List ℕ)) → length (names_format.written ns) < 2 ^ 31 → names_format.Writable ns
+names_writable = list_writable text_or_empty (λ n. omega (arith, name_len n)) (λ n h. omega (arith, h, name_len n))
 
 -- ---- ACLs
 
-pub acl_len : (a : Acl) → length (acl.written a) ≡ 12 + length a.id.scheme + length a.id.id
-unfolding acl id number_bytes
-acl_len a = omega (arith, length-append (name.written a.id.scheme) (name.written a.id.id))
+pub acl_len : (a : Acl) → length (acl_format.written a) ≡ 12 + length a.id.scheme + length a.id.id
+unfolding acl_format id_format number_bytes
+acl_len a = omega (arith, length-append (text_or_empty.written a.id.scheme) (text_or_empty.written a.id.id))
 
-acl_small : (a : Acl) → length (acl.written a) < 2 ^ 31 → acl.Writable a
-unfolding acl id
+acl_small : (a : Acl) → length (acl_format.written a) < 2 ^ 31 → acl_format.Writable a
+unfolding acl_format id_format
 acl_small a h = (tt, (omega (arith, h, acl_len a), omega (arith, h, acl_len a)))
 
-pub acls_writable : (list : List Acl) → length (acls.written list) < 2 ^ 31 → acls.Writable list
-acls_writable = list_writable acl (λ a. omega (arith, acl_len a)) acl_small
+pub acls_writable : (list : List Acl) → length (acls_format.written list) < 2 ^ 31 → acls_format.Writable list
+acls_writable = list_writable acl_format (λ a. omega (arith, acl_len a)) acl_small
 
 -- ---- sums within a limit
 
-pub within_some : (limit n r : ℕ) → Some r ≡ within limit n → (r ≡ n) × (n ≤ limit)
+pub within_some : (limit n r : ℕ) → Some r ≡ length_within limit n → (r ≡ n) × (n ≤ limit)
 within_some limit n r e = elim (leb_tells n limit) [
   | inl in_it ↦ (sym (cond_some (nat_le n limit) n r (sym e)).1, in_it.1)
   | inr over ↦ absurd (none-some r (sym (rw over.0 at e)))
 ]
 
-pub within_none : (limit n m : ℕ) → None ≡ within limit n → n ≤ m → None ≡ within limit m
+pub within_none : (limit n m : ℕ) → None ≡ length_within limit n → n ≤ m → None ≡ length_within limit m
 within_none limit n m e le = elim (leb_tells n limit) [
   | inl in_it ↦ absurd (none-some n (rw in_it.0 at e))
   | inr over ↦ rw (lt-leb m limit (omega (arith, over.1, le))) refl
@@ -96,13 +97,15 @@ pub nothing_yet : (limit all : ℕ) → Counted limit 0 all all
 nothing_yet limit all = record { fits = omega arith; sum = omega arith }
 
 pub count_on : {limit len left all : ℕ} (more rest r : ℕ)
-    → Counted limit len left all → left ≡ more + rest → Some r ≡ within limit (len + more) → Counted limit r rest all
+    → Counted limit len left all → left ≡ more + rest → Some r ≡ length_within limit (len + more)
+    → Counted limit r rest all
 count_on {limit} {len} {left} {all} more rest r c e g =
     let w = within_some limit (len + more) r g in
     record { fits = omega (arith, w.0, w.1); sum = omega (arith, w.0, c.sum, e) }
 
 pub passes : {limit len left all : ℕ} (more rest : ℕ)
-    → Counted limit len left all → left ≡ more + rest → None ≡ within limit (len + more) → None ≡ within limit all
+    → Counted limit len left all → left ≡ more + rest → None ≡ length_within limit (len + more)
+    → None ≡ length_within limit all
 passes {limit} {len} {left} {all} more rest c e g = within_none limit (len + more) all g (omega (arith, c.sum, e))
 
 pub stays_below : {limit len all : ℕ} → Counted limit len 0 all → limit < 2 ^ 31 → all < 2 ^ 31

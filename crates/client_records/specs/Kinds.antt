@@ -22,10 +22,10 @@ code_of Auth = pos 100
 code_of SetWatches = pos 101
 code_of CloseSession = negsuc 10
 
-abbrev pub kinds : List RequestKind
-kinds = Create ∷ Delete ∷ Exists ∷ GetData ∷ SetData ∷ GetAcl ∷ SetAcl ∷ GetChildren ∷ Sync
+abbrev pub request_kinds : List RequestKind
+request_kinds = Create ∷ Delete ∷ Exists ∷ GetData ∷ SetData ∷ GetAcl ∷ SetAcl ∷ GetChildren ∷ Sync
     ∷ Ping ∷ GetChildren2 ∷ Check ∷ Multi ∷ Auth ∷ SetWatches ∷ CloseSession ∷ []
 
 -- the type with that code
 unfoldable pub kind_of : ℤ → Option RequestKind
-kind_of code = find (λ k. int_eq code (code_of k)) kinds
+kind_of code = find (λ k. int_eq code (code_of k)) request_kinds

@@ -1,6 +1,6 @@
 -- The records that stand in a client's frames: the fields of zookeeper.jute in their order, nothing between.
-use Rattle.jute.specs.Format.{Format, int, long, boolean, buffer, text, both, mapped}
-use Rattle.client_records.specs.Fields.{names}
+use Rattle.jute.specs.Format.{Format, int, long, boolean, buffer, text_format, pair_of, mapped_format}
+use Rattle.client_records.specs.Fields.{names_format}
 use Rattle.client_records.specs.declared.connect.ConnectRequest.{ConnectRequest}
 use Rattle.client_records.specs.declared.request.PathAndWatch.{PathAndWatch}
 use Rattle.client_records.specs.declared.request.GetAclRequest.{GetAclRequest}
@@ -9,7 +9,7 @@ use Rattle.client_records.specs.declared.request.AuthPacket.{AuthPacket}
 
 unfoldable pub connect_request : Format ConnectRequest
 connect_request =
-    mapped
+    mapped_format
     (λ v. record {
       protocol_version = v.0;
       last_zxid_seen = v.1.0;
@@ -18,11 +18,12 @@ connect_request =
       passwd = v.1.1.1.1;
     })
     (λ r. (r.protocol_version, (r.last_zxid_seen, (r.time_out, (r.session_id, r.passwd)))))
-    (both int (both long (both int (both long buffer))))
+    (pair_of int (pair_of long (pair_of int (pair_of long buffer))))
 
 -- four records have these fields
 unfoldable pub path_and_watch : Format PathAndWatch
-path_and_watch = mapped (λ v. record { path = v.0; watch = v.1 }) (λ r. (r.path, r.watch)) (both text boolean)
+path_and_watch = mapped_format (λ v. record { path = v.0; watch = v.1 }) (λ r. (r.path, r.watch))
+    (pair_of text_format boolean)
 
 abbrev pub exists_request : Format PathAndWatch
 exists_request = path_and_watch
@@ -37,18 +38,18 @@ abbrev pub get_children2_request : Format PathAndWatch
 get_children2_request = path_and_watch
 
 unfoldable pub get_acl_request : Format GetAclRequest
-get_acl_request = mapped (λ v. record { path = v }) (λ r. r.path) text
+get_acl_request = mapped_format (λ v. record { path = v }) (λ r. r.path) text_format
 
 unfoldable pub set_watches : Format SetWatches
 set_watches =
-    mapped
+    mapped_format
     (λ v. record { relative_zxid = v.0; data_watches = v.1.0; exist_watches = v.1.1.0; child_watches = v.1.1.1 })
     (λ r. (r.relative_zxid, (r.data_watches, (r.exist_watches, r.child_watches))))
-    (both long (both names (both names names)))
+    (pair_of long (pair_of names_format (pair_of names_format names_format)))
 
 unfoldable pub auth_packet : Format AuthPacket
 auth_packet =
-    mapped
+    mapped_format
     (λ v. record { kind = v.0; scheme = v.1.0; auth = v.1.1 })
     (λ r. (r.kind, (r.scheme, r.auth)))
-    (both int (both text buffer))
+    (pair_of int (pair_of text_format buffer))

@@ -1,7 +1,7 @@
 -- The records that stand in the frames to a client: the fields of zookeeper.jute in their order, nothing between.
-use Rattle.jute.specs.Format.{Format, int, long, buffer, text, both, mapped}
-use Rattle.jute.specs.Records.{stat}
-use Rattle.client_records.specs.Fields.{acls, names}
+use Rattle.jute.specs.Format.{Format, int, long, buffer, text_format, pair_of, mapped_format}
+use Rattle.jute.specs.Records.{stat_format}
+use Rattle.client_records.specs.Fields.{acls_format, names_format}
 use Rattle.client_records.specs.declared.connect.ConnectResponse.{ConnectResponse}
 use Rattle.client_records.specs.declared.event.WatcherEvent.{WatcherEvent}
 use Rattle.client_records.specs.declared.response.ExistsResponse.{ExistsResponse}
@@ -12,30 +12,33 @@ use Rattle.client_records.specs.declared.response.GetAclResponse.{GetAclResponse
 
 unfoldable pub connect_response : Format ConnectResponse
 connect_response =
-    mapped
+    mapped_format
     (λ v. record { protocol_version = v.0; time_out = v.1.0; session_id = v.1.1.0; passwd = v.1.1.1 })
     (λ r. (r.protocol_version, (r.time_out, (r.session_id, r.passwd))))
-    (both int (both int (both long buffer)))
+    (pair_of int (pair_of int (pair_of long buffer)))
 
 unfoldable pub exists_response : Format ExistsResponse
-exists_response = mapped (λ v. record { stat = v }) (λ r. r.stat) stat
+exists_response = mapped_format (λ v. record { stat = v }) (λ r. r.stat) stat_format
 
 unfoldable pub get_data_response : Format GetDataResponse
-get_data_response = mapped (λ v. record { bytes = v.0; stat = v.1 }) (λ r. (r.bytes, r.stat)) (both buffer stat)
+get_data_response = mapped_format (λ v. record { bytes = v.0; stat = v.1 }) (λ r. (r.bytes, r.stat))
+    (pair_of buffer stat_format)
 
 unfoldable pub get_children_response : Format GetChildrenResponse
-get_children_response = mapped (λ v. record { children = v }) (λ r. r.children) names
+get_children_response = mapped_format (λ v. record { children = v }) (λ r. r.children) names_format
 
 unfoldable pub get_children2_response : Format GetChildren2Response
 get_children2_response =
-    mapped (λ v. record { children = v.0; stat = v.1 }) (λ r. (r.children, r.stat)) (both names stat)
+    mapped_format (λ v. record { children = v.0; stat = v.1 }) (λ r. (r.children, r.stat))
+    (pair_of names_format stat_format)
 
 unfoldable pub get_acl_response : Format GetAclResponse
-get_acl_response = mapped (λ v. record { acl = v.0; stat = v.1 }) (λ r. (r.acl, r.stat)) (both acls stat)
+get_acl_response = mapped_format (λ v. record { acl = v.0; stat = v.1 }) (λ r. (r.acl, r.stat))
+    (pair_of acls_format stat_format)
 
 unfoldable pub watcher_event : Format WatcherEvent
 watcher_event =
-    mapped
+    mapped_format
     (λ v. record { kind = v.0; state = v.1.0; path = v.1.1 })
     (λ r. (r.kind, (r.state, r.path)))
-    (both int (both int text))
+    (pair_of int (pair_of int text_format))

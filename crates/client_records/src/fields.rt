@@ -3,10 +3,10 @@
 ghost use Rattle.std.specs.Prelude.{◌≡◌, ℕ, List, length, map, nat_eq, Ok, Some, String, string_bytes};
 ghost use Rattle.std.specs.Cmp.{partial_equiv_from_equiv};
 ghost use Rattle.std.specs.Cmp.Lexicographic.{pointwise, nat_list_eq_equiv};
-ghost use Rattle.jute.specs.Format.{buffer, name, vector, vector_at, judged_at, or_empty};
-ghost use Rattle.jute.specs.Reads.{Gives};
+ghost use Rattle.jute.specs.Format.{buffer, text_or_empty, vector_of, vector_at, judged_at, or_empty};
+ghost use Rattle.jute.specs.Reads.{ReadsOwned};
 ghost use Rattle.values.specs.Gains.{Puts};
-ghost use Rattle.client_records.specs.Fields.{names};
+ghost use Rattle.client_records.specs.Fields.{names_format};
 
 use jute::{
     ReadRecord, Reader, WriteRecord, put_bytes, put_int, put_items, put_string, read_name,
@@ -100,7 +100,7 @@ impl<'a> PartialEq for Name<'a> {
 }
 
 impl<'a> ReadRecord<'a> for Name<'a> {
-    ghost read_of = { name.read };
+    ghost read_of = { text_or_empty.read };
 
     fn read(_alloc: Global, reader: &mut Reader<'a>) -> Result<Name<'a>, ReadError> {
         let text = read_name(reader)?.as_str();
@@ -109,7 +109,7 @@ impl<'a> ReadRecord<'a> for Name<'a> {
 }
 
 impl<'a> WriteRecord for Name<'a> {
-    ghost format = { name };
+    ghost format = { text_or_empty };
 
     #[tactic(auto, unfolding(jute::specs::Format::number_bytes))]
     fn written_len(&self) -> usize {
@@ -127,7 +127,7 @@ pub fn read_list<'a, T: ReadRecord<'a>>(
     alloc: Global,
     reader: &mut Reader<'a>,
 ) -> Result<Listed<T>, ReadError>
-    ensures { Gives (judged_at (λ v. Ok (or_empty v)) (vector_at T.read_of)) (λ v. v)
+    ensures { ReadsOwned (judged_at (λ v. Ok (or_empty v)) (vector_at T.read_of)) (λ v. v)
         result reader.old reader.new }
 {
     match read_vector(alloc, reader)? {
@@ -138,8 +138,8 @@ pub fn read_list<'a, T: ReadRecord<'a>>(
 
 /// Writes a list as a vector: an int count, and the records one behind the other.
 pub fn put_list<T: WriteRecord>(out: &mut Vec<u8>, items: &[T]) -> Result<(), NoMemory>
-    requires { (vector T.format).Writable (Some items.now) }
-    ensures { Puts result out.old.items ((vector T.format).written (Some items.now)) out.new.items }
+    requires { (vector_of T.format).Writable (Some items.now) }
+    ensures { Puts result out.old.items ((vector_of T.format).written (Some items.now)) out.new.items }
 {
     put_int(out, items.len() as i32)?;
     put_items(out, items)
@@ -148,9 +148,9 @@ pub fn put_list<T: WriteRecord>(out: &mut Vec<u8>, items: &[T]) -> Result<(), No
 /// Writes the texts of a set in its order, as a vector of ustrings: an int count, and the texts one
 /// behind the other.
 pub fn put_names(out: &mut Vec<u8>, texts: Iter<'_, String>) -> Result<(), NoMemory>
-    requires { names.Writable (map string_bytes texts) }
+    requires { names_format.Writable (map string_bytes texts) }
     ensures { Puts result out.old.items
-        (names.written (map string_bytes texts.entry)) out.new.items }
+        (names_format.written (map string_bytes texts.entry)) out.new.items }
 {
     put_int(out, texts.len() as i32)?;
     for text in texts {

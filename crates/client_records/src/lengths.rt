@@ -1,8 +1,8 @@
 //! How long lists of the tree are when they are written. Their texts have no bound of their own, and a frame has one.
 
 ghost use Rattle.std.specs.Prelude.{◌≡◌, ◌+◌, ◌<◌, ◌≤◌, ◌^◌, length, map, IfSome, String, string_bytes};
-ghost use Rattle.jute.specs.Owned.{acl};
-ghost use Rattle.client_records.specs.Fields.{acls, names, within};
+ghost use Rattle.jute.specs.Owned.{acl_format};
+ghost use Rattle.client_records.specs.Fields.{acls_format, names_format, length_within};
 
 use jute::Acl;
 use std::collections::btree_set::Iter;
@@ -10,7 +10,7 @@ use std::collections::btree_set::Iter;
 // The sum, where it is within the limit.
 fn grown(len: usize, more: usize, limit: usize) -> Option<usize>
     requires { len ≤ limit }
-    ensures { result ≡ within limit (len + more) }
+    ensures { result ≡ length_within limit (len + more) }
 {
     if limit - len < more {
         return None;
@@ -19,10 +19,10 @@ fn grown(len: usize, more: usize, limit: usize) -> Option<usize>
 }
 
 // The sum with an ACL's length, where it is within the limit.
-#[tactic(auto, unfolding(jute::specs::Owned::acl, jute::specs::Owned::id, jute::specs::Format::number_bytes))]
+#[tactic(auto, unfolding(jute::specs::Owned::acl_format, jute::specs::Owned::id_format, jute::specs::Format::number_bytes))]
 fn grown_by_acl(len: usize, item: &Acl, limit: usize) -> Option<usize>
     requires { len ≤ limit }
-    ensures { result ≡ within limit (len + length (acl.written item.now)) }
+    ensures { result ≡ length_within limit (len + length (acl_format.written item.now)) }
 {
     let len = grown(len, 12, limit)?;
     let len = grown(len, item.id.scheme.as_str().len(), limit)?;
@@ -32,9 +32,9 @@ fn grown_by_acl(len: usize, item: &Acl, limit: usize) -> Option<usize>
 /// How many bytes `put_names` writes, where they are within the limit. With a limit below 2^31 they
 /// may then be written.
 pub fn names_len(texts: Iter<'_, String>, limit: usize) -> Option<usize>
-    ensures len { result ≡ within limit (length (names.written (map string_bytes texts.entry))) }
+    ensures len { result ≡ length_within limit (length (names_format.written (map string_bytes texts.entry))) }
     ensures writable { limit < 2 ^ 31
-        → IfSome result (λ len. names.Writable (map string_bytes texts.entry)) }
+        → IfSome result (λ len. names_format.Writable (map string_bytes texts.entry)) }
 {
     let mut len = grown(0, 4, limit)?;
     for text in texts {
@@ -46,8 +46,8 @@ pub fn names_len(texts: Iter<'_, String>, limit: usize) -> Option<usize>
 /// How many bytes a list of ACLs takes, where they are within the limit. With a limit below 2^31
 /// they may then be written.
 pub fn acls_len(items: &[Acl], limit: usize) -> Option<usize>
-    ensures len { result ≡ within limit (length (acls.written items.now)) }
-    ensures writable { limit < 2 ^ 31 → IfSome result (λ len. acls.Writable items.now) }
+    ensures len { result ≡ length_within limit (length (acls_format.written items.now)) }
+    ensures writable { limit < 2 ^ 31 → IfSome result (λ len. acls_format.Writable items.now) }
 {
     let mut len = grown(0, 4, limit)?;
     for item in items {

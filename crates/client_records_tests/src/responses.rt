@@ -69,7 +69,7 @@ fn connect_response(rt: HostRuntime) -> Result<(), Fail> {
 }
 
 #[test]
-#[tactic(auto, unfolding(client_records::specs::Responses::exists_response, jute::specs::Records::stat))]
+#[tactic(auto, unfolding(client_records::specs::Responses::exists_response, jute::specs::Records::stat_format))]
 fn exists_response(rt: HostRuntime) -> Result<(), Fail> {
     let alloc = rt.alloc();
     let bytes = with_root(alloc, b"")?;
@@ -91,7 +91,7 @@ fn is_read_as<'a>(alloc: Global, bytes: &'a [u8], data: &'a [u8]) -> Result<bool
 }
 
 #[test]
-#[tactic(auto, unfolding(client_records::specs::Responses::get_data_response, jute::specs::Records::stat))]
+#[tactic(auto, unfolding(client_records::specs::Responses::get_data_response, jute::specs::Records::stat_format))]
 fn get_data_response(rt: HostRuntime) -> Result<(), Fail> {
     let alloc = rt.alloc();
     let bytes = with_root(alloc, b"\x00\x00\x00\x02hi")?;
@@ -140,7 +140,7 @@ fn lists_them<'a>(
 }
 
 #[test]
-#[tactic(auto, unfolding(client_records::specs::Responses::get_children2_response, jute::specs::Records::stat))]
+#[tactic(auto, unfolding(client_records::specs::Responses::get_children2_response, jute::specs::Records::stat_format))]
 fn get_children2_response(rt: HostRuntime) -> Result<(), Fail> {
     let alloc = rt.alloc();
     let names = vec![in alloc; Name::new("a"), Name::new("zookeeper")]?;
@@ -167,7 +167,7 @@ fn are_read(alloc: Global, bytes: &[u8], entries: &[Acl]) -> Result<bool, Fail> 
 }
 
 #[test]
-#[tactic(auto, unfolding(client_records::specs::Responses::get_acl_response, jute::specs::Records::stat, jute::specs::Owned::acl, jute::specs::Owned::id))]
+#[tactic(auto, unfolding(client_records::specs::Responses::get_acl_response, jute::specs::Records::stat_format, jute::specs::Owned::acl_format, jute::specs::Owned::id_format))]
 fn get_acl_response(rt: HostRuntime) -> Result<(), Fail> {
     let alloc = rt.alloc();
     let open = Acl {

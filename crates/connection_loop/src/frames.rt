@@ -1,7 +1,7 @@
 //! Where the frames of a client end.
 
 ghost use Rattle.std.specs.Prelude.{◌≡◌};
-ghost use Rattle.connection_loop.specs.Frames.{whole_frames};
+ghost use Rattle.connection_loop.specs.Frames.{whole_frames_length};
 
 use jute::{Reader, read_frame};
 use observer_core::CLIENT_FRAME_LIMIT;
@@ -10,7 +10,7 @@ use values::Fault;
 /// The length of the longest front of the bytes that is at most so many whole frames. Where a length out of its bounds
 /// follows them it is all bytes: that length ends the connection, whatever comes after it.
 pub fn whole_frames(bytes: &[u8], most: usize) -> usize
-    ensures { result ≡ whole_frames most bytes.now }
+    ensures { result ≡ whole_frames_length most bytes.now }
 {
     let mut ahead = Reader::new(bytes);
     for _ in 0..most {

@@ -1,7 +1,7 @@
 //! What a connection brings, until it is sent on.
 
 ghost use Rattle.std.specs.Prelude.{◌≡◌, ◌≢◌, ◌+◌, IfSome, IsTrue};
-ghost use Rattle.connection_loop.specs.Frames.{whole_frames};
+ghost use Rattle.connection_loop.specs.Frames.{whole_frames_length};
 
 use crate::frames::whole_frames;
 use std::alloc::Global;
@@ -57,7 +57,7 @@ fn frame_len(bytes: &[u8]) -> usize {
 // The next piece of a client's bytes, of which the first ones may be missing at a frame that was sent on in part.
 fn next_frames(waiting: &[u8], missing: usize) -> Option<Piece>
     ensures frames { missing ≡ 0
-        → IfSome result (λ p. IsTrue p.ends_frame → p.len ≡ whole_frames 16 waiting.now) }
+        → IfSome result (λ p. IsTrue p.ends_frame → p.len ≡ whole_frames_length 16 waiting.now) }
     ensures rest { missing ≢ 0 → IfSome result (λ p. p.len + p.missing ≡ missing) }
 {
     if missing > 0 {

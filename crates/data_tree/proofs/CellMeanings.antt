@@ -1,45 +1,45 @@
 -- What a transaction means doesn't hang on the sessions, but for their timeouts.
 use Rattle.std.proofs.Common.{◌≡◌, pos, List, [], ◌∷◌, ◌++◌, take, Bool, true, false, if◌then◌else◌, refl, ap, sym, ◌∙◌}
 use Rattle.std.specs.FinMap as finmap
-use Rattle.ephemerals.specs.Orders.{in_order}
-use Rattle.ephemerals.specs.Pairs.{paths_of}
+use Rattle.ephemerals.specs.Orders.{sorted_names}
+use Rattle.ephemerals.specs.Pairs.{paths_of_session}
 use Rattle.txn_codec.specs.declared.txn.TxnHeader.{TxnHeader}
 use Rattle.txn_codec.specs.declared.txn.Operation.{Operation}
 use Rattle.txn_codec.specs.declared.txn.Txn.{Txn}
 use Rattle.txn_codec.specs.declared.txn.Body.{Body}
 use Rattle.txn_codec.specs.declared.txn.Body.TheVariants as body
-use Rattle.data_tree.specs.State.{State, Sessions}
-use Rattle.data_tree.specs.Meaning.{Change, after_change, after_changes, Effect, effect_of, set_acl_at, Meant, of_effect, of_operation, of_parts, of_failed, has_error, first_error, deletes, state_without_session, mean, mean_of}
+use Rattle.data_tree.specs.State.{State, SessionTimeouts}
+use Rattle.data_tree.specs.Meaning.{Change, after_change, after_changes, Effect, effect_of, set_acl_at, TxnEffect, of_effect, of_operation, of_parts, of_failed, has_error, first_error, delete_operations, state_without_session, effect_of_txn, effect_of_body}
 use Rattle.data_tree.specs.Meaning.Change.{Put, Remove, Own, Disown}
-use Rattle.data_tree.specs.Refused.{IsPartly, IsLeftBy}
+use Rattle.data_tree.specs.Refused.{IsPartlyDone, IsLeftByRefused}
 
-abbrev with_sessions : Sessions → State → State
+abbrev with_sessions : SessionTimeouts → State → State
 with_sessions x s = record s { sessions = x }
 
-abbrev pub meant_with : Sessions → Meant → Meant
+abbrev pub meant_with : SessionTimeouts → TxnEffect → TxnEffect
 meant_with x m = record m { state = with_sessions x m.state }
 
-apart_change : (x : Sessions) (s : State) (c : Change)
+apart_change : (x : SessionTimeouts) (s : State) (c : Change)
     → after_change (with_sessions x s) c ≡ with_sessions x (after_change s c)
 apart_change x s (Put path node) = refl
 apart_change x s (Remove path) = refl
 apart_change x s (Own session path) = refl
 apart_change x s (Disown session path) = refl
 
-apart_changes : (x : Sessions) (s : State) (cs : List Change)
+apart_changes : (x : SessionTimeouts) (s : State) (cs : List Change)
     → after_changes (with_sessions x s) cs ≡ with_sessions x (after_changes s cs)
 apart_changes x s [] = refl
 apart_changes x s (c ∷ cs) =
     ap (λ u. after_changes u cs) (apart_change x s c) ∙ apart_changes x (after_change s c) cs
 
-apart_effect : (x : Sessions) (effect : Effect) (s : State)
+apart_effect : (x : SessionTimeouts) (effect : Effect) (s : State)
     → of_effect effect (with_sessions x s) ≡ meant_with x (of_effect effect s)
 apart_effect x effect s =
-    ap (λ u. let m : Meant = record { state = u; err = effect.err; parts = []; triggers = effect.triggers } in m)
+    ap (λ u. let m : TxnEffect = record { state = u; err = effect.err; parts = []; triggers = effect.triggers } in m)
     (apart_changes x s effect.changes)
 
 -- one part before others
-before : Effect → Meant → Meant
+before : Effect → TxnEffect → TxnEffect
 before effect rest = record {
   state = rest.state;
   err = first_error (effect.err ∷ rest.parts);
@@ -52,12 +52,12 @@ before_is : (h : TxnHeader) (o : Operation) (os : List Operation) (s : State)
 unfolding before
 before_is h o os s = refl
 
-apart_before : (x : Sessions) (effect : Effect) (rest : Meant)
+apart_before : (x : SessionTimeouts) (effect : Effect) (rest : TxnEffect)
     → before effect (meant_with x rest) ≡ meant_with x (before effect rest)
 unfolding before
 apart_before x effect rest = refl
 
-apart_parts : (x : Sessions) (h : TxnHeader) (os : List Operation) (s : State)
+apart_parts : (x : SessionTimeouts) (h : TxnHeader) (os : List Operation) (s : State)
     → of_parts h os (with_sessions x s) ≡ meant_with x (of_parts h os s)
 apart_parts x h [] s = refl
 apart_parts x h (o ∷ os) s =
@@ -68,41 +68,44 @@ apart_parts x h (o ∷ os) s =
     ∙ apart_before x (effect_of h o s.nodes) (of_parts h os (of_operation h o s).state)
     ∙ ap (meant_with x) (sym (before_is h o os s))
 
-apart_multi : (x : Sessions) (h : TxnHeader) (os : List Operation) (s : State) (b : Bool)
+apart_multi : (x : SessionTimeouts) (h : TxnHeader) (os : List Operation) (s : State) (b : Bool)
     → (if b then of_failed os (with_sessions x s) else of_parts h os (with_sessions x s))
     ≡ meant_with x (if b then of_failed os s else of_parts h os s)
 apart_multi x h os s true = refl
 apart_multi x h os s false = apart_parts x h os s
 
 -- but for the sessions, a transaction means the same whatever the sessions are
-pub apart_mean : (x : Sessions) (t : Txn) (s : State)
-    → meant_with x (mean (with_sessions x s) t) ≡ meant_with x (mean s t)
+pub apart_mean : (x : SessionTimeouts) (t : Txn) (s : State)
+    → meant_with x (effect_of_txn (with_sessions x s) t) ≡ meant_with x (effect_of_txn s t)
 apart_mean x t s = by t.header t.body
   where
-    by : (h : TxnHeader) (b : Body) → meant_with x (mean_of h b (with_sessions x s)) ≡ meant_with x (mean_of h b s)
+    by : (h : TxnHeader) (b : Body)
+        → meant_with x (effect_of_body h b (with_sessions x s)) ≡ meant_with x (effect_of_body h b s)
     by h (body.Single o) = ap (meant_with x) (apart_effect x (effect_of h o s.nodes) s)
     by h (body.SetAcl b) = ap (meant_with x) (apart_effect x (set_acl_at b (finmap.get s.nodes b.path)) s)
     by h (body.Multi parts) = ap (meant_with x) (apart_multi x h parts s (has_error parts))
     by h (body.CreateSession timeout) = refl
     by h body.CloseSession =
-        ap (λ (m : Meant). meant_with x
-        (let n : Meant = record { state = m.state; err = pos 0; parts = []; triggers = m.triggers } in n))
-        (apart_parts (finmap.remove x h.client_id) h (deletes (in_order (paths_of h.client_id s.pairs)))
+        ap (λ (m : TxnEffect). meant_with x
+        (let n : TxnEffect = record { state = m.state; err = pos 0; parts = []; triggers = m.triggers } in n))
+        (apart_parts (finmap.remove x h.client_id) h
+        (delete_operations (sorted_names (paths_of_session h.client_id s.pairs)))
         (state_without_session h.client_id s))
 
 -- what a refused transaction leaves, it leaves so whatever the sessions are
-pub apart_left : (x : Sessions) (h : TxnHeader) (b : Body) (old new : State) → IsLeftBy h b old new
-    → IsLeftBy h b (with_sessions x old) (with_sessions x new)
+pub apart_left : (x : SessionTimeouts) (h : TxnHeader) (b : Body) (old new : State) → IsLeftByRefused h b old new
+    → IsLeftByRefused h b (with_sessions x old) (with_sessions x new)
 apart_left x h (body.Single o) old new is = ap (with_sessions x) is
 apart_left x h (body.SetAcl b) old new is = ap (with_sessions x) is
 apart_left x h (body.CreateSession timeout) old new is = ap (with_sessions x) is
 apart_left x h body.CloseSession old new is = tt
 apart_left x h (body.Multi parts) old new is = by (has_error parts) is
   where
-    by : (b : Bool) → IsPartly b h parts old new → IsPartly b h parts (with_sessions x old) (with_sessions x new)
+    by : (b : Bool) → IsPartlyDone b h parts old new
+        → IsPartlyDone b h parts (with_sessions x old) (with_sessions x new)
     by true is = ap (with_sessions x) is
     by false front = (
       front.0,
       ap (with_sessions x) front.1
-          ∙ ap (λ (m : Meant). m.state) (sym (apart_parts x h (take front.0 parts) old)),
+          ∙ ap (λ (m : TxnEffect). m.state) (sym (apart_parts x h (take front.0 parts) old)),
     )

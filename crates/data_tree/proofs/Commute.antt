@@ -4,13 +4,13 @@ use mathlib.Core.Bool.{true≢false}
 use Rattle.std.specs.Ordering.{int_eq, eq_by_cmp}
 use Rattle.std.specs.FinMap as finmap
 use Rattle.std.specs.FinSet as set
-use Rattle.ephemerals.specs.Orders.{Bytes, path_cmp, in_order}
-use Rattle.ephemerals.specs.Pairs.{paths_of}
+use Rattle.ephemerals.specs.Orders.{Bytes, path_cmp, sorted_names}
+use Rattle.ephemerals.specs.Pairs.{paths_of_session}
 use Rattle.txn_codec.specs.Paths.{parent_of, name_of}
 use Rattle.data_tree.specs.State.{State, Nodes}
-use Rattle.data_tree.specs.Meaning.{Effect, effect_of, create_under, create_taken, create_new, delete_at, set_data_at, set_acl_at, owner_of, Meant, answer_of, of_effect, of_operation, of_set_acl, of_parts, of_failed, has_error, first_error, mean, mean_of, after_changes, of_create_session, of_close_session, deletes, state_without_session}
+use Rattle.data_tree.specs.Meaning.{Effect, effect_of, create_under, create_taken, create_new, delete_at, set_data_at, set_acl_at, owner_of, TxnEffect, answer_of, of_effect, of_operation, of_set_acl, of_parts, of_failed, has_error, first_error, effect_of_txn, effect_of_body, after_changes, of_create_session, of_close_session, delete_operations, state_without_session}
 use Rattle.data_tree.specs.Meaning.Change.{Put, Own, Disown}
-use Rattle.data_tree.specs.Footprint.{touches, IsSameCell, AreSameAt, AreApart, footprint_of, footprint_of_parts, footprint, KeepsToCells}
+use Rattle.data_tree.specs.Footprint.{has_path, IsSameCell, AreSameAt, AreApart, footprint_of_operation, footprint_of_parts, footprint, KeepsToCells}
 use Rattle.data_tree.specs.Commuting.{IsConfined, IsConfinedTo, TransactionsKeepToTheirFootprints, TransactionsSetTheirTimeouts, DisjointTransactionsCommute, with_timeout_of, with_timeouts}
 use Rattle.data_tree.specs.declared.node.Node.{Node}
 use Rattle.data_tree.specs.declared.outcome.Outcome.{Outcome}
@@ -28,28 +28,28 @@ use Rattle.data_tree.proofs.SameCells.{AreWithin, same_state, same_cell_sym, sam
 
 -- ---- one operation
 
-within_gained : (ps : List Bytes) (owner : ℤ) (path : Bytes) (b : Bool) → touches ps path ≡ true
+within_gained : (ps : List Bytes) (owner : ℤ) (path : Bytes) (b : Bool) → has_path ps path ≡ true
     → AreWithin ps (if b then [] else Own owner path ∷ [])
 within_gained ps owner path true h = tt
 within_gained ps owner path false h = (h, tt)
 
-within_lost : (ps : List Bytes) (owner : ℤ) (path : Bytes) (b : Bool) → touches ps path ≡ true
+within_lost : (ps : List Bytes) (owner : ℤ) (path : Bytes) (b : Bool) → has_path ps path ≡ true
     → AreWithin ps (if b then [] else Disown owner path ∷ [])
 within_lost ps owner path true h = tt
 within_lost ps owner path false h = (h, tt)
 
-within_taken : (ps : List Bytes) (path : Bytes) (node : Node) (b : Bool) → touches ps path ≡ true
+within_taken : (ps : List Bytes) (path : Bytes) (node : Node) (b : Bool) → has_path ps path ≡ true
     → AreWithin ps (if b then Put path node ∷ [] else [])
 within_taken ps path node true h = (h, tt)
 within_taken ps path node false h = tt
 
 within_create : (h : TxnHeader) (c : Create) (parent : Option Node)
-    → AreWithin (footprint_of (op.Create c)) (create_under h c parent).changes
+    → AreWithin (footprint_of_operation (op.Create c)) (create_under h c parent).changes
 within_create h c None = tt
 within_create h c (Some parent) =
-    let ps = footprint_of (op.Create c) in
-    let here : touches ps c.path ≡ true = touches_first c.path (parent_of c.path ∷ []) in
-    let up : touches ps (parent_of c.path) ≡ true = touches_second (parent_of c.path) c.path [] in
+    let ps = footprint_of_operation (op.Create c) in
+    let here : has_path ps c.path ≡ true = touches_first c.path (parent_of c.path ∷ []) in
+    let up : has_path ps (parent_of c.path) ≡ true = touches_second (parent_of c.path) c.path [] in
     elim (set.contains parent.children (name_of c.path)) as
     (λ b. AreWithin ps (if b then create_taken h c parent else create_new h c parent).changes) [
       | true ↦ within_taken ps (parent_of c.path) _ _ up
@@ -57,27 +57,27 @@ within_create h c (Some parent) =
     ]
 
 within_delete : (h : TxnHeader) (p : Bytes) (node parent : Option Node)
-    → AreWithin (footprint_of (op.Delete p)) (delete_at h p node parent).changes
+    → AreWithin (footprint_of_operation (op.Delete p)) (delete_at h p node parent).changes
 within_delete h p None parent = tt
 within_delete h p (Some node) None = (touches_first p (parent_of p ∷ []), tt)
 within_delete h p (Some node) (Some parent) =
-    let here : touches (footprint_of (op.Delete p)) p ≡ true = touches_first p (parent_of p ∷ []) in (
+    let here : has_path (footprint_of_operation (op.Delete p)) p ≡ true = touches_first p (parent_of p ∷ []) in (
       here,
       (
         touches_second (parent_of p) p [],
-        within_lost (footprint_of (op.Delete p)) node.stat.ephemeral_owner p
+        within_lost (footprint_of_operation (op.Delete p)) node.stat.ephemeral_owner p
             (int_eq node.stat.ephemeral_owner (pos 0)) here,
       ),
     )
 
 within_set_data : (h : TxnHeader) (b : SetData) (node : Option Node)
-    → AreWithin (footprint_of (op.SetData b)) (set_data_at h b node).changes
+    → AreWithin (footprint_of_operation (op.SetData b)) (set_data_at h b node).changes
 within_set_data h b None = tt
 within_set_data h b (Some node) = (touches_first b.path [], tt)
 
 -- an operation changes cells of its footprint alone
 effect-within : (h : TxnHeader) (o : Operation) (nodes : Nodes)
-    → AreWithin (footprint_of o) (effect_of h o nodes).changes
+    → AreWithin (footprint_of_operation o) (effect_of h o nodes).changes
 effect-within h (op.Create c) nodes = within_create h c (finmap.get nodes (parent_of c.path))
 effect-within h (op.Delete p) nodes =
     within_delete h p (finmap.get nodes p) (finmap.get (finmap.remove nodes p) (parent_of p))
@@ -86,7 +86,7 @@ effect-within h (op.Check p) nodes = tt
 effect-within h (op.Error e) nodes = tt
 
 -- and reads these alone
-effect-local : (h : TxnHeader) (o : Operation) (s t : State) → AreSameAt (footprint_of o) s t
+effect-local : (h : TxnHeader) (o : Operation) (s t : State) → AreSameAt (footprint_of_operation o) s t
     → effect_of h o s.nodes ≡ effect_of h o t.nodes
 effect-local h (op.Create c) s t same =
     ap (create_under h c) (same (parent_of c.path) (touches_second (parent_of c.path) c.path [])).node
@@ -116,9 +116,10 @@ effect-confined ps effect within local = record {
       (local s t same);
 }
 
-pub operation-confined : (h : TxnHeader) (o : Operation) → IsConfinedTo (footprint_of o) (of_operation h o)
+pub operation-confined : (h : TxnHeader) (o : Operation) → IsConfinedTo (footprint_of_operation o) (of_operation h o)
 operation-confined h o =
-    effect-confined (footprint_of o) (λ s. effect_of h o s.nodes) (λ s. effect-within h o s.nodes) (effect-local h o)
+    effect-confined (footprint_of_operation o) (λ s. effect_of h o s.nodes) (λ s. effect-within h o s.nodes)
+    (effect-local h o)
 
 within_set_acl : (b : SetAcl) (node : Option Node) → AreWithin (b.path ∷ []) (set_acl_at b node).changes
 within_set_acl b None = tt
@@ -134,24 +135,24 @@ set_acl-confined b =
 
 same_at_after : (ps qs : List Bytes) (f : State → State) → IsConfined ps f → AreApart ps qs → (s : State)
     → AreSameAt qs (f s) s
-same_at_after ps qs f c apart s q at = by (touches ps q) refl
+same_at_after ps qs f c apart s q at = by (has_path ps q) refl
   where
-    by : (b : Bool) → touches ps q ≡ b → IsSameCell (f s) s q
+    by : (b : Bool) → has_path ps q ≡ b → IsSameCell (f s) s q
     by true e = absurd (true≢false (sym at ∙ apart q e))
     by false e = c.frame s q e
 
 turned : (ps qs : List Bytes) → AreApart ps qs → AreApart qs ps
-turned ps qs apart q at = by (touches ps q) refl
+turned ps qs apart q at = by (has_path ps q) refl
   where
-    by : (b : Bool) → touches ps q ≡ b → touches ps q ≡ false
+    by : (b : Bool) → has_path ps q ≡ b → has_path ps q ≡ false
     by true e = absurd (true≢false (sym at ∙ apart q e))
     by false e = e
 
 commute_cell : (ps qs : List Bytes) (f g : State → State) → IsConfined ps f → IsConfined qs g → AreApart ps qs
     → (s : State) (q : Bytes) → IsSameCell (g (f s)) (f (g s)) q
-commute_cell ps qs f g cf cg apart s q = by (touches ps q) (touches qs q) refl refl
+commute_cell ps qs f g cf cg apart s q = by (has_path ps q) (has_path qs q) refl refl
   where
-    by : (a b : Bool) → touches ps q ≡ a → touches qs q ≡ b → IsSameCell (g (f s)) (f (g s)) q
+    by : (a b : Bool) → has_path ps q ≡ a → has_path qs q ≡ b → IsSameCell (g (f s)) (f (g s)) q
     by true true e d = absurd (true≢false (sym d ∙ apart q e))
     by true false e d =
         same_cell_trans (cg.frame (f s) q d)
@@ -173,11 +174,11 @@ or_false_second : (a b : Bool) → (a || b) ≡ false → b ≡ false
 or_false_second true b h = absurd (true≢false h)
 or_false_second false b h = h
 
-touches-append : (ps qs : List Bytes) (q : Bytes) → touches (ps ++ qs) q ≡ (touches ps q || touches qs q)
+touches-append : (ps qs : List Bytes) (q : Bytes) → has_path (ps ++ qs) q ≡ (has_path ps q || has_path qs q)
 touches-append [] qs q = refl
 touches-append (p ∷ ps) qs q =
     ap (λ b. eq_by_cmp path_cmp q p || b) (touches-append ps qs q)
-    ∙ or_assoc (eq_by_cmp path_cmp q p) (touches ps q) (touches qs q)
+    ∙ or_assoc (eq_by_cmp path_cmp q p) (has_path ps q) (has_path qs q)
   where
     or_assoc : (a b c : Bool) → (a || (b || c)) ≡ ((a || b) || c)
     or_assoc true b c = refl
@@ -192,11 +193,11 @@ or_at_second true b h = refl
 or_at_second false b h = h
 
 -- a step confined to ps is confined to more
-pub wider : (ps qs : List Bytes) (f : State → State) → ((q : Bytes) → touches ps q ≡ true → touches qs q ≡ true)
+pub wider : (ps qs : List Bytes) (f : State → State) → ((q : Bytes) → has_path ps q ≡ true → has_path qs q ≡ true)
     → IsConfined ps f → (s t : State) → AreSameAt qs s t → AreSameAt qs (f s) (f t)
-wider ps qs f sub c s t same q at = by (touches ps q) refl
+wider ps qs f sub c s t same q at = by (has_path ps q) refl
   where
-    by : (b : Bool) → touches ps q ≡ b → IsSameCell (f s) (f t) q
+    by : (b : Bool) → has_path ps q ≡ b → IsSameCell (f s) (f t) q
     by true e = c.local s t (λ p h. same p (sub p h)) q e
     by false e = same_cell_trans (c.frame s q e) (same_cell_trans (same q at) (same_cell_sym (c.frame t q e)))
 
@@ -219,26 +220,26 @@ parts-confined h [] = record {
   answer = λ s t same. refl;
 }
 parts-confined h (o ∷ os) =
-    let ps = footprint_of o in
+    let ps = footprint_of_operation o in
     let qs = footprint_of_parts os in
     let first = operation-confined h o in
     let rest = parts-confined h os in
-    let in_first : (q : Bytes) → touches ps q ≡ true → touches (ps ++ qs) q ≡ true =
+    let in_first : (q : Bytes) → has_path ps q ≡ true → has_path (ps ++ qs) q ≡ true =
     λ q at. touches-append ps qs q
-    ∙ or_at_first (touches ps q) (touches qs q) at in
-    let in_rest : (q : Bytes) → touches qs q ≡ true → touches (ps ++ qs) q ≡ true =
+    ∙ or_at_first (has_path ps q) (has_path qs q) at in
+    let in_rest : (q : Bytes) → has_path qs q ≡ true → has_path (ps ++ qs) q ≡ true =
     λ q at. touches-append ps qs q
-    ∙ or_at_second (touches ps q) (touches qs q) at in
+    ∙ or_at_second (has_path ps q) (has_path qs q) at in
     let after_first : (s t : State) → AreSameAt (ps ++ qs) s t
     → AreSameAt (ps ++ qs) (of_operation h o s).state (of_operation h o t).state =
     wider ps (ps ++ qs) (λ s. (of_operation h o s).state) in_first first.state in
     record {
       state = record {
         frame = λ s q out.
-            let none : (touches ps q || touches qs q) ≡ false = sym (touches-append ps qs q) ∙ out in
+            let none : (has_path ps q || has_path qs q) ≡ false = sym (touches-append ps qs q) ∙ out in
             same_cell_trans
-            (rest.state.frame (of_operation h o s).state q (or_false_second (touches ps q) (touches qs q) none))
-            (first.state.frame s q (or_false_first (touches ps q) (touches qs q) none));
+            (rest.state.frame (of_operation h o s).state q (or_false_second (has_path ps q) (has_path qs q) none))
+            (first.state.frame s q (or_false_first (has_path ps q) (has_path qs q) none));
         local = λ s t same. wider qs (ps ++ qs) (λ u. (of_parts h os u).state) in_rest rest.state _ _
             (after_first s t same);
       };
@@ -249,7 +250,7 @@ parts-confined h (o ∷ os) =
           ∙ sym (joined_is h o os t);
     }
 
-nothing-confined : (meant : State → Meant) → ((s : State) (q : Bytes) → IsSameCell (meant s).state s q)
+nothing-confined : (meant : State → TxnEffect) → ((s : State) (q : Bytes) → IsSameCell (meant s).state s q)
     → ((s t : State) → answer_of (meant s) ≡ answer_of (meant t)) → IsConfinedTo [] meant
 nothing-confined meant stays same = record {
   state = record {
@@ -268,7 +269,7 @@ pub transactions_keep_to_their_footprints : TransactionsKeepToTheirFootprints
 transactions_keep_to_their_footprints t = by t.header t.body
   where
     by : (h : TxnHeader) (b : Body) → (let t : Txn = record { header = h; body = b } in KeepsToCells t)
-        → (let t : Txn = record { header = h; body = b } in IsConfinedTo (footprint t) (λ s. mean s t))
+        → (let t : Txn = record { header = h; body = b } in IsConfinedTo (footprint t) (λ s. effect_of_txn s t))
     by h (body.Single operation) k = operation-confined h operation
     by h (body.SetAcl b) k = set_acl-confined b
     by h (body.Multi parts) k = multi-confined h parts (has_error parts)
@@ -294,14 +295,15 @@ multi-sessions h os s false = parts-sessions h os s
 pub close-sessions : (h : TxnHeader) (s : State)
     → (of_close_session h s).state.sessions ≡ finmap.remove s.sessions h.client_id
 close-sessions h s =
-    parts-sessions h (deletes (in_order (paths_of h.client_id s.pairs))) (state_without_session h.client_id s)
+    parts-sessions h (delete_operations (sorted_names (paths_of_session h.client_id s.pairs)))
+    (state_without_session h.client_id s)
 
 pub mean-sessions : (t : Txn) (s : State) → KeepsToCells t
-    → (mean s t).state.sessions ≡ with_timeout_of t.header t.body s.sessions
+    → (effect_of_txn s t).state.sessions ≡ with_timeout_of t.header t.body s.sessions
 mean-sessions t s = by t.header t.body
   where
     by : (h : TxnHeader) (b : Body) → (let t : Txn = record { header = h; body = b } in KeepsToCells t)
-        → (mean_of h b s).state.sessions ≡ with_timeout_of h b s.sessions
+        → (effect_of_body h b s).state.sessions ≡ with_timeout_of h b s.sessions
     by h (body.Single operation) k = after_changes-sessions s (effect_of h operation s.nodes).changes
     by h (body.SetAcl b) k = after_changes-sessions s (set_acl_at b (finmap.get s.nodes b.path)).changes
     by h (body.Multi parts) k = multi-sessions h parts s (has_error parts)
@@ -311,7 +313,7 @@ mean-sessions t s = by t.header t.body
 pub transactions_set_their_timeouts : TransactionsSetTheirTimeouts
 transactions_set_their_timeouts [] s keep = refl
 transactions_set_their_timeouts (t ∷ ts) s keep =
-    transactions_set_their_timeouts ts (mean s t).state keep.1
+    transactions_set_their_timeouts ts (effect_of_txn s t).state keep.1
     ∙ ap (λ x. with_timeouts x ts) (mean-sessions t s keep.0)
 
 -- ---- two transactions
@@ -320,19 +322,22 @@ pub disjoint_transactions_commute : DisjointTransactionsCommute
 disjoint_transactions_commute a b s ka kb apart =
     let ca = transactions_keep_to_their_footprints a ka in
     let cb = transactions_keep_to_their_footprints b kb in
-    let same = commute_cell (footprint a) (footprint b) (λ u. (mean u a).state) (λ u. (mean u b).state)
+    let same = commute_cell (footprint a) (footprint b) (λ u. (effect_of_txn u a).state)
+    (λ u. (effect_of_txn u b).state)
     ca.state cb.state
     apart s in
     record {
       cells = same;
-      first = ca.answer (mean s b).state s
-          (same_at_after (footprint b) (footprint a) (λ u. (mean u b).state) cb.state
+      first = ca.answer (effect_of_txn s b).state s
+          (same_at_after (footprint b) (footprint a) (λ u. (effect_of_txn u b).state) cb.state
           (turned (footprint a) (footprint b) apart) s);
-      second = cb.answer (mean s a).state s
-          (same_at_after (footprint a) (footprint b) (λ u. (mean u a).state) ca.state apart s);
-      state = λ orderless. same_state (mean (mean s a).state b).state (mean (mean s b).state a).state
-          (mean-sessions b (mean s a).state kb ∙ ap (with_timeout_of b.header b.body) (mean-sessions a s ka)
+      second = cb.answer (effect_of_txn s a).state s
+          (same_at_after (footprint a) (footprint b) (λ u. (effect_of_txn u a).state) ca.state apart s);
+      state = λ orderless. same_state (effect_of_txn (effect_of_txn s a).state b).state
+          (effect_of_txn (effect_of_txn s b).state a).state
+          (mean-sessions b (effect_of_txn s a).state kb ∙ ap (with_timeout_of b.header b.body) (mean-sessions a s ka)
           ∙ orderless
-          ∙ sym (mean-sessions a (mean s b).state ka ∙ ap (with_timeout_of a.header a.body) (mean-sessions b s kb)))
+          ∙ sym (mean-sessions a (effect_of_txn s b).state ka
+          ∙ ap (with_timeout_of a.header a.body) (mean-sessions b s kb)))
           same;
     }

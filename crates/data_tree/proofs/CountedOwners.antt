@@ -9,7 +9,7 @@ use Rattle.std.specs.String.{string_cmp}
 use Rattle.std.specs.declared.string.String.{String}
 use Rattle.std.specs.FinMap as finmap
 use Rattle.std.specs.FinSet as set
-use Rattle.ephemerals.specs.Orders.{Bytes, Pairs, pair_cmp}
+use Rattle.ephemerals.specs.Orders.{Bytes, OwnerPairs, pair_cmp}
 use Rattle.data_tree.specs.Nodes.{Nodes}
 use Rattle.data_tree.specs.Inner.NodesView.{nodes_of}
 use Rattle.data_tree.specs.Whole.{is_owner, AreOwned}
@@ -21,7 +21,7 @@ use Rattle.data_tree.proofs.Counting.{AreDistinct, AreIn, as_many, all_counted}
 use Rattle.ephemerals.proofs.Ties.{same_session}
 use Rattle.data_tree.proofs.OwnersOfNodes.{with_owner, owners, owners-any, owners-distinct, owners-push, found-at}
 
-both_in : (s : Pairs) (xs ys : List (ℤ × Bytes)) → AreIn {R = pair_cmp} s xs → AreIn {R = pair_cmp} s ys
+both_in : (s : OwnerPairs) (xs ys : List (ℤ × Bytes)) → AreIn {R = pair_cmp} s xs → AreIn {R = pair_cmp} s ys
     → AreIn {R = pair_cmp} s (xs ++ ys)
 both_in s [] ys a b = b
 both_in s (x ∷ xs) ys a b = (a.0, both_in s xs ys a.1 b)
@@ -32,7 +32,7 @@ length-push (y ∷ xs) x = let rest : length (xs ++ x ∷ []) ≡ length xs + 1 
 
 module _ {Z : Type 0} where
   -- the nodes that were gone over, each with its pair, and how many of them are owned
-  pub record AreCounted (nodes : Nodes) (pairs : Pairs) (rest : List (String Z × Node)) (owned : ℕ) : Type 0 where
+  pub record AreCounted (nodes : Nodes) (pairs : OwnerPairs) (rest : List (String Z × Node)) (owned : ℕ) : Type 0 where
     pub before : List (String Z × Node)
     pub all : nodes ≡ nodes_of (before ++ rest)
     pub sorted : IsStrictlySortedBy string_cmp (keys_of (before ++ rest))
@@ -43,7 +43,7 @@ module _ {Z : Type 0} where
 
   pub counted-first : (es : List (String Z × Node)) → IsStrictlySortedBy string_cmp (keys_of es) → length es < 2 ^ 63
       → (rest : List (String Z × Node)) → rest ≡ es
-      → (nodes : Nodes) → nodes_of es ≡ nodes → (pairs : Pairs) → AreCounted nodes pairs rest 0
+      → (nodes : Nodes) → nodes_of es ≡ nodes → (pairs : OwnerPairs) → AreCounted nodes pairs rest 0
   counted-first es sorted fits rest is nodes view pairs = record {
     before = [];
     all = sym view ∙ ap nodes_of (sym is);
@@ -59,7 +59,7 @@ module _ {Z : Type 0} where
   moved [] e rest = refl
   moved (x ∷ before) e rest = ap (λ xs. x ∷ xs) (moved before e rest)
 
-  module _ (nodes : Nodes) (pairs : Pairs) (e : String Z × Node) (rest : List (String Z × Node)) (n : ℕ)
+  module _ (nodes : Nodes) (pairs : OwnerPairs) (e : String Z × Node) (rest : List (String Z × Node)) (n : ℕ)
       (c : AreCounted nodes pairs (e ∷ rest) n) where
     -- one more entry, of which the pair, if any, is listed
     further : (ps : List (ℤ × Bytes)) → with_owner e [] ≡ ps → AreIn {R = pair_cmp} pairs ps → length ps ≤ 1
@@ -126,7 +126,7 @@ module _ {Z : Type 0} where
             same_session e.1.stat.ephemeral_owner e.1.stat.ephemeral_owner
             ∙ ap is_eq (tied_itself int_cmp_total e.1.stat.ephemeral_owner)
 
-  pub all_owned : (nodes : Nodes) (pairs : Pairs) (n : ℕ) → AreCounted nodes pairs [] n
+  pub all_owned : (nodes : Nodes) (pairs : OwnerPairs) (n : ℕ) → AreCounted nodes pairs [] n
       → (n ≡ set.len pairs) ↔ AreOwned nodes pairs
   all_owned nodes pairs n c = (
     (λ same session path.

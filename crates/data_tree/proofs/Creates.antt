@@ -13,7 +13,7 @@ use Rattle.data_tree.specs.Meaning.{after_changes, create_new, create_taken, cre
 use Rattle.data_tree.specs.Meaning.Change.{Put}
 use Rattle.data_tree.specs.Making.{update_node, update_found}
 use Rattle.data_tree.specs.Inner.Children.{with_added_child, with_raised_stat, stat_after_create, added_child, without_added_child}
-use Rattle.data_tree.specs.Inner.Doing.{IsDone}
+use Rattle.data_tree.specs.Inner.Doing.{IsEffectDone}
 use Rattle.data_tree.specs.declared.node.Node.{Node}
 use Rattle.data_tree.specs.declared.outcome.Trigger.{Trigger}
 use Rattle.jute.specs.declared.stat.StatPersisted.{StatPersisted}
@@ -57,14 +57,14 @@ with_raised_stat-is s h c path parent is =
 pub taken-done : (s : State) (h : TxnHeader) (c : Create) (n : Nodes) (before after : List Trigger)
     → Taken ≡ added_child (finmap.get s.nodes (parent_of c.path)) (name_of c.path)
     → n ≡ update_node s.nodes (parent_of c.path) (with_added_child h c (name_of c.path)) → after ≡ before
-    → IsDone (of_operation h (op.Create c) s) NODE_EXISTS
+    → IsEffectDone (of_operation h (op.Create c) s) NODE_EXISTS
     (let t : State = record { nodes = n; pairs = s.pairs; sessions = s.sessions } in t) before after
 taken-done s h c n before after taken is same = by (finmap.get s.nodes (parent_of c.path)) refl taken is
   where
     with_name : (parent : Node) (b : Bool) → finmap.get s.nodes (parent_of c.path) ≡ Some parent
         → set.contains parent.children (name_of c.path) ≡ b → Taken ≡ (if b then Taken else Added parent.stat)
         → n ≡ finmap.insert s.nodes (parent_of c.path) (with_added_child h c (name_of c.path) parent)
-        → IsDone (of_effect (if b then create_taken h c parent else create_new h c parent) s) NODE_EXISTS
+        → IsEffectDone (of_effect (if b then create_taken h c parent else create_new h c parent) s) NODE_EXISTS
         (let t : State = record { nodes = n; pairs = s.pairs; sessions = s.sessions } in t) before after
     with_name parent true found e t is = record {
       state =
@@ -83,7 +83,7 @@ taken-done s h c n before after taken is same = by (finmap.get s.nodes (parent_o
 
     by : (o : Option Node) → finmap.get s.nodes (parent_of c.path) ≡ o → Taken ≡ added_child o (name_of c.path)
         → n ≡ update_found s.nodes (parent_of c.path) (with_added_child h c (name_of c.path)) o
-        → IsDone (of_effect (create_under h c o) s) NODE_EXISTS
+        → IsEffectDone (of_effect (create_under h c o) s) NODE_EXISTS
         (let t : State = record { nodes = n; pairs = s.pairs; sessions = s.sessions } in t) before after
     by None e t is = record { state = cc; err = cc; fired = cc }
     by (Some parent) e t is = with_name parent (set.contains parent.children (name_of c.path)) e refl t is

@@ -5,7 +5,7 @@ use Rattle.std.specs.Ordering.{eq_by_cmp}
 use Rattle.std.proofs.lemmas.Map.Lookups.{exact_bytes}
 use Rattle.std.proofs.lemmas.Map.Views.{tells_apart}
 use Rattle.std.specs.FinMap as finmap
-use Rattle.ephemerals.specs.Orders.{Bytes, Pairs, path_cmp}
+use Rattle.ephemerals.specs.Orders.{Bytes, OwnerPairs, path_cmp}
 use Rattle.ephemerals.specs.Pairs.{without_pair}
 use Rattle.txn_codec.specs.Paths.{parent_of, name_of}
 use Rattle.jute.specs.declared.codes.TheConstants.{NO_NODE}
@@ -15,7 +15,7 @@ use Rattle.data_tree.specs.State.{State, Nodes}
 use Rattle.data_tree.specs.Meaning.{Effect, after_changes, delete_at, no_change, of_operation}
 use Rattle.data_tree.specs.Making.{update_node, update_found}
 use Rattle.data_tree.specs.Inner.Children.{without_child}
-use Rattle.data_tree.specs.Inner.Doing.{IsDone}
+use Rattle.data_tree.specs.Inner.Doing.{IsEffectDone}
 use Rattle.data_tree.specs.declared.node.Node.{Node}
 use Rattle.data_tree.specs.declared.outcome.Trigger.{Trigger}
 use Rattle.ephemerals.proofs.Totals.{path_total}
@@ -42,7 +42,7 @@ missing-effect s h path none =
 
 pub missing-done : (s : State) (h : TxnHeader) (path : Bytes) (n : Nodes) (before after : List Trigger)
     → None ≡ finmap.get s.nodes path → n ≡ finmap.remove s.nodes path → after ≡ before
-    → IsDone (of_operation h (op.Delete path) s) NO_NODE
+    → IsEffectDone (of_operation h (op.Delete path) s) NO_NODE
     (let t : State = record { nodes = n; pairs = s.pairs; sessions = s.sessions } in t) before after
 missing-done s h path n before after none is same = record {
   state = (λ i.
@@ -65,7 +65,7 @@ orphan-effect s h path node found none =
     (sym (no_parent (finmap.get (finmap.remove s.nodes path) (parent_of path)) none) i))
 
 -- a node with a parent
-pub deleted-is : (s : State) (h : TxnHeader) (path : Bytes) (node : Node) (n : Nodes) (p : Pairs)
+pub deleted-is : (s : State) (h : TxnHeader) (path : Bytes) (node : Node) (n : Nodes) (p : OwnerPairs)
     → Some node ≡ finmap.get s.nodes path
     → true ≡ is_some (finmap.get (finmap.remove s.nodes path) (parent_of path))
     → n ≡ update_node (finmap.remove s.nodes path) (parent_of path) (without_child (name_of path) h.zxid)

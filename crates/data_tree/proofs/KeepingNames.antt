@@ -5,8 +5,8 @@ use Rattle.std.specs.Ordering.{int_eq}
 use Rattle.std.specs.List.{AllByRecursion}
 use Rattle.std.specs.FinMap as finmap
 use Rattle.std.specs.FinSet as set
-use Rattle.ephemerals.specs.Orders.{Bytes, path_cmp, in_order}
-use Rattle.ephemerals.specs.Pairs.{paths_of}
+use Rattle.ephemerals.specs.Orders.{Bytes, path_cmp, sorted_names}
+use Rattle.ephemerals.specs.Pairs.{paths_of_session}
 use Rattle.txn_codec.specs.Paths.{is_path, is_child_path, is_root, parent_of, name_of}
 use Rattle.txn_codec.specs.Parents.{HasParent, HaveParents}
 use Rattle.txn_codec.specs.declared.txn.TxnHeader.{TxnHeader}
@@ -18,7 +18,7 @@ use Rattle.txn_codec.specs.declared.txn.Operation.TheVariants as op
 use Rattle.txn_codec.specs.declared.txn.Body.{Body}
 use Rattle.txn_codec.specs.declared.txn.Body.TheVariants as body
 use Rattle.data_tree.specs.State.{State, Nodes}
-use Rattle.data_tree.specs.Meaning.{Change, after_change, after_changes, effect_of, create_under, create_taken, create_new, next_cversion, with_children, owner_of, gained_pair, delete_at, lost_pair, set_data_at, set_acl_at, of_parts, of_multi, of_failed, has_error, deletes, state_without_session, mean_of, first_node, fresh}
+use Rattle.data_tree.specs.Meaning.{Change, after_change, after_changes, effect_of, create_under, create_taken, create_new, next_cversion, with_children, owner_of, gained_pair, delete_at, lost_pair, set_data_at, set_acl_at, of_parts, of_multi, of_failed, has_error, delete_operations, state_without_session, effect_of_body, preset_node, fresh_state}
 use Rattle.data_tree.specs.Meaning.Change.{Put, Remove, Own, Disown}
 use Rattle.data_tree.specs.Making.{with_name, update_found, update_node, with_node, with_node_in_place}
 use Rattle.data_tree.specs.Whole.{has_node, AreChildNames}
@@ -158,7 +158,7 @@ parts_keep h (o ∷ os) makes s each =
     parts_keep h os makes.1 (after_changes s (effect_of h o s.nodes).changes)
     (after_all s (effect_of h o s.nodes).changes (effect_fine h o s.nodes makes.0 each) each)
 
-delete_makes : (paths : List Bytes) → AllByRecursion Makes (deletes paths)
+delete_makes : (paths : List Bytes) → AllByRecursion Makes (delete_operations paths)
 delete_makes [] = tt
 delete_makes (p ∷ ps) = (tt, delete_makes ps)
 
@@ -182,7 +182,7 @@ multi_keeps h os makes s each = by (has_error os)
     by false = parts_keep h os makes s each
 
 pub body_keeps : (h : TxnHeader) (b : Body) (s : State) → HaveParents b → EachIsNamed s.nodes
-    → EachIsNamed (mean_of h b s).state.nodes
+    → EachIsNamed (effect_of_body h b s).state.nodes
 body_keeps h (body.Single o) s has each =
     after_all s (effect_of h o s.nodes).changes (effect_fine h o s.nodes (makes_of o has) each) each
 body_keeps h (body.SetAcl b) s has each =
@@ -191,8 +191,8 @@ body_keeps h (body.SetAcl b) s has each =
 body_keeps h (body.Multi os) s has each = multi_keeps h os (each_makes os (each_of_all HasParent os has)) s each
 body_keeps h (body.CreateSession timeout) s has each = each
 body_keeps h body.CloseSession s has each =
-    parts_keep h (deletes (in_order (paths_of h.client_id s.pairs)))
-    (delete_makes (in_order (paths_of h.client_id s.pairs))) (state_without_session h.client_id s) each
+    parts_keep h (delete_operations (sorted_names (paths_of_session h.client_id s.pairs)))
+    (delete_makes (sorted_names (paths_of_session h.client_id s.pairs))) (state_without_session h.client_id s) each
 
 -- ---- nodes that are put
 
@@ -247,11 +247,11 @@ nowhere_named path node is =
     let nothing : finmap.get (finmap.empty {X = Node} {R = path_cmp}) path ≡ None = finmap.get-empty path_cmp path in
     cc
 
-pub fresh_named : EachIsNamed fresh.nodes
+pub fresh_named : EachIsNamed fresh_state.nodes
 fresh_named =
-    each_with _ (codes "/zookeeper/quota") (first_node set.empty)
-    (each_with _ (codes "/zookeeper") (first_node (set.insert set.empty (codes "quota")))
-    (each_with finmap.empty (codes "/") (first_node (set.insert set.empty (codes "zookeeper"))) nowhere_named
+    each_with _ (codes "/zookeeper/quota") (preset_node set.empty)
+    (each_with _ (codes "/zookeeper") (preset_node (set.insert set.empty (codes "quota")))
+    (each_with finmap.empty (codes "/") (preset_node (set.insert set.empty (codes "zookeeper"))) nowhere_named
     (record { right = refl; names = names_with set.empty (codes "zookeeper") no_names refl }))
     (record { right = refl; names = names_with set.empty (codes "quota") no_names refl }))
     (record { right = refl; names = no_names })

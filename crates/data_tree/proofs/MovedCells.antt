@@ -14,14 +14,14 @@ use Rattle.std.specs.declared.string.String.{String}
 use Rattle.std.proofs.lemmas.Map.Keys.{sorted_head, sorted_tail}
 use Rattle.std.proofs.lemmas.Map.Lookups.{exact_bytes}
 use Rattle.std.proofs.lemmas.Map.Views.{tells_apart}
-use Rattle.ephemerals.specs.Orders.{Bytes, Names, path_cmp, in_order}
+use Rattle.ephemerals.specs.Orders.{Bytes, Names, path_cmp, sorted_names}
 use Rattle.ephemerals.proofs.Totals.{path_total, pair_total}
 use Rattle.ephemerals.proofs.Ascending.{any-in_order}
 use Rattle.ephemerals.proofs.Steps.{contains-pairs_at, contains-without_paths}
 use Rattle.data_tree.specs.State.{Nodes}
 use Rattle.data_tree.specs.Whole.{has_node}
 use Rattle.data_tree.specs.Making.{update_found}
-use Rattle.data_tree.specs.Inner.Moving.{HasRoom, filled, without_nodes, moved}
+use Rattle.data_tree.specs.Inner.Moving.{IsRoomFor, with_replaced_node, without_nodes, with_moved_nodes}
 use Rattle.data_tree.specs.Footprint.{IsSameCell}
 use Rattle.data_tree.specs.Cells.{cells_at, without_cells, with_entries, with_cells, TakenCellsMove, CellsComeToEmptyCells, TakenAndPutBackIsTheState}
 use Rattle.data_tree.specs.declared.node.Node.{Node}
@@ -142,9 +142,9 @@ removed_all nodes (p ∷ ps) q =
     by false b = refl
 
 pub none_left : (nodes : Nodes) (paths : Names)
-    → without_nodes (in_order paths) nodes ≡ finmap.retain_keys nodes (λ (p : Bytes). not (set.contains paths p))
+    → without_nodes (sorted_names paths) nodes ≡ finmap.retain_keys nodes (λ (p : Bytes). not (set.contains paths p))
 none_left nodes paths = finmap.same_map path_total exact_bytes _ _ (λ q.
-    removed_all nodes (in_order paths) q
+    removed_all nodes (sorted_names paths) q
     ∙ ap (λ b. cond b None (finmap.get nodes q)) (any-in_order paths q)
     ∙ by (set.contains paths q) (finmap.get nodes q)
     ∙ sym (get-kept nodes (λ (p : Bytes). not (set.contains paths p)) q))
@@ -159,7 +159,8 @@ put_over None stood = stood
 put_over (Some node) None = None
 put_over (Some node) (Some stood) = Some node
 
-get-filled : (p : Bytes) (found : Option Node) (room : Nodes) (q : Bytes) → finmap.get (filled p found room) q
+get-filled : (p : Bytes) (found : Option Node) (room : Nodes) (q : Bytes)
+    → finmap.get (with_replaced_node p found room) q
     ≡ cond (eq_by_cmp path_cmp q p) (put_over found (finmap.get room q)) (finmap.get room q)
 get-filled p None room q = sym (same (eq_by_cmp path_cmp q p))
   where
@@ -183,11 +184,11 @@ get-filled p (Some node) room q =
     by (Some n) e false t =
         finmap.get-insert path_total room p node q ∙ ap (λ b. cond b (Some node) (finmap.get room q)) t
 
-get-moved : (ps : List Bytes) (nodes room : Nodes) (q : Bytes) → finmap.get (moved ps nodes room) q
+get-moved : (ps : List Bytes) (nodes room : Nodes) (q : Bytes) → finmap.get (with_moved_nodes ps nodes room) q
     ≡ cond (list_any (eq_by_cmp path_cmp q) ps) (put_over (finmap.get nodes q) (finmap.get room q)) (finmap.get room q)
 get-moved [] nodes room q = refl
 get-moved (p ∷ ps) nodes room q =
-    get-moved ps (finmap.remove nodes p) (filled p (finmap.get nodes p) room) q
+    get-moved ps (finmap.remove nodes p) (with_replaced_node p (finmap.get nodes p) room) q
     ∙ (λ i. cond (list_any (eq_by_cmp path_cmp q) ps)
     (put_over (finmap.get-remove path_total nodes p q i) (get-filled p (finmap.get nodes p) room q i))
     (get-filled p (finmap.get nodes p) room q i))
@@ -206,10 +207,10 @@ get-moved (p ∷ ps) nodes room q =
     by false false same = refl
 
 -- where there is room for them, all nodes at the paths were moved
-pub all_moved : (paths : Names) (nodes room : Nodes) → HasRoom paths nodes room
-    → moved (in_order paths) nodes room ≡ finmap.retain_keys nodes (set.contains paths)
+pub all_moved : (paths : Names) (nodes room : Nodes) → IsRoomFor paths nodes room
+    → with_moved_nodes (sorted_names paths) nodes room ≡ finmap.retain_keys nodes (set.contains paths)
 all_moved paths nodes room has = finmap.same_map path_total exact_bytes _ _ (λ q.
-    get-moved (in_order paths) nodes room q
+    get-moved (sorted_names paths) nodes room q
     ∙ ap (λ b. cond b (put_over (finmap.get nodes q) (finmap.get room q)) (finmap.get room q)) (any-in_order paths q)
     ∙ by (set.contains paths q) (finmap.get nodes q) (finmap.get room q) (has q)
     ∙ sym (get-kept nodes (set.contains paths) q))
@@ -229,7 +230,7 @@ HasRoomFor paths nodes left room =
     ≡ (set.contains paths q && has_node nodes q)
 
 pub no_room_yet : (paths : Names) (nodes room : Nodes) (ps : List Bytes) → room ≡ finmap.empty
-    → ps ≡ in_order paths → HasRoomFor paths nodes ps room
+    → ps ≡ sorted_names paths → HasRoomFor paths nodes ps room
 no_room_yet paths nodes room ps empty is q =
     (λ i. is_some ((ap (λ m. finmap.get m q) empty ∙ finmap.get-empty path_cmp q) i)
     || (list_any (eq_by_cmp path_cmp q) (is i) && has_node nodes q))
@@ -262,7 +263,7 @@ no_room_needed paths nodes room p ps before none q =
     by true r b n h = ap (λ x. r || x) (ap (λ x. b && x) (h refl) ∙ and-false b ∙ sym (h refl))
     by false r b n h = refl
 
-pub room_for_all : (paths : Names) (nodes room : Nodes) → HasRoomFor paths nodes [] room → HasRoom paths nodes room
+pub room_for_all : (paths : Names) (nodes room : Nodes) → HasRoomFor paths nodes [] room → IsRoomFor paths nodes room
 room_for_all paths nodes room all q = sym (or-false (has_node room q)) ∙ all q
 
 -- ---- nodes that are put one by one

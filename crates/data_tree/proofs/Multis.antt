@@ -3,13 +3,13 @@ use Rattle.std.proofs.Common.{◌≡◌, ℤ, ℕ, ◌+◌, ◌<◌, ◌≤◌, 
 use Rattle.std.proofs.Math.Seq.{take-suc}
 use Rattle.std.specs.Option.{unwrap_or}
 use Rattle.std.specs.Ordering.{int_eq}
-use Rattle.ephemerals.specs.Orders.{Bytes, Names, in_order}
+use Rattle.ephemerals.specs.Orders.{Bytes, Names, sorted_names}
 use Rattle.txn_codec.specs.declared.txn.TxnHeader.{TxnHeader}
 use Rattle.txn_codec.specs.declared.txn.Operation.{Operation}
 use Rattle.txn_codec.specs.declared.txn.Operation.TheVariants as op
 use Rattle.data_tree.specs.State.{State}
 use Rattle.jute.specs.declared.codes.TheConstants.{RUNTIME_INCONSISTENCY}
-use Rattle.data_tree.specs.Meaning.{of_parts, of_operation, deletes, first_error, error_of, has_error, errors_of_failed, error_in_failed, answer_of}
+use Rattle.data_tree.specs.Meaning.{of_parts, of_operation, delete_operations, first_error, error_of, has_error, errors_of_failed, error_in_failed, answer_of}
 use Rattle.data_tree.specs.Refused.{IsAfterFront}
 use Rattle.data_tree.specs.declared.outcome.Trigger.{Trigger}
 use Rattle.data_tree.specs.declared.outcome.Outcome.{Outcome}
@@ -27,10 +27,10 @@ pub record IsMidway (header : TxnHeader) (parts : List Operation) (i : ℕ) (old
 -- the same of deletes, of which these are left
 pub record IsClosing (header : TxnHeader) (paths left : Names) (old now : State) (before triggers : List Trigger) : Type
     0 where
-  pub state : (of_parts header (deletes (in_order left)) now).state
-      ≡ (of_parts header (deletes (in_order paths)) old).state
-  pub triggers_are : triggers ++ (of_parts header (deletes (in_order left)) now).triggers
-      ≡ before ++ (of_parts header (deletes (in_order paths)) old).triggers
+  pub state : (of_parts header (delete_operations (sorted_names left)) now).state
+      ≡ (of_parts header (delete_operations (sorted_names paths)) old).state
+  pub triggers_are : triggers ++ (of_parts header (delete_operations (sorted_names left)) now).triggers
+      ≡ before ++ (of_parts header (delete_operations (sorted_names paths)) old).triggers
 
 of_parts-push : (h : TxnHeader) (xs : List Operation) (x : Operation) (s : State)
     → (of_parts h (xs ++ x ∷ []) s).state ≡ (of_operation h x (of_parts h xs s).state).state
@@ -113,19 +113,19 @@ midway_done h ps i old now errors triggers past m =
 
 pub closing_step : (h : TxnHeader) (paths left left' : Names) (path : Bytes) (old now new : State)
     (before triggers triggers' : List Trigger)
-    → in_order left ≡ path ∷ in_order left' → IsClosing h paths left old now before triggers
+    → sorted_names left ≡ path ∷ sorted_names left' → IsClosing h paths left old now before triggers
     → new ≡ (of_operation h (op.Delete path) now).state
     → triggers' ≡ triggers ++ (of_operation h (op.Delete path) now).triggers
     → IsClosing h paths left' old new before triggers'
 closing_step h paths left left' path old now new before triggers triggers' first m n ts = record {
-  state = ap (λ s. (of_parts h (deletes (in_order left')) s).state) n
-      ∙ ap (λ ps. (of_parts h (deletes ps) now).state) (sym first)
+  state = ap (λ s. (of_parts h (delete_operations (sorted_names left')) s).state) n
+      ∙ ap (λ ps. (of_parts h (delete_operations ps) now).state) (sym first)
       ∙ m.state;
   triggers_are =
-      (λ j. ts j ++ (of_parts h (deletes (in_order left')) (n j)).triggers)
+      (λ j. ts j ++ (of_parts h (delete_operations (sorted_names left')) (n j)).triggers)
       ∙ append_assoc triggers (of_operation h (op.Delete path) now).triggers
-      (of_parts h (deletes (in_order left')) (of_operation h (op.Delete path) now).state).triggers
-      ∙ ap (λ ps. triggers ++ (of_parts h (deletes ps) now).triggers) (sym first)
+      (of_parts h (delete_operations (sorted_names left')) (of_operation h (op.Delete path) now).state).triggers
+      ∙ ap (λ ps. triggers ++ (of_parts h (delete_operations ps) now).triggers) (sym first)
       ∙ m.triggers_are;
 }
 

@@ -13,7 +13,7 @@ use Rattle.ephemerals.specs.Orders.{Bytes, path_cmp, pair_cmp}
 use Rattle.data_tree.specs.State.{State}
 use Rattle.data_tree.specs.Meaning.{Change, after_change, after_changes}
 use Rattle.data_tree.specs.Meaning.Change.{Put, Remove, Own, Disown}
-use Rattle.data_tree.specs.Footprint.{touches, IsSameCell}
+use Rattle.data_tree.specs.Footprint.{has_path, IsSameCell}
 use Rattle.ephemerals.proofs.Totals.{path_total, pair_total, pair_exact}
 
 -- states with the same cells and sessions are equal
@@ -114,15 +114,15 @@ after_change-sessions s (Disown v p) = refl
 
 -- the changes are at these paths
 abbrev pub AreWithin : List Bytes → List Change → Type 0
-AreWithin paths cs = AllByRecursion (λ c. touches paths (path_of c) ≡ true) cs
+AreWithin paths cs = AllByRecursion (λ c. has_path paths (path_of c) ≡ true) cs
 
-apart_from_within : (paths : List Bytes) (q p : Bytes) → touches paths q ≡ false → touches paths p ≡ true → (b : Bool)
+apart_from_within : (paths : List Bytes) (q p : Bytes) → has_path paths q ≡ false → has_path paths p ≡ true → (b : Bool)
     → eq_by_cmp path_cmp q p ≡ b → b ≡ false
 apart_from_within paths q p out within false e = refl
-apart_from_within paths q p out within true e = sym (ap (touches paths) (tells_apart exact_bytes q p e) ∙ within) ∙ out
+apart_from_within paths q p out within true e = sym (ap (has_path paths) (tells_apart exact_bytes q p e) ∙ within) ∙ out
 
 pub after_changes-frame : (paths : List Bytes) (s : State) (cs : List Change) → AreWithin paths cs → (q : Bytes)
-    → touches paths q ≡ false → IsSameCell (after_changes s cs) s q
+    → has_path paths q ≡ false → IsSameCell (after_changes s cs) s q
 after_changes-frame paths s [] within q out = same_cell_refl s q
 after_changes-frame paths s (c ∷ cs) within q out =
     let apart : eq_by_cmp path_cmp q (path_of c) ≡ false = apart_from_within paths q (path_of c) out within.0 _ refl in
@@ -138,12 +138,12 @@ pub after_changes-sessions : (s : State) (cs : List Change) → (after_changes s
 after_changes-sessions s [] = refl
 after_changes-sessions s (c ∷ cs) = after_changes-sessions (after_change s c) cs ∙ after_change-sessions s c
 
-pub touches_first : (p : Bytes) (ps : List Bytes) → touches (p ∷ ps) p ≡ true
-touches_first p ps = ap (λ r. is_eq r || touches ps p) (tied_itself path_total p)
+pub touches_first : (p : Bytes) (ps : List Bytes) → has_path (p ∷ ps) p ≡ true
+touches_first p ps = ap (λ r. is_eq r || has_path ps p) (tied_itself path_total p)
 
 or_true : (b : Bool) → (b || true) ≡ true
 or_true true = refl
 or_true false = refl
 
-pub touches_second : (p q : Bytes) (ps : List Bytes) → touches (q ∷ p ∷ ps) p ≡ true
+pub touches_second : (p q : Bytes) (ps : List Bytes) → has_path (q ∷ p ∷ ps) p ≡ true
 touches_second p q ps = ap (λ b. eq_by_cmp path_cmp p q || b) (touches_first p ps) ∙ or_true (eq_by_cmp path_cmp p q)

@@ -3,7 +3,7 @@ use Rattle.std.proofs.Common.{◌≡◌, ℤ, pos, [], ◌∷◌, Bool, true, fa
 use mathlib.Core.Bool.{true≢false}
 use Rattle.std.specs.Ordering.{int_eq}
 use Rattle.std.specs.FinSet as set
-use Rattle.ephemerals.specs.Orders.{Bytes, Pairs}
+use Rattle.ephemerals.specs.Orders.{Bytes, OwnerPairs}
 use Rattle.ephemerals.specs.Pairs.{with_pair, without_pair}
 use Rattle.data_tree.specs.State.{State}
 use Rattle.data_tree.specs.Meaning.{after_changes, lost_pair}
@@ -11,7 +11,7 @@ use Rattle.data_tree.specs.Meaning.Change.{Disown}
 use Rattle.ephemerals.proofs.Totals.{pair_total, pair_exact}
 use Rattle.values.proofs.SetSteps.{remove-insert, insert-present}
 
-pub undo_owned : (s : Pairs) (owner : ℤ) (path : Bytes)
+pub undo_owned : (s : OwnerPairs) (owner : ℤ) (path : Bytes)
     → (not (int_eq owner (pos 0)) && not (set.contains s (owner, path))) ≡ true
     → without_pair (with_pair s owner path) owner path ≡ s
 undo_owned s owner path = by (int_eq owner (pos 0)) (set.contains s (owner, path)) refl
@@ -23,7 +23,7 @@ undo_owned s owner path = by (int_eq owner (pos 0)) (set.contains s (owner, path
     by false true e h = absurd (true≢false (sym h))
     by false false e h = remove-insert pair_total pair_exact s (owner, path) e
 
-pub kept_owned : (s : Pairs) (owner : ℤ) (path : Bytes)
+pub kept_owned : (s : OwnerPairs) (owner : ℤ) (path : Bytes)
     → (not (int_eq owner (pos 0)) && not (set.contains s (owner, path))) ≡ false → with_pair s owner path ≡ s
 kept_owned s owner path = by (int_eq owner (pos 0)) (set.contains s (owner, path)) refl
   where

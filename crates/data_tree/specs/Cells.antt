@@ -6,7 +6,7 @@ use Rattle.ephemerals.specs.Orders.{Bytes, Names}
 use Rattle.ephemerals.specs.Pairs.{pairs_at, without_paths}
 use Rattle.txn_codec.specs.declared.txn.Txn.{Txn}
 use Rattle.data_tree.specs.State.{State, Nodes}
-use Rattle.data_tree.specs.Meaning.{Meant, mean, answer_of}
+use Rattle.data_tree.specs.Meaning.{TxnEffect, effect_of_txn, answer_of}
 use Rattle.data_tree.specs.Footprint.{IsSameCell}
 use Rattle.data_tree.specs.declared.node.Node.{Node}
 use Rattle.data_tree.specs.declared.outcome.Outcome.{Outcome}
@@ -41,19 +41,19 @@ with_cells cells s = record {
 }
 
 -- the transaction's meaning, with the sessions left as they are: their timeouts are set where all the state is
-abbrev pub mean_in_cells : State → Txn → Meant
-mean_in_cells cells t =
-    let meant = mean cells t in record meant { state = record meant.state { sessions = cells.sessions } }
+abbrev pub effect_in_cells : State → Txn → TxnEffect
+effect_in_cells cells t =
+    let meant = effect_of_txn cells t in record meant { state = record meant.state { sessions = cells.sessions } }
 
 -- one after the other
 abbrev pub after_in_cells : State → List Txn → State
 after_in_cells cells [] = cells
-after_in_cells cells (t ∷ ts) = after_in_cells (mean_in_cells cells t).state ts
+after_in_cells cells (t ∷ ts) = after_in_cells (effect_in_cells cells t).state ts
 
 abbrev pub outcomes_in_cells : State → List Txn → List Outcome
 outcomes_in_cells cells [] = []
 outcomes_in_cells cells (t ∷ ts) =
-    answer_of (mean_in_cells cells t) ∷ outcomes_in_cells (mean_in_cells cells t).state ts
+    answer_of (effect_in_cells cells t) ∷ outcomes_in_cells (effect_in_cells cells t).state ts
 
 -- no node, and no session lists the path
 pub record IsEmptyCell (s : State) (path : Bytes) : Type 0 where

@@ -8,26 +8,26 @@ use Rattle.txn_codec.specs.declared.txn.Txn.{Txn}
 use Rattle.txn_codec.specs.declared.txn.TxnHeader.{TxnHeader}
 use Rattle.txn_codec.specs.declared.txn.Body.{Body}
 use Rattle.txn_codec.specs.declared.txn.Body.TheVariants as body
-use Rattle.data_tree.specs.State.{State, Sessions}
-use Rattle.data_tree.specs.Meaning.{Meant, mean, after, outcomes, answer_of}
+use Rattle.data_tree.specs.State.{State, SessionTimeouts}
+use Rattle.data_tree.specs.Meaning.{TxnEffect, effect_of_txn, state_after, outcomes_of_txns, answer_of}
 use Rattle.data_tree.specs.Cells.{after_in_cells, outcomes_in_cells}
-use Rattle.data_tree.specs.Footprint.{touches, IsSameCell, AreSameAt, AreApart, footprint, KeepsToCells}
+use Rattle.data_tree.specs.Footprint.{has_path, IsSameCell, AreSameAt, AreApart, footprint, KeepsToCells}
 
 -- the step leaves every other cell, and what it leaves in its own cells depends on those alone; no session is in a cell
 pub record IsConfined (paths : List Bytes) (step : State → State) : Type 0 where
-  pub frame : (s : State) (path : Bytes) → touches paths path ≡ false → IsSameCell (step s) s path
+  pub frame : (s : State) (path : Bytes) → has_path paths path ≡ false → IsSameCell (step s) s path
   pub local : (s t : State) → AreSameAt paths s t → AreSameAt paths (step s) (step t)
 
 -- a step and its answer, which depends on the step's cells alone
-pub record IsConfinedTo (paths : List Bytes) (meant : State → Meant) : Type 0 where
+pub record IsConfinedTo (paths : List Bytes) (meant : State → TxnEffect) : Type 0 where
   pub state : IsConfined paths (λ s. (meant s).state)
   pub answer : (s t : State) → AreSameAt paths s t → answer_of (meant s) ≡ answer_of (meant t)
 
 abbrev pub TransactionsKeepToTheirFootprints : Type 0
-TransactionsKeepToTheirFootprints = (t : Txn) → KeepsToCells t → IsConfinedTo (footprint t) (λ s. mean s t)
+TransactionsKeepToTheirFootprints = (t : Txn) → KeepsToCells t → IsConfinedTo (footprint t) (λ s. effect_of_txn s t)
 
 -- a createSession sets its session's timeout
-abbrev pub with_timeout_of : TxnHeader → Body → Sessions → Sessions
+abbrev pub with_timeout_of : TxnHeader → Body → SessionTimeouts → SessionTimeouts
 with_timeout_of header (body.CreateSession timeout) sessions = finmap.insert sessions header.client_id timeout
 with_timeout_of header (body.Single operation) sessions = sessions
 with_timeout_of header (body.SetAcl body) sessions = sessions
@@ -35,7 +35,7 @@ with_timeout_of header (body.Multi parts) sessions = sessions
 with_timeout_of header body.CloseSession sessions = sessions
 
 -- the sessions after the transactions' timeouts were set in order
-abbrev pub with_timeouts : Sessions → List Txn → Sessions
+abbrev pub with_timeouts : SessionTimeouts → List Txn → SessionTimeouts
 with_timeouts sessions [] = sessions
 with_timeouts sessions (t ∷ ts) = with_timeouts (with_timeout_of t.header t.body sessions) ts
 
@@ -43,45 +43,45 @@ with_timeouts sessions (t ∷ ts) = with_timeouts (with_timeout_of t.header t.bo
 abbrev pub TransactionsSetTheirTimeouts : Type 0
 TransactionsSetTheirTimeouts =
     (txns : List Txn) (s : State) → AllByRecursion KeepsToCells txns
-    → (after s txns).sessions ≡ with_timeouts s.sessions txns
+    → (state_after s txns).sessions ≡ with_timeouts s.sessions txns
 
 -- in either order the same cells and the same answers; and the same state, where the order of their timeouts doesn't
 -- matter either
 pub record DoCommute (a b : Txn) (s : State) : Type 0 where
-  pub cells : (path : Bytes) → IsSameCell (after s (a ∷ b ∷ [])) (after s (b ∷ a ∷ [])) path
-  pub first : answer_of (mean (mean s b).state a) ≡ answer_of (mean s a)
-  pub second : answer_of (mean (mean s a).state b) ≡ answer_of (mean s b)
+  pub cells : (path : Bytes) → IsSameCell (state_after s (a ∷ b ∷ [])) (state_after s (b ∷ a ∷ [])) path
+  pub first : answer_of (effect_of_txn (effect_of_txn s b).state a) ≡ answer_of (effect_of_txn s a)
+  pub second : answer_of (effect_of_txn (effect_of_txn s a).state b) ≡ answer_of (effect_of_txn s b)
   pub state : with_timeouts s.sessions (a ∷ b ∷ []) ≡ with_timeouts s.sessions (b ∷ a ∷ [])
-      → after s (a ∷ b ∷ []) ≡ after s (b ∷ a ∷ [])
+      → state_after s (a ∷ b ∷ []) ≡ state_after s (b ∷ a ∷ [])
 
 abbrev pub DisjointTransactionsCommute : Type 0
 DisjointTransactionsCommute =
     (a b : Txn) (s : State) → KeepsToCells a → KeepsToCells b → AreApart (footprint a) (footprint b) → DoCommute a b s
 
 -- a transaction and the group that it was put into
-abbrev pub Tagged : Type 0
-Tagged = ℕ × Txn
+abbrev pub GroupedTxn : Type 0
+GroupedTxn = ℕ × Txn
 
 -- what is done in the group k, in order
-abbrev pub of_group : ℕ → List Tagged → List Txn
-of_group k [] = []
-of_group k (t ∷ ts) = if t.0 == k then t.1 ∷ of_group k ts else of_group k ts
+abbrev pub txns_of_group : ℕ → List GroupedTxn → List Txn
+txns_of_group k [] = []
+txns_of_group k (t ∷ ts) = if t.0 == k then t.1 ∷ txns_of_group k ts else txns_of_group k ts
 
 -- what stands at the places of the group k
-abbrev pub at_group : {A : Type 0} → ℕ → List Tagged → List A → List A
-at_group k [] xs = []
-at_group k (t ∷ ts) [] = []
-at_group k (t ∷ ts) (x ∷ xs) = if t.0 == k then x ∷ at_group k ts xs else at_group k ts xs
+abbrev pub entries_of_group : {A : Type 0} → ℕ → List GroupedTxn → List A → List A
+entries_of_group k [] xs = []
+entries_of_group k (t ∷ ts) [] = []
+entries_of_group k (t ∷ ts) (x ∷ xs) = if t.0 == k then x ∷ entries_of_group k ts xs else entries_of_group k ts xs
 
-abbrev pub batch_of : List Tagged → List Txn
-batch_of batch = map (λ (t : Tagged). t.1) batch
+abbrev pub batch_of : List GroupedTxn → List Txn
+batch_of batch = map (λ (t : GroupedTxn). t.1) batch
 
 -- each transaction keeps to its group's paths
-abbrev pub KeepsTo : (ℕ → List Bytes) → List Tagged → Type 0
-KeepsTo paths [] = Unit {0}
-KeepsTo paths (t ∷ ts) =
-    (KeepsToCells t.1 × ((p : Bytes) → touches (footprint t.1) p ≡ true → touches (paths t.0) p ≡ true))
-    × KeepsTo paths ts
+abbrev pub KeepsToGroupPaths : (ℕ → List Bytes) → List GroupedTxn → Type 0
+KeepsToGroupPaths paths [] = Unit {0}
+KeepsToGroupPaths paths (t ∷ ts) =
+    (KeepsToCells t.1 × ((p : Bytes) → has_path (footprint t.1) p ≡ true → has_path (paths t.0) p ≡ true))
+    × KeepsToGroupPaths paths ts
 
 -- no two groups have a path in common
 abbrev pub AreDisjoint : (ℕ → List Bytes) → Type 0
@@ -89,25 +89,27 @@ AreDisjoint paths = (j k : ℕ) → j ≢ k → AreApart (paths j) (paths k)
 
 -- each group's own transactions, on cells that were taken from the state, leave these cells as the whole batch does and
 -- all other cells as they were, and give the answers that the batch gives at the group's places
-pub record IsOfTheBatch (paths : List Bytes) (batch : List Tagged) (s taken : State) (k : ℕ) : Type 0 where
-  pub cells : AreSameAt paths (after_in_cells taken (of_group k batch)) (after s (batch_of batch))
-  pub others : (p : Bytes) → touches paths p ≡ false → IsSameCell (after_in_cells taken (of_group k batch)) taken p
-  pub answers : outcomes_in_cells taken (of_group k batch) ≡ at_group k batch (outcomes s (batch_of batch))
+pub record AgreesWithBatch (paths : List Bytes) (batch : List GroupedTxn) (s taken : State) (k : ℕ) : Type 0 where
+  pub cells : AreSameAt paths (after_in_cells taken (txns_of_group k batch)) (state_after s (batch_of batch))
+  pub others : (p : Bytes) → has_path paths p ≡ false
+      → IsSameCell (after_in_cells taken (txns_of_group k batch)) taken p
+  pub answers : outcomes_in_cells taken (txns_of_group k batch)
+      ≡ entries_of_group k batch (outcomes_of_txns s (batch_of batch))
 
 -- so it doesn't matter when, and by whom, a group's transactions are done
 abbrev pub GroupsAreTheBatch : Type 0
 GroupsAreTheBatch =
-    (paths : ℕ → List Bytes) (batch : List Tagged) → AreDisjoint paths → KeepsTo paths batch
-    → (s cells : State) (k : ℕ) → AreSameAt (paths k) cells s → IsOfTheBatch (paths k) batch s cells k
+    (paths : ℕ → List Bytes) (batch : List GroupedTxn) → AreDisjoint paths → KeepsToGroupPaths paths batch
+    → (s cells : State) (k : ℕ) → AreSameAt (paths k) cells s → AgreesWithBatch (paths k) batch s cells k
 
 -- and a state that has each group's cells, the old cells elsewhere, and the timeouts set in order, is the state after
 -- the batch
 abbrev pub CellsPutBackAreTheBatch : Type 0
 CellsPutBackAreTheBatch =
-    (paths : ℕ → List Bytes) (batch : List Tagged) → AreDisjoint paths → KeepsTo paths batch
+    (paths : ℕ → List Bytes) (batch : List GroupedTxn) → AreDisjoint paths → KeepsToGroupPaths paths batch
     → (s new : State) (cells : ℕ → State) → ((k : ℕ) → AreSameAt (paths k) (cells k) s)
-    → ((k : ℕ) → AreSameAt (paths k) new (after_in_cells (cells k) (of_group k batch)))
-    → ((p : Bytes) → ((k : ℕ) → touches (paths k) p ≡ false) → IsSameCell new s p)
+    → ((k : ℕ) → AreSameAt (paths k) new (after_in_cells (cells k) (txns_of_group k batch)))
+    → ((p : Bytes) → ((k : ℕ) → has_path (paths k) p ≡ false) → IsSameCell new s p)
     → new.sessions ≡ with_timeouts s.sessions (batch_of batch)
-    → (find : (p : Bytes) → ((k : ℕ) × (touches (paths k) p ≡ true)) ⊎ ((k : ℕ) → touches (paths k) p ≡ false))
-    → new ≡ after s (batch_of batch)
+    → (find : (p : Bytes) → ((k : ℕ) × (has_path (paths k) p ≡ true)) ⊎ ((k : ℕ) → has_path (paths k) p ≡ false))
+    → new ≡ state_after s (batch_of batch)

@@ -15,23 +15,23 @@ use Rattle.txn_codec.specs.declared.txn.Body.TheVariants as body
 use Rattle.data_tree.specs.State.{State}
 use Rattle.data_tree.specs.Meaning.{has_error}
 
-abbrev pub footprint_of : Operation → List Bytes
-footprint_of (op.Create body) = body.path ∷ parent_of body.path ∷ []
-footprint_of (op.Delete path) = path ∷ parent_of path ∷ []
-footprint_of (op.SetData body) = body.path ∷ []
-footprint_of (op.Check body) = []
-footprint_of (op.Error error) = []
+abbrev pub footprint_of_operation : Operation → List Bytes
+footprint_of_operation (op.Create body) = body.path ∷ parent_of body.path ∷ []
+footprint_of_operation (op.Delete path) = path ∷ parent_of path ∷ []
+footprint_of_operation (op.SetData body) = body.path ∷ []
+footprint_of_operation (op.Check body) = []
+footprint_of_operation (op.Error error) = []
 
 abbrev pub footprint_of_parts : List Operation → List Bytes
 footprint_of_parts [] = []
-footprint_of_parts (o ∷ os) = footprint_of o ++ footprint_of_parts os
+footprint_of_parts (o ∷ os) = footprint_of_operation o ++ footprint_of_parts os
 
 -- of a transaction that keeps to cells
 abbrev pub footprint : Txn → List Bytes
 footprint t = of_body t.body
   where
     of_body : Body → List Bytes
-    of_body (body.Single operation) = footprint_of operation
+    of_body (body.Single operation) = footprint_of_operation operation
     of_body (body.SetAcl body) = body.path ∷ []
     of_body (body.Multi parts) = if has_error parts then [] else footprint_of_parts parts
     of_body (body.CreateSession timeout) = []
@@ -48,8 +48,8 @@ KeepsToCells t = keeps t.body
     keeps (body.CreateSession timeout) = Unit {0}
     keeps body.CloseSession = ⊥
 
-abbrev pub touches : List Bytes → Bytes → Bool
-touches paths path = list_any (eq_by_cmp path_cmp path) paths
+abbrev pub has_path : List Bytes → Bytes → Bool
+has_path paths path = list_any (eq_by_cmp path_cmp path) paths
 
 -- the cells at the path: the node, and the sessions that list the path
 pub record IsSameCell (s t : State) (path : Bytes) : Type 0 where
@@ -57,7 +57,7 @@ pub record IsSameCell (s t : State) (path : Bytes) : Type 0 where
   pub owners : (session : ℤ) → set.contains s.pairs (session, path) ≡ set.contains t.pairs (session, path)
 
 abbrev pub AreSameAt : List Bytes → State → State → Type 0
-AreSameAt paths s t = (path : Bytes) → touches paths path ≡ true → IsSameCell s t path
+AreSameAt paths s t = (path : Bytes) → has_path paths path ≡ true → IsSameCell s t path
 
 abbrev pub AreApart : List Bytes → List Bytes → Type 0
-AreApart ps qs = (path : Bytes) → touches ps path ≡ true → touches qs path ≡ false
+AreApart ps qs = (path : Bytes) → has_path ps path ≡ true → has_path qs path ≡ false

@@ -6,8 +6,8 @@ use Rattle.std.specs.List.{list_any}
 use Rattle.std.specs.Ordering.{int_eq}
 use Rattle.std.specs.FinMap as finmap
 use Rattle.std.specs.FinSet as set
-use Rattle.ephemerals.specs.Orders.{Bytes, Names, in_order}
-use Rattle.ephemerals.specs.Pairs.{paths_of, without_session}
+use Rattle.ephemerals.specs.Orders.{Bytes, Names, sorted_names}
+use Rattle.ephemerals.specs.Pairs.{paths_of_session, without_session}
 use Rattle.jute.specs.Codes.{open_acl}
 use Rattle.jute.specs.declared.codes.TheConstants.{NO_NODE, NODE_EXISTS, RUNTIME_INCONSISTENCY}
 use Rattle.txn_codec.specs.Acls.{acl_or_open}
@@ -171,20 +171,20 @@ set_acl_at body None = no_change NO_NODE
 set_acl_at body (Some node) = record { err = pos 0; changes = Put body.path (with_acl body node) ∷ []; triggers = [] }
 
 -- the state after a transaction, its error, the errors of its parts, and what it fires
-pub record Meant : Type 0 where
+pub record TxnEffect : Type 0 where
   pub state : State
   pub err : ℤ
   pub parts : List ℤ
   pub triggers : List Trigger
 
-abbrev pub of_effect : Effect → State → Meant
+abbrev pub of_effect : Effect → State → TxnEffect
 of_effect effect s =
     record { state = after_changes s effect.changes; err = effect.err; parts = []; triggers = effect.triggers }
 
-abbrev pub of_operation : TxnHeader → Operation → State → Meant
+abbrev pub of_operation : TxnHeader → Operation → State → TxnEffect
 of_operation header operation s = of_effect (effect_of header operation s.nodes) s
 
-abbrev pub of_set_acl : SetAcl → State → Meant
+abbrev pub of_set_acl : SetAcl → State → TxnEffect
 of_set_acl body s = of_effect (set_acl_at body (finmap.get s.nodes body.path)) s
 
 -- 0 where there is none
@@ -219,13 +219,13 @@ failed_outcome parts =
     record { err = first_error errors; parts = errors; triggers = [] }
 
 -- nothing is applied
-abbrev pub of_failed : List Operation → State → Meant
+abbrev pub of_failed : List Operation → State → TxnEffect
 of_failed parts s =
     let answer = failed_outcome parts in
     record { state = s; err = answer.err; parts = answer.parts; triggers = answer.triggers }
 
 -- the parts in order; one that fails stops none after it
-abbrev pub of_parts : TxnHeader → List Operation → State → Meant
+abbrev pub of_parts : TxnHeader → List Operation → State → TxnEffect
 of_parts header [] s = record { state = s; err = pos 0; parts = []; triggers = [] }
 of_parts header (o ∷ os) s =
     let first = of_operation header o s in
@@ -237,11 +237,11 @@ of_parts header (o ∷ os) s =
       triggers = first.triggers ++ rest.triggers;
     }
 
-abbrev pub of_multi : TxnHeader → List Operation → State → Meant
+abbrev pub of_multi : TxnHeader → List Operation → State → TxnEffect
 of_multi header parts s = if has_error parts then of_failed parts s else of_parts header parts s
 
 -- the session's timeout is set
-abbrev pub of_create_session : TxnHeader → ℤ → State → Meant
+abbrev pub of_create_session : TxnHeader → ℤ → State → TxnEffect
 of_create_session header timeout s =
     record {
       state = record s { sessions = finmap.insert s.sessions header.client_id timeout };
@@ -250,8 +250,8 @@ of_create_session header timeout s =
       triggers = [];
     }
 
-abbrev pub deletes : List Bytes → List Operation
-deletes paths = map op.Delete paths
+abbrev pub delete_operations : List Bytes → List Operation
+delete_operations paths = map op.Delete paths
 
 -- the state without the session and its pairs
 abbrev pub state_without_session : ℤ → State → State
@@ -259,39 +259,39 @@ state_without_session session s =
     record { nodes = s.nodes; pairs = without_session session s.pairs; sessions = finmap.remove s.sessions session }
 
 -- the session's ephemerals are deleted in ascending bytes; an error is passed over
-abbrev pub of_close_session : TxnHeader → State → Meant
+abbrev pub of_close_session : TxnHeader → State → TxnEffect
 of_close_session header s =
     let deleted =
-    of_parts header (deletes (in_order (paths_of header.client_id s.pairs)))
+    of_parts header (delete_operations (sorted_names (paths_of_session header.client_id s.pairs)))
     (state_without_session header.client_id s) in
     record { state = deleted.state; err = pos 0; parts = []; triggers = deleted.triggers }
 
-abbrev pub mean_of : TxnHeader → Body → State → Meant
-mean_of header (body.Single operation) s = of_operation header operation s
-mean_of header (body.SetAcl body) s = of_set_acl body s
-mean_of header (body.Multi parts) s = of_multi header parts s
-mean_of header (body.CreateSession timeout) s = of_create_session header timeout s
-mean_of header body.CloseSession s = of_close_session header s
+abbrev pub effect_of_body : TxnHeader → Body → State → TxnEffect
+effect_of_body header (body.Single operation) s = of_operation header operation s
+effect_of_body header (body.SetAcl body) s = of_set_acl body s
+effect_of_body header (body.Multi parts) s = of_multi header parts s
+effect_of_body header (body.CreateSession timeout) s = of_create_session header timeout s
+effect_of_body header body.CloseSession s = of_close_session header s
 
-abbrev pub mean : State → Txn → Meant
-mean s txn = mean_of txn.header txn.body s
+abbrev pub effect_of_txn : State → Txn → TxnEffect
+effect_of_txn s txn = effect_of_body txn.header txn.body s
 
-abbrev pub answer_of : Meant → Outcome
+abbrev pub answer_of : TxnEffect → Outcome
 answer_of m = record { err = m.err; parts = m.parts; triggers = m.triggers }
 
 -- the transactions one after the other
-abbrev pub after : State → List Txn → State
-after s [] = s
-after s (t ∷ ts) = after (mean s t).state ts
+abbrev pub state_after : State → List Txn → State
+state_after s [] = s
+state_after s (t ∷ ts) = state_after (effect_of_txn s t).state ts
 
 -- what they answer
-abbrev pub outcomes : State → List Txn → List Outcome
-outcomes s [] = []
-outcomes s (t ∷ ts) = answer_of (mean s t) ∷ outcomes (mean s t).state ts
+abbrev pub outcomes_of_txns : State → List Txn → List Outcome
+outcomes_of_txns s [] = []
+outcomes_of_txns s (t ∷ ts) = answer_of (effect_of_txn s t) ∷ outcomes_of_txns (effect_of_txn s t).state ts
 
 -- a node that nobody made: empty data, the open list, all numbers 0
-abbrev pub first_node : Names → Node
-first_node children = record {
+abbrev pub preset_node : Names → Node
+preset_node children = record {
   bytes = Some [];
   acl = open_acl;
   stat = record {
@@ -309,14 +309,14 @@ first_node children = record {
 }
 
 -- the tree from which every log starts: /, /zookeeper and /zookeeper/quota
-abbrev pub fresh : State
-fresh = record {
+abbrev pub fresh_state : State
+fresh_state = record {
   nodes =
       finmap.insert
       (finmap.insert
-      (finmap.insert finmap.empty (codes "/") (first_node (set.insert set.empty (codes "zookeeper"))))
-      (codes "/zookeeper") (first_node (set.insert set.empty (codes "quota"))))
-      (codes "/zookeeper/quota") (first_node set.empty);
+      (finmap.insert finmap.empty (codes "/") (preset_node (set.insert set.empty (codes "zookeeper"))))
+      (codes "/zookeeper") (preset_node (set.insert set.empty (codes "quota"))))
+      (codes "/zookeeper/quota") (preset_node set.empty);
   pairs = set.empty;
   sessions = finmap.empty;
 }

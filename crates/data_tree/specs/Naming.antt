@@ -5,7 +5,7 @@ use Rattle.txn_codec.specs.Paths.{is_path, is_child_path, name_of}
 use Rattle.txn_codec.specs.Parents.{HaveParents}
 use Rattle.txn_codec.specs.declared.txn.Txn.{Txn}
 use Rattle.data_tree.specs.State.{State}
-use Rattle.data_tree.specs.Meaning.{mean}
+use Rattle.data_tree.specs.Meaning.{effect_of_txn}
 use Rattle.data_tree.specs.Making.{with_node_in_place}
 use Rattle.data_tree.specs.Whole.{is_child_name, AreChildNames, AreNamed}
 use Rattle.data_tree.specs.declared.node.Node.{Node}
@@ -16,7 +16,8 @@ PathsEndInNames = (path : Bytes) → IsTrue (is_child_path path) → IsTrue (is_
 
 -- of a transaction that makes no "/", as each has that was decoded
 abbrev pub TransactionsKeepNames : Type 0
-TransactionsKeepNames = (s : State) (t : Txn) → HaveParents t.body → AreNamed s.nodes → AreNamed (mean s t).state.nodes
+TransactionsKeepNames = (s : State) (t : Txn) → HaveParents t.body → AreNamed s.nodes
+    → AreNamed (effect_of_txn s t).state.nodes
 
 abbrev pub NodesKeepNames : Type 0
 NodesKeepNames =

@@ -12,14 +12,14 @@ abbrev pub IsAfterFront : TxnHeader → List Operation → State → State → T
 IsAfterFront header parts old new = (n : ℕ) × (new ≡ (of_parts header (take n parts) old).state)
 
 -- a multi with an error part has done nothing, and any other a front of its parts
-abbrev pub IsPartly : Bool → TxnHeader → List Operation → State → State → Type 0
-IsPartly true header parts old new = new ≡ old
-IsPartly false header parts old new = IsAfterFront header parts old new
+abbrev pub IsPartlyDone : Bool → TxnHeader → List Operation → State → State → Type 0
+IsPartlyDone true header parts old new = new ≡ old
+IsPartlyDone false header parts old new = IsAfterFront header parts old new
 
 -- of a closeSession nothing is said, and any transaction but a multi has done nothing
-abbrev pub IsLeftBy : TxnHeader → Body → State → State → Type 0
-IsLeftBy header (body.Single operation) old new = new ≡ old
-IsLeftBy header (body.SetAcl body) old new = new ≡ old
-IsLeftBy header (body.Multi parts) old new = IsPartly (has_error parts) header parts old new
-IsLeftBy header (body.CreateSession timeout) old new = new ≡ old
-IsLeftBy header body.CloseSession old new = Unit {0}
+abbrev pub IsLeftByRefused : TxnHeader → Body → State → State → Type 0
+IsLeftByRefused header (body.Single operation) old new = new ≡ old
+IsLeftByRefused header (body.SetAcl body) old new = new ≡ old
+IsLeftByRefused header (body.Multi parts) old new = IsPartlyDone (has_error parts) header parts old new
+IsLeftByRefused header (body.CreateSession timeout) old new = new ≡ old
+IsLeftByRefused header body.CloseSession old new = Unit {0}

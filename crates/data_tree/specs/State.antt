@@ -4,20 +4,20 @@ use Rattle.std.specs.Coded.{Coded, code_by, coded×, coded_ℕ, coded_ℤ, coded
 use Rattle.std.specs.FinMap as finmap
 use Rattle.std.specs.FinSet as set
 use Rattle.std.specs.Ordering.{int_cmp}
-use Rattle.ephemerals.specs.Orders.{Pairs, path_cmp, pair_cmp}
+use Rattle.ephemerals.specs.Orders.{OwnerPairs, path_cmp, pair_cmp}
 pub use Rattle.data_tree.specs.Nodes.{Nodes}
-pub use Rattle.data_tree.specs.Sessions.{Sessions}
+pub use Rattle.data_tree.specs.Sessions.{SessionTimeouts}
 use Rattle.data_tree.specs.declared.node.Node.{Node}
 
 -- the nodes by path, the ephemerals as pairs of a session and a path, and each session's timeout
 pub record State : Type 0 where
   pub nodes : Nodes
-  pub pairs : Pairs
-  pub sessions : Sessions
+  pub pairs : OwnerPairs
+  pub sessions : SessionTimeouts
 
 abbrev pub state_code : Coded Node → Coded State
 state_code node =
-    code_by (Nodes × (Pairs × Sessions))
+    code_by (Nodes × (OwnerPairs × SessionTimeouts))
     (coded× (finmap.code {R = path_cmp} (coded_list coded_ℕ) node)
     (coded× (set.code {R = pair_cmp} (coded× coded_ℤ (coded_list coded_ℕ)))
     (finmap.code {R = int_cmp} coded_ℤ coded_ℤ)))

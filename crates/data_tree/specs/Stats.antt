@@ -12,9 +12,9 @@ abbrev pub java_int : ℕ → ℤ
 java_int n = cast_signed w32 (n % 2 ^ 32)
 
 -- null has no byte
-abbrev pub length_of : Option (List ℕ) → ℕ
-length_of None = 0
-length_of (Some bytes) = length bytes
+abbrev pub length_or_zero : Option (List ℕ) → ℕ
+length_or_zero None = 0
+length_or_zero (Some bytes) = length bytes
 
 -- every create and delete of a child, where the stored number counts the creates alone
 abbrev pub shown_cversion : ℤ → ℤ → ℤ
@@ -36,8 +36,8 @@ shown_stat stat children bytes = record {
   pzxid = stat.pzxid;
 }
 
-abbrev pub shown : Node → Stat
-shown node = shown_stat node.stat (java_int (set.len node.children)) (java_int (length_of node.bytes))
+abbrev pub stat_of : Node → Stat
+stat_of node = shown_stat node.stat (java_int (set.len node.children)) (java_int (length_or_zero node.bytes))
 
 abbrev pub children_of : Node → Names
 children_of node = node.children

@@ -1,9 +1,9 @@
 //! Cells that are taken out of a tree, so that groups of transactions can be done apart.
 
 ghost use Rattle.std.specs.Prelude.{◌≡◌, [], pos, OnOk, OnErr, IfOk};
-ghost use Rattle.data_tree.specs.Cells.{cells_at, without_cells, with_cells, mean_in_cells};
+ghost use Rattle.data_tree.specs.Cells.{cells_at, without_cells, with_cells, effect_in_cells};
 ghost use Rattle.data_tree.specs.Meaning.{answer_of};
-ghost use Rattle.data_tree.specs.Refused.{IsLeftBy};
+ghost use Rattle.data_tree.specs.Refused.{IsLeftByRefused};
 
 use crate::outcome::Outcome;
 use crate::tree::Tree;
@@ -74,9 +74,9 @@ impl Cells {
     /// Refused for want of memory, it leaves what `Tree::apply` leaves: of a multi a front of its parts was done, a
     /// closeSession leaves cells that are only to be dropped, and any other leaves the cells as they were.
     pub fn apply(&mut self, alloc: Global, txn: &Txn) -> Result<Outcome, NoMemory>
-        ensures cells { OnOk result (self.new ≡ (mean_in_cells self.old txn.now).state) }
-        ensures answer { IfOk result (λ o. o ≡ answer_of (mean_in_cells self.old txn.now)) }
-        ensures err { OnErr result (IsLeftBy txn.now.header txn.now.body self.old self.new) }
+        ensures cells { OnOk result (self.new ≡ (effect_in_cells self.old txn.now).state) }
+        ensures answer { IfOk result (λ o. o ≡ answer_of (effect_in_cells self.old txn.now)) }
+        ensures err { OnErr result (IsLeftByRefused txn.now.header txn.now.body self.old self.new) }
     {
         if let Body::CreateSession(_) = &txn.body {
             return Ok(no_outcome(alloc));

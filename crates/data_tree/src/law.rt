@@ -1,6 +1,6 @@
 //! Laws of what transactions mean. Each is the contract of a function that does nothing.
 
-ghost use Rattle.data_tree.specs.Meaning.{fresh};
+ghost use Rattle.data_tree.specs.Meaning.{fresh_state};
 ghost use Rattle.data_tree.specs.Naming.{PathsEndInNames, TransactionsKeepNames, NodesKeepNames};
 ghost use Rattle.data_tree.specs.Whole.{AreNamed};
 ghost use Rattle.data_tree.specs.Cells.{TakenCellsMove, CellsComeToEmptyCells, TakenAndPutBackIsTheState};
@@ -30,7 +30,7 @@ pub fn groups()
 /// makes another tree of such a one. The last name of a path may be a child's.
 pub fn names()
     ensures paths { PathsEndInNames }
-    ensures fresh { AreNamed fresh.nodes }
+    ensures fresh { AreNamed fresh_state.nodes }
     ensures transactions { TransactionsKeepNames }
     ensures nodes { NodesKeepNames }
 {}

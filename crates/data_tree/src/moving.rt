@@ -6,7 +6,7 @@ ghost use Rattle.std.specs.FinSet as set;
 ghost use Rattle.ephemerals.specs.Orders.{Bytes};
 ghost use Rattle.data_tree.specs.Whole.{has_node};
 ghost use Rattle.data_tree.specs.Making.{update_node};
-ghost use Rattle.data_tree.specs.Inner.Moving.{HasRoom, filled};
+ghost use Rattle.data_tree.specs.Inner.Moving.{IsRoomFor, with_replaced_node};
 ghost use Rattle.data_tree.specs.declared.node.Node.{Node};
 
 use crate::node::Node;
@@ -25,7 +25,7 @@ impl NodeMap {
 
     // A map with a node at each of the paths that has one here: inserting in its place then takes no memory.
     fn room_at(&self, alloc: Global, paths: &TextSet) -> Result<NodeMap, NoMemory>
-        ensures { IfOk result (λ room. HasRoom paths.now self.now room) }
+        ensures { IfOk result (λ room. IsRoomFor paths.now self.now room) }
     {
         let mut room = NodeMap::new(alloc);
         for path in paths.iter() {
@@ -52,7 +52,7 @@ impl NodeMap {
     // Moves the node at the path, if any, to where one stands in its place.
     fn move_node(&mut self, path: &str, room: &mut NodeMap)
         ensures gone { self.new ≡ finmap.remove self.old path.now }
-        ensures moved { room.new ≡ filled path.now (finmap.get self.old path.now) room.old }
+        ensures moved { room.new ≡ with_replaced_node path.now (finmap.get self.old path.now) room.old }
     {
         match self.remove(path) {
             None => return,

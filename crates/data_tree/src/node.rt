@@ -3,8 +3,8 @@
 ghost use Rattle.std.specs.Prelude.{◌≡◌, OnOk, OnErr, IfOk, not, int_lt, if◌then◌else◌, string_bytes};
 ghost use Rattle.std.specs.FinSet as set;
 ghost use Rattle.data_tree.specs.Inner.Children.{with_added_child, stat_after_create};
-ghost use Rattle.data_tree.specs.Meaning.{new_node, owner_of, next_cversion, with_data, with_acl, first_node};
-ghost use Rattle.data_tree.specs.Stats.{shown, shown_stat, java_int, length_of, shown_cversion};
+ghost use Rattle.data_tree.specs.Meaning.{new_node, owner_of, next_cversion, with_data, with_acl, preset_node};
+ghost use Rattle.data_tree.specs.Stats.{stat_of, shown_stat, java_int, length_or_zero, shown_cversion};
 
 use ephemerals::TextSet;
 use jute::{Stat, StatPersisted};
@@ -138,8 +138,8 @@ fn one_text(alloc: Global, text: &str) -> Result<TextSet, NoMemory>
 }
 
 // The numbers of a node that nobody made.
-fn zero_stat() -> StatPersisted
-    ensures { result ≡ (first_node set.empty).stat }
+fn preset_stat() -> StatPersisted
+    ensures { result ≡ (preset_node set.empty).stat }
 {
     StatPersisted {
         czxid: 0,
@@ -155,13 +155,13 @@ fn zero_stat() -> StatPersisted
 }
 
 // A node that nobody made.
-fn first_node(alloc: Global, children: TextSet) -> Result<Node, NoMemory>
-    ensures { IfOk result (λ node. node ≡ first_node children) }
+fn make_preset_node(alloc: Global, children: TextSet) -> Result<Node, NoMemory>
+    ensures { IfOk result (λ node. node ≡ preset_node children) }
 {
     Ok(Node {
         bytes: Some(Blob::new(alloc, &[])?),
         acl: AclList::open(),
-        stat: zero_stat(),
+        stat: preset_stat(),
         children,
     })
 }
@@ -169,9 +169,9 @@ fn first_node(alloc: Global, children: TextSet) -> Result<Node, NoMemory>
 impl Node {
     /// A node that nobody made, without a child.
     pub(crate) fn childless(alloc: Global) -> Result<Node, NoMemory>
-        ensures { IfOk result (λ node. node ≡ first_node set.empty) }
+        ensures { IfOk result (λ node. node ≡ preset_node set.empty) }
     {
-        first_node(alloc, TextSet::new(alloc))
+        make_preset_node(alloc, TextSet::new(alloc))
     }
 
     /// A node that stands where another one comes, which takes no memory.
@@ -179,16 +179,16 @@ impl Node {
         Node {
             bytes: None,
             acl: AclList::open(),
-            stat: zero_stat(),
+            stat: preset_stat(),
             children: TextSet::new(alloc),
         }
     }
 
     /// A node that nobody made, with one child.
     pub(crate) fn with_child(alloc: Global, child: &str) -> Result<Node, NoMemory>
-        ensures { IfOk result (λ node. node ≡ first_node (set.insert set.empty child.now)) }
+        ensures { IfOk result (λ node. node ≡ preset_node (set.insert set.empty child.now)) }
     {
-        first_node(alloc, one_text(alloc, child)?)
+        make_preset_node(alloc, one_text(alloc, child)?)
     }
 
     /// The node that a create makes.
@@ -253,7 +253,7 @@ impl Node {
 
     /// What the node shows of itself.
     pub fn shown(&self) -> Stat
-        ensures { result ≡ shown self.now }
+        ensures { result ≡ stat_of self.now }
     {
         show(
             self.stat,
@@ -291,7 +291,7 @@ fn java_int(count: usize) -> i32
 
 // How many bytes there are; null has none.
 fn length(bytes: &Option<Blob>) -> usize
-    ensures { result ≡ length_of bytes.now }
+    ensures { result ≡ length_or_zero bytes.now }
 {
     match bytes {
         None => 0,

@@ -13,7 +13,7 @@ ghost use Rattle.data_tree.specs.Inner.Children.{with_added_child, added_child, 
 ghost use Rattle.data_tree.specs.Meaning.{with_data, with_acl};
 ghost use Rattle.data_tree.specs.Making.{with_name};
 ghost use Rattle.data_tree.specs.Inner.Children.{without_name, with_new_node};
-ghost use Rattle.data_tree.specs.Whole.{has_node, has_parent, AreLinked, AreNamed, AreChildNames, AreOwned, is_child_name, lists};
+ghost use Rattle.data_tree.specs.Whole.{has_node, has_parent, AreLinked, AreNamed, AreChildNames, AreOwned, is_child_name, is_listed_at};
 ghost use Rattle.data_tree.specs.Inner.Children.{HasItsChildren};
 
 use crate::added_child::AddedChild;
@@ -294,7 +294,7 @@ impl NodeMap {
 
     // Whether the node at the path lists the name.
     fn lists(&self, path: &str, name: &str) -> bool
-        ensures { result ≡ lists self.now path.now name.now }
+        ensures { result ≡ is_listed_at self.now path.now name.now }
     {
         match self.get(path) {
             None => false,

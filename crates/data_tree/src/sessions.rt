@@ -19,9 +19,9 @@ pub struct Timeouts {
 impl Model for Timeouts {
     ghost use Rattle.std.specs.Coded.{coded_ℤ};
     ghost use Rattle.std.specs.FinMap as finmap;
-    ghost use Rattle.data_tree.specs.Sessions.{Sessions};
+    ghost use Rattle.data_tree.specs.Sessions.{SessionTimeouts};
 
-    ghost Value = { Sessions };
+    ghost Value = { SessionTimeouts };
 
     ghost coded = { finmap.code coded_ℤ coded_ℤ };
 

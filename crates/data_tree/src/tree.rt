@@ -9,13 +9,13 @@ ghost use Rattle.data_tree.specs.Making.{with_placed_node};
 ghost use Rattle.data_tree.specs.Making.{empty_state, with_session, with_node_in_place, has_place};
 ghost use Rattle.data_tree.specs.Inner.Children.{with_new_node_placed};
 ghost use Rattle.data_tree.specs.Whole.{IsWhole, has_node};
-ghost use Rattle.data_tree.specs.Meaning.{of_operation, of_set_acl, of_create_session, of_close_session, of_parts, of_multi, deletes, has_error, mean, answer_of, fresh};
+ghost use Rattle.data_tree.specs.Meaning.{of_operation, of_set_acl, of_create_session, of_close_session, of_parts, of_multi, delete_operations, has_error, effect_of_txn, answer_of, fresh_state};
 ghost use Rattle.data_tree.specs.Cells.{cells_at, without_cells, with_cells};
 ghost use Rattle.data_tree.specs.Refused.{IsAfterFront};
-ghost use Rattle.data_tree.specs.Refused.{IsPartly, IsLeftBy};
-ghost use Rattle.data_tree.specs.Inner.Doing.{Does};
-ghost use Rattle.data_tree.specs.Stats.{shown, children_of};
-ghost use Rattle.ephemerals.specs.Orders.{in_order};
+ghost use Rattle.data_tree.specs.Refused.{IsPartlyDone, IsLeftByRefused};
+ghost use Rattle.data_tree.specs.Inner.Doing.{DoesEffect};
+ghost use Rattle.data_tree.specs.Stats.{stat_of, children_of};
+ghost use Rattle.ephemerals.specs.Orders.{sorted_names};
 
 use crate::added_child::AddedChild;
 use crate::multi::{failed_outcome, first_error, has_error};
@@ -56,7 +56,7 @@ impl Model for Tree {
 impl Tree {
     /// The tree from which every log starts: /, /zookeeper and /zookeeper/quota, and no session.
     pub fn fresh(alloc: Global) -> Result<Tree, NoMemory>
-        ensures { IfOk result (λ tree. tree ≡ fresh) }
+        ensures { IfOk result (λ tree. tree ≡ fresh_state) }
     {
         let mut nodes = NodeMap::new(alloc);
         nodes.insert(
@@ -197,7 +197,7 @@ impl Tree {
         create: &Create,
         triggers: &mut Vec<Trigger>,
     ) -> Result<i32, NoMemory>
-        ensures { Does (of_operation header.now (Operation.Create create.now) self.old) result
+        ensures { DoesEffect (of_operation header.now (Operation.Create create.now) self.old) result
             self.old self.new triggers.old.items triggers.new.items }
     {
         let parent = create.path.parent();
@@ -232,7 +232,7 @@ impl Tree {
         path: &str,
         triggers: &mut Vec<Trigger>,
     ) -> Result<i32, NoMemory>
-        ensures { Does (of_operation header.now (Operation.Delete path.now) self.old) result
+        ensures { DoesEffect (of_operation header.now (Operation.Delete path.now) self.old) result
             self.old self.new triggers.old.items triggers.new.items }
     {
         let before = triggers.len();
@@ -260,7 +260,7 @@ impl Tree {
         body: &SetData,
         triggers: &mut Vec<Trigger>,
     ) -> Result<i32, NoMemory>
-        ensures { Does (of_operation header.now (Operation.SetData body.now) self.old) result
+        ensures { DoesEffect (of_operation header.now (Operation.SetData body.now) self.old) result
             self.old self.new triggers.old.items triggers.new.items }
     {
         let before = triggers.len();
@@ -273,7 +273,7 @@ impl Tree {
     }
 
     fn set_acl(&mut self, body: &SetAcl) -> Result<i32, NoMemory>
-        ensures { Does (of_set_acl body.now self.old) result self.old self.new [] [] }
+        ensures { DoesEffect (of_set_acl body.now self.old) result self.old self.new [] [] }
     {
         if !self.nodes.set_acl(body.path.as_str(), body)? {
             return Ok(NO_NODE);
@@ -297,7 +297,7 @@ impl Tree {
         operation: &Operation,
         triggers: &mut Vec<Trigger>,
     ) -> Result<i32, NoMemory>
-        ensures { Does (of_operation header.now operation.now self.old) result
+        ensures { DoesEffect (of_operation header.now operation.now self.old) result
             self.old self.new triggers.old.items triggers.new.items }
     {
         match operation {
@@ -342,10 +342,10 @@ impl Tree {
         triggers: &mut Vec<Trigger>,
     ) -> Result<(), NoMemory>
         ensures state { OnOk result
-            (self.new ≡ (of_parts header.now (deletes (in_order paths)) self.old).state) }
+            (self.new ≡ (of_parts header.now (delete_operations (sorted_names paths)) self.old).state) }
         ensures fired { OnOk result
             (triggers.new.items ≡ triggers.old.items ++
-            (of_parts header.now (deletes (in_order paths)) self.old).triggers) }
+            (of_parts header.now (delete_operations (sorted_names paths)) self.old).triggers) }
     {
         let mut left = paths;
         while let Some(path) = left.pop_first() {
@@ -373,9 +373,9 @@ impl Tree {
     /// Does a transaction. Refused for want of memory, a multi has done a front of its parts, a closeSession leaves a
     /// tree that is only to be dropped, and any other leaves the tree as it was.
     pub fn apply(&mut self, alloc: Global, txn: &Txn) -> Result<Outcome, NoMemory>
-        ensures state { OnOk result (self.new ≡ (mean self.old txn.now).state) }
-        ensures answer { IfOk result (λ o. o ≡ answer_of (mean self.old txn.now)) }
-        ensures err { OnErr result (IsLeftBy txn.now.header txn.now.body self.old self.new) }
+        ensures state { OnOk result (self.new ≡ (effect_of_txn self.old txn.now).state) }
+        ensures answer { IfOk result (λ o. o ≡ answer_of (effect_of_txn self.old txn.now)) }
+        ensures err { OnErr result (IsLeftByRefused txn.now.header txn.now.body self.old self.new) }
     {
         let mut triggers = Vec::new(alloc);
         let err = match &txn.body {
@@ -407,7 +407,7 @@ impl Tree {
         ensures state { OnOk result (self.new ≡ (of_multi header.now parts.now self.old).state) }
         ensures answer { IfOk result (λ o. o ≡ answer_of (of_multi header.now parts.now self.old)) }
         ensures err { OnErr result
-            (IsPartly (has_error parts.now) header.now parts.now self.old self.new) }
+            (IsPartlyDone (has_error parts.now) header.now parts.now self.old self.new) }
     {
         if has_error(parts) {
             return failed_outcome(alloc, parts);
@@ -448,7 +448,7 @@ impl Tree {
 
     /// What the node at the path shows of itself.
     pub fn stat(&self, path: &str) -> Option<Stat>
-        ensures { result ≡ option_map shown (finmap.get self.now.nodes path.now) }
+        ensures { result ≡ option_map stat_of (finmap.get self.now.nodes path.now) }
     {
         Some(self.node(path)?.shown())
     }

@@ -6,7 +6,7 @@ use Rattle.std.specs.FinSet as set
 use Rattle.std.specs.List.{list_any}
 use Rattle.std.specs.Ordering.{eq_by_cmp}
 use Rattle.std.specs.Cmp.{IsTotalOrder}
-use Rattle.ephemerals.specs.Orders.{Bytes, Names, path_cmp, in_order}
+use Rattle.ephemerals.specs.Orders.{Bytes, Names, path_cmp, sorted_names}
 use Rattle.ephemerals.proofs.Totals.{path_total}
 
 module _ {K : Type 0} {R : K → K → Ordering} (o : IsTotalOrder R) where
@@ -28,6 +28,6 @@ module _ {K : Type 0} {R : K → K → Ordering} (o : IsTotalOrder R) where
       ∙ ap is_some (finmap.get-from_entries o (map (λ (k : K). (k, tt {0})) ks) q)
       ∙ is_some-find q ks
 
-pub any-in_order : (names : Names) (q : Bytes) → list_any (eq_by_cmp path_cmp q) (in_order names)
+pub any-in_order : (names : Names) (q : Bytes) → list_any (eq_by_cmp path_cmp q) (sorted_names names)
     ≡ set.contains names q
 any-in_order names q = any-ascending path_total (set.items names) q ∙ sym (set.contains-items names q)

@@ -7,8 +7,8 @@ use Rattle.std.specs.Cmp.{IsTotalOrder}
 use Rattle.std.proofs.lemmas.Map.Views.{tells_apart}
 use Rattle.std.proofs.lemmas.Map.Lookups.{exact_bytes, exact_signed}
 use Rattle.std.specs.FinSet as set
-use Rattle.ephemerals.specs.Orders.{Bytes, path_cmp, pair_cmp, Pairs}
-use Rattle.ephemerals.specs.Pairs.{paths_of, without_session}
+use Rattle.ephemerals.specs.Orders.{Bytes, path_cmp, pair_cmp, OwnerPairs}
+use Rattle.ephemerals.specs.Pairs.{paths_of_session, without_session}
 use Rattle.ephemerals.proofs.Totals.{path_total, pair_total, pair_exact}
 use Rattle.values.proofs.SetSteps.{insert-present}
 use Rattle.std.proofs.Math.Bool.{and-false}
@@ -26,35 +26,35 @@ tied-mine k p q =
 tied-session : (k : ℤ) (p q : ℤ × Bytes) → eq_by_cmp pair_cmp q p ≡ true → int_eq q.0 k ≡ int_eq p.0 k
 tied-session k p q e = ap (λ (r : ℤ × Bytes). int_eq r.0 k) (tells_apart pair_exact q p e)
 
-contains-owned-insert : (k : ℤ) (pairs : Pairs) (p : ℤ × Bytes) (q : Bytes)
-    → set.contains (paths_of k (set.insert pairs p)) q
-    ≡ ((int_eq p.0 k && eq_by_cmp path_cmp q p.1) || set.contains (paths_of k pairs) q)
+contains-owned-insert : (k : ℤ) (pairs : OwnerPairs) (p : ℤ × Bytes) (q : Bytes)
+    → set.contains (paths_of_session k (set.insert pairs p)) q
+    ≡ ((int_eq p.0 k && eq_by_cmp path_cmp q p.1) || set.contains (paths_of_session k pairs) q)
 contains-owned-insert k pairs p q =
     contains-owned k (set.insert pairs p) q
     ∙ set.contains-insert pair_total pairs p (k, q)
     ∙ (λ i. tied-mine k p q i || sym (contains-owned k pairs q) i)
 
-owned-insert-mine : (k : ℤ) (pairs : Pairs) (p : ℤ × Bytes) → int_eq p.0 k ≡ true
-    → paths_of k (set.insert pairs p) ≡ set.insert (paths_of k pairs) p.1
+owned-insert-mine : (k : ℤ) (pairs : OwnerPairs) (p : ℤ × Bytes) → int_eq p.0 k ≡ true
+    → paths_of_session k (set.insert pairs p) ≡ set.insert (paths_of_session k pairs) p.1
 owned-insert-mine k pairs p mine = set.same_set path_total exact_bytes _ _ (λ q.
     contains-owned-insert k pairs p q
-    ∙ ap (λ b. (b && eq_by_cmp path_cmp q p.1) || set.contains (paths_of k pairs) q) mine
-    ∙ sym (set.contains-insert path_total (paths_of k pairs) p.1 q))
+    ∙ ap (λ b. (b && eq_by_cmp path_cmp q p.1) || set.contains (paths_of_session k pairs) q) mine
+    ∙ sym (set.contains-insert path_total (paths_of_session k pairs) p.1 q))
 
-owned-insert-other : (k : ℤ) (pairs : Pairs) (p : ℤ × Bytes) → int_eq p.0 k ≡ false
-    → paths_of k (set.insert pairs p) ≡ paths_of k pairs
+owned-insert-other : (k : ℤ) (pairs : OwnerPairs) (p : ℤ × Bytes) → int_eq p.0 k ≡ false
+    → paths_of_session k (set.insert pairs p) ≡ paths_of_session k pairs
 owned-insert-other k pairs p other = set.same_set path_total exact_bytes _ _ (λ q.
     contains-owned-insert k pairs p q
-    ∙ ap (λ b. (b && eq_by_cmp path_cmp q p.1) || set.contains (paths_of k pairs) q) other)
+    ∙ ap (λ b. (b && eq_by_cmp path_cmp q p.1) || set.contains (paths_of_session k pairs) q) other)
 
-contains-without-insert : (k : ℤ) (pairs : Pairs) (p q : ℤ × Bytes)
+contains-without-insert : (k : ℤ) (pairs : OwnerPairs) (p q : ℤ × Bytes)
     → set.contains (without_session k (set.insert pairs p)) q
     ≡ ((eq_by_cmp pair_cmp q p || set.contains pairs q) && not (int_eq q.0 k))
 contains-without-insert k pairs p q =
     contains-without k (set.insert pairs p) q
     ∙ ap (λ b. b && not (int_eq q.0 k)) (set.contains-insert pair_total pairs p q)
 
-without-insert-mine : (k : ℤ) (pairs : Pairs) (p : ℤ × Bytes) → int_eq p.0 k ≡ true
+without-insert-mine : (k : ℤ) (pairs : OwnerPairs) (p : ℤ × Bytes) → int_eq p.0 k ≡ true
     → without_session k (set.insert pairs p) ≡ without_session k pairs
 without-insert-mine k pairs p mine = set.same_set pair_total pair_exact _ _ (λ q.
     contains-without-insert k pairs p q
@@ -65,7 +65,7 @@ without-insert-mine k pairs p mine = set.same_set pair_total pair_exact _ _ (λ 
     by true b m h = ap not (h refl) ∙ sym (ap (λ x. b && not x) (h refl) ∙ and-false b)
     by false b m h = refl
 
-without-insert-other : (k : ℤ) (pairs : Pairs) (p : ℤ × Bytes) → int_eq p.0 k ≡ false
+without-insert-other : (k : ℤ) (pairs : OwnerPairs) (p : ℤ × Bytes) → int_eq p.0 k ≡ false
     → without_session k (set.insert pairs p) ≡ set.insert (without_session k pairs) p
 without-insert-other k pairs p other = set.same_set pair_total pair_exact _ _ (λ q.
     contains-without-insert k pairs p q
@@ -82,11 +82,11 @@ len-insert-new : {K : Type 0} {R : K → K → Ordering} → IsTotalOrder R → 
 len-insert-new o s k new = set.len-insert o s k ∙ ap (λ b. cond b (set.len s) (set.len s + 1)) new
 
 -- the session's pairs and the others are all pairs
-abbrev PartsAddUp : ℤ → Pairs → Type 0
-PartsAddUp k pairs = set.len (paths_of k pairs) + set.len (without_session k pairs) ≡ set.len pairs
+abbrev PartsAddUp : ℤ → OwnerPairs → Type 0
+PartsAddUp k pairs = set.len (paths_of_session k pairs) + set.len (without_session k pairs) ≡ set.len pairs
 
 -- a new pair is the session's or another's
-parts-grow : (k : ℤ) (pairs : Pairs) (p : ℤ × Bytes) → set.contains pairs p ≡ false → PartsAddUp k pairs
+parts-grow : (k : ℤ) (pairs : OwnerPairs) (p : ℤ × Bytes) → set.contains pairs p ≡ false → PartsAddUp k pairs
     → PartsAddUp k (set.insert pairs p)
 parts-grow k pairs p new sum = by (int_eq p.0 k) refl
   where
@@ -95,13 +95,13 @@ parts-grow k pairs p new sum = by (int_eq p.0 k) refl
 
     by : (b : Bool) → int_eq p.0 k ≡ b → PartsAddUp k (set.insert pairs p)
     by true mine =
-        let unseen : set.contains (paths_of k pairs) p.1 ≡ false =
+        let unseen : set.contains (paths_of_session k pairs) p.1 ≡ false =
         contains-owned k pairs p.1
         ∙ (λ i. set.contains pairs (sym (tells_apart exact_signed p.0 k mine) i, p.1))
         ∙ new in
-        let owned : set.len (paths_of k (set.insert pairs p)) ≡ set.len (paths_of k pairs) + 1 =
+        let owned : set.len (paths_of_session k (set.insert pairs p)) ≡ set.len (paths_of_session k pairs) + 1 =
         ap set.len (owned-insert-mine k pairs p mine)
-        ∙ len-insert-new path_total (paths_of k pairs) p.1 unseen in
+        ∙ len-insert-new path_total (paths_of_session k pairs) p.1 unseen in
         let rest : set.len (without_session k (set.insert pairs p)) ≡ set.len (without_session k pairs) =
         ap set.len (without-insert-mine k pairs p mine) in
         omega (arith, more, owned, rest, sum)
@@ -109,7 +109,7 @@ parts-grow k pairs p new sum = by (int_eq p.0 k) refl
         let unseen : set.contains (without_session k pairs) p ≡ false =
         contains-without k pairs p
         ∙ ap (λ b. b && not (int_eq p.0 k)) new in
-        let owned : set.len (paths_of k (set.insert pairs p)) ≡ set.len (paths_of k pairs) =
+        let owned : set.len (paths_of_session k (set.insert pairs p)) ≡ set.len (paths_of_session k pairs) =
         ap set.len (owned-insert-other k pairs p other) in
         let rest : set.len (without_session k (set.insert pairs p)) ≡ set.len (without_session k pairs) + 1 =
         ap set.len (without-insert-other k pairs p other)
@@ -120,7 +120,7 @@ parts-grow k pairs p new sum = by (int_eq p.0 k) refl
 len-parts-listed : (k : ℤ) (ps : List (ℤ × Bytes)) → PartsAddUp k (set.from_list ps)
 len-parts-listed k [] = omega (arith, ap set.len owned ∙ set.len-empty path_cmp, ap set.len rest)
   where
-    owned : paths_of k (set.empty {R = pair_cmp}) ≡ set.empty
+    owned : paths_of_session k (set.empty {R = pair_cmp}) ≡ set.empty
     owned = set.same_set path_total exact_bytes _ _
         (λ q. contains-owned k (set.empty {R = pair_cmp}) q ∙ set.contains-empty pair_cmp (k, q)
         ∙ sym (set.contains-empty path_cmp q))
@@ -137,7 +137,8 @@ len-parts-listed k (p ∷ ps) = by (len-parts-listed k ps) (set.contains (set.fr
     by sum true here = subst (PartsAddUp k) (insert-present pair_total pair_exact (set.from_list ps) p here) sum
     by sum false new = parts-grow k (set.from_list ps) p new sum
 
-pub len-parts : (k : ℤ) (pairs : Pairs) → set.len (paths_of k pairs) + set.len (without_session k pairs) ≡ set.len pairs
+pub len-parts : (k : ℤ) (pairs : OwnerPairs)
+    → set.len (paths_of_session k pairs) + set.len (without_session k pairs) ≡ set.len pairs
 len-parts k pairs =
     let listed : set.from_list (set.items pairs) ≡ pairs =
     set.same_set pair_total pair_exact _ _
@@ -145,7 +146,8 @@ len-parts k pairs =
     subst (PartsAddUp k) listed (len-parts-listed k (set.items pairs))
 
 -- what a member says of the count
-pub some-contained : (pairs : Pairs) (p : ℤ × Bytes) (count : ℕ) → count ≡ set.len pairs → set.contains pairs p ≡ true
+pub some-contained : (pairs : OwnerPairs) (p : ℤ × Bytes) (count : ℕ) → count ≡ set.len pairs
+    → set.contains pairs p ≡ true
     → 1 ≤ count
 some-contained pairs p zero is here =
     absurd (true≢false
@@ -153,13 +155,14 @@ some-contained pairs p zero is here =
 some-contained pairs p (suc count) is here = omega arith
 
 -- a pair more, or none
-pub count-insert : (pairs new : Pairs) (p : ℤ × Bytes) (count : ℕ) → count ≡ set.len pairs → new ≡ set.insert pairs p
+pub count-insert : (pairs new : OwnerPairs) (p : ℤ × Bytes) (count : ℕ) → count ≡ set.len pairs
+    → new ≡ set.insert pairs p
     → set.contains pairs p ≡ false → count + 1 ≡ set.len new
 count-insert pairs new p count is made none =
     let more : set.len new ≡ set.len pairs + 1 = ap set.len made ∙ len-insert-new pair_total pairs p none in
     omega (arith, is, more)
 
-pub count-insert_again : (pairs new : Pairs) (p : ℤ × Bytes) (count : ℕ) → count ≡ set.len pairs
+pub count-insert_again : (pairs new : OwnerPairs) (p : ℤ × Bytes) (count : ℕ) → count ≡ set.len pairs
     → new ≡ set.insert pairs p → set.contains pairs p ≡ true → count ≡ set.len new
 count-insert_again pairs new p count is made here =
     is
@@ -167,14 +170,15 @@ count-insert_again pairs new p count is made here =
     ∙ sym (ap set.len made)
 
 -- a pair less, or none
-pub count-remove : (pairs new : Pairs) (p : ℤ × Bytes) (count : ℕ) → count ≡ set.len pairs → new ≡ set.remove pairs p
+pub count-remove : (pairs new : OwnerPairs) (p : ℤ × Bytes) (count : ℕ) → count ≡ set.len pairs
+    → new ≡ set.remove pairs p
     → set.contains pairs p ≡ true → count - 1 ≡ set.len new
 count-remove pairs new p count is made here =
     ap (λ n. n - 1) is
     ∙ sym (ap set.len made ∙ set.len-remove pair_total pairs p
     ∙ ap (λ b. cond b (set.len pairs - 1) (set.len pairs)) here)
 
-pub count-remove_none : (pairs new : Pairs) (p : ℤ × Bytes) (count : ℕ) → count ≡ set.len pairs
+pub count-remove_none : (pairs new : OwnerPairs) (p : ℤ × Bytes) (count : ℕ) → count ≡ set.len pairs
     → new ≡ set.remove pairs p → set.contains pairs p ≡ false → count ≡ set.len new
 count-remove_none pairs new p count is made none =
     is
@@ -182,10 +186,11 @@ count-remove_none pairs new p count is made none =
     ∙ ap (λ b. cond b (set.len pairs - 1) (set.len pairs)) none)
 
 -- the pairs of a session less
-pub count-owned : (k : ℤ) (pairs : Pairs) (count owned : ℕ) → count ≡ set.len pairs → owned ≡ set.len (paths_of k pairs)
+pub count-owned : (k : ℤ) (pairs : OwnerPairs) (count owned : ℕ) → count ≡ set.len pairs
+    → owned ≡ set.len (paths_of_session k pairs)
     → owned ≤ count
 count-owned k pairs count owned is some = omega (arith, is, some, len-parts k pairs)
 
-pub count-without : (k : ℤ) (pairs new : Pairs) (count owned : ℕ) → count ≡ set.len pairs
-    → owned ≡ set.len (paths_of k pairs) → new ≡ without_session k pairs → count - owned ≡ set.len new
+pub count-without : (k : ℤ) (pairs new : OwnerPairs) (count owned : ℕ) → count ≡ set.len pairs
+    → owned ≡ set.len (paths_of_session k pairs) → new ≡ without_session k pairs → count - owned ≡ set.len new
 count-without k pairs new count owned is some made = omega (arith, is, some, len-parts k pairs, ap set.len made)

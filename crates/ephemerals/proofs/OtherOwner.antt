@@ -5,12 +5,13 @@ use Rattle.std.specs.Ordering.{eq_by_cmp, is_eq, int_eq}
 use Rattle.std.specs.Cmp.{int_cmp_total, tied_itself}
 use Rattle.std.proofs.lemmas.Map.Views.{tells_apart}
 use Rattle.std.specs.FinSet as set
-use Rattle.ephemerals.specs.Orders.{Bytes, pair_cmp, Pairs}
+use Rattle.ephemerals.specs.Orders.{Bytes, pair_cmp, OwnerPairs}
 use Rattle.ephemerals.specs.Pairs.{with_pair, without_pair, with_other_owner}
 use Rattle.ephemerals.proofs.Totals.{pair_total, pair_exact}
 use Rattle.ephemerals.proofs.Ties.{same_session}
 
-pub with_other_owner-same : (pairs : Pairs) (k : ℤ) (p : Bytes) → with_pair pairs k p ≡ with_other_owner pairs p k k
+pub with_other_owner-same : (pairs : OwnerPairs) (k : ℤ) (p : Bytes)
+    → with_pair pairs k p ≡ with_other_owner pairs p k k
 with_other_owner-same pairs k p = by (int_eq k (pos 0))
   where
     again : set.insert pairs (k, p) ≡ set.insert (set.remove pairs (k, p)) (k, p)
@@ -31,7 +32,7 @@ with_other_owner-same pairs k p = by (int_eq k (pos 0))
     by true = refl
     by false = again
 
-pub with_other_owner-apart : (pairs : Pairs) (old new : ℤ) (p : Bytes) → int_eq old new ≡ false
+pub with_other_owner-apart : (pairs : OwnerPairs) (old new : ℤ) (p : Bytes) → int_eq old new ≡ false
     → without_pair (with_pair pairs new p) old p ≡ with_other_owner pairs p old new
 with_other_owner-apart pairs old new p apart = by (int_eq old (pos 0)) (int_eq new (pos 0))
   where

@@ -14,8 +14,8 @@ use Rattle.std.proofs.lemmas.Map.Lookups.{exact_signed, exact_bytes}
 use Rattle.std.proofs.lemmas.Map.Entries.{none_past_head}
 use Rattle.std.proofs.lemmas.Map.Keys.{IsDistinct-from_sorted}
 use Rattle.std.specs.FinSet as set
-use Rattle.ephemerals.specs.Orders.{Bytes, path_cmp, pair_cmp, Names, Pairs}
-use Rattle.ephemerals.specs.Pairs.{paths_of, without_session}
+use Rattle.ephemerals.specs.Orders.{Bytes, path_cmp, pair_cmp, Names, OwnerPairs}
+use Rattle.ephemerals.specs.Pairs.{paths_of_session, without_session}
 use Rattle.ephemerals.specs.Inner.PairsView.{all_pairs, pairs_of}
 use Rattle.ephemerals.proofs.Totals.{path_total, pair_total, pair_exact}
 use Rattle.ephemerals.proofs.Ties.{tied_then, same_session}
@@ -132,7 +132,7 @@ module _ (m n : BTreeMap ℤ Names) (om : tree.IsOrdered int_cmp m) (on : tree.I
     (u : tree.UpdatesBy int_cmp (int_cmp k) m n (Some new)) where
   pairs-change : (change : Bool → Bool → Bool) → ((b : Bool) → change false b ≡ b)
       → ((p : Bytes) → set.contains new p ≡ change (eq_by_cmp path_cmp p q) (set.contains old p))
-      → (step : Pairs)
+      → (step : OwnerPairs)
       → ((r : ℤ × Bytes)
       → set.contains step r ≡ change (eq_by_cmp pair_cmp r (k, q)) (set.contains (pairs_of m.entries) r))
       → pairs_of n.entries ≡ step
@@ -237,13 +237,14 @@ pairs-emptied m n om on k new e u p =
 
 -- the set of a session is the paths that it owns
 pub owned-listed : (m : BTreeMap ℤ Names) → tree.IsOrdered int_cmp m → (k : ℤ) (found : Names)
-    → ((p : Bytes) → listed (tree.get int_cmp m k) p ≡ set.contains found p) → found ≡ paths_of k (pairs_of m.entries)
+    → ((p : Bytes) → listed (tree.get int_cmp m k) p ≡ set.contains found p)
+    → found ≡ paths_of_session k (pairs_of m.entries)
 owned-listed m om k found is =
     set.same_set path_total exact_bytes _ _
     (λ q. sym (is q) ∙ sym (contains-pairs m om k q) ∙ sym (contains-owned k (pairs_of m.entries) q))
 
 pub owned-none : (m : BTreeMap ℤ Names) → tree.IsOrdered int_cmp m → (k : ℤ) → tree.get int_cmp m k ≡ None
-    → paths_of k (pairs_of m.entries) ≡ set.empty
+    → paths_of_session k (pairs_of m.entries) ≡ set.empty
 owned-none m om k none =
     set.same_set path_total exact_bytes _ _
     (λ q. contains-owned k (pairs_of m.entries) q ∙ contains-pairs m om k q ∙ ap (λ o. listed o q) none

@@ -6,9 +6,9 @@ use Rattle.std.specs.Cmp.{IsTotalOrder, int_cmp_total, then_total, on_total}
 use Rattle.std.proofs.lemmas.Map.Lookups.{exact_signed, exact_bytes, exact_pairs, CmpEqualImpliesEq}
 use Rattle.std.specs.FinMap as finmap
 use Rattle.std.specs.FinSet as set
-use Rattle.ephemerals.specs.Orders.{Bytes, path_cmp, pair_cmp, Pairs, Sessions}
+use Rattle.ephemerals.specs.Orders.{Bytes, path_cmp, pair_cmp, OwnerPairs, SessionIds}
 use Rattle.ephemerals.specs.Grouped as grouped
-use Rattle.ephemerals.specs.Inner.SessionsView.{PathPairs, turned}
+use Rattle.ephemerals.specs.Inner.SessionsView.{PathPairs, swapped_pairs}
 use Rattle.ephemerals.specs.Inner.Steps.{without_path}
 use Rattle.ephemerals.proofs.Totals.{path_total, pair_total, pair_exact}
 use Rattle.ephemerals.proofs.Ties.{tied_then}
@@ -40,7 +40,7 @@ any-turned [] v q = refl
 any-turned (p ∷ ps) v q = λ i. path_pair_cmp q p.0 v p.1 i || any-turned ps v q i
 
 pub contains-turned : (pairs : PathPairs) (v : ℤ) (q : Bytes)
-    → set.contains (turned pairs) (v, q) ≡ set.contains pairs (q, v)
+    → set.contains (swapped_pairs pairs) (v, q) ≡ set.contains pairs (q, v)
 contains-turned pairs v q =
     set.contains-from_list pair_total (map (λ (p : Bytes × ℤ). (p.1, p.0)) (set.items pairs)) (v, q)
     ∙ any-turned (set.items pairs) v q
@@ -50,12 +50,12 @@ abbrev Sets : Type 0
 Sets = finmap.FinMap path_cmp (set.FinSet int_cmp)
 
 -- whether the set that was found has the session
-abbrev pub listed : Option Sessions → ℤ → Bool
+abbrev pub listed : Option SessionIds → ℤ → Bool
 listed None v = false
 listed (Some sessions) v = set.contains sessions v
 
-abbrev pub pairs_of : Sets → Pairs
-pairs_of m = turned (grouped.pairs_of m)
+abbrev pub pairs_of : Sets → OwnerPairs
+pairs_of m = swapped_pairs (grouped.pairs_of m)
 
 pub contains-pairs : (m : Sets) (v : ℤ) (q : Bytes) → set.contains (pairs_of m) (v, q) ≡ listed (finmap.get m q) v
 contains-pairs m v q =
@@ -63,77 +63,81 @@ contains-pairs m v q =
     ∙ by_key.contains-pairs path_total int_cmp_total exact_bytes exact_signed m q v
     ∙ by (finmap.get m q)
   where
-    by : (o : Option Sessions) → by_key.listed path_total int_cmp_total exact_bytes exact_signed o v ≡ listed o v
+    by : (o : Option SessionIds) → by_key.listed path_total int_cmp_total exact_bytes exact_signed o v ≡ listed o v
     by None = refl
     by (Some s) = refl
 
-pub contains-found : (m : Sets) (k : Bytes) (found : Option Sessions) → finmap.get m k ≡ found → (v : ℤ)
+pub contains-found : (m : Sets) (k : Bytes) (found : Option SessionIds) → finmap.get m k ≡ found → (v : ℤ)
     → set.contains (pairs_of m) (v, k) ≡ listed found v
 contains-found m k found is v = contains-pairs m v k ∙ ap (λ o. listed o v) is
 
 -- what an operation on pairs of a path and a session is on pairs of a session and a path
 turned-insert : (pairs : PathPairs) (k : Bytes) (w : ℤ)
-    → turned (set.insert pairs (k, w)) ≡ set.insert (turned pairs) (w, k)
+    → swapped_pairs (set.insert pairs (k, w)) ≡ set.insert (swapped_pairs pairs) (w, k)
 turned-insert pairs k w = set.same_set pair_total pair_exact _ _ (λ r.
     contains-turned (set.insert pairs (k, w)) r.0 r.1
     ∙ set.contains-insert path_pair_total pairs (k, w) (r.1, r.0)
     ∙ (λ i. sym (path_pair_cmp r.1 k r.0 w) i || sym (contains-turned pairs r.0 r.1) i)
-    ∙ sym (set.contains-insert pair_total (turned pairs) (w, k) r))
+    ∙ sym (set.contains-insert pair_total (swapped_pairs pairs) (w, k) r))
 
 turned-remove : (pairs : PathPairs) (k : Bytes) (w : ℤ)
-    → turned (set.remove pairs (k, w)) ≡ set.remove (turned pairs) (w, k)
+    → swapped_pairs (set.remove pairs (k, w)) ≡ set.remove (swapped_pairs pairs) (w, k)
 turned-remove pairs k w = set.same_set pair_total pair_exact _ _ (λ r.
     contains-turned (set.remove pairs (k, w)) r.0 r.1
     ∙ set.contains-remove path_pair_total pairs (k, w) (r.1, r.0)
     ∙ (λ i. not (sym (path_pair_cmp r.1 k r.0 w) i) && sym (contains-turned pairs r.0 r.1) i)
-    ∙ sym (set.contains-remove pair_total (turned pairs) (w, k) r))
+    ∙ sym (set.contains-remove pair_total (swapped_pairs pairs) (w, k) r))
 
 turned-without : (pairs : PathPairs) (k : Bytes)
-    → turned (set.retain pairs (λ (p : Bytes × ℤ). not (eq_by_cmp path_cmp k p.0))) ≡ without_path k (turned pairs)
+    → swapped_pairs (set.retain pairs (λ (p : Bytes × ℤ). not (eq_by_cmp path_cmp k p.0)))
+    ≡ without_path k (swapped_pairs pairs)
 turned-without pairs k = set.same_set pair_total pair_exact _ _ (λ r.
     contains-turned (set.retain pairs (λ (p : Bytes × ℤ). not (eq_by_cmp path_cmp k p.0))) r.0 r.1
     ∙ set.contains-retain pairs (λ (p : Bytes × ℤ). not (eq_by_cmp path_cmp k p.0)) (r.1, r.0)
     (λ x tie. ap (λ (p : Bytes × ℤ). not (eq_by_cmp path_cmp k p.0)) (sym (path_pair_exact (r.1, r.0) x tie)))
     ∙ ap (λ b. b && not (eq_by_cmp path_cmp k r.1)) (sym (contains-turned pairs r.0 r.1))
-    ∙ sym (set.contains-retain (turned pairs) (λ (p : ℤ × Bytes). not (eq_by_cmp path_cmp k p.1)) r
+    ∙ sym (set.contains-retain (swapped_pairs pairs) (λ (p : ℤ × Bytes). not (eq_by_cmp path_cmp k p.1)) r
     (λ x tie. ap (λ (p : ℤ × Bytes). not (eq_by_cmp path_cmp k p.1)) (sym (pair_exact r x tie)))))
 
 -- through the set that stood at the path
-pub insert_through : (m n : Sets) (k : Bytes) (w : ℤ) (old new : Sessions) → n ≡ finmap.insert m k new
+pub insert_through : (m n : Sets) (k : Bytes) (w : ℤ) (old new : SessionIds) → n ≡ finmap.insert m k new
     → finmap.get m k ≡ Some old → new ≡ set.insert old w → pairs_of n ≡ set.insert (pairs_of m) (w, k)
 insert_through m n k w old new made found is =
-    ap turned (by_key.insert_through path_total int_cmp_total exact_bytes exact_signed m n k w old new made found is)
+    ap swapped_pairs (by_key.insert_through path_total int_cmp_total exact_bytes exact_signed m n k w old new made
+    found is)
     ∙ turned-insert (grouped.pairs_of m) k w
 
 -- as the first session of the path
-pub insert_first : (m n : Sets) (k : Bytes) (w : ℤ) (old new : Sessions) → n ≡ finmap.insert m k new
+pub insert_first : (m n : Sets) (k : Bytes) (w : ℤ) (old new : SessionIds) → n ≡ finmap.insert m k new
     → finmap.get m k ≡ None → old ≡ set.empty → new ≡ set.insert old w → pairs_of n ≡ set.insert (pairs_of m) (w, k)
 insert_first m n k w old new made none empty is =
-    ap turned (by_key.insert_first path_total int_cmp_total exact_bytes exact_signed m n k w old new made none empty is)
+    ap swapped_pairs (by_key.insert_first path_total int_cmp_total exact_bytes exact_signed m n k w old new made none
+    empty is)
     ∙ turned-insert (grouped.pairs_of m) k w
 
-pub remove_through : (m n : Sets) (k : Bytes) (w : ℤ) (old new : Sessions) → n ≡ finmap.insert m k new
+pub remove_through : (m n : Sets) (k : Bytes) (w : ℤ) (old new : SessionIds) → n ≡ finmap.insert m k new
     → finmap.get m k ≡ Some old → new ≡ set.remove old w → pairs_of n ≡ set.remove (pairs_of m) (w, k)
 remove_through m n k w old new made found is =
-    ap turned (by_key.remove_through path_total int_cmp_total exact_bytes exact_signed m n k w old new made found is)
+    ap swapped_pairs (by_key.remove_through path_total int_cmp_total exact_bytes exact_signed m n k w old new made
+    found is)
     ∙ turned-remove (grouped.pairs_of m) k w
 
 -- no pair of a path that has no set
 pub remove_none : (m : Sets) (k : Bytes) (w : ℤ) → finmap.get m k ≡ None
     → pairs_of m ≡ set.remove (pairs_of m) (w, k)
 remove_none m k w none =
-    ap turned (by_key.remove_none path_total int_cmp_total exact_bytes exact_signed m k w none)
+    ap swapped_pairs (by_key.remove_none path_total int_cmp_total exact_bytes exact_signed m k w none)
     ∙ turned-remove (grouped.pairs_of m) k w
 
 -- a path without sessions is forgotten
 pub forget : (m n : Sets) (k : Bytes) → n ≡ finmap.remove m k → ((v : ℤ) → set.contains (pairs_of m) (v, k) ≡ false)
     → pairs_of n ≡ pairs_of m
 forget m n k made none =
-    ap turned (by_key.forget path_total int_cmp_total exact_bytes exact_signed m n k made
+    ap swapped_pairs (by_key.forget path_total int_cmp_total exact_bytes exact_signed m n k made
     (λ v. sym (contains-turned (grouped.pairs_of m) v k) ∙ none v))
 
 -- nor has one whose set was emptied a session
-pub emptied : (m n : Sets) (k : Bytes) (new : Sessions) → n ≡ finmap.insert m k new → new ≡ set.empty → (v : ℤ)
+pub emptied : (m n : Sets) (k : Bytes) (new : SessionIds) → n ≡ finmap.insert m k new → new ≡ set.empty → (v : ℤ)
     → set.contains (pairs_of n) (v, k) ≡ false
 emptied m n k new made e v =
     contains-turned (grouped.pairs_of n) v k
@@ -142,7 +146,7 @@ emptied m n k new made e v =
 -- all pairs of a path are taken out
 pub taken : (m n : Sets) (k : Bytes) → n ≡ finmap.remove m k → pairs_of n ≡ without_path k (pairs_of m)
 taken m n k made =
-    ap turned (by_key.taken path_total int_cmp_total exact_bytes exact_signed m n k made)
+    ap swapped_pairs (by_key.taken path_total int_cmp_total exact_bytes exact_signed m n k made)
     ∙ turned-without (grouped.pairs_of m) k
 
 pub no_pairs : pairs_of (finmap.empty {R = path_cmp}) ≡ set.empty
@@ -152,14 +156,14 @@ no_pairs = set.same_set pair_total pair_exact _ _ (λ r.
     ∙ sym (set.contains-empty pair_cmp r))
 
 -- what was found at a path tells who owns it
-pub if_some : (m : Sets) (k : Bytes) (pairs : Pairs) → pairs_of m ≡ pairs → (found : Option Sessions)
+pub if_some : (m : Sets) (k : Bytes) (pairs : OwnerPairs) → pairs_of m ≡ pairs → (found : Option SessionIds)
     → finmap.get m k ≡ found
     → IfSome found (λ sessions. (v : ℤ) → set.contains sessions v ≡ set.contains pairs (v, k))
 if_some m k pairs is None get = tt
 if_some m k pairs is (Some sessions) get =
     λ v. sym (contains-found m k (Some sessions) get v) ∙ ap (λ s. set.contains s (v, k)) is
 
-pub if_none : (m : Sets) (k : Bytes) (pairs : Pairs) → pairs_of m ≡ pairs → (found : Option Sessions)
+pub if_none : (m : Sets) (k : Bytes) (pairs : OwnerPairs) → pairs_of m ≡ pairs → (found : Option SessionIds)
     → finmap.get m k ≡ found → IfNone found ((v : ℤ) → set.contains pairs (v, k) ≡ false)
 if_none m k pairs is None get =
     λ v. ap (λ s. set.contains s (v, k)) (sym is) ∙ contains-found m k None get v

@@ -3,8 +3,8 @@ use Rattle.std.proofs.Common.{◌≡◌, ℤ, List, [], ◌∷◌, Bool, true, f
 use Rattle.std.specs.List.{list_any, filter}
 use Rattle.std.specs.Ordering.{eq_by_cmp, int_cmp, int_eq}
 use Rattle.std.specs.FinSet as set
-use Rattle.ephemerals.specs.Orders.{Bytes, path_cmp, pair_cmp, Pairs}
-use Rattle.ephemerals.specs.Pairs.{paths_of, without_session}
+use Rattle.ephemerals.specs.Orders.{Bytes, path_cmp, pair_cmp, OwnerPairs}
+use Rattle.ephemerals.specs.Pairs.{paths_of_session, without_session}
 use Rattle.ephemerals.proofs.Totals.{path_total, pair_exact}
 use Rattle.ephemerals.proofs.Ties.{tied_then, same_session}
 
@@ -32,7 +32,8 @@ any-owned k q (p ∷ ps) = by (any-owned k q ps) (int_eq p.0 k) refl
         (sym (tied_then (int_cmp k p.0) (path_cmp q p.1)
         ∙ ap (λ b. b && eq_by_cmp path_cmp q p.1) (sym (same_session p.0 k) ∙ e)))
 
-pub contains-owned : (k : ℤ) (pairs : Pairs) (q : Bytes) → set.contains (paths_of k pairs) q ≡ set.contains pairs (k, q)
+pub contains-owned : (k : ℤ) (pairs : OwnerPairs) (q : Bytes)
+    → set.contains (paths_of_session k pairs) q ≡ set.contains pairs (k, q)
 contains-owned k pairs q =
     set.contains-from_list path_total
     (map (λ (p : ℤ × Bytes). p.1) (filter (λ (p : ℤ × Bytes). int_eq p.0 k) (set.items pairs))) q
@@ -40,7 +41,7 @@ contains-owned k pairs q =
     ∙ sym (set.contains-items pairs (k, q))
 
 -- the pairs of the other sessions
-pub contains-without : (k : ℤ) (pairs : Pairs) (q : ℤ × Bytes)
+pub contains-without : (k : ℤ) (pairs : OwnerPairs) (q : ℤ × Bytes)
     → set.contains (without_session k pairs) q ≡ (set.contains pairs q && not (int_eq q.0 k))
 contains-without k pairs q =
     set.contains-retain pairs (λ (p : ℤ × Bytes). not (int_eq p.0 k)) q

@@ -8,9 +8,9 @@ use Rattle.std.specs.Ordering.{eq_by_cmp, is_eq, int_cmp}
 use Rattle.std.specs.Cmp.{int_cmp_total, eq_by_cmp_equiv, tied_itself}
 use Rattle.std.proofs.lemmas.Map.Lookups.{exact_signed}
 use Rattle.std.specs.FinSet as set
-use Rattle.ephemerals.specs.Orders.{Sessions}
+use Rattle.ephemerals.specs.Orders.{SessionIds}
 
-abbrev set_of : List ℤ → Sessions
+abbrev set_of : List ℤ → SessionIds
 set_of keys = set.from_list keys
 
 pub contains-keys : (keys : List ℤ) (q : ℤ) → set.contains (set_of keys) q ≡ list_any (eq_by_cmp int_cmp q) keys

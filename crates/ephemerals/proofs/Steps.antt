@@ -7,22 +7,22 @@ use Rattle.std.specs.Cmp.{int_cmp_total, eq_by_cmp_equiv}
 use Rattle.std.proofs.lemmas.Map.Views.{tells_apart}
 use Rattle.std.proofs.lemmas.Map.Lookups.{exact_signed, exact_bytes}
 use Rattle.std.specs.FinSet as set
-use Rattle.ephemerals.specs.Orders.{Bytes, Names, Pairs, Sessions, path_cmp, pair_cmp, in_order}
-use Rattle.ephemerals.specs.Pairs.{paths_of, without_session, pairs_at, without_paths}
+use Rattle.ephemerals.specs.Orders.{Bytes, Names, OwnerPairs, SessionIds, path_cmp, pair_cmp, sorted_names}
+use Rattle.ephemerals.specs.Pairs.{paths_of_session, without_session, pairs_at, without_paths}
 use Rattle.ephemerals.specs.Inner.PairsView.{pairs_of}
-use Rattle.ephemerals.specs.Inner.Steps.{pairs_on, without_path, of_session, at_path, without_all, with_all, without_each, with_each, HasGainedAt, HasLostAt, HasGainedOf}
+use Rattle.ephemerals.specs.Inner.Steps.{pairs_on, without_path, pairs_with_session, pairs_with_path, without_all, with_all, without_listed_paths, with_pairs_from, HasGainedAt, HasLostAt, HasGainedOf}
 use Rattle.ephemerals.proofs.Totals.{path_total, pair_total, pair_exact}
 use Rattle.ephemerals.proofs.Ties.{tied_then, same_session}
 use Rattle.ephemerals.proofs.Ascending.{any-in_order}
 use Rattle.ephemerals.proofs.PairSets.{contains-pairs_of}
 use Rattle.ephemerals.proofs.SessionPaths.{contains-owned, contains-without}
 
-same_pairs : (s t : Pairs) → ((v : ℤ) (q : Bytes) → set.contains s (v, q) ≡ set.contains t (v, q)) → s ≡ t
+same_pairs : (s t : OwnerPairs) → ((v : ℤ) (q : Bytes) → set.contains s (v, q) ≡ set.contains t (v, q)) → s ≡ t
 same_pairs s t same = set.same_set pair_total pair_exact s t (λ r. same r.0 r.1)
 
 -- ---- pairs that are put in or taken out one by one
 
-contains-without_all : (ps : List (ℤ × Bytes)) (s : Pairs) (r : ℤ × Bytes)
+contains-without_all : (ps : List (ℤ × Bytes)) (s : OwnerPairs) (r : ℤ × Bytes)
     → set.contains (without_all ps s) r ≡ (set.contains s r && not (list_any (eq_by_cmp pair_cmp r) ps))
 contains-without_all [] s r = by (set.contains s r)
   where
@@ -39,7 +39,7 @@ contains-without_all (p ∷ ps) s r =
     by true false c = refl
     by false b c = refl
 
-contains-with_all : (ps : List (ℤ × Bytes)) (s : Pairs) (r : ℤ × Bytes)
+contains-with_all : (ps : List (ℤ × Bytes)) (s : OwnerPairs) (r : ℤ × Bytes)
     → set.contains (with_all ps s) r ≡ (set.contains s r || list_any (eq_by_cmp pair_cmp r) ps)
 contains-with_all [] s r = sym (or-false (set.contains s r))
 contains-with_all (p ∷ ps) s r =
@@ -53,7 +53,7 @@ contains-with_all (p ∷ ps) s r =
     by false b c = refl
 
 any-of_session : (k v : ℤ) (q : Bytes) (ps : List Bytes)
-    → list_any (eq_by_cmp pair_cmp (v, q)) (of_session k ps)
+    → list_any (eq_by_cmp pair_cmp (v, q)) (pairs_with_session k ps)
     ≡ (eq_by_cmp int_cmp v k && list_any (eq_by_cmp path_cmp q) ps)
 any-of_session k v q [] = sym (and-false (eq_by_cmp int_cmp v k))
 any-of_session k v q (p ∷ ps) =
@@ -65,7 +65,7 @@ any-of_session k v q (p ∷ ps) =
     by false b c = refl
 
 any-at_path : (p : Bytes) (v : ℤ) (q : Bytes) (ks : List ℤ)
-    → list_any (eq_by_cmp pair_cmp (v, q)) (at_path p ks)
+    → list_any (eq_by_cmp pair_cmp (v, q)) (pairs_with_path p ks)
     ≡ (eq_by_cmp path_cmp q p && list_any (eq_by_cmp int_cmp v) ks)
 any-at_path p v q [] = sym (and-false (eq_by_cmp path_cmp q p))
 any-at_path p v q (k ∷ ks) =
@@ -77,53 +77,54 @@ any-at_path p v q (k ∷ ks) =
     by true false c = refl
     by false b c = refl
 
-pub has_gained_of : (k : ℤ) (paths : Names) (old new : Pairs) → new ≡ with_all (of_session k (in_order paths)) old
+pub has_gained_of : (k : ℤ) (paths : Names) (old new : OwnerPairs)
+    → new ≡ with_all (pairs_with_session k (sorted_names paths)) old
     → HasGainedOf k paths old new
 has_gained_of k paths old new is v q =
     ap (λ s. set.contains s (v, q)) is
-    ∙ contains-with_all (of_session k (in_order paths)) old (v, q)
+    ∙ contains-with_all (pairs_with_session k (sorted_names paths)) old (v, q)
     ∙ ap (λ b. set.contains old (v, q) || b)
-    (any-of_session k v q (in_order paths) ∙ ap (λ b. eq_by_cmp int_cmp v k && b) (any-in_order paths q))
+    (any-of_session k v q (sorted_names paths) ∙ ap (λ b. eq_by_cmp int_cmp v k && b) (any-in_order paths q))
 
-pub has_gained_at : (p : Bytes) (ks : List ℤ) (sessions : Sessions) (old new : Pairs)
+pub has_gained_at : (p : Bytes) (ks : List ℤ) (sessions : SessionIds) (old new : OwnerPairs)
     → ((v : ℤ) → list_any (eq_by_cmp int_cmp v) ks ≡ set.contains sessions v)
-    → new ≡ with_all (at_path p ks) old → HasGainedAt p sessions old new
+    → new ≡ with_all (pairs_with_path p ks) old → HasGainedAt p sessions old new
 has_gained_at p ks sessions old new members is v q =
     ap (λ s. set.contains s (v, q)) is
-    ∙ contains-with_all (at_path p ks) old (v, q)
+    ∙ contains-with_all (pairs_with_path p ks) old (v, q)
     ∙ ap (λ b. set.contains old (v, q) || b)
     (any-at_path p v q ks ∙ ap (λ b. eq_by_cmp path_cmp q p && b) (members v))
 
-pub has_lost_at : (p : Bytes) (ks : List ℤ) (sessions : Sessions) (old new : Pairs)
+pub has_lost_at : (p : Bytes) (ks : List ℤ) (sessions : SessionIds) (old new : OwnerPairs)
     → ((v : ℤ) → list_any (eq_by_cmp int_cmp v) ks ≡ set.contains sessions v)
-    → new ≡ without_all (at_path p ks) old → HasLostAt p sessions old new
+    → new ≡ without_all (pairs_with_path p ks) old → HasLostAt p sessions old new
 has_lost_at p ks sessions old new members is v q =
     ap (λ s. set.contains s (v, q)) is
-    ∙ contains-without_all (at_path p ks) old (v, q)
+    ∙ contains-without_all (pairs_with_path p ks) old (v, q)
     ∙ ap (λ b. set.contains old (v, q) && not b)
     (any-at_path p v q ks ∙ ap (λ b. eq_by_cmp path_cmp q p && b) (members v))
 
 -- ---- all that stands at a path
 
-contains-pairs_on : (p : Bytes) (pairs : Pairs) (v : ℤ) (q : Bytes)
+contains-pairs_on : (p : Bytes) (pairs : OwnerPairs) (v : ℤ) (q : Bytes)
     → set.contains (pairs_on p pairs) (v, q) ≡ (set.contains pairs (v, q) && eq_by_cmp path_cmp p q)
 contains-pairs_on p pairs v q =
     set.contains-retain pairs (λ (r : ℤ × Bytes). eq_by_cmp path_cmp p r.1) (v, q)
     (λ x tie. ap (λ (r : ℤ × Bytes). eq_by_cmp path_cmp p r.1) (sym (pair_exact (v, q) x tie)))
 
-contains-without_path : (p : Bytes) (pairs : Pairs) (v : ℤ) (q : Bytes)
+contains-without_path : (p : Bytes) (pairs : OwnerPairs) (v : ℤ) (q : Bytes)
     → set.contains (without_path p pairs) (v, q) ≡ (set.contains pairs (v, q) && not (eq_by_cmp path_cmp p q))
 contains-without_path p pairs v q =
     set.contains-retain pairs (λ (r : ℤ × Bytes). not (eq_by_cmp path_cmp p r.1)) (v, q)
     (λ x tie. ap (λ (r : ℤ × Bytes). not (eq_by_cmp path_cmp p r.1)) (sym (pair_exact (v, q) x tie)))
 
 -- what is read at the path p in place of q, where they are the same
-at_same : (pairs : Pairs) (v : ℤ) (p q : Bytes) → eq_by_cmp path_cmp p q ≡ true
+at_same : (pairs : OwnerPairs) (v : ℤ) (p q : Bytes) → eq_by_cmp path_cmp p q ≡ true
     → set.contains pairs (v, p) ≡ set.contains pairs (v, q)
 at_same pairs v p q t = ap (λ x. set.contains pairs (v, x)) (tells_apart exact_bytes p q t)
 
 -- all sessions of the path were taken out
-pub lost_all : (p : Bytes) (sessions : Sessions) (old new : Pairs)
+pub lost_all : (p : Bytes) (sessions : SessionIds) (old new : OwnerPairs)
     → ((v : ℤ) → set.contains sessions v ≡ set.contains old (v, p)) → HasLostAt p sessions old new
     → new ≡ without_path p old
 lost_all p sessions old new are lost = same_pairs _ _ (λ v q.
@@ -138,7 +139,7 @@ lost_all p sessions old new are lost = same_pairs _ _ (λ v q.
     by false b c same = refl
 
 -- nobody owns the path
-pub lost_none : (p : Bytes) (old : Pairs) → ((v : ℤ) → set.contains old (v, p) ≡ false) → without_path p old ≡ old
+pub lost_none : (p : Bytes) (old : OwnerPairs) → ((v : ℤ) → set.contains old (v, p) ≡ false) → without_path p old ≡ old
 lost_none p old none = same_pairs _ _ (λ v q.
     contains-without_path p old v q
     ∙ by (eq_by_cmp path_cmp p q) (set.contains old (v, q)) (λ t. sym (at_same old v p q t) ∙ none v))
@@ -149,7 +150,7 @@ lost_none p old none = same_pairs _ _ (λ v q.
     by false false h = refl
 
 -- all sessions of the path among the others were added
-pub gained_all : (p : Bytes) (sessions : Sessions) (old new others : Pairs)
+pub gained_all : (p : Bytes) (sessions : SessionIds) (old new others : OwnerPairs)
     → ((v : ℤ) → set.contains sessions v ≡ set.contains others (v, p)) → HasGainedAt p sessions old new
     → new ≡ set.union old (pairs_on p others)
 gained_all p sessions old new others are gained = same_pairs _ _ (λ v q.
@@ -167,7 +168,7 @@ gained_all p sessions old new others are gained = same_pairs _ _ (λ v q.
     by false false c same = refl
 
 -- nobody among the others owns the path
-pub gained_none : (p : Bytes) (old others : Pairs) → ((v : ℤ) → set.contains others (v, p) ≡ false)
+pub gained_none : (p : Bytes) (old others : OwnerPairs) → ((v : ℤ) → set.contains others (v, p) ≡ false)
     → old ≡ set.union old (pairs_on p others)
 gained_none p old others none = same_pairs _ _ (λ v q.
     sym (or-false (set.contains old (v, q)))
@@ -183,8 +184,8 @@ gained_none p old others none = same_pairs _ _ (λ v q.
 
 -- ---- all that stands at some paths
 
-contains-without_each : (ps : List Bytes) (pairs : Pairs) (v : ℤ) (q : Bytes)
-    → set.contains (without_each ps pairs) (v, q)
+contains-without_each : (ps : List Bytes) (pairs : OwnerPairs) (v : ℤ) (q : Bytes)
+    → set.contains (without_listed_paths ps pairs) (v, q)
     ≡ (set.contains pairs (v, q) && not (list_any (eq_by_cmp path_cmp q) ps))
 contains-without_each [] pairs v q = by (set.contains pairs (v, q))
   where
@@ -204,8 +205,8 @@ contains-without_each (p ∷ ps) pairs v q =
     by false true c = refl
     by false false c = refl
 
-contains-with_each : (from : Pairs) (ps : List Bytes) (pairs : Pairs) (v : ℤ) (q : Bytes)
-    → set.contains (with_each from ps pairs) (v, q)
+contains-with_each : (from : OwnerPairs) (ps : List Bytes) (pairs : OwnerPairs) (v : ℤ) (q : Bytes)
+    → set.contains (with_pairs_from from ps pairs) (v, q)
     ≡ (set.contains pairs (v, q) || (set.contains from (v, q) && list_any (eq_by_cmp path_cmp q) ps))
 contains-with_each from [] pairs v q =
     sym (or-false (set.contains pairs (v, q)))
@@ -225,39 +226,41 @@ contains-with_each from (p ∷ ps) pairs v q =
     by false true a c = refl
     by false false a c = refl
 
-pub contains-pairs_at : (paths : Names) (pairs : Pairs) (r : ℤ × Bytes)
+pub contains-pairs_at : (paths : Names) (pairs : OwnerPairs) (r : ℤ × Bytes)
     → set.contains (pairs_at paths pairs) r ≡ (set.contains pairs r && set.contains paths r.1)
 contains-pairs_at paths pairs r =
     set.contains-retain pairs (λ (p : ℤ × Bytes). set.contains paths p.1) r
     (λ x tie. ap (λ (p : ℤ × Bytes). set.contains paths p.1) (sym (pair_exact r x tie)))
 
-pub contains-without_paths : (paths : Names) (pairs : Pairs) (r : ℤ × Bytes)
+pub contains-without_paths : (paths : Names) (pairs : OwnerPairs) (r : ℤ × Bytes)
     → set.contains (without_paths paths pairs) r ≡ (set.contains pairs r && not (set.contains paths r.1))
 contains-without_paths paths pairs r =
     set.contains-retain pairs (λ (p : ℤ × Bytes). not (set.contains paths p.1)) r
     (λ x tie. ap (λ (p : ℤ × Bytes). not (set.contains paths p.1)) (sym (pair_exact r x tie)))
 
-pub each_dropped : (paths : Names) (pairs : Pairs) → without_each (in_order paths) pairs ≡ without_paths paths pairs
+pub each_dropped : (paths : Names) (pairs : OwnerPairs)
+    → without_listed_paths (sorted_names paths) pairs ≡ without_paths paths pairs
 each_dropped paths pairs = same_pairs _ _ (λ v q.
-    contains-without_each (in_order paths) pairs v q
+    contains-without_each (sorted_names paths) pairs v q
     ∙ ap (λ b. set.contains pairs (v, q) && not b) (any-in_order paths q)
     ∙ sym (contains-without_paths paths pairs (v, q)))
 
-pub each_found : (paths : Names) (pairs : Pairs) → with_each pairs (in_order paths) set.empty ≡ pairs_at paths pairs
+pub each_found : (paths : Names) (pairs : OwnerPairs)
+    → with_pairs_from pairs (sorted_names paths) set.empty ≡ pairs_at paths pairs
 each_found paths pairs = same_pairs _ _ (λ v q.
-    contains-with_each pairs (in_order paths) set.empty v q
+    contains-with_each pairs (sorted_names paths) set.empty v q
     ∙ (λ i. set.contains-empty pair_cmp (v, q) i || (set.contains pairs (v, q) && any-in_order paths q i))
     ∙ sym (contains-pairs_at paths pairs (v, q)))
 
 -- ---- all that a session owns
 
-pub session_dropped : (k : ℤ) (pairs : Pairs)
-    → without_all (of_session k (in_order (paths_of k pairs))) pairs ≡ without_session k pairs
+pub session_dropped : (k : ℤ) (pairs : OwnerPairs)
+    → without_all (pairs_with_session k (sorted_names (paths_of_session k pairs))) pairs ≡ without_session k pairs
 session_dropped k pairs = same_pairs _ _ (λ v q.
-    contains-without_all (of_session k (in_order (paths_of k pairs))) pairs (v, q)
+    contains-without_all (pairs_with_session k (sorted_names (paths_of_session k pairs))) pairs (v, q)
     ∙ ap (λ b. set.contains pairs (v, q) && not b)
-    (any-of_session k v q (in_order (paths_of k pairs))
-    ∙ ap (λ b. eq_by_cmp int_cmp v k && b) (any-in_order (paths_of k pairs) q ∙ contains-owned k pairs q))
+    (any-of_session k v q (sorted_names (paths_of_session k pairs))
+    ∙ ap (λ b. eq_by_cmp int_cmp v k && b) (any-in_order (paths_of_session k pairs) q ∙ contains-owned k pairs q))
     ∙ by (eq_by_cmp int_cmp v k) (set.contains pairs (v, q)) (set.contains pairs (k, q))
     (λ t. ap (λ x. set.contains pairs (x, q)) (sym (tells_apart exact_signed v k t)))
     ∙ ap (λ b. set.contains pairs (v, q) && not b) ((eq_by_cmp_equiv int_cmp_total).symm v k ∙ sym (same_session v k))
@@ -269,7 +272,7 @@ session_dropped k pairs = same_pairs _ _ (λ v q.
     by false b c same = refl
 
 -- one session's paths more
-pub union_step : (old new : Pairs) (e : ℤ × Names) (es : List (ℤ × Names)) → HasGainedOf e.0 e.1 old new
+pub union_step : (old new : OwnerPairs) (e : ℤ × Names) (es : List (ℤ × Names)) → HasGainedOf e.0 e.1 old new
     → set.union new (pairs_of es) ≡ set.union old (pairs_of (e ∷ es))
 union_step old new e es gained = same_pairs _ _ (λ v q.
     set.contains-union pair_total new (pairs_of es) (v, q)
@@ -282,7 +285,7 @@ union_step old new e es gained = same_pairs _ _ (λ v q.
     by true b c = refl
     by false b c = refl
 
-pub union-none : (pairs : Pairs) → set.union pairs (pairs_of []) ≡ pairs
+pub union-none : (pairs : OwnerPairs) → set.union pairs (pairs_of []) ≡ pairs
 union-none pairs = same_pairs _ _ (λ v q.
     set.contains-union pair_total pairs (pairs_of []) (v, q)
     ∙ ap (λ b. set.contains pairs (v, q) || b) (set.contains-empty pair_cmp (v, q))

@@ -16,7 +16,7 @@ use Rattle.std.specs.declared.string.String.{String}
 use Rattle.std.proofs.lemmas.Map.Text.{btree_set_updates_text}
 use Rattle.std.proofs.lemmas.Map.Lookups.{exact_bytes}
 use Rattle.std.specs.FinSet as set
-use Rattle.ephemerals.specs.Orders.{Bytes, path_cmp, in_order}
+use Rattle.ephemerals.specs.Orders.{Bytes, path_cmp, sorted_names}
 use Rattle.ephemerals.specs.Inner.NamesView.{names_of}
 use Rattle.ephemerals.proofs.Totals.{path_total}
 use Rattle.ephemerals.proofs.TextKeys.{query, same_test}
@@ -112,7 +112,7 @@ same_marked xs ys same = finmap.same_map path_total exact_bytes _ _ (λ q.
     ∙ sym (finmap.get-from_entries path_total (marked ys) q ∙ find-marked q ys))
 
 -- a sorted list of texts lists its set in order
-pub in_order-sorted : (bs : List Bytes) → IsStrictlySortedBy path_cmp bs → in_order (set.from_list bs) ≡ bs
+pub in_order-sorted : (bs : List Bytes) → IsStrictlySortedBy path_cmp bs → sorted_names (set.from_list bs) ≡ bs
 in_order-sorted bs s =
     ap (λ m. finmap.keys m)
     (same_marked (set.items (set.from_list {R = path_cmp} bs)) bs
@@ -132,7 +132,7 @@ sorted_bytes {Z} (k ∷ ks) s = (each ks s.0, sorted_bytes ks s.1)
     each (x ∷ xs) h = (h.0, each xs h.1)
 
 pub in_order-names : {Z : Type 0} (keys : List (String Z)) → IsStrictlySortedBy string_cmp keys
-    → in_order (names_of keys) ≡ map string_bytes keys
+    → sorted_names (names_of keys) ≡ map string_bytes keys
 in_order-names keys s = in_order-sorted (map string_bytes keys) (sorted_bytes keys s)
 
 none_less : (b : Bytes) (bs : List Bytes) → AllByRecursion (λ y. path_cmp b y ≡ Less) bs
@@ -177,17 +177,17 @@ sorted_nothing Z = tt
 -- the first text is taken out of a sorted list
 pub popped_first : {Z : Type 0} (r : Option (String Z)) (old new : List (String Z)) → IfSome r (λ k. old ≡ k ∷ new)
     → IfSome r (λ k. All (λ x. string_cmp k x ≡ Less) new) → IsStrictlySortedBy string_cmp new
-    → IfSome r (λ k. in_order (names_of old) ≡ string_bytes k ∷ in_order (names_of new))
+    → IfSome r (λ k. sorted_names (names_of old) ≡ string_bytes k ∷ sorted_names (names_of new))
 popped_first None old new is above sorted = tt
 popped_first (Some k) old new is above sorted =
-    ap (λ ks. in_order (names_of ks)) is
+    ap (λ ks. sorted_names (names_of ks)) is
     ∙ in_order-names (k ∷ new) (sorted_push k new (each_of_all (λ x. string_cmp k x ≡ Less) new above) sorted)
     ∙ ap (λ r. string_bytes k ∷ r) (sym (in_order-names new sorted))
 
 pub popped_none : {Z : Type 0} (r : Option (String Z)) (old : List (String Z)) → IsSome r ↔ (0 < length old)
-    → IfNone r (in_order (names_of old) ≡ [])
+    → IfNone r (sorted_names (names_of old) ≡ [])
 popped_none {Z = Z} None old variant =
-    ap (λ ks. in_order (names_of ks)) (none old variant.1)
+    ap (λ ks. sorted_names (names_of ks)) (none old variant.1)
     ∙ in_order-names {Z = Z} [] (sorted_nothing Z)
   where
     none : {A : Type 0} (xs : List A) → (0 < length xs → false ≡ true) → xs ≡ []

@@ -21,16 +21,16 @@ abbrev pub pair_cmp : ℤ × Bytes → ℤ × Bytes → Ordering
 pair_cmp = then_cmp (on (λ (p : ℤ × Bytes). p.0) int_cmp) (on (λ (p : ℤ × Bytes). p.1) path_cmp)
 
 -- sessions by their ids
-abbrev pub Sessions : Type 0
-Sessions = set.FinSet int_cmp
+abbrev pub SessionIds : Type 0
+SessionIds = set.FinSet int_cmp
 
 -- sessions with the paths of their ephemeral nodes
-abbrev pub Pairs : Type 0
-Pairs = set.FinSet pair_cmp
+abbrev pub OwnerPairs : Type 0
+OwnerPairs = set.FinSet pair_cmp
 
 -- each text once, in ascending bytes
-abbrev pub ascending : List Bytes → List Bytes
-ascending texts = finmap.keys (finmap.from_entries {R = path_cmp} (map (λ (t : Bytes). (t, tt {0})) texts))
+abbrev pub sorted_texts : List Bytes → List Bytes
+sorted_texts texts = finmap.keys (finmap.from_entries {R = path_cmp} (map (λ (t : Bytes). (t, tt {0})) texts))
 
-abbrev pub in_order : Names → List Bytes
-in_order names = ascending (set.items names)
+abbrev pub sorted_names : Names → List Bytes
+sorted_names names = sorted_texts (set.items names)

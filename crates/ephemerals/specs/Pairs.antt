@@ -3,30 +3,30 @@ use Rattle.std.specs.Prelude.{ℤ, pos, not, map, if◌then◌else◌}
 use Rattle.std.specs.List.{filter}
 use Rattle.std.specs.Ordering.{int_eq}
 use Rattle.std.specs.FinSet as set
-use Rattle.ephemerals.specs.Orders.{Bytes, Names, Pairs}
+use Rattle.ephemerals.specs.Orders.{Bytes, Names, OwnerPairs}
 
-abbrev pub with_pair : Pairs → ℤ → Bytes → Pairs
+abbrev pub with_pair : OwnerPairs → ℤ → Bytes → OwnerPairs
 with_pair pairs session path = if int_eq session (pos 0) then pairs else set.insert pairs (session, path)
 
-abbrev pub without_pair : Pairs → ℤ → Bytes → Pairs
+abbrev pub without_pair : OwnerPairs → ℤ → Bytes → OwnerPairs
 without_pair pairs session path = if int_eq session (pos 0) then pairs else set.remove pairs (session, path)
 
 -- the path goes from the old session to the new one
-abbrev pub with_other_owner : Pairs → Bytes → ℤ → ℤ → Pairs
+abbrev pub with_other_owner : OwnerPairs → Bytes → ℤ → ℤ → OwnerPairs
 with_other_owner pairs path old new = with_pair (without_pair pairs old path) new path
 
 -- the paths that the session owns
-abbrev pub paths_of : ℤ → Pairs → Names
-paths_of session pairs =
+abbrev pub paths_of_session : ℤ → OwnerPairs → Names
+paths_of_session session pairs =
     set.from_list (map (λ (p : ℤ × Bytes). p.1) (filter (λ (p : ℤ × Bytes). int_eq p.0 session) (set.items pairs)))
 
-abbrev pub without_session : ℤ → Pairs → Pairs
+abbrev pub without_session : ℤ → OwnerPairs → OwnerPairs
 without_session session pairs = set.retain pairs (λ (p : ℤ × Bytes). not (int_eq p.0 session))
 
 -- the pairs at these paths
-abbrev pub pairs_at : Names → Pairs → Pairs
+abbrev pub pairs_at : Names → OwnerPairs → OwnerPairs
 pairs_at paths pairs = set.retain pairs (λ (p : ℤ × Bytes). set.contains paths p.1)
 
 -- all pairs but those at these paths
-abbrev pub without_paths : Names → Pairs → Pairs
+abbrev pub without_paths : Names → OwnerPairs → OwnerPairs
 without_paths paths pairs = set.retain pairs (λ (p : ℤ × Bytes). not (set.contains paths p.1))

@@ -2,8 +2,8 @@
 
 ghost use Rattle.std.specs.Prelude.{◌≡◌, ℤ, OnOk, OnErr, IfSome, IfNone, IsTrue, false};
 ghost use Rattle.std.specs.FinSet as set;
-ghost use Rattle.ephemerals.specs.Orders.{in_order};
-ghost use Rattle.ephemerals.specs.Inner.Steps.{without_path, without_all, of_session};
+ghost use Rattle.ephemerals.specs.Orders.{sorted_names};
+ghost use Rattle.ephemerals.specs.Inner.Steps.{without_path, without_all, pairs_with_session};
 
 use crate::session_set::SessionSet;
 use crate::text_set::TextSet;
@@ -19,12 +19,12 @@ pub struct ByPath {
 }
 
 impl Model for ByPath {
-    ghost use Rattle.ephemerals.specs.Orders.{Pairs};
+    ghost use Rattle.ephemerals.specs.Orders.{OwnerPairs};
     ghost use Rattle.ephemerals.specs.Inner.SessionsView.{path_pairs};
     ghost use Rattle.std.specs.FinSet as set;
     ghost use Rattle.std.specs.Coded.{coded_ℕ, coded_list, coded_ℤ, coded×};
 
-    ghost Value = { Pairs };
+    ghost Value = { OwnerPairs };
 
     ghost coded = { set.code (coded× coded_ℤ (coded_list coded_ℕ)) };
 
@@ -107,7 +107,7 @@ impl ByPath {
 
     /// Takes out the session at each of the paths.
     pub fn remove_all(&mut self, paths: &TextSet, session: i64)
-        ensures { self.new ≡ without_all (of_session session (in_order paths.now)) self.old }
+        ensures { self.new ≡ without_all (pairs_with_session session (sorted_names paths.now)) self.old }
     {
         for path in paths.iter() {
             self.remove(path.as_str(), session);

@@ -5,7 +5,7 @@ ghost use Rattle.std.specs.Ordering.{int_eq};
 ghost use Rattle.std.specs.Map.Iter.{ShowsInOrder, deref_pair};
 ghost use Rattle.std.specs.FinSet as set;
 ghost use Rattle.ephemerals.specs.Orders.{Names};
-ghost use Rattle.ephemerals.specs.Pairs.{paths_of, without_session};
+ghost use Rattle.ephemerals.specs.Pairs.{paths_of_session, without_session};
 ghost use Rattle.ephemerals.specs.Inner.Steps.{HasLostAt};
 ghost use Rattle.ephemerals.specs.Inner.PairsView.{pairs_of};
 
@@ -29,12 +29,12 @@ impl Model for BySession {
     ghost use Rattle.std.specs.Prelude.{◌≡◌};
     ghost use Rattle.std.specs.Ordering.{int_cmp};
     ghost use Rattle.std.specs.BTreeMap.{IsOrdered};
-    ghost use Rattle.ephemerals.specs.Orders.{Pairs};
+    ghost use Rattle.ephemerals.specs.Orders.{OwnerPairs};
     ghost use Rattle.ephemerals.specs.Inner.PairsView.{pairs_of};
     ghost use Rattle.std.specs.FinSet as set;
     ghost use Rattle.std.specs.Coded.{coded_ℕ, coded_list, coded_ℤ, coded×};
 
-    ghost Value = { Pairs };
+    ghost Value = { OwnerPairs };
 
     ghost coded = { set.code (coded× coded_ℤ (coded_list coded_ℕ)) };
 
@@ -152,9 +152,9 @@ impl BySession {
 
     /// The paths of a session, in ascending bytes, if it owns one.
     pub fn of(&self, session: i64) -> Option<&TextSet>
-        ensures paths { IfSome result (λ paths. paths.now ≡ paths_of session self.now) }
+        ensures paths { IfSome result (λ paths. paths.now ≡ paths_of_session session self.now) }
         ensures some { IfSome result (λ paths. paths.now ≢ set.empty) }
-        ensures none { IfNone result (paths_of session self.now ≡ set.empty) }
+        ensures none { IfNone result (paths_of_session session self.now ≡ set.empty) }
     {
         match self.sets.get(&session) {
             None => return None,
@@ -169,7 +169,7 @@ impl BySession {
 
     /// Takes out all paths of a session, which takes no memory.
     pub fn take_session(&mut self, alloc: Global, session: i64) -> TextSet
-        ensures paths { result ≡ paths_of session self.old }
+        ensures paths { result ≡ paths_of_session session self.old }
         ensures rest { self.new ≡ without_session session self.old }
     {
         match self.sets.remove(&session) {

@@ -3,7 +3,7 @@
 ghost use Rattle.std.specs.Prelude.{◌≡◌, ◌≢◌, ◌&&◌, OnOk, OnErr, IfOk, IfSome, IfNone, not, pos};
 ghost use Rattle.std.specs.Ordering.{int_eq};
 ghost use Rattle.std.specs.FinSet as set;
-ghost use Rattle.ephemerals.specs.Pairs.{with_pair, without_pair, with_other_owner, paths_of, without_session};
+ghost use Rattle.ephemerals.specs.Pairs.{with_pair, without_pair, with_other_owner, paths_of_session, without_session};
 ghost use Rattle.ephemerals.specs.Pairs.{pairs_at, without_paths};
 ghost use Rattle.ephemerals.specs.Inner.Steps.{without_path, pairs_on, HasGainedAt, HasGainedOf};
 
@@ -24,11 +24,11 @@ pub struct Ephemerals {
 
 impl Model for Ephemerals {
     ghost use Rattle.std.specs.Prelude.{◌≡◌};
-    ghost use Rattle.ephemerals.specs.Orders.{Pairs};
+    ghost use Rattle.ephemerals.specs.Orders.{OwnerPairs};
     ghost use Rattle.std.specs.FinSet as set;
     ghost use Rattle.std.specs.Coded.{coded_ℕ, coded_list, coded_ℤ, coded×};
 
-    ghost Value = { Pairs };
+    ghost Value = { OwnerPairs };
 
     ghost coded = { set.code (coded× coded_ℤ (coded_list coded_ℕ)) };
 
@@ -122,16 +122,16 @@ impl Ephemerals {
 
     /// The paths of a session, in ascending bytes, if it owns one.
     pub fn of(&self, session: i64) -> Option<&TextSet>
-        ensures paths { IfSome result (λ paths. paths.now ≡ paths_of session self.now) }
+        ensures paths { IfSome result (λ paths. paths.now ≡ paths_of_session session self.now) }
         ensures some { IfSome result (λ paths. paths.now ≢ set.empty) }
-        ensures none { IfNone result (paths_of session self.now ≡ set.empty) }
+        ensures none { IfNone result (paths_of_session session self.now ≡ set.empty) }
     {
         self.by_session.of(session)
     }
 
     /// Takes out all paths of a session, which takes no memory.
     pub fn take_session(&mut self, alloc: Global, session: i64) -> TextSet
-        ensures paths { result ≡ paths_of session self.old }
+        ensures paths { result ≡ paths_of_session session self.old }
         ensures rest { self.new ≡ without_session session self.old }
     {
         let paths = self.by_session.take_session(alloc, session);

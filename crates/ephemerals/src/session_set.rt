@@ -19,11 +19,11 @@ pub struct SessionSet {
 }
 
 impl Model for SessionSet {
-    ghost use Rattle.ephemerals.specs.Orders.{Sessions};
+    ghost use Rattle.ephemerals.specs.Orders.{SessionIds};
     ghost use Rattle.std.specs.FinSet as set;
     ghost use Rattle.std.specs.Coded.{coded_ℤ};
 
-    ghost Value = { Sessions };
+    ghost Value = { SessionIds };
 
     ghost coded = { set.code coded_ℤ };
 

@@ -5,7 +5,7 @@ ghost use Rattle.std.specs.List.{list_any};
 ghost use Rattle.std.specs.Ordering.{eq_by_cmp};
 ghost use Rattle.std.specs.Map.Iter.{ShowsInOrder, deref};
 ghost use Rattle.std.specs.FinSet as set;
-ghost use Rattle.ephemerals.specs.Orders.{Bytes, path_cmp, in_order};
+ghost use Rattle.ephemerals.specs.Orders.{Bytes, path_cmp, sorted_names};
 
 use std::alloc::{AllocError, Global};
 use std::collections::BTreeSet;
@@ -84,7 +84,7 @@ impl TextSet {
 
     /// The texts in ascending bytes.
     pub fn iter(&self) -> Iter<'_, String>
-        ensures texts { map string_bytes result ≡ in_order self.now }
+        ensures texts { map string_bytes result ≡ sorted_names self.now }
         ensures members { let texts = map string_bytes result in
             (q : Bytes) → set.contains self.now q ≡ list_any (eq_by_cmp path_cmp q) texts }
         ensures runs { ShowsInOrder (deref {X = String Global}) }
@@ -95,8 +95,8 @@ impl TextSet {
     /// Takes out the first text in ascending bytes.
     pub fn pop_first(&mut self) -> Option<String>
         ensures first { IfSome result
-            (λ text. in_order self.old ≡ string_bytes text ∷ in_order self.new) }
-        ensures none { IfNone result (in_order self.old ≡ []) }
+            (λ text. sorted_names self.old ≡ string_bytes text ∷ sorted_names self.new) }
+        ensures none { IfNone result (sorted_names self.old ≡ []) }
         ensures kept { IfNone result (self.new ≡ self.old) }
     {
         self.texts.pop_first()

@@ -9,13 +9,13 @@ use Rattle.std.specs.FinMap as finmap
 use Rattle.std.specs.FinMap.Entries.{is_sorted, below_all, is_some-find}
 use Rattle.std.specs.FinSet as set
 use mathlib.Core.Bool.{true≢false}
-use Rattle.ephemerals.specs.Orders.{Bytes, path_cmp, in_order, ascending}
+use Rattle.ephemerals.specs.Orders.{Bytes, path_cmp, sorted_names, sorted_texts}
 use Rattle.ephemerals.proofs.Totals.{path_total}
 use Rattle.txn_codec.specs.declared.txn.Txn.{Txn}
-use Rattle.data_tree.specs.Footprint.{touches, footprint}
+use Rattle.data_tree.specs.Footprint.{has_path, footprint}
 use Rattle.footprint.specs.declared.cover.Footprint.{Footprint}
 use Rattle.footprint.specs.declared.cover.Footprint.TheVariants.{Barrier, Paths}
-use Rattle.footprint.specs.Footprints.{paths_of, is_barrier, footprint_of}
+use Rattle.footprint.specs.Footprints.{txn_paths, is_barrier, txn_footprint}
 use Rattle.footprint.specs.Laws.{PathsAreTheCells, PathsAscend}
 
 -- texts as entries
@@ -26,12 +26,12 @@ unmarked : (texts : List Bytes) → map (λ (e : Bytes × Unit {0}). e.0) (marke
 unmarked [] = refl
 unmarked (t ∷ ts) = ap (λ r. t ∷ r) (unmarked ts)
 
-in_ascending : (texts : List Bytes) (q : Bytes) → touches (ascending texts) q ≡ touches texts q
+in_ascending : (texts : List Bytes) (q : Bytes) → has_path (sorted_texts texts) q ≡ has_path texts q
 in_ascending texts q =
     sym (finmap.contains_key-keys (finmap.from_entries {R = path_cmp} (marked texts)) q)
     ∙ ap is_some (finmap.get-from_entries path_total (marked texts) q)
     ∙ is_some-find path_cmp q (marked texts)
-    ∙ ap (λ ts. touches ts q) (unmarked texts)
+    ∙ ap (λ ts. has_path ts q) (unmarked texts)
 
 first : (a b : Bool) → T (a && b) → T a
 first true b p = tt
@@ -63,7 +63,7 @@ keys_ascend (e ∷ es) h = (
   keys_ascend es (second (below_all path_cmp e.0 es) (is_sorted path_cmp es) h),
 )
 
-ascending_ascends : (texts : List Bytes) → IsStrictlySortedBy path_cmp (ascending texts)
+ascending_ascends : (texts : List Bytes) → IsStrictlySortedBy path_cmp (sorted_texts texts)
 ascending_ascends texts =
     let entries = finmap.from_entries {R = path_cmp} (marked texts) in
     keys_ascend (finmap.entries entries) (finmap.entries_sorted entries)
@@ -77,20 +77,21 @@ listed Barrier = []
 listed (Paths paths) = paths
 
 -- which list a footprint that is no barrier has
-the_list : (t : Txn) (paths : List Bytes) → footprint_of t ≡ Paths paths → in_order (paths_of t) ≡ paths
+the_list : (t : Txn) (paths : List Bytes) → txn_footprint t ≡ Paths paths → sorted_names (txn_paths t) ≡ paths
 the_list t paths = by (is_barrier t)
   where
-    by : (b : Bool) → cond b Barrier (Paths (in_order (paths_of t))) ≡ Paths paths → in_order (paths_of t) ≡ paths
+    by : (b : Bool) → cond b Barrier (Paths (sorted_names (txn_paths t))) ≡ Paths paths
+        → sorted_names (txn_paths t) ≡ paths
     by true is = absurd (true≢false (sym (ap are_paths is)))
     by false is = ap listed is
 
 pub paths_are_the_cells : PathsAreTheCells
 paths_are_the_cells t paths is path =
-    ap (λ ps. touches ps path) (sym (the_list t paths is))
-    ∙ in_ascending (set.items (paths_of t)) path
-    ∙ sym (set.contains-items (paths_of t) path)
+    ap (λ ps. has_path ps path) (sym (the_list t paths is))
+    ∙ in_ascending (set.items (txn_paths t)) path
+    ∙ sym (set.contains-items (txn_paths t) path)
     ∙ set.contains-from_list path_total (footprint t) path
 
 pub paths_ascend : PathsAscend
 paths_ascend t paths is =
-    subst (λ ps. IsStrictlySortedBy path_cmp ps) (the_list t paths is) (ascending_ascends (set.items (paths_of t)))
+    subst (λ ps. IsStrictlySortedBy path_cmp ps) (the_list t paths is) (ascending_ascends (set.items (txn_paths t)))

@@ -3,16 +3,16 @@ use Rattle.std.specs.Prelude.{◌≡◌, List}
 use Rattle.std.specs.List.Sorted.{IsStrictlySortedBy}
 use Rattle.ephemerals.specs.Orders.{Bytes, path_cmp}
 use Rattle.txn_codec.specs.declared.txn.Txn.{Txn}
-use Rattle.data_tree.specs.Footprint.{touches, footprint}
+use Rattle.data_tree.specs.Footprint.{has_path, footprint}
 use Rattle.footprint.specs.declared.cover.Footprint.TheVariants.{Paths}
-use Rattle.footprint.specs.Footprints.{footprint_of}
+use Rattle.footprint.specs.Footprints.{txn_footprint}
 
 -- a path is listed exactly where the transaction may touch its cell
 abbrev pub PathsAreTheCells : Type 0
 PathsAreTheCells =
-    (t : Txn) (paths : List Bytes) → footprint_of t ≡ Paths paths
-    → (path : Bytes) → touches paths path ≡ touches (footprint t) path
+    (t : Txn) (paths : List Bytes) → txn_footprint t ≡ Paths paths
+    → (path : Bytes) → has_path paths path ≡ has_path (footprint t) path
 
 -- strictly ascending bytes, so each path once
 abbrev pub PathsAscend : Type 0
-PathsAscend = (t : Txn) (paths : List Bytes) → footprint_of t ≡ Paths paths → IsStrictlySortedBy path_cmp paths
+PathsAscend = (t : Txn) (paths : List Bytes) → txn_footprint t ≡ Paths paths → IsStrictlySortedBy path_cmp paths

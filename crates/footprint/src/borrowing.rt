@@ -3,7 +3,7 @@
 ghost use Rattle.std.specs.Prelude.{◌≡◌, ◌++◌, ◌∷◌, [], OnOk, is_some};
 ghost use Rattle.txn_codec.specs.Paths.{parent_of};
 ghost use Rattle.data_tree.specs.Meaning.{error_of, has_error};
-ghost use Rattle.data_tree.specs.Footprint.{footprint_of, footprint_of_parts, footprint};
+ghost use Rattle.data_tree.specs.Footprint.{footprint_of_operation, footprint_of_parts, footprint};
 
 use txn_codec::{Body, Operation, Path, Txn};
 use values::{NoMemory, Str};
@@ -49,7 +49,7 @@ fn add_with_parent<'a>(path: &'a Path, paths: &mut Vec<Str<'a>>) -> Result<(), N
 
 // Adds the paths of an operation.
 fn add_operation<'a>(operation: &'a Operation, paths: &mut Vec<Str<'a>>) -> Result<(), NoMemory>
-    ensures { OnOk result (paths.new.items ≡ paths.old.items ++ footprint_of operation.now) }
+    ensures { OnOk result (paths.new.items ≡ paths.old.items ++ footprint_of_operation operation.now) }
 {
     match operation {
         Operation::Create(create) => add_with_parent(&create.path, paths),

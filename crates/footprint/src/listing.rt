@@ -2,9 +2,9 @@
 
 ghost use Rattle.std.specs.Prelude.{◌≡◌, IfOk};
 ghost use Rattle.std.specs.FinSet as set;
-ghost use Rattle.ephemerals.specs.Orders.{in_order};
+ghost use Rattle.ephemerals.specs.Orders.{sorted_names};
 ghost use Rattle.data_tree.specs.Footprint as cells;
-ghost use Rattle.footprint.specs.Footprints.{is_barrier, footprint_of};
+ghost use Rattle.footprint.specs.Footprints.{is_barrier, txn_footprint};
 
 use crate::borrowing::borrow_paths;
 use crate::cover::Footprint;
@@ -47,7 +47,7 @@ pub fn is_barrier(alloc: Global, txn: &Txn, paths: &[Str<'_>]) -> Result<bool, N
 
 // The set as a list.
 fn listed(alloc: Global, paths: TextSet) -> Result<Listed<Text>, NoMemory>
-    ensures { IfOk result (λ list. list ≡ in_order paths) }
+    ensures { IfOk result (λ list. list ≡ sorted_names paths) }
 {
     let mut left = paths;
     let mut list = Vec::new(alloc);
@@ -59,7 +59,7 @@ fn listed(alloc: Global, paths: TextSet) -> Result<Listed<Text>, NoMemory>
 
 /// The transaction's footprint, or want of memory. It costs the transaction's own paths, times a logarithm.
 pub fn footprint(alloc: Global, txn: &Txn) -> Result<Footprint, NoMemory>
-    ensures { IfOk result (λ footprint. footprint ≡ footprint_of txn.now) }
+    ensures { IfOk result (λ footprint. footprint ≡ txn_footprint txn.now) }
 {
     let mut paths = Vec::new(alloc);
     borrow_paths(txn, &mut paths)?;

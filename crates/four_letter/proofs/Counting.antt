@@ -8,14 +8,14 @@ use Rattle.std.specs.Ordering.{match_ordering}
 use Rattle.std.proofs.lemmas.List.{drop_more, take_more}
 use Rattle.std.proofs.lemmas.Map.Lookups.{CmpEqualImpliesEq}
 use Rattle.std.proofs.Math.Seq.{take-length}
-use Rattle.watch_manager.specs.Ascending.{ascending, inserted}
+use Rattle.watch_manager.specs.Ascending.{sorted_distinct, with_inserted_keys}
 use Rattle.watch_manager.proofs.Ascending.{ascending-nil, inserted-ascending}
 
 -- all of them, put in one by one
 pub inserted-all : {K : Type 0} {R : K → K → Ordering} → IsTotalOrder R → CmpEqualImpliesEq R → (ks : List K)
-    → inserted R [] ks ≡ ascending R ks
+    → with_inserted_keys R [] ks ≡ sorted_distinct R ks
 inserted-all {K} {R} o exact ks =
-    ap (λ keys. inserted R keys ks) (sym (ascending-nil o)) ∙ inserted-ascending o exact [] ks
+    ap (λ keys. with_inserted_keys R keys ks) (sym (ascending-nil o)) ∙ inserted-ascending o exact [] ks
 
 -- keys, by what is seen of them
 pub seen-insert : {K L : Type 0} (S : L → L → Ordering) (f : K → L) (ks : List K) (k : K)

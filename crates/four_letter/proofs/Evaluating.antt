@@ -6,7 +6,7 @@ use Rattle.std.specs.List.{flat_map}
 use Rattle.ephemerals.specs.Orders.{Bytes}
 use Rattle.ephemerals.proofs.Totals.{path_total}
 use Rattle.watch_manager.proofs.Ascending.{placed, ascending-placed}
-use Rattle.four_letter.specs.Texts.{line, wchs_text, wchp_text, session_line}
+use Rattle.four_letter.specs.Texts.{name_value_line, wchs_text, wchp_text, session_line}
 use Rattle.four_letter.specs.Inner.Gathered.{sessions_on}
 use Rattle.four_letter.specs.declared.figures.WatchRow.{WatchRow}
 
@@ -15,14 +15,14 @@ abbrev wchs_placed : List WatchRow → List ℕ
 wchs_placed rows =
     decimal (length (placed nat_cmp_total (map (λ (r : WatchRow). r.conn) rows))) ++ codes " connections watching "
     ++ decimal (length (placed path_total (map (λ (r : WatchRow). r.path) rows))) ++ codes " paths\n"
-    ++ line (codes "Total watches:") (decimal (length rows))
+    ++ name_value_line (codes "Total watches:") (decimal (length rows))
 
 pub wchs-placed : (rows : List WatchRow) → wchs_text rows ≡ wchs_placed rows
 wchs-placed rows i =
     decimal (length (ascending-placed nat_cmp_total (map (λ (r : WatchRow). r.conn) rows) i))
     ++ codes " connections watching "
     ++ decimal (length (ascending-placed path_total (map (λ (r : WatchRow). r.path) rows) i)) ++ codes " paths\n"
-    ++ line (codes "Total watches:") (decimal (length rows))
+    ++ name_value_line (codes "Total watches:") (decimal (length rows))
 
 abbrev wchp_placed : List WatchRow → List ℕ
 wchp_placed rows =

@@ -19,11 +19,11 @@ use Rattle.std.proofs.lemmas.Map.Views.{tells_apart}
 use Rattle.ephemerals.specs.Orders.{Bytes, path_cmp}
 use Rattle.ephemerals.proofs.Totals.{path_total}
 use Rattle.watch_manager.specs.Pairs.{same_path}
-use Rattle.watch_manager.specs.Ascending.{ascending}
+use Rattle.watch_manager.specs.Ascending.{sorted_distinct}
 use Rattle.watch_manager.proofs.Ascending.{entries-empty, entries-in_order, ascending-nil, ascending-cons, insert-ascending}
 use Rattle.four_letter.specs.Watched.{watched_paths, watching_sessions}
-use Rattle.four_letter.specs.Texts.{session_line, path_text, wchp_text}
-use Rattle.four_letter.specs.Inner.Gathered.{Gathered, gathered, AddsSession, sessions_on, in_order, Gathers, blocks}
+use Rattle.four_letter.specs.Texts.{session_line, path_block, wchp_text}
+use Rattle.four_letter.specs.Inner.Gathered.{SessionsByPath, sessions_by_path, AddsSession, sessions_on, sorted_sessions, GathersSessions, path_blocks}
 use Rattle.four_letter.specs.declared.figures.WatchRow.{WatchRow}
 use denote.Ref.{Bor}
 
@@ -36,7 +36,7 @@ asks path = is_at (λ (k : Bor (List ℕ)). path_cmp path k.now)
 -- ---- a map from borrowed paths
 
 pub find-gathered : (path : Bytes) (es : Entries)
-    → find path_cmp path (gathered es) ≡ option_map (λ (s : BTreeSet ℤ). s.keys) (lookup (asks path) es)
+    → find path_cmp path (sessions_by_path es) ≡ option_map (λ (s : BTreeSet ℤ). s.keys) (lookup (asks path) es)
 find-gathered path [] = refl
 find-gathered path (e ∷ es) =
     ap (cond (eq_by_cmp path_cmp path e.0.now) (Some e.1.keys)) (find-gathered path es)
@@ -49,24 +49,24 @@ find-gathered path (e ∷ es) =
     by false = refl
 
 gathered-insert : (es : Entries) (k : Bor (List ℕ)) (v : BTreeSet ℤ)
-    → gathered (insert_entry (λ (a b : Bor (List ℕ)). path_cmp a.now b.now) es k v)
-    ≡ put path_cmp k.now v.keys (gathered es)
+    → sessions_by_path (insert_entry (λ (a b : Bor (List ℕ)). path_cmp a.now b.now) es k v)
+    ≡ put path_cmp k.now v.keys (sessions_by_path es)
 gathered-insert [] k v = refl
 gathered-insert (e ∷ es) k v = by (gathered-insert es k v) (path_cmp k.now e.0.now)
   where
-    by : gathered (insert_entry (λ (a b : Bor (List ℕ)). path_cmp a.now b.now) es k v)
-        ≡ put path_cmp k.now v.keys (gathered es) → (r : Ordering)
-        → gathered (match_ordering r ((k, v) ∷ e ∷ es) ((e.0, v) ∷ es)
+    by : sessions_by_path (insert_entry (λ (a b : Bor (List ℕ)). path_cmp a.now b.now) es k v)
+        ≡ put path_cmp k.now v.keys (sessions_by_path es) → (r : Ordering)
+        → sessions_by_path (match_ordering r ((k, v) ∷ e ∷ es) ((e.0, v) ∷ es)
         (e ∷ insert_entry (λ (a b : Bor (List ℕ)). path_cmp a.now b.now) es k v))
-        ≡ by_order r ((k.now, v.keys) ∷ gathered (e ∷ es)) ((e.0.now, v.keys) ∷ gathered es)
-        ((e.0.now, e.1.keys) ∷ put path_cmp k.now v.keys (gathered es))
+        ≡ by_order r ((k.now, v.keys) ∷ sessions_by_path (e ∷ es)) ((e.0.now, v.keys) ∷ sessions_by_path es)
+        ((e.0.now, e.1.keys) ∷ put path_cmp k.now v.keys (sessions_by_path es))
     by later Less = refl
     by later Equal = refl
-    by later Greater = ap (λ (t : Gathered). (e.0.now, e.1.keys) ∷ t) later
+    by later Greater = ap (λ (t : SessionsByPath). (e.0.now, e.1.keys) ∷ t) later
 
 find-set : (path q : Bytes) (es : Entries) (old new : BTreeSet ℤ) → Some old ≡ lookup (asks path) es
-    → find path_cmp q (gathered (set_value (asks path) es new))
-    ≡ cond (eq_by_cmp path_cmp q path) (Some new.keys) (find path_cmp q (gathered es))
+    → find path_cmp q (sessions_by_path (set_value (asks path) es new))
+    ≡ cond (eq_by_cmp path_cmp q path) (Some new.keys) (find path_cmp q (sessions_by_path es))
 find-set path q [] old new is = absurd (true≢false (ap is_some is))
 find-set path q (e ∷ es) old new is = by (eq_by_cmp path_cmp path e.0.now) refl is (find-set path q es old new)
   where
@@ -82,18 +82,18 @@ find-set path q (e ∷ es) old new is = by (eq_by_cmp path_cmp path e.0.now) ref
 
     by : (b : Bool) → eq_by_cmp path_cmp path e.0.now ≡ b → Some old ≡ cond b (Some e.1) (lookup (asks path) es)
         → (Some old ≡ lookup (asks path) es
-        → find path_cmp q (gathered (set_value (asks path) es new))
-        ≡ cond (eq_by_cmp path_cmp q path) (Some new.keys) (find path_cmp q (gathered es)))
-        → find path_cmp q (gathered (cond b ((e.0, new) ∷ es) (e ∷ set_value (asks path) es new)))
-        ≡ cond (eq_by_cmp path_cmp q path) (Some new.keys) (find path_cmp q (gathered (e ∷ es)))
+        → find path_cmp q (sessions_by_path (set_value (asks path) es new))
+        ≡ cond (eq_by_cmp path_cmp q path) (Some new.keys) (find path_cmp q (sessions_by_path es)))
+        → find path_cmp q (sessions_by_path (cond b ((e.0, new) ∷ es) (e ∷ set_value (asks path) es new)))
+        ≡ cond (eq_by_cmp path_cmp q path) (Some new.keys) (find path_cmp q (sessions_by_path (e ∷ es)))
     by true t is rest =
-        again (eq_by_cmp path_cmp q e.0.now) (Some new.keys) (Some e.1.keys) (find path_cmp q (gathered es))
-        ∙ ap (λ p. cond (eq_by_cmp path_cmp q p) (Some new.keys) (find path_cmp q (gathered (e ∷ es))))
+        again (eq_by_cmp path_cmp q e.0.now) (Some new.keys) (Some e.1.keys) (find path_cmp q (sessions_by_path es))
+        ∙ ap (λ p. cond (eq_by_cmp path_cmp q p) (Some new.keys) (find path_cmp q (sessions_by_path (e ∷ es))))
         (sym (tells_apart exact_bytes path e.0.now t))
     by false t is rest =
         ap (cond (eq_by_cmp path_cmp q e.0.now) (Some e.1.keys)) (rest is)
         ∙ apart (eq_by_cmp path_cmp q e.0.now) (eq_by_cmp path_cmp q path) (Some e.1.keys) (Some new.keys)
-        (find path_cmp q (gathered es)) (λ here there. true≢false
+        (find path_cmp q (sessions_by_path es)) (λ here there. true≢false
         (sym (ap is_eq (tied_itself path_total path))
         ∙ ap (eq_by_cmp path_cmp path) (sym (tells_apart exact_bytes q path there))
         ∙ ap (eq_by_cmp path_cmp path) (tells_apart exact_bytes q e.0.now here)
@@ -102,33 +102,34 @@ find-set path q (e ∷ es) old new is = by (eq_by_cmp path_cmp path e.0.now) ref
 -- through the sessions that stand at the path
 pub adds_through : (row : WatchRow) (path : Bytes) (es new : Entries) (old sessions : BTreeSet ℤ) → path ≡ row.path
     → new ≡ set_value (asks path) es sessions → Some old ≡ lookup (asks path) es
-    → sessions.keys ≡ insert_key int_cmp old.keys row.session → AddsSession row (gathered es) (gathered new)
+    → sessions.keys ≡ insert_key int_cmp old.keys row.session
+    → AddsSession row (sessions_by_path es) (sessions_by_path new)
 adds_through row path es new old sessions same made found is q =
-    ap (λ n. find path_cmp q (gathered n)) made
+    ap (λ n. find path_cmp q (sessions_by_path n)) made
     ∙ find-set path q es old sessions found
-    ∙ ap (λ ks. cond (eq_by_cmp path_cmp q path) (Some ks) (find path_cmp q (gathered es)))
+    ∙ ap (λ ks. cond (eq_by_cmp path_cmp q path) (Some ks) (find path_cmp q (sessions_by_path es)))
     (is ∙ ap (λ o. insert_key int_cmp (unwrap_or o []) row.session)
     (sym (find-gathered path es ∙ ap (option_map (λ (s : BTreeSet ℤ). s.keys)) (sym found))))
     ∙ ap (λ p. cond (eq_by_cmp path_cmp q p)
-    (Some (insert_key int_cmp (unwrap_or (find path_cmp p (gathered es)) []) row.session))
-    (find path_cmp q (gathered es))) same
+    (Some (insert_key int_cmp (unwrap_or (find path_cmp p (sessions_by_path es)) []) row.session))
+    (find path_cmp q (sessions_by_path es))) same
 
 -- as the first session of the path
 pub adds_first : (row : WatchRow) (path : Bor (List ℕ)) (es new : Entries) (sessions : BTreeSet ℤ)
     → path.now ≡ row.path
     → new ≡ insert_entry (λ (a b : Bor (List ℕ)). path_cmp a.now b.now) es path sessions
     → None ≡ lookup (asks path.now) es → sessions.keys ≡ insert_key int_cmp [] row.session
-    → AddsSession row (gathered es) (gathered new)
+    → AddsSession row (sessions_by_path es) (sessions_by_path new)
 adds_first row path es new sessions same made none is q =
-    ap (λ n. find path_cmp q (gathered n)) made
+    ap (λ n. find path_cmp q (sessions_by_path n)) made
     ∙ ap (find path_cmp q) (gathered-insert es path sessions)
-    ∙ find-put path_cmp path_total q path.now sessions.keys (gathered es)
-    ∙ ap (λ ks. cond (eq_by_cmp path_cmp q path.now) (Some ks) (find path_cmp q (gathered es)))
+    ∙ find-put path_cmp path_total q path.now sessions.keys (sessions_by_path es)
+    ∙ ap (λ ks. cond (eq_by_cmp path_cmp q path.now) (Some ks) (find path_cmp q (sessions_by_path es)))
     (is ∙ ap (λ o. insert_key int_cmp (unwrap_or o []) row.session)
     (sym (find-gathered path.now es ∙ ap (option_map (λ (s : BTreeSet ℤ). s.keys)) (sym none))))
     ∙ ap (λ p. cond (eq_by_cmp path_cmp q p)
-    (Some (insert_key int_cmp (unwrap_or (find path_cmp p (gathered es)) []) row.session))
-    (find path_cmp q (gathered es))) same
+    (Some (insert_key int_cmp (unwrap_or (find path_cmp p (sessions_by_path es)) []) row.session))
+    (find path_cmp q (sessions_by_path es))) same
 
 -- ---- row by row
 
@@ -154,42 +155,42 @@ sessions_on-push q (x ∷ xs) r = by (same_path q x.path) (same_path q r.path) (
     by false true rest = rest
     by false false rest = rest
 
-in_order-or : (ss : List ℤ) → unwrap_or (in_order ss) [] ≡ ascending int_cmp ss
+in_order-or : (ss : List ℤ) → unwrap_or (sorted_sessions ss) [] ≡ sorted_distinct int_cmp ss
 in_order-or [] = sym (ascending-nil int_cmp_total)
 in_order-or (s ∷ ss) = refl
 
 in_order-push : (ss : List ℤ) (s : ℤ)
-    → Some (insert_key int_cmp (unwrap_or (in_order ss) []) s) ≡ in_order (ss ++ s ∷ [])
+    → Some (insert_key int_cmp (unwrap_or (sorted_sessions ss) []) s) ≡ sorted_sessions (ss ++ s ∷ [])
 in_order-push ss s =
     ap (λ ks. Some (insert_key int_cmp ks s)) (in_order-or ss)
     ∙ ap Some (insert-ascending int_cmp_total exact_signed ss s)
     ∙ by ss
   where
-    by : (xs : List ℤ) → Some (ascending int_cmp (xs ++ s ∷ [])) ≡ in_order (xs ++ s ∷ [])
+    by : (xs : List ℤ) → Some (sorted_distinct int_cmp (xs ++ s ∷ [])) ≡ sorted_sessions (xs ++ s ∷ [])
     by [] = refl
     by (x ∷ xs) = refl
 
-pub gathers_none : Gathers [] []
+pub gathers_none : GathersSessions [] []
 gathers_none q = refl
 
-pub gathers_row : (rows : List WatchRow) (r : WatchRow) (old new : Gathered) → Gathers rows old
-    → AddsSession r old new → Gathers (rows ++ r ∷ []) new
+pub gathers_row : (rows : List WatchRow) (r : WatchRow) (old new : SessionsByPath) → GathersSessions rows old
+    → AddsSession r old new → GathersSessions (rows ++ r ∷ []) new
 gathers_row rows r old new h adds q =
     adds q
     ∙ ap (λ o. cond (eq_by_cmp path_cmp q r.path) (Some (insert_key int_cmp (unwrap_or o []) r.session))
     (find path_cmp q old)) (h r.path)
     ∙ ap (cond (eq_by_cmp path_cmp q r.path)
-    (Some (insert_key int_cmp (unwrap_or (in_order (sessions_on r.path rows)) []) r.session))) (h q)
+    (Some (insert_key int_cmp (unwrap_or (sorted_sessions (sessions_on r.path rows)) []) r.session))) (h q)
     ∙ by (eq_by_cmp path_cmp q r.path) refl
-    ∙ ap in_order (sym (sessions_on-push q rows r))
+    ∙ ap sorted_sessions (sym (sessions_on-push q rows r))
   where
     by : (b : Bool) → eq_by_cmp path_cmp q r.path ≡ b
-        → cond b (Some (insert_key int_cmp (unwrap_or (in_order (sessions_on r.path rows)) []) r.session))
-        (in_order (sessions_on q rows))
-        ≡ in_order (cond b (sessions_on q rows ++ r.session ∷ []) (sessions_on q rows))
+        → cond b (Some (insert_key int_cmp (unwrap_or (sorted_sessions (sessions_on r.path rows)) []) r.session))
+        (sorted_sessions (sessions_on q rows))
+        ≡ sorted_sessions (cond b (sessions_on q rows ++ r.session ∷ []) (sessions_on q rows))
     by true t =
         in_order-push (sessions_on r.path rows) r.session
-        ∙ ap (λ p. in_order (sessions_on p rows ++ r.session ∷ [])) (sym (tells_apart exact_bytes q r.path t))
+        ∙ ap (λ p. sorted_sessions (sessions_on p rows ++ r.session ∷ [])) (sym (tells_apart exact_bytes q r.path t))
     by false t = refl
 
 -- ---- all rows
@@ -213,14 +214,14 @@ is_any-sessions_on q (r ∷ rs) = by (same_path q r.path) (is_any-sessions_on q 
 
 -- a path that has a row is watched
 in_order-watched : (q : Bytes) (rows : List WatchRow)
-    → in_order (sessions_on q rows)
+    → sorted_sessions (sessions_on q rows)
     ≡ cond (list_any (eq_by_cmp path_cmp q) (map (λ (r : WatchRow). r.path) rows))
     (Some (watching_sessions q rows)) None
 in_order-watched q rows =
     shown (sessions_on q rows)
     ∙ ap (λ b. cond b (Some (watching_sessions q rows)) None) (is_any-sessions_on q rows)
   where
-    shown : (ss : List ℤ) → in_order ss ≡ cond (is_any ss) (Some (ascending int_cmp ss)) None
+    shown : (ss : List ℤ) → sorted_sessions ss ≡ cond (is_any ss) (Some (sorted_distinct int_cmp ss)) None
     shown [] = refl
     shown (s ∷ ss) = refl
 
@@ -241,12 +242,12 @@ module _ {X : Type 0} (f : Bytes → X) where
       by later Greater e = ap (λ (t : List (Bytes × X)). (x, f x) ∷ t) later
 
   entries-valued : (ks : List Bytes)
-      → finmap.entries (finmap.from_entries {R = path_cmp} (valued ks)) ≡ valued (ascending path_cmp ks)
+      → finmap.entries (finmap.from_entries {R = path_cmp} (valued ks)) ≡ valued (sorted_distinct path_cmp ks)
   entries-valued [] = entries-empty path_total ∙ ap valued (sym (ascending-nil path_total))
   entries-valued (k ∷ ks) =
       finmap.entries-insert path_total (finmap.from_entries {R = path_cmp} (valued ks)) k (f k)
       ∙ ap (put path_cmp k (f k)) (entries-valued ks)
-      ∙ put-valued k (ascending path_cmp ks)
+      ∙ put-valued k (sorted_distinct path_cmp ks)
       ∙ ap valued (sym (ascending-cons path_total k ks))
 
   find-valued : (q : Bytes) (ks : List Bytes)
@@ -262,7 +263,8 @@ module _ {X : Type 0} (f : Bytes → X) where
       by false t rest = rest
 
 -- what is gathered of all rows
-all_gathered : (rows : List WatchRow) (all : Gathered) → Gathers rows all → IsStrictlySortedBy path_cmp (keys_of all)
+all_gathered : (rows : List WatchRow) (all : SessionsByPath) → GathersSessions rows all
+    → IsStrictlySortedBy path_cmp (keys_of all)
     → all ≡ valued (λ path. watching_sessions path rows) (watched_paths rows)
 all_gathered rows all h sorted =
     sym (entries-in_order path_total all sorted)
@@ -276,26 +278,26 @@ all_gathered rows all h sorted =
     ∙ entries-valued (λ path. watching_sessions path rows) (map (λ (r : WatchRow). r.path) rows)
 
 blocks-valued : (rows : List WatchRow) (paths : List Bytes)
-    → blocks (valued (λ path. watching_sessions path rows) paths) ≡ flat_map (path_text rows) paths
+    → path_blocks (valued (λ path. watching_sessions path rows) paths) ≡ flat_map (path_block rows) paths
 blocks-valued rows [] = refl
-blocks-valued rows (p ∷ ps) = ap (λ t. path_text rows p ++ t) (blocks-valued rows ps)
+blocks-valued rows (p ∷ ps) = ap (λ t. path_block rows p ++ t) (blocks-valued rows ps)
 
 sorted_gathered : (es : Entries) → IsStrictlySortedBy (λ (a b : Bor (List ℕ)). path_cmp a.now b.now) (keys_of es)
-    → IsStrictlySortedBy path_cmp (keys_of (gathered es))
+    → IsStrictlySortedBy path_cmp (keys_of (sessions_by_path es))
 unfolding IsStrictlySortedBy
 sorted_gathered [] s = tt
 sorted_gathered (e ∷ es) s = (each es s.0, sorted_gathered es s.1)
   where
     each : (fs : Entries) → AllByRecursion (λ (y : Bor (List ℕ)). path_cmp e.0.now y.now ≡ Less) (keys_of fs)
-        → AllByRecursion (λ y. path_cmp e.0.now y ≡ Less) (keys_of (gathered fs))
+        → AllByRecursion (λ y. path_cmp e.0.now y ≡ Less) (keys_of (sessions_by_path fs))
     each [] h = tt
     each (f ∷ fs) h = (h.0, each fs h.1)
 
-pub blocks-gathered : (rows : List WatchRow) (es : Entries) → Gathers rows (gathered es)
+pub blocks-gathered : (rows : List WatchRow) (es : Entries) → GathersSessions rows (sessions_by_path es)
     → IsStrictlySortedBy (λ (a b : Bor (List ℕ)). path_cmp a.now b.now) (keys_of es)
-    → blocks (gathered es) ≡ wchp_text rows
+    → path_blocks (sessions_by_path es) ≡ wchp_text rows
 blocks-gathered rows es h sorted =
-    ap (λ all. blocks all) (all_gathered rows (gathered es) h (sorted_gathered es sorted))
+    ap (λ all. path_blocks all) (all_gathered rows (sessions_by_path es) h (sorted_gathered es sorted))
     ∙ blocks-valued rows (watched_paths rows)
 
 pub block : (out path line_end sessions rest : List ℕ)

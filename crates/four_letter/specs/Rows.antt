@@ -3,55 +3,55 @@ use Rattle.std.specs.Prelude.{◌≡◌, ℕ, ◌*◌, ◌+◌, ◌^◌, ℤ, po
 use Rattle.ephemerals.specs.Orders.{Bytes}
 use Rattle.watch_manager.specs.declared.watched.Table.{Table}
 use Rattle.watch_manager.specs.declared.watched.Table.TheVariants.{Own, Child}
-use Rattle.four_letter.specs.Texts.{text}
+use Rattle.four_letter.specs.Texts.{reply_text}
 use Rattle.four_letter.specs.declared.figures.Figures.{Figures}
 use Rattle.four_letter.specs.declared.figures.WatchRow.{WatchRow}
 use Rattle.four_letter.specs.declared.word.Word.TheVariants.{Ruok, Isro, Srvr, Mntr, Wchs, Wchp}
 
 -- one connection has a session, and the tree has the three nodes that every tree has
-abbrev pub primed : Figures
-primed = record { serving = true; last = pos 0; connections = 1; paths = 3; pairs = 0; watches = [] }
+abbrev pub primed_figures : Figures
+primed_figures = record { serving = true; last = pos 0; connections = 1; paths = 3; pairs = 0; watches = [] }
 
-abbrev pub without_leader : Figures
-without_leader = record primed { serving = false }
+abbrev pub leaderless_figures : Figures
+leaderless_figures = record primed_figures { serving = false }
 
-abbrev pub watch : Bytes → ℕ → ℤ → Table → WatchRow
-watch path conn session table = record { path = path; conn = conn; session = session; table = table }
+abbrev pub watch_row : Bytes → ℕ → ℤ → Table → WatchRow
+watch_row path conn session table = record { path = path; conn = conn; session = session; table = table }
 
 -- the first session of server 3, 0x300000000000001
 abbrev pub first_session : ℤ
 first_session = pos 216172782113783809
 
 -- connection 1 watches the children of the root and the data of /a
-abbrev pub one_watches : Figures
-one_watches = record primed {
+abbrev pub one_watcher_figures : Figures
+one_watcher_figures = record primed_figures {
   paths = 4;
-  watches = watch (codes "/") 1 first_session Child ∷ watch (codes "/a") 1 first_session Own ∷ [];
+  watches = watch_row (codes "/") 1 first_session Child ∷ watch_row (codes "/a") 1 first_session Own ∷ [];
 }
 
 -- The session of connection 1 watches /a in both tables, those of connections 2 and 3 in one. The session of
 -- connection 2 is one of server 255, whose ids are negative.
-abbrev pub three_watch : Figures
-three_watch = record primed {
+abbrev pub three_watcher_figures : Figures
+three_watcher_figures = record primed_figures {
   watches =
-      watch (codes "/a") 1 first_session Own ∷ watch (codes "/a") 1 first_session Child
-      ∷ watch (codes "/a") 2 (negsuc 72057594037927934) Own ∷ watch (codes "/b") 3 (pos 0) Child ∷ [];
+      watch_row (codes "/a") 1 first_session Own ∷ watch_row (codes "/a") 1 first_session Child
+      ∷ watch_row (codes "/a") 2 (negsuc 72057594037927934) Own ∷ watch_row (codes "/b") 3 (pos 0) Child ∷ [];
 }
 
 pub record WorkedRows : Type 0 where
-  pub ruok : text Ruok without_leader ≡ codes "imok"
-  pub isro : text Isro primed ≡ codes "rw"
-  pub isro_without_leader : text Isro without_leader ≡ codes "null"
-  pub srvr : text Srvr primed ≡ codes "Connections: 1\nZxid: 0x0\nMode: observer\nNode count: 4\n"
-  pub srvr_without_leader : text Srvr without_leader ≡ codes "not serving\n"
+  pub ruok : reply_text Ruok leaderless_figures ≡ codes "imok"
+  pub isro : reply_text Isro primed_figures ≡ codes "rw"
+  pub isro_without_leader : reply_text Isro leaderless_figures ≡ codes "null"
+  pub srvr : reply_text Srvr primed_figures ≡ codes "Connections: 1\nZxid: 0x0\nMode: observer\nNode count: 4\n"
+  pub srvr_without_leader : reply_text Srvr leaderless_figures ≡ codes "not serving\n"
   pub mntr :
-      text Mntr primed
+      reply_text Mntr primed_figures
       ≡ codes "zk_server_state\tobserver\nzk_num_alive_connections\t1\nzk_znode_count\t4\n"
       ++ codes "zk_watch_count\t0\nzk_ephemerals_count\t0\n"
-  pub wchs : text Wchs primed ≡ codes "0 connections watching 0 paths\nTotal watches:0\n"
-  pub wchp : text Wchp primed ≡ []
-  pub wchs_one : text Wchs one_watches ≡ codes "1 connections watching 2 paths\nTotal watches:2\n"
-  pub wchp_one : text Wchp one_watches ≡ codes "/\n\t0x300000000000001\n/a\n\t0x300000000000001\n"
-  pub wchs_three : text Wchs three_watch ≡ codes "3 connections watching 2 paths\nTotal watches:4\n"
+  pub wchs : reply_text Wchs primed_figures ≡ codes "0 connections watching 0 paths\nTotal watches:0\n"
+  pub wchp : reply_text Wchp primed_figures ≡ []
+  pub wchs_one : reply_text Wchs one_watcher_figures ≡ codes "1 connections watching 2 paths\nTotal watches:2\n"
+  pub wchp_one : reply_text Wchp one_watcher_figures ≡ codes "/\n\t0x300000000000001\n/a\n\t0x300000000000001\n"
+  pub wchs_three : reply_text Wchs three_watcher_figures ≡ codes "3 connections watching 2 paths\nTotal watches:4\n"
   pub wchp_three :
-      text Wchp three_watch ≡ codes "/a\n\t0xff00000000000001\n\t0x300000000000001\n/b\n\t0x0\n"
+      reply_text Wchp three_watcher_figures ≡ codes "/a\n\t0xff00000000000001\n\t0x300000000000001\n/b\n\t0x0\n"

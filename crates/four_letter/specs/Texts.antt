@@ -11,12 +11,12 @@ use Rattle.four_letter.specs.declared.word.Word.{Word}
 use Rattle.four_letter.specs.declared.word.Word.TheVariants.{Ruok, Isro, Srvr, Mntr, Wchs, Wchp}
 
 -- the 64 bits of two's complement in lower-case hexadecimal digits, without zeros in front
-abbrev pub hex_number : ℤ → List ℕ
-hex_number number = codes "0x" ++ radix_digits 16 false (cast_unsigned w64 number)
+abbrev pub prefixed_hex : ℤ → List ℕ
+prefixed_hex number = codes "0x" ++ radix_digits 16 false (cast_unsigned w64 number)
 
 -- a line of a name and a value
-abbrev pub line : List ℕ → List ℕ → List ℕ
-line name value = name ++ value ++ codes "\n"
+abbrev pub name_value_line : List ℕ → List ℕ → List ℕ
+name_value_line name value = name ++ value ++ codes "\n"
 
 -- ZooKeeper keeps the root under two names, and counts it twice
 abbrev pub node_count : Figures → ℕ
@@ -24,47 +24,48 @@ node_count f = f.paths + 1
 
 abbrev pub srvr_text : Figures → List ℕ
 srvr_text f =
-    line (codes "Connections: ") (decimal f.connections)
-    ++ line (codes "Zxid: ") (hex_number f.last)
-    ++ line (codes "Mode: ") (codes "observer")
-    ++ line (codes "Node count: ") (decimal (node_count f))
+    name_value_line (codes "Connections: ") (decimal f.connections)
+    ++ name_value_line (codes "Zxid: ") (prefixed_hex f.last)
+    ++ name_value_line (codes "Mode: ") (codes "observer")
+    ++ name_value_line (codes "Node count: ") (decimal (node_count f))
 
 abbrev pub mntr_text : Figures → List ℕ
 mntr_text f =
-    line (codes "zk_server_state\t") (codes "observer")
-    ++ line (codes "zk_num_alive_connections\t") (decimal f.connections)
-    ++ line (codes "zk_znode_count\t") (decimal (node_count f))
-    ++ line (codes "zk_watch_count\t") (decimal (length f.watches))
-    ++ line (codes "zk_ephemerals_count\t") (decimal f.pairs)
+    name_value_line (codes "zk_server_state\t") (codes "observer")
+    ++ name_value_line (codes "zk_num_alive_connections\t") (decimal f.connections)
+    ++ name_value_line (codes "zk_znode_count\t") (decimal (node_count f))
+    ++ name_value_line (codes "zk_watch_count\t") (decimal (length f.watches))
+    ++ name_value_line (codes "zk_ephemerals_count\t") (decimal f.pairs)
 
 abbrev pub wchs_text : List WatchRow → List ℕ
 wchs_text rows =
     decimal (length (watching_connections rows)) ++ codes " connections watching "
     ++ decimal (length (watched_paths rows)) ++ codes " paths\n"
-    ++ line (codes "Total watches:") (decimal (length rows))
+    ++ name_value_line (codes "Total watches:") (decimal (length rows))
 
 abbrev pub session_line : ℤ → List ℕ
-session_line session = line (codes "\t") (hex_number session)
+session_line session = name_value_line (codes "\t") (prefixed_hex session)
 
 -- a path, and below it the sessions that watch it
-abbrev pub path_text : List WatchRow → Bytes → List ℕ
-path_text rows path = path ++ codes "\n" ++ flat_map session_line (watching_sessions path rows)
+abbrev pub path_block : List WatchRow → Bytes → List ℕ
+path_block rows path = path ++ codes "\n" ++ flat_map session_line (watching_sessions path rows)
 
 abbrev pub wchp_text : List WatchRow → List ℕ
-wchp_text rows = flat_map (path_text rows) (watched_paths rows)
+wchp_text rows = flat_map (path_block rows) (watched_paths rows)
 
 -- what is told of the tree and of watches, while clients are served
 abbrev pub while_serving : Figures → List ℕ → List ℕ
 while_serving f told = if f.serving then told else codes "not serving\n"
 
-abbrev pub text : Word → Figures → List ℕ
-text Ruok f = codes "imok"
-text Isro f = if f.serving then codes "rw" else codes "null"
-text Srvr f = while_serving f (srvr_text f)
-text Mntr f = while_serving f (mntr_text f)
-text Wchs f = while_serving f (wchs_text f.watches)
-text Wchp f = while_serving f (wchp_text f.watches)
+abbrev pub reply_text : Word → Figures → List ℕ
+reply_text Ruok f = codes "imok"
+reply_text Isro f = if f.serving then codes "rw" else codes "null"
+reply_text Srvr f = while_serving f (srvr_text f)
+reply_text Mntr f = while_serving f (mntr_text f)
+reply_text Wchs f = while_serving f (wchs_text f.watches)
+reply_text Wchp f = while_serving f (wchp_text f.watches)
 
 -- the word's answer is the same whatever is watched
 abbrev pub TellsOfNoWatch : Word → Type 0
-TellsOfNoWatch word = (f : Figures) (rows : List WatchRow) → text word (record f { watches = rows }) ≡ text word f
+TellsOfNoWatch word = (f : Figures) (rows : List WatchRow)
+    → reply_text word (record f { watches = rows }) ≡ reply_text word f

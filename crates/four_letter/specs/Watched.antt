@@ -4,18 +4,18 @@ use Rattle.std.specs.List.{filter}
 use Rattle.std.specs.Ordering.{nat_cmp, int_cmp}
 use Rattle.ephemerals.specs.Orders.{Bytes, path_cmp}
 use Rattle.watch_manager.specs.Pairs.{same_path}
-use Rattle.watch_manager.specs.Ascending.{ascending}
+use Rattle.watch_manager.specs.Ascending.{sorted_distinct}
 use Rattle.four_letter.specs.declared.figures.WatchRow.{WatchRow}
 
 -- the paths that are watched in either table, in ascending bytes
 abbrev pub watched_paths : List WatchRow → List Bytes
-watched_paths rows = ascending path_cmp (map (λ (r : WatchRow). r.path) rows)
+watched_paths rows = sorted_distinct path_cmp (map (λ (r : WatchRow). r.path) rows)
 
 -- the connections that watch something
 abbrev pub watching_connections : List WatchRow → List ℕ
-watching_connections rows = ascending nat_cmp (map (λ (r : WatchRow). r.conn) rows)
+watching_connections rows = sorted_distinct nat_cmp (map (λ (r : WatchRow). r.conn) rows)
 
 -- the sessions that watch the path in either table, in ascending id
 abbrev pub watching_sessions : Bytes → List WatchRow → List ℤ
 watching_sessions path rows =
-    ascending int_cmp (map (λ (r : WatchRow). r.session) (filter (λ (r : WatchRow). same_path path r.path) rows))
+    sorted_distinct int_cmp (map (λ (r : WatchRow). r.session) (filter (λ (r : WatchRow). same_path path r.path) rows))

@@ -5,20 +5,20 @@ use Rattle.std.specs.Str.{bytes_eq}
 use Rattle.four_letter.specs.declared.word.Word.{Word}
 use Rattle.four_letter.specs.declared.word.Word.TheVariants.{Ruok, Isro, Srvr, Mntr, Wchs, Wchp}
 
-abbrev pub letters : Word → List ℕ
-letters Ruok = codes "ruok"
-letters Isro = codes "isro"
-letters Srvr = codes "srvr"
-letters Mntr = codes "mntr"
-letters Wchs = codes "wchs"
-letters Wchp = codes "wchp"
+abbrev pub letters_of : Word → List ℕ
+letters_of Ruok = codes "ruok"
+letters_of Isro = codes "isro"
+letters_of Srvr = codes "srvr"
+letters_of Mntr = codes "mntr"
+letters_of Wchs = codes "wchs"
+letters_of Wchp = codes "wchp"
 
 abbrev pub all_words : List Word
 all_words = Ruok ∷ Isro ∷ Srvr ∷ Mntr ∷ Wchs ∷ Wchp ∷ []
 
 -- the word that these bytes spell
 abbrev pub word_of : List ℕ → Option Word
-word_of bytes = find (λ word. bytes_eq bytes (letters word)) all_words
+word_of bytes = find (λ word. bytes_eq bytes (letters_of word)) all_words
 
 -- whether the answer tells of watches
 abbrev pub needs_watches : Word → Bool

@@ -1,7 +1,7 @@
 //! Pieces of a text.
 
 ghost use Rattle.std.specs.Prelude.{◌≡◌, ◌++◌, OnOk, decimal, codes};
-ghost use Rattle.four_letter.specs.Texts.{line, hex_number};
+ghost use Rattle.four_letter.specs.Texts.{name_value_line, prefixed_hex};
 
 use std::io::Write;
 use values::NoMemory;
@@ -16,7 +16,7 @@ pub fn put(out: &mut Vec<u8>, text: &str) -> Result<(), NoMemory>
 
 /// Appends a line of a name and a count.
 pub fn put_count(out: &mut Vec<u8>, name: &str, count: u128) -> Result<(), NoMemory>
-    ensures { OnOk result (out.new.items ≡ out.old.items ++ line name.now (decimal count)) }
+    ensures { OnOk result (out.new.items ≡ out.old.items ++ name_value_line name.now (decimal count)) }
 {
     match writeln!(out, "{name}{count}") {
         Ok(()) => Ok(()),
@@ -26,7 +26,7 @@ pub fn put_count(out: &mut Vec<u8>, name: &str, count: u128) -> Result<(), NoMem
 
 /// Appends a line of a name and a number as the 64 bits of two's complement.
 pub fn put_hex(out: &mut Vec<u8>, name: &str, number: i64) -> Result<(), NoMemory>
-    ensures { OnOk result (out.new.items ≡ out.old.items ++ line name.now (hex_number number)) }
+    ensures { OnOk result (out.new.items ≡ out.old.items ++ name_value_line name.now (prefixed_hex number)) }
 {
     let bits = number.cast_unsigned();
     match writeln!(out, "{name}0x{bits:x}") {

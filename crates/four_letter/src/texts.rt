@@ -3,7 +3,7 @@
 ghost use Rattle.std.specs.Prelude.{◌≡◌, ◌++◌, List, ℕ, Ok, false, true, OnOk, OnErr, IfOk, IfSome, IfNone, is_some};
 ghost use Rattle.std.specs.List.{flat_map};
 ghost use Rattle.four_letter.specs.Words.{word_of};
-ghost use Rattle.four_letter.specs.Texts.{text, srvr_text, mntr_text, wchs_text, wchp_text, node_count, session_line};
+ghost use Rattle.four_letter.specs.Texts.{reply_text, srvr_text, mntr_text, wchs_text, wchp_text, node_count, session_line};
 
 use crate::figures::{Figures, WatchRow};
 use crate::put::{put, put_count, put_hex, put_watching};
@@ -81,7 +81,7 @@ fn put_text(
     word: Word,
     figures: &Figures<'_>,
 ) -> Result<(), NoMemory>
-    ensures { OnOk result (out.new.items ≡ out.old.items ++ text word figures.now) }
+    ensures { OnOk result (out.new.items ≡ out.old.items ++ reply_text word figures.now) }
 {
     let rows = figures.watches.as_slice();
     match word {
@@ -101,7 +101,7 @@ fn put_text(
 pub fn answer(word: [u8; 4], figures: &Figures<'_>, out: &mut Vec<u8>) -> Result<bool, NoMemory>
     ensures known { IfOk result (λ known. known ≡ is_some (word_of word)) }
     ensures text { IfSome (word_of word)
-        (λ w. OnOk result (out.new.items ≡ out.old.items ++ text w figures.now)) }
+        (λ w. OnOk result (out.new.items ≡ out.old.items ++ reply_text w figures.now)) }
     ensures unknown { IfNone (word_of word) (result ≡ Ok false) }
     ensures untouched { IfNone (word_of word) (out.new.items ≡ out.old.items) }
     ensures err { OnErr result (out.new.items ≡ out.old.items) }

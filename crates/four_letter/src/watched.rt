@@ -2,7 +2,7 @@
 
 ghost use Rattle.std.specs.Prelude.{◌≡◌, IfOk, OnOk, length};
 ghost use Rattle.four_letter.specs.Watched.{watched_paths, watching_connections};
-ghost use Rattle.four_letter.specs.Inner.Gathered.{gathered, AddsSession, Gathers};
+ghost use Rattle.four_letter.specs.Inner.Gathered.{sessions_by_path, AddsSession, GathersSessions};
 
 use crate::figures::WatchRow;
 use std::alloc::Global;
@@ -38,7 +38,7 @@ fn add<'a>(
     row: &'a WatchRow<'_>,
 ) -> Result<(), NoMemory>
     ensures { OnOk result
-        (AddsSession row.now (gathered by_path.old.entries) (gathered by_path.new.entries)) }
+        (AddsSession row.now (sessions_by_path by_path.old.entries) (sessions_by_path by_path.new.entries)) }
 {
     let path = row.path.as_str();
     match by_path.get_mut(path) {
@@ -60,7 +60,7 @@ pub fn by_path<'a>(
     alloc: Global,
     rows: &'a [WatchRow<'_>],
 ) -> Result<BTreeMap<&'a str, BTreeSet<i64>>, NoMemory>
-    ensures { IfOk result (λ all. Gathers rows.now (gathered all.entries)) }
+    ensures { IfOk result (λ all. GathersSessions rows.now (sessions_by_path all.entries)) }
 {
     let mut by_path = BTreeMap::new(alloc);
     for row in rows {

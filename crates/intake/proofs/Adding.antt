@@ -7,12 +7,12 @@ use Rattle.observer_core.specs.Machine.{Machine}
 use Rattle.observer_core.proofs.NatMaps.{get-inserted, get-beside}
 use Rattle.intake.specs.declared.port.PortEnd.{PortEnd}
 use Rattle.intake.specs.declared.link.Link.{Link}
-use Rattle.intake.specs.Messages.{Came}
+use Rattle.intake.specs.Messages.{PortMessage}
 use Rattle.intake.specs.Links.{Links, taken_from, owed_to, IsEndBy}
-use Rattle.intake.specs.Desk.{Desk, Added}
+use Rattle.intake.specs.Desk.{Desk, AddsPort}
 
 -- what is seen of a desk
-abbrev seen_desk : Bool → Option Machine → Links → ℕ → List Came → Desk
+abbrev seen_desk : Bool → Option Machine → Links → ℕ → List PortMessage → Desk
 seen_desk closed engine links next fresh =
     record { machine = if closed then None else engine; links = links; next = next; fresh = fresh }
 
@@ -26,13 +26,14 @@ pub record AreNew (end : PortEnd) (link : Link) : Type 0 where
   pub no_received : received end.outbox ≡ []
   pub no_kept : link.kept.items ≡ []
 
-at_end : (links after : Links) (n : ℕ) (link : Link) → after ≡ finmap.insert links n link → finmap.get after n ≡ Some link
+at_end : (links after : Links) (n : ℕ) (link : Link) → after ≡ finmap.insert links n link
+    → finmap.get after n ≡ Some link
 at_end links after n link is = ap (λ (l : Links). finmap.get l n) is ∙ get-inserted links n link
 
-adding : (closed : Bool) (engine : Option Machine) (links after : Links) (next count : ℕ) (fresh : List Came)
+adding : (closed : Bool) (engine : Option Machine) (links after : Links) (next count : ℕ) (fresh : List PortMessage)
     (end : PortEnd) (link : Link) → AreNew end link → end.number ≡ next → after ≡ finmap.insert links next link
     → count ≡ next + 1
-    → Added (seen_desk closed engine links next fresh) end (seen_desk closed engine after count fresh)
+    → AddsPort (seen_desk closed engine links next fresh) end (seen_desk closed engine after count fresh)
 adding closed engine links after next count fresh end link new number is counted =
     let there : finmap.get after end.number ≡ Some link =
     ap (λ n. finmap.get after n) number ∙ at_end links after next link is in
@@ -50,12 +51,12 @@ adding closed engine links after next count fresh end link new number is counted
       fresh = refl;
     }
 
-pub added : (closed : Bool) (engine : Option Machine) (links after : Links) (next count : ℕ) (fresh : List Came)
+pub added : (closed : Bool) (engine : Option Machine) (links after : Links) (next count : ℕ) (fresh : List PortMessage)
     (end port : PortEnd) (link : Link) (old : Desk) → seen_desk closed engine links next fresh ≡ old → port ≡ end
     → AreNew end link → end.number ≡ next → after ≡ finmap.insert links next link → count ≡ next + 1
-    → Added old port (seen_desk closed engine after count fresh)
+    → AddsPort old port (seen_desk closed engine after count fresh)
 added closed engine links after next count fresh end port link old view same new number is counted =
-    let P : Desk → Type 0 = λ d. Added d port (seen_desk closed engine after count fresh) in
-    let Q : PortEnd → Type 0 = λ e. Added (seen_desk closed engine links next fresh) e
+    let P : Desk → Type 0 = λ d. AddsPort d port (seen_desk closed engine after count fresh) in
+    let Q : PortEnd → Type 0 = λ e. AddsPort (seen_desk closed engine links next fresh) e
     (seen_desk closed engine after count fresh) in
     subst P view (subst Q (sym same) (adding closed engine links after next count fresh end link new number is counted))

@@ -5,31 +5,31 @@ use Rattle.std.proofs.lemmas.List.{take-append-le, take_all, length-append}
 use Rattle.std.proofs.lemmas.Bool.Decides.{eqb_tells, nat_tests}
 use Rattle.observer_core.specs.Machine.{Machine}
 use Rattle.intake.specs.declared.port.PortEnd.{PortEnd}
-use Rattle.intake.specs.Messages.{Came, share}
+use Rattle.intake.specs.Messages.{PortMessage, share_of_port}
 use Rattle.intake.specs.Links.{owed_at}
-use Rattle.intake.specs.Desk.{Desk, opened, Added, Turned, Waited, Turns}
-use Rattle.intake.specs.Agreement.{Agrees, outputs_of, with_port}
-use Rattle.intake.specs.Hub.{Hub, number_at, taken_before, Runs}
+use Rattle.intake.specs.Desk.{Desk, new_desk, AddsPort, TakesTurn, TakesNothing, AnswersTurn}
+use Rattle.intake.specs.Agreement.{DeskAgrees, outputs_of, with_port}
+use Rattle.intake.specs.Hub.{Hub, number_at, taken_before, IsHubSince}
 use Rattle.intake.proofs.Agreeing.{desks_agree}
 
 -- the lists before the ports, told in another way
-told_so : (began : Machine) (d : Desk) (taken : List Came) (before others : ℕ → List Came)
-    → ((n : ℕ) → others n ≡ before n) → Agrees began d taken before → Agrees began d taken others
+told_so : (began : Machine) (d : Desk) (taken : List PortMessage) (before others : ℕ → List PortMessage)
+    → ((n : ℕ) → others n ≡ before n) → DeskAgrees began d taken before → DeskAgrees began d taken others
 told_so began d taken before others same a = record {
   machine = a.machine;
   took = a.took;
-  owes = λ n live. ap (λ l. share n (outputs_of began l) ++ owed_at d.links n) (same n) ∙ a.owes n live;
+  owes = λ n live. ap (λ l. share_of_port n (outputs_of began l) ++ owed_at d.links n) (same n) ∙ a.owes n live;
   unused = a.unused;
 }
 
-pub runs_at_first : (m : Machine) (h : Hub) → h.desk ≡ opened m → h.taken ≡ [] → h.since ≡ [] → Runs m h
+pub runs_at_first : (m : Machine) (h : Hub) → h.desk ≡ new_desk m → h.taken ≡ [] → h.since ≡ [] → IsHubSince m h
 runs_at_first m h desk taken since =
-    let first : Hub = record { desk = opened m; taken = []; since = [] } in
+    let first : Hub = record { desk = new_desk m; taken = []; since = [] } in
     let is : first ≡ h =
     ap (λ (d : Desk). let x : Hub = record { desk = d; taken = []; since = [] } in x) (sym desk)
-    ∙ ap (λ (t : List Came). let x : Hub = record { desk = h.desk; taken = t; since = [] } in x) (sym taken)
+    ∙ ap (λ (t : List PortMessage). let x : Hub = record { desk = h.desk; taken = t; since = [] } in x) (sym taken)
     ∙ ap (λ (s : List ℕ). let x : Hub = record { desk = h.desk; taken = h.taken; since = s } in x) (sym since) in
-    let P : Hub → Type 0 = λ x. Runs m x in
+    let P : Hub → Type 0 = λ x. IsHubSince m x in
     subst P is (record {
       agrees = desks_agree.opens m (taken_before first);
       within = λ n. omega arith;
@@ -38,32 +38,34 @@ runs_at_first m h desk taken since =
 
 -- ---- a turn
 
-turned_machine : (o : Option Machine) (old new : Desk) (count : ℕ) → Turns (Ok count) o old new
-    → (m : Machine) × ((o ≡ Some m) × ((count ≡ length new.fresh) × Turned m old new))
+turned_machine : (o : Option Machine) (old new : Desk) (count : ℕ) → AnswersTurn (Ok count) o old new
+    → (m : Machine) × ((o ≡ Some m) × ((count ≡ length new.fresh) × TakesTurn m old new))
 turned_machine None old new count t = absurd t
 turned_machine (Some m) old new count t = (m, (refl, (t.0, t.1)))
 
-pub runs_on : (began : Machine) (old : Hub) (new left : Desk) (taken : List Came) (count : ℕ)
-    → Turns (Ok count) old.desk.machine old.desk new → left ≡ record new { fresh = [] }
-    → taken ≡ old.taken ++ new.fresh → Runs began old
-    → Runs began (record { desk = left; taken = taken; since = old.since })
+pub runs_on : (began : Machine) (old : Hub) (new left : Desk) (taken : List PortMessage) (count : ℕ)
+    → AnswersTurn (Ok count) old.desk.machine old.desk new → left ≡ record new { fresh = [] }
+    → taken ≡ old.taken ++ new.fresh → IsHubSince began old
+    → IsHubSince began (record { desk = left; taken = taken; since = old.since })
 runs_on began old new left taken count t is grown r =
     let turned = turned_machine old.desk.machine old.desk new count t in
-    let a = desks_agree.turns began turned.0 old.desk new old.taken (taken_before old) r.agrees turned.1.0 turned.1.1.1 in
-    let before : ℕ → List Came = λ n. take (number_at old.since n) (old.taken ++ new.fresh) in
+    let a = desks_agree.turns began turned.0 old.desk new old.taken (taken_before old) r.agrees turned.1.0 turned.1.1.1
+    in
+    let before : ℕ → List PortMessage = λ n. take (number_at old.since n) (old.taken ++ new.fresh) in
     let same : (n : ℕ) → before n ≡ taken_before old n =
     λ n. take-append-le (number_at old.since n) old.taken new.fresh (r.within n) in
     let b = told_so began new (old.taken ++ new.fresh) (taken_before old) before same a in
-    let P : Desk → Type 0 = λ d. Runs began (record { desk = d; taken = taken; since = old.since }) in
-    let Q : List Came → Type 0 = λ l. Runs began (record { desk = record new { fresh = [] }; taken = l; since = old.since }) in
+    let P : Desk → Type 0 = λ d. IsHubSince began (record { desk = d; taken = taken; since = old.since }) in
+    let Q : List PortMessage → Type 0 =
+    λ l. IsHubSince began (record { desk = record new { fresh = [] }; taken = l; since = old.since }) in
     subst P (sym is) (subst Q (sym grown) (record {
       agrees = record { machine = b.machine; took = b.took; owes = b.owes; unused = b.unused };
-      within = λ n. (let w = r.within n in omega (arith, length-append {A = Came} old.taken new.fresh));
+      within = λ n. (let w = r.within n in omega (arith, length-append {A = PortMessage} old.taken new.fresh));
       ports = r.ports ∙ sym turned.1.1.1.next;
     }))
 
-pub runs_still : (began : Machine) (old : Hub) (new : Desk) → Waited old.desk new → Runs began old
-    → Runs began (record old { desk = new })
+pub runs_still : (began : Machine) (old : Hub) (new : Desk) → TakesNothing old.desk new → IsHubSince began old
+    → IsHubSince began (record old { desk = new })
 runs_still began old new w r = record {
   agrees = desks_agree.waits began old.desk new old.taken (taken_before old) r.agrees w;
   within = r.within;
@@ -71,10 +73,10 @@ runs_still began old new w r = record {
 }
 
 pub runs_without : (began : Machine) (old : Hub) (n : ℕ) (new : Desk)
-    → new ≡ record old.desk { links = finmap.remove old.desk.links n } → Runs began old
-    → Runs began (record old { desk = new })
+    → new ≡ record old.desk { links = finmap.remove old.desk.links n } → IsHubSince began old
+    → IsHubSince began (record old { desk = new })
 runs_without began old n new is r =
-    let P : Desk → Type 0 = λ d. Runs began (record old { desk = d }) in
+    let P : Desk → Type 0 = λ d. IsHubSince began (record old { desk = d }) in
     subst P (sym is) (record {
       agrees = desks_agree.closes began old.desk n old.taken (taken_before old) r.agrees;
       within = r.within;
@@ -93,7 +95,8 @@ added_at (x ∷ xs) v (suc k) = added_at xs v k ∙ elim (eqb_tells k (length xs
   | inr h ↦ grind (arith, nat_tests)
 ]
 
-taken_then : (b : Bool) (taken : List Came) (k : ℕ) → take (cond b (length taken) k) taken ≡ cond b taken (take k taken)
+taken_then : (b : Bool) (taken : List PortMessage) (k : ℕ)
+    → take (cond b (length taken) k) taken ≡ cond b taken (take k taken)
 taken_then true taken k = take_all (length taken) taken (omega arith)
 taken_then false taken k = refl
 
@@ -105,8 +108,8 @@ added_length : (xs : List ℕ) (v : ℕ) → length (xs ++ v ∷ []) ≡ length 
 added_length xs v = length-append xs (v ∷ [])
 
 pub runs_with : (began : Machine) (old : Hub) (port : PortEnd) (new : Desk) (since : List ℕ)
-    → Added old.desk port new → since ≡ old.since ++ length old.taken ∷ [] → Runs began old
-    → Runs began (record { desk = new; taken = old.taken; since = since })
+    → AddsPort old.desk port new → since ≡ old.since ++ length old.taken ∷ [] → IsHubSince began old
+    → IsHubSince began (record { desk = new; taken = old.taken; since = since })
 runs_with began old port new since added is r =
     let a = desks_agree.adds began old.desk new port old.taken (taken_before old) r.agrees added in
     let at : (n : ℕ) → number_at since n ≡ cond (n == port.number) (length old.taken) (number_at old.since n) = λ n.

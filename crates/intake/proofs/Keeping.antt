@@ -18,8 +18,8 @@ use Rattle.observer_core.proofs.NatMaps.{seen, get-seen, seen-insert, get-insert
 use Rattle.intake.specs.declared.message.Message.{Message}
 use Rattle.intake.specs.declared.link.Link.{Link}
 use Rattle.intake.specs.declared.port.PortEnd.{PortEnd}
-use Rattle.intake.specs.Messages.{Came, part, port_of, share}
-use Rattle.intake.specs.Links.{Links, owed, taken_from, owed_to, taken_at, owed_at, IsEndBy, Stays, StaysOpen, AllStay, Rests, Takes, PutsOut}
+use Rattle.intake.specs.Messages.{PortMessage, part_of_port, port_of, share_of_port}
+use Rattle.intake.specs.Links.{Links, outputs_owed, taken_from, owed_to, taken_at, owed_at, IsEndBy, IsSameLink, StaysOpen, AllStay, TakesNoMessage, TakesMessages, PutsShares}
 use Rattle.intake.proofs.Parts.{share_joined, share_own, share_other}
 
 -- ---- one port's ends are written over
@@ -61,7 +61,7 @@ pub same_link : (o : Option Link) → StaysOpen o o
 same_link None = tt
 same_link (Some l) = record { inbox = ((refl, refl, refl, refl), refl); outbox = ((refl, refl, refl, refl), refl) }
 
-pub all_stay : (old : Links) (k : ℕ) (was is : Link) (new : Links) → Written old k was is new → Stays was is
+pub all_stay : (old : Links) (k : ℕ) (was is : Link) (new : Links) → Written old k was is new → IsSameLink was is
     → AllStay old new
 all_stay old k was is new w stays = record {
   at = each_at (λ n x y. StaysOpen x y) old k was is new w stays (λ n apart. same_link (finmap.get old n));
@@ -73,50 +73,54 @@ same_taken old k was is new w e =
     each_at (λ n x y. taken_from y ≡ taken_from x) old k was is new w e (λ n apart. refl)
 
 same_owed : (old : Links) (k : ℕ) (was is : Link) (new : Links) → Written old k was is new
-    → owed is ≡ owed was → (n : ℕ) → owed_at new n ≡ owed_at old n
+    → outputs_owed is ≡ outputs_owed was → (n : ℕ) → owed_at new n ≡ owed_at old n
 same_owed old k was is new w e = each_at (λ n x y. owed_to y ≡ owed_to x) old k was is new w e (λ n apart. refl)
 
-pub rests_at : (old : Links) (k : ℕ) (was is : Link) (new : Links) → Written old k was is new → Stays was is
-    → received is.inbox ≡ received was.inbox → owed is ≡ owed was → Rests old new
+pub rests_at : (old : Links) (k : ℕ) (was is : Link) (new : Links) → Written old k was is new → IsSameLink was is
+    → received is.inbox ≡ received was.inbox → outputs_owed is ≡ outputs_owed was → TakesNoMessage old new
 rests_at old k was is new w stays took owes = record {
   stay = all_stay old k was is new w stays;
   took = same_taken old k was is new w took;
   owes = same_owed old k was is new w owes;
 }
 
-pub takes_at : (old : Links) (k : ℕ) (was is : Link) (new : Links) (before after : List Came)
-    → Written old k was is new → Stays was is
-    → ((r : List Message) → received was.inbox ≡ r ++ part k before → received is.inbox ≡ r ++ part k after)
-    → ((n : ℕ) → n ≢ k → part n after ≡ part n before) → owed is ≡ owed was → Takes old before new after
+pub takes_at : (old : Links) (k : ℕ) (was is : Link) (new : Links) (before after : List PortMessage)
+    → Written old k was is new → IsSameLink was is
+    → ((r : List Message) → received was.inbox ≡ r ++ part_of_port k before
+    → received is.inbox ≡ r ++ part_of_port k after)
+    → ((n : ℕ) → n ≢ k → part_of_port n after ≡ part_of_port n before) → outputs_owed is ≡ outputs_owed was
+    → TakesMessages old before new after
 takes_at old k was is new before after w stays own others owes = record {
   stay = all_stay old k was is new w stays;
-  took = each_at (λ n x y. (r : List Message) → taken_from x ≡ r ++ part n before → taken_from y ≡ r ++ part n after)
+  took = each_at (λ n x y. (r : List Message) → taken_from x ≡ r ++ part_of_port n before
+      → taken_from y ≡ r ++ part_of_port n after)
       old k was is new w own
       (λ n apart r e. e ∙ ap (λ l. r ++ l) (sym (others n apart)));
   owes = same_owed old k was is new w owes;
 }
 
 pub puts_at : (old : Links) (was is : Link) (new : Links) (o : Output) → Written old (port_of o) was is new
-    → Stays was is → received is.inbox ≡ received was.inbox → owed is ≡ owed was ++ o ∷ []
-    → PutsOut old (o ∷ []) new
+    → IsSameLink was is → received is.inbox ≡ received was.inbox → outputs_owed is ≡ outputs_owed was ++ o ∷ []
+    → PutsShares old (o ∷ []) new
 puts_at old was is new o w stays took owes = record {
   stay = all_stay old (port_of o) was is new w stays;
   took = same_taken old (port_of o) was is new w took;
-  owes = each_at (λ n x y. is_some x ≡ true → owed_to y ≡ owed_to x ++ share n (o ∷ [])) old (port_of o) was is new w
-      (λ live. owes ∙ ap (λ l. owed was ++ l) (sym (share_own o)))
+  owes = each_at (λ n x y. is_some x ≡ true → owed_to y ≡ owed_to x ++ share_of_port n (o ∷ [])) old (port_of o) was is
+      new w
+      (λ live. owes ∙ ap (λ l. outputs_owed was ++ l) (sym (share_own o)))
       (λ n apart live. sym (append-nil (owed_at old n)) ∙ ap (λ l. owed_at old n ++ l) (sym (share_other n o apart)));
 }
 
 -- ---- a port that isn't live is passed over
 
-pub rests_same : (links : Links) → Rests links links
+pub rests_same : (links : Links) → TakesNoMessage links links
 rests_same links = record {
   stay = record { at = λ n. same_link (finmap.get links n) };
   took = λ n. refl;
   owes = λ n. refl;
 }
 
-pub takes_none : (links : Links) (came : List Came) → Takes links came links came
+pub takes_none : (links : Links) (came : List PortMessage) → TakesMessages links came links came
 takes_none links came = record {
   stay = (rests_same links).stay;
   took = λ n r e. e;
@@ -126,7 +130,7 @@ takes_none links came = record {
 pub nothing_is_open : (o : Option Link) → None ≡ o → is_some o ≡ true → ⊥
 nothing_is_open o none live = cc (ap is_some none)
 
-pub drops : (links : Links) (o : Output) → None ≡ finmap.get links (port_of o) → PutsOut links (o ∷ []) links
+pub drops : (links : Links) (o : Output) → None ≡ finmap.get links (port_of o) → PutsShares links (o ∷ []) links
 drops links o none = record {
   stay = (rests_same links).stay;
   took = λ n. refl;
@@ -136,7 +140,7 @@ drops links o none = record {
   ];
 }
 
-pub puts_none : (links : Links) → PutsOut links [] links
+pub puts_none : (links : Links) → PutsShares links [] links
 puts_none links = record {
   stay = (rests_same links).stay;
   took = λ n. refl;
@@ -152,12 +156,33 @@ stays_on None (Some l) z a b = absurd a
 stays_on (Some l) None z a b = absurd a
 stays_on (Some x) (Some y) None a b = b
 stays_on (Some x) (Some y) (Some z) a b = record {
-  inbox = ((b.inbox.0.0 ∙ a.inbox.0.0, b.inbox.0.1 ∙ a.inbox.0.1, b.inbox.0.2 ∙ a.inbox.0.2, b.inbox.0.3 ∙ a.inbox.0.3), b.inbox.1 ∙ a.inbox.1);
-  outbox = ((b.outbox.0.0 ∙ a.outbox.0.0, b.outbox.0.1 ∙ a.outbox.0.1, b.outbox.0.2 ∙ a.outbox.0.2, b.outbox.0.3 ∙ a.outbox.0.3), b.outbox.1 ∙ a.outbox.1);
+  inbox = (
+    (
+      b.inbox.0.0 ∙ a.inbox.0.0,
+      b.inbox.0.1 ∙ a.inbox.0.1,
+      b.inbox.0.2 ∙ a.inbox.0.2,
+      b.inbox.0.3
+          ∙ a.inbox.0.3,
+    ),
+    b.inbox.1 ∙ a.inbox.1,
+  );
+  outbox = (
+    (
+      b.outbox.0.0 ∙ a.outbox.0.0,
+      b.outbox.0.1 ∙ a.outbox.0.1,
+      b.outbox.0.2 ∙ a.outbox.0.2,
+      b.outbox.0.3
+          ∙ a.outbox.0.3,
+    ),
+    b.outbox.1 ∙ a.outbox.1,
+  );
 }
 
 pub all_stay_on : (a b c : Links) → AllStay a b → AllStay b c → AllStay a c
-all_stay_on a b c x y = record { at = λ n. stays_on (finmap.get a n) (finmap.get b n) (finmap.get c n) (x.at n) (y.at n) }
+all_stay_on a b c x y = record {
+  at =
+      λ n. stays_on (finmap.get a n) (finmap.get b n) (finmap.get c n) (x.at n) (y.at n);
+}
 
 pub still_open : (x y : Option Link) → StaysOpen x y → is_some x ≡ true → is_some y ≡ true
 still_open None None s live = live
@@ -165,56 +190,62 @@ still_open None (Some l) s live = absurd s
 still_open (Some l) None s live = absurd s
 still_open (Some x) (Some y) s live = refl
 
-pub rests_on : (a b c : Links) → Rests a b → Rests b c → Rests a c
+pub rests_on : (a b c : Links) → TakesNoMessage a b → TakesNoMessage b c → TakesNoMessage a c
 rests_on a b c x y = record {
   stay = all_stay_on a b c x.stay y.stay;
   took = λ n. y.took n ∙ x.took n;
   owes = λ n. y.owes n ∙ x.owes n;
 }
 
-pub takes_on : (a b c : Links) (p q r : List Came) → Takes a p b q → Takes b q c r → Takes a p c r
+pub takes_on : (a b c : Links) (p q r : List PortMessage) → TakesMessages a p b q → TakesMessages b q c r
+    → TakesMessages a p c r
 takes_on a b c p q r x y = record {
   stay = all_stay_on a b c x.stay y.stay;
   took = λ n s e. y.took n s (x.took n s e);
   owes = λ n. y.owes n ∙ x.owes n;
 }
 
-pub puts_on : (a b c : Links) (xs ys : List Output) → PutsOut a xs b → PutsOut b ys c → PutsOut a (xs ++ ys) c
+pub puts_on : (a b c : Links) (xs ys : List Output) → PutsShares a xs b → PutsShares b ys c → PutsShares a (xs ++ ys) c
 puts_on a b c xs ys x y = record {
   stay = all_stay_on a b c x.stay y.stay;
   took = λ n. y.took n ∙ x.took n;
   owes = λ n live.
       y.owes n (still_open (finmap.get a n) (finmap.get b n) (x.stay.at n) live)
-      ∙ ap (λ l. l ++ share n ys) (x.owes n live)
-      ∙ append_assoc (owed_at a n) (share n xs) (share n ys)
+      ∙ ap (λ l. l ++ share_of_port n ys) (x.owes n live)
+      ∙ append_assoc (owed_at a n) (share_of_port n xs) (share_of_port n ys)
       ∙ ap (λ l. owed_at a n ++ l) (sym (share_joined n xs ys));
 }
 
 -- ---- a link's ends, and maps that are the same
 
-pub stays_put : (a b : Link) → SameProducer a.outbox b.outbox → b.inbox ≡ a.inbox → Stays a b
+pub stays_put : (a b : Link) → SameProducer a.outbox b.outbox → b.inbox ≡ a.inbox → IsSameLink a b
 stays_put a b out in_same = record {
-  inbox = (let P : Consumer Message Global AnyItems → Type 0 = λ c. SameConsumer a.inbox c in subst P (sym in_same) ((refl, refl, refl, refl), refl));
+  inbox = (let P : Consumer Message Global AnyItems → Type 0 = λ c. SameConsumer a.inbox c in
+      subst P (sym in_same) ((refl, refl, refl, refl), refl));
   outbox = out;
 }
 
-pub stays_took : (a b : Link) → SameConsumer a.inbox b.inbox → b.outbox ≡ a.outbox → Stays a b
+pub stays_took : (a b : Link) → SameConsumer a.inbox b.inbox → b.outbox ≡ a.outbox → IsSameLink a b
 stays_took a b taken same = record {
   inbox = taken;
-  outbox = (let P : Producer Output Global AnyItems → Type 0 = λ p. SameProducer a.outbox p in subst P (sym same) ((refl, refl, refl, refl), refl));
+  outbox = (let P : Producer Output Global AnyItems → Type 0 = λ p. SameProducer a.outbox p in
+      subst P (sym same) ((refl, refl, refl, refl), refl));
 }
 
-pub same_owed_ends : (a b : Link) → (b.outbox ≡ a.outbox) × (b.kept ≡ a.kept) → owed b ≡ owed a
+pub same_owed_ends : (a b : Link) → (b.outbox ≡ a.outbox) × (b.kept ≡ a.kept) → outputs_owed b ≡ outputs_owed a
 same_owed_ends a b h = ap (λ p. sent p ++ b.kept.items) h.0 ∙ ap (λ k. sent a.outbox ++ k.items) h.1
 
-pub rests_is : (old new : Links) → new ≡ old → Rests old new
-rests_is old new is = let P : Links → Type 0 = λ l. Rests old l in subst P (sym is) (rests_same old)
+pub rests_is : (old new : Links) → new ≡ old → TakesNoMessage old new
+rests_is old new is = let P : Links → Type 0 = λ l. TakesNoMessage old l in subst P (sym is) (rests_same old)
 
-pub takes_is : (old new : Links) (came : List Came) → new ≡ old → Takes old came new came
-takes_is old new came is = let P : Links → Type 0 = λ l. Takes old came l came in subst P (sym is) (takes_none old came)
+pub takes_is : (old new : Links) (came : List PortMessage) → new ≡ old → TakesMessages old came new came
+takes_is old new came is = let P : Links → Type 0 = λ l. TakesMessages old came l came in
+    subst P (sym is) (takes_none old came)
 
-pub drops_is : (old new : Links) (o : Output) → new ≡ old → None ≡ finmap.get old (port_of o) → PutsOut old (o ∷ []) new
-drops_is old new o is none = let P : Links → Type 0 = λ l. PutsOut old (o ∷ []) l in subst P (sym is) (drops old o none)
+pub drops_is : (old new : Links) (o : Output) → new ≡ old → None ≡ finmap.get old (port_of o)
+    → PutsShares old (o ∷ []) new
+drops_is old new o is none = let P : Links → Type 0 = λ l. PutsShares old (o ∷ []) l in
+    subst P (sym is) (drops old o none)
 
 pub none_there : (m : BTreeMap ℕ Link) (links : Links) (k : ℕ) → seen m.entries ≡ links → None ≡ tree.get nat_cmp m k
     → None ≡ finmap.get links k
@@ -228,24 +259,25 @@ no_end end o none is = let P : Option Link → Type 0 = λ x. IsEndBy end x in s
 pub end_there : (end : PortEnd) (o : Option Link) (l : Link) → Some l ≡ o → IsEndBy end o → IsEndBy end (Some l)
 end_there end o l some is = let P : Option Link → Type 0 = λ x. IsEndBy end x in subst P (sym some) is
 
-pub is_there : (old : Links) (k : ℕ) (was is : Link) (new : Links) → Written old k was is new → finmap.get new k ≡ Some is
+pub is_there : (old : Links) (k : ℕ) (was is : Link) (new : Links) → Written old k was is new
+    → finmap.get new k ≡ Some is
 is_there old k was is new w = ap (λ (l : Links). finmap.get l k) w.written ∙ get-inserted old k is
 
 -- ---- where memory may be refused
 
 pub takes_ok : (result : Result (Unit {0}) NoMemory) (old : Links) (k : ℕ) (was is : Link) (new : Links)
-    (before after : List Came) → Written old k was is new → Stays was is
-    → ((r : List Message) → received was.inbox ≡ r ++ part k before
-    → OnOk result (received is.inbox ≡ r ++ part k after))
-    → ((n : ℕ) → n ≢ k → part n after ≡ part n before) → owed is ≡ owed was
-    → OnOk result (Takes old before new after)
+    (before after : List PortMessage) → Written old k was is new → IsSameLink was is
+    → ((r : List Message) → received was.inbox ≡ r ++ part_of_port k before
+    → OnOk result (received is.inbox ≡ r ++ part_of_port k after))
+    → ((n : ℕ) → n ≢ k → part_of_port n after ≡ part_of_port n before) → outputs_owed is ≡ outputs_owed was
+    → OnOk result (TakesMessages old before new after)
 takes_ok (Ok u) old k was is new before after w stays own others owes =
     takes_at old k was is new before after w stays own others owes
 takes_ok (Err e) old k was is new before after w stays own others owes = tt
 
 pub puts_ok : (result : Result (Unit {0}) NoMemory) (old : Links) (k : ℕ) (was is : Link) (new : Links) (o : Output)
-    → k ≡ port_of o → Written old k was is new → Stays was is → received is.inbox ≡ received was.inbox
-    → OnOk result (owed is ≡ owed was ++ o ∷ []) → OnOk result (PutsOut old (o ∷ []) new)
+    → k ≡ port_of o → Written old k was is new → IsSameLink was is → received is.inbox ≡ received was.inbox
+    → OnOk result (outputs_owed is ≡ outputs_owed was ++ o ∷ []) → OnOk result (PutsShares old (o ∷ []) new)
 puts_ok (Ok u) old k was is new o number w stays took owes =
     let P : ℕ → Type 0 = λ j. Written old j was is new in
     puts_at old was is new o (subst P number w) stays took owes

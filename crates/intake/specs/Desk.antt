@@ -6,10 +6,10 @@ use Rattle.observer_core.specs.Machine.{Machine}
 use Rattle.observer_core.specs.Play.{play}
 use Rattle.observer_core.specs.declared.engine.Stop.{Stop}
 use Rattle.observer_core.specs.declared.engine.Stop.TheVariants as stops
-use Rattle.intake.specs.Messages.{Came, events_of, part, share}
+use Rattle.intake.specs.Messages.{PortMessage, events_of, part_of_port, share_of_port}
 use Rattle.intake.specs.declared.port.PortEnd.{PortEnd}
-use Rattle.intake.specs.Ports.{sent_by, received_by}
-use Rattle.intake.specs.Links.{Links, is_open, taken_at, owed_at, IsEnd, AllStay, Rests}
+use Rattle.intake.specs.Ports.{sent_through, received_through}
+use Rattle.intake.specs.Links.{Links, is_open_port, taken_at, owed_at, IsEnd, AllStay, TakesNoMessage}
 
 -- an observer with its open ports; a closed one has no machine
 pub record Desk : Type 0 where
@@ -18,24 +18,24 @@ pub record Desk : Type 0 where
   -- the number of the next port
   pub next : ℕ
   -- what the last turn took
-  pub fresh : List Came
+  pub fresh : List PortMessage
 
 -- A new desk, with no port.
-abbrev pub opened : Machine → Desk
-opened m = record { machine = Some m; links = finmap.empty; next = 0; fresh = [] }
+abbrev pub new_desk : Machine → Desk
+new_desk m = record { machine = Some m; links = finmap.empty; next = 0; fresh = [] }
 
 -- it is closed, or its engine isn't
-abbrev pub IsEither : Bool → Option Machine → Type 0
-IsEither true engine = Unit {0}
-IsEither false engine = IsSome engine
+abbrev pub IsOpenUnless : Bool → Option Machine → Type 0
+IsOpenUnless true engine = Unit {0}
+IsOpenUnless false engine = IsSome engine
 
 -- The next port is open, and nothing has gone through it.
-pub record Added (old : Desk) (port : PortEnd) (new : Desk) : Type 0 where
+pub record AddsPort (old : Desk) (port : PortEnd) (new : Desk) : Type 0 where
   pub number : port.number ≡ old.next
   pub next : new.next ≡ old.next + 1
   pub end : IsEnd port new.links
-  pub sent : sent_by port ≡ []
-  pub received : received_by port ≡ []
+  pub sent : sent_through port ≡ []
+  pub received : received_through port ≡ []
   pub taken : taken_at new.links port.number ≡ []
   pub owed : owed_at new.links port.number ≡ []
   pub others : (n : ℕ) → n ≢ port.number → finmap.get new.links n ≡ finmap.get old.links n
@@ -43,34 +43,34 @@ pub record Added (old : Desk) (port : PortEnd) (new : Desk) : Type 0 where
   pub fresh : new.fresh ≡ old.fresh
 
 -- A turn plays what it takes, and puts out what that brings.
-pub record Turned (m : Machine) (old new : Desk) : Type 0 where
+pub record TakesTurn (m : Machine) (old new : Desk) : Type 0 where
   pub machine : new.machine ≡ Some (play m (events_of new.fresh)).after
-  pub took : (n : ℕ) → taken_at new.links n ≡ taken_at old.links n ++ part n new.fresh
-  pub owes : (n : ℕ) → is_open n old.links ≡ true
-      → owed_at new.links n ≡ owed_at old.links n ++ share n (play m (events_of new.fresh)).outputs
+  pub took : (n : ℕ) → taken_at new.links n ≡ taken_at old.links n ++ part_of_port n new.fresh
+  pub owes : (n : ℕ) → is_open_port n old.links ≡ true
+      → owed_at new.links n ≡ owed_at old.links n ++ share_of_port n (play m (events_of new.fresh)).outputs
   pub stay : AllStay old.links new.links
   pub next : new.next ≡ old.next
 
 -- Nothing is taken, and what is put comes of what was kept.
-pub record Waited (old new : Desk) : Type 0 where
+pub record TakesNothing (old new : Desk) : Type 0 where
   pub machine : new.machine ≡ old.machine
-  pub links : Rests old.links new.links
+  pub links : TakesNoMessage old.links new.links
   pub next : new.next ≡ old.next
 
 -- A turn is made; or the list of messages couldn't grow, and they stay where they are; or any other want of memory
 -- closed the desk. A closed one answers that, and takes nothing.
-abbrev pub Turns : Result ℕ Stop → Option Machine → Desk → Desk → Type 0
-Turns (Ok count) (Some m) old new = (count ≡ length new.fresh) × Turned m old new
-Turns (Err stops.NoMemory) (Some m) old new = (new.machine ≡ None) ⊎ ((new.fresh ≡ []) × Waited old new)
-Turns (Err stops.Closed) None old new = (new.fresh ≡ []) × Waited old new
-Turns (Ok count) None old new = ⊥
-Turns (Err stops.NoMemory) None old new = ⊥
-Turns (Err stops.Closed) (Some m) old new = ⊥
+abbrev pub AnswersTurn : Result ℕ Stop → Option Machine → Desk → Desk → Type 0
+AnswersTurn (Ok count) (Some m) old new = (count ≡ length new.fresh) × TakesTurn m old new
+AnswersTurn (Err stops.NoMemory) (Some m) old new = (new.machine ≡ None) ⊎ ((new.fresh ≡ []) × TakesNothing old new)
+AnswersTurn (Err stops.Closed) None old new = (new.fresh ≡ []) × TakesNothing old new
+AnswersTurn (Ok count) None old new = ⊥
+AnswersTurn (Err stops.NoMemory) None old new = ⊥
+AnswersTurn (Err stops.Closed) (Some m) old new = ⊥
 
 -- ---- its code
 
-abbrev pub desk_code : Coded (Option Machine) → Coded Links → Coded (List Came) → Coded Desk
+abbrev pub desk_code : Coded (Option Machine) → Coded Links → Coded (List PortMessage) → Coded Desk
 desk_code machine links fresh =
-    code_by (Option Machine × (Links × (ℕ × List Came))) (coded× machine (coded× links (coded× coded_ℕ fresh)))
+    code_by (Option Machine × (Links × (ℕ × List PortMessage))) (coded× machine (coded× links (coded× coded_ℕ fresh)))
     (λ d. (d.machine, (d.links, (d.next, d.fresh))))
     (λ p. record { machine = p.0; links = p.1.0; next = p.1.1.0; fresh = p.1.1.1 }) (λ _. refl)

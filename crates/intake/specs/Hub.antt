@@ -2,14 +2,14 @@
 use Rattle.std.specs.Prelude.{◌≡◌, ◌≤◌, ℕ, zero, suc, List, [], ◌∷◌, length, take, refl}
 use Rattle.std.specs.Coded.{Coded, code_by, coded×, coded_ℕ, coded_list}
 use Rattle.observer_core.specs.Machine.{Machine}
-use Rattle.intake.specs.Messages.{Came}
+use Rattle.intake.specs.Messages.{PortMessage}
 use Rattle.intake.specs.Desk.{Desk}
-use Rattle.intake.specs.Agreement.{Agrees}
+use Rattle.intake.specs.Agreement.{DeskAgrees}
 
 pub record Hub : Type 0 where
   pub desk : Desk
   -- all that was taken, in order
-  pub taken : List Came
+  pub taken : List PortMessage
   -- how many messages were taken when each port was added, by the ports' numbers
   pub since : List ℕ
 
@@ -20,18 +20,18 @@ number_at (x ∷ xs) zero = x
 number_at (x ∷ xs) (suc n) = number_at xs n
 
 -- what was taken when a port was added
-abbrev pub taken_before : Hub → ℕ → List Came
+abbrev pub taken_before : Hub → ℕ → List PortMessage
 taken_before h n = take (number_at h.since n) h.taken
 
 -- The hub began with a machine, and its desk agrees with all that it took since.
-pub record Runs (began : Machine) (h : Hub) : Type 0 where
-  pub agrees : Agrees began h.desk h.taken (taken_before h)
+pub record IsHubSince (began : Machine) (h : Hub) : Type 0 where
+  pub agrees : DeskAgrees began h.desk h.taken (taken_before h)
   pub within : (n : ℕ) → number_at h.since n ≤ length h.taken
   pub ports : length h.since ≡ h.desk.next
 
 -- ---- its code
 
-abbrev pub hub_code : Coded Desk → Coded (List Came) → Coded Hub
+abbrev pub hub_code : Coded Desk → Coded (List PortMessage) → Coded Hub
 hub_code desk taken =
-    code_by (Desk × (List Came × List ℕ)) (coded× desk (coded× taken (coded_list coded_ℕ)))
+    code_by (Desk × (List PortMessage × List ℕ)) (coded× desk (coded× taken (coded_list coded_ℕ)))
     (λ h. (h.desk, (h.taken, h.since))) (λ p. record { desk = p.0; taken = p.1.0; since = p.1.1 }) (λ _. refl)

@@ -7,20 +7,20 @@ use Rattle.observer_core.specs.declared.event.Output.{Output}
 use Rattle.intake.specs.declared.message.Message.{Message}
 use Rattle.intake.specs.declared.port.PortEnd.{PortEnd}
 use Rattle.intake.specs.declared.link.Link.{Link}
-use Rattle.intake.specs.Messages.{Came, part, share}
+use Rattle.intake.specs.Messages.{PortMessage, part_of_port, share_of_port}
 
 -- the hub's ends of each open port, by the ports' numbers
 abbrev pub Links : Type 0
 Links = finmap.FinMap nat_cmp Link
 
-abbrev pub is_open : ℕ → Links → Bool
-is_open n links = finmap.contains_key links n
+abbrev pub is_open_port : ℕ → Links → Bool
+is_open_port n links = finmap.contains_key links n
 
 -- ---- of one port
 
 -- what was put into a port's outbox, and then what is kept for it
-abbrev pub owed : Link → List Output
-owed link = sent link.outbox ++ link.kept.items
+abbrev pub outputs_owed : Link → List Output
+outputs_owed link = sent link.outbox ++ link.kept.items
 
 abbrev pub taken_from : Option Link → List Message
 taken_from None = []
@@ -36,7 +36,7 @@ put_to (Some link) = sent link.outbox
 
 abbrev pub owed_to : Option Link → List Output
 owed_to None = []
-owed_to (Some link) = owed link
+owed_to (Some link) = outputs_owed link
 
 -- the end is that of the rings of which the hub has these ends
 abbrev pub IsEndBy : PortEnd → Option Link → Type 0
@@ -44,14 +44,14 @@ IsEndBy end None = ⊥
 IsEndBy end (Some link) = IsPair end.inbox link.inbox × IsPair link.outbox end.outbox
 
 -- a port's ends as they were, but for what went through
-pub record Stays (old new : Link) : Type 0 where
+pub record IsSameLink (old new : Link) : Type 0 where
   pub inbox : SameConsumer old.inbox new.inbox
   pub outbox : SameProducer old.outbox new.outbox
 
 -- a port is open as before, and its rings are the same
 abbrev pub StaysOpen : Option Link → Option Link → Type 0
 StaysOpen None None = Unit {0}
-StaysOpen (Some old) (Some new) = Stays old new
+StaysOpen (Some old) (Some new) = IsSameLink old new
 StaysOpen None (Some new) = ⊥
 StaysOpen (Some old) None = ⊥
 
@@ -66,8 +66,8 @@ abbrev pub waiting_at : Links → ℕ → List Message
 waiting_at links n = waiting_from (finmap.get links n)
 
 -- what was put into a port's outbox
-abbrev pub put_at : Links → ℕ → List Output
-put_at links n = put_to (finmap.get links n)
+abbrev pub outbox_at : Links → ℕ → List Output
+outbox_at links n = put_to (finmap.get links n)
 
 -- what was put into a port's outbox, and then what is kept for it
 abbrev pub owed_at : Links → ℕ → List Output
@@ -82,19 +82,21 @@ pub record AllStay (old new : Links) : Type 0 where
   pub at : (n : ℕ) → StaysOpen (finmap.get old n) (finmap.get new n)
 
 -- Nothing is taken, and what is put comes of what was kept.
-pub record Rests (old new : Links) : Type 0 where
+pub record TakesNoMessage (old new : Links) : Type 0 where
   pub stay : AllStay old new
   pub took : (n : ℕ) → taken_at new n ≡ taken_at old n
   pub owes : (n : ℕ) → owed_at new n ≡ owed_at old n
 
 -- What is taken of each port comes at the end of a list, in order.
-pub record Takes (old : Links) (before : List Came) (new : Links) (after : List Came) : Type 0 where
-  pub stay : AllStay old new
-  pub took : (n : ℕ) (r : List Message) → taken_at old n ≡ r ++ part n before → taken_at new n ≡ r ++ part n after
-  pub owes : (n : ℕ) → owed_at new n ≡ owed_at old n
+pub record TakesMessages (old : Links) (before : List PortMessage) (new : Links) (after : List PortMessage) : Type 0
+  where
+    pub stay : AllStay old new
+    pub took : (n : ℕ) (r : List Message) → taken_at old n ≡ r ++ part_of_port n before
+        → taken_at new n ≡ r ++ part_of_port n after
+    pub owes : (n : ℕ) → owed_at new n ≡ owed_at old n
 
 -- Each open port gets its share of the outputs.
-pub record PutsOut (old : Links) (outputs : List Output) (new : Links) : Type 0 where
+pub record PutsShares (old : Links) (outputs : List Output) (new : Links) : Type 0 where
   pub stay : AllStay old new
   pub took : (n : ℕ) → taken_at new n ≡ taken_at old n
-  pub owes : (n : ℕ) → is_open n old ≡ true → owed_at new n ≡ owed_at old n ++ share n outputs
+  pub owes : (n : ℕ) → is_open_port n old ≡ true → owed_at new n ≡ owed_at old n ++ share_of_port n outputs

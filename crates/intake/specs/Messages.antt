@@ -8,24 +8,24 @@ use Rattle.intake.specs.declared.message.Message.{Message}
 use Rattle.intake.specs.declared.message.Message.TheVariants.{Up, Bytes, End, Checkpoint, Expire}
 
 -- a message with the port that it came by
-abbrev pub Came : Type 0
-Came = ℕ × Message
+abbrev pub PortMessage : Type 0
+PortMessage = ℕ × Message
 
 -- the event that a port's message stands for: port 0 is the leader's, and port n is connection n
-abbrev pub event_of : ℕ → Message → Event
-event_of n Up = if n == 0 then events.LeaderUp else events.ClientUp n
-event_of n (Bytes bytes) = if n == 0 then events.LeaderBytes bytes else events.ClientBytes n bytes
-event_of n End = if n == 0 then events.LeaderEnd else events.ClientEnd n
-event_of n Checkpoint = events.Checkpoint
-event_of n (Expire session) = events.Expire session
+abbrev pub event_of_message : ℕ → Message → Event
+event_of_message n Up = if n == 0 then events.LeaderUp else events.ClientUp n
+event_of_message n (Bytes bytes) = if n == 0 then events.LeaderBytes bytes else events.ClientBytes n bytes
+event_of_message n End = if n == 0 then events.LeaderEnd else events.ClientEnd n
+event_of_message n Checkpoint = events.Checkpoint
+event_of_message n (Expire session) = events.Expire session
 
 -- the events that messages stand for, in order
-abbrev pub events_of : List Came → List Event
-events_of came = map (λ c. event_of c.0 c.1) came
+abbrev pub events_of : List PortMessage → List Event
+events_of came = map (λ c. event_of_message c.0 c.1) came
 
 -- a port's part of what came, in order
-abbrev pub part : ℕ → List Came → List Message
-part n came = map (λ c. c.1) (filter (λ c. c.0 == n) came)
+abbrev pub part_of_port : ℕ → List PortMessage → List Message
+part_of_port n came = map (λ c. c.1) (filter (λ c. c.0 == n) came)
 
 -- the port that an output is for
 abbrev pub port_of : Output → ℕ
@@ -35,5 +35,5 @@ port_of (CloseLeader fault) = 0
 port_of (CloseClient n) = n
 
 -- a port's share of outputs, in order
-abbrev pub share : ℕ → List Output → List Output
-share n outputs = filter (λ o. port_of o == n) outputs
+abbrev pub share_of_port : ℕ → List Output → List Output
+share_of_port n outputs = filter (λ o. port_of o == n) outputs

@@ -6,12 +6,12 @@ use Rattle.intake.specs.declared.message.Message.{Message}
 use Rattle.intake.specs.declared.port.PortEnd.{PortEnd}
 
 -- the messages that were sent by a port
-abbrev pub sent_by : PortEnd → List Message
-sent_by port = sent port.inbox
+abbrev pub sent_through : PortEnd → List Message
+sent_through port = sent port.inbox
 
 -- the outputs that it received
-abbrev pub received_by : PortEnd → List Output
-received_by port = received port.outbox
+abbrev pub received_through : PortEnd → List Output
+received_through port = received port.outbox
 
 -- so many messages as there is room for were sent and not seen to be taken
 abbrev pub IsFull : PortEnd → Type 0
@@ -24,5 +24,5 @@ pub record SamePort (old new : PortEnd) : Type 0 where
   pub outbox : SameConsumer old.outbox new.outbox
 
 -- the outputs that it was seen to have and that it didn't receive yet
-abbrev pub unread_by : PortEnd → List Output
-unread_by port = known_items port.outbox
+abbrev pub unread_through : PortEnd → List Output
+unread_through port = known_items port.outbox

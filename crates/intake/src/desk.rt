@@ -4,13 +4,13 @@ ghost use Rattle.std.specs.Prelude.{◌≡◌, ◌⊎◌, ◌++◌, ◌<◌, ◌
 ghost use Rattle.std.specs.FinMap as finmap;
 ghost use Rattle.observer_core.specs.Machine.{Machine as TheMachine};
 ghost use Rattle.observer_core.specs.Play.{new_machine, primed_machine};
-ghost use Rattle.observer_core.specs.Plays.{Plays};
+ghost use Rattle.observer_core.specs.Plays.{PlaysEvents};
 ghost use Rattle.observer_core.specs.declared.engine.Stop.TheVariants as stops;
 ghost use Rattle.intake.specs.declared.message.AddPortError.TheVariants as errors;
 ghost use Rattle.intake.specs.Messages.{events_of};
-ghost use Rattle.intake.specs.Ports.{sent_by, received_by, unread_by, SamePort};
-ghost use Rattle.intake.specs.Links.{taken_at, waiting_at, put_at, IsEnd, Rests};
-ghost use Rattle.intake.specs.Desk.{opened, Added, Waited, Turns};
+ghost use Rattle.intake.specs.Ports.{sent_through, received_through, unread_through, SamePort};
+ghost use Rattle.intake.specs.Links.{taken_at, waiting_at, outbox_at, IsEnd, TakesNoMessage};
+ghost use Rattle.intake.specs.Desk.{new_desk, AddsPort, TakesNothing, AnswersTurn};
 
 use crate::events::events_of;
 use crate::link::Link;
@@ -59,21 +59,27 @@ impl Model for Desk {
     ghost use Rattle.observer_core.specs.contracts.engine.Engine as of_engine;
     ghost use Rattle.intake.specs.contracts.links.Links as of_links;
     ghost use Rattle.intake.specs.contracts.message.Message as of_message;
-    ghost use Rattle.intake.specs.Desk.{Desk as TheDesk, desk_code, IsEither};
+    ghost use Rattle.intake.specs.Desk.{Desk as TheDesk, desk_code, IsOpenUnless};
 
     ghost Value = { TheDesk };
 
-    ghost coded = { desk_code of_engine.the_row.coded of_links.the_row.coded (coded_list (coded× coded_ℕ of_message.the_row.coded)) };
+    ghost coded = { desk_code of_engine.the_row.coded of_links.the_row.coded
+        (coded_list (coded× coded_ℕ of_message.the_row.coded)) };
 
-    ghost view = { λ d. record { machine = if d.closed then None else d.engine; links = d.links; next = d.next; fresh = d.fresh.items } };
+    ghost view = { λ d. record {
+      machine = if d.closed then None else d.engine;
+      links = d.links;
+      next = d.next;
+      fresh = d.fresh.items;
+    } };
 
-    ghost invariant = { λ d. IsEither d.closed d.engine };
+    ghost invariant = { λ d. IsOpenUnless d.closed d.engine };
 }
 
 impl Desk {
     /// A desk whose observer has followed no leader yet.
     pub fn new(alloc: Global, config: Config) -> Result<Desk, NoMemory>
-        ensures { IfOk result (λ d. d ≡ opened (new_machine config.settings)) }
+        ensures { IfOk result (λ d. d ≡ new_desk (new_machine config.settings)) }
     {
         let marks = Marks::new(alloc)?;
         let engine = Engine::new(alloc, config)?;
@@ -82,7 +88,7 @@ impl Desk {
 
     /// A desk whose observer follows a leader in epoch 1, with connection 1 open.
     pub fn primed(alloc: Global, config: Config) -> Result<Desk, NoMemory>
-        ensures { IfOk result (λ d. d ≡ opened (primed_machine config.settings)) }
+        ensures { IfOk result (λ d. d ≡ new_desk (primed_machine config.settings)) }
     {
         let marks = Marks::new(alloc)?;
         let engine = Engine::primed(alloc, config)?;
@@ -91,7 +97,7 @@ impl Desk {
 
     fn with_engine(alloc: Global, engine: Engine, marks: Marks) -> Desk
         requires { IsSome engine }
-        ensures { (m : TheMachine) → engine ≡ Some m → result ≡ opened m }
+        ensures { (m : TheMachine) → engine ≡ Some m → result ≡ new_desk m }
     {
         Desk {
             alloc,
@@ -110,7 +116,7 @@ impl Desk {
     /// The next port, with room for so many messages (1 to 1024) and so many outputs. Numbers rise from 0, and none is
     /// used again.
     pub fn add_port(&mut self, capacity: usize) -> Result<Port, AddPortError>
-        ensures ok { IfOk result (λ port. Added self.old port self.new) }
+        ensures ok { IfOk result (λ port. AddsPort self.old port self.new) }
         ensures err { OnErr result (self.new ≡ self.old) }
         ensures bounds { OnOk result ((0 < capacity) × (capacity ≤ 1024)) }
         ensures out_of_bounds { result ≡ Err errors.BadCapacity → (capacity ≡ 0) ⊎ (1024 < capacity) }
@@ -126,7 +132,7 @@ impl Desk {
 
     fn open_port(&mut self, capacity: usize) -> Result<Port, NoMemory>
         requires { capacity ≤ 1024 }
-        ensures ok { IfOk result (λ port. Added self.old port self.new) }
+        ensures ok { IfOk result (λ port. AddsPort self.old port self.new) }
         ensures err { OnErr result (self.new ≡ self.old) }
     {
         let number = self.next;
@@ -193,9 +199,10 @@ impl Desk {
         requires { IsEnd end.old self.old.links }
         ensures count { result ≡ length (waiting_at self.new.links end.old.number) }
         ensures sent { taken_at self.new.links end.old.number ++ waiting_at self.new.links end.old.number
-            ≡ sent_by end.new }
-        ensures received { received_by end.new ++ unread_by end.new ≡ put_at self.new.links end.old.number }
-        ensures desk { Waited self.old self.new }
+            ≡ sent_through end.new }
+        ensures received { received_through end.new ++ unread_through end.new
+            ≡ outbox_at self.new.links end.old.number }
+        ensures desk { TakesNothing self.old self.new }
         ensures end { SamePort end.old end.new }
     {
         let count = self.links.left(end);
@@ -234,7 +241,7 @@ impl Desk {
         rt: &R,
         gate: &G,
     ) -> Result<usize, Stop>
-        ensures { Turns result self.old.machine self.old self.new }
+        ensures { AnswersTurn result self.old.machine self.old self.new }
     {
         self.fresh.clear();
         self.notes.begin(&mut self.kept);
@@ -290,7 +297,7 @@ fn prepare(
     marked: &mut Vec<usize>,
     fresh: &mut Vec<(usize, Message)>,
 ) -> Result<(), NoMemory>
-    ensures links { Rests links.old links.new }
+    ensures links { TakesNoMessage links.old links.new }
     ensures fresh { fresh.new.items ≡ fresh.old.items }
 {
     if links.put_all_kept(kept.as_slice(), notes).is_err() {
@@ -317,7 +324,8 @@ fn play<R: Threads + Sync, G: Gate + Sync>(
     gate: &G,
     outputs: &mut Vec<Output>,
 ) -> Result<(), Stop>
-    ensures ok { OnOk result (Plays (Ok tt) engine.old (events_of fresh.now) outputs.old.items outputs.new.items engine.new) }
+    ensures ok { OnOk result (PlaysEvents (Ok tt) engine.old (events_of fresh.now) outputs.old.items outputs.new.items
+        engine.new) }
     ensures open { IsSome engine.old → IfErr result (λ stop. stop ≡ stops.NoMemory) }
 {
     let Ok(events) = events_of(alloc, fresh) else {

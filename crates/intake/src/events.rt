@@ -1,7 +1,7 @@
 //! The events that messages stand for.
 
 ghost use Rattle.std.specs.Prelude.{◌≡◌, IfOk};
-ghost use Rattle.intake.specs.Messages.{event_of, events_of, port_of};
+ghost use Rattle.intake.specs.Messages.{event_of_message, events_of, port_of};
 
 use crate::message::Message;
 use observer_core::{Event, Output};
@@ -10,7 +10,7 @@ use values::{Bytes, NoMemory};
 
 /// The event that a port's message stands for.
 pub fn event_of(number: usize, message: &Message) -> Event<'_>
-    ensures { result ≡ event_of number message.now }
+    ensures { result ≡ event_of_message number message.now }
 {
     match message {
         Message::Checkpoint => Event::Checkpoint,

@@ -4,10 +4,10 @@ ghost use Rattle.std.specs.Prelude.{◌≡◌, ◌++◌, ◌+◌, length, IfOk, 
 ghost use Rattle.std.specs.FinMap as finmap;
 ghost use Rattle.observer_core.specs.Machine.{Machine as TheMachine};
 ghost use Rattle.observer_core.specs.Play.{new_machine, primed_machine};
-ghost use Rattle.intake.specs.Messages.{part};
-ghost use Rattle.intake.specs.Ports.{sent_by, received_by, unread_by, SamePort};
-ghost use Rattle.intake.specs.Links.{waiting_at, put_at, IsEnd};
-ghost use Rattle.intake.specs.Hub.{Runs};
+ghost use Rattle.intake.specs.Messages.{part_of_port};
+ghost use Rattle.intake.specs.Ports.{sent_through, received_through, unread_through, SamePort};
+ghost use Rattle.intake.specs.Links.{waiting_at, outbox_at, IsEnd};
+ghost use Rattle.intake.specs.Hub.{IsHubSince};
 
 use crate::desk::Desk;
 use crate::message::{AddPortError, Message};
@@ -44,7 +44,7 @@ impl Model for Hub {
 impl Hub {
     /// A hub whose observer has followed no leader yet.
     pub fn new(alloc: Global, config: Config) -> Result<Hub, NoMemory>
-        ensures { IfOk result (λ h. Runs (new_machine config.settings) h) }
+        ensures { IfOk result (λ h. IsHubSince (new_machine config.settings) h) }
     {
         let desk = Desk::new(alloc, config)?;
         Ok(Hub::with_desk(alloc, desk))
@@ -52,7 +52,7 @@ impl Hub {
 
     /// A hub whose observer follows a leader in epoch 1, with connection 1 open.
     pub fn primed(alloc: Global, config: Config) -> Result<Hub, NoMemory>
-        ensures { IfOk result (λ h. Runs (primed_machine config.settings) h) }
+        ensures { IfOk result (λ h. IsHubSince (primed_machine config.settings) h) }
     {
         let desk = Desk::primed(alloc, config)?;
         Ok(Hub::with_desk(alloc, desk))
@@ -70,7 +70,7 @@ impl Hub {
 
     /// The next port, as a desk adds it.
     pub fn add_port(&mut self, capacity: usize) -> Result<Port, AddPortError>
-        ensures ok { OnOk result ((began : TheMachine) → Runs began self.old → Runs began self.new) }
+        ensures ok { OnOk result ((began : TheMachine) → IsHubSince began self.old → IsHubSince began self.new) }
         ensures end { IfOk result (λ port. IsEnd port self.new.desk.links) }
         ensures taken { self.new.taken ≡ self.old.taken }
     {
@@ -105,7 +105,7 @@ impl Hub {
         rt: &R,
         gate: &G,
     ) -> Result<usize, Stop>
-        ensures runs { OnOk result ((began : TheMachine) → Runs began self.old → Runs began self.new) }
+        ensures runs { OnOk result ((began : TheMachine) → IsHubSince began self.old → IsHubSince began self.new) }
         ensures count { IfOk result (λ count. length self.new.taken ≡ length self.old.taken + count) }
     {
         let count = self.desk.turn(rt, gate)?;
@@ -119,10 +119,12 @@ impl Hub {
     pub fn left(&mut self, end: &mut PortEnd) -> usize
         requires { IsEnd end.old self.old.desk.links }
         ensures count { result ≡ length (waiting_at self.new.desk.links end.old.number) }
-        ensures sent { (began : TheMachine) → Runs began self.old
-            → part end.old.number self.new.taken ++ waiting_at self.new.desk.links end.old.number ≡ sent_by end.new }
-        ensures received { received_by end.new ++ unread_by end.new ≡ put_at self.new.desk.links end.old.number }
-        ensures runs { (began : TheMachine) → Runs began self.old → Runs began self.new }
+        ensures sent { (began : TheMachine) → IsHubSince began self.old
+            → part_of_port end.old.number self.new.taken ++ waiting_at self.new.desk.links end.old.number
+            ≡ sent_through end.new }
+        ensures received { received_through end.new ++ unread_through end.new
+            ≡ outbox_at self.new.desk.links end.old.number }
+        ensures runs { (began : TheMachine) → IsHubSince began self.old → IsHubSince began self.new }
         ensures end { SamePort end.old end.new }
     {
         self.desk.left(end)
@@ -130,7 +132,7 @@ impl Hub {
 
     /// A finished port goes, with what was kept for it and what it sent that wasn't taken.
     pub fn close(&mut self, end: PortEnd)
-        ensures { (began : TheMachine) → Runs began self.old → Runs began self.new }
+        ensures { (began : TheMachine) → IsHubSince began self.old → IsHubSince began self.new }
     {
         self.desk.close(end);
     }

@@ -3,9 +3,9 @@
 ghost use Rattle.std.specs.Prelude.{◌≡◌, ◌≢◌, ◌++◌, [], ◌∷◌, length, OnOk, Some, ℕ, List};
 ghost use Rattle.rtrb.specs.Ring.{sent, received, known_items, IsPair, SameProducer, SameConsumer, ConsumerLooked};
 ghost use Rattle.intake.specs.declared.message.Message.{Message as AMessage};
-ghost use Rattle.intake.specs.Messages.{part};
-ghost use Rattle.intake.specs.Links.{owed, IsEndBy, Stays};
-ghost use Rattle.intake.specs.Ports.{sent_by, received_by, unread_by, SamePort};
+ghost use Rattle.intake.specs.Messages.{part_of_port};
+ghost use Rattle.intake.specs.Links.{outputs_owed, IsEndBy, IsSameLink};
+ghost use Rattle.intake.specs.Ports.{sent_through, received_through, unread_through, SamePort};
 
 use crate::marks::Marks;
 use crate::message::Message;
@@ -71,7 +71,8 @@ impl Link {
 
     // Has the port's thread told, once a turn.
     fn tell(&mut self, number: usize, notes: &mut Notes) -> Result<(), NoMemory>
-        ensures { (self.new.inbox ≡ self.old.inbox) × (self.new.outbox ≡ self.old.outbox) × (self.new.kept ≡ self.old.kept) }
+        ensures { (self.new.inbox ≡ self.old.inbox) × (self.new.outbox ≡ self.old.outbox)
+            × (self.new.kept ≡ self.old.kept) }
     {
         if self.told_in != notes.turn {
             self.told_in = notes.turn;
@@ -82,7 +83,7 @@ impl Link {
 
     // Puts kept outputs until the outbox is full or none is kept.
     fn move_kept(&mut self)
-        ensures owes { owed self.new ≡ owed self.old }
+        ensures owes { outputs_owed self.new ≡ outputs_owed self.old }
         ensures outbox { SameProducer self.old.outbox self.new.outbox }
         ensures inbox { self.new.inbox ≡ self.old.inbox }
     {
@@ -100,7 +101,7 @@ impl Link {
 
     /// Puts kept outputs until the outbox is full or none is kept.
     pub fn put_kept(&mut self, number: usize, notes: &mut Notes) -> Result<(), NoMemory>
-        ensures owes { owed self.new ≡ owed self.old }
+        ensures owes { outputs_owed self.new ≡ outputs_owed self.old }
         ensures outbox { SameProducer self.old.outbox self.new.outbox }
         ensures inbox { self.new.inbox ≡ self.old.inbox }
     {
@@ -117,7 +118,7 @@ impl Link {
 
     // Puts an output behind those kept, or keeps it.
     fn add_output(&mut self, output: Output) -> Result<(), NoMemory>
-        ensures owes { OnOk result (owed self.new ≡ owed self.old ++ output ∷ []) }
+        ensures owes { OnOk result (outputs_owed self.new ≡ outputs_owed self.old ++ output ∷ []) }
         ensures outbox { SameProducer self.old.outbox self.new.outbox }
         ensures inbox { self.new.inbox ≡ self.old.inbox }
     {
@@ -132,7 +133,7 @@ impl Link {
 
     /// Puts an output behind those kept, or keeps it.
     pub fn put(&mut self, number: usize, output: Output, notes: &mut Notes) -> Result<(), NoMemory>
-        ensures owes { OnOk result (owed self.new ≡ owed self.old ++ output ∷ []) }
+        ensures owes { OnOk result (outputs_owed self.new ≡ outputs_owed self.old ++ output ∷ []) }
         ensures outbox { SameProducer self.old.outbox self.new.outbox }
         ensures inbox { self.new.inbox ≡ self.old.inbox }
     {
@@ -167,9 +168,9 @@ impl Link {
         number: usize,
         fresh: &mut Vec<(usize, Message)>,
     ) -> Result<bool, NoMemory>
-        ensures own { (r : List AMessage) → received self.old.inbox ≡ r ++ part number fresh.old.items
-            → OnOk result (received self.new.inbox ≡ r ++ part number fresh.new.items) }
-        ensures others { (n : ℕ) → n ≢ number → part n fresh.new.items ≡ part n fresh.old.items }
+        ensures own { (r : List AMessage) → received self.old.inbox ≡ r ++ part_of_port number fresh.old.items
+            → OnOk result (received self.new.inbox ≡ r ++ part_of_port number fresh.new.items) }
+        ensures others { (n : ℕ) → n ≢ number → part_of_port n fresh.new.items ≡ part_of_port n fresh.old.items }
         ensures inbox { SameConsumer self.old.inbox self.new.inbox }
         ensures outbox { (self.new.outbox ≡ self.old.outbox) × (self.new.kept ≡ self.old.kept) }
     {
@@ -195,9 +196,9 @@ impl Link {
         notes: &mut Notes,
         marks: &Marks,
     ) -> Result<(), NoMemory>
-        ensures own { (r : List AMessage) → received self.old.inbox ≡ r ++ part number fresh.old.items
-            → OnOk result (received self.new.inbox ≡ r ++ part number fresh.new.items) }
-        ensures others { (n : ℕ) → n ≢ number → part n fresh.new.items ≡ part n fresh.old.items }
+        ensures own { (r : List AMessage) → received self.old.inbox ≡ r ++ part_of_port number fresh.old.items
+            → OnOk result (received self.new.inbox ≡ r ++ part_of_port number fresh.new.items) }
+        ensures others { (n : ℕ) → n ≢ number → part_of_port n fresh.new.items ≡ part_of_port n fresh.old.items }
         ensures inbox { SameConsumer self.old.inbox self.new.inbox }
         ensures outbox { (self.new.outbox ≡ self.old.outbox) × (self.new.kept ≡ self.old.kept) }
     {
@@ -220,11 +221,11 @@ impl Link {
     pub fn left(&mut self, end: &mut PortEnd) -> usize
         requires { IsEndBy end.old (Some self.old) }
         ensures count { result ≡ length (known_items self.new.inbox) }
-        ensures sent { received self.new.inbox ++ known_items self.new.inbox ≡ sent_by end.new }
-        ensures received { received_by end.new ++ unread_by end.new ≡ sent self.new.outbox }
+        ensures sent { received self.new.inbox ++ known_items self.new.inbox ≡ sent_through end.new }
+        ensures received { received_through end.new ++ unread_through end.new ≡ sent self.new.outbox }
         ensures took { received self.new.inbox ≡ received self.old.inbox }
-        ensures owes { owed self.new ≡ owed self.old }
-        ensures link { Stays self.old self.new }
+        ensures owes { outputs_owed self.new ≡ outputs_owed self.old }
+        ensures link { IsSameLink self.old self.new }
         ensures end { SamePort end.old end.new }
     {
         self.is_finished = true;

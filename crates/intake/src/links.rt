@@ -2,8 +2,8 @@
 
 ghost use Rattle.std.specs.Prelude.{◌≡◌, ◌++◌, [], ◌∷◌, length, OnOk, OnErr};
 ghost use Rattle.std.specs.FinMap as finmap;
-ghost use Rattle.intake.specs.Ports.{sent_by, received_by, unread_by, SamePort};
-ghost use Rattle.intake.specs.Links.{taken_at, waiting_at, put_at, IsEnd, Rests, Takes, PutsOut};
+ghost use Rattle.intake.specs.Ports.{sent_through, received_through, unread_through, SamePort};
+ghost use Rattle.intake.specs.Links.{taken_at, waiting_at, outbox_at, IsEnd, TakesNoMessage, TakesMessages, PutsShares};
 
 use crate::events::port_of;
 use crate::link::Link;
@@ -65,7 +65,7 @@ impl Links {
 
     /// Puts outputs that are kept for the port.
     pub fn put_kept(&mut self, number: usize, notes: &mut Notes) -> Result<(), NoMemory>
-        ensures { Rests self.old self.new }
+        ensures { TakesNoMessage self.old self.new }
     {
         match self.map.get_mut(&number) {
             None => return Ok(()),
@@ -75,7 +75,7 @@ impl Links {
 
     /// Puts an output out to the port.
     pub fn put(&mut self, output: Output, notes: &mut Notes) -> Result<(), NoMemory>
-        ensures { OnOk result (PutsOut self.old (output ∷ []) self.new) }
+        ensures { OnOk result (PutsShares self.old (output ∷ []) self.new) }
     {
         let number = port_of(&output);
         match self.map.get_mut(&number) {
@@ -86,7 +86,7 @@ impl Links {
 
     /// Looks how many messages there are to take of the port.
     pub fn look(&mut self, number: usize) -> usize
-        ensures { Rests self.old self.new }
+        ensures { TakesNoMessage self.old self.new }
     {
         match self.map.get_mut(&number) {
             None => return 0,
@@ -102,7 +102,7 @@ impl Links {
         notes: &mut Notes,
         marks: &Marks,
     ) -> Result<(), NoMemory>
-        ensures { OnOk result (Takes self.old fresh.old.items self.new fresh.new.items) }
+        ensures { OnOk result (TakesMessages self.old fresh.old.items self.new fresh.new.items) }
     {
         match self.map.get_mut(&number) {
             None => return Ok(()),
@@ -121,9 +121,9 @@ impl Links {
     pub fn left(&mut self, end: &mut PortEnd) -> usize
         requires { IsEnd end.old self.old }
         ensures count { result ≡ length (waiting_at self.new end.old.number) }
-        ensures sent { taken_at self.new end.old.number ++ waiting_at self.new end.old.number ≡ sent_by end.new }
-        ensures received { received_by end.new ++ unread_by end.new ≡ put_at self.new end.old.number }
-        ensures links { Rests self.old self.new }
+        ensures sent { taken_at self.new end.old.number ++ waiting_at self.new end.old.number ≡ sent_through end.new }
+        ensures received { received_through end.new ++ unread_through end.new ≡ outbox_at self.new end.old.number }
+        ensures links { TakesNoMessage self.old self.new }
         ensures end { SamePort end.old end.new }
     {
         match self.map.get_mut(&end.number) {
@@ -135,7 +135,7 @@ impl Links {
     /// Puts what is kept for these ports.
     #[tactic(auto, using(crate::proofs::Keeping::rests_same, crate::proofs::Keeping::rests_on))]
     pub fn put_all_kept(&mut self, numbers: &[usize], notes: &mut Notes) -> Result<(), NoMemory>
-        ensures { Rests self.old self.new }
+        ensures { TakesNoMessage self.old self.new }
     {
         for number in numbers {
             self.put_kept(*number, notes)?;
@@ -146,7 +146,7 @@ impl Links {
     /// Looks how many messages there are to take of these ports.
     #[tactic(auto, using(crate::proofs::Keeping::rests_same, crate::proofs::Keeping::rests_on))]
     pub fn look_all(&mut self, numbers: &[usize]) -> usize
-        ensures { Rests self.old self.new }
+        ensures { TakesNoMessage self.old self.new }
     {
         let mut count = 0usize;
         for number in numbers {
@@ -171,7 +171,7 @@ impl Links {
         notes: &mut Notes,
         marks: &Marks,
     ) -> Result<(), NoMemory>
-        ensures { OnOk result (Takes self.old fresh.old.items self.new fresh.new.items) }
+        ensures { OnOk result (TakesMessages self.old fresh.old.items self.new fresh.new.items) }
     {
         for number in numbers {
             self.take(*number, fresh, notes, marks)?;
@@ -182,7 +182,7 @@ impl Links {
     /// Puts each output out to its port.
     #[tactic(auto, using(crate::proofs::Keeping::puts_none, crate::proofs::Keeping::puts_on))]
     pub fn put_all(&mut self, outputs: Vec<Output>, notes: &mut Notes) -> Result<(), NoMemory>
-        ensures { OnOk result (PutsOut self.old outputs.items self.new) }
+        ensures { OnOk result (PutsShares self.old outputs.items self.new) }
     {
         for output in outputs {
             self.put(output, notes)?;

@@ -1,7 +1,7 @@
 //! The end of a port that a thread of its own has.
 
 ghost use Rattle.std.specs.Prelude.{◌≡◌, ◌++◌, [], ◌∷◌, OnOk, IfErr, IfSome, IfNone};
-ghost use Rattle.intake.specs.Ports.{sent_by, received_by, IsFull, SamePort};
+ghost use Rattle.intake.specs.Ports.{sent_through, received_through, IsFull, SamePort};
 
 use crate::marks::Mark;
 use crate::message::{Full, Message};
@@ -65,10 +65,10 @@ impl Port {
 
     /// Sends a message to the hub and wakes it, or hands the message back where there is no room. It waits for nobody.
     pub fn send(&mut self, message: Message) -> Result<(), Full>
-        ensures ok { OnOk result (sent_by self.new ≡ sent_by self.old ++ message ∷ []) }
-        ensures full { IfErr result (λ full. (full.0 ≡ message) × (sent_by self.new ≡ sent_by self.old)
+        ensures ok { OnOk result (sent_through self.new ≡ sent_through self.old ++ message ∷ []) }
+        ensures full { IfErr result (λ full. (full.0 ≡ message) × (sent_through self.new ≡ sent_through self.old)
             × IsFull self.new) }
-        ensures received { received_by self.new ≡ received_by self.old }
+        ensures received { received_through self.new ≡ received_through self.old }
         ensures port { SamePort self.old self.new }
     {
         match self.end.inbox.push(message) {
@@ -83,9 +83,9 @@ impl Port {
     /// The next output, if one is there. Where none is, after so many that the outbox may have been full, it wakes the
     /// hub, which may keep some more.
     pub fn receive(&mut self) -> Option<Output>
-        ensures some { IfSome result (λ o. received_by self.new ≡ received_by self.old ++ o ∷ []) }
-        ensures none { IfNone result (received_by self.new ≡ received_by self.old) }
-        ensures sent { sent_by self.new ≡ sent_by self.old }
+        ensures some { IfSome result (λ o. received_through self.new ≡ received_through self.old ++ o ∷ []) }
+        ensures none { IfNone result (received_through self.new ≡ received_through self.old) }
+        ensures sent { sent_through self.new ≡ sent_through self.old }
         ensures port { SamePort self.old self.new }
     {
         match self.end.outbox.pop() {
@@ -105,8 +105,8 @@ impl Port {
 
     /// Whether the hub has taken all that was sent.
     pub fn is_drained(&mut self) -> bool
-        ensures sent { sent_by self.new ≡ sent_by self.old }
-        ensures received { received_by self.new ≡ received_by self.old }
+        ensures sent { sent_through self.new ≡ sent_through self.old }
+        ensures received { received_through self.new ≡ received_through self.old }
         ensures port { SamePort self.old self.new }
     {
         self.end.inbox.slots() == self.end.inbox.capacity()

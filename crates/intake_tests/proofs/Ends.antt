@@ -7,7 +7,7 @@ use Rattle.intake.specs.declared.link.Link.{Link}
 use Rattle.intake.specs.declared.port.PortEnd.{PortEnd}
 use Rattle.intake.specs.Ports.{SamePort}
 use Rattle.intake.specs.Links.{Links, IsEnd, IsEndBy, StaysOpen, AllStay}
-use Rattle.intake.specs.Desk.{Desk, Turns}
+use Rattle.intake.specs.Desk.{Desk, AnswersTurn}
 
 -- both moved from the same thing
 moved : {X : Type 0} (a b c d : X) → b ≡ a → c ≡ a → d ≡ b → d ≡ c
@@ -19,16 +19,24 @@ end_kept port later None new is_end same stays = elim is_end [ ]
 end_kept port later (Some l) None is_end same stays = elim stays [ ]
 end_kept port later (Some l) (Some k) (inbox, outbox) same stays = (
   (
-    moved port.inbox.end.words l.inbox.end.words later.inbox.end.words k.inbox.end.words inbox.0 same.inbox.0.0 stays.inbox.0.0,
-    moved port.inbox.end.slots l.inbox.end.slots later.inbox.end.slots k.inbox.end.slots inbox.1 same.inbox.0.1 stays.inbox.0.1,
-    moved port.inbox.end.names l.inbox.end.names later.inbox.end.names k.inbox.end.names inbox.2 same.inbox.0.2 stays.inbox.0.2,
-    moved port.inbox.end.heap l.inbox.end.heap later.inbox.end.heap k.inbox.end.heap inbox.3 same.inbox.0.3 stays.inbox.0.3,
+    moved port.inbox.end.words l.inbox.end.words later.inbox.end.words k.inbox.end.words inbox.0 same.inbox.0.0
+        stays.inbox.0.0,
+    moved port.inbox.end.slots l.inbox.end.slots later.inbox.end.slots k.inbox.end.slots inbox.1 same.inbox.0.1
+        stays.inbox.0.1,
+    moved port.inbox.end.names l.inbox.end.names later.inbox.end.names k.inbox.end.names inbox.2 same.inbox.0.2
+        stays.inbox.0.2,
+    moved port.inbox.end.heap l.inbox.end.heap later.inbox.end.heap k.inbox.end.heap inbox.3 same.inbox.0.3
+        stays.inbox.0.3,
   ),
   (
-    moved l.outbox.end.words port.outbox.end.words k.outbox.end.words later.outbox.end.words outbox.0 stays.outbox.0.0 same.outbox.0.0,
-    moved l.outbox.end.slots port.outbox.end.slots k.outbox.end.slots later.outbox.end.slots outbox.1 stays.outbox.0.1 same.outbox.0.1,
-    moved l.outbox.end.names port.outbox.end.names k.outbox.end.names later.outbox.end.names outbox.2 stays.outbox.0.2 same.outbox.0.2,
-    moved l.outbox.end.heap port.outbox.end.heap k.outbox.end.heap later.outbox.end.heap outbox.3 stays.outbox.0.3 same.outbox.0.3,
+    moved l.outbox.end.words port.outbox.end.words k.outbox.end.words later.outbox.end.words outbox.0 stays.outbox.0.0
+        same.outbox.0.0,
+    moved l.outbox.end.slots port.outbox.end.slots k.outbox.end.slots later.outbox.end.slots outbox.1 stays.outbox.0.1
+        same.outbox.0.1,
+    moved l.outbox.end.names port.outbox.end.names k.outbox.end.names later.outbox.end.names outbox.2 stays.outbox.0.2
+        same.outbox.0.2,
+    moved l.outbox.end.heap port.outbox.end.heap k.outbox.end.heap later.outbox.end.heap outbox.3 stays.outbox.0.3
+        same.outbox.0.3,
   ),
 )
 
@@ -39,7 +47,7 @@ is_end_kept port later old new is_end same stay =
     subst P (sym same.number)
     (end_kept port later (finmap.get old port.number) (finmap.get new port.number) is_end same (stay.at port.number))
 
-pub all_stay_in_a_turn : (took : ℕ) (m : Option Machine) (old new : Desk) → Turns (Ok took) m old new
+pub all_stay_in_a_turn : (took : ℕ) (m : Option Machine) (old new : Desk) → AnswersTurn (Ok took) m old new
     → AllStay old.links new.links
 all_stay_in_a_turn took (Some m) old new turns = turns.1.stay
 all_stay_in_a_turn took None old new turns = elim turns [ ]

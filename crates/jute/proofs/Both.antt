@@ -1,13 +1,13 @@
 -- One format behind another, and values of one type as those of another.
 use Rattle.std.proofs.Common.{◌≡◌, ℕ, List, [], ◌++◌, length, Ok, refl, sym, ap, subst, ◌∙◌, append_assoc, arith, inl, inr}
 use Rattle.std.proofs.lemmas.List.{append-nil, length-append}
-use Rattle.jute.specs.Format.{◌>>=◌, Format, both, mapped}
-use Rattle.jute.specs.Laws.{Takes, TakesSpellings, Named, Lawful, Sound, SoundAtEnd}
-use Rattle.jute.specs.Pieces.{Pieced, TakesSome}
+use Rattle.jute.specs.Format.{◌>>=◌, Format, pair_of, mapped_format}
+use Rattle.jute.specs.Laws.{TakesSpelling, TakesSpellings, NamesFaults, IsLawful, IsSound, IsSoundAtEnd}
+use Rattle.jute.specs.Pieces.{ReadsInPieces, TakesSomeBytes}
 use Rattle.jute.proofs.Steps.{bind_ok, ok_is, bind_err, not_refused, behind_read, then_stands, then_leaves, within, then_eats}
 
 -- what stands anywhere stands at an end
-pub sound_at_end : {A : Type 0} (f : Format A) → Sound f → SoundAtEnd f
+pub sound_at_end : {A : Type 0} (f : Format A) → IsSound f → IsSoundAtEnd f
 sound_at_end f s = record {
   takes = s.lawful.takes;
   again = λ v text h. ap f.read (sym (append-nil text)) ∙ s.lawful.again v text [] h;
@@ -20,7 +20,7 @@ sound_at_end f s = record {
 -- ---- one behind another
 
 both_takes : {A B : Type 0} (f : Format A) (g : Format B) → TakesSpellings f → TakesSpellings g
-    → TakesSpellings (both f g)
+    → TakesSpellings (pair_of f g)
 both_takes {A} {B} f g tf tg bytes v rest fits e =
     let a = bind_ok (f.read bytes) (λ (a : A × List ℕ). g.read a.1 >>= λ (b : B × List ℕ). Ok ((a.0, b.0), b.1)) (
       v,
@@ -30,25 +30,26 @@ both_takes {A} {B} f g tf tg bytes v rest fits e =
     let t0 = tf bytes a.0.0 a.0.1 fits a.1 in
     let t1 = tg a.0.1 b.0.0 b.0.1 t0.rest_fits b.1 in
     let made : (A × B) × List ℕ = ((a.0.0, b.0.0), b.0.1) in
-    let whole : Takes (both f g) bytes made.0 made.1 = record {
+    let whole : TakesSpelling (pair_of f g) bytes made.0 made.1 = record {
       text = t0.text ++ t1.text;
       parts = t0.parts ∙ ap (λ (t : List ℕ). t0.text ++ t) t1.parts ∙ sym (append_assoc t0.text t1.text b.0.1);
       spells = (t0.text, t1.text, refl, t0.spells, t1.spells);
       rest_fits = t1.rest_fits;
     } in
-    subst (λ (y : (A × B) × List ℕ). Takes (both f g) bytes y.0 y.1) (ok_is made (v, rest) b.2) whole
+    subst (λ (y : (A × B) × List ℕ). TakesSpelling (pair_of f g) bytes y.0 y.1) (ok_is made (v, rest) b.2) whole
 
-both_lawful : {A B : Type 0} (f : Format A) (g : Format B) → Lawful f → Lawful g → Lawful (both f g)
+both_lawful : {A B : Type 0} (f : Format A) (g : Format B) → IsLawful f → IsLawful g → IsLawful (pair_of f g)
 both_lawful f g lf lg = record {
   takes = both_takes f g lf.takes lg.takes;
   again = λ v text rest s.
       let regrouped : text ++ rest ≡ s.0 ++ (s.1 ++ rest) = ap (λ (t : List ℕ). t ++ rest) s.2
       ∙ append_assoc s.0 s.1 rest in
-      ap (both f g).read regrouped ∙ rw (lf.again v.0 s.0 (s.1 ++ rest) s.3, lg.again v.1 s.1 rest s.4) refl;
+      ap (pair_of f g).read regrouped ∙ rw (lf.again v.0 s.0 (s.1 ++ rest) s.3, lg.again v.1 s.1 rest s.4) refl;
   writes = λ v h. (f.written v.0, g.written v.1, refl, lf.writes v.0 h.0, lg.writes v.1 h.1);
 }
 
-both_pieced : {A B : Type 0} (f : Format A) (g : Format B) → Pieced f → Pieced g → Pieced (both f g)
+both_pieced : {A B : Type 0} (f : Format A) (g : Format B) → ReadsInPieces f → ReadsInPieces g
+    → ReadsInPieces (pair_of f g)
 both_pieced {A} {B} f g p q = record {
   stands = λ bytes more. then_stands (f.read bytes) (f.read (bytes ++ more)) more
       (λ (a : A × List ℕ). g.read a.1 >>= λ (b : B × List ℕ). Ok ((a.0, b.0), b.1)) (p.stands bytes more)
@@ -60,7 +61,8 @@ both_pieced {A} {B} f g p q = record {
       (within (g.read rest) (length rest) (length bytes) le (q.leaves rest)) (λ b last lt. lt));
 }
 
-both_eats : {A B : Type 0} (f : Format A) (g : Format B) → TakesSome f → Pieced g → TakesSome (both f g)
+both_eats : {A B : Type 0} (f : Format A) (g : Format B) → TakesSomeBytes f → ReadsInPieces g
+    → TakesSomeBytes (pair_of f g)
 both_eats {A} {B} f g e q = record {
   eats = λ bytes. then_eats (f.read bytes) (length bytes) (λ (a : A × List ℕ). g.read a.1 >>= λ (b : B × List ℕ). Ok
       ((a.0, b.0), b.1)) (e.eats bytes)
@@ -68,7 +70,8 @@ both_eats {A} {B} f g e q = record {
       (λ b last lt. lt));
 }
 
-both_named : {A B : Type 0} (f : Format A) (g : Format B) → Lawful f → Named f → Named g → Named (both f g)
+both_named : {A B : Type 0} (f : Format A) (g : Format B) → IsLawful f → NamesFaults f → NamesFaults g
+    → NamesFaults (pair_of f g)
 both_named {A} {B} f g lf nf ng = record {
   names = λ bytes e fits h.
       elim (bind_err (f.read bytes) (λ (a : A × List ℕ). g.read a.1 >>= λ (b : B × List ℕ). Ok ((a.0, b.0), b.1)) e h) [
@@ -93,7 +96,7 @@ both_named {A} {B} f g lf nf ng = record {
   ];
 }
 
-pub both_sound : {A B : Type 0} (f : Format A) (g : Format B) → Sound f → Sound g → Sound (both f g)
+pub both_sound : {A B : Type 0} (f : Format A) (g : Format B) → IsSound f → IsSound g → IsSound (pair_of f g)
 both_sound f g a b = record {
   lawful = both_lawful f g a.lawful b.lawful;
   pieced = both_pieced f g a.pieced b.pieced;
@@ -111,10 +114,10 @@ both_sound f g a b = record {
   writable = λ v h. (a.writable v.0 h.0, b.writable v.1 h.1);
 }
 
-pub both_at_end : {A B : Type 0} (f : Format A) (g : Format B) → Sound f → SoundAtEnd g → SoundAtEnd (both f g)
+pub both_at_end : {A B : Type 0} (f : Format A) (g : Format B) → IsSound f → IsSoundAtEnd g → IsSoundAtEnd (pair_of f g)
 both_at_end f g a b = record {
   takes = both_takes f g a.lawful.takes b.takes;
-  again = λ v text s. ap (both f g).read s.2 ∙ rw (a.lawful.again v.0 s.0 s.1 s.3, b.again v.1 s.1 s.4) refl;
+  again = λ v text s. ap (pair_of f g).read s.2 ∙ rw (a.lawful.again v.0 s.0 s.1 s.3, b.again v.1 s.1 s.4) refl;
   writes = λ v h. (f.written v.0, g.written v.1, refl, a.lawful.writes v.0 h.0, b.writes v.1 h.1);
   named = both_named f g a.lawful a.named b.named;
   limited = λ v text s. (a.limited v.0 s.0 s.3, b.limited v.1 s.1 s.4);
@@ -124,19 +127,21 @@ both_at_end f g a b = record {
 -- ---- values of another type
 
 mapped_takes : {A B : Type 0} (to : A → B) (from : B → A) (f : Format A) → ((a : A) → from (to a) ≡ a)
-    → TakesSpellings f → TakesSpellings (mapped to from f)
+    → TakesSpellings f → TakesSpellings (mapped_format to from f)
 mapped_takes {A} {B} to from f there tf bytes v rest fits e =
     let a = bind_ok (f.read bytes) (λ (a : A × List ℕ). Ok (to a.0, a.1)) (v, rest) e in
     let t = tf bytes a.0.0 a.0.1 fits a.1 in
-    let whole : Takes (mapped to from f) bytes (to a.0.0) a.0.1 = record {
+    let whole : TakesSpelling (mapped_format to from f) bytes (to a.0.0) a.0.1 = record {
       text = t.text;
       parts = t.parts;
       spells = subst (λ (x : A). f.Spells x t.text) (sym (there a.0.0)) t.spells;
       rest_fits = t.rest_fits;
     } in
-    subst (λ (y : B × List ℕ). Takes (mapped to from f) bytes y.0 y.1) (ok_is (to a.0.0, a.0.1) (v, rest) a.2) whole
+    subst (λ (y : B × List ℕ). TakesSpelling (mapped_format to from f) bytes y.0 y.1)
+    (ok_is (to a.0.0, a.0.1) (v, rest) a.2) whole
 
-mapped_pieced : {A B : Type 0} (to : A → B) (from : B → A) (f : Format A) → Pieced f → Pieced (mapped to from f)
+mapped_pieced : {A B : Type 0} (to : A → B) (from : B → A) (f : Format A) → ReadsInPieces f
+    → ReadsInPieces (mapped_format to from f)
 mapped_pieced {A} to from f p = record {
   stands = λ bytes more. then_stands (f.read bytes) (f.read (bytes ++ more)) more (λ (a : A × List ℕ). Ok (to a.0, a.1))
       (p.stands bytes more) (λ a rest. refl);
@@ -144,13 +149,15 @@ mapped_pieced {A} to from f p = record {
       (λ a rest le. le);
 }
 
-mapped_eats : {A B : Type 0} (to : A → B) (from : B → A) (f : Format A) → TakesSome f → TakesSome (mapped to from f)
+mapped_eats : {A B : Type 0} (to : A → B) (from : B → A) (f : Format A) → TakesSomeBytes f
+    → TakesSomeBytes (mapped_format to from f)
 mapped_eats {A} to from f e = record {
   eats = λ bytes. then_eats (f.read bytes) (length bytes)
       (λ (a : A × List ℕ). Ok (to a.0, a.1)) (e.eats bytes) (λ a rest. omega arith);
 }
 
-mapped_named : {A B : Type 0} (to : A → B) (from : B → A) (f : Format A) → Named f → Named (mapped to from f)
+mapped_named : {A B : Type 0} (to : A → B) (from : B → A) (f : Format A) → NamesFaults f
+    → NamesFaults (mapped_format to from f)
 mapped_named {A} to from f nf = record {
   names = λ bytes e fits h.
       elim (bind_err (f.read bytes) (λ (a : A × List ℕ). Ok (to a.0, a.1)) e h) [
@@ -161,7 +168,7 @@ mapped_named {A} to from f nf = record {
 }
 
 pub mapped_sound : {A B : Type 0} (to : A → B) (from : B → A) (f : Format A) → ((a : A) → from (to a) ≡ a)
-    → ((b : B) → to (from b) ≡ b) → Sound f → Sound (mapped to from f)
+    → ((b : B) → to (from b) ≡ b) → IsSound f → IsSound (mapped_format to from f)
 mapped_sound to from f there back a = record {
   lawful = record {
     takes = mapped_takes to from f there a.lawful.takes;
@@ -177,7 +184,7 @@ mapped_sound to from f there back a = record {
 }
 
 pub mapped_at_end : {A B : Type 0} (to : A → B) (from : B → A) (f : Format A) → ((a : A) → from (to a) ≡ a)
-    → ((b : B) → to (from b) ≡ b) → SoundAtEnd f → SoundAtEnd (mapped to from f)
+    → ((b : B) → to (from b) ≡ b) → IsSoundAtEnd f → IsSoundAtEnd (mapped_format to from f)
 mapped_at_end to from f there back a = record {
   takes = mapped_takes to from f there a.takes;
   again = λ v text s. rw (a.again (from v) text s, back v) refl;

@@ -5,10 +5,10 @@ use Rattle.std.specs.Int.{w32}
 use Rattle.std.proofs.lemmas.Bool.{ltb-true, ltb-false, lt-ltb, le-ltb, leb-true, le-leb}
 use Rattle.std.proofs.lemmas.List.{take_at, drop_at, take-append-drop, take-append-le, length-append, length-take}
 use Rattle.values.specs.declared.fault.Fault.TheVariants.{Short, BadLength}
-use Rattle.jute.specs.Format.{number_bytes, counted, int}
-use Rattle.jute.specs.Frame.{frame, frame_at, frame_count, frame_length, front_of}
-use Rattle.jute.specs.Laws.{IsBytes, Takes, Named, Sound}
-use Rattle.jute.specs.Pieces.{Stands, Leaves, Eats}
+use Rattle.jute.specs.Format.{number_bytes, with_count, int}
+use Rattle.jute.specs.Frame.{frame_format, frame_at, frame_count, frame_length, front_of}
+use Rattle.jute.specs.Laws.{IsBytes, TakesSpelling, NamesFaults, IsSound}
+use Rattle.jute.specs.Pieces.{IsStable, LeavesAtMost, LeavesFewer}
 use Rattle.jute.proofs.Steps.{IsBytes-drop, same_length, bind_ok, guard_ok, guard_ended, guard_err, bind_err, behind_read, then_stands, then_leaves, within, cut_stands, cut_leaves, then_eats}
 use Rattle.jute.proofs.Numbers.{int_sound}
 use Rattle.jute.proofs.Judged.{judged_sound}
@@ -21,14 +21,14 @@ length_found limit (pos k) n e =
     (ap pos g.1, subst (λ (x : ℕ). x ≤ limit) g.1 (leb-true _ _ g.0))
 length_found limit (negsuc k) n e = absurd cc
 
-frame_count_sound : (limit : ℕ) → Sound (frame_count limit)
+frame_count_sound : (limit : ℕ) → IsSound (frame_count limit)
 frame_count_sound limit = judged_sound (frame_length limit) (λ n. Some (pos n)) int
     (λ z n e. ap (λ x. Some x) (sym (length_found limit z n e).0)) int_sound
 
 -- ---- spellings
 
 frame_takes : (limit : ℕ) (bytes v rest : List ℕ) → IsBytes bytes → frame_at limit bytes ≡ Ok (v, rest)
-    → Takes (frame limit) bytes v rest
+    → TakesSpelling (frame_format limit) bytes v rest
 unfolding frame_at
 frame_takes limit bytes v rest fits e =
     let a = bind_ok ((frame_count limit).read bytes) (λ (n : ℕ × List ℕ). front_of n.0 n.1) (v, rest) e in
@@ -39,16 +39,16 @@ frame_takes limit bytes v rest fits e =
     let long : n ≤ length a.0.1 = ltb-false _ _ g.0 in
     let len : length (take n a.0.1) ≡ n = omega (arith, length-take n a.0.1) in
     let front : t.text ≡ number_bytes w32 (pos n) = t.spells.2.1 ∙ ap (number_bytes w32) found.0 in
-    let whole : Takes (frame limit) bytes (take n a.0.1) (drop n a.0.1) = record {
+    let whole : TakesSpelling (frame_format limit) bytes (take n a.0.1) (drop n a.0.1) = record {
       text = t.text ++ take n a.0.1;
       parts = t.parts ∙ ap (λ (x : List ℕ). t.text ++ x) (sym (take-append-drop n a.0.1))
           ∙ sym (append_assoc t.text (take n a.0.1) (drop n a.0.1));
       spells = (rw len found.1, rw (len, front) refl);
       rest_fits = IsBytes-drop n a.0.1 t.rest_fits;
     } in
-    subst (λ (y : List ℕ × List ℕ). Takes (frame limit) bytes y.0 y.1) g.1 whole
+    subst (λ (y : List ℕ × List ℕ). TakesSpelling (frame_format limit) bytes y.0 y.1) g.1 whole
 
-frame_again : (limit : ℕ) → limit < 2 ^ 31 → (v text rest : List ℕ) → (frame limit).Spells v text
+frame_again : (limit : ℕ) → limit < 2 ^ 31 → (v text rest : List ℕ) → (frame_format limit).Spells v text
     → frame_at limit (text ++ rest) ≡ Ok (v, rest)
 unfolding frame_at
 frame_again limit small v text rest s =
@@ -67,24 +67,24 @@ frame_again limit small v text rest s =
 
 -- ---- pieces
 
-front_stands : (n : ℕ) (rest more : List ℕ) → Stands (front_of n rest) more (front_of n (rest ++ more))
+front_stands : (n : ℕ) (rest more : List ℕ) → IsStable (front_of n rest) more (front_of n (rest ++ more))
 front_stands n rest more = cut_stands n (λ (x : List ℕ). take n x) rest more (take-append-le n rest more)
 
-frame_stands : (limit : ℕ) (bytes more : List ℕ) → Stands (frame_at limit bytes) more (frame_at limit (bytes ++ more))
+frame_stands : (limit : ℕ) (bytes more : List ℕ) → IsStable (frame_at limit bytes) more (frame_at limit (bytes ++ more))
 unfolding frame_at
 frame_stands limit bytes more =
     then_stands ((frame_count limit).read bytes) ((frame_count limit).read (bytes ++ more)) more
     (λ (n : ℕ × List ℕ). front_of n.0 n.1)
     ((frame_count_sound limit).pieced.stands bytes more) (λ n rest. front_stands n rest more)
 
-frame_leaves : (limit : ℕ) (bytes : List ℕ) → Leaves (frame_at limit bytes) (length bytes)
+frame_leaves : (limit : ℕ) (bytes : List ℕ) → LeavesAtMost (frame_at limit bytes) (length bytes)
 unfolding frame_at
 frame_leaves limit bytes =
     then_leaves ((frame_count limit).read bytes) (length bytes) (λ (n : ℕ × List ℕ). front_of n.0 n.1)
     ((frame_count_sound limit).pieced.leaves bytes) (λ n rest le. within (front_of n rest) (length rest) (length bytes)
     le (cut_leaves n (take n rest) rest))
 
-frame_some : (limit : ℕ) (bytes : List ℕ) → Eats (frame_at limit bytes) (length bytes)
+frame_some : (limit : ℕ) (bytes : List ℕ) → LeavesFewer (frame_at limit bytes) (length bytes)
 unfolding frame_at
 frame_some limit bytes =
     then_eats ((frame_count limit).read bytes) (length bytes) (λ (n : ℕ × List ℕ). front_of n.0 n.1)
@@ -93,7 +93,7 @@ frame_some limit bytes =
 
 -- ---- refusals
 
-frame_named : (limit : ℕ) → Named (frame limit)
+frame_named : (limit : ℕ) → NamesFaults (frame_format limit)
 unfolding frame_at
 frame_named limit = record {
   names = λ bytes e fits h.
@@ -117,13 +117,13 @@ frame_named limit = record {
   ];
 }
 
-pub frame_sound : (limit : ℕ) → limit < 2 ^ 31 → Sound (frame limit)
+pub frame_sound : (limit : ℕ) → limit < 2 ^ 31 → IsSound (frame_format limit)
 frame_sound limit small = record {
   lawful = record { takes = frame_takes limit; again = frame_again limit small; writes = λ v h. (h, refl) };
   pieced = record { stands = frame_stands limit; leaves = frame_leaves limit };
   some = record { eats = frame_some limit };
   named = frame_named limit;
-  shortest = λ v text s. same_length text (counted (length v) v) s.1;
+  shortest = λ v text s. same_length text (with_count (length v) v) s.1;
   limited = λ v text s. s.0;
   writable = λ v h. let le : length v ≤ limit = h in omega (arith, small);
 }

@@ -1,9 +1,9 @@
 -- Values that are judged after reading.
 use Rattle.std.proofs.Common.{◌≡◌, ℕ, ◌≤◌, List, [], ◌++◌, length, Option, Some, None, Result, Ok, Err, refl, subst, arith, inl, inr}
 use Rattle.values.specs.declared.fault.Fault.{Fault}
-use Rattle.jute.specs.Format.{◌>>=◌, Format, OfBack, back_bytes, judged, judged_at, case_of, or_empty, or_null}
-use Rattle.jute.specs.Laws.{IsBytes, Takes, TakesSpellings, Named, Lawful, Sound, SoundAtEnd}
-use Rattle.jute.specs.Pieces.{Pieced, TakesSome}
+use Rattle.jute.specs.Format.{◌>>=◌, Format, IsSomeAnd, back_bytes, judged_format, judged_at, case_of, or_empty, or_null}
+use Rattle.jute.specs.Laws.{IsBytes, TakesSpelling, TakesSpellings, NamesFaults, IsLawful, IsSound, IsSoundAtEnd}
+use Rattle.jute.specs.Pieces.{ReadsInPieces, TakesSomeBytes}
 use Rattle.jute.proofs.Steps.{bind_ok, ok_is, bind_err, not_refused, behind_read, then_stands, plain_stands, then_leaves, plain_leaves, then_eats}
 
 -- ---- the value that is written for one that was read
@@ -22,7 +22,8 @@ returns_same : {A B : Type 0} (to : A → Result B Fault) (back : B → Option A
 returns_same to back f same a v e = rw (same a v e) (e, λ h. h, omega arith)
 
 module _ {A B : Type 0} (to : A → Result B Fault) (f : Format A) where
-  back_fits : (a : A) (v : B) (o : Option A) → IsBack to f a v o → f.Fits a → OfBack o (λ b. (to b ≡ Ok v) × f.Fits b)
+  back_fits : (a : A) (v : B) (o : Option A) → IsBack to f a v o → f.Fits a
+      → IsSomeAnd o (λ b. (to b ≡ Ok v) × f.Fits b)
   back_fits a v None i h = absurd i
   back_fits a v (Some b) i h = (i.0, i.1 h)
 
@@ -31,27 +32,28 @@ module _ {A B : Type 0} (to : A → Result B Fault) (f : Format A) where
   back_shorter a v (Some b) i = i.2
 
   back_writes : ((a : A) → f.Fits a → f.Spells a (f.written a)) → (v : B) (o : Option A)
-      → OfBack o (λ a. (to a ≡ Ok v) × f.Fits a) → (a : A) × (to a ≡ Ok v) × f.Spells a (back_bytes f o)
+      → IsSomeAnd o (λ a. (to a ≡ Ok v) × f.Fits a) → (a : A) × (to a ≡ Ok v) × f.Spells a (back_bytes f o)
   back_writes w v None h = absurd h
   back_writes w v (Some a) h = (a, h.0, w a h.1)
 
   back_writable : ((a : A) → f.Fits a → f.Writable a) → (v : B) (o : Option A)
-      → OfBack o (λ a. (to a ≡ Ok v) × f.Fits a) → OfBack o f.Writable
+      → IsSomeAnd o (λ a. (to a ≡ Ok v) × f.Fits a) → IsSomeAnd o f.Writable
   back_writable w v None h = absurd h
   back_writable w v (Some a) h = w a h.1
 
 -- ---- laws
 
 pub judged_takes : {A B : Type 0} (to : A → Result B Fault) (back : B → Option A) (f : Format A) → TakesSpellings f
-    → TakesSpellings (judged to back f)
+    → TakesSpellings (judged_format to back f)
 unfolding judged_at
 judged_takes {A} {B} to back f tf bytes v rest fits e =
     let a = bind_ok (f.read bytes) (λ (a : A × List ℕ). to a.0 >>= λ (v : B). Ok (v, a.1)) (v, rest) e in
     let b = bind_ok (to a.0.0) (λ (v : B). Ok (v, a.0.1)) (v, rest) a.2 in
     let t = tf bytes a.0.0 a.0.1 fits a.1 in
-    let whole : Takes (judged to back f) bytes b.0 a.0.1 =
+    let whole : TakesSpelling (judged_format to back f) bytes b.0 a.0.1 =
     record { text = t.text; parts = t.parts; spells = (a.0.0, b.1, t.spells); rest_fits = t.rest_fits } in
-    subst (λ (y : B × List ℕ). Takes (judged to back f) bytes y.0 y.1) (ok_is (b.0, a.0.1) (v, rest) b.2) whole
+    subst (λ (y : B × List ℕ). TakesSpelling (judged_format to back f) bytes y.0 y.1)
+    (ok_is (b.0, a.0.1) (v, rest) b.2) whole
 
 pub judged_reads : {A B : Type 0} (to : A → Result B Fault) (f : Format A) (a : A) (v : B) (bytes rest : List ℕ)
     → f.read bytes ≡ Ok (a, rest) → to a ≡ Ok v → judged_at to f.read bytes ≡ Ok (v, rest)
@@ -69,9 +71,9 @@ unfolding judged_at
 judged_refuses_value to f a bytes rest e h k = rw (h, k) refl
 
 judged_names : {A B : Type 0} (to : A → Result B Fault) (back : B → Option A) (f : Format A)
-    → TakesSpellings f → Named f
+    → TakesSpellings f → NamesFaults f
     → (bytes : List ℕ) (e : Fault) → IsBytes bytes → judged_at to f.read bytes ≡ Err e
-    → (judged to back f).against e bytes
+    → (judged_format to back f).against e bytes
 unfolding judged_at
 judged_names {A} {B} to back f tf nf bytes e fits h =
     elim (bind_err (f.read bytes) (λ (a : A × List ℕ). to a.0 >>= λ (v : B). Ok (v, a.1)) e h) [
@@ -84,8 +86,9 @@ judged_names {A} {B} to back f tf nf bytes e fits h =
           ]
     ]
 
-pub judged_named : {A B : Type 0} (to : A → Result B Fault) (back : B → Option A) (f : Format A) → Lawful f → Named f
-    → Named (judged to back f)
+pub judged_named : {A B : Type 0} (to : A → Result B Fault) (back : B → Option A) (f : Format A) → IsLawful f
+    → NamesFaults f
+    → NamesFaults (judged_format to back f)
 judged_named to back f lf nf = record {
   names = λ bytes e fits h. judged_names to back f lf.takes nf bytes e fits h;
   answers = λ bytes e s. elim s [
@@ -94,8 +97,8 @@ judged_named to back f lf nf = record {
   ];
 }
 
-pub judged_pieced : {A B : Type 0} (to : A → Result B Fault) (back : B → Option A) (f : Format A) → Pieced f
-    → Pieced (judged to back f)
+pub judged_pieced : {A B : Type 0} (to : A → Result B Fault) (back : B → Option A) (f : Format A) → ReadsInPieces f
+    → ReadsInPieces (judged_format to back f)
 unfolding judged_at
 judged_pieced {A} {B} to back f p = record {
   stands = λ bytes more. then_stands (f.read bytes) (f.read (bytes ++ more)) more
@@ -105,8 +108,8 @@ judged_pieced {A} {B} to back f p = record {
       (p.leaves bytes) (λ a rest le. plain_leaves (to a) (λ v. v) rest (length bytes) le);
 }
 
-pub judged_eats : {A B : Type 0} (to : A → Result B Fault) (back : B → Option A) (f : Format A) → TakesSome f
-    → TakesSome (judged to back f)
+pub judged_eats : {A B : Type 0} (to : A → Result B Fault) (back : B → Option A) (f : Format A) → TakesSomeBytes f
+    → TakesSomeBytes (judged_format to back f)
 unfolding judged_at
 judged_eats {A} {B} to back f e = record {
   eats = λ bytes. then_eats (f.read bytes) (length bytes) (λ (a : A × List ℕ). to a.0 >>= λ (v : B). Ok (v, a.1))
@@ -115,7 +118,7 @@ judged_eats {A} {B} to back f e = record {
 
 -- with another value written than was read
 pub judged_back_sound : {A B : Type 0} (to : A → Result B Fault) (back : B → Option A) (f : Format A)
-    → Returns to back f → Sound f → Sound (judged to back f)
+    → Returns to back f → IsSound f → IsSound (judged_format to back f)
 judged_back_sound to back f returns s = record {
   lawful = record {
     takes = judged_takes to back f s.lawful.takes;
@@ -131,7 +134,7 @@ judged_back_sound to back f returns s = record {
 }
 
 pub judged_sound : {A B : Type 0} (to : A → Result B Fault) (back : B → Option A) (f : Format A)
-    → ((a : A) (v : B) → to a ≡ Ok v → back v ≡ Some a) → Sound f → Sound (judged to back f)
+    → ((a : A) (v : B) → to a ≡ Ok v → back v ≡ Some a) → IsSound f → IsSound (judged_format to back f)
 judged_sound to back f same s = judged_back_sound to back f (returns_same to back f same) s
 
 -- ---- cases of sums
@@ -140,10 +143,10 @@ module _ {A B : Type 0} (to : A → B) (back : B → Option A) (f : Format A) (s
   case_back : (a : A) (v : B) → (let r : Result B Fault = Ok (to a) in r ≡ Ok v) → back v ≡ Some a
   case_back a v e = subst (λ (x : B). back x ≡ Some a) (ok_is (to a) v e) (same a)
 
-  pub case_sound : Sound f → Sound (case_of to back f)
+  pub case_sound : IsSound f → IsSound (case_of to back f)
   case_sound s = judged_sound (λ a. Ok (to a)) back f case_back s
 
-  pub case_at_end : SoundAtEnd f → SoundAtEnd (case_of to back f)
+  pub case_at_end : IsSoundAtEnd f → IsSoundAtEnd (case_of to back f)
   case_at_end s = record {
     takes = judged_takes (λ a. Ok (to a)) back f s.takes;
     again = λ v text h. judged_reads (λ a. Ok (to a)) f h.0 v text [] (s.again h.0 text h.2) h.1;
@@ -171,5 +174,5 @@ module _ {A : Type 0} (f : Format (Option (List A))) (fits : f.Fits None → f.F
   null_returns (Some vs) v e = subst (λ (v : List A). IsBack (λ v. Ok (or_empty v)) f (Some vs) v (Some (Some v)))
       (ok_is vs v e) (refl, λ h. h, omega arith)
 
-  pub or_null_sound : Sound f → Sound (or_null f)
+  pub or_null_sound : IsSound f → IsSound (or_null f)
   or_null_sound s = judged_back_sound (λ v. Ok (or_empty v)) (λ vs. Some (Some vs)) f null_returns s

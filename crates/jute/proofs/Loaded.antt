@@ -3,25 +3,25 @@ use Rattle.std.proofs.Common.{◌≡◌, ℕ, zero, suc, ◌<◌, Bool, true, fa
 use Rattle.values.specs.declared.fault.Fault.{Fault}
 use Rattle.jute.specs.Format.{◌>>=◌}
 use Rattle.jute.specs.Laws.{IsBytes}
-use Rattle.jute.specs.Relation.{SpellsIn, Stand, LawfulIn, AreLawful}
-use Rattle.jute.specs.Stream.{Reading, values, Phased, StreamedIn, IsStream, read_in}
-use Rattle.jute.specs.Loading.{Loads, unless_last, load_from, made_of, EndsAt, EndsOnce, NoneIsLast, IsLoaded, AgainstIn, NextIs, IsRefused, SoundIn, AreSound}
+use Rattle.jute.specs.Relation.{SpellsIn, SpellsItems, IsLawfulIn, AreLawful}
+use Rattle.jute.specs.Stream.{Reading, values, PhasedStream, IsStreamableIn, IsStream, read_in}
+use Rattle.jute.specs.Loading.{LoadRules, unless_last, load_from, made_of, EndsAt, EndsOnce, NoneIsLast, IsLoaded, AgainstIn, SpellsNext, IsRefused, IsSoundIn, AreSound}
 use Rattle.jute.proofs.Steps.{bind_ok, bind_err, ok_is, not_refused}
 use Rattle.jute.proofs.Streaming.{shorter_rest}
 use Rattle.jute.proofs.Loading.{load_read, load_refused}
 
 -- ---- one reading
 
-streamed_in : {A : Type 0} (f : Reading A) → SoundIn f → StreamedIn f
+streamed_in : {A : Type 0} (f : Reading A) → IsSoundIn f → IsStreamableIn f
 streamed_in (values f) s = record { pieced = s.pieced; some = s.some }
 
-lawful_in : {A : Type 0} (f : Reading A) → SoundIn f → LawfulIn f
+lawful_in : {A : Type 0} (f : Reading A) → IsSoundIn f → IsLawfulIn f
 lawful_in (values f) s = s.lawful
 
-pub sound_streamed : {S A : Type 0} (stream : Phased S A) → AreSound stream → IsStream stream
+pub sound_streamed : {S A : Type 0} (stream : PhasedStream S A) → AreSound stream → IsStream stream
 sound_streamed stream s = record { streamed = λ phase. streamed_in (stream.reading phase) (s.sound phase) }
 
-pub sound_lawful : {S A : Type 0} (stream : Phased S A) → AreSound stream → AreLawful stream
+pub sound_lawful : {S A : Type 0} (stream : PhasedStream S A) → AreSound stream → AreLawful stream
 sound_lawful stream s = record { lawful = λ phase. lawful_in (stream.reading phase) (s.sound phase) }
 
 -- what was read is spelled at the front
@@ -31,29 +31,29 @@ record Front {A : Type 0} (f : Reading A) (bytes : List ℕ) (v : A) (rest : Lis
   spells : SpellsIn f v text
   rest_fits : IsBytes rest
 
-front_in : {A : Type 0} (f : Reading A) → SoundIn f → (bytes rest : List ℕ) (v : A) → IsBytes bytes
+front_in : {A : Type 0} (f : Reading A) → IsSoundIn f → (bytes rest : List ℕ) (v : A) → IsBytes bytes
     → read_in f bytes ≡ Ok (v, rest) → Front f bytes v rest
 front_in (values f) s bytes rest v fits e =
     let t = s.lawful.takes bytes v rest fits e in
     record { text = t.text; parts = t.parts; spells = t.spells; rest_fits = t.rest_fits }
 
-again_in : {A : Type 0} (f : Reading A) → SoundIn f → (v : A) (text rest : List ℕ) → SpellsIn f v text
+again_in : {A : Type 0} (f : Reading A) → IsSoundIn f → (v : A) (text rest : List ℕ) → SpellsIn f v text
     → read_in f (text ++ rest) ≡ Ok (v, rest)
 again_in (values f) s v text rest h = s.lawful.again v text rest h
 
-names_in : {A : Type 0} (f : Reading A) → SoundIn f → (bytes : List ℕ) (e : Fault) → IsBytes bytes
+names_in : {A : Type 0} (f : Reading A) → IsSoundIn f → (bytes : List ℕ) (e : Fault) → IsBytes bytes
     → read_in f bytes ≡ Err e → AgainstIn f e bytes
 names_in (values f) s bytes e fits h = s.named.names bytes e fits h
 
-answers_in : {A : Type 0} (f : Reading A) → SoundIn f → (bytes : List ℕ) (e : Fault) → AgainstIn f e bytes
+answers_in : {A : Type 0} (f : Reading A) → IsSoundIn f → (bytes : List ℕ) (e : Fault) → AgainstIn f e bytes
     → read_in f bytes ≡ Err e
 answers_in (values f) s bytes e h = s.named.answers bytes e h
 
 -- ---- a text, and what stands behind it
 
-module _ {S A : Type 0} (stream : Phased S A) where
-  pub stand_on : (vs : List A) (phase end : S) (text rest : List ℕ) → Stand stream vs phase text end []
-      → Stand stream vs phase (text ++ rest) end rest
+module _ {S A : Type 0} (stream : PhasedStream S A) where
+  pub stand_on : (vs : List A) (phase end : S) (text rest : List ℕ) → SpellsItems stream vs phase text end []
+      → SpellsItems stream vs phase (text ++ rest) end rest
   stand_on [] phase end text rest h = (h.0, ap (λ (t : List ℕ). t ++ rest) h.1)
   stand_on (v ∷ vs) phase end text rest h = (
     h.0,
@@ -63,8 +63,8 @@ module _ {S A : Type 0} (stream : Phased S A) where
     stand_on vs (stream.after phase v) end h.1 rest h.4,
   )
 
-  pub stand_front : (vs : List A) (phase end : S) (bytes rest : List ℕ) → Stand stream vs phase bytes end rest
-      → (text : List ℕ) × (bytes ≡ text ++ rest) × Stand stream vs phase text end []
+  pub stand_front : (vs : List A) (phase end : S) (bytes rest : List ℕ) → SpellsItems stream vs phase bytes end rest
+      → (text : List ℕ) × (bytes ≡ text ++ rest) × SpellsItems stream vs phase text end []
   stand_front [] phase end bytes rest h = ([], h.1, (h.0, refl))
   stand_front (v ∷ vs) phase end bytes rest h =
       let others = stand_front vs (stream.after phase v) end h.1 rest h.4 in (
@@ -73,7 +73,7 @@ module _ {S A : Type 0} (stream : Phased S A) where
         (h.0, others.0, refl, h.3, others.2),
       )
 
-module _ {S A L : Type 0} (load : Loads S A L) (sound : AreSound load.stream) where
+module _ {S A L : Type 0} (load : LoadRules S A L) (sound : AreSound load.stream) where
   abbrev streamed : IsStream load.stream
   streamed = sound_streamed load.stream sound
 
@@ -98,7 +98,7 @@ module _ {S A L : Type 0} (load : Loads S A L) (sound : AreSound load.stream) wh
   -- ---- what stands there is loaded
 
   again_from : (vs : List A) (phase end : S) (old new : L) (bytes rest : List ℕ)
-      → Stand load.stream vs phase bytes end rest → EndsOnce load vs → made_of load old vs ≡ Ok new
+      → SpellsItems load.stream vs phase bytes end rest → EndsOnce load vs → made_of load old vs ≡ Ok new
       → load_from load phase old bytes ≡ Ok (new, rest)
   again_from [] phase end old new bytes rest h ends e = absurd ends
   again_from (v ∷ vs) phase end old new bytes rest h ends e =
@@ -109,7 +109,7 @@ module _ {S A L : Type 0} (load : Loads S A L) (sound : AreSound load.stream) wh
       step = bind_ok (load.takes old v) (λ next. made_of load next vs) new e
 
       -- nothing stands behind the last
-      none_behind : (ws : List A) → ws ≡ [] → Stand load.stream ws (load.stream.after phase v) h.1 end rest
+      none_behind : (ws : List A) → ws ≡ [] → SpellsItems load.stream ws (load.stream.after phase v) h.1 end rest
           → made_of load step.0 ws ≡ Ok new → (let r : Result (L × List ℕ) Fault = Ok (step.0, h.1) in r
           ≡ Ok (new, rest))
       none_behind [] is st f = let same : step.0 ≡ new = ok_is step.0 new f in (λ i. Ok (same i, st.1 i))
@@ -197,7 +197,7 @@ module _ {S A L : Type 0} (load : Loads S A L) (sound : AreSound load.stream) wh
   -- ---- refusals
 
   refused_from : (vs : List A) (phase end : S) (old so_far : L) (bytes rest : List ℕ)
-      → Stand load.stream vs phase bytes end rest → NoneIsLast load vs → made_of load old vs ≡ Ok so_far
+      → SpellsItems load.stream vs phase bytes end rest → NoneIsLast load vs → made_of load old vs ≡ Ok so_far
       → load_from load phase old bytes ≡ load_from load end so_far rest
   refused_from [] phase end old so_far bytes rest h none e =
       let same : old ≡ so_far = ok_is old so_far e in
@@ -223,7 +223,7 @@ module _ {S A L : Type 0} (load : Loads S A L) (sound : AreSound load.stream) wh
       ]
 
   at_once : (phase : S) (old : L) (bytes : List ℕ) (e : Fault)
-      → AgainstIn (load.stream.reading phase) e bytes ⊎ NextIs (load.stream.reading phase) (λ v. load.takes old v
+      → AgainstIn (load.stream.reading phase) e bytes ⊎ SpellsNext (load.stream.reading phase) (λ v. load.takes old v
       ≡ Err e) bytes
       → IsRefused load phase old bytes e
   at_once phase old bytes e h =

@@ -2,21 +2,21 @@
 use Rattle.std.proofs.Common.{◌≡◌, ℕ, zero, suc, ◌<◌, Bool, true, false, List, ◌++◌, length, Result, Ok, Err, refl, ap, subst, ◌∙◌, arith, inl, inr}
 use Rattle.values.specs.declared.fault.Fault.{Fault}
 use Rattle.jute.specs.Format.{◌>>=◌}
-use Rattle.jute.specs.Pieces.{Stands, Leaves, Eats}
-use Rattle.jute.specs.Stream.{Reading, values, StreamedIn, IsStream, read_in}
-use Rattle.jute.specs.Loading.{Loads, unless_last, load_within, load_from}
+use Rattle.jute.specs.Pieces.{IsStable, LeavesAtMost, LeavesFewer}
+use Rattle.jute.specs.Stream.{Reading, values, IsStreamableIn, IsStream, read_in}
+use Rattle.jute.specs.Loading.{LoadRules, unless_last, load_within, load_from}
 use Rattle.jute.proofs.Streaming.{shorter_rest}
 
 -- what was read in a phase is read again
-stands_in : {A : Type 0} (f : Reading A) → StreamedIn f → (bytes more : List ℕ)
-    → Stands (read_in f bytes) more (read_in f (bytes ++ more))
+stands_in : {A : Type 0} (f : Reading A) → IsStreamableIn f → (bytes more : List ℕ)
+    → IsStable (read_in f bytes) more (read_in f (bytes ++ more))
 stands_in (values f) s bytes more = s.pieced.stands bytes more
 
-pub at_most : {A : Type 0} (r : Result (A × List ℕ) Fault) (n : ℕ) → Eats r n → Leaves r n
+pub at_most : {A : Type 0} (r : Result (A × List ℕ) Fault) (n : ℕ) → LeavesFewer r n → LeavesAtMost r n
 at_most (Ok x) n h = omega (arith, h)
 at_most (Err e) n h = tt
 
-module _ {S A L : Type 0} (load : Loads S A L) (s : IsStream load.stream) where
+module _ {S A L : Type 0} (load : LoadRules S A L) (s : IsStream load.stream) where
   -- what is made of a value, and of the others
   abbrev pub made_with : L → (A → L → List ℕ → Result (L × List ℕ) Fault) → A × List ℕ → Result (L × List ℕ) Fault
   made_with made others x = load.takes made x.0 >>= λ next. unless_last (load.is_last x.0) next x.1
@@ -81,24 +81,25 @@ module _ {S A L : Type 0} (load : Loads S A L) (s : IsStream load.stream) where
       → load_from load phase made (bytes ++ more) ≡ made_with made (behind phase) (v, rest ++ more)
   load_read_on phase made bytes rest more v h =
       load_read phase made (bytes ++ more) (rest ++ more) v
-      (subst (λ (r : Result (A × List ℕ) Fault). Stands r more (read_in (load.stream.reading phase) (bytes ++ more))) h
+      (subst (λ (r : Result (A × List ℕ) Fault). IsStable r more (read_in (load.stream.reading phase) (bytes ++ more)))
+      h
       (stands_in (load.stream.reading phase) (s.streamed phase) bytes more))
 
   -- ---- more bytes
 
   taken_stands : (q : Result L Fault) (last : Bool) (rest more : List ℕ) (g h : L → Result (L × List ℕ) Fault)
-      → ((next : L) → Stands (g next) more (h next))
-      → Stands (q >>= λ next. unless_last last next rest (g next)) more
+      → ((next : L) → IsStable (g next) more (h next))
+      → IsStable (q >>= λ next. unless_last last next rest (g next)) more
       (q >>= λ next. unless_last last next (rest ++ more) (h next))
   taken_stands (Ok next) true rest more g h others = refl
   taken_stands (Ok next) false rest more g h others = others next
   taken_stands (Err e) last rest more g h others = inr refl
 
   one_stands : (phase : S) (made : L) (bytes more : List ℕ) (r after : Result (A × List ℕ) Fault)
-      → read_in (load.stream.reading phase) bytes ≡ r → Stands r more after
+      → read_in (load.stream.reading phase) bytes ≡ r → IsStable r more after
       → ((p : S) (next : L) (b : List ℕ) → length b < length bytes
-      → Stands (load_from load p next b) more (load_from load p next (b ++ more)))
-      → Stands (one r made (behind phase)) more (one after made (behind phase))
+      → IsStable (load_from load p next b) more (load_from load p next (b ++ more)))
+      → IsStable (one r made (behind phase)) more (one after made (behind phase))
   one_stands phase made bytes more (Ok x) after e h others =
       rw h (taken_stands (load.takes made x.0) (load.is_last x.0) x.1 more (λ next. behind phase x.0 next x.1)
       (λ next. behind phase x.0 next (x.1 ++ more))
@@ -107,7 +108,7 @@ module _ {S A L : Type 0} (load : Loads S A L) (s : IsStream load.stream) where
   one_stands phase made bytes more (Err d) after e (inr same) others = inr (ap (λ r. one r made (behind phase)) same)
 
   stands_within : (n : ℕ) (phase : S) (made : L) (bytes more : List ℕ) → length bytes < n
-      → Stands (load_from load phase made bytes) more (load_from load phase made (bytes ++ more))
+      → IsStable (load_from load phase made bytes) more (load_from load phase made (bytes ++ more))
   stands_within zero phase made bytes more lt = absurd (omega (arith, lt))
   stands_within (suc n) phase made bytes more lt =
       rw (load_step phase made bytes, load_step phase made (bytes ++ more))
@@ -117,26 +118,26 @@ module _ {S A L : Type 0} (load : Loads S A L) (s : IsStream load.stream) where
       (λ p next b shorter. stands_within n p next b more (omega (arith, shorter, lt))))
 
   pub load_stands : (phase : S) (made : L) (bytes more : List ℕ)
-      → Stands (load_from load phase made bytes) more (load_from load phase made (bytes ++ more))
+      → IsStable (load_from load phase made bytes) more (load_from load phase made (bytes ++ more))
   load_stands phase made bytes more = stands_within (suc (length bytes)) phase made bytes more (omega arith)
 
   -- ---- fewer bytes are left
 
   taken_eats : (q : Result L Fault) (last : Bool) (rest : List ℕ) (n : ℕ) (g : L → Result (L × List ℕ) Fault)
-      → length rest < n → ((next : L) → Eats (g next) (length rest))
-      → Eats (q >>= λ next. unless_last last next rest (g next)) n
+      → length rest < n → ((next : L) → LeavesFewer (g next) (length rest))
+      → LeavesFewer (q >>= λ next. unless_last last next rest (g next)) n
   taken_eats (Ok next) true rest n g lt others = lt
   taken_eats (Ok next) false rest n g lt others = longer (g next) (others next)
     where
-      longer : (r : Result (L × List ℕ) Fault) → Eats r (length rest) → Eats r n
+      longer : (r : Result (L × List ℕ) Fault) → LeavesFewer r (length rest) → LeavesFewer r n
       longer (Ok x) h = omega (arith, h, lt)
       longer (Err e) h = tt
   taken_eats (Err e) last rest n g lt others = tt
 
   one_eats : (phase : S) (made : L) (bytes : List ℕ) (r : Result (A × List ℕ) Fault)
       → read_in (load.stream.reading phase) bytes ≡ r
-      → ((p : S) (next : L) (b : List ℕ) → length b < length bytes → Eats (load_from load p next b) (length b))
-      → Eats (one r made (behind phase)) (length bytes)
+      → ((p : S) (next : L) (b : List ℕ) → length b < length bytes → LeavesFewer (load_from load p next b) (length b))
+      → LeavesFewer (one r made (behind phase)) (length bytes)
   one_eats phase made bytes (Ok x) e others =
       let lt = shorter_rest load.stream s phase bytes x.1 x.0 e in
       taken_eats (load.takes made x.0) (load.is_last x.0) x.1 (length bytes) (λ next. behind phase x.0 next x.1) lt
@@ -144,12 +145,12 @@ module _ {S A L : Type 0} (load : Loads S A L) (s : IsStream load.stream) where
   one_eats phase made bytes (Err d) e others = tt
 
   eats_within : (n : ℕ) (phase : S) (made : L) (bytes : List ℕ) → length bytes < n
-      → Eats (load_from load phase made bytes) (length bytes)
+      → LeavesFewer (load_from load phase made bytes) (length bytes)
   eats_within zero phase made bytes lt = absurd (omega (arith, lt))
   eats_within (suc n) phase made bytes lt =
       rw (load_step phase made bytes)
       (one_eats phase made bytes (read_in (load.stream.reading phase) bytes) refl
       (λ p next b shorter. eats_within n p next b (omega (arith, shorter, lt))))
 
-  pub load_eats : (phase : S) (made : L) (bytes : List ℕ) → Eats (load_from load phase made bytes) (length bytes)
+  pub load_eats : (phase : S) (made : L) (bytes : List ℕ) → LeavesFewer (load_from load phase made bytes) (length bytes)
   load_eats phase made bytes = eats_within (suc (length bytes)) phase made bytes (omega arith)

@@ -4,8 +4,8 @@ use Rattle.std.proofs.lemmas.List.{append-nil}
 use Rattle.values.specs.declared.fault.Fault.{Fault}
 use Rattle.values.specs.declared.fault.ReadError.{ReadError}
 use Rattle.values.specs.declared.fault.ReadError.TheVariants as errors
-use Rattle.jute.specs.Reads.{Failed}
-use Rattle.jute.specs.Format.{◌>>=◌, times}
+use Rattle.jute.specs.Reads.{IsFailureOf}
+use Rattle.jute.specs.Format.{◌>>=◌, read_n}
 
 abbrev pub with_front : {A : Type 0} → List A → Result (List A × List ℕ) Fault → Result (List A × List ℕ) Fault
 with_front front r = r >>= λ x. Ok (front ++ x.0, x.1)
@@ -18,34 +18,35 @@ regroup front n (Err f) = refl
 module _ {A : Type 0} (r : List ℕ → Result (A × List ℕ) Fault) (front : List A) (count i : ℕ) (bytes : List ℕ)
     (total : Result (List A × List ℕ) Fault) where
   pub goes_on : (n : A) (after : List ℕ) → i < count → r bytes ≡ Ok (n, after)
-      → with_front front (times r (count - i) bytes) ≡ total
-      → with_front (front ++ n ∷ []) (times r (count - (i + 1)) after) ≡ total
-  unfolding times
+      → with_front front (read_n r (count - i) bytes) ≡ total
+      → with_front (front ++ n ∷ []) (read_n r (count - (i + 1)) after) ≡ total
+  unfolding read_n
   goes_on n after lt h so_far =
       let k : count - i ≡ suc (count - (i + 1)) = omega arith in
-      let one : with_front front (times r (count - i) bytes) ≡ with_front (front ++ n ∷ [])
-      (times r (count - (i + 1)) after) = rw (k, h) (regroup front n (times r (count - (i + 1)) after)) in
+      let one : with_front front (read_n r (count - i) bytes) ≡ with_front (front ++ n ∷ [])
+      (read_n r (count - (i + 1)) after) = rw (k, h) (regroup front n (read_n r (count - (i + 1)) after)) in
       sym one ∙ so_far
 
-  pub stops : (e : Fault) → i < count → r bytes ≡ Err e → with_front front (times r (count - i) bytes) ≡ total
+  pub stops : (e : Fault) → i < count → r bytes ≡ Err e → with_front front (read_n r (count - i) bytes) ≡ total
       → total ≡ Err e
-  unfolding times
+  unfolding read_n
   stops e lt h so_far =
       let k : count - i ≡ suc (count - (i + 1)) = omega arith in
-      let one : with_front front (times r (count - i) bytes) ≡ Err e = rw (k, h) refl in
+      let one : with_front front (read_n r (count - i) bytes) ≡ Err e = rw (k, h) refl in
       sym so_far ∙ one
 
-  pub is_done : count ≤ i → with_front front (times r (count - i) bytes) ≡ total → total ≡ Ok (front, bytes)
-  unfolding times
+  pub is_done : count ≤ i → with_front front (read_n r (count - i) bytes) ≡ total → total ≡ Ok (front, bytes)
+  unfolding read_n
   is_done le so_far =
       let k : count - i ≡ 0 = omega arith in
-      let one : with_front front (times r (count - i) bytes) ≡ Ok (
+      let one : with_front front (read_n r (count - i) bytes) ≡ Ok (
         front,
         bytes,
       ) = rw k (ap (λ (ns : List A). Ok (ns, bytes)) (append-nil front)) in
       sym so_far ∙ one
 
-  pub ends : (e : ReadError) → i < count → Failed e (r bytes) → with_front front (times r (count - i) bytes) ≡ total
-      → Failed e total
+  pub ends : (e : ReadError) → i < count → IsFailureOf e (r bytes)
+      → with_front front (read_n r (count - i) bytes) ≡ total
+      → IsFailureOf e total
   ends errors.NoMemory lt h so_far = tt
   ends (errors.Fault e) lt h so_far = stops e lt h so_far

@@ -13,9 +13,9 @@ use Rattle.byteorder.specs.Numbers.{big_number-reads_back, big_from-take}
 use Rattle.std.proofs.Math.Facts.{Fits-of_z}
 use Rattle.values.specs.declared.fault.Fault.{Fault}
 use Rattle.values.specs.declared.fault.Fault.TheVariants.{Short}
-use Rattle.jute.specs.Format.{number, number_bytes, int, long, boolean, boolean_at}
-use Rattle.jute.specs.Laws.{IsBytes, Takes, Lawful, Named, Sound}
-use Rattle.jute.specs.Pieces.{Stands, Leaves, Pieced, Eats}
+use Rattle.jute.specs.Format.{number_format, number_bytes, int, long, boolean, boolean_at}
+use Rattle.jute.specs.Laws.{IsBytes, TakesSpelling, IsLawful, NamesFaults, IsSound}
+use Rattle.jute.specs.Pieces.{IsStable, LeavesAtMost, ReadsInPieces, LeavesFewer}
 use Rattle.jute.proofs.Steps.{IsBytes-drop, IsBytes-take, same_length, guard_ok, guard_err, ok_is, not_refused, cut_stands, cut_leaves, cut_eats}
 
 -- ---- numbers
@@ -50,7 +50,7 @@ wide64 = record {
   unsigned = λ z fits. (Fits-of_z {w = w64} {z = z} fits).fits;
 }
 
-number_lawful_at : (w : Width) → IsWide w → Lawful (number w)
+number_lawful_at : (w : Width) → IsWide w → IsLawful (number_format w)
 unfolding number_bytes
 number_lawful_at w wide = record {
   takes = λ bytes v rest fits e.
@@ -63,19 +63,19 @@ number_lawful_at w wide = record {
       sym (wide.back (take (byte_len w) bytes) (omega (arith, length-take (byte_len w) bytes))
       (IsBytes-take (byte_len w) bytes fits))
       ∙ ap (big_bytes (byte_len w)) (wide.front bytes long ∙ sym (of_z-to_z w n below)) in
-      let whole : Takes (number w) bytes (cast_signed w n) (drop (byte_len w) bytes) = record {
+      let whole : TakesSpelling (number_format w) bytes (cast_signed w n) (drop (byte_len w) bytes) = record {
         text = take (byte_len w) bytes;
         parts = sym (take-append-drop (byte_len w) bytes);
         spells = (read_sfits w n, spelled);
         rest_fits = IsBytes-drop (byte_len w) bytes fits;
       } in
-      subst (λ (y : ℤ × List ℕ). Takes (number w) bytes y.0 y.1) g.1 whole;
+      subst (λ (y : ℤ × List ℕ). TakesSpelling (number_format w) bytes y.0 y.1) g.1 whole;
   again = λ z text rest s.
       let text-is : text ++ rest ≡ number_bytes w z ++ rest = ap (λ (t : List ℕ). t ++ rest) s.1 in
       let len = wide.len (cast_unsigned w z) in
       let long : ltb (length (number_bytes w z ++ rest)) (byte_len w) ≡ false =
       le-ltb _ _ (omega (arith, length-append (number_bytes w z) rest)) in
-      ap (number w).read text-is ∙ rw (
+      ap (number_format w).read text-is ∙ rw (
         long,
         wide.again (cast_unsigned w z) rest (wide.unsigned z s.0),
         to_z-of_z w z s.0,
@@ -84,7 +84,7 @@ number_lawful_at w wide = record {
   writes = λ z h. (h, refl);
 }
 
-number_pieced : (w : Width) → Pieced (number w)
+number_pieced : (w : Width) → ReadsInPieces (number_format w)
 number_pieced w = record {
   stands = λ bytes more. cut_stands (byte_len w) (λ (b : List ℕ). cast_signed w (big_number (byte_len w) b)) bytes more
       (λ le. ap (cast_signed w) (sym (big_from-take 0 (byte_len w) (byte_len w) (bytes ++ more) (omega arith))
@@ -93,7 +93,7 @@ number_pieced w = record {
   leaves = λ bytes. cut_leaves (byte_len w) (cast_signed w (big_number (byte_len w) bytes)) bytes;
 }
 
-number_named : (w : Width) → Named (number w)
+number_named : (w : Width) → NamesFaults (number_format w)
 number_named w = record {
   names = λ bytes e fits h.
       let g = guard_err (ltb (length bytes) (byte_len w)) Short e (
@@ -104,7 +104,7 @@ number_named w = record {
   answers = λ bytes e h. rw (lt-ltb _ _ h.1) (ap (λ d. Err d) (sym h.0));
 }
 
-number_sound : (w : Width) → IsWide w → 0 < byte_len w → Sound (number w)
+number_sound : (w : Width) → IsWide w → 0 < byte_len w → IsSound (number_format w)
 number_sound w wide some = record {
   lawful = number_lawful_at w wide;
   pieced = number_pieced w;
@@ -115,10 +115,10 @@ number_sound w wide some = record {
   writable = λ v h. tt;
 }
 
-pub int_sound : Sound int
+pub int_sound : IsSound int
 int_sound = number_sound w32 wide32 (omega arith)
 
-pub long_sound : Sound long
+pub long_sound : IsSound long
 long_sound = number_sound w64 wide64 (omega arith)
 
 -- ---- booleans
@@ -127,10 +127,10 @@ IsBytes-rest : (b : ℕ) (bytes : List ℕ) → IsBytes (b ∷ bytes) → IsByte
 IsBytes-rest b bytes h i = h (suc i)
 
 boolean_takes : (bytes : List ℕ) (v : Bool) (rest : List ℕ) → IsBytes bytes → boolean_at bytes ≡ Ok (v, rest)
-    → Takes boolean bytes v rest
+    → TakesSpelling boolean bytes v rest
 boolean_takes [] v rest fits e = absurd cc
 boolean_takes (b ∷ bytes) v rest fits e =
-    let whole : Takes boolean (b ∷ bytes) (not (eqb b 0)) bytes = record {
+    let whole : TakesSpelling boolean (b ∷ bytes) (not (eqb b 0)) bytes = record {
       text = b ∷ [];
       parts = refl;
       spells = (
@@ -141,21 +141,22 @@ boolean_takes (b ∷ bytes) v rest fits e =
       );
       rest_fits = IsBytes-rest b bytes fits;
     } in
-    subst (λ (y : Bool × List ℕ). Takes boolean (b ∷ bytes) y.0 y.1) (ok_is (not (eqb b 0), bytes) (v, rest) e) whole
+    subst (λ (y : Bool × List ℕ). TakesSpelling boolean (b ∷ bytes) y.0 y.1) (ok_is (not (eqb b 0), bytes) (v, rest) e)
+    whole
 
 boolean_writes : (v : Bool) → boolean.Spells v (boolean.written v)
 boolean_writes true = (1, omega arith, refl, refl)
 boolean_writes false = (0, omega arith, refl, refl)
 
-boolean_stands : (bytes more : List ℕ) → Stands (boolean_at bytes) more (boolean_at (bytes ++ more))
+boolean_stands : (bytes more : List ℕ) → IsStable (boolean_at bytes) more (boolean_at (bytes ++ more))
 boolean_stands [] more = inl refl
 boolean_stands (b ∷ bytes) more = refl
 
-boolean_leaves : (bytes : List ℕ) → Leaves (boolean_at bytes) (length bytes)
+boolean_leaves : (bytes : List ℕ) → LeavesAtMost (boolean_at bytes) (length bytes)
 boolean_leaves [] = tt
 boolean_leaves (b ∷ bytes) = omega arith
 
-boolean_some : (bytes : List ℕ) → Eats (boolean_at bytes) (length bytes)
+boolean_some : (bytes : List ℕ) → LeavesFewer (boolean_at bytes) (length bytes)
 boolean_some [] = tt
 boolean_some (b ∷ bytes) = omega arith
 
@@ -163,7 +164,7 @@ boolean_refused : (bytes : List ℕ) (e : Fault) → boolean_at bytes ≡ Err e 
 boolean_refused [] e h = (cc, refl)
 boolean_refused (b ∷ bytes) e h = absurd (not_refused (not (eqb b 0), bytes) e h)
 
-pub boolean_sound : Sound boolean
+pub boolean_sound : IsSound boolean
 boolean_sound = record {
   lawful = record {
     takes = boolean_takes;

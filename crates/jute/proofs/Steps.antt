@@ -4,9 +4,9 @@ use Rattle.std.proofs.lemmas.Bool.{cases_lt, lt-ltb, le-ltb}
 use Rattle.std.proofs.lemmas.List.{drop-append-le, length-append, length-drop, length-take, get_or-drop, get_or-take, get_or_past}
 use Rattle.values.specs.declared.fault.Fault.{Fault}
 use Rattle.values.specs.declared.fault.Fault.TheVariants.{Short}
-use Rattle.jute.specs.Format.{◌>>=◌, Format, Behind}
-use Rattle.jute.specs.Laws.{IsBytes, Lawful}
-use Rattle.jute.specs.Pieces.{Stands, Leaves, Eats}
+use Rattle.jute.specs.Format.{◌>>=◌, Format, SpellsFront}
+use Rattle.jute.specs.Laws.{IsBytes, IsLawful}
+use Rattle.jute.specs.Pieces.{IsStable, LeavesAtMost, LeavesFewer}
 
 -- ---- parts of bytes
 
@@ -74,44 +74,45 @@ pub not_refused : {A : Type 0} (x : A) (e : Fault) → done x ≡ Err e → ⊥
 not_refused x e h = absurd cc
 
 -- behind a value that is spelled
-pub behind_read : {A : Type 0} (f : Format A) → Lawful f
-    → (S : A → List ℕ → Type 0) (bytes : List ℕ) (b : Behind f S bytes) → f.read bytes ≡ Ok (b.0, b.2)
+pub behind_read : {A : Type 0} (f : Format A) → IsLawful f
+    → (S : A → List ℕ → Type 0) (bytes : List ℕ) (b : SpellsFront f S bytes) → f.read bytes ≡ Ok (b.0, b.2)
 behind_read f lf S bytes b = ap f.read b.3 ∙ lf.again b.0 b.1 b.2 b.4
 
 -- ---- more bytes
 
 pub then_stands : {A B : Type 0} (r after : Result (A × List ℕ) Fault) (more : List ℕ) (f : A × List ℕ
     → Result (B × List ℕ) Fault)
-    → Stands r more after → ((a : A) (rest : List ℕ) → Stands (f (a, rest)) more (f (a, rest ++ more)))
-    → Stands (r >>= f) more (after >>= f)
+    → IsStable r more after → ((a : A) (rest : List ℕ) → IsStable (f (a, rest)) more (f (a, rest ++ more)))
+    → IsStable (r >>= f) more (after >>= f)
 then_stands (Ok x) after more f h k = rw h (k x.0 x.1)
 then_stands (Err e) after more f (inl s) k = inl s
 then_stands (Err e) after more f (inr s) k = inr (rw s refl)
 
 -- a step that reads nothing
 pub plain_stands : {B C : Type 0} (q : Result B Fault) (to : B → C) (rest more : List ℕ)
-    → Stands (q >>= λ k. Ok (to k, rest)) more (q >>= λ k. Ok (to k, rest ++ more))
+    → IsStable (q >>= λ k. Ok (to k, rest)) more (q >>= λ k. Ok (to k, rest ++ more))
 plain_stands (Ok k) to rest more = refl
 plain_stands (Err e) to rest more = inr refl
 
 pub then_leaves : {A B : Type 0} (r : Result (A × List ℕ) Fault) (n : ℕ) (f : A × List ℕ → Result (B × List ℕ) Fault)
-    → Leaves r n → ((a : A) (rest : List ℕ) → length rest ≤ n → Leaves (f (a, rest)) n) → Leaves (r >>= f) n
+    → LeavesAtMost r n → ((a : A) (rest : List ℕ) → length rest ≤ n → LeavesAtMost (f (a, rest)) n)
+    → LeavesAtMost (r >>= f) n
 then_leaves (Ok x) n f h k = k x.0 x.1 h
 then_leaves (Err e) n f h k = tt
 
 pub plain_leaves : {B C : Type 0} (q : Result B Fault) (to : B → C) (rest : List ℕ) (n : ℕ) → length rest ≤ n
-    → Leaves (q >>= λ k. Ok (to k, rest)) n
+    → LeavesAtMost (q >>= λ k. Ok (to k, rest)) n
 plain_leaves (Ok k) to rest n h = h
 plain_leaves (Err e) to rest n h = tt
 
-pub within : {A : Type 0} (r : Result (A × List ℕ) Fault) (m n : ℕ) → m ≤ n → Leaves r m → Leaves r n
+pub within : {A : Type 0} (r : Result (A × List ℕ) Fault) (m n : ℕ) → m ≤ n → LeavesAtMost r m → LeavesAtMost r n
 within (Ok x) m n le h = omega (arith, h, le)
 within (Err e) m n le h = tt
 
 -- so many bytes, or too few of them
 pub cut_stands : {B : Type 0} (n : ℕ) (value : List ℕ → B) (bytes more : List ℕ)
     → (n ≤ length bytes → value (bytes ++ more) ≡ value bytes)
-    → Stands (cond (ltb (length bytes) n) (Err Short) (Ok (value bytes, drop n bytes))) more
+    → IsStable (cond (ltb (length bytes) n) (Err Short) (Ok (value bytes, drop n bytes))) more
     (cond (ltb (length (bytes ++ more)) n) (Err Short) (Ok (value (bytes ++ more), drop n (bytes ++ more))))
 cut_stands n value bytes more same =
     elim (cases_lt (length bytes) n) [
@@ -122,7 +123,7 @@ cut_stands n value bytes more same =
     ]
 
 pub cut_leaves : {B : Type 0} (n : ℕ) (value : B) (bytes : List ℕ)
-    → Leaves (cond (ltb (length bytes) n) (Err Short) (Ok (value, drop n bytes))) (length bytes)
+    → LeavesAtMost (cond (ltb (length bytes) n) (Err Short) (Ok (value, drop n bytes))) (length bytes)
 cut_leaves n value bytes =
     elim (cases_lt (length bytes) n) [
       | inl lt ↦ rw (lt-ltb _ _ lt) tt
@@ -130,18 +131,18 @@ cut_leaves n value bytes =
     ]
 
 pub cut_eats : {B : Type 0} (n : ℕ) (value : B) (bytes : List ℕ) → 0 < n
-    → Eats (cond (ltb (length bytes) n) (Err Short) (Ok (value, drop n bytes))) (length bytes)
+    → LeavesFewer (cond (ltb (length bytes) n) (Err Short) (Ok (value, drop n bytes))) (length bytes)
 cut_eats n value bytes some =
     elim (cases_lt (length bytes) n) [
       | inl lt ↦ rw (lt-ltb _ _ lt) tt
       | inr le ↦ rw (le-ltb _ _ le) (omega (arith, length-drop n bytes))
     ]
 
-shorter : {A : Type 0} (r : Result (A × List ℕ) Fault) (m n : ℕ) → m < n → Leaves r m → Eats r n
+shorter : {A : Type 0} (r : Result (A × List ℕ) Fault) (m n : ℕ) → m < n → LeavesAtMost r m → LeavesFewer r n
 shorter (Ok x) m n lt h = omega (arith, h, lt)
 shorter (Err e) m n lt h = tt
 
 pub then_eats : {A B : Type 0} (r : Result (A × List ℕ) Fault) (n : ℕ) (f : A × List ℕ → Result (B × List ℕ) Fault)
-    → Eats r n → ((a : A) (rest : List ℕ) → Leaves (f (a, rest)) (length rest)) → Eats (r >>= f) n
+    → LeavesFewer r n → ((a : A) (rest : List ℕ) → LeavesAtMost (f (a, rest)) (length rest)) → LeavesFewer (r >>= f) n
 then_eats (Ok x) n f h k = shorter (f x) (length x.1) n h (k x.0 x.1)
 then_eats (Err e) n f h k = tt

@@ -7,21 +7,22 @@ use Rattle.std.proofs.lemmas.List.{append-nil, nil_from_length, length-append}
 use Rattle.values.specs.declared.fault.Fault.{Fault}
 use Rattle.values.specs.declared.fault.Fault.TheVariants.{TrailingBytes}
 use Rattle.jute.specs.Format.{Format, number_bytes, buffer, buffer_limit}
-use Rattle.jute.specs.Sums.{empty, refusal, tagged, tagged_at, whole, AgainstWhole, held_value, AgainstHeld, held}
-use Rattle.jute.specs.Laws.{IsBytes, Takes, TakesSpellings, Named, Sound, SoundAtEnd}
-use Rattle.jute.specs.Pieces.{Pieced, TakesSome}
+use Rattle.jute.specs.Sums.{empty_format, refusal_format, tagged_format, tagged_at, whole_value, AgainstWhole, held_value, AgainstHeld, held_in_buffer}
+use Rattle.jute.specs.Laws.{IsBytes, TakesSpelling, TakesSpellings, NamesFaults, IsSound, IsSoundAtEnd}
+use Rattle.jute.specs.Pieces.{ReadsInPieces, TakesSomeBytes}
 use Rattle.jute.proofs.Steps.{IsBytes-front, IsBytes-back, bind_ok, guard_ended, ok_is, guard_refused, bind_err, behind_read, then_stands, then_leaves, within, then_eats}
 use Rattle.jute.proofs.Judged.{judged_takes, judged_named, judged_pieced, judged_eats, judged_reads}
 use Rattle.jute.proofs.Buffers.{buffer_sound}
 
 -- ---- values without bytes, and no values
 
-empty_takes : TakesSpellings empty
+empty_takes : TakesSpellings empty_format
 empty_takes bytes v rest fits e =
-    let whole : Takes empty bytes tt bytes = record { text = []; parts = refl; spells = refl; rest_fits = fits } in
-    subst (λ (y : Unit {0} × List ℕ). Takes empty bytes y.0 y.1) (ok_is (tt, bytes) (v, rest) e) whole
+    let whole : TakesSpelling empty_format bytes tt bytes =
+    record { text = []; parts = refl; spells = refl; rest_fits = fits } in
+    subst (λ (y : Unit {0} × List ℕ). TakesSpelling empty_format bytes y.0 y.1) (ok_is (tt, bytes) (v, rest) e) whole
 
-pub empty_at_end : SoundAtEnd empty
+pub empty_at_end : IsSoundAtEnd empty_format
 empty_at_end = record {
   takes = empty_takes;
   again = λ v text s. ap (λ (t : List ℕ). Ok (tt, t)) s;
@@ -31,7 +32,7 @@ empty_at_end = record {
   writable = λ v h. tt;
 }
 
-pub refusal_sound : {A : Type 0} (d : Fault) → Sound (refusal {A = A} d)
+pub refusal_sound : {A : Type 0} (d : Fault) → IsSound (refusal_format {A = A} d)
 refusal_sound {A} d = record {
   lawful =
       record { takes = λ bytes v rest fits e. absurd cc; again = λ v text rest s. absurd s; writes = λ v h. absurd h };
@@ -46,8 +47,8 @@ refusal_sound {A} d = record {
 -- ---- sums
 
 module _ {K B : Type 0} (tag : Format K) (tag_of : B → K) (f : K → Format B) (tells : (k : K) (v : B) (text : List ℕ)
-    → (f k).Spells v text → tag_of v ≡ k) (tags : Sound tag) where
-  tagged_takes : ((k : K) → TakesSpellings (f k)) → TakesSpellings (tagged tag tag_of f)
+    → (f k).Spells v text → tag_of v ≡ k) (tags : IsSound tag) where
+  tagged_takes : ((k : K) → TakesSpellings (f k)) → TakesSpellings (tagged_format tag tag_of f)
   unfolding tagged_at
   tagged_takes tf bytes v rest fits e =
       let a = bind_ok (tag.read bytes) (λ (k : K × List ℕ). (f k.0).read k.1) (v, rest) e in
@@ -67,7 +68,7 @@ module _ {K B : Type 0} (tag : Format K) (tag_of : B → K) (f : K → Format B)
         rest_fits = t1.rest_fits;
       }
 
-  tagged_named : ((k : K) → Named (f k)) → Named (tagged tag tag_of f)
+  tagged_named : ((k : K) → NamesFaults (f k)) → NamesFaults (tagged_format tag tag_of f)
   unfolding tagged_at
   tagged_named nf = record {
     names = λ bytes e fits h.
@@ -90,7 +91,7 @@ module _ {K B : Type 0} (tag : Format K) (tag_of : B → K) (f : K → Format B)
     ];
   }
 
-  tagged_again : ((k : K) → Sound (f k)) → (v : B) (text rest : List ℕ) → (tagged tag tag_of f).Spells v text
+  tagged_again : ((k : K) → IsSound (f k)) → (v : B) (text rest : List ℕ) → (tagged_format tag tag_of f).Spells v text
       → tagged_at tag.read (λ k. (f k).read) (text ++ rest) ≡ Ok (v, rest)
   unfolding tagged_at
   tagged_again sf v text rest s =
@@ -99,7 +100,7 @@ module _ {K B : Type 0} (tag : Format K) (tag_of : B → K) (f : K → Format B)
       rw (ap tag.read regrouped ∙ tags.lawful.again (tag_of v) s.0 (s.1 ++ rest) s.3)
       ((sf (tag_of v)).lawful.again v s.1 rest s.4)
 
-  tagged_pieced : ((k : K) → Sound (f k)) → Pieced (tagged tag tag_of f)
+  tagged_pieced : ((k : K) → IsSound (f k)) → ReadsInPieces (tagged_format tag tag_of f)
   unfolding tagged_at
   tagged_pieced sf = record {
     stands = λ bytes more. then_stands (tag.read bytes) (tag.read (bytes ++ more)) more
@@ -110,14 +111,14 @@ module _ {K B : Type 0} (tag : Format K) (tag_of : B → K) (f : K → Format B)
         ((sf k).pieced.leaves rest));
   }
 
-  tagged_eats : ((k : K) → Sound (f k)) → TakesSome (tagged tag tag_of f)
+  tagged_eats : ((k : K) → IsSound (f k)) → TakesSomeBytes (tagged_format tag tag_of f)
   unfolding tagged_at
   tagged_eats sf = record {
     eats = λ bytes. then_eats (tag.read bytes) (length bytes)
         (λ (k : K × List ℕ). (f k.0).read k.1) (tags.some.eats bytes) (λ k rest. (sf k).pieced.leaves rest);
   }
 
-  pub tagged_sound : ((k : K) → Sound (f k)) → Sound (tagged tag tag_of f)
+  pub tagged_sound : ((k : K) → IsSound (f k)) → IsSound (tagged_format tag tag_of f)
   tagged_sound sf = record {
     lawful = record {
       takes = tagged_takes (λ k. (sf k).lawful.takes);
@@ -145,13 +146,13 @@ module _ {K B : Type 0} (tag : Format K) (tag_of : B → K) (f : K → Format B)
     writable = λ v h. (tags.writable (tag_of v) h.0, (sf (tag_of v)).writable v h.1);
   }
 
-  end_again : ((k : K) → SoundAtEnd (f k)) → (v : B) (text : List ℕ) → (tagged tag tag_of f).Spells v text
+  end_again : ((k : K) → IsSoundAtEnd (f k)) → (v : B) (text : List ℕ) → (tagged_format tag tag_of f).Spells v text
       → tagged_at tag.read (λ k. (f k).read) text ≡ Ok (v, [])
   unfolding tagged_at
   end_again sf v text s =
       rw (ap tag.read s.2 ∙ tags.lawful.again (tag_of v) s.0 s.1 s.3) ((sf (tag_of v)).again v s.1 s.4)
 
-  pub tagged_at_end : ((k : K) → SoundAtEnd (f k)) → SoundAtEnd (tagged tag tag_of f)
+  pub tagged_at_end : ((k : K) → IsSoundAtEnd (f k)) → IsSoundAtEnd (tagged_format tag tag_of f)
   tagged_at_end sf = record {
     takes = tagged_takes (λ k. (sf k).takes);
     again = end_again sf;
@@ -170,8 +171,8 @@ module _ {K B : Type 0} (tag : Format K) (tag_of : B → K) (f : K → Format B)
 -- ---- all of a text
 
 pub whole_found : {A : Type 0} (f : Format A) → TakesSpellings f → (x : List ℕ) (v : A) → IsBytes x
-    → whole f.read x ≡ Ok v → f.Spells v x
-unfolding whole
+    → whole_value f.read x ≡ Ok v → f.Spells v x
+unfolding whole_value
 whole_found {A} f tf x v fits e =
     let a = bind_ok (f.read x) (λ (y : A × List ℕ). cond (eqb (length y.1) 0) (Ok y.0) (Err TrailingBytes)) v e in
     let g = guard_ended (eqb (length a.0.1) 0) TrailingBytes a.0.0 v a.2 in
@@ -180,8 +181,8 @@ whole_found {A} f tf x v fits e =
     let all : t.text ≡ x = sym (t.parts ∙ ap (λ (r : List ℕ). t.text ++ r) nothing ∙ append-nil t.text) in
     subst (λ (y : A). f.Spells y x) g.1 (subst (λ (y : List ℕ). f.Spells a.0.0 y) all t.spells)
 
-pub whole_again : {A : Type 0} (f : Format A) (x : List ℕ) (v : A) → f.read x ≡ Ok (v, []) → whole f.read x ≡ Ok v
-unfolding whole
+pub whole_again : {A : Type 0} (f : Format A) (x : List ℕ) (v : A) → f.read x ≡ Ok (v, []) → whole_value f.read x ≡ Ok v
+unfolding whole_value
 whole_again f x v h = rw h refl
 
 left_over : (rest : List ℕ) → eqb (length rest) 0 ≡ false → rest ≢ []
@@ -193,9 +194,9 @@ over_is_left : {A : Type 0} (v : A) (rest : List ℕ) → rest ≢ []
 over_is_left v [] h = absurd (h refl)
 over_is_left v (b ∷ rest) h = rw (ne_eqb (length (b ∷ rest)) 0 (λ e. h (nil_from_length (b ∷ rest) e))) refl
 
-pub whole_refused : {A : Type 0} (f : Format A) → Sound f → (x : List ℕ) (e : Fault) → IsBytes x
-    → whole f.read x ≡ Err e → AgainstWhole f e x
-unfolding whole
+pub whole_refused : {A : Type 0} (f : Format A) → IsSound f → (x : List ℕ) (e : Fault) → IsBytes x
+    → whole_value f.read x ≡ Err e → AgainstWhole f e x
+unfolding whole_value
 whole_refused {A} f s x e fits h =
     elim (bind_err (f.read x) (λ (y : A × List ℕ). cond (eqb (length y.1) 0) (Ok y.0) (Err TrailingBytes)) e h) [
       | inl first ↦ inl (s.named.names x e fits first)
@@ -205,9 +206,9 @@ whole_refused {A} f s x e fits h =
           inr (sym g.1, (later.0.0, t.text, later.0.1, t.parts, t.spells, left_over later.0.1 g.0))
     ]
 
-pub whole_refuses : {A : Type 0} (f : Format A) → Sound f → (x : List ℕ) (e : Fault) → AgainstWhole f e x
-    → whole f.read x ≡ Err e
-unfolding whole
+pub whole_refuses : {A : Type 0} (f : Format A) → IsSound f → (x : List ℕ) (e : Fault) → AgainstWhole f e x
+    → whole_value f.read x ≡ Err e
+unfolding whole_value
 whole_refuses f s x e h = elim h [
   | inl first ↦ rw (s.named.answers x e first) refl
   | inr b ↦ rw (
@@ -222,7 +223,7 @@ number_long : (z : ℤ) → length (number_bytes w32 z) ≡ 4
 unfolding number_bytes
 number_long z = refl
 
-module _ {A : Type 0} (f : Format A) (s : Sound f) where
+module _ {A : Type 0} (f : Format A) (s : IsSound f) where
   abbrev never_back : A → Option (Option (List ℕ))
   never_back v = None
 
@@ -233,7 +234,7 @@ module _ {A : Type 0} (f : Format A) (s : Sound f) where
       let bytes : IsBytes x = IsBytes-back (number_bytes w32 (pos (length x))) x (subst IsBytes h.1 fits) in
       (x, whole_found f s.lawful.takes x v bytes e, h)
 
-  held_takes : TakesSpellings (held f)
+  held_takes : TakesSpellings (held_in_buffer f)
   held_takes bytes v rest fits e =
       let t = judged_takes (held_value f.read) never_back buffer buffer_sound.lawful.takes bytes v rest fits e in
       record {
@@ -244,7 +245,8 @@ module _ {A : Type 0} (f : Format A) (s : Sound f) where
         rest_fits = t.rest_fits;
       }
 
-  held_again : (v : A) (text rest : List ℕ) → (held f).Spells v text → (held f).read (text ++ rest) ≡ Ok (v, rest)
+  held_again : (v : A) (text rest : List ℕ) → (held_in_buffer f).Spells v text
+      → (held_in_buffer f).read (text ++ rest) ≡ Ok (v, rest)
   held_again v text rest h =
       let all : f.read h.0 ≡ Ok (v, []) = ap f.read (sym (append-nil h.0)) ∙ s.lawful.again v h.0 [] h.1 in
       judged_reads (held_value f.read) buffer (Some h.0) v (text ++ rest) rest
@@ -260,7 +262,7 @@ module _ {A : Type 0} (f : Format A) (s : Sound f) where
   held_refuses None e h = ap (λ d. Err d) (sym h)
   held_refuses (Some x) e h = whole_refuses f s x e h
 
-  held_named : Named (held f)
+  held_named : NamesFaults (held_in_buffer f)
   held_named = record {
     names =
         λ bytes e fits h. elim ((judged_named (held_value f.read) never_back buffer buffer_sound.lawful
@@ -289,7 +291,7 @@ module _ {A : Type 0} (f : Format A) (s : Sound f) where
       → length (f.written v) ≤ buffer_limit
   held_short v text x h k = let le : length x ≤ buffer_limit = k.0 in omega (arith, s.shortest v x h)
 
-  pub held_sound : Sound (held f)
+  pub held_sound : IsSound (held_in_buffer f)
   held_sound = record {
     lawful = record {
       takes = held_takes;

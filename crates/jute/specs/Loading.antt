@@ -4,12 +4,12 @@ use Rattle.std.specs.Prelude.{◌≡◌, ℕ, zero, suc, Bool, true, false, List
 use Rattle.values.specs.declared.fault.Fault.{Fault}
 use Rattle.values.specs.declared.fault.Fault.TheVariants.{Short}
 use Rattle.jute.specs.Format.{◌>>=◌}
-use Rattle.jute.specs.Laws.{Sound}
-use Rattle.jute.specs.Relation.{SpellsIn, Stand}
-use Rattle.jute.specs.Stream.{Reading, values, Phased, read_in}
+use Rattle.jute.specs.Laws.{IsSound}
+use Rattle.jute.specs.Relation.{SpellsIn, SpellsItems}
+use Rattle.jute.specs.Stream.{Reading, values, PhasedStream, read_in}
 
-pub record Loads (S A L : Type 0) : Type 1 where
-  pub stream : Phased S A
+pub record LoadRules (S A L : Type 0) : Type 1 where
+  pub stream : PhasedStream S A
   -- what a value makes of what was made so far, or the fault for which it is refused
   pub takes : L → A → Result L Fault
   pub is_last : A → Bool
@@ -21,7 +21,7 @@ abbrev pub unless_last : {L : Type 0} → Bool → L → List ℕ → Result (L 
 unless_last last made rest others = if last then Ok (made, rest) else others
 
 -- of at most so many values
-unfoldable pub load_within : {S A L : Type 0} → Loads S A L → ℕ → S → L → List ℕ → Result (L × List ℕ) Fault
+unfoldable pub load_within : {S A L : Type 0} → LoadRules S A L → ℕ → S → L → List ℕ → Result (L × List ℕ) Fault
 load_within load zero phase made bytes = Err Short
 load_within load (suc n) phase made bytes =
     read_in (load.stream.reading phase) bytes >>= λ x. load.takes made x.0 >>= λ next.
@@ -29,13 +29,13 @@ load_within load (suc n) phase made bytes =
 
 -- What the values make of what was made before them, and the bytes behind the last one. Each value takes a byte at
 -- least, so that there are no more values than bytes.
-abbrev pub load_from : {S A L : Type 0} → Loads S A L → S → L → List ℕ → Result (L × List ℕ) Fault
+abbrev pub load_from : {S A L : Type 0} → LoadRules S A L → S → L → List ℕ → Result (L × List ℕ) Fault
 load_from load phase made bytes = load_within load (suc (length bytes)) phase made bytes
 
 -- ---- as a relation
 
 -- what the values make, taken one behind another
-abbrev pub made_of : {S A L : Type 0} → Loads S A L → L → List A → Result L Fault
+abbrev pub made_of : {S A L : Type 0} → LoadRules S A L → L → List A → Result L Fault
 made_of load made [] = Ok made
 made_of load made (v ∷ vs) = load.takes made v >>= λ next. made_of load next vs
 
@@ -44,20 +44,20 @@ EndsAt true behind others = behind ≡ []
 EndsAt false behind others = others
 
 -- a last value stands at the end, and nowhere else
-abbrev pub EndsOnce : {S A L : Type 0} → Loads S A L → List A → Type 0
+abbrev pub EndsOnce : {S A L : Type 0} → LoadRules S A L → List A → Type 0
 EndsOnce load [] = ⊥
 EndsOnce load (v ∷ vs) = EndsAt (load.is_last v) vs (EndsOnce load vs)
 
-abbrev pub NoneIsLast : {S A L : Type 0} → Loads S A L → List A → Type 0
+abbrev pub NoneIsLast : {S A L : Type 0} → LoadRules S A L → List A → Type 0
 NoneIsLast load [] = Unit {0}
 NoneIsLast load (v ∷ vs) = (load.is_last v ≡ false) × NoneIsLast load vs
 
 -- the values that were loaded
-pub record IsLoaded {S A L : Type 0} (load : Loads S A L) (phase : S) (old : L) (bytes : List ℕ) (new : L)
+pub record IsLoaded {S A L : Type 0} (load : LoadRules S A L) (phase : S) (old : L) (bytes : List ℕ) (new : L)
     (rest : List ℕ) : Type 0 where
   pub found : List A
   pub end : S
-  pub stand : Stand load.stream found phase bytes end rest
+  pub stand : SpellsItems load.stream found phase bytes end rest
   pub ends : EndsOnce load found
   pub made : made_of load old found ≡ Ok new
 
@@ -66,32 +66,33 @@ abbrev pub AgainstIn : {A : Type 0} → Reading A → Fault → List ℕ → Typ
 AgainstIn (values f) e bytes = f.against e bytes
 
 -- a value is spelled at the front, and this holds of it
-abbrev pub NextIs : {A : Type 0} → Reading A → (A → Type 0) → List ℕ → Type 0
-NextIs {A = A} reading P bytes = (v : A) × (text rest : List ℕ) × (bytes ≡ text ++ rest) × SpellsIn reading v text × P v
+abbrev pub SpellsNext : {A : Type 0} → Reading A → (A → Type 0) → List ℕ → Type 0
+SpellsNext {A = A} reading P bytes =
+    (v : A) × (text rest : List ℕ) × (bytes ≡ text ++ rest) × SpellsIn reading v text × P v
 
 -- Some values stand at the front and were taken, none of them the last. The next field is against its spelling; or the
 -- next value is spelled, and not taken.
-pub record IsRefused {S A L : Type 0} (load : Loads S A L) (phase : S) (old : L) (bytes : List ℕ)
+pub record IsRefused {S A L : Type 0} (load : LoadRules S A L) (phase : S) (old : L) (bytes : List ℕ)
     (e : Fault) : Type 0 where
   pub found : List A
   pub end : S
   pub rest : List ℕ
-  pub stand : Stand load.stream found phase bytes end rest
+  pub stand : SpellsItems load.stream found phase bytes end rest
   pub none_last : NoneIsLast load found
   pub so_far : L
   pub made : made_of load old found ≡ Ok so_far
   pub next : AgainstIn (load.stream.reading end) e rest
-      ⊎ NextIs (load.stream.reading end) (λ v. load.takes so_far v ≡ Err e) rest
+      ⊎ SpellsNext (load.stream.reading end) (λ v. load.takes so_far v ≡ Err e) rest
 
 -- ---- what is asked of it
 
-abbrev pub SoundIn : {A : Type 0} → Reading A → Type 0
-SoundIn (values f) = Sound f
+abbrev pub IsSoundIn : {A : Type 0} → Reading A → Type 0
+IsSoundIn (values f) = IsSound f
 
 -- each format of the stream is sound
-pub record AreSound {S A : Type 0} (stream : Phased S A) : Type 0 where
-  pub sound : (phase : S) → SoundIn (stream.reading phase)
+pub record AreSound {S A : Type 0} (stream : PhasedStream S A) : Type 0 where
+  pub sound : (phase : S) → IsSoundIn (stream.reading phase)
 
 -- no value is refused for want of bytes
-pub record NeverWaits {S A L : Type 0} (load : Loads S A L) : Type 0 where
+pub record NeverWaits {S A L : Type 0} (load : LoadRules S A L) : Type 0 where
   pub goes_on : (made : L) (v : A) → load.takes made v ≡ Err Short → ⊥

@@ -1,7 +1,7 @@
 //! The frames of a client's connection.
 
-ghost use Rattle.jute.specs.Frame.{frame, frame_length, framed};
-ghost use Rattle.jute.specs.Format.{Took};
+ghost use Rattle.jute.specs.Frame.{frame_format, frame_length, frame_bytes};
+ghost use Rattle.jute.specs.Format.{ReadsValue};
 ghost use Rattle.std.specs.Prelude.{◌≡◌, ◌<◌, ◌^◌, length};
 ghost use Rattle.values.specs.Gains.{Puts};
 
@@ -27,7 +27,7 @@ fn frame_length(length: i32, limit: u32) -> Result<u32, Fault>
 /// limit it is `BadLength`, and with fewer bytes behind it `Short`. A refused read leaves the place.
 #[tactic(auto, unfolding(crate::specs::Frame::frame_at, crate::specs::Format::judged_at))]
 pub fn read_frame<'a>(reader: &mut Reader<'a>, limit: u32) -> Result<&'a [u8], Fault>
-    ensures { Took (frame limit) (λ b. b.now) result reader.old reader.new }
+    ensures { ReadsValue (frame_format limit) (λ b. b.now) result reader.old reader.new }
 {
     let mut ahead = reader.ahead();
     let length = frame_length(ahead.read_int()?, limit)? as usize;
@@ -44,7 +44,7 @@ pub fn read_frame<'a>(reader: &mut Reader<'a>, limit: u32) -> Result<&'a [u8], F
 pub fn put_frame<T: WriteRecord>(out: &mut Vec<u8>, value: &T) -> Result<(), NoMemory>
     requires writable { T.format.Writable value.now }
     requires small { length (T.format.written value.now) < 2 ^ 31 }
-    ensures { Puts result out.old.items (framed (T.format.written value.now)) out.new.items }
+    ensures { Puts result out.old.items (frame_bytes (T.format.written value.now)) out.new.items }
 {
     put_int(out, value.written_len() as i32)?;
     value.write(out)

@@ -2,8 +2,8 @@
 
 ghost use Rattle.std.specs.Prelude.{◌≡◌, length};
 ghost use Rattle.jute.specs.Format.{buffer};
-ghost use Rattle.jute.specs.Owned.{id, acl};
-ghost use Rattle.jute.specs.Reads.{Gives};
+ghost use Rattle.jute.specs.Owned.{id_format, acl_format};
+ghost use Rattle.jute.specs.Reads.{ReadsOwned};
 ghost use Rattle.values.specs.Gains.{Puts};
 
 use crate::reader::Reader;
@@ -14,7 +14,7 @@ use values::{Blob, NoMemory, ReadError, Text};
 
 /// Reads a buffer, null among them, and copies its bytes. A refused read leaves the place.
 pub fn read_blob(alloc: Global, reader: &mut Reader<'_>) -> Result<Option<Blob>, ReadError>
-    ensures { Gives buffer.read (λ b. b) result reader.old reader.new }
+    ensures { ReadsOwned buffer.read (λ b. b) result reader.old reader.new }
 {
     let mut ahead = reader.ahead();
     let bytes = match ahead.read_buffer()? {
@@ -66,9 +66,9 @@ pub struct Acl {
 }
 
 impl<'a> ReadRecord<'a> for Id {
-    ghost read_of = { id.read };
+    ghost read_of = { id_format.read };
 
-    #[tactic(auto, unfolding(crate::specs::Owned::id))]
+    #[tactic(auto, unfolding(crate::specs::Owned::id_format))]
     fn read(alloc: Global, reader: &mut Reader<'a>) -> Result<Id, ReadError> {
         let mut ahead = reader.ahead();
         let scheme = Text::new(alloc, read_name(&mut ahead)?.as_str())?;
@@ -79,9 +79,9 @@ impl<'a> ReadRecord<'a> for Id {
 }
 
 impl<'a> ReadRecord<'a> for Acl {
-    ghost read_of = { acl.read };
+    ghost read_of = { acl_format.read };
 
-    #[tactic(auto, unfolding(crate::specs::Owned::acl))]
+    #[tactic(auto, unfolding(crate::specs::Owned::acl_format))]
     fn read(alloc: Global, reader: &mut Reader<'a>) -> Result<Acl, ReadError> {
         let mut ahead = reader.ahead();
         let perms = ahead.read_int()?;
@@ -92,14 +92,14 @@ impl<'a> ReadRecord<'a> for Acl {
 }
 
 impl WriteRecord for Id {
-    ghost format = { id };
+    ghost format = { id_format };
 
-    #[tactic(auto, unfolding(crate::specs::Owned::id, crate::specs::Format::number_bytes))]
+    #[tactic(auto, unfolding(crate::specs::Owned::id_format, crate::specs::Format::number_bytes))]
     fn written_len(&self) -> usize {
         4 + self.scheme.as_str().len() + 4 + self.id.as_str().len()
     }
 
-    #[tactic(auto, unfolding(crate::specs::Owned::id))]
+    #[tactic(auto, unfolding(crate::specs::Owned::id_format))]
     fn write(&self, out: &mut Vec<u8>) -> Result<(), NoMemory> {
         put_string(out, self.scheme.as_str())?;
         put_string(out, self.id.as_str())
@@ -107,14 +107,14 @@ impl WriteRecord for Id {
 }
 
 impl WriteRecord for Acl {
-    ghost format = { acl };
+    ghost format = { acl_format };
 
-    #[tactic(auto, unfolding(crate::specs::Owned::acl, crate::specs::Format::number_bytes))]
+    #[tactic(auto, unfolding(crate::specs::Owned::acl_format, crate::specs::Format::number_bytes))]
     fn written_len(&self) -> usize {
         4 + self.id.written_len()
     }
 
-    #[tactic(auto, unfolding(crate::specs::Owned::acl))]
+    #[tactic(auto, unfolding(crate::specs::Owned::acl_format))]
     fn write(&self, out: &mut Vec<u8>) -> Result<(), NoMemory> {
         self.perms.write(out)?;
         self.id.write(out)

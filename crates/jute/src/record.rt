@@ -2,8 +2,8 @@
 
 ghost use Rattle.std.specs.Prelude.{◌≡◌, List, ℕ, Result};
 ghost use Rattle.values.specs.declared.fault.Fault.{Fault as TheFault};
-ghost use Rattle.jute.specs.Reads.{Gives};
-ghost use Rattle.jute.specs.Format.{name, times, vector_at, Took};
+ghost use Rattle.jute.specs.Reads.{ReadsOwned};
+ghost use Rattle.jute.specs.Format.{text_or_empty, read_n, vector_at, ReadsValue};
 
 use crate::reader::Reader;
 use std::alloc::Global;
@@ -15,7 +15,7 @@ pub trait ReadRecord<'a>: Sized + Drop {
     ghost read_of: { List ℕ → Result (Self × List ℕ) TheFault };
 
     fn read(alloc: Global, reader: &mut Reader<'a>) -> Result<Self, ReadError>
-        ensures { Gives read_of (λ v. v) result reader.old reader.new };
+        ensures { ReadsOwned read_of (λ v. v) result reader.old reader.new };
 }
 
 // That many records, one behind the other.
@@ -24,7 +24,7 @@ fn read_items<'a, T: ReadRecord<'a>>(
     count: u32,
     reader: &mut Reader<'a>,
 ) -> Result<Vec<T>, ReadError>
-    ensures { Gives (times T.read_of count) (λ v. v.items) result reader.old reader.new }
+    ensures { ReadsOwned (read_n T.read_of count) (λ v. v.items) result reader.old reader.new }
 {
     let mut ahead = reader.ahead();
     let mut items = Vec::new(alloc);
@@ -42,7 +42,7 @@ pub fn read_vector<'a, T: ReadRecord<'a>>(
     alloc: Global,
     reader: &mut Reader<'a>,
 ) -> Result<Option<Listed<T>>, ReadError>
-    ensures { Gives (vector_at T.read_of) (λ v. v) result reader.old reader.new }
+    ensures { ReadsOwned (vector_at T.read_of) (λ v. v) result reader.old reader.new }
 {
     let mut ahead = reader.ahead();
     let Some(count) = ahead.read_count()? else {
@@ -57,7 +57,7 @@ pub fn read_vector<'a, T: ReadRecord<'a>>(
 /// Reads a ustring, where null is read as empty.
 #[tactic(auto, unfolding(crate::specs::Format::judged_at))]
 pub fn read_name<'a>(reader: &mut Reader<'a>) -> Result<Str<'a>, Fault>
-    ensures { Took name (λ t. t) result reader.old reader.new }
+    ensures { ReadsValue text_or_empty (λ t. t) result reader.old reader.new }
 {
     Ok(Str::new(reader.read_string()?.unwrap_or("")))
 }

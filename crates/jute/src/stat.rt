@@ -1,6 +1,6 @@
 //! What a node is said to be.
 
-ghost use Rattle.jute.specs.Records.{stat, stat_persisted, four_longs, three_ints};
+ghost use Rattle.jute.specs.Records.{stat_format, stat_persisted, four_longs, three_ints};
 ghost use Rattle.values.specs.Gains.{Puts};
 
 use crate::reader::Reader;
@@ -37,9 +37,9 @@ pub struct Stat {
 }
 
 impl<'a> ReadRecord<'a> for Stat {
-    ghost read_of = { stat.read };
+    ghost read_of = { stat_format.read };
 
-    #[tactic(auto, unfolding(crate::specs::Records::stat))]
+    #[tactic(auto, unfolding(crate::specs::Records::stat_format))]
     fn read(_alloc: Global, reader: &mut Reader<'a>) -> Result<Stat, ReadError> {
         let mut ahead = reader.ahead();
         let stat = Stat {
@@ -61,14 +61,14 @@ impl<'a> ReadRecord<'a> for Stat {
 }
 
 impl WriteRecord for Stat {
-    ghost format = { stat };
+    ghost format = { stat_format };
 
-    #[tactic(auto, unfolding(crate::specs::Records::stat, crate::specs::Format::number_bytes))]
+    #[tactic(auto, unfolding(crate::specs::Records::stat_format, crate::specs::Format::number_bytes))]
     fn written_len(&self) -> usize {
         68
     }
 
-    #[tactic(auto, unfolding(crate::specs::Records::stat))]
+    #[tactic(auto, unfolding(crate::specs::Records::stat_format))]
     fn write(&self, out: &mut Vec<u8>) -> Result<(), NoMemory> {
         put_four_longs(out, &self.czxid, &self.mzxid, &self.ctime, &self.mtime)?;
         put_three_ints(out, &self.version, &self.cversion, &self.aversion)?;

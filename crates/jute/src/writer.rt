@@ -4,7 +4,7 @@
 ghost use Rattle.std.specs.Prelude.{◌≡◌, ◌<◌, ◌^◌, length, Some, List, ℕ, All};
 ghost use Rattle.std.specs.List.{flat_map};
 ghost use Rattle.values.specs.Gains.{Puts};
-ghost use Rattle.jute.specs.Format.{Format, int, long, boolean, buffer, vector};
+ghost use Rattle.jute.specs.Format.{Format, int, long, boolean, buffer, vector_of};
 
 use byteorder::{BigEndian, ByteOrder};
 use values::{Listed, NoMemory};
@@ -126,9 +126,9 @@ pub fn items_len<T: WriteRecord>(items: &[T]) -> usize
 /// How many bytes a vector takes, or null.
 #[tactic(auto, unfolding(crate::specs::Format::number_bytes))]
 pub fn vector_len<T: WriteRecord>(items: &Option<Listed<T>>) -> usize
-    requires writable { (vector T.format).Writable items.now }
-    requires small { length ((vector T.format).written items.now) < 2 ^ 63 }
-    ensures { result ≡ length ((vector T.format).written items.now) }
+    requires writable { (vector_of T.format).Writable items.now }
+    requires small { length ((vector_of T.format).written items.now) < 2 ^ 63 }
+    ensures { result ≡ length ((vector_of T.format).written items.now) }
 {
     match items {
         None => 4,
@@ -142,8 +142,8 @@ pub fn put_vector<T: WriteRecord>(
     out: &mut Vec<u8>,
     items: &Option<Listed<T>>,
 ) -> Result<(), NoMemory>
-    requires { (vector T.format).Writable items.now }
-    ensures { Puts result out.old.items ((vector T.format).written items.now) out.new.items }
+    requires { (vector_of T.format).Writable items.now }
+    ensures { Puts result out.old.items ((vector_of T.format).written items.now) out.new.items }
 {
     match items {
         None => put_int(out, -1),

@@ -18,7 +18,7 @@ use std::alloc::Global;
 use values::{Blob, NoMemory};
 
 /// What is written of a packet that carries the bytes, for nobody's request.
-#[tactic(auto, unfolding(quorum_packet::specs::Packet::packet))]
+#[tactic(auto, unfolding(quorum_packet::specs::Packet::packet_format))]
 pub fn packet_bytes(
     alloc: Global,
     kind: PacketKind,

@@ -61,7 +61,7 @@ fn reply_header() -> ReplyHeader {
 }
 
 // The reply, behind its frame's length.
-#[tactic(auto, unfolding(jute::specs::Records::reply_header, jute::specs::Records::stat))]
+#[tactic(auto, unfolding(jute::specs::Records::reply_header, jute::specs::Records::stat_format))]
 fn reply_written(alloc: Global) -> Result<Vec<u8>, NoMemory> {
     let mut out = Vec::new(alloc);
     put_int(&mut out, 90)?;
@@ -224,7 +224,7 @@ fn acls_are_read(rt: HostRuntime) -> Result<(), Fail> {
 }
 
 // The list of the open entry.
-#[tactic(auto, unfolding(jute::specs::Owned::acl, jute::specs::Owned::id))]
+#[tactic(auto, unfolding(jute::specs::Owned::acl_format, jute::specs::Owned::id_format))]
 fn acls_written(alloc: Global) -> Result<Vec<u8>, NoMemory> {
     let mut out = Vec::new(alloc);
     put_vector(&mut out, &Some(open_list(alloc)?))?;
@@ -243,7 +243,7 @@ fn is_empty_id(alloc: Global, bytes: &[u8]) -> Result<bool, ReadError> {
     Ok(id.scheme.as_str() == "" && id.id.as_str() == "")
 }
 
-#[tactic(auto, unfolding(jute::specs::Owned::id))]
+#[tactic(auto, unfolding(jute::specs::Owned::id_format))]
 fn empty_id_written(alloc: Global) -> Result<Vec<u8>, NoMemory> {
     let id = Id {
         scheme: Text::new(alloc, "")?,

@@ -15,13 +15,13 @@ use Rattle.quorum_packet.specs.declared.kind.PacketKind.TheVariants as kinds
 use Rattle.quorum_packet.specs.Kinds.{kind_of}
 use Rattle.snapshot_codec.specs.declared.part.ImagePart.{ImagePart}
 use Rattle.snapshot_codec.specs.declared.part.ImagePart.TheVariants as part
-use Rattle.txn_codec.specs.Spelling.{txn, whole}
+use Rattle.txn_codec.specs.Spelling.{txn_format, value_of_whole}
 use Rattle.txn_codec.specs.declared.txn.Txn.{Txn}
-use Rattle.learner_sync.specs.Answers.{epoch_answer}
+use Rattle.learner_sync.specs.Answers.{ack_epoch}
 use Rattle.learner_sync.specs.Learner.{Learner}
 use Rattle.learner_sync.specs.Zxids.{epoch_of}
-use Rattle.learner_sync.specs.Learn.{Learned, quiet, one, at_phase, carried_bytes, greeted, leader_info, hello, up_to, truncated, truncate, await_image, sync, floor_in, with_applied, apply, inform, propose, commit_of, replay, serve, load, pass_over, acts_to_drop, start_in, packet_in, part_in, learn}
-use Rattle.learner_sync.specs.Laws.{Tells, CanBeDone, is_of_image, ActsTell}
+use Rattle.learner_sync.specs.Learn.{LearnerStep, no_acts, single_act, at_phase, carried_bytes, accept_epoch, leader_info, packet_in_hello, txns_up_to, with_truncated_log, truncate_log, await_image, packet_in_sync, zxid_floor, with_applied, apply_txn, learn_inform, learn_proposal, commit_of, packet_in_replay, packet_in_serving, load_part, load_to_drop, acts_to_drop, start_in, packet_in_phase, part_in_phase, learn_item}
+use Rattle.learner_sync.specs.Laws.{AccountsForLog, CanBeDone, is_of_image, ActsAccountForLog}
 use Rattle.learner_sync.specs.declared.act.Act.{Act}
 use Rattle.learner_sync.specs.declared.act.Act.TheVariants as act
 use Rattle.learner_sync.specs.declared.phase.Phase.{Phase}
@@ -30,29 +30,29 @@ use Rattle.learner_sync.proofs.Each.{packet-each}
 use Rattle.learner_sync.proofs.Sending.{introduction-writable, epoch-writable, acknowledgement-writable, ping-writable}
 
 -- what isn't refused tells it
-abbrev Holds : Learner → Result Learned Fault → Type 0
-Holds l (Ok x) = Tells x.acts l x.after
+abbrev Holds : Learner → Result LearnerStep Fault → Type 0
+Holds l (Ok x) = AccountsForLog x.acts l x.after
 Holds l (Err e) = Unit {0}
 
-apply-holds : (l : Learner) (ts : List Txn) (t : Txn) → Holds l (apply (record l { proposals = ts }) t)
-apply-holds l ts t = by (int_lt (floor_in l.phase l.last_zxid) t.header.zxid)
+apply-holds : (l : Learner) (ts : List Txn) (t : Txn) → Holds l (apply_txn (record l { proposals = ts }) t)
+apply-holds l ts t = by (int_lt (zxid_floor l.phase l.last_zxid) t.header.zxid)
   where
     by : (b : Bool) → Holds l
-        (cond b (Ok (one act.Apply (with_applied (record l { proposals = ts }) t))) (Err OutOfOrder))
+        (cond b (Ok (single_act act.Apply (with_applied (record l { proposals = ts }) t))) (Err OutOfOrder))
     by true = (t, refl, refl)
     by false = tt
 
-inform-holds : (l : Learner) (bytes : List ℕ) → Holds l (inform l bytes)
-inform-holds l bytes = by (whole txn bytes)
+inform-holds : (l : Learner) (bytes : List ℕ) → Holds l (learn_inform l bytes)
+inform-holds l bytes = by (value_of_whole txn_format bytes)
   where
-    by : (r : Result Txn Fault) → Holds l (r >>= λ t. apply l t)
+    by : (r : Result Txn Fault) → Holds l (r >>= λ t. apply_txn l t)
     by (Ok t) = apply-holds l l.proposals t
     by (Err e) = tt
 
-propose-holds : (l : Learner) (bytes : List ℕ) → Holds l (propose l bytes)
-propose-holds l bytes = by (whole txn bytes)
+propose-holds : (l : Learner) (bytes : List ℕ) → Holds l (learn_proposal l bytes)
+propose-holds l bytes = by (value_of_whole txn_format bytes)
   where
-    by : (r : Result Txn Fault) → Holds l (r >>= λ t. Ok (quiet (record l { proposals = l.proposals ++ t ∷ [] })))
+    by : (r : Result Txn Fault) → Holds l (r >>= λ t. Ok (no_acts (record l { proposals = l.proposals ++ t ∷ [] })))
     by (Ok t) = (refl, refl, tt)
     by (Err e) = tt
 
@@ -60,60 +60,61 @@ commit-holds : (l : Learner) (ts : List Txn) (zxid : ℤ) → Holds l (commit_of
 commit-holds l [] zxid = tt
 commit-holds l (t ∷ others) zxid = by (int_eq t.header.zxid zxid)
   where
-    by : (b : Bool) → Holds l (cond b (apply (record l { proposals = others }) t) (Err CommitMismatch))
+    by : (b : Bool) → Holds l (cond b (apply_txn (record l { proposals = others }) t) (Err CommitMismatch))
     by true = apply-holds l others t
     by false = tt
 
-greeted-holds : (l : Learner) (epoch : ℤ) → Tells (greeted l epoch).acts l (greeted l epoch).after
+greeted-holds : (l : Learner) (epoch : ℤ) → AccountsForLog (accept_epoch l epoch).acts l (accept_epoch l epoch).after
 greeted-holds l epoch = by (int_lt l.accepted_epoch epoch)
   where
-    answered : Bool → Learned
+    answered : Bool → LearnerStep
     answered b = cond b (record {
-      acts = act.Epochs ∷ act.Send (epoch_answer l l.current_epoch) ∷ [];
+      acts = act.Epochs ∷ act.Send (ack_epoch l l.current_epoch) ∷ [];
       after = record l { phase = phase.Sync; accepted_epoch = epoch };
-    }) (one (act.Send (epoch_answer l (negsuc 0))) (at_phase l phase.Sync))
+    }) (single_act (act.Send (ack_epoch l (negsuc 0))) (at_phase l phase.Sync))
 
-    by : (b : Bool) → Tells (answered b).acts l (answered b).after
+    by : (b : Bool) → AccountsForLog (answered b).acts l (answered b).after
     by true = (refl, refl, (refl, (refl, tt)))
     by false = (refl, refl, (refl, tt))
 
 info-holds : (l : Learner) (epoch : ℤ) (bytes : List ℕ) → Holds l (leader_info l epoch bytes)
 info-holds l epoch bytes = by (int_lt epoch l.accepted_epoch)
   where
-    read : (r : Result (ℤ × List ℕ) Fault) → Holds l (r >>= λ version. Ok (greeted l epoch))
+    read : (r : Result (ℤ × List ℕ) Fault) → Holds l (r >>= λ version. Ok (accept_epoch l epoch))
     read (Ok version) = greeted-holds l epoch
     read (Err e) = tt
 
-    by : (b : Bool) → Holds l (cond b (Err EpochTooSmall) (int.read bytes >>= λ version. Ok (greeted l epoch)))
+    by : (b : Bool) → Holds l (cond b (Err EpochTooSmall) (int.read bytes >>= λ version. Ok (accept_epoch l epoch)))
     by true = tt
     by false = read (int.read bytes)
 
-hello-holds : (k : Option PacketKind) (l : Learner) (p : QuorumPacket) → Holds l (hello k l p)
+hello-holds : (k : Option PacketKind) (l : Learner) (p : QuorumPacket) → Holds l (packet_in_hello k l p)
 hello-holds (Some kinds.LeaderInfo) l p = info-holds l (epoch_of p.zxid) (carried_bytes p.bytes)
 hello-holds k l p = tt
 
-truncate-holds : (l : Learner) (zxid : ℤ) → Holds l (truncate l zxid)
+truncate-holds : (l : Learner) (zxid : ℤ) → Holds l (truncate_log l zxid)
 truncate-holds l zxid = by (int_lt zxid l.base_zxid)
   where
     by : (b : Bool) → Holds l
-        (cond b (Err CannotTruncate) (Ok (one (act.Truncate zxid) (truncated l (up_to zxid l.log)))))
+        (cond b (Err CannotTruncate) (Ok
+        (single_act (act.Truncate zxid) (with_truncated_log l (txns_up_to zxid l.log)))))
     by true = tt
     by false = (refl, refl)
 
 await-holds : (l : Learner) (zxid : ℤ) → Holds l (await_image l zxid)
 await-holds l zxid = by (int_lt zxid (pos 0))
   where
-    by : (b : Bool) → Holds l (cond b (Err OutOfOrder) (Ok (quiet (at_phase l (phase.Image zxid)))))
+    by : (b : Bool) → Holds l (cond b (Err OutOfOrder) (Ok (no_acts (at_phase l (phase.Image zxid)))))
     by true = tt
     by false = (refl, refl, tt)
 
-sync-holds : (k : Option PacketKind) (l : Learner) (p : QuorumPacket) → Holds l (sync k l p)
+sync-holds : (k : Option PacketKind) (l : Learner) (p : QuorumPacket) → Holds l (packet_in_sync k l p)
 sync-holds (Some kinds.Diff) l p = (refl, refl, tt)
 sync-holds (Some kinds.Trunc) l p = truncate-holds l p.zxid
 sync-holds (Some kinds.Snap) l p = await-holds l p.zxid
 sync-holds k l p = tt
 
-replay-holds : (k : Option PacketKind) (l : Learner) (p : QuorumPacket) → Holds l (replay k l p)
+replay-holds : (k : Option PacketKind) (l : Learner) (p : QuorumPacket) → Holds l (packet_in_replay k l p)
 replay-holds (Some kinds.Proposal) l p = propose-holds l (carried_bytes p.bytes)
 replay-holds (Some kinds.Commit) l p = commit-holds l l.proposals p.zxid
 replay-holds (Some kinds.Inform) l p = inform-holds l (carried_bytes p.bytes)
@@ -121,20 +122,20 @@ replay-holds (Some kinds.NewLeader) l p = (refl, refl, (refl, (refl, tt)))
 replay-holds (Some kinds.UpToDate) l p = (refl, refl, (refl, (refl, (refl, tt))))
 replay-holds k l p = (refl, refl, tt)
 
-serve-holds : (k : Option PacketKind) (l : Learner) (p : QuorumPacket) → Holds l (serve k l p)
+serve-holds : (k : Option PacketKind) (l : Learner) (p : QuorumPacket) → Holds l (packet_in_serving k l p)
 serve-holds (Some kinds.Inform) l p = inform-holds l (carried_bytes p.bytes)
 serve-holds (Some kinds.Ping) l p = (refl, refl, (refl, tt))
 serve-holds k l p = (refl, refl, tt)
 
-load-holds : (p : ImagePart) (l : Learner) (zxid : ℤ) → Holds l (Ok (load p l zxid))
+load-holds : (p : ImagePart) (l : Learner) (zxid : ℤ) → Holds l (Ok (load_part p l zxid))
 load-holds part.End l zxid = (refl, refl)
 load-holds p l zxid = (refl, refl)
 
-pass-holds : (p : ImagePart) (l : Learner) → Holds l (Ok (pass_over p l))
+pass-holds : (p : ImagePart) (l : Learner) → Holds l (Ok (load_to_drop p l))
 pass-holds part.End l = (refl, refl, (refl, tt))
 pass-holds p l = (refl, refl)
 
-packet-holds : (ph : Phase) (l : Learner) (p : QuorumPacket) → Holds l (packet_in ph l p)
+packet-holds : (ph : Phase) (l : Learner) (p : QuorumPacket) → Holds l (packet_in_phase ph l p)
 packet-holds phase.Down l p = (refl, refl, tt)
 packet-holds phase.Hello l p = hello-holds (kind_of p.kind) l p
 packet-holds phase.Sync l p = sync-holds (kind_of p.kind) l p
@@ -143,20 +144,20 @@ packet-holds (phase.ReplayOnImage applied) l p = replay-holds (kind_of p.kind) l
 packet-holds phase.Replay l p = replay-holds (kind_of p.kind) l p
 packet-holds phase.Serving l p = serve-holds (kind_of p.kind) l p
 
-part-holds : (ph : Phase) (l : Learner) (p : ImagePart) → Holds l (part_in ph l p)
+part-holds : (ph : Phase) (l : Learner) (p : ImagePart) → Holds l (part_in_phase ph l p)
 part-holds phase.Hello l p = tt
 part-holds phase.Sync l p = tt
 part-holds (phase.Image zxid) l p = load-holds p l zxid
 part-holds ph l p = pass-holds p l
 
-learn-holds : (l : Learner) (i : Item) → Holds l (learn l i)
+learn-holds : (l : Learner) (i : Item) → Holds l (learn_item l i)
 learn-holds l (item.Packet p) = packet-holds l.phase l p
 learn-holds l (item.Part p) = part-holds l.phase l p
 
 -- ---- what is sent
 
 -- what isn't refused can be done
-abbrev CanBe : Result Learned Fault → Type 0
+abbrev CanBe : Result LearnerStep Fault → Type 0
 CanBe (Ok x) = AllByRecursion CanBeDone x.acts
 CanBe (Err e) = Unit {0}
 
@@ -164,17 +165,17 @@ drop-can-be : (p : ImagePart) → AllByRecursion CanBeDone (acts_to_drop p)
 drop-can-be part.End = (tt, tt)
 drop-can-be p = (tt, tt)
 
-load-can-be : (p : ImagePart) (l : Learner) (zxid : ℤ) → AllByRecursion CanBeDone (load p l zxid).acts
+load-can-be : (p : ImagePart) (l : Learner) (zxid : ℤ) → AllByRecursion CanBeDone (load_part p l zxid).acts
 load-can-be part.End l zxid = (tt, tt)
 load-can-be p l zxid = (tt, tt)
 
-part-can-be : (ph : Phase) (l : Learner) (p : ImagePart) → CanBe (part_in ph l p)
+part-can-be : (ph : Phase) (l : Learner) (p : ImagePart) → CanBe (part_in_phase ph l p)
 part-can-be phase.Hello l p = tt
 part-can-be phase.Sync l p = tt
 part-can-be (phase.Image zxid) l p = load-can-be p l zxid
 part-can-be ph l p = drop-can-be p
 
-learn-can-be : (l : Learner) (i : Item) → CanBeWritten i → CanBe (learn l i)
+learn-can-be : (l : Learner) (i : Item) → CanBeWritten i → CanBe (learn_item l i)
 learn-can-be l (item.Packet p) w =
     packet-each CanBeDone tt tt tt (λ zxid. tt) epoch-writable acknowledgement-writable l.phase l p (ping-writable p w)
 learn-can-be l (item.Part p) w = part-can-be l.phase l p
@@ -188,15 +189,15 @@ start-can-be ph l server_id = tt
 abbrev IsApart : Act → Type 0
 IsApart a = is_of_image a ≡ false
 
-abbrev Apart : Result Learned Fault → Type 0
+abbrev Apart : Result LearnerStep Fault → Type 0
 Apart (Ok x) = AllByRecursion IsApart x.acts
 Apart (Err e) = Unit {0}
 
-packet-apart : (l : Learner) (p : QuorumPacket) → Apart (learn l (item.Packet p))
+packet-apart : (l : Learner) (p : QuorumPacket) → Apart (learn_item l (item.Packet p))
 packet-apart l p =
     packet-each IsApart refl refl refl (λ zxid. refl) (λ l epoch. refl) (λ l. refl) l.phase l p refl
 
-pub acts_tell : ActsTell
+pub acts_tell : ActsAccountForLog
 acts_tell = record {
   tells = λ l i x e. subst (Holds l) e (learn-holds l i);
   packets = λ l p x e. subst Apart e (packet-apart l p);

@@ -13,12 +13,12 @@ use Rattle.quorum_packet.specs.declared.kind.PacketKind.TheVariants as kinds
 use Rattle.quorum_packet.specs.Kinds.{kind_of}
 use Rattle.snapshot_codec.specs.declared.part.ImagePart.{ImagePart}
 use Rattle.snapshot_codec.specs.declared.part.ImagePart.TheVariants as part
-use Rattle.txn_codec.specs.Spelling.{txn, whole}
+use Rattle.txn_codec.specs.Spelling.{txn_format, value_of_whole}
 use Rattle.txn_codec.specs.declared.txn.Txn.{Txn}
-use Rattle.learner_sync.specs.Answers.{epoch_answer}
+use Rattle.learner_sync.specs.Answers.{ack_epoch}
 use Rattle.learner_sync.specs.Learner.{Learner}
 use Rattle.learner_sync.specs.Zxids.{epoch_of}
-use Rattle.learner_sync.specs.Learn.{Learned, quiet, one, at_phase, carried_bytes, start_in, greeted, leader_info, hello, up_to, truncated, truncate, await_image, sync, floor_in, with_applied, apply, inform, propose, commit_of, replay, serve, load, packet_in, part_in, learn, checkpoint_in}
+use Rattle.learner_sync.specs.Learn.{LearnerStep, no_acts, single_act, at_phase, carried_bytes, start_in, accept_epoch, leader_info, packet_in_hello, txns_up_to, with_truncated_log, truncate_log, await_image, packet_in_sync, zxid_floor, with_applied, apply_txn, learn_inform, learn_proposal, commit_of, packet_in_replay, packet_in_serving, load_part, packet_in_phase, part_in_phase, learn_item, checkpoint_in}
 use Rattle.learner_sync.specs.Laws.{EpochsDontFall}
 use Rattle.learner_sync.specs.declared.act.Act.TheVariants as act
 use Rattle.learner_sync.specs.declared.phase.Phase.{Phase}
@@ -26,28 +26,28 @@ use Rattle.learner_sync.specs.declared.phase.Phase.TheVariants as phase
 use Rattle.learner_sync.proofs.Zxids.{lt_of, lt_le, le_refl}
 
 -- the epoch that is accepted then isn't below this one
-abbrev Holds : ℤ → Result Learned Fault → Type 0
+abbrev Holds : ℤ → Result LearnerStep Fault → Type 0
 Holds epoch (Ok x) = epoch ≤ℤ x.after.accepted_epoch
 Holds epoch (Err e) = Unit {0}
 
-apply-holds : (l : Learner) (t : Txn) → Holds l.accepted_epoch (apply l t)
-apply-holds l t = by (int_lt (floor_in l.phase l.last_zxid) t.header.zxid)
+apply-holds : (l : Learner) (t : Txn) → Holds l.accepted_epoch (apply_txn l t)
+apply-holds l t = by (int_lt (zxid_floor l.phase l.last_zxid) t.header.zxid)
   where
-    by : (b : Bool) → Holds l.accepted_epoch (cond b (Ok (one act.Apply (with_applied l t))) (Err OutOfOrder))
+    by : (b : Bool) → Holds l.accepted_epoch (cond b (Ok (single_act act.Apply (with_applied l t))) (Err OutOfOrder))
     by true = le_refl l.accepted_epoch
     by false = tt
 
-inform-holds : (l : Learner) (bytes : List ℕ) → Holds l.accepted_epoch (inform l bytes)
-inform-holds l bytes = by (whole txn bytes)
+inform-holds : (l : Learner) (bytes : List ℕ) → Holds l.accepted_epoch (learn_inform l bytes)
+inform-holds l bytes = by (value_of_whole txn_format bytes)
   where
-    by : (r : Result Txn Fault) → Holds l.accepted_epoch (r >>= λ t. apply l t)
+    by : (r : Result Txn Fault) → Holds l.accepted_epoch (r >>= λ t. apply_txn l t)
     by (Ok t) = apply-holds l t
     by (Err e) = tt
 
-propose-holds : (l : Learner) (bytes : List ℕ) → Holds l.accepted_epoch (propose l bytes)
-propose-holds l bytes = by (whole txn bytes)
+propose-holds : (l : Learner) (bytes : List ℕ) → Holds l.accepted_epoch (learn_proposal l bytes)
+propose-holds l bytes = by (value_of_whole txn_format bytes)
   where
-    by : (r : Result Txn Fault) → Holds l.accepted_epoch (r >>= λ t. Ok (quiet (record l {
+    by : (r : Result Txn Fault) → Holds l.accepted_epoch (r >>= λ t. Ok (no_acts (record l {
       proposals =
           l.proposals ++ t ∷ [];
     })))
@@ -58,72 +58,76 @@ commit-holds : (l : Learner) (ts : List Txn) (zxid : ℤ) → Holds l.accepted_e
 commit-holds l [] zxid = tt
 commit-holds l (t ∷ others) zxid = by (int_eq t.header.zxid zxid)
   where
-    by : (b : Bool) → Holds l.accepted_epoch (cond b (apply (record l { proposals = others }) t) (Err CommitMismatch))
+    by : (b : Bool) → Holds l.accepted_epoch
+        (cond b (apply_txn (record l { proposals = others }) t) (Err CommitMismatch))
     by true = apply-holds (record l { proposals = others }) t
     by false = tt
 
-greeted-holds : (l : Learner) (epoch : ℤ) → l.accepted_epoch ≤ℤ (greeted l epoch).after.accepted_epoch
+greeted-holds : (l : Learner) (epoch : ℤ) → l.accepted_epoch ≤ℤ (accept_epoch l epoch).after.accepted_epoch
 greeted-holds l epoch = by (int_lt l.accepted_epoch epoch) refl
   where
     by : (b : Bool) → int_lt l.accepted_epoch epoch ≡ b → l.accepted_epoch ≤ℤ (cond b (record {
-      acts = act.Epochs ∷ act.Send (epoch_answer l l.current_epoch) ∷ [];
+      acts = act.Epochs ∷ act.Send (ack_epoch l l.current_epoch) ∷ [];
       after = record l { phase = phase.Sync; accepted_epoch = epoch };
-    }) (one (act.Send (epoch_answer l (negsuc 0))) (at_phase l phase.Sync))).after.accepted_epoch
+    }) (single_act (act.Send (ack_epoch l (negsuc 0))) (at_phase l phase.Sync))).after.accepted_epoch
     by true e = lt_le l.accepted_epoch epoch (lt_of l.accepted_epoch epoch e)
     by false e = le_refl l.accepted_epoch
 
 info-holds : (l : Learner) (epoch : ℤ) (bytes : List ℕ) → Holds l.accepted_epoch (leader_info l epoch bytes)
 info-holds l epoch bytes = by (int_lt epoch l.accepted_epoch)
   where
-    read : (r : Result (ℤ × List ℕ) Fault) → Holds l.accepted_epoch (r >>= λ version. Ok (greeted l epoch))
+    read : (r : Result (ℤ × List ℕ) Fault) → Holds l.accepted_epoch (r >>= λ version. Ok (accept_epoch l epoch))
     read (Ok version) = greeted-holds l epoch
     read (Err e) = tt
 
     by : (b : Bool) → Holds l.accepted_epoch
-        (cond b (Err EpochTooSmall) (int.read bytes >>= λ version. Ok (greeted l epoch)))
+        (cond b (Err EpochTooSmall) (int.read bytes >>= λ version. Ok (accept_epoch l epoch)))
     by true = tt
     by false = read (int.read bytes)
 
-hello-holds : (k : Option PacketKind) (l : Learner) (p : QuorumPacket) → Holds l.accepted_epoch (hello k l p)
+hello-holds : (k : Option PacketKind) (l : Learner) (p : QuorumPacket) → Holds l.accepted_epoch (packet_in_hello k l p)
 hello-holds (Some kinds.LeaderInfo) l p = info-holds l (epoch_of p.zxid) (carried_bytes p.bytes)
 hello-holds k l p = tt
 
-truncate-holds : (l : Learner) (zxid : ℤ) → Holds l.accepted_epoch (truncate l zxid)
+truncate-holds : (l : Learner) (zxid : ℤ) → Holds l.accepted_epoch (truncate_log l zxid)
 truncate-holds l zxid = by (int_lt zxid l.base_zxid)
   where
     by : (b : Bool) → Holds l.accepted_epoch
-        (cond b (Err CannotTruncate) (Ok (one (act.Truncate zxid) (truncated l (up_to zxid l.log)))))
+        (cond b (Err CannotTruncate) (Ok
+        (single_act (act.Truncate zxid) (with_truncated_log l (txns_up_to zxid l.log)))))
     by true = tt
     by false = le_refl l.accepted_epoch
 
 await-holds : (l : Learner) (zxid : ℤ) → Holds l.accepted_epoch (await_image l zxid)
 await-holds l zxid = by (int_lt zxid (pos 0))
   where
-    by : (b : Bool) → Holds l.accepted_epoch (cond b (Err OutOfOrder) (Ok (quiet (at_phase l (phase.Image zxid)))))
+    by : (b : Bool) → Holds l.accepted_epoch (cond b (Err OutOfOrder) (Ok (no_acts (at_phase l (phase.Image zxid)))))
     by true = tt
     by false = le_refl l.accepted_epoch
 
-sync-holds : (k : Option PacketKind) (l : Learner) (p : QuorumPacket) → Holds l.accepted_epoch (sync k l p)
+sync-holds : (k : Option PacketKind) (l : Learner) (p : QuorumPacket) → Holds l.accepted_epoch (packet_in_sync k l p)
 sync-holds (Some kinds.Diff) l p = le_refl l.accepted_epoch
 sync-holds (Some kinds.Trunc) l p = truncate-holds l p.zxid
 sync-holds (Some kinds.Snap) l p = await-holds l p.zxid
 sync-holds k l p = tt
 
-replay-holds : (k : Option PacketKind) (l : Learner) (p : QuorumPacket) → Holds l.accepted_epoch (replay k l p)
+replay-holds : (k : Option PacketKind) (l : Learner) (p : QuorumPacket)
+    → Holds l.accepted_epoch (packet_in_replay k l p)
 replay-holds (Some kinds.Proposal) l p = propose-holds l (carried_bytes p.bytes)
 replay-holds (Some kinds.Commit) l p = commit-holds l l.proposals p.zxid
 replay-holds (Some kinds.Inform) l p = inform-holds l (carried_bytes p.bytes)
 replay-holds k l p = le_refl l.accepted_epoch
 
-serve-holds : (k : Option PacketKind) (l : Learner) (p : QuorumPacket) → Holds l.accepted_epoch (serve k l p)
+serve-holds : (k : Option PacketKind) (l : Learner) (p : QuorumPacket)
+    → Holds l.accepted_epoch (packet_in_serving k l p)
 serve-holds (Some kinds.Inform) l p = inform-holds l (carried_bytes p.bytes)
 serve-holds k l p = le_refl l.accepted_epoch
 
-load-holds : (p : ImagePart) (l : Learner) (zxid : ℤ) → l.accepted_epoch ≤ℤ (load p l zxid).after.accepted_epoch
+load-holds : (p : ImagePart) (l : Learner) (zxid : ℤ) → l.accepted_epoch ≤ℤ (load_part p l zxid).after.accepted_epoch
 load-holds part.End l zxid = le_refl l.accepted_epoch
 load-holds p l zxid = le_refl l.accepted_epoch
 
-packet-holds : (ph : Phase) (l : Learner) (p : QuorumPacket) → Holds l.accepted_epoch (packet_in ph l p)
+packet-holds : (ph : Phase) (l : Learner) (p : QuorumPacket) → Holds l.accepted_epoch (packet_in_phase ph l p)
 packet-holds phase.Down l p = le_refl l.accepted_epoch
 packet-holds phase.Hello l p = hello-holds (kind_of p.kind) l p
 packet-holds phase.Sync l p = sync-holds (kind_of p.kind) l p
@@ -132,13 +136,13 @@ packet-holds (phase.ReplayOnImage applied) l p = replay-holds (kind_of p.kind) l
 packet-holds phase.Replay l p = replay-holds (kind_of p.kind) l p
 packet-holds phase.Serving l p = serve-holds (kind_of p.kind) l p
 
-part-holds : (ph : Phase) (l : Learner) (p : ImagePart) → Holds l.accepted_epoch (part_in ph l p)
+part-holds : (ph : Phase) (l : Learner) (p : ImagePart) → Holds l.accepted_epoch (part_in_phase ph l p)
 part-holds phase.Hello l p = tt
 part-holds phase.Sync l p = tt
 part-holds (phase.Image zxid) l p = load-holds p l zxid
 part-holds ph l p = le_refl l.accepted_epoch
 
-learn-holds : (l : Learner) (i : Item) → Holds l.accepted_epoch (learn l i)
+learn-holds : (l : Learner) (i : Item) → Holds l.accepted_epoch (learn_item l i)
 learn-holds l (item.Packet p) = packet-holds l.phase l p
 learn-holds l (item.Part p) = part-holds l.phase l p
 

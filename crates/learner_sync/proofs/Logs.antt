@@ -15,41 +15,41 @@ use Rattle.quorum_packet.specs.declared.kind.PacketKind.TheVariants as kinds
 use Rattle.quorum_packet.specs.Kinds.{kind_of}
 use Rattle.snapshot_codec.specs.declared.part.ImagePart.{ImagePart}
 use Rattle.snapshot_codec.specs.declared.part.ImagePart.TheVariants as part
-use Rattle.txn_codec.specs.Spelling.{txn, whole}
+use Rattle.txn_codec.specs.Spelling.{txn_format, value_of_whole}
 use Rattle.txn_codec.specs.declared.txn.Txn.{Txn}
-use Rattle.learner_sync.specs.Answers.{epoch_answer}
+use Rattle.learner_sync.specs.Answers.{ack_epoch}
 use Rattle.learner_sync.specs.Learner.{Learner, new_learner}
 use Rattle.learner_sync.specs.Zxids.{epoch_of}
-use Rattle.learner_sync.specs.Learn.{Learned, quiet, one, at_phase, carried_bytes, start_in, greeted, leader_info, hello, up_to, zxid_after, truncated, truncate, await_image, sync, floor_in, phase_behind, with_applied, apply, inform, propose, commit_of, replay, serve, load, packet_in, part_in, learn, checkpoint_in}
-use Rattle.learner_sync.specs.Laws.{Stands, FollowsItsLog, LogsAreFollowed, TruncatesToFronts}
+use Rattle.learner_sync.specs.Learn.{LearnerStep, no_acts, single_act, at_phase, carried_bytes, start_in, accept_epoch, leader_info, packet_in_hello, txns_up_to, zxid_after, with_truncated_log, truncate_log, await_image, packet_in_sync, zxid_floor, phase_after_zxid, with_applied, apply_txn, learn_inform, learn_proposal, commit_of, packet_in_replay, packet_in_serving, load_part, packet_in_phase, part_in_phase, learn_item, checkpoint_in}
+use Rattle.learner_sync.specs.Laws.{PhaseFitsLog, FollowsItsLog, LogsAreFollowed, TruncatesToFronts}
 use Rattle.learner_sync.specs.declared.act.Act.TheVariants as act
 use Rattle.learner_sync.specs.declared.phase.Phase.{Phase}
 use Rattle.learner_sync.specs.declared.phase.Phase.TheVariants as phase
 use Rattle.learner_sync.proofs.Zxids.{lt_of, le_of, below_max, max_same, max_left, max_above, zero_le, max_over, le_lt, zxid-push, rises-push, rises-up_to, front-up_to}
 
 -- what isn't refused follows its log
-abbrev Follows : Result Learned Fault → Type 0
+abbrev Follows : Result LearnerStep Fault → Type 0
 Follows (Ok x) = FollowsItsLog x.after
 Follows (Err e) = Unit {0}
 
 -- the same log, in another phase
-moved : (l : Learner) (ph : Phase) → Stands ph l.log → FollowsItsLog l → FollowsItsLog (at_phase l ph)
+moved : (l : Learner) (ph : Phase) → PhaseFitsLog ph l.log → FollowsItsLog l → FollowsItsLog (at_phase l ph)
 moved l ph s f = record { rising = f.rising; last = f.last; based = f.based; stands = s }
 
 -- ---- transactions
 
-above : (ph : Phase) (log : List Txn) (last zxid : ℤ) → Stands ph log → zxid_after (pos 0) log ≤ℤ last
-    → floor_in ph last <ℤ zxid → zxid_after (pos 0) log <ℤ zxid
+above : (ph : Phase) (log : List Txn) (last zxid : ℤ) → PhaseFitsLog ph log → zxid_after (pos 0) log ≤ℤ last
+    → zxid_floor ph last <ℤ zxid → zxid_after (pos 0) log <ℤ zxid
 above (phase.ReplayOnImage applied) log last zxid s le lt = subst (λ a. a <ℤ zxid) s lt
 above ph log last zxid s le lt = le_lt (zxid_after (pos 0) log) last zxid le lt
 
-stands-push : (ph : Phase) (log : List Txn) (t : Txn) → Stands ph log
-    → Stands (phase_behind ph t.header.zxid) (log ++ t ∷ [])
+stands-push : (ph : Phase) (log : List Txn) (t : Txn) → PhaseFitsLog ph log
+    → PhaseFitsLog (phase_after_zxid ph t.header.zxid) (log ++ t ∷ [])
 stands-push (phase.ReplayOnImage applied) log t s = sym (zxid-push (pos 0) log t)
 stands-push (phase.Image zxid) log t s = s
 stands-push ph log t s = tt
 
-applied-follows : (l : Learner) (t : Txn) → floor_in l.phase l.last_zxid <ℤ t.header.zxid → FollowsItsLog l
+applied-follows : (l : Learner) (t : Txn) → zxid_floor l.phase l.last_zxid <ℤ t.header.zxid → FollowsItsLog l
     → FollowsItsLog (with_applied l t)
 applied-follows l t lt f =
     let below : zxid_after (pos 0) l.log ≤ℤ l.last_zxid =
@@ -65,25 +65,25 @@ applied-follows l t lt f =
       stands = stands-push l.phase l.log t f.stands;
     }
 
-apply-follows : (l : Learner) (t : Txn) → FollowsItsLog l → Follows (apply l t)
-apply-follows l t f = by (int_lt (floor_in l.phase l.last_zxid) t.header.zxid) refl
+apply-follows : (l : Learner) (t : Txn) → FollowsItsLog l → Follows (apply_txn l t)
+apply-follows l t f = by (int_lt (zxid_floor l.phase l.last_zxid) t.header.zxid) refl
   where
-    by : (b : Bool) → int_lt (floor_in l.phase l.last_zxid) t.header.zxid ≡ b
-        → Follows (cond b (Ok (one act.Apply (with_applied l t))) (Err OutOfOrder))
+    by : (b : Bool) → int_lt (zxid_floor l.phase l.last_zxid) t.header.zxid ≡ b
+        → Follows (cond b (Ok (single_act act.Apply (with_applied l t))) (Err OutOfOrder))
     by true e = applied-follows l t (lt_of _ _ e) f
     by false e = tt
 
-inform-follows : (l : Learner) (bytes : List ℕ) → FollowsItsLog l → Follows (inform l bytes)
-inform-follows l bytes f = by (whole txn bytes)
+inform-follows : (l : Learner) (bytes : List ℕ) → FollowsItsLog l → Follows (learn_inform l bytes)
+inform-follows l bytes f = by (value_of_whole txn_format bytes)
   where
-    by : (r : Result Txn Fault) → Follows (r >>= λ t. apply l t)
+    by : (r : Result Txn Fault) → Follows (r >>= λ t. apply_txn l t)
     by (Ok t) = apply-follows l t f
     by (Err e) = tt
 
-propose-follows : (l : Learner) (bytes : List ℕ) → FollowsItsLog l → Follows (propose l bytes)
-propose-follows l bytes f = by (whole txn bytes)
+propose-follows : (l : Learner) (bytes : List ℕ) → FollowsItsLog l → Follows (learn_proposal l bytes)
+propose-follows l bytes f = by (value_of_whole txn_format bytes)
   where
-    by : (r : Result Txn Fault) → Follows (r >>= λ t. Ok (quiet (record l { proposals = l.proposals ++ t ∷ [] })))
+    by : (r : Result Txn Fault) → Follows (r >>= λ t. Ok (no_acts (record l { proposals = l.proposals ++ t ∷ [] })))
     by (Ok t) = record { rising = f.rising; last = f.last; based = f.based; stands = f.stands }
     by (Err e) = tt
 
@@ -91,7 +91,7 @@ commit-follows : (l : Learner) (ts : List Txn) (zxid : ℤ) → FollowsItsLog l 
 commit-follows l [] zxid f = tt
 commit-follows l (t ∷ others) zxid f = by (int_eq t.header.zxid zxid)
   where
-    by : (b : Bool) → Follows (cond b (apply (record l { proposals = others }) t) (Err CommitMismatch))
+    by : (b : Bool) → Follows (cond b (apply_txn (record l { proposals = others }) t) (Err CommitMismatch))
     by true = apply-follows (record l { proposals = others }) t (record {
       rising = f.rising;
       last = f.last;
@@ -103,28 +103,29 @@ commit-follows l (t ∷ others) zxid f = by (int_eq t.header.zxid zxid)
 
 -- ---- hello and sync
 
-greeted-follows : (l : Learner) (epoch : ℤ) → FollowsItsLog l → FollowsItsLog (greeted l epoch).after
+greeted-follows : (l : Learner) (epoch : ℤ) → FollowsItsLog l → FollowsItsLog (accept_epoch l epoch).after
 greeted-follows l epoch f = by (int_lt l.accepted_epoch epoch)
   where
     by : (b : Bool) → FollowsItsLog (cond b (record {
-      acts = act.Epochs ∷ act.Send (epoch_answer l l.current_epoch) ∷ [];
+      acts = act.Epochs ∷ act.Send (ack_epoch l l.current_epoch) ∷ [];
       after = record l { phase = phase.Sync; accepted_epoch = epoch };
-    }) (one (act.Send (epoch_answer l (negsuc 0))) (at_phase l phase.Sync))).after
+    }) (single_act (act.Send (ack_epoch l (negsuc 0))) (at_phase l phase.Sync))).after
     by true = record { rising = f.rising; last = f.last; based = f.based; stands = tt }
     by false = moved l phase.Sync tt f
 
 info-follows : (l : Learner) (epoch : ℤ) (bytes : List ℕ) → FollowsItsLog l → Follows (leader_info l epoch bytes)
 info-follows l epoch bytes f = by (int_lt epoch l.accepted_epoch)
   where
-    read : (r : Result (ℤ × List ℕ) Fault) → Follows (r >>= λ version. Ok (greeted l epoch))
+    read : (r : Result (ℤ × List ℕ) Fault) → Follows (r >>= λ version. Ok (accept_epoch l epoch))
     read (Ok version) = greeted-follows l epoch f
     read (Err e) = tt
 
-    by : (b : Bool) → Follows (cond b (Err EpochTooSmall) (int.read bytes >>= λ version. Ok (greeted l epoch)))
+    by : (b : Bool) → Follows (cond b (Err EpochTooSmall) (int.read bytes >>= λ version. Ok (accept_epoch l epoch)))
     by true = tt
     by false = read (int.read bytes)
 
-hello-follows : (k : Option PacketKind) (l : Learner) (p : QuorumPacket) → FollowsItsLog l → Follows (hello k l p)
+hello-follows : (k : Option PacketKind) (l : Learner) (p : QuorumPacket) → FollowsItsLog l
+    → Follows (packet_in_hello k l p)
 hello-follows (Some kinds.LeaderInfo) l p f = info-follows l (epoch_of p.zxid) (carried_bytes p.bytes) f
 hello-follows k l p f = tt
 
@@ -133,15 +134,16 @@ last-kept : (base : ℤ) (kept : List Txn) → pos 0 ≤ℤ base
 last-kept base [] le = max_same base ∙ sym (max_left base (pos 0) le)
 last-kept base (t ∷ kept) le = refl
 
-truncate-follows : (l : Learner) (zxid : ℤ) → FollowsItsLog l → Follows (truncate l zxid)
+truncate-follows : (l : Learner) (zxid : ℤ) → FollowsItsLog l → Follows (truncate_log l zxid)
 truncate-follows l zxid f = by (int_lt zxid l.base_zxid)
   where
     by : (b : Bool) → Follows
-        (cond b (Err CannotTruncate) (Ok (one (act.Truncate zxid) (truncated l (up_to zxid l.log)))))
+        (cond b (Err CannotTruncate) (Ok
+        (single_act (act.Truncate zxid) (with_truncated_log l (txns_up_to zxid l.log)))))
     by true = tt
     by false = record {
       rising = rises-up_to zxid (pos 0) l.log f.rising;
-      last = last-kept l.base_zxid (up_to zxid l.log) f.based;
+      last = last-kept l.base_zxid (txns_up_to zxid l.log) f.based;
       based = f.based;
       stands = tt;
     }
@@ -150,11 +152,12 @@ await-follows : (l : Learner) (zxid : ℤ) → FollowsItsLog l → Follows (awai
 await-follows l zxid f = by (int_lt zxid (pos 0)) refl
   where
     by : (b : Bool) → int_lt zxid (pos 0) ≡ b
-        → Follows (cond b (Err OutOfOrder) (Ok (quiet (at_phase l (phase.Image zxid)))))
+        → Follows (cond b (Err OutOfOrder) (Ok (no_acts (at_phase l (phase.Image zxid)))))
     by true e = tt
     by false e = moved l (phase.Image zxid) (le_of zxid (pos 0) e) f
 
-sync-follows : (k : Option PacketKind) (l : Learner) (p : QuorumPacket) → FollowsItsLog l → Follows (sync k l p)
+sync-follows : (k : Option PacketKind) (l : Learner) (p : QuorumPacket) → FollowsItsLog l
+    → Follows (packet_in_sync k l p)
 sync-follows (Some kinds.Diff) l p f = moved l phase.Replay tt f
 sync-follows (Some kinds.Trunc) l p f = truncate-follows l p.zxid f
 sync-follows (Some kinds.Snap) l p f = await-follows l p.zxid f
@@ -162,7 +165,8 @@ sync-follows k l p f = tt
 
 -- ---- replay and serving
 
-replay-follows : (k : Option PacketKind) (l : Learner) (p : QuorumPacket) → FollowsItsLog l → Follows (replay k l p)
+replay-follows : (k : Option PacketKind) (l : Learner) (p : QuorumPacket) → FollowsItsLog l
+    → Follows (packet_in_replay k l p)
 replay-follows (Some kinds.Proposal) l p f = propose-follows l (carried_bytes p.bytes) f
 replay-follows (Some kinds.Commit) l p f = commit-follows l l.proposals p.zxid f
 replay-follows (Some kinds.Inform) l p f = inform-follows l (carried_bytes p.bytes) f
@@ -176,7 +180,8 @@ replay-follows (Some kinds.NewLeader) l p f = record {
 replay-follows (Some kinds.UpToDate) l p f = record { rising = f.rising; last = f.last; based = f.based; stands = tt }
 replay-follows k l p f = f
 
-serve-follows : (k : Option PacketKind) (l : Learner) (p : QuorumPacket) → FollowsItsLog l → Follows (serve k l p)
+serve-follows : (k : Option PacketKind) (l : Learner) (p : QuorumPacket) → FollowsItsLog l
+    → Follows (packet_in_serving k l p)
 serve-follows (Some kinds.Ping) l p f = f
 serve-follows (Some kinds.Inform) l p f = inform-follows l (carried_bytes p.bytes) f
 serve-follows k l p f = f
@@ -184,7 +189,7 @@ serve-follows k l p f = f
 -- ---- images
 
 load-follows : (p : ImagePart) (l : Learner) (zxid : ℤ) → pos 0 ≤ℤ zxid → FollowsItsLog l
-    → FollowsItsLog (load p l zxid).after
+    → FollowsItsLog (load_part p l zxid).after
 load-follows part.End l zxid le f = record {
   rising = tt;
   last = sym (max_left zxid (pos 0) le);
@@ -196,7 +201,7 @@ load-follows p l zxid le f = f
 
 -- ---- all of it
 
-packet-follows : (ph : Phase) (l : Learner) (p : QuorumPacket) → FollowsItsLog l → Follows (packet_in ph l p)
+packet-follows : (ph : Phase) (l : Learner) (p : QuorumPacket) → FollowsItsLog l → Follows (packet_in_phase ph l p)
 packet-follows phase.Down l p f = f
 packet-follows phase.Hello l p f = hello-follows (kind_of p.kind) l p f
 packet-follows phase.Sync l p f = sync-follows (kind_of p.kind) l p f
@@ -205,7 +210,8 @@ packet-follows (phase.ReplayOnImage applied) l p f = replay-follows (kind_of p.k
 packet-follows phase.Replay l p f = replay-follows (kind_of p.kind) l p f
 packet-follows phase.Serving l p f = serve-follows (kind_of p.kind) l p f
 
-part-follows : (ph : Phase) (l : Learner) (p : ImagePart) → Stands ph l.log → FollowsItsLog l → Follows (part_in ph l p)
+part-follows : (ph : Phase) (l : Learner) (p : ImagePart) → PhaseFitsLog ph l.log → FollowsItsLog l
+    → Follows (part_in_phase ph l p)
 part-follows phase.Down l p s f = f
 part-follows phase.Hello l p s f = tt
 part-follows phase.Sync l p s f = tt
@@ -214,7 +220,7 @@ part-follows (phase.ReplayOnImage applied) l p s f = f
 part-follows phase.Replay l p s f = f
 part-follows phase.Serving l p s f = f
 
-learn-follows : (l : Learner) (i : Item) → FollowsItsLog l → Follows (learn l i)
+learn-follows : (l : Learner) (i : Item) → FollowsItsLog l → Follows (learn_item l i)
 learn-follows l (item.Packet p) f = packet-follows l.phase l p f
 learn-follows l (item.Part p) f = part-follows l.phase l p f.stands f
 
@@ -229,14 +235,15 @@ last-above l f = subst (λ z. pos 0 ≤ℤ z) (sym f.last) (max_above l.base_zxi
 check-follows : (ph : Phase) (l : Learner) → l.phase ≡ ph → FollowsItsLog l → FollowsItsLog (checkpoint_in ph l)
 check-follows phase.Serving l e f =
     let le = last-above l f in
-    let stands : Stands l.phase [] = subst (λ (ph : Phase). Stands ph []) (sym e) tt in
+    let stands : PhaseFitsLog l.phase [] = subst (λ (ph : Phase). PhaseFitsLog ph []) (sym e) tt in
     record { rising = tt; last = sym (max_left l.last_zxid (pos 0) le); based = le; stands = stands }
 check-follows ph l e f = f
 
 made-follows : (epochs : EpochPair) → FollowsItsLog (new_learner epochs)
 made-follows epochs = record { rising = tt; last = refl; based = zero_le; stands = tt }
 
-learns-follow : (l : Learner) (i : Item) (x : Learned) → FollowsItsLog l → learn l i ≡ Ok x → FollowsItsLog x.after
+learns-follow : (l : Learner) (i : Item) (x : LearnerStep) → FollowsItsLog l → learn_item l i ≡ Ok x
+    → FollowsItsLog x.after
 learns-follow l i x f e = subst Follows e (learn-follows l i f)
 
 pub logs_are_followed : LogsAreFollowed

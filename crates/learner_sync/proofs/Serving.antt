@@ -10,62 +10,64 @@ use Rattle.quorum_packet.specs.declared.packet.QuorumPacket.{QuorumPacket}
 use Rattle.quorum_packet.specs.declared.kind.PacketKind.{PacketKind}
 use Rattle.quorum_packet.specs.declared.kind.PacketKind.TheVariants as kinds
 use Rattle.quorum_packet.specs.Kinds.{kind_of}
-use Rattle.txn_codec.specs.Spelling.{txn, whole}
+use Rattle.txn_codec.specs.Spelling.{txn_format, value_of_whole}
 use Rattle.txn_codec.specs.declared.txn.Txn.{Txn}
 use Rattle.learner_sync.specs.Learner.{Learner}
-use Rattle.learner_sync.specs.Learn.{Learned, one, carried_bytes, floor_in, phase_behind, with_applied, apply, inform, serve, packet_in, part_in, learn}
-use Rattle.learner_sync.specs.Laws.{IsOneMore, ServingRises}
+use Rattle.learner_sync.specs.Learn.{LearnerStep, single_act, carried_bytes, zxid_floor, phase_after_zxid, with_applied, apply_txn, learn_inform, packet_in_serving, packet_in_phase, part_in_phase, learn_item}
+use Rattle.learner_sync.specs.Laws.{HasOneMoreTxn, ServingRises}
 use Rattle.learner_sync.specs.declared.act.Act.TheVariants as act
 use Rattle.learner_sync.specs.declared.phase.Phase.{Phase}
 use Rattle.learner_sync.specs.declared.phase.Phase.TheVariants as phase
 use Rattle.learner_sync.proofs.Zxids.{lt_of, max_right}
 
 -- what isn't refused leaves the learner, or is one transaction more
-abbrev Goes : Learner → Result Learned Fault → Type 0
-Goes l (Ok x) = (x.after ≡ l) ⊎ IsOneMore l x
+abbrev Goes : Learner → Result LearnerStep Fault → Type 0
+Goes l (Ok x) = (x.after ≡ l) ⊎ HasOneMoreTxn l x
 Goes l (Err e) = Unit {0}
 
 -- a learner that applied a transaction, by what changes of it
-abbrev with_last : Learner → Txn → Phase → ℤ → Learned
-with_last l t ph last = one act.Apply (record l { phase = ph; last_zxid = last; log = l.log ++ t ∷ [] })
+abbrev with_last : Learner → Txn → Phase → ℤ → LearnerStep
+with_last l t ph last = single_act act.Apply (record l { phase = ph; last_zxid = last; log = l.log ++ t ∷ [] })
 
-one-more : (l : Learner) (t : Txn) → l.phase ≡ phase.Serving → floor_in l.phase l.last_zxid <ℤ t.header.zxid
-    → IsOneMore l (one act.Apply (with_applied l t))
+one-more : (l : Learner) (t : Txn) → l.phase ≡ phase.Serving → zxid_floor l.phase l.last_zxid <ℤ t.header.zxid
+    → HasOneMoreTxn l (single_act act.Apply (with_applied l t))
 one-more l t e above =
-    let over : l.last_zxid <ℤ t.header.zxid = subst (λ ph. floor_in ph l.last_zxid <ℤ t.header.zxid) e above in
+    let over : l.last_zxid <ℤ t.header.zxid = subst (λ ph. zxid_floor ph l.last_zxid <ℤ t.header.zxid) e above in
     record {
       txn = t;
       above = over;
       learnt =
           ap (λ ph. with_last l t ph (int_max l.last_zxid t.header.zxid))
-          (ap (λ ph. phase_behind ph t.header.zxid) e ∙ sym e)
+          (ap (λ ph. phase_after_zxid ph t.header.zxid) e ∙ sym e)
           ∙ ap (λ z. with_last l t l.phase z) (max_right l.last_zxid t.header.zxid over);
     }
 
-apply-goes : (l : Learner) (t : Txn) → l.phase ≡ phase.Serving → Goes l (apply l t)
-apply-goes l t e = by (int_lt (floor_in l.phase l.last_zxid) t.header.zxid) refl
+apply-goes : (l : Learner) (t : Txn) → l.phase ≡ phase.Serving → Goes l (apply_txn l t)
+apply-goes l t e = by (int_lt (zxid_floor l.phase l.last_zxid) t.header.zxid) refl
   where
-    by : (b : Bool) → int_lt (floor_in l.phase l.last_zxid) t.header.zxid ≡ b
-        → Goes l (cond b (Ok (one act.Apply (with_applied l t))) (Err OutOfOrder))
+    by : (b : Bool) → int_lt (zxid_floor l.phase l.last_zxid) t.header.zxid ≡ b
+        → Goes l (cond b (Ok (single_act act.Apply (with_applied l t))) (Err OutOfOrder))
     by true lt = inr (one-more l t e (lt_of _ _ lt))
     by false lt = tt
 
-inform-goes : (l : Learner) (bytes : List ℕ) → l.phase ≡ phase.Serving → Goes l (inform l bytes)
-inform-goes l bytes e = by (whole txn bytes)
+inform-goes : (l : Learner) (bytes : List ℕ) → l.phase ≡ phase.Serving → Goes l (learn_inform l bytes)
+inform-goes l bytes e = by (value_of_whole txn_format bytes)
   where
-    by : (r : Result Txn Fault) → Goes l (r >>= λ t. apply l t)
+    by : (r : Result Txn Fault) → Goes l (r >>= λ t. apply_txn l t)
     by (Ok t) = apply-goes l t e
     by (Err f) = tt
 
-serve-goes : (k : Option PacketKind) (l : Learner) (p : QuorumPacket) → l.phase ≡ phase.Serving → Goes l (serve k l p)
+serve-goes : (k : Option PacketKind) (l : Learner) (p : QuorumPacket) → l.phase ≡ phase.Serving
+    → Goes l (packet_in_serving k l p)
 serve-goes (Some kinds.Inform) l p e = inform-goes l (carried_bytes p.bytes) e
 serve-goes k l p e = inl refl
 
-learn-goes : (l : Learner) (i : Item) → l.phase ≡ phase.Serving → Goes l (learn l i)
-learn-goes l (item.Packet p) e = subst (λ ph. Goes l (packet_in ph l p)) (sym e) (serve-goes (kind_of p.kind) l p e)
+learn-goes : (l : Learner) (i : Item) → l.phase ≡ phase.Serving → Goes l (learn_item l i)
+learn-goes l (item.Packet p) e =
+    subst (λ ph. Goes l (packet_in_phase ph l p)) (sym e) (serve-goes (kind_of p.kind) l p e)
 learn-goes l (item.Part p) e =
-    let left : Goes l (part_in phase.Serving l p) = inl refl in
-    subst (λ ph. Goes l (part_in ph l p)) (sym e) left
+    let left : Goes l (part_in_phase phase.Serving l p) = inl refl in
+    subst (λ ph. Goes l (part_in_phase ph l p)) (sym e) left
 
 pub serving_rises : ServingRises
 serving_rises l i x e learnt = subst (Goes l) learnt (learn-goes l i e)

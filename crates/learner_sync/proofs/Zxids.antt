@@ -5,8 +5,8 @@ use Rattle.std.specs.Int.{int_max}
 use Rattle.std.proofs.lemmas.Int.{ints, clamps}
 use lib.Signed.{lt_z_yes}
 use Rattle.txn_codec.specs.declared.txn.Txn.{Txn}
-use Rattle.learner_sync.specs.Learn.{up_to, zxid_after}
-use Rattle.learner_sync.specs.Laws.{Rises}
+use Rattle.learner_sync.specs.Learn.{txns_up_to, zxid_after}
+use Rattle.learner_sync.specs.Laws.{ZxidsRise}
 
 -- ---- numbers
 
@@ -53,40 +53,42 @@ pub zxid-push : (zxid : ℤ) (log : List Txn) (t : Txn) → zxid_after zxid (log
 zxid-push zxid [] t = refl
 zxid-push zxid (u ∷ log) t = zxid-push u.header.zxid log t
 
-pub rises-push : (zxid : ℤ) (log : List Txn) (t : Txn) → Rises zxid log → zxid_after zxid log <ℤ t.header.zxid
-    → Rises zxid (log ++ t ∷ [])
+pub rises-push : (zxid : ℤ) (log : List Txn) (t : Txn) → ZxidsRise zxid log → zxid_after zxid log <ℤ t.header.zxid
+    → ZxidsRise zxid (log ++ t ∷ [])
 rises-push zxid [] t r lt = (lt, tt)
 rises-push zxid (u ∷ log) t r lt = (r.0, rises-push u.header.zxid log t r.1 lt)
 
 -- ---- what is up to a zxid
 
-rises-from : (a b : ℤ) (log : List Txn) → a <ℤ b → Rises b log → Rises a log
+rises-from : (a b : ℤ) (log : List Txn) → a <ℤ b → ZxidsRise b log → ZxidsRise a log
 rises-from a b [] lt r = tt
 rises-from a b (t ∷ log) lt r = (omega (arith, ints, lt, r.0), r.1)
 
-pub rises-up_to : (zxid a : ℤ) (log : List Txn) → Rises a log → Rises a (up_to zxid log)
+pub rises-up_to : (zxid a : ℤ) (log : List Txn) → ZxidsRise a log → ZxidsRise a (txns_up_to zxid log)
 rises-up_to zxid a [] r = tt
 rises-up_to zxid a (t ∷ log) r = by (int_le t.header.zxid zxid) (rises-up_to zxid t.header.zxid log r.1)
   where
-    by : (b : Bool) → Rises t.header.zxid (up_to zxid log) → Rises a (cond b (t ∷ up_to zxid log) (up_to zxid log))
+    by : (b : Bool) → ZxidsRise t.header.zxid (txns_up_to zxid log)
+        → ZxidsRise a (cond b (t ∷ txns_up_to zxid log) (txns_up_to zxid log))
     by true others = (r.0, others)
-    by false others = rises-from a t.header.zxid (up_to zxid log) r.0 others
+    by false others = rises-from a t.header.zxid (txns_up_to zxid log) r.0 others
 
 -- nothing is, where all is above it
-none-up_to : (zxid a : ℤ) (log : List Txn) → zxid <ℤ a → Rises a log → up_to zxid log ≡ []
+none-up_to : (zxid a : ℤ) (log : List Txn) → zxid <ℤ a → ZxidsRise a log → txns_up_to zxid log ≡ []
 none-up_to zxid a [] lt r = refl
 none-up_to zxid a (t ∷ log) lt r =
     let above : zxid <ℤ t.header.zxid = omega (arith, ints, lt, r.0) in
     let out : int_le t.header.zxid zxid ≡ false = grind (arith, ints) in
-    ap (λ b. cond b (t ∷ up_to zxid log) (up_to zxid log)) out ∙ none-up_to zxid t.header.zxid log above r.1
+    ap (λ b. cond b (t ∷ txns_up_to zxid log) (txns_up_to zxid log)) out ∙ none-up_to zxid t.header.zxid log above r.1
 
-pub front-up_to : (zxid a : ℤ) (log : List Txn) → Rises a log → (above : List Txn) × (log ≡ up_to zxid log ++ above)
+pub front-up_to : (zxid a : ℤ) (log : List Txn) → ZxidsRise a log
+    → (above : List Txn) × (log ≡ txns_up_to zxid log ++ above)
 front-up_to zxid a [] r = ([], refl)
 front-up_to zxid a (t ∷ log) r = by (int_le t.header.zxid zxid) refl (front-up_to zxid t.header.zxid log r.1)
   where
     by : (b : Bool) → int_le t.header.zxid zxid ≡ b
-        → ((above : List Txn) × (log ≡ up_to zxid log ++ above))
-        → (above : List Txn) × (t ∷ log ≡ cond b (t ∷ up_to zxid log) (up_to zxid log) ++ above)
+        → ((above : List Txn) × (log ≡ txns_up_to zxid log ++ above))
+        → (above : List Txn) × (t ∷ log ≡ cond b (t ∷ txns_up_to zxid log) (txns_up_to zxid log) ++ above)
     by true e others = (others.0, ap (λ l. t ∷ l) others.1)
     by false e others =
         let lt : zxid <ℤ t.header.zxid = grind (arith, ints) in

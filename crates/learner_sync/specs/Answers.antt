@@ -12,8 +12,8 @@ abbrev pub protocol_version : ℤ
 protocol_version = pos 0x10000
 
 -- a learner introduces itself, with the epoch that it has accepted
-abbrev pub introduction : Learner → ℤ → QuorumPacket
-introduction l server_id = record {
+abbrev pub observer_info : Learner → ℤ → QuorumPacket
+observer_info l server_id = record {
   kind = code_of kinds.ObserverInfo;
   zxid = first_zxid l.accepted_epoch;
   bytes = Some (learner_info.written (record { server_id = server_id; protocol_version = protocol_version }));
@@ -21,8 +21,8 @@ introduction l server_id = record {
 }
 
 -- the leader's epoch is answered with how far the learner is, and an epoch
-abbrev pub epoch_answer : Learner → ℤ → QuorumPacket
-epoch_answer l epoch = record {
+abbrev pub ack_epoch : Learner → ℤ → QuorumPacket
+ack_epoch l epoch = record {
   kind = code_of kinds.AckEpoch;
   zxid = l.last_zxid;
   bytes = Some (int.written epoch);
@@ -30,8 +30,8 @@ epoch_answer l epoch = record {
 }
 
 -- the leader's epoch is acknowledged
-abbrev pub acknowledgement : Learner → QuorumPacket
-acknowledgement l = record {
+abbrev pub epoch_ack : Learner → QuorumPacket
+epoch_ack l = record {
   kind = code_of kinds.Ack;
   zxid = first_zxid l.accepted_epoch;
   bytes = None;
@@ -39,5 +39,5 @@ acknowledgement l = record {
 }
 
 -- a PING comes back as it is, but without what it carried
-abbrev pub ping_answer : QuorumPacket → QuorumPacket
-ping_answer p = record p { bytes = Some [] }
+abbrev pub ping_reply : QuorumPacket → QuorumPacket
+ping_reply p = record p { bytes = Some [] }

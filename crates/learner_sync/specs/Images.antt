@@ -10,7 +10,7 @@ use Rattle.snapshot_codec.specs.Parts.{Part, is_end}
 use Rattle.snapshot_codec.specs.declared.part.ImagePart.{ImagePart}
 use Rattle.snapshot_codec.specs.declared.part.ImagePart.TheVariants as part
 use Rattle.learner_sync.specs.Learner.{Learner}
-use Rattle.learner_sync.specs.Learn.{Learned, quiet, with_image, learn}
+use Rattle.learner_sync.specs.Learn.{LearnerStep, no_acts, with_image_zxid, learn_item}
 use Rattle.learner_sync.specs.declared.act.Act.{Act}
 use Rattle.learner_sync.specs.declared.act.Act.TheVariants as act
 use Rattle.learner_sync.specs.declared.phase.Phase.{Phase}
@@ -18,13 +18,13 @@ use Rattle.learner_sync.specs.declared.phase.Phase.TheVariants as phase
 
 -- ---- items one behind the other: what is to be done for each, in order; the first refusal ends it
 
-abbrev pub behind : List Act → Result Learned Fault → Result Learned Fault
-behind acts (Ok x) = Ok (record { acts = acts ++ x.acts; after = x.after })
-behind acts (Err e) = Err e
+abbrev pub prepend_acts : List Act → Result LearnerStep Fault → Result LearnerStep Fault
+prepend_acts acts (Ok x) = Ok (record { acts = acts ++ x.acts; after = x.after })
+prepend_acts acts (Err e) = Err e
 
-abbrev pub learn_all : Learner → List Item → Result Learned Fault
-learn_all l [] = Ok (quiet l)
-learn_all l (i ∷ others) = learn l i >>= λ x. behind x.acts (learn_all x.after others)
+abbrev pub learn_all : Learner → List Item → Result LearnerStep Fault
+learn_all l [] = Ok (no_acts l)
+learn_all l (i ∷ others) = learn_item l i >>= λ x. prepend_acts x.acts (learn_all x.after others)
 
 -- ---- an image as one item: the parts before its end
 
@@ -35,20 +35,22 @@ abbrev pub items_of : List ImagePart → List Item
 items_of parts = map item.Part parts ++ item.Part part.End ∷ []
 
 -- its parts are loaded, and then the last thing is done with it
-abbrev pub loads : List ImagePart → Act → List Act
-loads parts last = map act.LoadPart parts ++ last ∷ []
+abbrev pub acts_of_image : List ImagePart → Act → List Act
+acts_of_image parts last = map act.LoadPart parts ++ last ∷ []
 
-abbrev pub image_in : Phase → Learner → List ImagePart → Result Learned Fault
-image_in phase.Down l parts = Ok (record { acts = loads parts act.DropImage; after = l })
-image_in phase.Hello l parts = Err UnexpectedPacket
-image_in phase.Sync l parts = Err UnexpectedPacket
-image_in (phase.Image zxid) l parts = Ok (record { acts = loads parts act.LoadImage; after = with_image l zxid })
-image_in (phase.ReplayOnImage applied) l parts = Ok (record { acts = loads parts act.DropImage; after = l })
-image_in phase.Replay l parts = Ok (record { acts = loads parts act.DropImage; after = l })
-image_in phase.Serving l parts = Ok (record { acts = loads parts act.DropImage; after = l })
+abbrev pub image_in_phase : Phase → Learner → List ImagePart → Result LearnerStep Fault
+image_in_phase phase.Down l parts = Ok (record { acts = acts_of_image parts act.DropImage; after = l })
+image_in_phase phase.Hello l parts = Err UnexpectedPacket
+image_in_phase phase.Sync l parts = Err UnexpectedPacket
+image_in_phase (phase.Image zxid) l parts =
+    Ok (record { acts = acts_of_image parts act.LoadImage; after = with_image_zxid l zxid })
+image_in_phase (phase.ReplayOnImage applied) l parts =
+    Ok (record { acts = acts_of_image parts act.DropImage; after = l })
+image_in_phase phase.Replay l parts = Ok (record { acts = acts_of_image parts act.DropImage; after = l })
+image_in_phase phase.Serving l parts = Ok (record { acts = acts_of_image parts act.DropImage; after = l })
 
-abbrev pub learn_image : Learner → List ImagePart → Result Learned Fault
-learn_image l parts = image_in l.phase l parts
+abbrev pub learn_image : Learner → List ImagePart → Result LearnerStep Fault
+learn_image l parts = image_in_phase l.phase l parts
 
 -- the parts of an image, one behind the other, do what the whole image does
 abbrev pub PartsAreTheImage : Type 0

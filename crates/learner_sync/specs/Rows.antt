@@ -1,6 +1,6 @@
 -- Steps that were worked out by hand.
 use Rattle.std.specs.Prelude.{◌≡◌, ℕ, ◌+◌, ℤ, pos, negsuc, false, List, [], ◌∷◌, Option, Some, None, Ok, Err, codes}
-use Rattle.values.specs.Hex.{spelled}
+use Rattle.values.specs.Hex.{hex_bytes}
 use Rattle.values.specs.declared.fault.Fault.TheVariants.{Short, OutOfOrder, CommitMismatch, CannotTruncate, EpochTooSmall, UnexpectedPacket}
 use Rattle.quorum_packet.specs.declared.item.Item.{Item}
 use Rattle.quorum_packet.specs.declared.item.Item.TheVariants as item
@@ -12,31 +12,31 @@ use Rattle.txn_codec.specs.declared.txn.Txn.{Txn}
 use Rattle.txn_codec.specs.declared.txn.Body.TheVariants as bodies
 use Rattle.snapshot_codec.specs.declared.part.ImagePart.TheVariants as part
 use Rattle.learner_sync.specs.Learner.{Learner, new_learner}
-use Rattle.learner_sync.specs.Learn.{one, quiet, start, learn, apply}
+use Rattle.learner_sync.specs.Learn.{single_act, no_acts, start_following, learn_item, apply_txn}
 use Rattle.learner_sync.specs.declared.act.Act.TheVariants as act
 use Rattle.learner_sync.specs.declared.phase.Phase.{Phase}
 use Rattle.learner_sync.specs.declared.phase.Phase.TheVariants as phase
 
 -- the zxid of the first epoch with this counter
-abbrev pub at : ℕ → ℤ
-at counter = pos (0x100000000 + counter)
+abbrev pub zxid_at : ℕ → ℤ
+zxid_at counter = pos (0x100000000 + counter)
 
 abbrev pub txn_at : ℕ → Txn
 txn_at counter = record {
-  header = record { client_id = pos 7; cxid = pos 1; zxid = at counter; time = pos 1000 };
+  header = record { client_id = pos 7; cxid = pos 1; zxid = zxid_at counter; time = pos 1000 };
   body = bodies.CloseSession;
 }
 
-abbrev pub sent : ℤ → ℤ → Option (List ℕ) → QuorumPacket
-sent kind zxid bytes = record { kind = kind; zxid = zxid; bytes = bytes; authinfo = None }
+abbrev pub sent_packet : ℤ → ℤ → Option (List ℕ) → QuorumPacket
+sent_packet kind zxid bytes = record { kind = kind; zxid = zxid; bytes = bytes; authinfo = None }
 
 -- a packet of that kind
-abbrev pub packet : PacketKind → ℤ → Option (List ℕ) → Item
-packet kind zxid bytes = item.Packet (sent (code_of kind) zxid bytes)
+abbrev pub packet_item : PacketKind → ℤ → Option (List ℕ) → Item
+packet_item kind zxid bytes = item.Packet (sent_packet (code_of kind) zxid bytes)
 
 -- one that was led through the first epoch
-abbrev pub learner : Phase → ℤ → ℤ → List Txn → List Txn → Learner
-learner phase last base log proposals = record {
+abbrev pub learner_in_phase : Phase → ℤ → ℤ → List Txn → List Txn → Learner
+learner_in_phase phase last base log proposals = record {
   phase = phase;
   accepted_epoch = pos 1;
   current_epoch = pos 1;
@@ -47,77 +47,84 @@ learner phase last base log proposals = record {
   is_complete = false;
 }
 
-abbrev pub version : Option (List ℕ)
-version = Some (spelled (codes "00010000"))
+abbrev pub version_bytes : Option (List ℕ)
+version_bytes = Some (hex_bytes (codes "00010000"))
 
-abbrev pub greeting : Learner
-greeting = learner phase.Hello (pos 0) (pos 0) [] []
+abbrev pub learner_in_hello : Learner
+learner_in_hello = learner_in_phase phase.Hello (pos 0) (pos 0) [] []
 
 -- base at 3, and then 4 and 5
-abbrev pub two_more : Learner
-two_more = learner phase.Sync (at 5) (at 3) (txn_at 4 ∷ txn_at 5 ∷ []) []
+abbrev pub learner_with_log : Learner
+learner_with_log = learner_in_phase phase.Sync (zxid_at 5) (zxid_at 3) (txn_at 4 ∷ txn_at 5 ∷ []) []
 
 -- on an image at 5, whose SNAP came before what the leader did meanwhile
-abbrev pub on_image : Learner
-on_image = learner (phase.ReplayOnImage (pos 0)) (at 5) (at 5) [] (txn_at 4 ∷ [])
+abbrev pub learner_on_image : Learner
+learner_on_image = learner_in_phase (phase.ReplayOnImage (pos 0)) (zxid_at 5) (zxid_at 5) [] (txn_at 4 ∷ [])
 
-abbrev pub proposed : Learner
-proposed = learner phase.Replay (pos 0) (pos 0) [] (txn_at 1 ∷ txn_at 2 ∷ [])
+abbrev pub learner_with_proposals : Learner
+learner_with_proposals = learner_in_phase phase.Replay (pos 0) (pos 0) [] (txn_at 1 ∷ txn_at 2 ∷ [])
 
 pub record WorkedRows : Type 0 where
   pub introduced :
-      start (new_learner (record { accepted = pos 0; current = pos 0 })) (pos 3)
-      ≡ one (act.Send (sent (pos 16) (pos 0) (Some (spelled (codes "0000000000000003 00010000")))))
+      start_following (new_learner (record { accepted = pos 0; current = pos 0 })) (pos 3)
+      ≡ single_act (act.Send (sent_packet (pos 16) (pos 0) (Some (hex_bytes (codes "0000000000000003 00010000")))))
       (record (new_learner (record { accepted = pos 0; current = pos 0 })) { phase = phase.Hello })
   -- the epoch that was accepted before
   pub same_epoch :
-      learn greeting (packet kinds.LeaderInfo (at 0) version)
-      ≡ Ok (one (act.Send (sent (pos 18) (pos 0) (Some (spelled (codes "ffffffff")))))
-      (record greeting { phase = phase.Sync }))
+      learn_item learner_in_hello (packet_item kinds.LeaderInfo (zxid_at 0) version_bytes)
+      ≡ Ok (single_act (act.Send (sent_packet (pos 18) (pos 0) (Some (hex_bytes (codes "ffffffff")))))
+      (record learner_in_hello { phase = phase.Sync }))
   pub greater_epoch :
-      learn greeting (packet kinds.LeaderInfo (pos 0x200000000) version)
+      learn_item learner_in_hello (packet_item kinds.LeaderInfo (pos 0x200000000) version_bytes)
       ≡ Ok (record {
-        acts = act.Epochs ∷ act.Send (sent (pos 18) (pos 0) (Some (spelled (codes "00000001")))) ∷ [];
-        after = record greeting { phase = phase.Sync; accepted_epoch = pos 2 };
+        acts = act.Epochs ∷ act.Send (sent_packet (pos 18) (pos 0) (Some (hex_bytes (codes "00000001")))) ∷ [];
+        after = record learner_in_hello { phase = phase.Sync; accepted_epoch = pos 2 };
       })
   -- the epoch is judged before what the packet carries
-  pub smaller_epoch : learn greeting (packet kinds.LeaderInfo (pos 0) None) ≡ Err EpochTooSmall
-  pub no_version : learn greeting (packet kinds.LeaderInfo (pos 0x200000000) None) ≡ Err Short
-  pub too_early : learn greeting (packet kinds.Diff (at 0) None) ≡ Err UnexpectedPacket
+  pub smaller_epoch : learn_item learner_in_hello (packet_item kinds.LeaderInfo (pos 0) None) ≡ Err EpochTooSmall
+  pub no_version : learn_item learner_in_hello (packet_item kinds.LeaderInfo (pos 0x200000000) None) ≡ Err Short
+  pub too_early : learn_item learner_in_hello (packet_item kinds.Diff (zxid_at 0) None) ≡ Err UnexpectedPacket
   pub truncated_to_base :
-      learn two_more (packet kinds.Trunc (at 3) None)
-      ≡ Ok (one (act.Truncate (at 3)) (learner phase.Replay (at 3) (at 3) [] []))
+      learn_item learner_with_log (packet_item kinds.Trunc (zxid_at 3) None)
+      ≡ Ok (single_act (act.Truncate (zxid_at 3)) (learner_in_phase phase.Replay (zxid_at 3) (zxid_at 3) [] []))
   pub one_kept :
-      learn two_more (packet kinds.Trunc (at 4) None)
-      ≡ Ok (one (act.Truncate (at 4)) (learner phase.Replay (at 4) (at 3) (txn_at 4 ∷ []) []))
-  pub below_base : learn two_more (packet kinds.Trunc (at 2) None) ≡ Err CannotTruncate
+      learn_item learner_with_log (packet_item kinds.Trunc (zxid_at 4) None)
+      ≡ Ok (single_act (act.Truncate (zxid_at 4))
+      (learner_in_phase phase.Replay (zxid_at 4) (zxid_at 3) (txn_at 4 ∷ []) []))
+  pub below_base : learn_item learner_with_log (packet_item kinds.Trunc (zxid_at 2) None) ≡ Err CannotTruncate
   -- a transaction below the base is kept, and the last zxid is the base's
   pub base_is_greater :
-      learn (learner phase.Sync (at 6) (at 5) (txn_at 4 ∷ txn_at 6 ∷ []) []) (packet kinds.Trunc (at 5) None)
-      ≡ Ok (one (act.Truncate (at 5)) (learner phase.Replay (at 5) (at 5) (txn_at 4 ∷ []) []))
-  pub below_zero : learn two_more (packet kinds.Snap (negsuc 0) None) ≡ Err OutOfOrder
+      learn_item (learner_in_phase phase.Sync (zxid_at 6) (zxid_at 5) (txn_at 4 ∷ txn_at 6 ∷ []) [])
+      (packet_item kinds.Trunc (zxid_at 5) None)
+      ≡ Ok (single_act (act.Truncate (zxid_at 5))
+      (learner_in_phase phase.Replay (zxid_at 5) (zxid_at 5) (txn_at 4 ∷ []) []))
+  pub below_zero : learn_item learner_with_log (packet_item kinds.Snap (negsuc 0) None) ≡ Err OutOfOrder
   pub image_comes :
-      learn two_more (packet kinds.Snap (at 5) None) ≡ Ok (quiet (record two_more { phase = phase.Image (at 5) }))
+      learn_item learner_with_log (packet_item kinds.Snap (zxid_at 5) None)
+      ≡ Ok (no_acts (record learner_with_log { phase = phase.Image (zxid_at 5) }))
   pub image_is_whole :
-      learn (record two_more { phase = phase.Image (at 7) }) (item.Part part.End)
-      ≡ Ok (one act.LoadImage (learner (phase.ReplayOnImage (pos 0)) (at 7) (at 7) [] []))
+      learn_item (record learner_with_log { phase = phase.Image (zxid_at 7) }) (item.Part part.End)
+      ≡ Ok (single_act act.LoadImage (learner_in_phase (phase.ReplayOnImage (pos 0)) (zxid_at 7) (zxid_at 7) [] []))
   -- what may be in the image already doesn't lower the last zxid
   pub in_the_image :
-      learn on_image (packet kinds.Commit (at 4) None)
-      ≡ Ok (one act.Apply (learner (phase.ReplayOnImage (at 4)) (at 5) (at 5) (txn_at 4 ∷ []) []))
-  pub out_of_order : apply (record on_image { phase = phase.Serving }) (txn_at 4) ≡ Err OutOfOrder
-  pub other_commit : learn proposed (packet kinds.Commit (at 2) None) ≡ Err CommitMismatch
+      learn_item learner_on_image (packet_item kinds.Commit (zxid_at 4) None)
+      ≡ Ok (single_act act.Apply (learner_in_phase (phase.ReplayOnImage (zxid_at 4)) (zxid_at 5) (zxid_at 5)
+      (txn_at 4 ∷ []) []))
+  pub out_of_order : apply_txn (record learner_on_image { phase = phase.Serving }) (txn_at 4) ≡ Err OutOfOrder
+  pub other_commit : learn_item learner_with_proposals (packet_item kinds.Commit (zxid_at 2) None) ≡ Err CommitMismatch
   pub oldest_commit :
-      learn proposed (packet kinds.Commit (at 1) None)
-      ≡ Ok (one act.Apply (learner phase.Replay (at 1) (pos 0) (txn_at 1 ∷ []) (txn_at 2 ∷ [])))
-  pub none_proposed : learn (record proposed { proposals = [] }) (packet kinds.Commit (at 2) None) ≡ Err CommitMismatch
+      learn_item learner_with_proposals (packet_item kinds.Commit (zxid_at 1) None)
+      ≡ Ok (single_act act.Apply (learner_in_phase phase.Replay (zxid_at 1) (pos 0) (txn_at 1 ∷ []) (txn_at 2 ∷ [])))
+  pub none_proposed : learn_item (record learner_with_proposals { proposals = [] })
+      (packet_item kinds.Commit (zxid_at 2) None) ≡ Err CommitMismatch
   pub up_to_date :
-      learn proposed (packet kinds.UpToDate (at 0) None)
+      learn_item learner_with_proposals (packet_item kinds.UpToDate (zxid_at 0) None)
       ≡ Ok (record {
-        acts = act.Epochs ∷ act.Send (sent (pos 3) (at 0) None) ∷ act.ServeFrom ∷ [];
-        after = learner phase.Serving (pos 0) (pos 0) [] [];
+        acts = act.Epochs ∷ act.Send (sent_packet (pos 3) (zxid_at 0) None) ∷ act.ServeFrom ∷ [];
+        after = learner_in_phase phase.Serving (pos 0) (pos 0) [] [];
       })
   -- null comes back with length 0
   pub ping :
-      learn (learner phase.Serving (at 2) (pos 0) [] []) (packet kinds.Ping (at 2) None)
-      ≡ Ok (one (act.Send (sent (pos 5) (at 2) (Some []))) (learner phase.Serving (at 2) (pos 0) [] []))
+      learn_item (learner_in_phase phase.Serving (zxid_at 2) (pos 0) [] []) (packet_item kinds.Ping (zxid_at 2) None)
+      ≡ Ok (single_act (act.Send (sent_packet (pos 5) (zxid_at 2) (Some [])))
+      (learner_in_phase phase.Serving (zxid_at 2) (pos 0) [] []))

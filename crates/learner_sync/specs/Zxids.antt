@@ -4,13 +4,13 @@ use Rattle.std.specs.Prelude.{ℤ, pos, ◌*ℤ◌, ◌^◌}
 use Rattle.std.specs.Int.{int_div_euclid}
 
 -- how many zxids an epoch has
-abbrev pub counters : ℤ
-counters = pos (2 ^ 32)
+abbrev pub zxids_per_epoch : ℤ
+zxids_per_epoch = pos (2 ^ 32)
 
 -- the quotient, rounded down
 abbrev pub epoch_of : ℤ → ℤ
-epoch_of zxid = int_div_euclid zxid counters
+epoch_of zxid = int_div_euclid zxid zxids_per_epoch
 
 -- the zxid with which an epoch begins
 abbrev pub first_zxid : ℤ → ℤ
-first_zxid epoch = epoch *ℤ counters
+first_zxid epoch = epoch *ℤ zxids_per_epoch

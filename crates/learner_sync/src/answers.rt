@@ -1,7 +1,7 @@
 //! What a learner sends to its leader, and acts in a list.
 
 ghost use Rattle.std.specs.Prelude.{◌≡◌, ◌∷◌, [], IfOk};
-ghost use Rattle.learner_sync.specs.Answers.{introduction, epoch_answer, acknowledgement, ping_answer};
+ghost use Rattle.learner_sync.specs.Answers.{observer_info, ack_epoch, epoch_ack, ping_reply};
 
 use crate::act::Act;
 use crate::learner::Learner;
@@ -17,14 +17,14 @@ use values::{Blob, Listed, NoMemory};
 const PROTOCOL_VERSION: i32 = 0x1_0000;
 
 // A list of one act.
-pub fn one(alloc: Global, act: Act) -> Result<Listed<Act>, NoMemory>
+pub fn act_list(alloc: Global, act: Act) -> Result<Listed<Act>, NoMemory>
     ensures { IfOk result (λ acts. acts ≡ act ∷ []) }
 {
     Ok(Listed::from_vec(vec![in alloc; act]?))
 }
 
 // A list of no act, which takes no memory.
-pub fn none(alloc: Global) -> Listed<Act>
+pub fn empty_act_list(alloc: Global) -> Listed<Act>
     ensures { result ≡ [] }
 {
     Listed::from_vec(Vec::new(alloc))
@@ -38,7 +38,7 @@ impl Learner {
         alloc: Global,
         server_id: ServerId,
     ) -> Result<QuorumPacket, NoMemory>
-        ensures { IfOk result (λ p. p ≡ introduction self.now server_id) }
+        ensures { IfOk result (λ p. p ≡ observer_info self.now server_id) }
     {
         let info = LearnerInfo {
             server_id: i64::from(server_id.number()),
@@ -56,7 +56,7 @@ impl Learner {
 
     // The answer to the leader's epoch, with the learner's current one or -1.
     pub(crate) fn epoch_answer(&self, alloc: Global, epoch: i32) -> Result<QuorumPacket, NoMemory>
-        ensures { IfOk result (λ p. p ≡ epoch_answer self.now epoch) }
+        ensures { IfOk result (λ p. p ≡ ack_epoch self.now epoch) }
     {
         let mut bytes = Vec::with_capacity(alloc, 4)?;
         put_int(&mut bytes, epoch)?;
@@ -70,7 +70,7 @@ impl Learner {
 
     // The packet that acknowledges the leader's epoch.
     pub(crate) fn acknowledgement(&self) -> QuorumPacket
-        ensures { result ≡ acknowledgement self.now }
+        ensures { result ≡ epoch_ack self.now }
     {
         QuorumPacket {
             kind: PacketKind::Ack.code(),
@@ -83,7 +83,7 @@ impl Learner {
 
 // The answer to a PING, which takes no memory.
 pub fn ping_answer(alloc: Global, packet: QuorumPacket) -> QuorumPacket
-    ensures { result ≡ ping_answer packet }
+    ensures { result ≡ ping_reply packet }
 {
     QuorumPacket {
         bytes: Some(Blob::from_vec(Vec::new(alloc))),

@@ -2,10 +2,10 @@
 
 ghost use Rattle.std.specs.Prelude.{◌≡◌};
 ghost use Rattle.quorum_packet.specs.Kinds.{kind_of};
-ghost use Rattle.learner_sync.specs.Learn.{Learns, carried_bytes, leader_info, hello, truncate, await_image, sync};
+ghost use Rattle.learner_sync.specs.Learn.{LearnsItem, carried_bytes, leader_info, packet_in_hello, truncate_log, await_image, packet_in_sync};
 
 use crate::act::Act;
-use crate::answers::{none, one};
+use crate::answers::{act_list, empty_act_list};
 use crate::learner::Learner;
 use crate::logged::{keep_up_to, zxid_after};
 use crate::phase::Phase;
@@ -33,7 +33,7 @@ impl Learner {
         epoch: i32,
         bytes: &[u8],
     ) -> Result<Listed<Act>, ReadError>
-        ensures { Learns result (leader_info self.old epoch bytes.now) self.old self.new }
+        ensures { LearnsItem result (leader_info self.old epoch bytes.now) self.old self.new }
     {
         if epoch < self.accepted_epoch {
             return Err(ReadError::Fault(Fault::EpochTooSmall));
@@ -48,7 +48,7 @@ impl Learner {
             return Ok(Listed::from_vec(acts));
         }
         let answer = self.epoch_answer(alloc, -1)?;
-        let acts = one(alloc, Act::Send(answer))?;
+        let acts = act_list(alloc, Act::Send(answer))?;
         self.phase = Phase::Sync;
         Ok(acts)
     }
@@ -59,7 +59,7 @@ impl Learner {
         alloc: Global,
         packet: &QuorumPacket,
     ) -> Result<Listed<Act>, ReadError>
-        ensures { Learns result (hello (kind_of packet.now.kind) self.old packet.now) self.old self.new }
+        ensures { LearnsItem result (packet_in_hello (kind_of packet.now.kind) self.old packet.now) self.old self.new }
     {
         match PacketKind::from_code(packet.kind) {
             Some(PacketKind::LeaderInfo) => {
@@ -89,12 +89,12 @@ impl Learner {
 
     // The transactions above the zxid are forgotten.
     fn truncate(&mut self, alloc: Global, zxid: i64) -> Result<Listed<Act>, ReadError>
-        ensures { Learns result (truncate self.old zxid) self.old self.new }
+        ensures { LearnsItem result (truncate_log self.old zxid) self.old self.new }
     {
         if zxid < self.base_zxid {
             return Err(ReadError::Fault(Fault::CannotTruncate));
         }
-        let acts = one(alloc, Act::Truncate(zxid))?;
+        let acts = act_list(alloc, Act::Truncate(zxid))?;
         keep_up_to(&mut self.log, zxid);
         let last_kept = zxid_after(self.base_zxid, self.log.as_slice());
         self.last_zxid = self.base_zxid.max(last_kept);
@@ -105,13 +105,13 @@ impl Learner {
 
     // An image is to come.
     fn await_image(&mut self, alloc: Global, zxid: i64) -> Result<Listed<Act>, ReadError>
-        ensures { Learns result (await_image self.old zxid) self.old self.new }
+        ensures { LearnsItem result (await_image self.old zxid) self.old self.new }
     {
         if zxid < 0 {
             return Err(ReadError::Fault(Fault::OutOfOrder));
         }
         self.phase = Phase::Image(zxid);
-        Ok(none(alloc))
+        Ok(empty_act_list(alloc))
     }
 
     /// The leader is to say how it brings the learner up to date.
@@ -120,12 +120,12 @@ impl Learner {
         alloc: Global,
         packet: &QuorumPacket,
     ) -> Result<Listed<Act>, ReadError>
-        ensures { Learns result (sync (kind_of packet.now.kind) self.old packet.now) self.old self.new }
+        ensures { LearnsItem result (packet_in_sync (kind_of packet.now.kind) self.old packet.now) self.old self.new }
     {
         match PacketKind::from_code(packet.kind) {
             Some(PacketKind::Diff) => {
                 self.phase = Phase::Replay;
-                Ok(none(alloc))
+                Ok(empty_act_list(alloc))
             }
             Some(PacketKind::Trunc) => self.truncate(alloc, packet.zxid),
             Some(PacketKind::Snap) => self.await_image(alloc, packet.zxid),

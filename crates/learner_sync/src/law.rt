@@ -1,14 +1,14 @@
 //! Laws of learners.
 
-ghost use Rattle.jute.specs.Laws.{Sound};
+ghost use Rattle.jute.specs.Laws.{IsSound};
 ghost use Rattle.learner_sync.specs.Images.{PartsAreTheImage};
-ghost use Rattle.learner_sync.specs.Laws.{LogsAreFollowed, TruncatesToFronts, EpochsDontFall, ServingRises, ActsTell};
+ghost use Rattle.learner_sync.specs.Laws.{LogsAreFollowed, TruncatesToFronts, EpochsDontFall, ServingRises, ActsAccountForLog};
 ghost use Rattle.learner_sync.specs.Records.{learner_info};
 ghost use Rattle.learner_sync.specs.Rows.{WorkedRows};
 
 /// What is read is spelled so, what is spelled so is read whatever follows, and what is written is a spelling.
 pub fn records()
-    ensures { Sound learner_info }
+    ensures { IsSound learner_info }
 {}
 
 /// The zxids of the log rise, and the last zxid is the greater of the base's and that of the log's last transaction: at
@@ -30,7 +30,7 @@ pub fn serving()
 
 /// What is to be done tells what becomes of the log and of its base, and what is sent can be written.
 pub fn acts()
-    ensures { ActsTell }
+    ensures { ActsAccountForLog }
 {}
 
 /// A whole image does what its parts do, one behind the other.

@@ -4,10 +4,10 @@ ghost use Rattle.std.specs.Prelude.{◌≡◌, IfOk, OnErr, length};
 ghost use Rattle.std.specs.Option.{option_map};
 ghost use Rattle.settings.specs.Settings.{epoch_pair};
 ghost use Rattle.learner_sync.specs.Learner.{new_learner, primed_learner};
-ghost use Rattle.learner_sync.specs.Learn.{start, end, checkpoint, whole_log};
+ghost use Rattle.learner_sync.specs.Learn.{start_following, stop_following, checkpoint_learner, whole_log};
 
 use crate::act::Act;
-use crate::answers::{none, one};
+use crate::answers::{act_list, empty_act_list};
 use crate::phase::Phase;
 use settings::{Epochs, ServerId};
 use std::alloc::Global;
@@ -86,13 +86,14 @@ impl Learner {
     /// A leader is there: what is to be done, which is to send the packet by which the server introduces itself;
     /// nothing while there is one already. Refused memory leaves the learner as it was.
     pub fn start(&mut self, alloc: Global, server_id: ServerId) -> Result<Listed<Act>, NoMemory>
-        ensures ok { IfOk result (λ acts. start self.old server_id ≡ record { acts = acts; after = self.new }) }
+        ensures ok { IfOk result (λ acts. start_following self.old server_id
+            ≡ record { acts = acts; after = self.new }) }
         ensures err { OnErr result (self.new ≡ self.old) }
     {
         match self.phase {
             Phase::Down => {
                 let introduction = self.introduction(alloc, server_id)?;
-                let acts = one(alloc, Act::Send(introduction))?;
+                let acts = act_list(alloc, Act::Send(introduction))?;
                 self.phase = Phase::Hello;
                 return Ok(acts);
             }
@@ -101,13 +102,13 @@ impl Learner {
             | Phase::Image(_)
             | Phase::ReplayOnImage(_)
             | Phase::Replay
-            | Phase::Serving => return Ok(none(alloc)),
+            | Phase::Serving => return Ok(empty_act_list(alloc)),
         }
     }
 
     /// The leader is gone, or what it sent was refused. The transactions that wait for their commit are forgotten.
     pub fn end(&mut self)
-        ensures { self.new ≡ end self.old }
+        ensures { self.new ≡ stop_following self.old }
     {
         self.phase = Phase::Down;
         self.proposals.clear();
@@ -115,7 +116,7 @@ impl Learner {
 
     /// While clients are served, the state is the new base, and the log is empty. Otherwise nothing happens.
     pub fn checkpoint(&mut self)
-        ensures { self.new ≡ checkpoint self.old }
+        ensures { self.new ≡ checkpoint_learner self.old }
     {
         match self.phase {
             Phase::Serving => {

@@ -1,7 +1,7 @@
 //! Transactions that were applied, in order.
 
 ghost use Rattle.std.specs.Prelude.{◌≡◌};
-ghost use Rattle.learner_sync.specs.Learn.{up_to, zxid_after};
+ghost use Rattle.learner_sync.specs.Learn.{txns_up_to, zxid_after};
 
 use txn_codec::Txn;
 
@@ -17,7 +17,7 @@ pub fn zxid_after(zxid: i64, log: &[Txn]) -> i64
 
 /// Keeps the transactions up to a zxid.
 pub fn keep_up_to(log: &mut Vec<Txn>, zxid: i64)
-    ensures { log.new.items ≡ up_to zxid log.old.items }
+    ensures { log.new.items ≡ txns_up_to zxid log.old.items }
 {
     log.retain(|txn| txn.header.zxid <= zxid);
 }

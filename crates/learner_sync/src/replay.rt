@@ -2,10 +2,10 @@
 
 ghost use Rattle.std.specs.Prelude.{◌≡◌, int_lt, Ok};
 ghost use Rattle.quorum_packet.specs.Kinds.{kind_of};
-ghost use Rattle.learner_sync.specs.Learn.{Learns, carried_bytes, floor_in, passed, inform, propose, commit, new_leader, up_to_date, replay, serve};
+ghost use Rattle.learner_sync.specs.Learn.{LearnsItem, carried_bytes, zxid_floor, with_applied_zxid, learn_inform, learn_proposal, learn_commit, new_leader, up_to_date, packet_in_replay, packet_in_serving};
 
 use crate::act::Act;
-use crate::answers::{none, one, ping_answer};
+use crate::answers::{act_list, empty_act_list, ping_answer};
 use crate::handshake::carried_bytes;
 use crate::learner::Learner;
 use crate::phase::Phase;
@@ -17,7 +17,7 @@ use values::{Fault, Listed, ReadError};
 impl Learner {
     // Whether a transaction may come next.
     fn may_apply(&self, header: &TxnHeader) -> bool
-        ensures { result ≡ int_lt (floor_in self.now.phase self.now.last_zxid) header.now.zxid }
+        ensures { result ≡ int_lt (zxid_floor self.now.phase self.now.last_zxid) header.now.zxid }
     {
         let floor = match self.phase {
             Phase::ReplayOnImage(applied) => applied,
@@ -32,8 +32,8 @@ impl Learner {
     }
 
     // A transaction with this header was put into the log.
-    fn pass(&mut self, header: TxnHeader)
-        ensures { self.new ≡ passed self.old header.zxid }
+    fn note_applied(&mut self, header: TxnHeader)
+        ensures { self.new ≡ with_applied_zxid self.old header.zxid }
     {
         if let Phase::ReplayOnImage(_) = self.phase {
             self.phase = Phase::ReplayOnImage(header.zxid);
@@ -43,31 +43,31 @@ impl Learner {
 
     // A transaction that is proposed and committed in one.
     fn inform(&mut self, alloc: Global, bytes: &[u8]) -> Result<Listed<Act>, ReadError>
-        ensures { Learns result (inform self.old bytes.now) self.old self.new }
+        ensures { LearnsItem result (learn_inform self.old bytes.now) self.old self.new }
     {
         let txn = decode_txn(alloc, bytes)?;
         if !self.may_apply(&txn.header) {
             return Err(ReadError::Fault(Fault::OutOfOrder));
         }
-        let acts = one(alloc, Act::Apply)?;
+        let acts = act_list(alloc, Act::Apply)?;
         let header = txn.header;
         self.log.push(txn)?;
-        self.pass(header);
+        self.note_applied(header);
         Ok(acts)
     }
 
     // A transaction that waits for its commit.
     fn propose(&mut self, alloc: Global, bytes: &[u8]) -> Result<Listed<Act>, ReadError>
-        ensures { Learns result (propose self.old bytes.now) self.old self.new }
+        ensures { LearnsItem result (learn_proposal self.old bytes.now) self.old self.new }
     {
         let txn = decode_txn(alloc, bytes)?;
         self.proposals.push_back(txn)?;
-        Ok(none(alloc))
+        Ok(empty_act_list(alloc))
     }
 
     // The oldest proposal is committed.
     fn commit(&mut self, alloc: Global, zxid: i64) -> Result<Listed<Act>, ReadError>
-        ensures { Learns result (commit self.old zxid) self.old self.new }
+        ensures { LearnsItem result (learn_commit self.old zxid) self.old self.new }
     {
         let Some(oldest) = self.proposals.front() else {
             return Err(ReadError::Fault(Fault::CommitMismatch));
@@ -78,20 +78,20 @@ impl Learner {
         if !self.may_apply(&oldest.header) {
             return Err(ReadError::Fault(Fault::OutOfOrder));
         }
-        let acts = one(alloc, Act::Apply)?;
+        let acts = act_list(alloc, Act::Apply)?;
         self.log.reserve(1)?;
         let Some(oldest) = self.proposals.pop_front() else {
             unreachable!()
         };
         let header = oldest.header;
         self.log.push_reserved(oldest);
-        self.pass(header);
+        self.note_applied(header);
         Ok(acts)
     }
 
     // The leader's epoch is current.
     fn new_leader(&mut self, alloc: Global) -> Result<Listed<Act>, ReadError>
-        ensures { Learns result (Ok (new_leader self.old)) self.old self.new }
+        ensures { LearnsItem result (Ok (new_leader self.old)) self.old self.new }
     {
         let acts = vec![in alloc; Act::Epochs, Act::Send(self.acknowledgement())]?;
         self.current_epoch = self.accepted_epoch;
@@ -100,7 +100,7 @@ impl Learner {
 
     // The learner is up to date.
     fn up_to_date(&mut self, alloc: Global) -> Result<Listed<Act>, ReadError>
-        ensures { Learns result (Ok (up_to_date self.old)) self.old self.new }
+        ensures { LearnsItem result (Ok (up_to_date self.old)) self.old self.new }
     {
         let acts = vec![in alloc;
             Act::Epochs,
@@ -119,7 +119,7 @@ impl Learner {
         alloc: Global,
         packet: &QuorumPacket,
     ) -> Result<Listed<Act>, ReadError>
-        ensures { Learns result (replay (kind_of packet.now.kind) self.old packet.now) self.old self.new }
+        ensures { LearnsItem result (packet_in_replay (kind_of packet.now.kind) self.old packet.now) self.old self.new }
     {
         match PacketKind::from_code(packet.kind) {
             Some(PacketKind::Proposal) => self.propose(alloc, carried_bytes(packet)),
@@ -141,7 +141,7 @@ impl Learner {
                 | PacketKind::ObserverInfo
                 | PacketKind::LeaderInfo
                 | PacketKind::AckEpoch,
-            ) => Ok(none(alloc)),
+            ) => Ok(empty_act_list(alloc)),
         }
     }
 
@@ -151,10 +151,10 @@ impl Learner {
         alloc: Global,
         packet: QuorumPacket,
     ) -> Result<Listed<Act>, ReadError>
-        ensures { Learns result (serve (kind_of packet.kind) self.old packet) self.old self.new }
+        ensures { LearnsItem result (packet_in_serving (kind_of packet.kind) self.old packet) self.old self.new }
     {
         match PacketKind::from_code(packet.kind) {
-            Some(PacketKind::Ping) => Ok(one(alloc, Act::Send(ping_answer(alloc, packet)))?),
+            Some(PacketKind::Ping) => Ok(act_list(alloc, Act::Send(ping_answer(alloc, packet)))?),
             Some(PacketKind::Inform) => self.inform(alloc, carried_bytes(&packet)),
             None
             | Some(
@@ -173,7 +173,7 @@ impl Learner {
                 | PacketKind::ObserverInfo
                 | PacketKind::LeaderInfo
                 | PacketKind::AckEpoch,
-            ) => Ok(none(alloc)),
+            ) => Ok(empty_act_list(alloc)),
         }
     }
 }

@@ -1,10 +1,10 @@
 //! What is learnt of an item of the leader's stream.
 
 ghost use Rattle.std.specs.Prelude.{◌≡◌, IfOk, Ok};
-ghost use Rattle.learner_sync.specs.Learn.{Learns, packet_in, part_in, load, acts_to_drop, learn};
+ghost use Rattle.learner_sync.specs.Learn.{LearnsItem, packet_in_phase, part_in_phase, load_part, acts_to_drop, learn_item};
 
 use crate::act::Act;
-use crate::answers::{none, one};
+use crate::answers::{act_list, empty_act_list};
 use crate::learner::Learner;
 use crate::phase::Phase;
 use quorum_packet::{Item, QuorumPacket};
@@ -13,24 +13,24 @@ use std::alloc::Global;
 use values::{Fault, Listed, NoMemory, ReadError};
 
 // A part of an image that wasn't asked for.
-fn pass_over(alloc: Global, part: ImagePart) -> Result<Listed<Act>, NoMemory>
+fn load_to_drop(alloc: Global, part: ImagePart) -> Result<Listed<Act>, NoMemory>
     ensures { IfOk result (λ acts. acts ≡ acts_to_drop part) }
 {
     match part {
-        ImagePart::End => return one(alloc, Act::DropImage),
-        part => return one(alloc, Act::LoadPart(part)),
+        ImagePart::End => return act_list(alloc, Act::DropImage),
+        part => return act_list(alloc, Act::LoadPart(part)),
     }
 }
 
 impl Learner {
     // A part of the image that the SNAP packet of this zxid announced.
     fn load(&mut self, alloc: Global, part: ImagePart, zxid: i64) -> Result<Listed<Act>, ReadError>
-        ensures { Learns result (Ok (load part self.old zxid)) self.old self.new }
+        ensures { LearnsItem result (Ok (load_part part self.old zxid)) self.old self.new }
     {
         if !part.is_end() {
-            return Ok(one(alloc, Act::LoadPart(part))?);
+            return Ok(act_list(alloc, Act::LoadPart(part))?);
         }
-        let acts = one(alloc, Act::LoadImage)?;
+        let acts = act_list(alloc, Act::LoadImage)?;
         self.phase = Phase::ReplayOnImage(0);
         self.last_zxid = zxid;
         self.base_zxid = zxid;
@@ -40,10 +40,10 @@ impl Learner {
     }
 
     fn step_packet(&mut self, alloc: Global, packet: QuorumPacket) -> Result<Listed<Act>, ReadError>
-        ensures { Learns result (packet_in self.old.phase self.old packet) self.old self.new }
+        ensures { LearnsItem result (packet_in_phase self.old.phase self.old packet) self.old self.new }
     {
         match self.phase {
-            Phase::Down => Ok(none(alloc)),
+            Phase::Down => Ok(empty_act_list(alloc)),
             Phase::Hello => self.hello(alloc, &packet),
             Phase::Sync => self.sync(alloc, &packet),
             Phase::Image(_) => Err(ReadError::Fault(Fault::UnexpectedPacket)),
@@ -53,13 +53,13 @@ impl Learner {
     }
 
     fn step_part(&mut self, alloc: Global, part: ImagePart) -> Result<Listed<Act>, ReadError>
-        ensures { Learns result (part_in self.old.phase self.old part) self.old self.new }
+        ensures { LearnsItem result (part_in_phase self.old.phase self.old part) self.old self.new }
     {
         match self.phase {
             Phase::Hello | Phase::Sync => Err(ReadError::Fault(Fault::UnexpectedPacket)),
             Phase::Image(zxid) => self.load(alloc, part, zxid),
             Phase::Down | Phase::ReplayOnImage(_) | Phase::Replay | Phase::Serving => {
-                Ok(pass_over(alloc, part)?)
+                Ok(load_to_drop(alloc, part)?)
             }
         }
     }
@@ -68,7 +68,7 @@ impl Learner {
     /// `UnexpectedPacket`, `EpochTooSmall`, `CannotTruncate`, `OutOfOrder` and `CommitMismatch`, and those of what a
     /// packet carries. A refused item, or refused memory, leaves the learner as it was.
     pub fn step(&mut self, alloc: Global, item: Item) -> Result<Listed<Act>, ReadError>
-        ensures { Learns result (learn self.old item) self.old self.new }
+        ensures { LearnsItem result (learn_item self.old item) self.old self.new }
     {
         match item {
             Item::Packet(packet) => self.step_packet(alloc, packet),

@@ -28,7 +28,7 @@ pub struct Images {
 
 impl Load {
     // What was written of the image comes, once it fills a piece.
-    fn bring(&mut self, alloc: Global, piece: usize, written: &mut Vec<u8>) -> Result<()>
+    fn send_piece(&mut self, alloc: Global, piece: usize, written: &mut Vec<u8>) -> Result<()>
         requires { 1 ≤ piece }
     {
         if written.len() >= piece {
@@ -39,7 +39,7 @@ impl Load {
     }
 
     // A node below the root comes, and the nodes below it.
-    fn bring_below(
+    fn send_below(
         &mut self,
         alloc: Global,
         parent: u32,
@@ -54,13 +54,13 @@ impl Load {
         for child in 0..sizes.children {
             let path = image_child(alloc, parent, child)?;
             write_node(path.as_str(), content, written)?;
-            self.bring(alloc, sizes.piece as usize, written)?;
+            self.send_piece(alloc, sizes.piece as usize, written)?;
         }
         Ok(())
     }
 
     // An image comes, without sessions, in which everyone may change every node.
-    fn bring_image(&mut self, alloc: Global, sizes: &Images) -> Result<()>
+    fn send_image(&mut self, alloc: Global, sizes: &Images) -> Result<()>
         requires { 1 ≤ sizes.now.piece }
     {
         let mut content = Vec::new(alloc);
@@ -70,7 +70,7 @@ impl Load {
         put_int(&mut written, 0)?;
         write_node("", &[], &mut written)?;
         for parent in 0..sizes.parents {
-            self.bring_below(alloc, parent, sizes, content.as_slice(), &mut written)?;
+            self.send_below(alloc, parent, sizes, content.as_slice(), &mut written)?;
         }
         write_end(&mut written)?;
         self.follow_in_pieces(alloc, written.as_slice(), sizes.piece as usize)
@@ -80,7 +80,7 @@ impl Load {
     pub fn load_image(&mut self, alloc: Global, sizes: &Images) -> Result<()> {
         ensure!(sizes.piece > 0, "a piece has no bytes");
         self.meet(alloc, PacketKind::Snap, NEXT_EPOCH)?;
-        self.bring_image(alloc, sizes)?;
+        self.send_image(alloc, sizes)?;
         self.serve(alloc)?;
         for _ in 0..sizes.checkpoints {
             self.happen(alloc, &[Event::Checkpoint])?;

@@ -36,7 +36,7 @@ pub fn image_child(alloc: Global, parent: u32, child: u32) -> Result<Path>
 }
 
 /// Writes a packet that carries nothing. An error may leave a front of it.
-#[tactic(auto, unfolding(quorum_packet::specs::Packet::packet))]
+#[tactic(auto, unfolding(quorum_packet::specs::Packet::packet_format))]
 pub fn write_bare(kind: PacketKind, zxid: i64, out: &mut Vec<u8>) -> Result<()> {
     let bare = QuorumPacket {
         kind: kind.code(),
@@ -48,7 +48,7 @@ pub fn write_bare(kind: PacketKind, zxid: i64, out: &mut Vec<u8>) -> Result<()> 
 }
 
 /// Writes the packet by which a leader names its epoch. An error may leave a front of it.
-#[tactic(auto, unfolding(quorum_packet::specs::Packet::packet))]
+#[tactic(auto, unfolding(quorum_packet::specs::Packet::packet_format))]
 pub fn write_leader_info(alloc: Global, zxid: i64, out: &mut Vec<u8>) -> Result<()> {
     let naming = QuorumPacket {
         kind: PacketKind::LeaderInfo.code(),

@@ -23,7 +23,7 @@ impl Load {
         let mut frame = Vec::new(alloc);
         write_read(alloc, RequestKind::GetChildren, &path, false, &mut frame)?;
         for _ in 0..sizes.times {
-            self.hear(alloc, CONNECTION, frame.as_slice())?;
+            self.feed_client(alloc, CONNECTION, frame.as_slice())?;
         }
         Ok(())
     }

@@ -1,6 +1,6 @@
 //! A leader and clients that know what they say, and the engine that they say it to.
 
-ghost use Rattle.txn_codec.specs.Spelling.{body as body_format};
+ghost use Rattle.txn_codec.specs.Spelling.{body_format};
 
 use crate::messages::{child_path, create, parent_path, write_connect, write_inform};
 use anyhow::{Context, Result, ensure};
@@ -37,7 +37,7 @@ pub struct Load {
 }
 
 // A count of what was said or came back, with so many more.
-fn more(count: u64, more: u64) -> Result<u64> {
+fn add_count(count: u64, more: u64) -> Result<u64> {
     count.checked_add(more).context("no count is left")
 }
 
@@ -83,22 +83,22 @@ impl Load {
             time: 1000,
         };
         self.zxid = zxid;
-        self.transactions = more(self.transactions, 1)?;
+        self.transactions = add_count(self.transactions, 1)?;
         self.message.clear();
         write_inform(alloc, &Txn { header, body }, &mut self.message)?;
         let events = [Event::LeaderBytes(Bytes::new(self.message.as_slice()))];
         self.engine.feed_inline(alloc, &events, &mut self.outputs)?;
         let sent = self.take_sent()?;
-        self.events = more(self.events, sent)?;
+        self.events = add_count(self.events, sent)?;
         Ok(())
     }
 
     /// A connection's bytes come, and are answered as far as they are whole.
-    pub fn hear(&mut self, alloc: Global, connection: u64, bytes: &[u8]) -> Result<()> {
+    pub fn feed_client(&mut self, alloc: Global, connection: u64, bytes: &[u8]) -> Result<()> {
         let events = [Event::ClientBytes(connection, Bytes::new(bytes))];
         self.engine.feed_inline(alloc, &events, &mut self.outputs)?;
         let sent = self.take_sent()?;
-        self.replies = more(self.replies, sent)?;
+        self.replies = add_count(self.replies, sent)?;
         Ok(())
     }
 
@@ -122,7 +122,7 @@ impl Load {
         self.engine.feed_inline(alloc, &events, &mut self.outputs)?;
         let mut frame = Vec::new(alloc);
         write_connect(alloc, &mut frame)?;
-        self.hear(alloc, connection, frame.as_slice())
+        self.feed_client(alloc, connection, frame.as_slice())
     }
 
     // Makes the nodes below a parent.

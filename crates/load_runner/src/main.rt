@@ -167,7 +167,7 @@ struct Counts {
 }
 
 // Puts the load on the engine, and counts.
-fn counted(alloc: Global, load: &mut Load, words: &[String]) -> Result<Counts> {
+fn run_and_count(alloc: Global, load: &mut Load, words: &[String]) -> Result<Counts> {
     run(alloc, load, words)?;
     Ok(Counts {
         transactions: load.transactions,
@@ -179,9 +179,9 @@ fn counted(alloc: Global, load: &mut Load, words: &[String]) -> Result<Counts> {
 }
 
 // It holds the load to one end, since each end proves all of the drop anew.
-fn measured(alloc: Global, words: &[String]) -> Result<Counts> {
+fn run_load(alloc: Global, words: &[String]) -> Result<Counts> {
     let mut load = Load::new(alloc)?;
-    counted(alloc, &mut load, words)
+    run_and_count(alloc, &mut load, words)
 }
 
 fn main(rt: HostRuntime) -> Result<()> {
@@ -192,7 +192,7 @@ fn main(rt: HostRuntime) -> Result<()> {
         events,
         paths,
         zxid,
-    } = measured(rt.alloc(), words.as_slice())?;
+    } = run_load(rt.alloc(), words.as_slice())?;
     println!(rt;
         "transactions={transactions} replies={replies} events={events} paths={paths} zxid=0x{zxid:x}"
     )?;

@@ -1,7 +1,7 @@
 //! The bytes of a leader's messages and of a client's requests.
 
 ghost use Rattle.std.specs.Prelude.{◌≤◌, length, IfOk};
-ghost use Rattle.txn_codec.specs.Spelling.{body as body_format};
+ghost use Rattle.txn_codec.specs.Spelling.{body_format};
 
 use anyhow::{Result, ensure};
 use client_records::codes::PING_XID;
@@ -61,7 +61,7 @@ pub fn watched_path(alloc: Global, connection: u64, watch: u32) -> Result<Path>
 }
 
 /// A node is made that everyone may change.
-#[tactic(auto, unfolding(jute::specs::Owned::acl, jute::specs::Owned::id))]
+#[tactic(auto, unfolding(jute::specs::Owned::acl_format, jute::specs::Owned::id_format))]
 pub fn create(alloc: Global, path: Path, content: &[u8]) -> Result<Body>
     requires { length path ≤ PATH_LIMIT }
     ensures { IfOk result body_format.Writable }
@@ -92,7 +92,7 @@ pub fn set_data(alloc: Global, path: Path) -> Result<Body, NoMemory>
 }
 
 /// Writes the packet by which a leader tells of a transaction. An error may leave a front of it.
-#[tactic(auto, unfolding(quorum_packet::specs::Packet::packet))]
+#[tactic(auto, unfolding(quorum_packet::specs::Packet::packet_format))]
 pub fn write_inform(alloc: Global, txn: &Txn, out: &mut Vec<u8>) -> Result<()>
     requires { body_format.Writable txn.now.body }
 {

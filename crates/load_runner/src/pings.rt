@@ -21,8 +21,8 @@ impl Load {
         for connection in 0..sizes.connections {
             let connection = u64::from(connection) + FIRST;
             self.open(alloc, connection)?;
-            self.hear(alloc, connection, first)?;
-            self.hear(alloc, connection, second)?;
+            self.feed_client(alloc, connection, first)?;
+            self.feed_client(alloc, connection, second)?;
         }
         Ok(())
     }

@@ -42,11 +42,11 @@ fn frames_of_reads(alloc: Global, sizes: &Reads) -> Result<Vec<u8>>
 
 impl Load {
     // The client's bytes come in pieces.
-    fn hear_in_pieces(&mut self, alloc: Global, bytes: &[u8], piece: usize) -> Result<()>
+    fn feed_in_pieces(&mut self, alloc: Global, bytes: &[u8], piece: usize) -> Result<()>
         requires { 1 ≤ piece }
     {
         for piece in bytes.chunks(piece) {
-            self.hear(alloc, CONNECTION, piece)?;
+            self.feed_client(alloc, CONNECTION, piece)?;
         }
         Ok(())
     }
@@ -60,7 +60,7 @@ impl Load {
         self.make_tree(alloc, sizes.parents, sizes.children, LONG_CONTENT)?;
         let frames = frames_of_reads(alloc, sizes)?;
         for _ in 0..sizes.times {
-            self.hear_in_pieces(alloc, frames.as_slice(), sizes.piece as usize)?;
+            self.feed_in_pieces(alloc, frames.as_slice(), sizes.piece as usize)?;
         }
         Ok(())
     }

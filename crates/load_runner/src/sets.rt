@@ -35,7 +35,7 @@ impl Load {
     {
         let mut frame = Vec::new(alloc);
         write_read(alloc, RequestKind::GetData, path, false, &mut frame)?;
-        self.hear(alloc, CONNECTION, frame.as_slice())
+        self.feed_client(alloc, CONNECTION, frame.as_slice())
     }
 
     // Sets a node's data, and may read it before.

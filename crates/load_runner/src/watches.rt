@@ -26,13 +26,13 @@ pub struct Watched {
 
 impl Load {
     // A connection watches paths of 20 bytes, at which there are no nodes.
-    fn leave(&mut self, alloc: Global, connection: u64, watches: u32) -> Result<()> {
+    fn set_watches(&mut self, alloc: Global, connection: u64, watches: u32) -> Result<()> {
         let mut frame = Vec::new(alloc);
         for watch in 0..watches {
             let path = watched_path(alloc, connection, watch)?;
             frame.clear();
             write_read(alloc, RequestKind::Exists, &path, true, &mut frame)?;
-            self.hear(alloc, connection, frame.as_slice())?;
+            self.feed_client(alloc, connection, frame.as_slice())?;
         }
         Ok(())
     }
@@ -42,7 +42,7 @@ impl Load {
         for connection in 0..connections {
             let connection = u64::from(connection) + FIRST;
             self.open(alloc, connection)?;
-            self.leave(alloc, connection, watches)?;
+            self.set_watches(alloc, connection, watches)?;
         }
         Ok(())
     }
@@ -54,7 +54,7 @@ impl Load {
         write_read(alloc, RequestKind::GetData, &path, true, &mut frame)?;
         for connection in 0..connections {
             let connection = u64::from(connection) + FIRST;
-            self.hear(alloc, connection, frame.as_slice())?;
+            self.feed_client(alloc, connection, frame.as_slice())?;
         }
         Ok(())
     }
@@ -69,7 +69,7 @@ impl Load {
     /// Opens connections that leave watches, and all of which watch the same nodes besides; then some of
     /// these are set.
     pub fn watch(&mut self, alloc: Global, sizes: &Watched) -> Result<()> {
-        self.leave(alloc, CONNECTION, sizes.others)?;
+        self.set_watches(alloc, CONNECTION, sizes.others)?;
         self.open_all(alloc, sizes.connections, sizes.watches)?;
         self.make_parents(alloc, sizes.nodes, CONTENT)?;
         for node in 0..sizes.nodes {

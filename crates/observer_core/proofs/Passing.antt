@@ -14,15 +14,15 @@ use mathlib.Core.Bool.{true≢false}
 use Rattle.jute.specs.declared.owned.Id.{Id}
 use Rattle.sessions.specs.declared.request.SessionRequest.{SessionRequest}
 use Rattle.sessions.specs.Credentials.{session_id_of, digest_id}
-use Rattle.sessions.specs.State.{Connection, State}
-use Rattle.sessions.specs.Sessions.{Connects, Shows, new_connection, greatest_counter, ids_limit, is_same_id, with_id, is_valid, connection_of, close, close_as, close_one, expire, expire_as, open_new, connect, show_in, digest_text, auth_by, auth}
-use Rattle.watch_manager.specs.Pairs.{Pairs, watch_cmp, same_connection}
-use Rattle.watch_manager.specs.Watching.{Watching}
+use Rattle.sessions.specs.State.{ConnectedClient, SessionTable}
+use Rattle.sessions.specs.Sessions.{ConnectResult, AuthResult, new_connection, greatest_counter, ids_limit, is_same_id, with_id, is_valid, connection_of, close_connection, close_as, close_if_some, expire_guest, expire_as, open_new, connect_session, show_in, digest_text, auth_by, add_auth}
+use Rattle.watch_manager.specs.Pairs.{WatchPairs, watch_cmp, same_connection}
+use Rattle.watch_manager.specs.Watching.{WatchTables}
 use Rattle.watch_manager.specs.Laws.{AllPass, WatchersPass}
 use Rattle.watch_manager.proofs.Totals.{watch_total, watch_exact}
 use Rattle.read_processor.specs.declared.watch.Watch.{Watch}
 use Rattle.read_processor.specs.declared.watch.Watch.TheVariants as tables
-use Rattle.observer_core.specs.Serve.{watched, watched_if, watched_each}
+use Rattle.observer_core.specs.Serve.{with_watch, with_watch_if, with_each_watch}
 
 or_first : (a b : Bool) → b ≡ false → (a || b) ≡ true → a ≡ true
 or_first a b none h = sym (or-false a) ∙ ap (λ x. a || x) (sym none) ∙ h
@@ -60,38 +60,38 @@ module _ {X : Type 0} (test : ℕ → Bool) (m : finmap.FinMap nat_cmp X) (n : �
 -- ---- connections that have a session
 
 module _ (test : ℕ → Bool) where
-  abbrev Pass : State → Type 0
+  abbrev Pass : SessionTable → Type 0
   Pass s = KeysPass test s.connections
 
   -- whoever has a session still passes, if only the one that was closed doesn't
-  pub closed_passes : (s : State) (n : ℕ) → KeysPass (λ k. test k || same_connection n k) s.connections
-      → Pass (close s n)
+  pub closed_passes : (s : SessionTable) (n : ℕ) → KeysPass (λ k. test k || same_connection n k) s.connections
+      → Pass (close_connection s n)
   closed_passes s n all = by (finmap.get s.connections n) refl
     where
-      by : (o : Option Connection) → finmap.get s.connections n ≡ o → Pass (close_as s n o)
+      by : (o : Option ConnectedClient) → finmap.get s.connections n ≡ o → Pass (close_as s n o)
       by None none = absent_passes test s.connections n none all
       by (Some c) has = removed_passes test s.connections n all
 
-  one_closed_passes : (s : State) (o : Option ℕ) → Pass s → Pass (close_one s o)
+  one_closed_passes : (s : SessionTable) (o : Option ℕ) → Pass s → Pass (close_if_some s o)
   one_closed_passes s None all = all
   one_closed_passes s (Some n) all = closed_passes s n (λ k has. ap (λ b. b || same_connection n k) (all k has))
 
-  pub expired_passes : (s : State) (session : ℤ) → Pass s → Pass (expire s session).after
+  pub expired_passes : (s : SessionTable) (session : ℤ) → Pass s → Pass (expire_guest s session).after
   expired_passes s session all = by (finmap.get s.guests session)
     where
       by : (o : Option (Option ℕ)) → Pass (expire_as s session o).after
       by None = all
       by (Some o) = one_closed_passes s o all
 
-  module _ (s : State) (n : ℕ) (here : test n ≡ true) (all : Pass s) where
-    shown_passes : (id : Id) (o : Option Connection) → Pass (show_in s n id o).after
+  module _ (s : SessionTable) (n : ℕ) (here : test n ≡ true) (all : Pass s) where
+    shown_passes : (id : Id) (o : Option ConnectedClient) → Pass (show_in s n id o).after
     shown_passes id None = all
     shown_passes id (Some c) =
-        cond_both (list_any (λ shown. is_same_id shown id) c.ids) _ _ (λ (x : Shows). Pass x.after) (λ _. all)
-        (λ _. cond_both (nat_lt (length c.ids) ids_limit) _ _ (λ (x : Shows). Pass x.after)
+        cond_both (list_any (λ shown. is_same_id shown id) c.ids) _ _ (λ (x : AuthResult). Pass x.after) (λ _. all)
+        (λ _. cond_both (nat_lt (length c.ids) ids_limit) _ _ (λ (x : AuthResult). Pass x.after)
         (λ _. inserted_passes test s.connections n (with_id c id) here all) (λ _. all))
 
-    pub auth_passes : (scheme bytes : Option (List ℕ)) → Pass (auth s n scheme bytes).after
+    pub auth_passes : (scheme bytes : Option (List ℕ)) → Pass (add_auth s n scheme bytes).after
     auth_passes scheme bytes = by (digest_text scheme bytes)
       where
         by : (o : Option (List ℕ)) → Pass (auth_by s n o).after
@@ -101,28 +101,29 @@ module _ (test : ℕ → Bool) where
     opened_passes : (time_out : ℤ) → Pass (open_new s n time_out).after
     opened_passes time_out =
         let session = session_id_of s.terms.server_id (s.counter + 1) in
-        cond_both (s.counter == greatest_counter) _ _ (λ (x : Connects). Pass x.after) (λ _. all)
+        cond_both (s.counter == greatest_counter) _ _ (λ (x : ConnectResult). Pass x.after) (λ _. all)
         (λ _. inserted_passes test s.connections n (new_connection session) here all)
 
-    pub connected_passes : (request : SessionRequest) → Pass (connect s n request).after
+    pub connected_passes : (request : SessionRequest) → Pass (connect_session s n request).after
     connected_passes request =
         let session = request.session_id in
         let older = connection_of s session in
         let others = one_closed_passes s older all in
-        cond_both (int_eq session (pos 0)) _ _ (λ (x : Connects). Pass x.after) (λ _. opened_passes request.time_out)
-        (λ _. cond_both (is_valid s request) _ _ (λ (x : Connects). Pass x.after)
-        (λ _. inserted_passes test (close_one s older).connections n (new_connection session) here others)
+        cond_both (int_eq session (pos 0)) _ _ (λ (x : ConnectResult). Pass x.after)
+        (λ _. opened_passes request.time_out)
+        (λ _. cond_both (is_valid s request) _ _ (λ (x : ConnectResult). Pass x.after)
+        (λ _. inserted_passes test (close_if_some s older).connections n (new_connection session) here others)
         (λ _. all))
 
 -- ---- connections that watch
 
 -- a weaker test
-pub watchers_pass : (p q : ℕ → Bool) (w : Watching) → ((k : ℕ) → p k ≡ true → q k ≡ true) → WatchersPass p w
+pub watchers_pass : (p q : ℕ → Bool) (w : WatchTables) → ((k : ℕ) → p k ≡ true → q k ≡ true) → WatchersPass p w
     → WatchersPass q w
 watchers_pass p q w weaker all = (λ path k has. weaker k (all.0 path k has), λ path k has. weaker k (all.1 path k has))
 
 module _ (test : ℕ → Bool) (n : ℕ) (here : test n ≡ true) where
-  pair_passes : (pairs : Pairs) (path : List ℕ) → AllPass test pairs → AllPass test (set.insert pairs (path, n))
+  pair_passes : (pairs : WatchPairs) (path : List ℕ) → AllPass test pairs → AllPass test (set.insert pairs (path, n))
   pair_passes pairs path all at k has =
       by (eq_by_cmp watch_cmp (at, k) (path, n)) refl
       (sym (set.contains-insert watch_total pairs (path, n) (at, k)) ∙ has)
@@ -132,17 +133,17 @@ module _ (test : ℕ → Bool) (n : ℕ) (here : test n ≡ true) where
       by true same h = ap (λ (p : List ℕ × ℕ). test p.1) (tells_apart watch_exact (at, k) (path, n) same) ∙ here
       by false other h = all at k h
 
-  watched_passes : (w : Watching) (watch : Watch) → WatchersPass test w → WatchersPass test (watched n w watch)
+  watched_passes : (w : WatchTables) (watch : Watch) → WatchersPass test w → WatchersPass test (with_watch n w watch)
   watched_passes w (tables.Data path) all = (pair_passes w.own path all.0, all.1)
   watched_passes w (tables.Child path) all = (all.0, pair_passes w.child path all.1)
 
-  pub watched_if_passes : (w : Watching) (watch : Option Watch) → WatchersPass test w
-      → WatchersPass test (watched_if n w watch)
+  pub watched_if_passes : (w : WatchTables) (watch : Option Watch) → WatchersPass test w
+      → WatchersPass test (with_watch_if n w watch)
   watched_if_passes w None all = all
   watched_if_passes w (Some watch) all = watched_passes w watch all
 
-  pub watched_each_passes : (w : Watching) (watches : List Watch) → WatchersPass test w
-      → WatchersPass test (watched_each n w watches)
+  pub watched_each_passes : (w : WatchTables) (watches : List Watch) → WatchersPass test w
+      → WatchersPass test (with_each_watch n w watches)
   watched_each_passes w [] all = all
   watched_each_passes w (watch ∷ others) all =
-      watched_each_passes (watched n w watch) others (watched_passes w watch all)
+      watched_each_passes (with_watch n w watch) others (watched_passes w watch all)

@@ -9,30 +9,30 @@ use Rattle.std.specs.FinMap as finmap
 use mathlib.Core.Bool.{true≢false}
 use Rattle.values.specs.declared.fault.Fault.{Fault}
 use Rattle.jute.specs.Format.{◌>>=◌}
-use Rattle.jute.specs.Stream.{Unread, items, add, place_at}
+use Rattle.jute.specs.Stream.{Unread, items_in, with_more_bytes, place_at}
 use Rattle.quorum_packet.specs.declared.item.Item.{Item}
-use Rattle.quorum_packet.specs.Items.{shows}
+use Rattle.quorum_packet.specs.Items.{items_shown_at}
 use Rattle.quorum_packet.specs.Feed.{end_of}
 use Rattle.learner_sync.specs.Learn.{start_in, checkpoint_in}
 use Rattle.learner_sync.specs.declared.phase.Phase.{Phase}
 use Rattle.learner_sync.specs.declared.phase.Phase.TheVariants as phase
 use Rattle.replica.specs.Replica.{Replica}
-use Rattle.replica.specs.Taking.{Taken, take, begin, is_serving_in, is_serving, rebase_if, rebase}
+use Rattle.replica.specs.Taking.{ItemEffect, take_item, follow_leader, is_serving_in, is_serving, checkpoint_if, checkpoint_replica}
 use Rattle.replica.specs.Laws.{ServingStays}
 use Rattle.client_frames.specs.declared.connecting.Connecting.{Connecting}
 use Rattle.client_frames.specs.Connect.{connecting_in}
-use Rattle.sessions.specs.State.{State as Sessions, Connection as SessionConnection}
-use Rattle.sessions.specs.Sessions.{session_in, session_of, close, expire}
+use Rattle.sessions.specs.State.{SessionTable as Sessions, ConnectedClient as SessionConnection}
+use Rattle.sessions.specs.Sessions.{session_in, session_of_connection, close_connection, expire_guest}
 use Rattle.watch_manager.specs.Pairs.{same_connection}
 use Rattle.four_letter.specs.declared.word.Word.{Word}
 use Rattle.observer_core.specs.declared.event.Event.{Event}
 use Rattle.observer_core.specs.declared.event.Event.TheVariants as event
-use Rattle.observer_core.specs.Machine.{Connection, Clients, World, Leader, Machine}
-use Rattle.observer_core.specs.Steps.{happening}
-use Rattle.observer_core.specs.Clients.{is_open, without, without_each}
-use Rattle.observer_core.specs.Leader.{Led, with_loading, tell, receive, Delivery, deliver_as, deliver, is_refused, deliver_all, end_at, by_parts, kept, meet_leader, disconnected, leave_leader, take_leader_bytes, end_as, end_leader}
-use Rattle.observer_core.specs.Serve.{with_sessions, close_left, join, serve_by, serve, word_at, is_closed, keep, wait_if_open, frames, tell_or_serve, take_client_bytes, open_client, end_client, expire_session}
-use Rattle.observer_core.specs.Play.{serving, happen}
+use Rattle.observer_core.specs.Machine.{OpenConnection, Clients, World, Leader, Machine}
+use Rattle.observer_core.specs.Steps.{fold_steps}
+use Rattle.observer_core.specs.Clients.{is_open, without_client, without_clients}
+use Rattle.observer_core.specs.Leader.{WorldAndLoading, step_with_loading, send_effect, item_step, Delivery, delivery_of, deliver_item, is_refused, deliver_all, place_after, part_reader, leader_at, meet_leader, disconnect_all, with_leader_or_fault, take_leader_bytes, on_stream_end, end_leader}
+use Rattle.observer_core.specs.Serve.{with_sessions, close_client_if_some, handle_connect, serve_by, serve_frame, word_at, is_closed, with_waiting_bytes, wait_if_open, frames_of_client, tell_or_serve, take_client_bytes, open_client, end_client, expire_session}
+use Rattle.observer_core.specs.Play.{is_serving_clients, play_event}
 use Rattle.observer_core.specs.Agreement.{ClientsAgree, ConnectionsAgree, SessionsAreServed}
 use Rattle.observer_core.proofs.Keeping.{happening_keeps}
 use Rattle.observer_core.proofs.Passing.{KeysPass, closed_passes, expired_passes}
@@ -43,14 +43,14 @@ use Rattle.observer_core.proofs.Unmoved.{client_same, open_same, end_same, expir
 abbrev Nobody : Sessions → Type 0
 Nobody s = KeysPass (λ _. false) s.connections
 
-none_has : (s : Sessions) → Nobody s → (n : ℕ) → session_of s n ≡ None
+none_has : (s : Sessions) → Nobody s → (n : ℕ) → session_of_connection s n ≡ None
 none_has s nobody n = by (finmap.get s.connections n) (nobody n)
   where
     by : (o : Option SessionConnection) → (is_some o ≡ true → false ≡ true) → session_in o ≡ None
     by None h = refl
     by (Some c) h = absurd (true≢false (sym (h refl)))
 
-nobody_has : (s : Sessions) → ((n : ℕ) → session_of s n ≡ None) → Nobody s
+nobody_has : (s : Sessions) → ((n : ℕ) → session_of_connection s n ≡ None) → Nobody s
 nobody_has s none n = by (finmap.get s.connections n) (none n)
   where
     by : (o : Option SessionConnection) → session_in o ≡ None → is_some o ≡ true → false ≡ true
@@ -59,32 +59,32 @@ nobody_has s none n = by (finmap.get s.connections n) (none n)
 
 -- nobody has one where clients aren't served
 abbrev Served : World → Type 0
-Served w = serving w ≡ false → Nobody w.clients.sessions
+Served w = is_serving_clients w ≡ false → Nobody w.clients.sessions
 
 -- a world behind another: clients that are served stay so, and where they aren't nobody gets a session
-stays_served : (w v : World) → (serving w ≡ true → serving v ≡ true)
-    → (serving w ≡ false → Nobody w.clients.sessions → Nobody v.clients.sessions) → Served w → Served v
-stays_served w v stays still served none = by (serving w) refl
+stays_served : (w v : World) → (is_serving_clients w ≡ true → is_serving_clients v ≡ true)
+    → (is_serving_clients w ≡ false → Nobody w.clients.sessions → Nobody v.clients.sessions) → Served w → Served v
+stays_served w v stays still served none = by (is_serving_clients w) refl
   where
-    by : (b : Bool) → serving w ≡ b → Nobody v.clients.sessions
+    by : (b : Bool) → is_serving_clients w ≡ b → Nobody v.clients.sessions
     by true e = absurd (true≢false (sym (stays e) ∙ none))
     by false e = still e (served e)
 
 same_served : (w v : World) → v.replica ≡ w.replica
-    → (serving w ≡ false → Nobody w.clients.sessions → Nobody v.clients.sessions) → Served w → Served v
+    → (is_serving_clients w ≡ false → Nobody w.clients.sessions → Nobody v.clients.sessions) → Served w → Served v
 same_served w v same still served = stays_served w v (λ e. ap is_serving same ∙ e) still served
 
 -- ---- connections close
 
-closes_nobody : (n : ℕ) (s : Sessions) → Nobody s → Nobody (close s n)
+closes_nobody : (n : ℕ) (s : Sessions) → Nobody s → Nobody (close_connection s n)
 closes_nobody n s nobody = closed_passes (λ _. false) s n (λ k has. ap (λ b. b || same_connection n k) (nobody k has))
 
 -- where all that have a session close, nobody has one then
 each_closed : (ns : List ℕ) (c : Clients) → KeysPass (λ k. list_any (eq_by_cmp nat_cmp k) ns) c.sessions.connections
-    → Nobody (without_each ns c).sessions
+    → Nobody (without_clients ns c).sessions
 each_closed [] c all = all
 each_closed (n ∷ others) c all =
-    each_closed others (without n c) (closed_passes is_other c.sessions n (λ k has. turned k (all k has)))
+    each_closed others (without_client n c) (closed_passes is_other c.sessions n (λ k has. turned k (all k has)))
   where
     is_other : ℕ → Bool
     is_other k = list_any (eq_by_cmp nat_cmp k) others
@@ -104,7 +104,7 @@ each_closed (n ∷ others) c all =
 abbrev Joined : World → Type 0
 Joined w = KeysPass (λ n. is_open n w.clients) w.clients.sessions.connections
 
-gone_nobody : (w : World) → Joined w → Nobody (disconnected w).after.clients.sessions
+gone_nobody : (w : World) → Joined w → Nobody (disconnect_all w).after.clients.sessions
 gone_nobody w joined =
     let open_connections = w.clients.connections in
     each_closed (finmap.keys open_connections) w.clients
@@ -113,23 +113,23 @@ gone_nobody w joined =
 -- ---- a client that isn't served is only closed
 
 join_nobody : (n : ℕ) (w : World) (c : Result Connecting Fault) → Nobody w.clients.sessions
-    → Nobody (join false n w c).after.clients.sessions
+    → Nobody (handle_connect false n w c).after.clients.sessions
 join_nobody n w (Err e) nobody = closes_nobody n w.clients.sessions nobody
 join_nobody n w (Ok c) nobody = closes_nobody n w.clients.sessions nobody
 
 serve_nobody : (n : ℕ) (w : World) (frame : List ℕ) → Nobody w.clients.sessions
-    → Nobody (serve false n w frame).after.clients.sessions
+    → Nobody (serve_frame false n w frame).after.clients.sessions
 serve_nobody n w frame nobody =
     subst (λ (session : Option ℤ). Nobody (serve_by false n w frame session).after.clients.sessions)
     (sym (none_has w.clients.sessions nobody n)) (join_nobody n w (connecting_in frame) nobody)
 
-wait_nobody : (n : ℕ) (w : World) (o : Option Connection) (left : Unread) → Nobody w.clients.sessions
+wait_nobody : (n : ℕ) (w : World) (o : Option OpenConnection) (left : Unread) → Nobody w.clients.sessions
     → Nobody (wait_if_open n w o left).after.clients.sessions
 wait_nobody n w None left nobody = nobody
 wait_nobody n w (Some k) (Ok rest) nobody = nobody
 wait_nobody n w (Some k) (Err e) nobody = closes_nobody n w.clients.sessions nobody
 
-client_nobody : (n : ℕ) (w : World) (o : Option Connection) (bytes : List ℕ) → Nobody w.clients.sessions
+client_nobody : (n : ℕ) (w : World) (o : Option OpenConnection) (bytes : List ℕ) → Nobody w.clients.sessions
     → Nobody (take_client_bytes false n w o bytes).after.clients.sessions
 client_nobody n w None bytes nobody = nobody
 client_nobody n w (Some k) bytes nobody = by (word_at n w came)
@@ -138,25 +138,26 @@ client_nobody n w (Some k) bytes nobody = by (word_at n w came)
     came = k.rest ++ bytes
 
     v : World
-    v = keep n w k []
+    v = with_waiting_bytes n w k []
 
     by : (o : Option Word) → Nobody (tell_or_serve false n v came o).after.clients.sessions
     by None =
-        let found = items frames (place_at tt came) in
-        let h = happening (is_closed n) (serve false n) v found.found in
+        let found = items_in frames_of_client (place_at tt came) in
+        let h = fold_steps (is_closed n) (serve_frame false n) v found.found in
         wait_nobody n h.after (finmap.get h.after.clients.connections n) found.left.unread
-        (happening_keeps (λ (w : World). Nobody w.clients.sessions) (is_closed n) (serve false n)
+        (happening_keeps (λ (w : World). Nobody w.clients.sessions) (is_closed n) (serve_frame false n)
         (λ w frame _. serve_nobody n w frame) v found.found nobody)
     by (Some word) = closes_nobody n w.clients.sessions nobody
 
 left_nobody : (w : World) (left : Option ℕ) → Nobody w.clients.sessions
-    → Nobody (close_left w left).after.clients.sessions
+    → Nobody (close_client_if_some w left).after.clients.sessions
 left_nobody w None nobody = nobody
 left_nobody w (Some n) nobody = closes_nobody n w.clients.sessions nobody
 
 -- ---- clients that are served stay so where a leader comes, and at a checkpoint
 
-begins_serving : (r : Replica) (server_id : ℤ) → is_serving r ≡ true → is_serving (begin r server_id).replica ≡ true
+begins_serving : (r : Replica) (server_id : ℤ) → is_serving r ≡ true
+    → is_serving (follow_leader r server_id).replica ≡ true
 begins_serving r server_id = by r.learner.phase refl
   where
     by : (ph : Phase) → r.learner.phase ≡ ph → is_serving_in ph ≡ true
@@ -164,79 +165,84 @@ begins_serving r server_id = by r.learner.phase refl
     by phase.Serving e s = ap is_serving_in e
     by ph e s = cc
 
-rebases_serving : (r : Replica) → is_serving r ≡ true → is_serving (rebase r) ≡ true
+rebases_serving : (r : Replica) → is_serving r ≡ true → is_serving (checkpoint_replica r) ≡ true
 rebases_serving r = by r.learner.phase refl
   where
     by : (ph : Phase) → r.learner.phase ≡ ph → is_serving_in ph ≡ true
-        → is_serving (rebase_if (is_serving_in ph) r) ≡ true
+        → is_serving (checkpoint_if (is_serving_in ph) r) ≡ true
     by phase.Serving e s = ap (λ (ph : Phase). is_serving_in (checkpoint_in ph r.learner).phase) e ∙ ap is_serving_in e
     by ph e s = cc
 
 -- ---- events
 
-meet_served : (leader : Option Leader) (w : World) → Served w → Served (meet_leader by_parts leader w).after.world
+meet_served : (leader : Option Leader) (w : World) → Served w → Served (meet_leader part_reader leader w).after.world
 meet_served None w served =
-    stays_served w (meet_leader by_parts None w).after.world (begins_serving w.replica w.settings.server_id)
+    stays_served w (meet_leader part_reader None w).after.world (begins_serving w.replica w.settings.server_id)
     (λ _ nobody. nobody) served
 meet_served (Some l) w served = served
 
 leave_served : (w : World) (leader : Result Leader Fault) → Joined w → Served w
-    → Served (leave_leader w leader).after.world
+    → Served (with_leader_or_fault w leader).after.world
 leave_served w (Ok l) joined served = served
 leave_served w (Err e) joined served = λ _. gone_nobody w joined
 
 end_served : (leader : Option Leader) (w : World) → Joined w → Served w
-    → Served (end_leader by_parts leader w).after.world
+    → Served (end_leader part_reader leader w).after.world
 end_served None w joined served = served
 end_served (Some l) w joined served = by (end_of l.place)
   where
-    by : (r : Result (Unit {0}) Fault) → Served (end_as {L = Leader} r w).after.world
+    by : (r : Result (Unit {0}) Fault) → Served (on_stream_end {L = Leader} r w).after.world
     by (Ok u) = λ _. gone_nobody w joined
     by (Err e) = λ _. gone_nobody w joined
 
-client_served : (n : ℕ) (w : World) (o : Option Connection) (bytes : List ℕ) → Served w
-    → Served (take_client_bytes (serving w) n w o bytes).after
+client_served : (n : ℕ) (w : World) (o : Option OpenConnection) (bytes : List ℕ) → Served w
+    → Served (take_client_bytes (is_serving_clients w) n w o bytes).after
 client_served n w o bytes served =
-    same_served w (take_client_bytes (serving w) n w o bytes).after (client_same (serving w) n w o bytes)
+    same_served w (take_client_bytes (is_serving_clients w) n w o bytes).after
+    (client_same (is_serving_clients w) n w o bytes)
     (λ none nobody. subst (λ (b : Bool). Nobody (take_client_bytes b n w o bytes).after.clients.sessions) (sym none)
     (client_nobody n w o bytes nobody)) served
 
 expire_served : (w : World) (session : ℤ) → Served w → Served (expire_session w session).after
 expire_served w session served =
-    let e = expire w.clients.sessions session in
+    let e = expire_guest w.clients.sessions session in
     same_served w (expire_session w session).after (expire_same w session)
     (λ _ nobody. left_nobody (with_sessions w e.after) e.closed
     (expired_passes (λ _. false) w.clients.sessions session nobody)) served
 
 module _ (stays : ServingStays) where
-  abbrev DeliveryServed : Delivery Led → Type 0
+  abbrev DeliveryServed : Delivery WorldAndLoading → Type 0
   DeliveryServed d = Joined d.left.world × Served d.left.world
 
-  deliver_served : (d : Delivery Led) (i : Item) → DeliveryServed d → DeliveryServed (deliver receive d i).after
-  deliver_served d i h = by (take d.left.loading w.replica i) refl
+  deliver_served : (d : Delivery WorldAndLoading) (i : Item) → DeliveryServed d
+      → DeliveryServed (deliver_item item_step d i).after
+  deliver_served d i h = by (take_item d.left.loading w.replica i) refl
     where
       w : World
       w = d.left.world
 
-      by : (r : Result Taken Fault) → take d.left.loading w.replica i ≡ r
-          → DeliveryServed (deliver_as (r >>= λ t. Ok (with_loading t.loading (tell w t))) d.left).after
-      by (Ok t) e =
-          (h.0, stays_served w (tell w t).after (λ s. stays d.left.loading w.replica i t s e) (λ _ nobody. nobody) h.1)
+      by : (r : Result ItemEffect Fault) → take_item d.left.loading w.replica i ≡ r
+          → DeliveryServed (delivery_of (r >>= λ t. Ok (step_with_loading t.loading (send_effect w t))) d.left).after
+      by (Ok t) e = (
+        h.0,
+        stays_served w (send_effect w t).after (λ s. stays d.left.loading w.replica i t s e)
+            (λ _ nobody. nobody) h.1,
+      )
       by (Err e) refused = h
 
   leader_served : (leader : Option Leader) (w : World) (bytes : List ℕ) → Joined w → Served w
-      → Served (take_leader_bytes by_parts leader w bytes).after.world
+      → Served (take_leader_bytes part_reader leader w bytes).after.world
   leader_served None w bytes joined served = served
   leader_served (Some l) w bytes joined served =
-      let v : Led = record { loading = l.loading; world = w } in
-      let found = shows (add l.place bytes) in
-      let d = (deliver_all receive v found.found).after in
+      let v : WorldAndLoading = record { loading = l.loading; world = w } in
+      let found = items_shown_at (with_more_bytes l.place bytes) in
+      let d = (deliver_all item_step v found.found).after in
       let h =
-      happening_keeps DeliveryServed is_refused (deliver receive) (λ d i _. deliver_served d i)
+      happening_keeps DeliveryServed is_refused (deliver_item item_step) (λ d i _. deliver_served d i)
       (record { left = v; fault = None }) found.found (joined, served) in
-      leave_served d.left.world (kept d.left.loading (end_at found.left d.fault)) h.0 h.1
+      leave_served d.left.world (leader_at d.left.loading (place_after found.left d.fault)) h.0 h.1
 
-  happen_served : (m : Machine) (e : Event) → Joined m.world → Served m.world → Served (happen m e).after.world
+  happen_served : (m : Machine) (e : Event) → Joined m.world → Served m.world → Served (play_event m e).after.world
   happen_served m event.LeaderUp joined served = meet_served m.leader m.world served
   happen_served m (event.LeaderBytes bytes) joined served = leader_served m.leader m.world bytes joined served
   happen_served m event.LeaderEnd joined served = end_served m.leader m.world joined served
@@ -252,7 +258,7 @@ module _ (stays : ServingStays) where
       (λ _. closes_nobody n m.world.clients.sessions nobody) (λ _. nobody)) served
   happen_served m (event.Expire session) joined served = expire_served m.world session served
   happen_served m event.Checkpoint joined served =
-      stays_served m.world (happen m event.Checkpoint).after.world (rebases_serving m.world.replica)
+      stays_served m.world (play_event m event.Checkpoint).after.world (rebases_serving m.world.replica)
       (λ _ nobody. nobody) served
 
   pub sessions_are_served : ConnectionsAgree → SessionsAreServed
@@ -261,8 +267,9 @@ module _ (stays : ServingStays) where
     starts_primed = λ settings none n. absurd (true≢false none);
     plays = λ m events agrees only none.
         let kept_by_all =
-        happening_keeps (λ (m : Machine). ClientsAgree m.world.clients × Served m.world) (λ _. false) happen
+        happening_keeps (λ (m : Machine). ClientsAgree m.world.clients × Served m.world) (λ _. false) play_event
         (λ m e _ h. (agree.plays m (e ∷ []) h.0, happen_served m e h.0.joined h.1)) m events
         (agrees, λ none. nobody_has m.world.clients.sessions (only none)) in
-        none_has (happening (λ (m : Machine). false) happen m events).after.world.clients.sessions (kept_by_all.1 none);
+        none_has (fold_steps (λ (m : Machine). false) play_event m events).after.world.clients.sessions
+        (kept_by_all.1 none);
   }

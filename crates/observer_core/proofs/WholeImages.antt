@@ -2,27 +2,27 @@
 use Rattle.std.proofs.Common.{◌≡◌, ℕ, Bool, true, false, List, [], ◌∷◌, ◌++◌, Option, Some, None, Result, Ok, Err, refl, sym, ap, subst, ◌∙◌}
 use Rattle.std.specs.FinMap as finmap
 use Rattle.values.specs.declared.fault.Fault.{Fault}
-use Rattle.jute.specs.Stream.{Unread, Place, add, items}
+use Rattle.jute.specs.Stream.{Unread, Place, with_more_bytes, items_in}
 use Rattle.learner_sync.specs.Learner.{Learner}
 use Rattle.learner_sync.specs.Learn.{checkpoint_in}
 use Rattle.learner_sync.specs.declared.phase.Phase.{Phase as LearnerPhase}
 use Rattle.learner_sync.specs.declared.phase.Phase.TheVariants as phase
-use Rattle.quorum_packet.specs.Feed.{ended}
-use Rattle.quorum_packet.specs.Items.{shows}
+use Rattle.quorum_packet.specs.Feed.{stream_end}
+use Rattle.quorum_packet.specs.Items.{items_shown_at}
 use Rattle.quorum_packet.specs.WholeItems.{whole_items}
 use Rattle.quorum_packet.specs.declared.phase.Phase.{Phase}
 use Rattle.quorum_packet.specs.declared.phase.Phase.TheVariants.{Packets, Image}
 use Rattle.replica.specs.Replica.{Replica}
-use Rattle.replica.specs.Taking.{is_serving, rebase_if}
+use Rattle.replica.specs.Taking.{is_serving, checkpoint_if}
 use Rattle.replica.specs.Laws.{awaits_image_in, awaits_image, ImagesComeInParts}
 use Rattle.observer_core.specs.declared.event.Event.{Event}
 use Rattle.observer_core.specs.declared.event.Event.TheVariants as event
 use Rattle.observer_core.specs.Machine.{World, Leader, MachineBy, Machine}
-use Rattle.observer_core.specs.Steps.{Happened, behind, quiet}
-use Rattle.observer_core.specs.Leader.{Led, receive, receive_whole, Arrival, arrive, kept, whole_end, by_parts, by_images, beside, lost, leave_leader, end_as}
+use Rattle.observer_core.specs.Steps.{StepResult, prepend_outputs, no_output}
+use Rattle.observer_core.specs.Leader.{WorldAndLoading, item_step, whole_item_step, StreamProgress, take_items, leader_at, whole_end, part_reader, image_reader, with_leader, on_leader_fault, with_leader_or_fault, on_stream_end}
 use Rattle.observer_core.specs.Serve.{take_client_bytes, open_client, end_client, expire_session}
-use Rattle.observer_core.specs.Play.{serving, checkpointed, happen_by, happen, play_by, play, new_machine, primed_machine, new_by, primed_by}
-use Rattle.observer_core.specs.WholeImages.{SameSeen, PartsAreWholeImages}
+use Rattle.observer_core.specs.Play.{is_serving_clients, with_checkpoint, play_event_by, play_event, play_by, play, new_machine, primed_machine, new_by, primed_by}
+use Rattle.observer_core.specs.WholeImages.{HasSameEffect, PartsAreWholeImages}
 use Rattle.observer_core.proofs.Simulation.{Alike, LeadersAlike, Same, arrives_same}
 use Rattle.observer_core.proofs.Unmoved.{client_same, open_same, end_same, expire_same}
 
@@ -37,20 +37,22 @@ record MachinesAlike (m : Machine) (n : MachineBy (Place Bool)) : Type 0 where
   world : m.world ≡ n.world
   leader : OpenAlike (awaits_image m.world.replica) m.leader n.leader
 
-record SameStep (a : Happened Machine) (b : Happened (MachineBy (Place Bool))) : Type 0 where
+record SameStep (a : StepResult Machine) (b : StepResult (MachineBy (Place Bool))) : Type 0 where
   outputs : a.outputs ≡ b.outputs
   machine : MachinesAlike a.after b.after
 
 -- ---- the leader's bytes
 
 -- what the side by parts makes of what came
-abbrev stood : Happened (Arrival Phase Led) → Result (Place Phase) Fault → Happened Machine
-stood a r = behind a.outputs (leave_leader a.after.left.world (kept a.after.left.loading r))
+abbrev stood : StepResult (StreamProgress Phase WorldAndLoading) → Result (Place Phase) Fault → StepResult Machine
+stood a r = prepend_outputs a.outputs (with_leader_or_fault a.after.left.world (leader_at a.after.left.loading r))
 
-abbrev whole_stood : Happened (Arrival Bool World) → Result (Place Bool) Fault → Happened (MachineBy (Place Bool))
-whole_stood b r = behind b.outputs (leave_leader b.after.left r)
+abbrev whole_stood : StepResult (StreamProgress Bool World) → Result (Place Bool) Fault
+    → StepResult (MachineBy (Place Bool))
+whole_stood b r = prepend_outputs b.outputs (with_leader_or_fault b.after.left r)
 
-stood_same : (a : Happened (Arrival Phase Led)) (b : Happened (Arrival Bool World)) → Same a b
+stood_same : (a : StepResult (StreamProgress Phase WorldAndLoading)) (b : StepResult (StreamProgress Bool World))
+    → Same a b
     → SameStep (stood a a.after.place) (whole_stood b b.after.place)
 stood_same a b s = by a.after.place b.after.place s.leader
   where
@@ -60,8 +62,8 @@ stood_same a b s = by a.after.place b.after.place s.leader
     by (Ok p) (Ok q) alike =
         record { outputs = λ i. s.outputs i ++ []; machine = record { world = s.world; leader = alike } }
     by (Err d) (Err e) same = record {
-      outputs = λ i. s.outputs i ++ (lost {L = Leader} (same i) (s.world i)).outputs;
-      machine = record { world = λ i. (lost {L = Leader} (same i) (s.world i)).after.world; leader = tt };
+      outputs = λ i. s.outputs i ++ (on_leader_fault {L = Leader} (same i) (s.world i)).outputs;
+      machine = record { world = λ i. (on_leader_fault {L = Leader} (same i) (s.world i)).after.world; leader = tt };
     }
     by (Ok p) (Err e) alike = absurd alike
     by (Err d) (Ok q) alike = absurd alike
@@ -69,10 +71,10 @@ stood_same a b s = by a.after.place b.after.place s.leader
 -- ---- the end of a stream
 
 ends_same : (waits : Bool) (l : Leader) (phase : Phase) (u : Unread) (owed : Bool) (v : Unread)
-    → Alike l.loading waits phase u owed v → ended phase u ≡ whole_end owed v
-ends_same waits l Packets (Ok u) false (Ok v) a = ap (λ (x : List ℕ). ended Packets (Ok x)) a.1 ∙ by v
+    → Alike l.loading waits phase u owed v → stream_end phase u ≡ whole_end owed v
+ends_same waits l Packets (Ok u) false (Ok v) a = ap (λ (x : List ℕ). stream_end Packets (Ok x)) a.1 ∙ by v
   where
-    by : (x : List ℕ) → ended Packets (Ok x) ≡ whole_end false (Ok x)
+    by : (x : List ℕ) → stream_end Packets (Ok x) ≡ whole_end false (Ok x)
     by [] = refl
     by (b ∷ bytes) = refl
 ends_same waits l (Image phase) (Ok u) true (Ok v) a = refl
@@ -83,7 +85,7 @@ ends_same waits l (Image phase) (Err e) owed v a = absurd a
 ends_same waits l (Image phase) (Ok u) true (Err e) a = absurd a
 ends_same waits l (Image phase) (Ok u) false v a = absurd a
 
-ended_same : (w : World) (r : Result (Unit {0}) Fault) → SameStep (end_as r w) (end_as r w)
+ended_same : (w : World) (r : Result (Unit {0}) Fault) → SameStep (on_stream_end r w) (on_stream_end r w)
 ended_same w (Ok u) = record { outputs = refl; machine = record { world = refl; leader = tt } }
 ended_same w (Err e) = record { outputs = refl; machine = record { world = refl; leader = tt } }
 
@@ -93,16 +95,16 @@ checkpoint_phase : (p : LearnerPhase) (l : Learner) → (checkpoint_in p l).phas
 checkpoint_phase phase.Serving l = refl
 checkpoint_phase p l = refl
 
-rebased_phase : (b : Bool) (r : Replica) → (rebase_if b r).learner.phase ≡ r.learner.phase
+rebased_phase : (b : Bool) (r : Replica) → (checkpoint_if b r).learner.phase ≡ r.learner.phase
 rebased_phase true r = checkpoint_phase r.learner.phase r.learner
 rebased_phase false r = refl
 
 -- ---- events
 
 -- the world changes, but not whether an image may come
-beside_same : (w : World) (l : Option Leader) (p : Option (Place Bool)) (h : Happened World)
+beside_same : (w : World) (l : Option Leader) (p : Option (Place Bool)) (h : StepResult World)
     → awaits_image h.after.replica ≡ awaits_image w.replica → OpenAlike (awaits_image w.replica) l p
-    → SameStep (beside l h) (beside p h)
+    → SameStep (with_leader l h) (with_leader p h)
 beside_same w l p h same a = record {
   outputs = refl;
   machine = record { world = refl; leader = subst (λ (waits : Bool). OpenAlike waits l p) (sym same) a };
@@ -112,23 +114,23 @@ module _ (law : ImagesComeInParts) where
   -- on the same world
   abbrev SameOn : World → Option Leader → Option (Place Bool) → Event → Type 0
   SameOn w l p e =
-      SameStep (happen_by by_parts (record { leader = l; world = w }) e)
-      (happen_by by_images (record { leader = p; world = w }) e)
+      SameStep (play_event_by part_reader (record { leader = l; world = w }) e)
+      (play_event_by image_reader (record { leader = p; world = w }) e)
 
   step_on : (w : World) (l : Option Leader) (p : Option (Place Bool)) (e : Event)
       → OpenAlike (awaits_image w.replica) l p → SameOn w l p e
   step_on w l p (event.ClientUp n) a =
-      beside_same w l p (quiet (open_client n w)) (ap awaits_image (open_same n w)) a
+      beside_same w l p (no_output (open_client n w)) (ap awaits_image (open_same n w)) a
   step_on w l p (event.ClientBytes n bytes) a =
       let connection = finmap.get w.clients.connections n in
-      beside_same w l p (take_client_bytes (serving w) n w connection bytes)
-      (ap awaits_image (client_same (serving w) n w connection bytes)) a
+      beside_same w l p (take_client_bytes (is_serving_clients w) n w connection bytes)
+      (ap awaits_image (client_same (is_serving_clients w) n w connection bytes)) a
   step_on w l p (event.ClientEnd n) a =
-      beside_same w l p (quiet (end_client n w)) (ap awaits_image (end_same n w)) a
+      beside_same w l p (no_output (end_client n w)) (ap awaits_image (end_same n w)) a
   step_on w l p (event.Expire session) a =
       beside_same w l p (expire_session w session) (ap awaits_image (expire_same w session)) a
   step_on w l p event.Checkpoint a =
-      beside_same w l p (quiet (checkpointed w))
+      beside_same w l p (no_output (with_checkpoint w))
       (ap awaits_image_in (rebased_phase (is_serving w.replica) w.replica)) a
   step_on w None None event.LeaderUp a =
       record { outputs = refl; machine = record { world = refl; leader = (refl, refl) } }
@@ -138,40 +140,43 @@ module _ (law : ImagesComeInParts) where
   step_on w (Some l) (Some p) event.LeaderUp a =
       record { outputs = refl; machine = record { world = refl; leader = a } }
   step_on w (Some l) (Some p) (event.LeaderBytes bytes) a =
-      stood_same (arrive receive (record { loading = l.loading; world = w }) (shows (add l.place bytes)))
-      (arrive receive_whole w (items whole_items (add p bytes)))
+      stood_same (take_items item_step (record { loading = l.loading; world = w })
+      (items_shown_at (with_more_bytes l.place bytes)))
+      (take_items whole_item_step w (items_in whole_items (with_more_bytes p bytes)))
       (arrives_same law l.loading l.place.phase l.place.unread p.phase p.unread w bytes a)
   step_on w (Some l) (Some p) event.LeaderEnd a =
       let same = ends_same (awaits_image w.replica) l l.place.phase l.place.unread p.phase p.unread a in
-      let stops = ended l.place.phase l.place.unread in
-      subst (λ (r : Result (Unit {0}) Fault). SameStep (end_as stops w) (end_as r w)) same (ended_same w stops)
+      let stops = stream_end l.place.phase l.place.unread in
+      subst (λ (r : Result (Unit {0}) Fault). SameStep (on_stream_end stops w) (on_stream_end r w)) same
+      (ended_same w stops)
   step_on w None (Some p) e a = absurd a
   step_on w (Some l) None e a = absurd a
 
   step : (m : Machine) (n : MachineBy (Place Bool)) (e : Event) → MachinesAlike m n
-      → SameStep (happen m e) (happen_by by_images n e)
+      → SameStep (play_event m e) (play_event_by image_reader n e)
   step m n e a =
-      subst (λ (w : World). SameStep (happen m e) (happen_by by_images (record { leader = n.leader; world = w }) e))
+      subst (λ (w : World). SameStep (play_event m e)
+      (play_event_by image_reader (record { leader = n.leader; world = w }) e))
       a.world (step_on m.world m.leader n.leader e a.leader)
 
   plays_alike : (m : Machine) (n : MachineBy (Place Bool)) (events : List Event) → MachinesAlike m n
-      → SameStep (play m events) (play_by by_images n events)
+      → SameStep (play m events) (play_by image_reader n events)
   plays_alike m n [] a = record { outputs = refl; machine = a }
   plays_alike m n (e ∷ events) a =
       let one = step m n e a in
-      let others = plays_alike (happen m e).after (happen_by by_images n e).after events one.machine in
+      let others = plays_alike (play_event m e).after (play_event_by image_reader n e).after events one.machine in
       record { outputs = λ i. one.outputs i ++ others.outputs i; machine = others.machine }
 
   seen_same : (m : Machine) (n : MachineBy (Place Bool)) (events : List Event) → MachinesAlike m n
-      → SameSeen (play m events) (play_by by_images n events)
+      → HasSameEffect (play m events) (play_by image_reader n events)
   seen_same m n events a =
       let s = plays_alike m n events a in
       record { outputs = s.outputs; world = s.machine.world }
 
   pub parts_are_whole_images : PartsAreWholeImages
   parts_are_whole_images = record {
-    made = λ settings events. seen_same (new_machine settings) (new_by by_images settings) events
+    made = λ settings events. seen_same (new_machine settings) (new_by image_reader settings) events
         (record { world = refl; leader = tt });
-    primed = λ settings events. seen_same (primed_machine settings) (primed_by by_images settings) events
+    primed = λ settings events. seen_same (primed_machine settings) (primed_by image_reader settings) events
         (record { world = refl; leader = (refl, refl) });
   }

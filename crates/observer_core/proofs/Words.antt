@@ -10,20 +10,20 @@ use mathlib.Core.Bool.{true≢false}
 use Rattle.values.specs.declared.fault.Fault.{Fault}
 use Rattle.values.specs.declared.fault.Fault.TheVariants.{Short}
 use Rattle.jute.specs.Format.{◌>>=◌, int, judged_at}
-use Rattle.jute.specs.Frame.{frame, frame_at, frame_length, front_of}
-use Rattle.jute.specs.Stream.{refused}
-use Rattle.four_letter.specs.Words.{letters, word_of, needs_watches}
-use Rattle.four_letter.specs.Texts.{text}
+use Rattle.jute.specs.Frame.{frame_format, frame_at, frame_length, front_of}
+use Rattle.jute.specs.Stream.{unread_after_fault}
+use Rattle.four_letter.specs.Words.{letters_of, word_of, needs_watches}
+use Rattle.four_letter.specs.Texts.{reply_text}
 use Rattle.four_letter.specs.declared.figures.Figures.{Figures}
 use Rattle.four_letter.specs.declared.figures.WatchRow.{WatchRow}
 use Rattle.four_letter.specs.declared.word.Word.{Word}
 use Rattle.four_letter.specs.declared.word.Word.TheVariants.{Ruok, Isro, Srvr, Mntr, Wchs, Wchp}
-use Rattle.observer_core.specs.Serve.{said, client_frame_limit}
+use Rattle.observer_core.specs.Serve.{word_without_session, client_frame_limit}
 
 -- ---- words and bytes
 
 -- the letters of a word are four
-four : (word : Word) → length (letters word) ≡ 4
+four : (word : Word) → length (letters_of word) ≡ 4
 four Ruok = refl
 four Isro = refl
 four Srvr = refl
@@ -31,12 +31,12 @@ four Mntr = refl
 four Wchs = refl
 four Wchp = refl
 
-spelt : (word : Word) (bytes : List ℕ) → length bytes < 4 → bytes_eq bytes (letters word) ≡ false
-spelt word bytes short = by (bytes_eq bytes (letters word)) refl
+spelt : (word : Word) (bytes : List ℕ) → length bytes < 4 → bytes_eq bytes (letters_of word) ≡ false
+spelt word bytes short = by (bytes_eq bytes (letters_of word)) refl
   where
-    by : (b : Bool) → bytes_eq bytes (letters word) ≡ b → b ≡ false
+    by : (b : Bool) → bytes_eq bytes (letters_of word) ≡ b → b ≡ false
     by true e =
-        let same = ap length ((bytes_eq-Decides bytes (letters word)).0 e) in
+        let same = ap length ((bytes_eq-Decides bytes (letters_of word)).0 e) in
         let count = four word in
         absurd (omega arith)
     by false e = refl
@@ -52,12 +52,13 @@ no_word bytes short = rw (
   spelt Wchp bytes short,
 ) refl
 
-pub says_none : (session : Option ℤ) (word : Option Word) → word ≡ None → said session word ≡ None
+pub says_none : (session : Option ℤ) (word : Option Word) → word ≡ None → word_without_session session word ≡ None
 says_none None word e = e
 says_none (Some session) word e = refl
 
 -- who has a session says none
-pub has_said : (session : Option ℤ) (word : Option Word) → is_some session ≡ true → said session word ≡ None
+pub has_said : (session : Option ℤ) (word : Option Word) → is_some session ≡ true
+    → word_without_session session word ≡ None
 has_said None word has = absurd (true≢false (sym has))
 has_said (Some session) word has = refl
 
@@ -67,15 +68,17 @@ same_front bytes more enough = ap word_of (take-append-le 4 bytes more enough)
 
 -- a word that was said is said still with more behind it
 pub still_says : (session : Option ℤ) (word : Word) (bytes more : List ℕ)
-    → said session (word_of (take 4 bytes)) ≡ Some word → said session (word_of (take 4 (bytes ++ more))) ≡ Some word
+    → word_without_session session (word_of (take 4 bytes)) ≡ Some word
+    → word_without_session session (word_of (take 4 (bytes ++ more))) ≡ Some word
 still_says session word bytes more says = by (cases_lt (length bytes) 4)
   where
-    by : (length bytes < 4) ⊎ (4 ≤ length bytes) → said session (word_of (take 4 (bytes ++ more))) ≡ Some word
+    by : (length bytes < 4) ⊎ (4 ≤ length bytes)
+        → word_without_session session (word_of (take 4 (bytes ++ more))) ≡ Some word
     by (inl short) =
         let none = says_none session (word_of (take 4 bytes))
         (no_word (take 4 bytes) (omega (arith, length-take 4 bytes))) in
         absurd (none-some word (sym none ∙ says))
-    by (inr enough) = ap (said session) (same_front bytes more enough) ∙ says
+    by (inr enough) = ap (word_without_session session) (same_front bytes more enough) ∙ says
 
 -- ---- words and frames
 
@@ -88,13 +91,13 @@ abbrev counted_in : Result (ℤ × List ℕ) Fault → Result (ℕ × List ℕ) 
 counted_in r = r >>= λ a. frame_length client_frame_limit a.0 >>= λ v. Ok (v, a.1)
 
 -- fewer bytes have no length
-pub short_frame : (bytes : List ℕ) → length bytes < 4 → (frame client_frame_limit).read bytes ≡ Err Short
+pub short_frame : (bytes : List ℕ) → length bytes < 4 → (frame_format client_frame_limit).read bytes ≡ Err Short
 unfolding frame_at judged_at
 short_frame bytes short =
     ap (λ (r : Result (ℤ × List ℕ) Fault). counted_in r >>= λ k. front_of k.0 k.1) (int_short bytes short)
 
 -- bytes that wait where no frame is whole are all
-pub still_waits : (e : Fault) (bytes rest : List ℕ) → refused e bytes ≡ Ok rest → bytes ≡ rest
+pub still_waits : (e : Fault) (bytes rest : List ℕ) → unread_after_fault e bytes ≡ Ok rest → bytes ≡ rest
 still_waits Short bytes rest is = cc
 still_waits e bytes rest is = cc
 
@@ -102,10 +105,10 @@ still_waits e bytes rest is = cc
 
 -- a word that tells of no watch is answered alike whatever is watched
 pub same_text : (word : Word) (f : Figures) (rows : List WatchRow) → (needs_watches word ≡ true → rows ≡ f.watches)
-    → text word (record f { watches = rows }) ≡ text word f
+    → reply_text word (record f { watches = rows }) ≡ reply_text word f
 same_text Ruok f rows same = refl
 same_text Isro f rows same = refl
 same_text Srvr f rows same = refl
-same_text Mntr f rows same = ap (λ (r : List WatchRow). text Mntr (record f { watches = r })) (same refl)
-same_text Wchs f rows same = ap (λ (r : List WatchRow). text Wchs (record f { watches = r })) (same refl)
-same_text Wchp f rows same = ap (λ (r : List WatchRow). text Wchp (record f { watches = r })) (same refl)
+same_text Mntr f rows same = ap (λ (r : List WatchRow). reply_text Mntr (record f { watches = r })) (same refl)
+same_text Wchs f rows same = ap (λ (r : List WatchRow). reply_text Wchs (record f { watches = r })) (same refl)
+same_text Wchp f rows same = ap (λ (r : List WatchRow). reply_text Wchp (record f { watches = r })) (same refl)

@@ -2,19 +2,19 @@
 use Rattle.std.specs.Prelude.{◌≡◌, ℕ, ℤ, List, Some, None, true, false, IsTrue}
 use Rattle.std.specs.FinMap as finmap
 use Rattle.settings.specs.Settings.{is_server_id}
-use Rattle.sessions.specs.Sessions.{session_of}
-use Rattle.sessions.specs.Agreement.{Agrees}
+use Rattle.sessions.specs.Sessions.{session_of_connection}
+use Rattle.sessions.specs.Agreement.{SessionsAgree}
 use Rattle.watch_manager.specs.Laws.{WatchersPass}
 use Rattle.observer_core.specs.declared.config.Settings.{Settings}
 use Rattle.observer_core.specs.declared.event.Event.{Event}
 use Rattle.observer_core.specs.Machine.{Clients, World, Machine}
 use Rattle.observer_core.specs.Clients.{is_open}
-use Rattle.observer_core.specs.Play.{serving, play, new_machine, primed_machine}
+use Rattle.observer_core.specs.Play.{is_serving_clients, play, new_machine, primed_machine}
 
 -- Sessions and watches name open connections.
 pub record ClientsAgree (c : Clients) : Type 0 where
   -- each connection's session is a guest session that hasn't ended, and that session's connection is this one
-  pub sessions : Agrees c.sessions
+  pub sessions : SessionsAgree c.sessions
   -- whoever has a session is open
   pub joined : (n : ℕ) → finmap.contains_key c.sessions.connections n ≡ true → is_open n c ≡ true
   -- whoever watches something is open
@@ -23,7 +23,7 @@ pub record ClientsAgree (c : Clients) : Type 0 where
 -- no two connections have one session
 abbrev pub OneSessionEach : Type 0
 OneSessionEach = (c : Clients) → ClientsAgree c → (m n : ℕ) (session : ℤ)
-    → session_of c.sessions m ≡ Some session → session_of c.sessions n ≡ Some session → m ≡ n
+    → session_of_connection c.sessions m ≡ Some session → session_of_connection c.sessions n ≡ Some session → m ≡ n
 
 -- it is so at the start, and no event ends it
 pub record ConnectionsAgree : Type 0 where
@@ -36,12 +36,12 @@ pub record ConnectionsAgree : Type 0 where
   pub apart : OneSessionEach
 
 -- where clients aren't served nobody has a session
-abbrev pub OnlyServedJoin : World → Type 0
-OnlyServedJoin w = serving w ≡ false → (n : ℕ) → session_of w.clients.sessions n ≡ None
+abbrev pub NoSessionUnlessServing : World → Type 0
+NoSessionUnlessServing w = is_serving_clients w ≡ false → (n : ℕ) → session_of_connection w.clients.sessions n ≡ None
 
 -- it is so at the start, and no event ends it
 pub record SessionsAreServed : Type 0 where
-  pub starts : (settings : Settings) → OnlyServedJoin (new_machine settings).world
-  pub starts_primed : (settings : Settings) → OnlyServedJoin (primed_machine settings).world
-  pub plays : (m : Machine) (events : List Event) → ClientsAgree m.world.clients → OnlyServedJoin m.world
-      → OnlyServedJoin (play m events).after.world
+  pub starts : (settings : Settings) → NoSessionUnlessServing (new_machine settings).world
+  pub starts_primed : (settings : Settings) → NoSessionUnlessServing (primed_machine settings).world
+  pub plays : (m : Machine) (events : List Event) → ClientsAgree m.world.clients → NoSessionUnlessServing m.world
+      → NoSessionUnlessServing (play m events).after.world

@@ -7,30 +7,30 @@ use Rattle.observer_core.specs.declared.event.Event.TheVariants.{ClientUp, Clien
 use Rattle.observer_core.specs.declared.event.Output.{Output}
 use Rattle.observer_core.specs.declared.event.Output.TheVariants.{ToLeader, ToClient, CloseLeader, CloseClient}
 use Rattle.observer_core.specs.Machine.{Clients, World, Machine}
-use Rattle.sessions.specs.Sessions.{session_of}
-use Rattle.observer_core.specs.Steps.{Happened}
+use Rattle.sessions.specs.Sessions.{session_of_connection}
+use Rattle.observer_core.specs.Steps.{StepResult}
 use Rattle.observer_core.specs.Clients.{is_open}
 use Rattle.observer_core.specs.Agreement.{ClientsAgree}
-use Rattle.observer_core.specs.Play.{happen}
+use Rattle.observer_core.specs.Play.{play_event}
 
 -- frames go to the client alone, and nothing to the leader; its own connection may be closed, and those that are left
-abbrev pub IsOf : ℕ → (ℕ → Type 0) → Output → Type 0
-IsOf n left (ToLeader bytes) = ⊥
-IsOf n left (ToClient k frame) = k ≡ n
-IsOf n left (CloseLeader e) = ⊥
-IsOf n left (CloseClient k) = (k ≡ n) ⊎ left k
+abbrev pub ConcernsOnly : ℕ → (ℕ → Type 0) → Output → Type 0
+ConcernsOnly n left (ToLeader bytes) = ⊥
+ConcernsOnly n left (ToClient k frame) = k ≡ n
+ConcernsOnly n left (CloseLeader e) = ⊥
+ConcernsOnly n left (CloseClient k) = (k ≡ n) ⊎ left k
 
 -- the connection k had a session that the client n took up: n had none before, and it has this one now if it is still
 -- open
 pub record IsTakenUp (n : ℕ) (before after : Clients) (k : ℕ) : Type 0 where
   pub session : ℤ
-  pub had : session_of before.sessions k ≡ Some session
-  pub none : session_of before.sessions n ≡ None
-  pub has : is_open n after ≡ true → session_of after.sessions n ≡ Some session
+  pub had : session_of_connection before.sessions k ≡ Some session
+  pub none : session_of_connection before.sessions n ≡ None
+  pub has : is_open n after ≡ true → session_of_connection after.sessions n ≡ Some session
 
 -- the connection isn't closed
-abbrev pub StaysOpen : ℕ → List Output → Type 0
-StaysOpen k outputs = AllByRecursion (λ output. output ≢ CloseClient k) outputs
+abbrev pub IsNotClosed : ℕ → List Output → Type 0
+IsNotClosed k outputs = AllByRecursion (λ output. output ≢ CloseClient k) outputs
 
 -- a connection's bytes that wait, its session and ids, and what it watches are as before
 pub record IsUntouched (k : ℕ) (before after : Clients) : Type 0 where
@@ -40,21 +40,21 @@ pub record IsUntouched (k : ℕ) (before after : Clients) : Type 0 where
   pub child : (path : List ℕ) → set.contains after.watches.child (path, k) ≡ set.contains before.watches.child (path, k)
 
 -- what happened to the world is the client's alone, where those that are left may be closed besides
-pub record IsApart (n : ℕ) (left : ℕ → Type 0) (w : World) (h : Happened World) : Type 0 where
-  pub outputs : AllByRecursion (IsOf n left) h.outputs
+pub record IsApart (n : ℕ) (left : ℕ → Type 0) (w : World) (h : StepResult World) : Type 0 where
+  pub outputs : AllByRecursion (ConcernsOnly n left) h.outputs
   pub replica : h.after.replica ≡ w.replica
   -- another connection that isn't closed is untouched
-  pub others : (k : ℕ) → k ≢ n → StaysOpen k h.outputs → IsUntouched k w.clients h.after.clients
+  pub others : (k : ℕ) → k ≢ n → IsNotClosed k h.outputs → IsUntouched k w.clients h.after.clients
 
 -- the same of a machine, where a connection is left if its session was taken up; the leader's bytes wait as before
-pub record ReachesOnly (n : ℕ) (m : Machine) (h : Happened Machine) : Type 0 where
+pub record ReachesOnlyClient (n : ℕ) (m : Machine) (h : StepResult Machine) : Type 0 where
   pub leader : h.after.leader ≡ m.leader
   pub world : IsApart n (IsTakenUp n m.world.clients h.after.world.clients) m.world
       (record { outputs = h.outputs; after = h.after.world })
 
 -- a client that comes, sends, or goes
 pub record ClientsAreApart : Type 0 where
-  pub comes : (m : Machine) (n : ℕ) → ReachesOnly n m (happen m (ClientUp n))
+  pub comes : (m : Machine) (n : ℕ) → ReachesOnlyClient n m (play_event m (ClientUp n))
   pub sends : (m : Machine) (n : ℕ) (bytes : List ℕ) → ClientsAgree m.world.clients
-      → ReachesOnly n m (happen m (ClientBytes n bytes))
-  pub goes : (m : Machine) (n : ℕ) → ReachesOnly n m (happen m (ClientEnd n))
+      → ReachesOnlyClient n m (play_event m (ClientBytes n bytes))
+  pub goes : (m : Machine) (n : ℕ) → ReachesOnlyClient n m (play_event m (ClientEnd n))

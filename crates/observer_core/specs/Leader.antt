@@ -3,53 +3,53 @@ use Rattle.std.specs.Prelude.{ℕ, List, [], ◌∷◌, ◌++◌, map, Option, S
 use Rattle.values.specs.declared.fault.Fault.{Fault}
 use Rattle.values.specs.declared.fault.Fault.TheVariants.{Short}
 use Rattle.jute.specs.Format.{◌>>=◌}
-use Rattle.jute.specs.Stream.{Place, Items, Unread, add, items, place_at}
+use Rattle.jute.specs.Stream.{Place, Items, Unread, with_more_bytes, items_in, place_at}
 use Rattle.snapshot_codec.specs.Made.{Loading}
 use Rattle.quorum_packet.specs.declared.item.Item.{Item}
 use Rattle.quorum_packet.specs.declared.packet.QuorumPacket.{QuorumPacket}
 use Rattle.quorum_packet.specs.declared.phase.Phase.{Phase}
 use Rattle.quorum_packet.specs.declared.phase.Phase.TheVariants.{Packets}
 use Rattle.quorum_packet.specs.Feed.{end_of}
-use Rattle.quorum_packet.specs.Items.{shows}
-use Rattle.quorum_packet.specs.Packet.{packet}
+use Rattle.quorum_packet.specs.Items.{items_shown_at}
+use Rattle.quorum_packet.specs.Packet.{packet_format}
 use Rattle.quorum_packet.specs.WholeItems.{WholeItem, whole_items}
-use Rattle.replica.specs.Taking.{Taken, unloaded, take, take_whole, begin, leave}
+use Rattle.replica.specs.Taking.{ItemEffect, nothing_loaded, take_item, take_whole, follow_leader, without_leader}
 use Rattle.watch_manager.specs.Watches.{fire}
 use Rattle.observer_core.specs.declared.event.Output.{Output}
 use Rattle.observer_core.specs.declared.event.Output.TheVariants.{ToLeader, CloseLeader}
 use Rattle.observer_core.specs.Machine.{World, Leader, MachineBy}
-use Rattle.observer_core.specs.Steps.{Happened, behind, quiet, and_then, happening}
-use Rattle.observer_core.specs.Clients.{notices, closing_all}
+use Rattle.observer_core.specs.Steps.{StepResult, prepend_outputs, no_output, and_then, fold_steps}
+use Rattle.observer_core.specs.Clients.{notices_of, close_all_clients}
 
 -- ---- one packet, part or image
 
 abbrev pub to_leader : QuorumPacket → Output
-to_leader p = ToLeader (packet.written p)
+to_leader p = ToLeader (packet_format.written p)
 
 -- What was taken is told at once: packets go to the leader, and events to those who watch, which uses up their watches.
-abbrev pub tell : World → Taken → Happened World
-tell w t =
+abbrev pub send_effect : World → ItemEffect → StepResult World
+send_effect w t =
     let fired = fire w.clients.watches t.triggers in
     record {
-      outputs = map to_leader t.replies ++ notices fired.events;
+      outputs = map to_leader t.replies ++ notices_of fired.events;
       after = record w { replica = t.replica; clients = record w.clients { watches = fired.left } };
     }
 
 -- a world, and beside it how much of an image is loaded
-pub record Led : Type 0 where
+pub record WorldAndLoading : Type 0 where
   pub loading : Loading
   pub world : World
 
-abbrev pub with_loading : Loading → Happened World → Happened Led
-with_loading loading h = record { outputs = h.outputs; after = record { loading = loading; world = h.after } }
+abbrev pub step_with_loading : Loading → StepResult World → StepResult WorldAndLoading
+step_with_loading loading h = record { outputs = h.outputs; after = record { loading = loading; world = h.after } }
 
 -- what a packet or a part does, or the fault for which it is refused
-abbrev pub receive : Led → Item → Result (Happened Led) Fault
-receive d i = take d.loading d.world.replica i >>= λ t. Ok (with_loading t.loading (tell d.world t))
+abbrev pub item_step : WorldAndLoading → Item → Result (StepResult WorldAndLoading) Fault
+item_step d i = take_item d.loading d.world.replica i >>= λ t. Ok (step_with_loading t.loading (send_effect d.world t))
 
 -- the same of packets and whole images
-abbrev pub receive_whole : World → WholeItem → Result (Happened World) Fault
-receive_whole w i = take_whole w.replica i >>= λ t. Ok (tell w t)
+abbrev pub whole_item_step : World → WholeItem → Result (StepResult World) Fault
+whole_item_step w i = take_whole w.replica i >>= λ t. Ok (send_effect w t)
 
 -- ---- one behind another, up to the first that is refused
 
@@ -59,66 +59,69 @@ pub record Delivery (W : Type 0) : Type 0 where
   pub fault : Option Fault
 
 -- what is refused changes nothing, and ends the stream
-abbrev pub deliver_as : {W : Type 0} → Result (Happened W) Fault → W → Happened (Delivery W)
-deliver_as (Ok h) w = record { outputs = h.outputs; after = record { left = h.after; fault = None } }
-deliver_as (Err e) w = quiet (record { left = w; fault = Some e })
+abbrev pub delivery_of : {W : Type 0} → Result (StepResult W) Fault → W → StepResult (Delivery W)
+delivery_of (Ok h) w = record { outputs = h.outputs; after = record { left = h.after; fault = None } }
+delivery_of (Err e) w = no_output (record { left = w; fault = Some e })
 
-abbrev pub deliver : {W I : Type 0} → (W → I → Result (Happened W) Fault) → Delivery W → I → Happened (Delivery W)
-deliver take d i = deliver_as (take d.left i) d.left
+abbrev pub deliver_item : {W I : Type 0} → (W → I → Result (StepResult W) Fault) → Delivery W → I
+    → StepResult (Delivery W)
+deliver_item take d i = delivery_of (take d.left i) d.left
 
 abbrev pub is_refused : {W : Type 0} → Delivery W → Bool
 is_refused d = is_some d.fault
 
-abbrev pub deliver_all : {W I : Type 0} → (W → I → Result (Happened W) Fault) → W → List I → Happened (Delivery W)
-deliver_all take w is = happening is_refused (deliver take) (record { left = w; fault = None }) is
+abbrev pub deliver_all : {W I : Type 0} → (W → I → Result (StepResult W) Fault) → W → List I → StepResult (Delivery W)
+deliver_all take w is = fold_steps is_refused (deliver_item take) (record { left = w; fault = None }) is
 
 -- the place behind what was found, unless the stream has a fault there
-abbrev pub stand_at : {S : Type 0} → Place S → Unread → Result (Place S) Fault
-stand_at place (Ok bytes) = Ok place
-stand_at place (Err e) = Err e
+abbrev pub place_or_fault : {S : Type 0} → Place S → Unread → Result (Place S) Fault
+place_or_fault place (Ok bytes) = Ok place
+place_or_fault place (Err e) = Err e
 
-abbrev pub end_at : {S : Type 0} → Place S → Option Fault → Result (Place S) Fault
-end_at place None = stand_at place place.unread
-end_at place (Some e) = Err e
+abbrev pub place_after : {S : Type 0} → Place S → Option Fault → Result (Place S) Fault
+place_after place None = place_or_fault place place.unread
+place_after place (Some e) = Err e
 
 -- what is left behind all that was found, and where the stream stands then
-pub record Arrival (S W : Type 0) : Type 0 where
+pub record StreamProgress (S W : Type 0) : Type 0 where
   pub left : W
   pub place : Result (Place S) Fault
 
-abbrev pub arrive : {S W I : Type 0} → (W → I → Result (Happened W) Fault) → W → Items S I → Happened (Arrival S W)
-arrive take w found =
+abbrev pub take_items : {S W I : Type 0} → (W → I → Result (StepResult W) Fault) → W → Items S I
+    → StepResult (StreamProgress S W)
+take_items take w found =
     let h = deliver_all take w found.found in
-    record { outputs = h.outputs; after = record { left = h.after.left; place = end_at found.left h.after.fault } }
+    record { outputs = h.outputs; after = record { left = h.after.left; place = place_after found.left h.after.fault } }
 
 -- ---- two ways to take a leader's stream: part by part, and by whole images
 
 -- the world, and what is kept of the stream; or the fault that ended it
-pub record Followed (L : Type 0) : Type 0 where
+pub record WorldAndLeader (L : Type 0) : Type 0 where
   pub world : World
   pub leader : Result L Fault
 
-pub record Side (L : Type 0) : Type 0 where
+pub record StreamReader (L : Type 0) : Type 0 where
   -- what is kept where a stream begins
   pub opened : L
   -- what a piece does
-  pub taken : L → World → List ℕ → Happened (Followed L)
+  pub taken : L → World → List ℕ → StepResult (WorldAndLeader L)
   -- whether the stream may end
   pub ended : L → Result (Unit {0}) Fault
 
-abbrev pub kept : Loading → Result (Place Phase) Fault → Result Leader Fault
-kept loading r = r >>= λ place. Ok (record { place = place; loading = loading })
+abbrev pub leader_at : Loading → Result (Place Phase) Fault → Result Leader Fault
+leader_at loading r = r >>= λ place. Ok (record { place = place; loading = loading })
 
 -- Part by part, so that an image is never there beside the tree that it makes. What was loaded of one goes with the
 -- leader.
-abbrev pub by_parts : Side Leader
-by_parts = record {
-  opened = record { place = place_at Packets []; loading = unloaded };
+abbrev pub part_reader : StreamReader Leader
+part_reader = record {
+  opened = record { place = place_at Packets []; loading = nothing_loaded };
   taken = λ l w bytes.
-      let h = arrive receive (record { loading = l.loading; world = w }) (shows (add l.place bytes)) in
+      let h = take_items item_step (record { loading = l.loading; world = w })
+      (items_shown_at (with_more_bytes l.place bytes)) in
       record {
         outputs = h.outputs;
-        after = record { world = h.after.left.world; leader = kept h.after.left.loading h.after.place };
+        after = record { world = h.after.left.world; leader = leader_at h.after.left.loading h.after.place };
       };
   ended = λ l. end_of l.place;
 }
@@ -131,11 +134,11 @@ whole_end false (Ok []) = Ok tt
 whole_end false (Ok (b ∷ bytes)) = Err Short
 
 -- by whole images
-abbrev pub by_images : Side (Place Bool)
-by_images = record {
+abbrev pub image_reader : StreamReader (Place Bool)
+image_reader = record {
   opened = place_at false [];
   taken = λ place w bytes.
-      let h = arrive receive_whole w (items whole_items (add place bytes)) in
+      let h = take_items whole_item_step w (items_in whole_items (with_more_bytes place bytes)) in
       record { outputs = h.outputs; after = record { world = h.after.left; leader = h.after.place } };
   ended = λ place. whole_end place.phase place.unread;
 }
@@ -143,47 +146,47 @@ by_images = record {
 -- ---- a leader comes, sends, and goes
 
 -- what happens to the world leaves the leader's stream
-abbrev pub beside : {L : Type 0} → Option L → Happened World → Happened (MachineBy L)
-beside leader h = record { outputs = h.outputs; after = record { leader = leader; world = h.after } }
+abbrev pub with_leader : {L : Type 0} → Option L → StepResult World → StepResult (MachineBy L)
+with_leader leader h = record { outputs = h.outputs; after = record { leader = leader; world = h.after } }
 
 -- the observer introduces itself; while there is a leader another is passed over
-abbrev pub meet_leader : {L : Type 0} → Side L → Option L → World → Happened (MachineBy L)
+abbrev pub meet_leader : {L : Type 0} → StreamReader L → Option L → World → StepResult (MachineBy L)
 meet_leader side None w =
-    let t = begin w.replica w.settings.server_id in
+    let t = follow_leader w.replica w.settings.server_id in
     record {
       outputs = map to_leader t.replies;
       after = record { leader = Some side.opened; world = record w { replica = t.replica } };
     }
-meet_leader side (Some l) w = quiet (record { leader = Some l; world = w })
+meet_leader side (Some l) w = no_output (record { leader = Some l; world = w })
 
 -- all connections are closed, and with them go the watches; transactions that were proposed are forgotten
-abbrev pub disconnected : World → Happened World
-disconnected w =
-    let closed = closing_all w.clients in
-    record { outputs = closed.outputs; after = record w { replica = leave w.replica; clients = closed.after } }
+abbrev pub disconnect_all : World → StepResult World
+disconnect_all w =
+    let closed = close_all_clients w.clients in
+    record { outputs = closed.outputs; after = record w { replica = without_leader w.replica; clients = closed.after } }
 
 -- the leader goes, and the clients are closed
-abbrev pub gone : {L : Type 0} → World → Happened (MachineBy L)
-gone w = beside None (disconnected w)
+abbrev pub on_leader_end : {L : Type 0} → World → StepResult (MachineBy L)
+on_leader_end w = with_leader None (disconnect_all w)
 
 -- A fault closes the leader, and then the open connections. The rest of the leader's bytes is dropped.
-abbrev pub lost : {L : Type 0} → Fault → World → Happened (MachineBy L)
-lost e w = behind (CloseLeader e ∷ []) (gone w)
+abbrev pub on_leader_fault : {L : Type 0} → Fault → World → StepResult (MachineBy L)
+on_leader_fault e w = prepend_outputs (CloseLeader e ∷ []) (on_leader_end w)
 
-abbrev pub leave_leader : {L : Type 0} → World → Result L Fault → Happened (MachineBy L)
-leave_leader w (Ok l) = quiet (record { leader = Some l; world = w })
-leave_leader w (Err e) = lost e w
+abbrev pub with_leader_or_fault : {L : Type 0} → World → Result L Fault → StepResult (MachineBy L)
+with_leader_or_fault w (Ok l) = no_output (record { leader = Some l; world = w })
+with_leader_or_fault w (Err e) = on_leader_fault e w
 
 -- without a leader its bytes are passed over
-abbrev pub take_leader_bytes : {L : Type 0} → Side L → Option L → World → List ℕ → Happened (MachineBy L)
-take_leader_bytes side None w bytes = quiet (record { leader = None; world = w })
-take_leader_bytes side (Some l) w bytes = and_then (side.taken l w bytes) (λ a. leave_leader a.world a.leader)
+abbrev pub take_leader_bytes : {L : Type 0} → StreamReader L → Option L → World → List ℕ → StepResult (MachineBy L)
+take_leader_bytes side None w bytes = no_output (record { leader = None; world = w })
+take_leader_bytes side (Some l) w bytes = and_then (side.taken l w bytes) (λ a. with_leader_or_fault a.world a.leader)
 
 -- a stream that ends in the middle of something is a fault
-abbrev pub end_as : {L : Type 0} → Result (Unit {0}) Fault → World → Happened (MachineBy L)
-end_as (Ok u) w = gone w
-end_as (Err e) w = lost e w
+abbrev pub on_stream_end : {L : Type 0} → Result (Unit {0}) Fault → World → StepResult (MachineBy L)
+on_stream_end (Ok u) w = on_leader_end w
+on_stream_end (Err e) w = on_leader_fault e w
 
-abbrev pub end_leader : {L : Type 0} → Side L → Option L → World → Happened (MachineBy L)
-end_leader side None w = quiet (record { leader = None; world = w })
-end_leader side (Some l) w = end_as (side.ended l) w
+abbrev pub end_leader : {L : Type 0} → StreamReader L → Option L → World → StepResult (MachineBy L)
+end_leader side None w = no_output (record { leader = None; world = w })
+end_leader side (Some l) w = on_stream_end (side.ended l) w

@@ -7,25 +7,25 @@ use Rattle.jute.specs.Stream.{Place}
 use Rattle.snapshot_codec.specs.Made.{Loading}
 use Rattle.quorum_packet.specs.declared.phase.Phase.{Phase}
 use Rattle.replica.specs.Replica.{Replica}
-use Rattle.sessions.specs.State.{State as Sessions, state_code as sessions_code}
-use Rattle.watch_manager.specs.Watching.{Watching, watching_code}
+use Rattle.sessions.specs.State.{SessionTable as Sessions, session_table_code as sessions_code}
+use Rattle.watch_manager.specs.Watching.{WatchTables, watch_tables_code}
 use Rattle.observer_core.specs.declared.config.Settings.{Settings}
 
 -- an open connection of a client: its bytes that wait for more
-pub record Connection : Type 0 where
+pub record OpenConnection : Type 0 where
   pub rest : List ℕ
 
 -- the open connections by their numbers
-abbrev pub Connections : Type 0
-Connections = finmap.FinMap nat_cmp Connection
+abbrev pub OpenConnections : Type 0
+OpenConnections = finmap.FinMap nat_cmp OpenConnection
 
 -- what is known of clients
 pub record Clients : Type 0 where
-  pub connections : Connections
+  pub connections : OpenConnections
   -- the sessions, and which connection has which
   pub sessions : Sessions
   -- which connection watches which path
-  pub watches : Watching
+  pub watches : WatchTables
 
 -- all but the leader's bytes
 pub record World : Type 0 where
@@ -49,15 +49,16 @@ Machine = MachineBy Leader
 
 -- ---- codes
 
-abbrev pub connection_code : Coded Connection
-connection_code = code_by (List ℕ) (coded_list coded_ℕ) (λ c. c.rest) (λ rest. record { rest = rest }) (λ _. refl)
+abbrev pub open_connection_code : Coded OpenConnection
+open_connection_code = code_by (List ℕ) (coded_list coded_ℕ) (λ c. c.rest) (λ rest. record { rest = rest }) (λ _. refl)
 
-abbrev pub connections_code : Coded Connections
-connections_code = finmap.code {R = nat_cmp} coded_ℕ connection_code
+abbrev pub open_connections_code : Coded OpenConnections
+open_connections_code = finmap.code {R = nat_cmp} coded_ℕ open_connection_code
 
 abbrev pub clients_code : Coded Clients
 clients_code =
-    code_by (Connections × (Sessions × Watching)) (coded× connections_code (coded× sessions_code watching_code))
+    code_by (OpenConnections × (Sessions × WatchTables))
+    (coded× open_connections_code (coded× sessions_code watch_tables_code))
     (λ c. (c.connections, (c.sessions, c.watches)))
     (λ p. record { connections = p.0; sessions = p.1.0; watches = p.1.1 }) (λ _. refl)
 

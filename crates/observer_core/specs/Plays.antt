@@ -10,12 +10,12 @@ use Rattle.observer_core.specs.Play.{play}
 
 -- An engine without a machine is closed: it answers that, and appends nothing. Want of memory closes an engine, which
 -- has then appended a front of what the events bring.
-abbrev pub Plays : Result (Unit {0}) Stop → Option Machine → List Event → List Output → List Output
+abbrev pub PlaysEvents : Result (Unit {0}) Stop → Option Machine → List Event → List Output → List Output
     → Option Machine → Type 0
-Plays (Ok u) (Some m) events old new after = (new ≡ old ++ (play m events).outputs)
+PlaysEvents (Ok u) (Some m) events old new after = (new ≡ old ++ (play m events).outputs)
     × (after ≡ Some (play m events).after)
-Plays (Err stops.NoMemory) (Some m) events old new after = Gains old (play m events).outputs new × (after ≡ None)
-Plays (Err stops.Closed) None events old new after = (new ≡ old) × (after ≡ None)
-Plays (Ok u) None events old new after = ⊥
-Plays (Err stops.NoMemory) None events old new after = ⊥
-Plays (Err stops.Closed) (Some m) events old new after = ⊥
+PlaysEvents (Err stops.NoMemory) (Some m) events old new after = Gains old (play m events).outputs new × (after ≡ None)
+PlaysEvents (Err stops.Closed) None events old new after = (new ≡ old) × (after ≡ None)
+PlaysEvents (Ok u) None events old new after = ⊥
+PlaysEvents (Err stops.NoMemory) None events old new after = ⊥
+PlaysEvents (Err stops.Closed) (Some m) events old new after = ⊥

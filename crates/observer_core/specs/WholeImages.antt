@@ -3,18 +3,19 @@ use Rattle.std.specs.Prelude.{◌≡◌, List}
 use Rattle.observer_core.specs.declared.config.Settings.{Settings}
 use Rattle.observer_core.specs.declared.event.Event.{Event}
 use Rattle.observer_core.specs.Machine.{MachineBy}
-use Rattle.observer_core.specs.Steps.{Happened}
-use Rattle.observer_core.specs.Leader.{by_images}
+use Rattle.observer_core.specs.Steps.{StepResult}
+use Rattle.observer_core.specs.Leader.{image_reader}
 use Rattle.observer_core.specs.Play.{play, play_by, new_machine, primed_machine, new_by, primed_by}
 
 -- the same goes out, and the same is left: tree, base, log, epochs and clients
-pub record SameSeen {L M : Type 0} (a : Happened (MachineBy L)) (b : Happened (MachineBy M)) : Type 0 where
+pub record HasSameEffect {L M : Type 0} (a : StepResult (MachineBy L)) (b : StepResult (MachineBy M)) : Type 0 where
   pub outputs : a.outputs ≡ b.outputs
   pub world : a.after.world ≡ b.after.world
 
 -- from the start on, for every list of events
 pub record PartsAreWholeImages : Type 0 where
   pub made : (settings : Settings) (events : List Event)
-      → SameSeen (play (new_machine settings) events) (play_by by_images (new_by by_images settings) events)
+      → HasSameEffect (play (new_machine settings) events) (play_by image_reader (new_by image_reader settings) events)
   pub primed : (settings : Settings) (events : List Event)
-      → SameSeen (play (primed_machine settings) events) (play_by by_images (primed_by by_images settings) events)
+      → HasSameEffect (play (primed_machine settings) events)
+      (play_by image_reader (primed_by image_reader settings) events)

@@ -2,13 +2,13 @@
 
 ghost use Rattle.std.specs.Prelude.{◌≡◌, OnOk};
 ghost use Rattle.std.specs.FinMap as finmap;
-ghost use Rattle.jute.specs.Stream.{items, place_at};
-ghost use Rattle.observer_core.specs.Serve.{call, serve_as, serve, serve_all, frames, take_client_bytes, open_client, end_client};
+ghost use Rattle.jute.specs.Stream.{items_in, place_at};
+ghost use Rattle.observer_core.specs.Serve.{handle_call, serve_as, serve_frame, serve_all, frames_of_client, take_client_bytes, open_client, end_client};
 ghost use Rattle.client_frames.specs.Call.{call_in};
-ghost use Rattle.observer_core.specs.Inner.{Meets, FirstFrame};
+ghost use Rattle.observer_core.specs.Inner.{MeetsStep, IsFirstFrame};
 
 use crate::event::Output;
-use crate::joining::join;
+use crate::joining::handle_connect;
 use crate::machine::World;
 use crate::reading::{answer_renewal, answer_request};
 use crate::sending::{answer_without_body, answer_without_body_last, close_client};
@@ -33,8 +33,8 @@ fn answer_call(
     body: &CallBody<'_>,
     outputs: &mut Vec<Output>,
 ) -> Result<(), NoMemory>
-    ensures { Meets result outputs.old.items
-        (call number world.old xid body.now)
+    ensures { MeetsStep result outputs.old.items
+        (handle_call number world.old xid body.now)
         outputs.new.items world.new }
 {
     match body {
@@ -74,7 +74,7 @@ fn serve_call(
     frame: &[u8],
     outputs: &mut Vec<Output>,
 ) -> Result<(), NoMemory>
-    ensures { Meets result outputs.old.items
+    ensures { MeetsStep result outputs.old.items
         (serve_as number world.old (call_in frame.now))
         outputs.new.items world.new }
 {
@@ -94,19 +94,19 @@ fn serve(
     frame: &[u8],
     outputs: &mut Vec<Output>,
 ) -> Result<(), NoMemory>
-    ensures { Meets result outputs.old.items
-        (serve serving number world.old frame.now)
+    ensures { MeetsStep result outputs.old.items
+        (serve_frame serving number world.old frame.now)
         outputs.new.items world.new }
 {
     match world.clients.sessions.session(number) {
-        None => join(alloc, serving, number, world, frame, outputs),
+        None => handle_connect(alloc, serving, number, world, frame, outputs),
         Some(_) => serve_call(alloc, number, world, frame, outputs),
     }
 }
 
 // The first frame, if it is whole, and how many bytes it takes with its length.
 fn first_frame(bytes: &[u8]) -> Result<Option<(&[u8], usize)>, Fault>
-    ensures { FirstFrame result bytes.now }
+    ensures { IsFirstFrame result bytes.now }
 {
     let mut ahead = Reader::new(bytes);
     match read_frame(&mut ahead, CLIENT_FRAME_LIMIT) {
@@ -130,8 +130,8 @@ fn serve_all(
     mut waiting: ByteQueue,
     outputs: &mut Vec<Output>,
 ) -> Result<(), NoMemory>
-    ensures { Meets result outputs.old.items
-        (serve_all serving number world.old (items frames (place_at tt waiting)))
+    ensures { MeetsStep result outputs.old.items
+        (serve_all serving number world.old (items_in frames_of_client (place_at tt waiting)))
         outputs.new.items world.new }
 {
     'frame: while world.clients.is_open(number) {
@@ -159,7 +159,7 @@ pub fn take_client_bytes(
     bytes: &[u8],
     outputs: &mut Vec<Output>,
 ) -> Result<(), NoMemory>
-    ensures { Meets result outputs.old.items
+    ensures { MeetsStep result outputs.old.items
         (take_client_bytes serving number world.old
         (finmap.get world.old.clients.connections number) bytes.now)
         outputs.new.items world.new }

@@ -2,7 +2,7 @@
 
 ghost use Rattle.std.specs.Prelude.{◌≡◌, ◌∷◌, OnOk, IfSome, IfNone};
 ghost use Rattle.std.specs.FinMap as finmap;
-ghost use Rattle.observer_core.specs.Clients.{at_rest, is_open, with_connection, without};
+ghost use Rattle.observer_core.specs.Clients.{idle_connection, is_open, with_connection, without_client};
 
 use crate::connections::Connections;
 use sessions::Sessions;
@@ -38,14 +38,14 @@ impl Clients {
 
     /// Opens a connection.
     pub fn open(&mut self, alloc: Global, number: u64) -> Result<(), NoMemory>
-        ensures { OnOk result (self.new ≡ with_connection number at_rest self.old) }
+        ensures { OnOk result (self.new ≡ with_connection number idle_connection self.old) }
     {
         self.connections.open(alloc, number)
     }
 
     /// Closes a connection, which takes no memory. Its session stays.
     pub fn close(&mut self, number: u64)
-        ensures { self.new ≡ without number self.old }
+        ensures { self.new ≡ without_client number self.old }
     {
         self.connections.close(number);
         self.sessions.close(number);
@@ -56,7 +56,7 @@ impl Clients {
     pub fn close_first(&mut self) -> Option<u64>
         ensures first { IfSome result (λ n. finmap.keys self.old.connections
             ≡ n ∷ finmap.keys self.new.connections) }
-        ensures closed { IfSome result (λ n. self.new ≡ without n self.old) }
+        ensures closed { IfSome result (λ n. self.new ≡ without_client n self.old) }
         ensures none { IfNone result ((self.old.connections ≡ finmap.empty) × (self.new ≡ self.old)) }
     {
         match self.connections.close_first() {

@@ -17,11 +17,11 @@ pub struct Connection {
 }
 
 impl Model for Connection {
-    ghost use Rattle.observer_core.specs.Machine.{Connection as TheConnection, connection_code};
+    ghost use Rattle.observer_core.specs.Machine.{OpenConnection as TheConnection, open_connection_code};
 
     ghost Value = { TheConnection };
 
-    ghost coded = { connection_code };
+    ghost coded = { open_connection_code };
 
     ghost view = { λ c. record { rest = c.rest } };
 }
@@ -35,11 +35,11 @@ pub struct Connections {
 impl Model for Connections {
     ghost use Rattle.std.specs.Coded.{coded_ℕ};
     ghost use Rattle.std.specs.FinMap as finmap;
-    ghost use Rattle.observer_core.specs.Machine.{Connections as TheConnections, connection_code};
+    ghost use Rattle.observer_core.specs.Machine.{OpenConnections as TheConnections, open_connection_code};
 
     ghost Value = { TheConnections };
 
-    ghost coded = { finmap.code coded_ℕ connection_code };
+    ghost coded = { finmap.code coded_ℕ open_connection_code };
 
     ghost view = { λ c. finmap.from_entries c.map.entries };
 }

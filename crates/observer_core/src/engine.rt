@@ -1,9 +1,9 @@
 //! The engine: a machine that is closed by want of memory.
 
 ghost use Rattle.std.specs.Prelude.{◌≡◌, Some, IfOk};
-ghost use Rattle.observer_core.specs.Play.{started, no_clients, first_client, new_machine, primed_machine};
+ghost use Rattle.observer_core.specs.Play.{initial_machine, no_clients, first_client, new_machine, primed_machine};
 ghost use Rattle.observer_core.specs.Machine.{Machine as TheMachine};
-ghost use Rattle.observer_core.specs.Plays.{Plays};
+ghost use Rattle.observer_core.specs.Plays.{PlaysEvents};
 
 use crate::clients::Clients;
 use crate::config::{Config, Settings};
@@ -122,7 +122,7 @@ impl Engine {
         leader: Option<Leader>,
         clients: Clients,
     ) -> Engine
-        ensures { result ≡ Some (started settings replica leader clients) }
+        ensures { result ≡ Some (initial_machine settings replica leader clients) }
     {
         let world = World {
             settings,
@@ -157,7 +157,7 @@ impl Engine {
         events: &[Event<'_>],
         outputs: &mut Vec<Output>,
     ) -> Result<(), Stop>
-        ensures { Plays result self.old events.now outputs.old.items outputs.new.items self.new }
+        ensures { PlaysEvents result self.old events.now outputs.old.items outputs.new.items self.new }
     {
         if self.closed {
             return Err(Stop::Closed);
@@ -180,7 +180,7 @@ impl Engine {
         _gate: &G,
         outputs: &mut Vec<Output>,
     ) -> Result<(), Stop>
-        ensures { Plays result self.old events.now outputs.old.items outputs.new.items self.new }
+        ensures { PlaysEvents result self.old events.now outputs.old.items outputs.new.items self.new }
     {
         self.feed_inline(alloc, events, outputs)
     }

@@ -3,14 +3,14 @@
 ghost use Rattle.std.specs.Prelude.{◌≡◌, None, IfOk, OnOk};
 ghost use Rattle.std.specs.FinMap as finmap;
 ghost use Rattle.client_frames.specs.Connect.{connecting_in, session_request};
-ghost use Rattle.observer_core.specs.Serve.{with_sessions, greet, connected, may_connect, join};
-ghost use Rattle.sessions.specs.Sessions.{connect};
-ghost use Rattle.observer_core.specs.Inner.{Meets};
+ghost use Rattle.observer_core.specs.Serve.{with_sessions, send_connect_response, finish_connect, may_connect, handle_connect};
+ghost use Rattle.sessions.specs.Sessions.{connect_session};
+ghost use Rattle.observer_core.specs.Inner.{MeetsStep};
 
 use crate::event::Output;
 use crate::machine::World;
 use crate::sending::{close_client, send, send_last};
-use crate::session::close_left;
+use crate::session::close_client_if_some;
 use client_frames::{Connecting, answer_to_connect, read_connecting, session_request};
 use client_records::ConnectRequest;
 use sessions::{Connected, SessionRequest, SessionResponse};
@@ -25,7 +25,7 @@ fn may_connect(serving: bool, world: &World, request: &ConnectRequest<'_>) -> bo
 }
 
 // Answers a connect; behind a refusal the connection is closed.
-fn greet(
+fn send_connect_response(
     alloc: Global,
     number: u64,
     has_byte: bool,
@@ -33,8 +33,8 @@ fn greet(
     world: &mut World,
     outputs: &mut Vec<Output>,
 ) -> Result<(), NoMemory>
-    ensures { Meets result outputs.old.items
-        (greet number has_byte response.now world.old)
+    ensures { MeetsStep result outputs.old.items
+        (send_connect_response number has_byte response.now world.old)
         outputs.new.items world.new }
 {
     let frame = answer_to_connect(alloc, response, has_byte)?;
@@ -52,9 +52,9 @@ fn connect(
     request: &SessionRequest<'_>,
 ) -> Result<Connected, NoMemory>
     requires { finmap.get world.old.clients.sessions.connections number ≡ None }
-    ensures answer { let asked = connect world.old.clients.sessions number request.now in
+    ensures answer { let asked = connect_session world.old.clients.sessions number request.now in
         IfOk result (λ connected. asked.connected ≡ connected) }
-    ensures after { let asked = connect world.old.clients.sessions number request.now in
+    ensures after { let asked = connect_session world.old.clients.sessions number request.now in
         OnOk result (world.new ≡ with_sessions world.old asked.after) }
 {
     world.clients.sessions.connect(alloc, number, request)
@@ -62,7 +62,7 @@ fn connect(
 
 // Answers a client that may connect.
 #[tactic(auto, using(crate::proofs::Steps::then_meets, crate::proofs::Steps::first_stops))]
-fn admit(
+fn connect_and_answer(
     alloc: Global,
     number: u64,
     world: &mut World,
@@ -71,20 +71,20 @@ fn admit(
 ) -> Result<(), NoMemory>
     requires { finmap.get world.old.clients.sessions.connections number ≡ None }
     ensures { let request = session_request connecting.entry.request in
-        Meets result outputs.old.items
-        (connected number world.old connecting.entry.has_byte
-        (connect world.old.clients.sessions number request))
+        MeetsStep result outputs.old.items
+        (finish_connect number world.old connecting.entry.has_byte
+        (connect_session world.old.clients.sessions number request))
         outputs.new.items world.new }
 {
     let has_byte = connecting.has_byte;
     let request = session_request(connecting.request);
     let connected = connect(alloc, number, world, &request)?;
-    close_left(connected.older, world, outputs)?;
-    greet(alloc, number, has_byte, &connected.response, world, outputs)
+    close_client_if_some(connected.older, world, outputs)?;
+    send_connect_response(alloc, number, has_byte, &connected.response, world, outputs)
 }
 
 /// Gives a connection that has no session the one that its first frame asks for, or closes it.
-pub fn join(
+pub fn handle_connect(
     alloc: Global,
     serving: bool,
     number: u64,
@@ -93,8 +93,8 @@ pub fn join(
     outputs: &mut Vec<Output>,
 ) -> Result<(), NoMemory>
     requires { finmap.get world.old.clients.sessions.connections number ≡ None }
-    ensures { Meets result outputs.old.items
-        (join serving number world.old (connecting_in frame.now))
+    ensures { MeetsStep result outputs.old.items
+        (handle_connect serving number world.old (connecting_in frame.now))
         outputs.new.items world.new }
 {
     match read_connecting(alloc, frame) {
@@ -102,7 +102,7 @@ pub fn join(
             if !may_connect(serving, world, &connecting.request) {
                 return close_client(number, world, outputs);
             }
-            admit(alloc, number, world, connecting, outputs)
+            connect_and_answer(alloc, number, world, connecting, outputs)
         }
         Err(ReadError::NoMemory) => Err(NoMemory),
         Err(ReadError::Fault(_)) => close_client(number, world, outputs),

@@ -4,9 +4,9 @@ ghost use Rattle.std.specs.Prelude.{◌≡◌, List, ℕ, ◌∷◌, ◌++◌};
 ghost use Rattle.observer_core.specs.Machine.{Machine};
 ghost use Rattle.observer_core.specs.declared.event.Event.{Event};
 ghost use Rattle.observer_core.specs.declared.event.Event.TheVariants.{LeaderBytes, ClientBytes};
-ghost use Rattle.observer_core.specs.Steps.{behind};
+ghost use Rattle.observer_core.specs.Steps.{prepend_outputs};
 ghost use Rattle.observer_core.specs.Play.{play};
-ghost use Rattle.observer_core.specs.Logs.{LogsAreFollowed, RefusalsChangeNothing};
+ghost use Rattle.observer_core.specs.Logs.{MachinesFollowTheirLogs, RefusalsChangeNothing};
 ghost use Rattle.observer_core.specs.Agreement.{ConnectionsAgree, SessionsAreServed};
 ghost use Rattle.observer_core.specs.Apart.{ClientsAreApart};
 ghost use Rattle.observer_core.specs.WholeImages.{PartsAreWholeImages};
@@ -15,7 +15,7 @@ ghost use Rattle.observer_core.specs.Rows.{WorkedRows};
 /// Two lists of events, one behind the other.
 pub fn plays_on()
     ensures { (m : Machine) (a b : List Event)
-        → play m (a ++ b) ≡ behind (play m a).outputs (play (play m a).after b) }
+        → play m (a ++ b) ≡ prepend_outputs (play m a).outputs (play (play m a).after b) }
 {}
 
 /// A piece of the leader's bytes, or of a client's, may be cut in two.
@@ -31,7 +31,7 @@ pub fn cut_anywhere()
 /// The tree is what the log makes of the base, and the log's zxids rise up to the last zxid: at the start and after
 /// every list of events, faults among them.
 pub fn logs_are_followed()
-    ensures { LogsAreFollowed }
+    ensures { MachinesFollowTheirLogs }
 {
     replica::law::logs();
 }

@@ -4,20 +4,20 @@ ghost use Rattle.std.specs.Prelude.{map, ◌∷◌, []};
 ghost use Rattle.std.specs.List.{All};
 ghost use Rattle.values.specs.Gains.{Puts};
 ghost use Rattle.quorum_packet.specs.Feed.{CanBeWritten};
-ghost use Rattle.quorum_packet.specs.Items.{shows};
-ghost use Rattle.quorum_packet.specs.Packet.{packet as packet_format};
-ghost use Rattle.observer_core.specs.Clients.{closing_all};
-ghost use Rattle.observer_core.specs.Steps.{behind};
+ghost use Rattle.quorum_packet.specs.Items.{items_shown_at};
+ghost use Rattle.quorum_packet.specs.Packet.{packet_format};
+ghost use Rattle.observer_core.specs.Clients.{close_all_clients};
+ghost use Rattle.observer_core.specs.Steps.{prepend_outputs};
 ghost use Rattle.observer_core.specs.declared.event.Output.TheVariants.{CloseLeader};
-ghost use Rattle.observer_core.specs.Leader.{to_leader, by_parts, arrive, receive, meet_leader, disconnected, take_leader_bytes, end_leader};
-ghost use Rattle.observer_core.specs.Inner.{telling, Meets, Receives, Delivers, Follows};
+ghost use Rattle.observer_core.specs.Leader.{to_leader, part_reader, take_items, item_step, meet_leader, disconnect_all, take_leader_bytes, end_leader};
+ghost use Rattle.observer_core.specs.Inner.{send_outcome, MeetsStep, ReceivesItem, DeliversItems, FollowsStream};
 
 use crate::clients::Clients;
 use crate::event::Output;
 use crate::machine::{Leader, Machine, World};
 use crate::notice::notify_each;
 use quorum_packet::{Item, PacketFeed, QuorumPacket, write_packet};
-use replica::Brought;
+use replica::ItemOutcome;
 use snapshot_codec::Loader;
 use std::alloc::Global;
 use values::{Blob, Fault, NoMemory, ReadError};
@@ -52,12 +52,12 @@ fn send_each(
 fn tell(
     alloc: Global,
     clients: &mut Clients,
-    brought: &Brought,
+    brought: &ItemOutcome,
     outputs: &mut Vec<Output>,
 ) -> Result<(), NoMemory>
     requires { All packet_format.Writable brought.now.replies }
-    ensures { Meets result outputs.old.items
-        (telling clients.old brought.now)
+    ensures { MeetsStep result outputs.old.items
+        (send_outcome clients.old brought.now)
         outputs.new.items clients.new }
 {
     let events = clients.watches.fire(alloc, brought.triggers.as_slice())?;
@@ -75,8 +75,8 @@ fn receive_item(
     outputs: &mut Vec<Output>,
 ) -> Result<(), ReadError>
     requires { CanBeWritten item }
-    ensures { Receives result outputs.old.items
-        (receive (record { loading = loader.old; world = world.old }) item)
+    ensures { ReceivesItem result outputs.old.items
+        (item_step (record { loading = loader.old; world = world.old }) item)
         (record { loading = loader.old; world = world.old })
         outputs.new.items
         (record { loading = loader.new; world = world.new }) }
@@ -95,8 +95,8 @@ fn drain(
     world: &mut World,
     outputs: &mut Vec<Output>,
 ) -> Result<Option<Fault>, NoMemory>
-    ensures { Delivers result outputs.old.items
-        (arrive receive (record { loading = loader.old; world = world.old }) (shows feed.old))
+    ensures { DeliversItems result outputs.old.items
+        (take_items item_step (record { loading = loader.old; world = world.old }) (items_shown_at feed.old))
         outputs.new.items feed.new (record { loading = loader.new; world = world.new }) }
 {
     loop {
@@ -115,8 +115,8 @@ fn drain(
 
 // Closes all connections, in the order of their numbers.
 fn close_all(clients: &mut Clients, outputs: &mut Vec<Output>) -> Result<(), NoMemory>
-    ensures { Meets result outputs.old.items
-        (closing_all clients.old)
+    ensures { MeetsStep result outputs.old.items
+        (close_all_clients clients.old)
         outputs.new.items clients.new }
 {
     while let Some(number) = clients.close_first() {
@@ -126,16 +126,20 @@ fn close_all(clients: &mut Clients, outputs: &mut Vec<Output>) -> Result<(), NoM
 }
 
 fn disconnect(world: &mut World, outputs: &mut Vec<Output>) -> Result<(), NoMemory>
-    ensures { Meets result outputs.old.items (disconnected world.old) outputs.new.items world.new }
+    ensures { MeetsStep result outputs.old.items (disconnect_all world.old) outputs.new.items world.new }
 {
     world.replica.end();
     close_all(&mut world.clients, outputs)
 }
 
 // A fault closes the leader, and then the clients.
-fn lose(fault: Fault, world: &mut World, outputs: &mut Vec<Output>) -> Result<(), NoMemory>
-    ensures { Meets result outputs.old.items
-        (behind (CloseLeader fault ∷ []) (disconnected world.old))
+fn close_on_fault(
+    fault: Fault,
+    world: &mut World,
+    outputs: &mut Vec<Output>,
+) -> Result<(), NoMemory>
+    ensures { MeetsStep result outputs.old.items
+        (prepend_outputs (CloseLeader fault ∷ []) (disconnect_all world.old))
         outputs.new.items world.new }
 {
     outputs.push(Output::CloseLeader(fault))?;
@@ -148,8 +152,8 @@ pub fn meet_leader(
     machine: &mut Machine,
     outputs: &mut Vec<Output>,
 ) -> Result<(), NoMemory>
-    ensures { Meets result outputs.old.items
-        (meet_leader by_parts machine.old.leader machine.old.world)
+    ensures { MeetsStep result outputs.old.items
+        (meet_leader part_reader machine.old.leader machine.old.world)
         outputs.new.items machine.new }
 {
     if machine.leader.is_some() {
@@ -172,8 +176,8 @@ fn follow(
     bytes: &[u8],
     outputs: &mut Vec<Output>,
 ) -> Result<Option<Fault>, NoMemory>
-    ensures { Follows result outputs.old.items
-        (by_parts.taken leader.old world.old bytes.now)
+    ensures { FollowsStream result outputs.old.items
+        (part_reader.taken leader.old world.old bytes.now)
         outputs.new.items leader.new world.new }
 {
     leader.feed.feed(bytes)?;
@@ -187,8 +191,8 @@ pub fn take_leader_bytes(
     bytes: &[u8],
     outputs: &mut Vec<Output>,
 ) -> Result<(), NoMemory>
-    ensures { Meets result outputs.old.items
-        (take_leader_bytes by_parts machine.old.leader machine.old.world bytes.now)
+    ensures { MeetsStep result outputs.old.items
+        (take_leader_bytes part_reader machine.old.leader machine.old.world bytes.now)
         outputs.new.items machine.new }
 {
     let Some(mut leader) = machine.leader.take() else {
@@ -201,15 +205,15 @@ pub fn take_leader_bytes(
         }
         Some(fault) => {
             drop(leader);
-            lose(fault, &mut machine.world, outputs)
+            close_on_fault(fault, &mut machine.world, outputs)
         }
     }
 }
 
 /// The leader is gone. Where its stream breaks off in the middle of something, that is a fault.
 pub fn end_leader(machine: &mut Machine, outputs: &mut Vec<Output>) -> Result<(), NoMemory>
-    ensures { Meets result outputs.old.items
-        (end_leader by_parts machine.old.leader machine.old.world)
+    ensures { MeetsStep result outputs.old.items
+        (end_leader part_reader machine.old.leader machine.old.world)
         outputs.new.items machine.new }
 {
     let Some(leader) = machine.leader.take() else {
@@ -219,6 +223,6 @@ pub fn end_leader(machine: &mut Machine, outputs: &mut Vec<Output>) -> Result<()
     drop(leader);
     match ended {
         Ok(()) => disconnect(&mut machine.world, outputs),
-        Err(fault) => lose(fault, &mut machine.world, outputs),
+        Err(fault) => close_on_fault(fault, &mut machine.world, outputs),
     }
 }

@@ -1,7 +1,7 @@
 //! What clients are told of what they watched.
 
 ghost use Rattle.values.specs.Gains.{Puts};
-ghost use Rattle.observer_core.specs.Clients.{notice, notices, notices_to};
+ghost use Rattle.observer_core.specs.Clients.{notice_to, notices_of, notices_to};
 
 use crate::event::Output;
 use client_records::codes::NOTIFICATION_XID;
@@ -20,7 +20,7 @@ fn notify(
     event: &Event,
     outputs: &mut Vec<Output>,
 ) -> Result<(), NoMemory>
-    ensures { Puts result outputs.old.items (notice number event.now) outputs.new.items }
+    ensures { Puts result outputs.old.items (notice_to number event.now) outputs.new.items }
 {
     let seen = Look::of_event(alloc, event)?;
     if let Some(frame) = seen.into_frame(NOTIFICATION_XID, NO_ZXID) {
@@ -35,7 +35,7 @@ pub fn notify_each(
     events: &[(u64, Event)],
     outputs: &mut Vec<Output>,
 ) -> Result<(), NoMemory>
-    ensures { Puts result outputs.old.items (notices events.now) outputs.new.items }
+    ensures { Puts result outputs.old.items (notices_of events.now) outputs.new.items }
 {
     for (number, event) in events {
         notify(alloc, *number, event, outputs)?;

@@ -1,9 +1,9 @@
 //! Answers to reads, and the watches that they leave.
 
 ghost use Rattle.std.specs.Prelude.{◌≡◌, OnOk, Some};
-ghost use Rattle.read_processor.specs.Renewal.{renew};
-ghost use Rattle.observer_core.specs.Serve.{watched, watched_each, watched_if, watching, request, renewed};
-ghost use Rattle.observer_core.specs.Inner.{Meets};
+ghost use Rattle.read_processor.specs.Renewal.{renew_watches};
+ghost use Rattle.observer_core.specs.Serve.{with_watch, with_each_watch, with_watch_if, with_watching, answer_read, answer_set_watches};
+ghost use Rattle.observer_core.specs.Inner.{MeetsStep};
 
 use crate::event::Output;
 use crate::machine::World;
@@ -24,7 +24,7 @@ fn set_watch(
     watches: &mut Watches,
     watch: &Watch<'_>,
 ) -> Result<(), NoMemory>
-    ensures { OnOk result (watches.new ≡ watched number watches.old watch.now) }
+    ensures { OnOk result (watches.new ≡ with_watch number watches.old watch.now) }
 {
     match watch {
         Watch::Data(path) => watches.set_data(alloc, number, path.as_str()),
@@ -39,7 +39,7 @@ fn set_watch_if(
     watches: &mut Watches,
     watch: &Option<Watch<'_>>,
 ) -> Result<(), NoMemory>
-    ensures { OnOk result (watches.new ≡ watched_if number watches.old watch.now) }
+    ensures { OnOk result (watches.new ≡ with_watch_if number watches.old watch.now) }
 {
     match watch {
         None => return Ok(()),
@@ -54,7 +54,7 @@ fn set_watches(
     watches: &mut Watches,
     asked: &[Watch<'_>],
 ) -> Result<(), NoMemory>
-    ensures { OnOk result (watches.new ≡ watched_each number watches.old asked.now) }
+    ensures { OnOk result (watches.new ≡ with_each_watch number watches.old asked.now) }
 {
     for watch in asked {
         set_watch(alloc, number, watches, watch)?;
@@ -71,8 +71,8 @@ pub fn answer_request(
     asked: &Request<'_>,
     outputs: &mut Vec<Output>,
 ) -> Result<(), NoMemory>
-    ensures { Meets result outputs.old.items
-        (request number world.old xid asked.now)
+    ensures { MeetsStep result outputs.old.items
+        (answer_read number world.old xid asked.now)
         outputs.new.items world.new }
 {
     let ids = world.clients.sessions.ids(number);
@@ -90,7 +90,7 @@ fn watch_each(
     asked: &[Watch<'_>],
 ) -> Result<(), NoMemory>
     ensures { let watches = world.old.clients.watches in
-        OnOk result (world.new ≡ watching world.old (watched_each number watches asked.now)) }
+        OnOk result (world.new ≡ with_watching world.old (with_each_watch number watches asked.now)) }
 {
     set_watches(alloc, number, &mut world.clients.watches, asked)
 }
@@ -105,8 +105,8 @@ fn answer_missed(
     missed: &Renewal<'_>,
     outputs: &mut Vec<Output>,
 ) -> Result<(), NoMemory>
-    ensures { Meets result outputs.old.items
-        (renewed number world.old xid (Some missed.now))
+    ensures { MeetsStep result outputs.old.items
+        (answer_set_watches number world.old xid (Some missed.now))
         outputs.new.items world.new }
 {
     watch_each(alloc, number, world, missed.watches.as_slice())?;
@@ -123,8 +123,8 @@ pub fn answer_renewal(
     asked: &SetWatches<'_>,
     outputs: &mut Vec<Output>,
 ) -> Result<(), NoMemory>
-    ensures { Meets result outputs.old.items
-        (renewed number world.old xid (renew world.old.replica.tree asked.now))
+    ensures { MeetsStep result outputs.old.items
+        (answer_set_watches number world.old xid (renew_watches world.old.replica.tree asked.now))
         outputs.new.items world.new }
 {
     match renew(alloc, world.replica.tree(), asked)? {

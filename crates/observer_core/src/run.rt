@@ -1,7 +1,7 @@
 //! The machine at work.
 
-ghost use Rattle.observer_core.specs.Play.{happen, play};
-ghost use Rattle.observer_core.specs.Inner.{Meets};
+ghost use Rattle.observer_core.specs.Play.{play_event, play};
+ghost use Rattle.observer_core.specs.Inner.{MeetsStep};
 
 use crate::client::{end_client, open_client, take_client_bytes};
 use crate::event::{Event, Output};
@@ -17,8 +17,8 @@ fn happen(
     event: &Event<'_>,
     outputs: &mut Vec<Output>,
 ) -> Result<(), NoMemory>
-    ensures { Meets result outputs.old.items
-        (happen machine.old event.now)
+    ensures { MeetsStep result outputs.old.items
+        (play_event machine.old event.now)
         outputs.new.items machine.new }
 {
     match event {
@@ -53,7 +53,7 @@ pub fn run(
     events: &[Event<'_>],
     outputs: &mut Vec<Output>,
 ) -> Result<(), NoMemory>
-    ensures { Meets result outputs.old.items
+    ensures { MeetsStep result outputs.old.items
         (play machine.old events.now)
         outputs.new.items machine.new }
 {

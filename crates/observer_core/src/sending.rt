@@ -2,9 +2,9 @@
 
 ghost use Rattle.std.specs.Prelude.{◌≡◌, IfOk};
 ghost use Rattle.read_processor.specs.Look.{without_body};
-ghost use Rattle.read_processor.specs.Reply.{reply};
-ghost use Rattle.observer_core.specs.Serve.{close_client, send, send_last, answer, answer_last};
-ghost use Rattle.observer_core.specs.Inner.{Meets};
+ghost use Rattle.read_processor.specs.Reply.{reply_frame};
+ghost use Rattle.observer_core.specs.Serve.{close_client, send_or_close, send_last, send_reply, send_reply_last};
+ghost use Rattle.observer_core.specs.Inner.{MeetsStep};
 
 use crate::event::Output;
 use crate::machine::World;
@@ -18,7 +18,7 @@ pub fn close_client(
     world: &mut World,
     outputs: &mut Vec<Output>,
 ) -> Result<(), NoMemory>
-    ensures { Meets result outputs.old.items
+    ensures { MeetsStep result outputs.old.items
         (close_client number world.old)
         outputs.new.items world.new }
 {
@@ -34,8 +34,8 @@ pub fn send(
     frame: Option<Blob>,
     outputs: &mut Vec<Output>,
 ) -> Result<(), NoMemory>
-    ensures { Meets result outputs.old.items
-        (send number world.old frame)
+    ensures { MeetsStep result outputs.old.items
+        (send_or_close number world.old frame)
         outputs.new.items world.new }
 {
     match frame {
@@ -55,7 +55,7 @@ pub fn send_last(
     frame: Option<Blob>,
     outputs: &mut Vec<Output>,
 ) -> Result<(), NoMemory>
-    ensures { Meets result outputs.old.items
+    ensures { MeetsStep result outputs.old.items
         (send_last number world.old frame)
         outputs.new.items world.new }
 {
@@ -71,8 +71,8 @@ pub fn answer(
     seen: Look,
     outputs: &mut Vec<Output>,
 ) -> Result<(), NoMemory>
-    ensures { Meets result outputs.old.items
-        (answer number world.old xid seen)
+    ensures { MeetsStep result outputs.old.items
+        (send_reply number world.old xid seen)
         outputs.new.items world.new }
 {
     let frame = seen.into_frame(xid, world.replica.learner().last_zxid());
@@ -88,8 +88,8 @@ pub fn answer_without_body(
     error: i32,
     outputs: &mut Vec<Output>,
 ) -> Result<(), NoMemory>
-    ensures { Meets result outputs.old.items
-        (answer number world.old xid (without_body error))
+    ensures { MeetsStep result outputs.old.items
+        (send_reply number world.old xid (without_body error))
         outputs.new.items world.new }
 {
     let seen = Look::without_body(alloc, error)?;
@@ -105,8 +105,8 @@ pub fn answer_without_body_last(
     error: i32,
     outputs: &mut Vec<Output>,
 ) -> Result<(), NoMemory>
-    ensures { Meets result outputs.old.items
-        (answer_last number world.old xid (without_body error))
+    ensures { MeetsStep result outputs.old.items
+        (send_reply_last number world.old xid (without_body error))
         outputs.new.items world.new }
 {
     let seen = Look::without_body(alloc, error)?;

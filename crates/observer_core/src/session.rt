@@ -1,9 +1,9 @@
 //! Who is behind a connection, and how a session ends.
 
 ghost use Rattle.std.specs.Prelude.{◌≡◌};
-ghost use Rattle.observer_core.specs.Serve.{with_sessions, show_id, end_session, close_left, expire_session};
-ghost use Rattle.sessions.specs.Sessions.{expire};
-ghost use Rattle.observer_core.specs.Inner.{Meets};
+ghost use Rattle.observer_core.specs.Serve.{with_sessions, show_id, end_session, close_client_if_some, expire_session};
+ghost use Rattle.sessions.specs.Sessions.{expire_guest};
+ghost use Rattle.observer_core.specs.Inner.{MeetsStep};
 
 use crate::event::Output;
 use crate::machine::World;
@@ -26,7 +26,7 @@ pub fn show_id(
     packet: &AuthPacket<'_>,
     outputs: &mut Vec<Output>,
 ) -> Result<(), NoMemory>
-    ensures { Meets result outputs.old.items
+    ensures { MeetsStep result outputs.old.items
         (show_id number world.old xid packet.now)
         outputs.new.items world.new }
 {
@@ -54,13 +54,13 @@ pub fn end_session(number: u64, world: &mut World)
 }
 
 /// Closes a connection that has lost its session, if there is one.
-pub fn close_left(
+pub fn close_client_if_some(
     left: Option<u64>,
     world: &mut World,
     outputs: &mut Vec<Output>,
 ) -> Result<(), NoMemory>
-    ensures { Meets result outputs.old.items
-        (close_left world.old left)
+    ensures { MeetsStep result outputs.old.items
+        (close_client_if_some world.old left)
         outputs.new.items world.new }
 {
     match left {
@@ -71,8 +71,8 @@ pub fn close_left(
 
 // Ends a session, and answers its connection, which is still to be closed.
 fn expire(session: &i64, world: &mut World) -> Option<u64>
-    ensures left { result ≡ (expire world.old.clients.sessions session.now).closed }
-    ensures ended { let ended = expire world.old.clients.sessions session.now in
+    ensures left { result ≡ (expire_guest world.old.clients.sessions session.now).closed }
+    ensures ended { let ended = expire_guest world.old.clients.sessions session.now in
         world.new ≡ with_sessions world.old ended.after }
 {
     world.clients.sessions.expire(*session)
@@ -84,10 +84,10 @@ pub fn expire_session(
     world: &mut World,
     outputs: &mut Vec<Output>,
 ) -> Result<(), NoMemory>
-    ensures { Meets result outputs.old.items
+    ensures { MeetsStep result outputs.old.items
         (expire_session world.old session.now)
         outputs.new.items world.new }
 {
     let left = expire(session, world);
-    close_left(left, world, outputs)
+    close_client_if_some(left, world, outputs)
 }

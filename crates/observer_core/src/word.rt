@@ -2,9 +2,9 @@
 
 ghost use Rattle.std.specs.Prelude.{◌≡◌, ◌<◌, IfOk, IfSome, IfNone, true, map, take, length};
 ghost use Rattle.four_letter.specs.Words.{needs_watches};
-ghost use Rattle.four_letter.specs.Texts.{text};
-ghost use Rattle.observer_core.specs.Serve.{row_of, watch_rows, figures_with, figures, tell_word, word_at};
-ghost use Rattle.observer_core.specs.Inner.{Meets};
+ghost use Rattle.four_letter.specs.Texts.{reply_text};
+ghost use Rattle.observer_core.specs.Serve.{watch_row_of, watch_rows, figures_with, figures_of, tell_word, word_at};
+ghost use Rattle.observer_core.specs.Inner.{MeetsStep};
 
 use crate::clients::Clients;
 use crate::event::Output;
@@ -45,7 +45,7 @@ pub fn word_at(number: u64, world: &World, bytes: &[u8]) -> Option<Word>
 
 // A watch with the session of its connection, which each that watches has.
 fn row_of<'a>(sessions: &Sessions, watched: Watched<'a>) -> WatchRow<'a>
-    ensures { result ≡ row_of sessions.now watched.entry }
+    ensures { result ≡ watch_row_of sessions.now watched.entry }
 {
     let Watched { path, conn, table } = watched;
     WatchRow {
@@ -95,7 +95,7 @@ fn figures_with<'a>(serving: bool, world: &World, watches: Vec<WatchRow<'a>>) ->
 
 // What a word is answered.
 fn answer_of(alloc: Global, serving: bool, world: &World, word: Word) -> Result<Blob, NoMemory>
-    ensures { IfOk result (λ bytes. bytes ≡ text word (figures serving world.now)) }
+    ensures { IfOk result (λ bytes. bytes ≡ reply_text word (figures_of serving world.now)) }
 {
     let rows = rows_for(alloc, word, &world.clients)?;
     let figures = figures_with(serving, world, rows);
@@ -113,7 +113,7 @@ pub fn tell_word(
     word: Word,
     outputs: &mut Vec<Output>,
 ) -> Result<(), NoMemory>
-    ensures { Meets result outputs.old.items
+    ensures { MeetsStep result outputs.old.items
         (tell_word serving number world.old word)
         outputs.new.items world.new }
 {

@@ -4,12 +4,12 @@ use Rattle.std.specs.Prelude.{ℤ, unwrap_or}
 use Rattle.std.proofs.Math.Seq.{take-length}
 use Rattle.std.proofs.lemmas.List.{drop-append-le, take-append-drop, append-nil, length-drop}
 use Rattle.values.specs.declared.fault.Fault.{Fault}
-use Rattle.jute.specs.Format.{◌>>=◌, int, long, name, count, count_limit, times, items_at, vector_at}
+use Rattle.jute.specs.Format.{◌>>=◌, int, long, text_or_empty, count_format, count_limit, read_n, items_at, vector_at}
 use Rattle.jute.specs.Laws.{IsBytes}
-use Rattle.jute.specs.Owned.{acl, id}
+use Rattle.jute.specs.Owned.{acl_format, id_format}
 use Rattle.jute.proofs.Public.{IsBytes-drop, bind_err, not_refused, int_sound, long_sound, count_sound, name_sound}
 use Rattle.quorum_packet.specs.declared.unseen.Entries.{Entries}
-use Rattle.quorum_packet.specs.Unseen.{Reads, IsLeft, AreUnseenEntries, acl_list, then_read, entries_left, EntryStopsAt}
+use Rattle.quorum_packet.specs.Unseen.{ReadFn, IsRestOf, AreUnseenEntries, acl_list, then_read, entries_left, EntryStopsAt}
 use Rattle.quorum_packet.proofs.Looking.{stands_ok, joined_fronts, drop_more, shorter}
 
 -- the bytes from a place on, as a slice has them
@@ -20,8 +20,8 @@ from_place bytes ahead start is =
 
 -- ---- what is left behind what was read
 
-module _ {A B : Type 0} (whole : Reads A) (left : Reads B) (bytes : List ℕ) (start : ℕ)
-    (u : IsLeft whole left bytes start) (ahead : List ℕ) (is : ahead ≡ drop start bytes) where
+module _ {A B : Type 0} (whole : ReadFn A) (left : ReadFn B) (bytes : List ℕ) (start : ℕ)
+    (u : IsRestOf whole left bytes start) (ahead : List ℕ) (is : ahead ≡ drop start bytes) where
   -- a refusal of what is left is one of the whole, whatever comes behind
   at_left : (more : List ℕ) (e : Fault) → left (ahead ++ more) ≡ Err e → whole (bytes ++ more) ≡ Err e
   at_left more e k =
@@ -34,9 +34,9 @@ module _ {A B : Type 0} (whole : Reads A) (left : Reads B) (bytes : List ℕ) (s
       subst (λ (t : List ℕ). whole t ≡ Err e) (append-nil bytes) (at_left [] e (ap left (append-nil ahead) ∙ k))
 
   -- what was read of it is behind
-  pub left_behind : {C : Type 0} (other : Reads C) (text rest : List ℕ) → ahead ≡ text ++ rest
+  pub left_behind : {C : Type 0} (other : ReadFn C) (text rest : List ℕ) → ahead ≡ text ++ rest
       → ((more : List ℕ) (e : Fault) → other (rest ++ more) ≡ Err e → left (ahead ++ more) ≡ Err e)
-      → (length rest ≤ length bytes) × IsLeft whole other bytes (length bytes - length rest)
+      → (length rest ≤ length bytes) × IsRestOf whole other bytes (length bytes - length rest)
   left_behind other text rest parts step =
       let front : bytes ≡ take start bytes ++ ahead = sym (take-append-drop start bytes)
       ∙ ap (λ (b : List ℕ). take start bytes ++ b) (sym is) in
@@ -54,31 +54,32 @@ module _ {A B : Type 0} (whole : Reads A) (left : Reads B) (bytes : List ℕ) (s
 
 -- what is left of the entries where the first one stands
 module _ (n : ℕ) (bytes : List ℕ) (e : Fault) where
-  perms_out : int.read bytes ≡ Err e → times acl.read (suc n) bytes ≡ Err e
-  unfolding times acl id
+  perms_out : int.read bytes ≡ Err e → read_n acl_format.read (suc n) bytes ≡ Err e
+  unfolding read_n acl_format id_format
   perms_out h = rw h refl
 
-  scheme_out : (perms : ℤ) (b : List ℕ) → int.read bytes ≡ Ok (perms, b) → name.read b ≡ Err e
-      → times acl.read (suc n) bytes ≡ Err e
-  unfolding times acl id
+  scheme_out : (perms : ℤ) (b : List ℕ) → int.read bytes ≡ Ok (perms, b) → text_or_empty.read b ≡ Err e
+      → read_n acl_format.read (suc n) bytes ≡ Err e
+  unfolding read_n acl_format id_format
   scheme_out perms b h k = rw (h, k) refl
 
-  id_out : (perms : ℤ) (b c scheme : List ℕ) → int.read bytes ≡ Ok (perms, b) → name.read b ≡ Ok (scheme, c)
-      → name.read c ≡ Err e → times acl.read (suc n) bytes ≡ Err e
-  unfolding times acl id
+  id_out : (perms : ℤ) (b c scheme : List ℕ) → int.read bytes ≡ Ok (perms, b) → text_or_empty.read b ≡ Ok (scheme, c)
+      → text_or_empty.read c ≡ Err e → read_n acl_format.read (suc n) bytes ≡ Err e
+  unfolding read_n acl_format id_format
   id_out perms b c scheme h k l = rw (h, k, l) refl
 
   others_out : (perms : ℤ) (b c d scheme who : List ℕ) → int.read bytes ≡ Ok (perms, b)
-      → name.read b ≡ Ok (scheme, c) → name.read c ≡ Ok (who, d) → times acl.read n d ≡ Err e
-      → times acl.read (suc n) bytes ≡ Err e
-  unfolding times acl id
+      → text_or_empty.read b ≡ Ok (scheme, c) → text_or_empty.read c ≡ Ok (who, d) → read_n acl_format.read n d ≡ Err e
+      → read_n acl_format.read (suc n) bytes ≡ Err e
+  unfolding read_n acl_format id_format
   others_out perms b c d scheme who h k l m = rw (h, k, l, m) refl
 
   -- what is left behind its scheme
-  behind_scheme : (perms : ℤ) (b c scheme : List ℕ) → int.read bytes ≡ Ok (perms, b) → name.read b ≡ Ok (scheme, c)
-      → then_read name.read (times acl.read n) c ≡ Err e → times acl.read (suc n) bytes ≡ Err e
+  behind_scheme : (perms : ℤ) (b c scheme : List ℕ) → int.read bytes ≡ Ok (perms, b)
+      → text_or_empty.read b ≡ Ok (scheme, c)
+      → then_read text_or_empty.read (read_n acl_format.read n) c ≡ Err e → read_n acl_format.read (suc n) bytes ≡ Err e
   behind_scheme perms b c scheme h k left =
-      elim (bind_err (name.read c) (λ (x : List ℕ × List ℕ). times acl.read n x.1) e left) [
+      elim (bind_err (text_or_empty.read c) (λ (x : List ℕ × List ℕ). read_n acl_format.read n x.1) e left) [
         | inl out ↦ id_out perms b c scheme h k out
         | inr read ↦ others_out perms b c read.0.1 scheme read.0.0 h k read.1 read.2
       ]
@@ -95,7 +96,7 @@ module _ (bytes ahead : List ℕ) (entries : Entries) (u : AreUnseenEntries byte
   there = from_place bytes ahead entries.start is
 
   abbrev Left : Bool → Type 0
-  Left seen = IsLeft acl_list.read (entries_left seen entries.count) bytes entries.start
+  Left seen = IsRestOf acl_list.read (entries_left seen entries.count) bytes entries.start
 
   as_seen : (seen : Bool) → entries.scheme_seen ≡ seen → Left seen
   as_seen seen at = subst Left at u
@@ -104,45 +105,48 @@ module _ (bytes ahead : List ℕ) (entries : Entries) (u : AreUnseenEntries byte
   fits_ahead fits = subst IsBytes (sym there) (IsBytes-drop entries.start bytes fits)
 
   -- the id is next
-  pub id_refused : (e : Fault) → entries.scheme_seen ≡ true → name.read ahead ≡ Err e
+  pub id_refused : (e : Fault) → entries.scheme_seen ≡ true → text_or_empty.read ahead ≡ Err e
       → (acl_list.read bytes ≡ Err e) × EntryStopsAt entries.scheme_seen (drop entries.start bytes) e
   id_refused e at h = (
     left_refused acl_list.read (entries_left true entries.count) bytes entries.start (as_seen true at) ahead there e
-        (ap (λ (r : Result (List ℕ × List ℕ) Fault). r >>= λ x. times acl.read (entries.count - 1) x.1) h),
+        (ap (λ (r : Result (List ℕ × List ℕ) Fault). r >>= λ x. read_n acl_format.read (entries.count - 1) x.1) h),
     rw (at, ← there) h,
   )
 
-  pub id_seen : (rest v : List ℕ) → IsBytes bytes → entries.scheme_seen ≡ true → name.read ahead ≡ Ok (v, rest)
+  pub id_seen : (rest v : List ℕ) → IsBytes bytes → entries.scheme_seen ≡ true → text_or_empty.read ahead ≡ Ok (v, rest)
       → (length rest ≤ length bytes) × AreUnseenEntries bytes (entries_at bytes rest (entries.count - 1) false)
   id_seen rest v fits at h =
       let t = name_sound.lawful.takes ahead v rest (fits_ahead fits) h in
       left_behind acl_list.read (entries_left true entries.count) bytes entries.start (as_seen true at) ahead there
-      (times acl.read (entries.count - 1)) t.text rest t.parts
-      (λ more e k. ap (λ (r : Result (List ℕ × List ℕ) Fault). r >>= λ x. times acl.read (entries.count - 1) x.1)
-      (stands_ok name name_sound.pieced ahead rest more v h) ∙ k)
+      (read_n acl_format.read (entries.count - 1)) t.text rest t.parts
+      (λ more e k. ap (λ (r : Result (List ℕ × List ℕ) Fault). r >>= λ x. read_n acl_format.read (entries.count - 1)
+      x.1)
+      (stands_ok text_or_empty name_sound.pieced ahead rest more v h) ∙ k)
 
   -- an entry is next
   module _ (some : 0 < entries.count) (at : entries.scheme_seen ≡ false) where
     one_more : suc (entries.count - 1) ≡ entries.count
     one_more = omega (arith, some)
 
-    whole_out : (e : Fault) → times acl.read (suc (entries.count - 1)) ahead ≡ Err e → acl_list.read bytes ≡ Err e
+    whole_out : (e : Fault) → read_n acl_format.read (suc (entries.count - 1)) ahead ≡ Err e
+        → acl_list.read bytes ≡ Err e
     whole_out e h =
         left_refused acl_list.read (entries_left false entries.count) bytes entries.start
         (as_seen false at) ahead there e
-        (subst (λ (n : ℕ). times acl.read n ahead ≡ Err e) one_more h)
+        (subst (λ (n : ℕ). read_n acl_format.read n ahead ≡ Err e) one_more h)
 
     pub perms_refused : (e : Fault) → int.read ahead ≡ Err e
         → (acl_list.read bytes ≡ Err e) × EntryStopsAt entries.scheme_seen (drop entries.start bytes) e
     perms_refused e h = (whole_out e (perms_out (entries.count - 1) ahead e h), rw (at, ← there, h) refl)
 
-    pub scheme_refused : (e : Fault) (perms : ℤ) (b : List ℕ) → int.read ahead ≡ Ok (perms, b) → name.read b ≡ Err e
+    pub scheme_refused : (e : Fault) (perms : ℤ) (b : List ℕ) → int.read ahead ≡ Ok (perms, b)
+        → text_or_empty.read b ≡ Err e
         → (acl_list.read bytes ≡ Err e) × EntryStopsAt entries.scheme_seen (drop entries.start bytes) e
     scheme_refused e perms b h k =
         (whole_out e (scheme_out (entries.count - 1) ahead e perms b h k), rw (at, ← there, h, k) refl)
 
     pub scheme_seen : (perms : ℤ) (b rest scheme : List ℕ) → IsBytes bytes → int.read ahead ≡ Ok (perms, b)
-        → name.read b ≡ Ok (scheme, rest)
+        → text_or_empty.read b ≡ Ok (scheme, rest)
         → (length rest ≤ length bytes) × AreUnseenEntries bytes (entries_at bytes rest entries.count true)
     scheme_seen perms b rest scheme fits h k =
         let t1 = int_sound.lawful.takes ahead perms b (fits_ahead fits) h in
@@ -150,38 +154,39 @@ module _ (bytes ahead : List ℕ) (entries : Entries) (u : AreUnseenEntries byte
         left_behind acl_list.read (entries_left false entries.count) bytes entries.start (as_seen false at) ahead there
         (entries_left true entries.count) (t1.text ++ t2.text) rest
         (joined_fronts ahead t1.text b t2.text rest t1.parts t2.parts)
-        (λ more e left. subst (λ (n : ℕ). times acl.read n (ahead ++ more) ≡ Err e) one_more
+        (λ more e left. subst (λ (n : ℕ). read_n acl_format.read n (ahead ++ more) ≡ Err e) one_more
         (behind_scheme (entries.count - 1) (ahead ++ more) e perms (b ++ more) (rest ++ more) scheme
-        (stands_ok int int_sound.pieced ahead b more perms h) (stands_ok name name_sound.pieced b rest more scheme k)
+        (stands_ok int int_sound.pieced ahead b more perms h)
+        (stands_ok text_or_empty name_sound.pieced b rest more scheme k)
         left))
 
 -- ---- the fields before the entries
 
-no_entries : (bytes : List ℕ) (e : Fault) → times acl.read 0 bytes ≡ Err e → ⊥
-unfolding times
+no_entries : (bytes : List ℕ) (e : Fault) → read_n acl_format.read 0 bytes ≡ Err e → ⊥
+unfolding read_n
 no_entries bytes e h = not_refused ([], bytes) e h
 
-counted_out : (ids : Option ℕ) (bytes : List ℕ) (e : Fault) → times acl.read (unwrap_or ids 0) bytes ≡ Err e
-    → items_at acl.read ids bytes ≡ Err e
+counted_out : (ids : Option ℕ) (bytes : List ℕ) (e : Fault) → read_n acl_format.read (unwrap_or ids 0) bytes ≡ Err e
+    → items_at acl_format.read ids bytes ≡ Err e
 counted_out None bytes e h = absurd (no_entries bytes e h)
 counted_out (Some n) bytes e h = rw h refl
 
 list_out : (bytes b c : List ℕ) (key : ℤ) (ids : Option ℕ) (e : Fault) → long.read bytes ≡ Ok (key, b)
-    → (count count_limit).read b ≡ Ok (ids, c) → times acl.read (unwrap_or ids 0) c ≡ Err e
+    → (count_format count_limit).read b ≡ Ok (ids, c) → read_n acl_format.read (unwrap_or ids 0) c ≡ Err e
     → acl_list.read bytes ≡ Err e
 unfolding vector_at
 list_out bytes b c key ids e h k l = rw (h, k, counted_out ids c e l) refl
 
 pub list_fields_seen : (bytes b c : List ℕ) (key : ℤ) (ids : Option ℕ) → IsBytes bytes
-    → long.read bytes ≡ Ok (key, b) → (count count_limit).read b ≡ Ok (ids, c)
+    → long.read bytes ≡ Ok (key, b) → (count_format count_limit).read b ≡ Ok (ids, c)
     → (length c ≤ length bytes) × AreUnseenEntries bytes (entries_at bytes c (unwrap_or ids 0) false)
 list_fields_seen bytes b c key ids fits h k =
     let t1 = long_sound.lawful.takes bytes key b fits h in
     let t2 = (count_sound count_limit).lawful.takes b ids c t1.rest_fits k in
     left_behind acl_list.read acl_list.read bytes 0
     (record { within = omega arith; refuses = λ more e l. l }) bytes refl
-    (times acl.read (unwrap_or ids 0)) (t1.text ++ t2.text) c
+    (read_n acl_format.read (unwrap_or ids 0)) (t1.text ++ t2.text) c
     (joined_fronts bytes t1.text b t2.text c t1.parts t2.parts)
     (λ more e l. list_out (bytes ++ more) (b ++ more) (c ++ more) key ids e
     (stands_ok long long_sound.pieced bytes b more key h)
-    (stands_ok (count count_limit) (count_sound count_limit).pieced b c more ids k) l)
+    (stands_ok (count_format count_limit) (count_sound count_limit).pieced b c more ids k) l)

@@ -7,8 +7,8 @@ use Rattle.values.specs.declared.fault.ReadError.{ReadError}
 use Rattle.values.specs.declared.fault.ReadError.TheVariants as errors
 use Rattle.jute.specs.Laws.{IsBytes}
 use Rattle.jute.specs.Format.{judged_at}
-use Rattle.jute.specs.Reads.{Failed}
-use Rattle.jute.specs.Stream.{Unread, Place, Items, place_at, nothing, items}
+use Rattle.jute.specs.Reads.{IsFailureOf}
+use Rattle.jute.specs.Stream.{Unread, Place, Items, place_at, no_items, items_in}
 use Rattle.jute.proofs.Public.{items_whole, items_refused, items_short, shorter_rest, refused_other}
 use Rattle.snapshot_codec.specs.Parts.{Value, Count, Path, Close, Part, part_format, part_after, part_in, is_end}
 use Rattle.snapshot_codec.specs.Reads.{ReadsPart}
@@ -22,22 +22,22 @@ use Rattle.quorum_packet.specs.declared.packet.QuorumPacket.{QuorumPacket}
 use Rattle.quorum_packet.specs.declared.phase.Phase.{Phase}
 use Rattle.quorum_packet.specs.declared.phase.Phase.TheVariants.{Packets, Image}
 use Rattle.quorum_packet.specs.Feed.{CanBeWritten}
-use Rattle.quorum_packet.specs.Held.{held}
-use Rattle.quorum_packet.specs.Items.{Found, OfPacket, OfImage, phase_behind, found_format, phase_after, leader, shown_in, shown, shows}
+use Rattle.quorum_packet.specs.Held.{unread_of}
+use Rattle.quorum_packet.specs.Items.{FoundValue, OfPacket, OfImage, phase_after_kind, found_format, phase_after, stream_of_leader, shown_in, shown_items, items_shown_at}
 use Rattle.quorum_packet.specs.Kinds.{kind_of}
-use Rattle.quorum_packet.specs.Packet.{packet}
-use Rattle.quorum_packet.specs.Steps.{list_of, FindsItem, ReadsFront, Goes, Stops, Steps, RefusesUnread}
+use Rattle.quorum_packet.specs.Packet.{packet_format}
+use Rattle.quorum_packet.specs.Steps.{items_of_option, FindsItem, ReadsFront, FindsOne, FindsNone, IsStepResult, RefusesUnread}
 use Rattle.quorum_packet.proofs.Looking.{drop_front_of}
 use Rattle.quorum_packet.proofs.Streams.{found_sound, leader_streamed}
 
 -- ---- at a place
 
-packet_read : (old new : List ℕ) (p : QuorumPacket) → packet.read old ≡ Ok (p, new)
+packet_read : (old new : List ℕ) (p : QuorumPacket) → packet_format.read old ≡ Ok (p, new)
     → (found_format Packets).read old ≡ Ok (OfPacket p, new)
 unfolding judged_at
 packet_read old new p read = rw read refl
 
-pub packet_fails : (old : List ℕ) (e : Fault) → packet.read old ≡ Err e → (found_format Packets).read old ≡ Err e
+pub packet_fails : (old : List ℕ) (e : Fault) → packet_format.read old ≡ Err e → (found_format Packets).read old ≡ Err e
 unfolding judged_at
 packet_fails old e read = rw read refl
 
@@ -52,20 +52,20 @@ unfolding judged_at
 value_fails phase old e read = rw read refl
 
 pub packet_found : (phase next : Phase) (old new : List ℕ) (p : QuorumPacket) → phase ≡ Packets
-    → packet.read old ≡ Ok (p, new) → next ≡ phase_behind (kind_of p.kind)
+    → packet_format.read old ≡ Ok (p, new) → next ≡ phase_after_kind (kind_of p.kind)
     → FindsItem (Ok (Some (item.Packet p))) phase next old new
 packet_found Packets next old new p at read to = (OfPacket p, packet_read old new p read, to, refl)
 packet_found (Image phase) next old new p at read to = absurd cc
 
 pub packet_refused : (phase : Phase) (old new : List ℕ) (e : ReadError) → phase ≡ Packets
-    → Failed e (packet.read old) → new ≡ old → FindsItem (Err e) phase phase old new
+    → IsFailureOf e (packet_format.read old) → new ≡ old → FindsItem (Err e) phase phase old new
 packet_refused Packets old new errors.NoMemory at h same = (tt, same, refl)
 packet_refused Packets old new (errors.Fault e) at h same = (packet_fails old e h, same, refl)
 packet_refused (Image phase) old new e at h same = absurd cc
 
 value_found : (parts behind : PartPhase) (old new : List ℕ) (v : Value) → (part_format parts).read old ≡ Ok (v, new)
     → behind ≡ part_after parts v → (last : Bool) → is_end v ≡ last
-    → (found : Option Item) → shown_in (OfImage v) ≡ list_of found
+    → (found : Option Item) → shown_in (OfImage v) ≡ items_of_option found
     → FindsItem (Ok found) (Image parts) (cond last Packets (Image behind)) old new
 value_found parts behind old new v read to last ends found same = (
   OfImage v,
@@ -118,7 +118,7 @@ part_refused phase parts behind old new (errors.Fault e) at r = (
 pub front_less : (phase next : Phase) (bytes rest : List ℕ) (found : Option Item)
     → FindsItem (Ok found) phase next bytes rest → length rest ≤ length bytes
 front_less phase next bytes rest found f =
-    omega (arith, shorter_rest leader leader_streamed phase bytes rest f.0 f.1)
+    omega (arith, shorter_rest stream_of_leader leader_streamed phase bytes rest f.0 f.1)
 
 pub front_found : (phase next : Phase) (bytes rest : List ℕ) (found : Option Item) → IsBytes bytes
     → FindsItem (Ok found) phase next bytes rest → ReadsFront (Ok (found, length bytes - length rest)) phase next bytes
@@ -132,11 +132,11 @@ front_found phase next bytes rest found fits f =
     )
 
 -- a packet that was read can be written
-writable_in : (phase : Phase) (p : QuorumPacket) → (found_format phase).Writable (OfPacket p) → packet.Writable p
+writable_in : (phase : Phase) (p : QuorumPacket) → (found_format phase).Writable (OfPacket p) → packet_format.Writable p
 writable_in Packets p w = w
 writable_in (Image phase) p w = absurd w
 
-is_packet : (v : Found) (p : QuorumPacket) → shown_in v ≡ item.Packet p ∷ [] → v ≡ OfPacket p
+is_packet : (v : FoundValue) (p : QuorumPacket) → shown_in v ≡ item.Packet p ∷ [] → v ≡ OfPacket p
 is_packet (OfPacket q) p e = let same : q ≡ p = cc in ap (λ x. OfPacket x) same
 is_packet (OfImage (Part part)) p e = absurd cc
 is_packet (OfImage (Count n)) p e = absurd cc
@@ -156,7 +156,7 @@ found_writable phase next bytes rest (Some (item.Packet p)) fits f =
 -- ---- a step of the feed
 
 abbrev pub place_of : List ℕ → Phase → Option Fault → Place Phase
-place_of waiting phase fault = record { phase = phase; unread = held waiting fault }
+place_of waiting phase fault = record { phase = phase; unread = unread_of waiting fault }
 
 no_fault : (fault : Option Fault) → ((e : Fault) → fault ≡ Some e → ⊥) → fault ≡ None
 no_fault None fine = refl
@@ -172,40 +172,41 @@ module _ (waiting : List ℕ) (phase next : Phase) (fault : Option Fault) (old :
   is_fine = ap (λ (p : Place Phase). is_err p.unread) ready
 
   pub found_goes : (rest : List ℕ) (used : ℕ) (found : Option Item) → ReadsFront (Ok (found, used)) phase next waiting
-      → rest ≡ drop used waiting → Goes (list_of found) old (place_of rest next fault)
+      → rest ≡ drop used waiting → FindsOne (items_of_option found) old (place_of rest next fault)
   found_goes rest used found r left =
       let new : place_of rest next fault ≡ place_at (phase_after phase r.0) (drop used waiting) =
       λ i. place_of (left i) (r.3 i) (no_fault fault fine i) in
-      let whole : Goes (list_of found) (place_at phase waiting) (place_at (phase_after phase r.0) (drop used waiting)) =
+      let whole : FindsOne (items_of_option found) (place_at phase waiting)
+      (place_at (phase_after phase r.0) (drop used waiting)) =
       record {
         found = r.0;
-        first = items_whole leader leader_streamed phase waiting (drop used waiting) r.0 r.1;
+        first = items_whole stream_of_leader leader_streamed phase waiting (drop used waiting) r.0 r.1;
         shows = r.4;
-        less = shorter_rest leader leader_streamed phase waiting (drop used waiting) r.0 r.1;
+        less = shorter_rest stream_of_leader leader_streamed phase waiting (drop used waiting) r.0 r.1;
         before_it = refl;
         behind_it = refl;
       } in
-      subst (λ (p : Place Phase). Goes (list_of found) p (place_of rest next fault)) (sym ready)
-      (subst (Goes (list_of found) (place_at phase waiting)) (sym new) whole)
+      subst (λ (p : Place Phase). FindsOne (items_of_option found) p (place_of rest next fault)) (sym ready)
+      (subst (FindsOne (items_of_option found) (place_at phase waiting)) (sym new) whole)
 
-  pub front_refused : (e : Fault) → Failed (errors.Fault e) ((found_format phase).read waiting) × (next ≡ phase)
-      → RefusesUnread e next (held waiting fault)
+  pub front_refused : (e : Fault) → IsFailureOf (errors.Fault e) ((found_format phase).read waiting) × (next ≡ phase)
+      → RefusesUnread e next (unread_of waiting fault)
   front_refused e r =
-      subst (λ (u : Unread). RefusesUnread e next u) (ap (held waiting) (sym (no_fault fault fine)))
+      subst (λ (u : Unread). RefusesUnread e next u) (ap (unread_of waiting) (sym (no_fault fault fine)))
       (subst (λ (p : Phase). (found_format p).read waiting ≡ Err e) (sym r.1) r.0)
 
 -- too few bytes wait for more
 pub short_stops : (phase : Phase) (u : Unread) → RefusesUnread Short phase u
-    → Stops (Ok tt) (record { phase = phase; unread = u }) (record { phase = phase; unread = u })
-short_stops phase (Ok bytes) h = (items_short leader leader_streamed phase bytes h, h)
+    → FindsNone (Ok tt) (record { phase = phase; unread = u }) (record { phase = phase; unread = u })
+short_stops phase (Ok bytes) h = (items_short stream_of_leader leader_streamed phase bytes h, h)
 short_stops phase (Err e) h = absurd h
 
 -- another refusal ends the stream
 pub refused_stops : (phase : Phase) (u : Unread) (e : Fault) → RefusesUnread e phase u → (e ≡ Short → ⊥)
-    → Stops (Err e) (record { phase = phase; unread = u }) (record { phase = phase; unread = Err e })
+    → FindsNone (Err e) (record { phase = phase; unread = u }) (record { phase = phase; unread = Err e })
 refused_stops phase (Ok bytes) e h other = (
-  items_refused leader leader_streamed phase bytes e h
-      ∙ ap (λ (u : Unread). nothing (record { phase = phase; unread = u })) (refused_other e bytes other),
+  items_refused stream_of_leader leader_streamed phase bytes e h
+      ∙ ap (λ (u : Unread). no_items (record { phase = phase; unread = u })) (refused_other e bytes other),
   refl,
 )
 refused_stops phase (Err d) e h other = absurd h
@@ -215,17 +216,19 @@ step_of None = Ok step.Hidden
 step_of (Some i) = Ok (step.Shown i)
 
 pub step_found : (found : Option Item) (result : Result Step ReadError) (old new : Place Phase)
-    → result ≡ step_of found → Goes (list_of found) old new → Steps result old new
-step_found None result old new is g = subst (λ (r : Result Step ReadError). Steps r old new) (sym is) g
-step_found (Some i) result old new is g = subst (λ (r : Result Step ReadError). Steps r old new) (sym is) g
+    → result ≡ step_of found → FindsOne (items_of_option found) old new → IsStepResult result old new
+step_found None result old new is g = subst (λ (r : Result Step ReadError). IsStepResult r old new) (sym is) g
+step_found (Some i) result old new is g = subst (λ (r : Result Step ReadError). IsStepResult r old new) (sym is) g
 
 -- ---- what is shown
 
-pub shown_next : (old new : Place Phase) (front : List Item) → Goes front old new
-    → shows old ≡ record { found = front ++ (shows new).found; left = (shows new).left }
+pub shown_next : (old new : Place Phase) (front : List Item) → FindsOne front old new
+    → items_shown_at old ≡ record { found = front ++ (items_shown_at new).found; left = (items_shown_at new).left }
 shown_next old new front g =
-    ap (λ (i : Items Phase Found). shown i) g.first
-    ∙ ap (λ (f : List Item). record { found = f ++ (shows new).found; left = (shows new).left }) g.shows
+    ap (λ (i : Items Phase FoundValue). shown_items i) g.first
+    ∙ ap (λ (f : List Item). record { found = f ++ (items_shown_at new).found; left = (items_shown_at new).left })
+    g.shows
 
-pub shown_nothing : (old new : Place Phase) → items leader old ≡ nothing new → shows old ≡ nothing new
-shown_nothing old new none = ap (λ (i : Items Phase Found). shown i) none
+pub shown_nothing : (old new : Place Phase) → items_in stream_of_leader old ≡ no_items new
+    → items_shown_at old ≡ no_items new
+shown_nothing old new none = ap (λ (i : Items Phase FoundValue). shown_items i) none

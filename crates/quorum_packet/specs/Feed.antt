@@ -4,14 +4,14 @@ use Rattle.values.specs.declared.fault.Fault.{Fault}
 use Rattle.values.specs.declared.fault.Fault.TheVariants.{Short}
 use Rattle.values.specs.declared.fault.ReadError.{ReadError}
 use Rattle.values.specs.declared.fault.ReadError.TheVariants as errors
-use Rattle.jute.specs.Stream.{Unread, Place, nothing, before}
+use Rattle.jute.specs.Stream.{Unread, Place, no_items, with_first}
 use Rattle.snapshot_codec.specs.declared.part.PartPhase.TheVariants.{Body}
 use Rattle.quorum_packet.specs.declared.item.Item.{Item}
 use Rattle.quorum_packet.specs.declared.item.Item.TheVariants as item
 use Rattle.quorum_packet.specs.declared.phase.Phase.{Phase}
 use Rattle.quorum_packet.specs.declared.phase.Phase.TheVariants.{Packets, Image}
-use Rattle.quorum_packet.specs.Items.{found_format, shows}
-use Rattle.quorum_packet.specs.Packet.{packet}
+use Rattle.quorum_packet.specs.Items.{found_format, items_shown_at}
+use Rattle.quorum_packet.specs.Packet.{packet_format}
 
 -- how many bytes are unread
 abbrev pub unread_len : Unread → ℕ
@@ -19,34 +19,35 @@ unread_len (Ok bytes) = length bytes
 unread_len (Err e) = 0
 
 -- too few bytes are unread for what stands next
-abbrev pub WaitsFor : Phase → Unread → Type 0
-WaitsFor phase (Ok bytes) = (found_format phase).read bytes ≡ Err Short
-WaitsFor phase (Err e) = ⊥
+abbrev pub WaitsForMore : Phase → Unread → Type 0
+WaitsForMore phase (Ok bytes) = (found_format phase).read bytes ≡ Err Short
+WaitsForMore phase (Err e) = ⊥
 
 -- What next answers and leaves: the first packet or part and the stream behind it; that too few bytes are there for a
 -- packet, a part or what only moves an image on; or the fault. Memory is refused only where no fault came, and what
 -- the stream shows stays.
-abbrev pub First : Result (Option Item) ReadError → Place Phase → Place Phase → Type 0
-First (Ok (Some i)) old new = (shows old ≡ before i (shows new)) × (unread_len new.unread < unread_len old.unread)
-First (Ok None) old new = (shows old ≡ nothing new) × WaitsFor new.phase new.unread
-First (Err errors.NoMemory) old new =
-    (shows new ≡ shows old) × (is_err old.unread ≡ false) × (is_err new.unread ≡ false)
-First (Err (errors.Fault e)) old new = (shows old ≡ nothing new) × (new.unread ≡ Err e)
+abbrev pub AnswersNext : Result (Option Item) ReadError → Place Phase → Place Phase → Type 0
+AnswersNext (Ok (Some i)) old new =
+    (items_shown_at old ≡ with_first i (items_shown_at new)) × (unread_len new.unread < unread_len old.unread)
+AnswersNext (Ok None) old new = (items_shown_at old ≡ no_items new) × WaitsForMore new.phase new.unread
+AnswersNext (Err errors.NoMemory) old new =
+    (items_shown_at new ≡ items_shown_at old) × (is_err old.unread ≡ false) × (is_err new.unread ≡ false)
+AnswersNext (Err (errors.Fault e)) old new = (items_shown_at old ≡ no_items new) × (new.unread ≡ Err e)
 
 -- a packet that was read can be written
 abbrev pub CanBeWritten : Item → Type 0
-CanBeWritten (item.Packet p) = packet.Writable p
+CanBeWritten (item.Packet p) = packet_format.Writable p
 CanBeWritten (item.Part p) = Unit {0}
 
 -- Whether a stream may end where it was read up to: not behind a fault, in an image, or where bytes are unread.
-abbrev pub ended : Phase → Unread → Result (Unit {0}) Fault
-ended phase (Err e) = Err e
-ended (Image phase) (Ok bytes) = Err Short
-ended Packets (Ok []) = Ok tt
-ended Packets (Ok (b ∷ bytes)) = Err Short
+abbrev pub stream_end : Phase → Unread → Result (Unit {0}) Fault
+stream_end phase (Err e) = Err e
+stream_end (Image phase) (Ok bytes) = Err Short
+stream_end Packets (Ok []) = Ok tt
+stream_end Packets (Ok (b ∷ bytes)) = Err Short
 
 abbrev pub end_of : Place Phase → Result (Unit {0}) Fault
-end_of place = ended place.phase place.unread
+end_of place = stream_end place.phase place.unread
 
 -- how many bytes a phase keeps of a part that has begun
 abbrev pub kept_len : Phase → ℕ

@@ -3,6 +3,6 @@ use Rattle.std.specs.Prelude.{ℕ, List, Option, Some, None, Ok, Err}
 use Rattle.values.specs.declared.fault.Fault.{Fault}
 use Rattle.jute.specs.Stream.{Unread}
 
-abbrev pub held : List ℕ → Option Fault → Unread
-held bytes None = Ok bytes
-held bytes (Some e) = Err e
+abbrev pub unread_of : List ℕ → Option Fault → Unread
+unread_of bytes None = Ok bytes
+unread_of bytes (Some e) = Err e

@@ -3,7 +3,7 @@
 use Rattle.std.specs.Prelude.{List, [], ◌∷◌, Option, Some, None, if◌then◌else◌}
 use Rattle.std.specs.List.{flat_map}
 use Rattle.jute.specs.Format.{Format, case_of}
-use Rattle.jute.specs.Stream.{values, Phased, Place, Items, items}
+use Rattle.jute.specs.Stream.{values, PhasedStream, Place, Items, items_in}
 use Rattle.snapshot_codec.specs.Parts.{Value, Part, part_format, part_after, is_end}
 use Rattle.snapshot_codec.specs.declared.part.PartPhase.{PartPhase}
 use Rattle.snapshot_codec.specs.declared.part.PartPhase.TheVariants.{SessionCount}
@@ -15,67 +15,67 @@ use Rattle.quorum_packet.specs.declared.packet.QuorumPacket.{QuorumPacket}
 use Rattle.quorum_packet.specs.declared.phase.Phase.{Phase}
 use Rattle.quorum_packet.specs.declared.phase.Phase.TheVariants.{Packets, Image}
 use Rattle.quorum_packet.specs.Kinds.{kind_of}
-use Rattle.quorum_packet.specs.Packet.{packet}
+use Rattle.quorum_packet.specs.Packet.{packet_format}
 
 -- what stands in the stream: a packet, or what stands in an image
-pub data Found : Type 0 where
-  OfPacket : (packet : QuorumPacket) → Found
-  OfImage : (value : Value) → Found
+pub data FoundValue : Type 0 where
+  OfPacket : (packet : QuorumPacket) → FoundValue
+  OfImage : (value : Value) → FoundValue
 
-abbrev pub packet_back : Found → Option QuorumPacket
+abbrev pub packet_back : FoundValue → Option QuorumPacket
 packet_back (OfPacket p) = Some p
 packet_back (OfImage v) = None
 
-abbrev pub value_back : Found → Option Value
+abbrev pub value_back : FoundValue → Option Value
 value_back (OfImage v) = Some v
 value_back (OfPacket p) = None
 
-abbrev pub found_format : Phase → Format Found
-found_format Packets = case_of (λ p. OfPacket p) packet_back packet
+abbrev pub found_format : Phase → Format FoundValue
+found_format Packets = case_of (λ p. OfPacket p) packet_back packet_format
 found_format (Image phase) = case_of (λ v. OfImage v) value_back (part_format phase)
 
 -- what stands behind a packet of a kind that is listed, and of one that isn't
-abbrev pub phase_behind : Option PacketKind → Phase
-phase_behind (Some kinds.Snap) = Image SessionCount
-phase_behind (Some kinds.Request) = Packets
-phase_behind (Some kinds.Proposal) = Packets
-phase_behind (Some kinds.Ack) = Packets
-phase_behind (Some kinds.Commit) = Packets
-phase_behind (Some kinds.Ping) = Packets
-phase_behind (Some kinds.Revalidate) = Packets
-phase_behind (Some kinds.Sync) = Packets
-phase_behind (Some kinds.Inform) = Packets
-phase_behind (Some kinds.NewLeader) = Packets
-phase_behind (Some kinds.FollowerInfo) = Packets
-phase_behind (Some kinds.UpToDate) = Packets
-phase_behind (Some kinds.Diff) = Packets
-phase_behind (Some kinds.Trunc) = Packets
-phase_behind (Some kinds.ObserverInfo) = Packets
-phase_behind (Some kinds.LeaderInfo) = Packets
-phase_behind (Some kinds.AckEpoch) = Packets
-phase_behind None = Packets
+abbrev pub phase_after_kind : Option PacketKind → Phase
+phase_after_kind (Some kinds.Snap) = Image SessionCount
+phase_after_kind (Some kinds.Request) = Packets
+phase_after_kind (Some kinds.Proposal) = Packets
+phase_after_kind (Some kinds.Ack) = Packets
+phase_after_kind (Some kinds.Commit) = Packets
+phase_after_kind (Some kinds.Ping) = Packets
+phase_after_kind (Some kinds.Revalidate) = Packets
+phase_after_kind (Some kinds.Sync) = Packets
+phase_after_kind (Some kinds.Inform) = Packets
+phase_after_kind (Some kinds.NewLeader) = Packets
+phase_after_kind (Some kinds.FollowerInfo) = Packets
+phase_after_kind (Some kinds.UpToDate) = Packets
+phase_after_kind (Some kinds.Diff) = Packets
+phase_after_kind (Some kinds.Trunc) = Packets
+phase_after_kind (Some kinds.ObserverInfo) = Packets
+phase_after_kind (Some kinds.LeaderInfo) = Packets
+phase_after_kind (Some kinds.AckEpoch) = Packets
+phase_after_kind None = Packets
 
 -- the end of an image is the last that stands in it
-abbrev pub behind_value : PartPhase → Value → Phase
-behind_value phase v = if is_end v then Packets else Image (part_after phase v)
+abbrev pub phase_after_value : PartPhase → Value → Phase
+phase_after_value phase v = if is_end v then Packets else Image (part_after phase v)
 
-abbrev pub phase_after : Phase → Found → Phase
-phase_after phase (OfPacket p) = phase_behind (kind_of p.kind)
+abbrev pub phase_after : Phase → FoundValue → Phase
+phase_after phase (OfPacket p) = phase_after_kind (kind_of p.kind)
 phase_after Packets (OfImage v) = Packets
-phase_after (Image phase) (OfImage v) = behind_value phase v
+phase_after (Image phase) (OfImage v) = phase_after_value phase v
 
-abbrev pub leader : Phased Phase Found
-leader = record { reading = λ phase. values (found_format phase); after = phase_after }
+abbrev pub stream_of_leader : PhasedStream Phase FoundValue
+stream_of_leader = record { reading = λ phase. values (found_format phase); after = phase_after }
 
 -- packets and parts are shown; what only moves an image on isn't
-abbrev pub shown_in : Found → List Item
+abbrev pub shown_in : FoundValue → List Item
 shown_in (OfPacket p) = item.Packet p ∷ []
 shown_in (OfImage (Part p)) = item.Part p ∷ []
 shown_in (OfImage v) = []
 
-abbrev pub shown : Items Phase Found → Items Phase Item
-shown i = record { found = flat_map shown_in i.found; left = i.left }
+abbrev pub shown_items : Items Phase FoundValue → Items Phase Item
+shown_items i = record { found = flat_map shown_in i.found; left = i.left }
 
 -- the packets and parts that stand at a place, one behind another, and the place where nothing further stands
-abbrev pub shows : Place Phase → Items Phase Item
-shows place = shown (items leader place)
+abbrev pub items_shown_at : Place Phase → Items Phase Item
+items_shown_at place = shown_items (items_in stream_of_leader place)

@@ -23,10 +23,11 @@ code_of ObserverInfo = pos 16
 code_of LeaderInfo = pos 17
 code_of AckEpoch = pos 18
 
-abbrev pub kinds : List PacketKind
-kinds = Request ∷ Proposal ∷ Ack ∷ Commit ∷ Ping ∷ Revalidate ∷ Sync ∷ Inform ∷ NewLeader ∷ FollowerInfo ∷ UpToDate
+abbrev pub packet_kinds : List PacketKind
+packet_kinds = Request ∷ Proposal ∷ Ack ∷ Commit ∷ Ping ∷ Revalidate ∷ Sync ∷ Inform ∷ NewLeader ∷ FollowerInfo
+    ∷ UpToDate
     ∷ Diff ∷ Trunc ∷ Snap ∷ ObserverInfo ∷ LeaderInfo ∷ AckEpoch ∷ []
 
 -- the kind with that code
 unfoldable pub kind_of : ℤ → Option PacketKind
-kind_of code = find (λ k. int_eq code (code_of k)) kinds
+kind_of code = find (λ k. int_eq code (code_of k)) packet_kinds

@@ -1,9 +1,9 @@
 -- The QuorumPacket of zookeeper.jute.
-use Rattle.jute.specs.Format.{Format, int, long, buffer, vector, both, mapped}
-use Rattle.jute.specs.Owned.{id}
+use Rattle.jute.specs.Format.{Format, int, long, buffer, vector_of, pair_of, mapped_format}
+use Rattle.jute.specs.Owned.{id_format}
 use Rattle.quorum_packet.specs.declared.packet.QuorumPacket.{QuorumPacket}
 
-unfoldable pub packet : Format QuorumPacket
-packet = mapped (λ v. record { kind = v.0; zxid = v.1.0; bytes = v.1.1.0; authinfo = v.1.1.1 })
+unfoldable pub packet_format : Format QuorumPacket
+packet_format = mapped_format (λ v. record { kind = v.0; zxid = v.1.0; bytes = v.1.1.0; authinfo = v.1.1.1 })
     (λ p. (p.kind, (p.zxid, (p.bytes, p.authinfo))))
-    (both int (both long (both buffer (vector id))))
+    (pair_of int (pair_of long (pair_of buffer (vector_of id_format))))

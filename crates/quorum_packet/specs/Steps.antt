@@ -3,63 +3,63 @@ use Rattle.std.specs.Prelude.{◌≡◌, ◌<◌, ◌≤◌, ℕ, List, [], ◌�
 use Rattle.values.specs.declared.fault.Fault.{Fault}
 use Rattle.values.specs.declared.fault.ReadError.{ReadError}
 use Rattle.values.specs.declared.fault.ReadError.TheVariants as errors
-use Rattle.jute.specs.Reads.{Failed}
-use Rattle.jute.specs.Stream.{Unread, Place, nothing, before, items}
+use Rattle.jute.specs.Reads.{IsFailureOf}
+use Rattle.jute.specs.Stream.{Unread, Place, no_items, with_first, items_in}
 use Rattle.quorum_packet.specs.declared.feed.Step.{Step}
 use Rattle.quorum_packet.specs.declared.feed.Step.TheVariants as step
 use Rattle.quorum_packet.specs.declared.item.Item.{Item}
 use Rattle.quorum_packet.specs.declared.phase.Phase.{Phase}
-use Rattle.quorum_packet.specs.Feed.{unread_len, WaitsFor}
-use Rattle.quorum_packet.specs.Items.{Found, found_format, phase_after, leader, shown_in}
+use Rattle.quorum_packet.specs.Feed.{unread_len, WaitsForMore}
+use Rattle.quorum_packet.specs.Items.{FoundValue, found_format, phase_after, stream_of_leader, shown_in}
 
-abbrev pub list_of : Option Item → List Item
-list_of None = []
-list_of (Some i) = i ∷ []
+abbrev pub items_of_option : Option Item → List Item
+items_of_option None = []
+items_of_option (Some i) = i ∷ []
 
 -- what stands at a place, and the place and the phase behind it
 abbrev pub FindsItem : Result (Option Item) ReadError → Phase → Phase → List ℕ → List ℕ → Type 0
 FindsItem (Ok found) phase next old new =
-    (v : Found) × ((found_format phase).read old ≡ Ok (v, new)) × (next ≡ phase_after phase v)
-    × (shown_in v ≡ list_of found)
-FindsItem (Err e) phase next old new = Failed e ((found_format phase).read old) × (new ≡ old) × (next ≡ phase)
+    (v : FoundValue) × ((found_format phase).read old ≡ Ok (v, new)) × (next ≡ phase_after phase v)
+    × (shown_in v ≡ items_of_option found)
+FindsItem (Err e) phase next old new = IsFailureOf e ((found_format phase).read old) × (new ≡ old) × (next ≡ phase)
 
 -- what stands at the front of the bytes, how many it takes, and the phase behind it
 abbrev pub ReadsFront : Result (Option Item × ℕ) ReadError → Phase → Phase → List ℕ → Type 0
 ReadsFront (Ok x) phase next bytes =
-    (v : Found) × ((found_format phase).read bytes ≡ Ok (v, drop x.1 bytes)) × (x.1 ≤ length bytes)
-    × (next ≡ phase_after phase v) × (shown_in v ≡ list_of x.0)
-ReadsFront (Err e) phase next bytes = Failed e ((found_format phase).read bytes) × (next ≡ phase)
+    (v : FoundValue) × ((found_format phase).read bytes ≡ Ok (v, drop x.1 bytes)) × (x.1 ≤ length bytes)
+    × (next ≡ phase_after phase v) × (shown_in v ≡ items_of_option x.0)
+ReadsFront (Err e) phase next bytes = IsFailureOf e ((found_format phase).read bytes) × (next ≡ phase)
 
 -- one that stood there was found, and shown or not
-pub record Goes (show : List Item) (old new : Place Phase) : Type 0 where
-  pub found : Found
-  pub first : items leader old ≡ before found (items leader new)
+pub record FindsOne (show : List Item) (old new : Place Phase) : Type 0 where
+  pub found : FoundValue
+  pub first : items_in stream_of_leader old ≡ with_first found (items_in stream_of_leader new)
   pub shows : shown_in found ≡ show
   pub less : unread_len new.unread < unread_len old.unread
   pub before_it : is_err old.unread ≡ false
   pub behind_it : is_err new.unread ≡ false
 
 -- nothing further stands there, and the stream waits, or has this fault
-abbrev pub Stops : Result (Unit {0}) Fault → Place Phase → Place Phase → Type 0
-Stops (Ok u) old new = (items leader old ≡ nothing new) × WaitsFor new.phase new.unread
-Stops (Err e) old new = (items leader old ≡ nothing new) × (new.unread ≡ Err e)
+abbrev pub FindsNone : Result (Unit {0}) Fault → Place Phase → Place Phase → Type 0
+FindsNone (Ok u) old new = (items_in stream_of_leader old ≡ no_items new) × WaitsForMore new.phase new.unread
+FindsNone (Err e) old new = (items_in stream_of_leader old ≡ no_items new) × (new.unread ≡ Err e)
 
-abbrev pub Steps : Result Step ReadError → Place Phase → Place Phase → Type 0
-Steps (Ok step.Nothing) old new = Stops (Ok tt) old new
-Steps (Ok step.Hidden) old new = Goes [] old new
-Steps (Ok (step.Shown i)) old new = Goes (i ∷ []) old new
-Steps (Err errors.NoMemory) old new = (new ≡ old) × (is_err old.unread ≡ false)
-Steps (Err (errors.Fault e)) old new = Stops (Err e) old new
+abbrev pub IsStepResult : Result Step ReadError → Place Phase → Place Phase → Type 0
+IsStepResult (Ok step.Nothing) old new = FindsNone (Ok tt) old new
+IsStepResult (Ok step.Hidden) old new = FindsOne [] old new
+IsStepResult (Ok (step.Shown i)) old new = FindsOne (i ∷ []) old new
+IsStepResult (Err errors.NoMemory) old new = (new ≡ old) × (is_err old.unread ≡ false)
+IsStepResult (Err (errors.Fault e)) old new = FindsNone (Err e) old new
 
 -- bytes wait, and what stands next is refused for this fault
 abbrev pub RefusesUnread : Fault → Phase → Unread → Type 0
 RefusesUnread fault phase (Ok bytes) = (found_format phase).read bytes ≡ Err fault
 RefusesUnread fault phase (Err e) = ⊥
 
-abbrev pub Refuses : Place Phase → Fault → Type 0
-Refuses place fault = RefusesUnread fault place.phase place.unread
+abbrev pub RefusesNext : Place Phase → Fault → Type 0
+RefusesNext place fault = RefusesUnread fault place.phase place.unread
 
-abbrev pub showing : Result Step ReadError → Option Item
-showing (Ok (step.Shown i)) = Some i
-showing (Ok s) = None
-showing (Err e) = None
+abbrev pub item_of_step : Result Step ReadError → Option Item
+item_of_step (Ok (step.Shown i)) = Some i
+item_of_step (Ok s) = None
+item_of_step (Err e) = None

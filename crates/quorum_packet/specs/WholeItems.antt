@@ -2,15 +2,15 @@
 -- each SNAP packet.
 use Rattle.std.specs.Prelude.{Bool, true, false, Option, Some, None}
 use Rattle.jute.specs.Format.{Format, case_of}
-use Rattle.jute.specs.Stream.{values, Phased}
+use Rattle.jute.specs.Stream.{values, PhasedStream}
 use Rattle.data_tree.specs.State.{State}
-use Rattle.snapshot_codec.specs.Image.{image}
+use Rattle.snapshot_codec.specs.Image.{image_format}
 use Rattle.quorum_packet.specs.declared.packet.QuorumPacket.{QuorumPacket}
 use Rattle.quorum_packet.specs.declared.phase.Phase.{Phase}
 use Rattle.quorum_packet.specs.declared.phase.Phase.TheVariants.{Packets, Image}
-use Rattle.quorum_packet.specs.Items.{phase_behind}
+use Rattle.quorum_packet.specs.Items.{phase_after_kind}
 use Rattle.quorum_packet.specs.Kinds.{kind_of}
-use Rattle.quorum_packet.specs.Packet.{packet}
+use Rattle.quorum_packet.specs.Packet.{packet_format}
 
 pub data WholeItem : Type 0 where
   OnePacket : (packet : QuorumPacket) → WholeItem
@@ -25,17 +25,17 @@ one_image_back (OneImage s) = Some s
 one_image_back (OnePacket p) = None
 
 abbrev pub whole_format : Bool → Format WholeItem
-whole_format false = case_of (λ p. OnePacket p) one_packet_back packet
-whole_format true = case_of (λ s. OneImage s) one_image_back image
+whole_format false = case_of (λ p. OnePacket p) one_packet_back packet_format
+whole_format true = case_of (λ s. OneImage s) one_image_back image_format
 
 abbrev pub is_owed : Phase → Bool
 is_owed Packets = false
 is_owed (Image phase) = true
 
 abbrev pub owed_after : Bool → WholeItem → Bool
-owed_after owed (OnePacket p) = is_owed (phase_behind (kind_of p.kind))
+owed_after owed (OnePacket p) = is_owed (phase_after_kind (kind_of p.kind))
 owed_after owed (OneImage s) = false
 
 -- the phase is whether an image is owed
-abbrev pub whole_items : Phased Bool WholeItem
+abbrev pub whole_items : PhasedStream Bool WholeItem
 whole_items = record { reading = λ owed. values (whole_format owed); after = owed_after }

@@ -2,18 +2,18 @@
 
 ghost use Rattle.std.specs.Prelude.{◌≡◌, ◌<◌, ◌^◌, [], Ok, Err, false, is_err};
 ghost use Rattle.std.specs.Prelude.{IsTrue, IsOk, IfOk, IfErr, IfSome, OnOk, OnErr};
-ghost use Rattle.jute.specs.Stream.{add, place_at};
-ghost use Rattle.quorum_packet.specs.Feed.{First, CanBeWritten, end_of, held_len, unread_len};
-ghost use Rattle.quorum_packet.specs.Items.{phase_behind};
+ghost use Rattle.jute.specs.Stream.{with_more_bytes, place_at};
+ghost use Rattle.quorum_packet.specs.Feed.{AnswersNext, CanBeWritten, end_of, held_len, unread_len};
+ghost use Rattle.quorum_packet.specs.Items.{phase_after_kind};
 ghost use Rattle.quorum_packet.specs.Kinds.{kind_of};
-ghost use Rattle.quorum_packet.specs.Steps.{FindsItem, ReadsFront, Refuses, Steps, showing};
+ghost use Rattle.quorum_packet.specs.Steps.{FindsItem, ReadsFront, RefusesNext, IsStepResult, item_of_step};
 ghost use Rattle.quorum_packet.specs.declared.phase.Phase.TheVariants.{Packets};
 
 use crate::item::Item;
 use crate::kind::PacketKind;
 use crate::packet::QuorumPacket;
 use crate::phase::Phase;
-use crate::unseen::{Unseen, look_on};
+use crate::unseen::{Unseen, scan_new_bytes};
 use jute::{ReadRecord, Reader};
 use snapshot_codec::{PartPhase, read_part};
 use std::alloc::Global;
@@ -37,19 +37,19 @@ pub struct PacketFeed {
 impl Model for PacketFeed {
     ghost use Rattle.jute.specs.Stream.{Place};
     ghost use Rattle.quorum_packet.specs.declared.phase.Phase.{Phase};
-    ghost use Rattle.quorum_packet.specs.Held.{held};
+    ghost use Rattle.quorum_packet.specs.Held.{unread_of};
 
     ghost Value = { Place Phase };
 
-    ghost view = { λ f. record { phase = f.phase; unread = held f.waiting f.fault } };
+    ghost view = { λ f. record { phase = f.phase; unread = unread_of f.waiting f.fault } };
 
     ghost use Rattle.quorum_packet.specs.Unseen.{MayBeUnseen};
 
     ghost invariant = { λ f. MayBeUnseen f.waiting f.unseen };
 }
 
-fn phase_behind(packet: &QuorumPacket) -> Phase
-    ensures { result ≡ phase_behind (kind_of packet.now.kind) }
+fn phase_after_packet(packet: &QuorumPacket) -> Phase
+    ensures { result ≡ phase_after_kind (kind_of packet.now.kind) }
 {
     match PacketKind::from_code(packet.kind) {
         Some(PacketKind::Snap) => Phase::Image(PartPhase::SessionCount),
@@ -86,7 +86,7 @@ fn read_found(
     match phase {
         Phase::Packets => {
             let packet = QuorumPacket::read(alloc, reader)?;
-            *phase = phase_behind(&packet);
+            *phase = phase_after_packet(&packet);
             Ok(Some(Item::Packet(packet)))
         }
         Phase::Image(parts) => match read_part(alloc, parts, reader)? {
@@ -141,7 +141,7 @@ impl PacketFeed {
 
     /// Takes the next piece. Behind a fault it is dropped. Refused memory leaves the feed as it was.
     pub fn feed(&mut self, piece: &[u8]) -> Result<(), NoMemory>
-        ensures ok { OnOk result (self.new ≡ add self.old piece.now) }
+        ensures ok { OnOk result (self.new ≡ with_more_bytes self.old piece.now) }
         ensures err { OnErr result (self.new ≡ self.old) }
         ensures faulty { IsTrue (is_err self.old.unread) → IsOk result }
     {
@@ -155,7 +155,7 @@ impl PacketFeed {
     /// answers that fault from then on. Refused memory leaves what the stream shows as it was: no packet and no part
     /// is lost, but what only moves an image on may have been passed over.
     pub fn next(&mut self, alloc: Global) -> Result<Option<Item>, ReadError>
-        ensures first { First result self.old self.new }
+        ensures first { AnswersNext result self.old self.new }
         ensures writable { IfOk result (λ found. IfSome found CanBeWritten) }
     {
         loop {
@@ -169,13 +169,13 @@ impl PacketFeed {
 
     // What stands next, shown or not.
     fn step(&mut self, alloc: Global) -> Result<Step, ReadError>
-        ensures steps { Steps result self.old self.new }
-        ensures writable { IfSome (showing result) CanBeWritten }
+        ensures steps { IsStepResult result self.old self.new }
+        ensures writable { IfSome (item_of_step result) CanBeWritten }
     {
         if let Some(fault) = self.fault {
             return Err(ReadError::Fault(fault));
         }
-        if let Err(fault) = look_on(&self.phase, self.waiting.as_slice(), &mut self.unseen) {
+        if let Err(fault) = scan_new_bytes(&self.phase, self.waiting.as_slice(), &mut self.unseen) {
             return self.refuse(fault);
         }
         match read_front(alloc, &mut self.phase, self.waiting.as_slice()) {
@@ -197,9 +197,9 @@ impl PacketFeed {
 
     // Too few bytes wait for more; another refusal ends the stream, and the bytes are dropped.
     fn refuse(&mut self, fault: Fault) -> Result<Step, ReadError>
-        requires { Refuses self.old fault }
-        ensures steps { Steps result self.old self.new }
-        ensures none { IfSome (showing result) CanBeWritten }
+        requires { RefusesNext self.old fault }
+        ensures steps { IsStepResult result self.old self.new }
+        ensures none { IfSome (item_of_step result) CanBeWritten }
     {
         match fault {
             Fault::Short => Ok(Step::Nothing),

@@ -1,11 +1,11 @@
 //! Laws of the leader's stream.
 
 ghost use Rattle.std.specs.Prelude.{◌≡◌, Bool, ℕ, List};
-ghost use Rattle.jute.specs.Laws.{IsBytes, Sound};
+ghost use Rattle.jute.specs.Laws.{IsBytes, IsSound};
 ghost use Rattle.jute.specs.Relation.{AreItems};
-ghost use Rattle.jute.specs.Stream.{ComesInPieces, Items, Place, add, items, joined, place_at};
-ghost use Rattle.quorum_packet.specs.Items.{Found, leader, shows};
-ghost use Rattle.quorum_packet.specs.Packet.{packet};
+ghost use Rattle.jute.specs.Stream.{ComesInPieces, Items, Place, with_more_bytes, items_in, joined_items, place_at};
+ghost use Rattle.quorum_packet.specs.Items.{FoundValue, stream_of_leader, items_shown_at};
+ghost use Rattle.quorum_packet.specs.Packet.{packet_format};
 ghost use Rattle.quorum_packet.specs.WholeItems.{WholeItem, whole_items};
 ghost use Rattle.quorum_packet.specs.declared.phase.Phase.{Phase};
 
@@ -13,14 +13,15 @@ ghost use Rattle.quorum_packet.specs.declared.phase.Phase.{Phase};
 /// place spell. What stands in a stream, packets and the parts of images, is the longest list whose spellings, joined,
 /// are a front of its bytes, however it is cut; and so is what is shown of it.
 pub fn leader_stream()
-    ensures packet { Sound packet }
-    ensures pieces { ComesInPieces leader }
+    ensures packet { IsSound packet_format }
+    ensures pieces { ComesInPieces stream_of_leader }
     ensures shown { (place : Place Phase) (more : List ℕ)
-        → shows (add place more) ≡ joined (shows place) (shows (add (shows place).left more)) }
+        → items_shown_at (with_more_bytes place more)
+        ≡ joined_items (items_shown_at place) (items_shown_at (with_more_bytes (items_shown_at place).left more)) }
     ensures found { (phase : Phase) (bytes : List ℕ) → IsBytes bytes
-        → AreItems leader phase bytes (items leader (place_at phase bytes)) }
-    ensures alone { (phase : Phase) (bytes : List ℕ) (i : Items Phase Found)
-        → AreItems leader phase bytes i → items leader (place_at phase bytes) ≡ i }
+        → AreItems stream_of_leader phase bytes (items_in stream_of_leader (place_at phase bytes)) }
+    ensures alone { (phase : Phase) (bytes : List ℕ) (i : Items Phase FoundValue)
+        → AreItems stream_of_leader phase bytes i → items_in stream_of_leader (place_at phase bytes) ≡ i }
 {}
 
 /// The packets and whole images of a stream are the longest list whose spellings, joined, are a front of its bytes,
@@ -28,7 +29,7 @@ pub fn leader_stream()
 pub fn whole_items()
     ensures pieces { ComesInPieces whole_items }
     ensures found { (owed : Bool) (bytes : List ℕ) → IsBytes bytes
-        → AreItems whole_items owed bytes (items whole_items (place_at owed bytes)) }
+        → AreItems whole_items owed bytes (items_in whole_items (place_at owed bytes)) }
     ensures alone { (owed : Bool) (bytes : List ℕ) (i : Items Bool WholeItem)
-        → AreItems whole_items owed bytes i → items whole_items (place_at owed bytes) ≡ i }
+        → AreItems whole_items owed bytes i → items_in whole_items (place_at owed bytes) ≡ i }
 {}

@@ -1,6 +1,6 @@
 //! One packet.
 
-ghost use Rattle.quorum_packet.specs.Packet.{packet as packet_format};
+ghost use Rattle.quorum_packet.specs.Packet.{packet_format};
 ghost use Rattle.values.specs.Gains.{Puts};
 
 use jute::{
@@ -25,7 +25,7 @@ pub struct QuorumPacket {
 impl<'a> ReadRecord<'a> for QuorumPacket {
     ghost read_of = { packet_format.read };
 
-    #[tactic(auto, unfolding(crate::specs::Packet::packet))]
+    #[tactic(auto, unfolding(crate::specs::Packet::packet_format))]
     fn read(alloc: Global, reader: &mut Reader<'a>) -> Result<QuorumPacket, ReadError> {
         let mut ahead = reader.ahead();
         let kind = ahead.read_int()?;
@@ -45,12 +45,12 @@ impl<'a> ReadRecord<'a> for QuorumPacket {
 impl WriteRecord for QuorumPacket {
     ghost format = { packet_format };
 
-    #[tactic(auto, unfolding(crate::specs::Packet::packet, jute::specs::Format::number_bytes))]
+    #[tactic(auto, unfolding(crate::specs::Packet::packet_format, jute::specs::Format::number_bytes))]
     fn written_len(&self) -> usize {
         12 + blob_len(&self.bytes) + vector_len(&self.authinfo)
     }
 
-    #[tactic(auto, unfolding(crate::specs::Packet::packet))]
+    #[tactic(auto, unfolding(crate::specs::Packet::packet_format))]
     fn write(&self, out: &mut Vec<u8>) -> Result<(), NoMemory> {
         self.kind.write(out)?;
         self.zxid.write(out)?;

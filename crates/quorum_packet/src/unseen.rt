@@ -1,11 +1,11 @@
 //! What of something unfinished wasn't looked at yet, so that no byte is looked at anew at each piece.
 
 ghost use Rattle.std.specs.Prelude.{◌≡◌, ◌<◌, Err, IfOk, IfErr, IfSome, OnOk, drop};
-ghost use Rattle.jute.specs.Format.{name};
+ghost use Rattle.jute.specs.Format.{text_or_empty};
 ghost use Rattle.quorum_packet.specs.Items.{found_format};
-ghost use Rattle.quorum_packet.specs.Packet.{packet};
+ghost use Rattle.quorum_packet.specs.Packet.{packet_format};
 ghost use Rattle.quorum_packet.specs.Unseen.{AreUnseen, AreUnseenEntries, IsUnseen, MayBeUnseen, acl_list, texts_left};
-ghost use Rattle.quorum_packet.specs.Unseen.{AllSeen, PacketSeen, ListSeen, fields, list_fields};
+ghost use Rattle.quorum_packet.specs.Unseen.{IsAllSeen, IsPacketSeen, IsListSeen, packet_fields, list_fields};
 ghost use Rattle.quorum_packet.specs.Unseen.{StopsAt, PacketStopsAt, ListStopsAt, EntryStopsAt};
 
 use crate::phase::Phase;
@@ -41,11 +41,11 @@ pub enum Unseen {
 }
 
 // Looks at the fields before the texts.
-#[tactic(auto, unfolding(crate::specs::Packet::packet, jute::specs::Format::vector_at))]
-fn look_at_fields(bytes: &[u8]) -> Result<Texts, Fault>
+#[tactic(auto, unfolding(crate::specs::Packet::packet_format, jute::specs::Format::vector_at))]
+fn scan_fields(bytes: &[u8]) -> Result<Texts, Fault>
     ensures ok { IfOk result (AreUnseen bytes.now) }
-    ensures err { IfErr result (λ e. packet.read bytes.now ≡ Err e) }
-    ensures stops { IfErr result (λ e. fields.read bytes.now ≡ Err e) }
+    ensures err { IfErr result (λ e. packet_format.read bytes.now ≡ Err e) }
+    ensures stops { IfErr result (λ e. packet_fields.read bytes.now ≡ Err e) }
 {
     let mut ahead = Reader::new(bytes);
     ahead.read_int()?;
@@ -59,12 +59,12 @@ fn look_at_fields(bytes: &[u8]) -> Result<Texts, Fault>
 }
 
 // Looks at the texts that are whole.
-fn look_at_texts(bytes: &[u8], texts: &mut Texts) -> Result<(), Fault>
+fn scan_texts(bytes: &[u8], texts: &mut Texts) -> Result<(), Fault>
     requires { AreUnseen bytes.now texts.old }
     ensures kept { AreUnseen bytes.now texts.new }
     ensures seen { OnOk result (texts.new.count ≡ 0) }
-    ensures err { IfErr result (λ e. packet.read bytes.now ≡ Err e) }
-    ensures stops { IfErr result (λ e. name.read (drop texts.new.start bytes.now) ≡ Err e) }
+    ensures err { IfErr result (λ e. packet_format.read bytes.now ≡ Err e) }
+    ensures stops { IfErr result (λ e. text_or_empty.read (drop texts.new.start bytes.now) ≡ Err e) }
 {
     let mut ahead = Reader::new(&bytes[texts.start..]);
     while texts.count > 0 {
@@ -76,28 +76,28 @@ fn look_at_texts(bytes: &[u8], texts: &mut Texts) -> Result<(), Fault>
 }
 
 // Looks at what is in of the packet at the front. It answers the packet's refusal, if there is one.
-fn look_at_packet(bytes: &[u8], unseen: &mut Unseen) -> Result<(), Fault>
+fn scan_packet(bytes: &[u8], unseen: &mut Unseen) -> Result<(), Fault>
     requires { IsUnseen bytes.now unseen.old }
     ensures kept { IsUnseen bytes.now unseen.new }
-    ensures seen { OnOk result (PacketSeen unseen.new) }
-    ensures err { IfErr result (λ e. packet.read bytes.now ≡ Err e) }
+    ensures seen { OnOk result (IsPacketSeen unseen.new) }
+    ensures err { IfErr result (λ e. packet_format.read bytes.now ≡ Err e) }
     ensures stops { IfErr result (PacketStopsAt bytes.now unseen.new) }
 {
     let mut texts = match *unseen {
         Unseen::Texts(texts) => texts,
         _ => {
             *unseen = Unseen::Whole;
-            look_at_fields(bytes)?
+            scan_fields(bytes)?
         }
     };
-    let looked = look_at_texts(bytes, &mut texts);
+    let looked = scan_texts(bytes, &mut texts);
     *unseen = Unseen::Texts(texts);
     looked
 }
 
 // Looks at the fields before the entries.
 #[tactic(auto, unfolding(jute::specs::Format::vector_at))]
-fn look_at_list_fields(bytes: &[u8]) -> Result<Entries, Fault>
+fn scan_list_fields(bytes: &[u8]) -> Result<Entries, Fault>
     ensures ok { IfOk result (AreUnseenEntries bytes.now) }
     ensures err { IfErr result (λ e. acl_list.read bytes.now ≡ Err e) }
     ensures stops { IfErr result (λ e. list_fields.read bytes.now ≡ Err e) }
@@ -113,7 +113,7 @@ fn look_at_list_fields(bytes: &[u8]) -> Result<Entries, Fault>
 }
 
 // Looks at the next text of the entries, and at the number before a scheme.
-fn look_at_entry(bytes: &[u8], entries: &mut Entries) -> Result<(), Fault>
+fn scan_entry(bytes: &[u8], entries: &mut Entries) -> Result<(), Fault>
     requires unseen { AreUnseenEntries bytes.now entries.old }
     requires some { 0 < entries.old.count }
     ensures kept { AreUnseenEntries bytes.now entries.new }
@@ -142,7 +142,7 @@ fn look_at_entry(bytes: &[u8], entries: &mut Entries) -> Result<(), Fault>
 }
 
 // Looks at the entries that are whole.
-fn look_at_entries(bytes: &[u8], entries: &mut Entries) -> Result<(), Fault>
+fn scan_entries(bytes: &[u8], entries: &mut Entries) -> Result<(), Fault>
     requires { AreUnseenEntries bytes.now entries.old }
     ensures kept { AreUnseenEntries bytes.now entries.new }
     ensures seen { OnOk result (entries.new.count ≡ 0) }
@@ -150,16 +150,16 @@ fn look_at_entries(bytes: &[u8], entries: &mut Entries) -> Result<(), Fault>
     ensures stops { IfErr result (λ e. EntryStopsAt entries.new.scheme_seen (drop entries.new.start bytes.now) e) }
 {
     while entries.count > 0 {
-        look_at_entry(bytes, entries)?;
+        scan_entry(bytes, entries)?;
     }
     Ok(())
 }
 
 // Looks at what is in of the ACL list at the front. It answers the list's refusal, if there is one.
-fn look_at_list(bytes: &[u8], unseen: &mut Unseen) -> Result<(), Fault>
+fn scan_list(bytes: &[u8], unseen: &mut Unseen) -> Result<(), Fault>
     requires { IsUnseen bytes.now unseen.old }
     ensures kept { IsUnseen bytes.now unseen.new }
-    ensures seen { OnOk result (ListSeen unseen.new) }
+    ensures seen { OnOk result (IsListSeen unseen.new) }
     ensures err { IfErr result (λ e. acl_list.read bytes.now ≡ Err e) }
     ensures stops { IfErr result (ListStopsAt bytes.now unseen.new) }
 {
@@ -167,20 +167,20 @@ fn look_at_list(bytes: &[u8], unseen: &mut Unseen) -> Result<(), Fault>
         Unseen::Entries(entries) => entries,
         _ => {
             *unseen = Unseen::Whole;
-            look_at_list_fields(bytes)?
+            scan_list_fields(bytes)?
         }
     };
-    let looked = look_at_entries(bytes, &mut entries);
+    let looked = scan_entries(bytes, &mut entries);
     *unseen = Unseen::Entries(entries);
     looked
 }
 
 /// Looks at what came of what stands at the front, if it was met before. It answers its refusal, if there is one.
 #[tactic(auto, unfolding(jute::specs::Format::judged_at))]
-pub fn look_on(phase: &Phase, bytes: &[u8], unseen: &mut Option<Unseen>) -> Result<(), Fault>
+pub fn scan_new_bytes(phase: &Phase, bytes: &[u8], unseen: &mut Option<Unseen>) -> Result<(), Fault>
     requires { MayBeUnseen bytes.now unseen.old }
     ensures kept { MayBeUnseen bytes.now unseen.new }
-    ensures seen { OnOk result (IfSome unseen.new (AllSeen phase.now)) }
+    ensures seen { OnOk result (IfSome unseen.new (IsAllSeen phase.now)) }
     ensures err { IfErr result (λ e. (found_format phase.now).read bytes.now ≡ Err e) }
     ensures stops { IfErr result (λ e. IfSome unseen.new (λ u. StopsAt phase.now bytes.now u e)) }
 {
@@ -188,8 +188,8 @@ pub fn look_on(phase: &Phase, bytes: &[u8], unseen: &mut Option<Unseen>) -> Resu
         return Ok(());
     };
     match phase {
-        Phase::Packets => look_at_packet(bytes, unseen),
-        Phase::Image(PartPhase::Acls(_)) => look_at_list(bytes, unseen),
+        Phase::Packets => scan_packet(bytes, unseen),
+        Phase::Image(PartPhase::Acls(_)) => scan_list(bytes, unseen),
         _ => Ok(()),
     }
 }

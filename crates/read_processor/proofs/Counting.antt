@@ -4,26 +4,26 @@ use Rattle.std.specs.List.{flat_map}
 use Rattle.std.proofs.lemmas.List.{length-append}
 use Rattle.std.proofs.lemmas.List.Concat.{flat_map-cons}
 use Rattle.std.proofs.lemmas.List.Folds.{flat_map-map}
-use Rattle.jute.specs.Format.{name, counted, number_bytes}
-use Rattle.client_records.specs.Fields.{names}
+use Rattle.jute.specs.Format.{text_or_empty, with_count, number_bytes}
+use Rattle.client_records.specs.Fields.{names_format}
 use Rattle.read_processor.specs.Limits.{body_limit}
-use Rattle.read_processor.specs.Inner.Counts.{Counts}
+use Rattle.read_processor.specs.Inner.Counts.{CountsBytes}
 
 -- a count stands in front of what is counted
-pub counted_length : (n : ℕ) (bytes : List ℕ) → length (counted n bytes) ≡ 4 + length bytes
+pub counted_length : (n : ℕ) (bytes : List ℕ) → length (with_count n bytes) ≡ 4 + length bytes
 unfolding number_bytes
 counted_length n bytes = simp length-append (omega arith)
 
 -- nothing is counted of what is too long
-pub passed : (result : Option ℕ) (n : ℕ) → result ≡ None → body_limit < n → Counts result n
-passed result n is h = subst (λ (r : Option ℕ). Counts r n) (sym is) h
+pub passed : (result : Option ℕ) (n : ℕ) → result ≡ None → body_limit < n → CountsBytes result n
+passed result n is h = subst (λ (r : Option ℕ). CountsBytes r n) (sym is) h
 
 abbrev pub spelled : String Global → List ℕ
-spelled t = name.written (string_bytes t)
+spelled t = text_or_empty.written (string_bytes t)
 
 -- what the texts of a set are written as, behind their count
 abbrev pub all_spelled : List (String Global) → List ℕ
-all_spelled all = names.written (map string_bytes all)
+all_spelled all = names_format.written (map string_bytes all)
 
 one_more : (t : String Global) (left : List (String Global))
     → length (flat_map spelled (t ∷ left)) ≡ length (spelled t) + length (flat_map spelled left)
@@ -38,14 +38,14 @@ pub record Left (count : ℕ) (left all : List (String Global)) : Type 0 where
 pub all_left : (all : List (String Global)) → Left 4 all all
 all_left all = record {
   sums =
-      ap (λ (l : List ℕ). 4 + length l) (sym (flat_map-map name.written string_bytes all))
-      ∙ sym (counted_length (length (map string_bytes all)) (flat_map name.written (map string_bytes all)));
+      ap (λ (l : List ℕ). 4 + length l) (sym (flat_map-map text_or_empty.written string_bytes all))
+      ∙ sym (counted_length (length (map string_bytes all)) (flat_map text_or_empty.written (map string_bytes all)));
   within = omega arith;
 }
 
 -- the next text is counted
 pub one_less : {count next : ℕ} {t : String Global} {left all : List (String Global)} → Left count (t ∷ left) all
-    → Counts (Some next) (count + length (spelled t)) → Left next left all
+    → CountsBytes (Some next) (count + length (spelled t)) → Left next left all
 one_less {t = t} {left = left} l n = record {
   sums = omega (arith, l.sums, n.0, one_more t left);
   within = omega (arith, n.0, n.1);
@@ -53,10 +53,10 @@ one_less {t = t} {left = left} l n = record {
 
 -- the next text is one too many
 pub too_many : {count : ℕ} {t : String Global} {left all : List (String Global)} → Left count (t ∷ left) all
-    → Counts None (count + length (spelled t)) → Counts None (length (all_spelled all))
+    → CountsBytes None (count + length (spelled t)) → CountsBytes None (length (all_spelled all))
 too_many {t = t} {left = left} l h = omega (arith, l.sums, h, one_more t left)
 
 -- no text is left
 pub none_left : {count : ℕ} {all : List (String Global)} → Left count [] all
-    → Counts (Some count) (length (all_spelled all))
+    → CountsBytes (Some count) (length (all_spelled all))
 none_left l = (omega (arith, l.sums), omega (arith, l.sums, l.within))

@@ -4,17 +4,17 @@ use Rattle.std.proofs.lemmas.List.{drop_all, take_all, drop_at, take_at, drop-dr
 use Rattle.std.proofs.lemmas.Int.{to_z_pos}
 use borrow.Rule.Slice.PartMut.{mid_of, put_mid}
 use Rattle.jute.specs.Format.{number_bytes}
-use Rattle.jute.specs.Frame.{framed}
+use Rattle.jute.specs.Frame.{frame_bytes}
 use Rattle.jute.specs.Records.{reply_header}
 use Rattle.jute.specs.declared.message.ReplyHeader.{ReplyHeader}
-use Rattle.read_processor.specs.Limits.{body_limit, fitting}
-use Rattle.read_processor.specs.Reply.{headed}
+use Rattle.read_processor.specs.Limits.{body_limit, fitting_body}
+use Rattle.read_processor.specs.Reply.{with_header}
 use Rattle.read_processor.proofs.Counting.{counted_length}
 
-pub fits : (text : List ℕ) → length text ≤ body_limit → fitting text ≡ Some text
+pub fits : (text : List ℕ) → length text ≤ body_limit → fitting_body text ≡ Some text
 fits text h = search rules
 
-pub too_long : (text : List ℕ) → body_limit < length text → fitting text ≡ None
+pub too_long : (text : List ℕ) → body_limit < length text → fitting_body text ≡ None
 too_long text h = search rules
 
 -- four bytes were written in front of xs, which made ys, and then some behind them, which made zs of its end
@@ -42,7 +42,7 @@ module _ (n : ℕ) (xs ys zs first more : List ℕ)
       ∙ ap (λ (l : List ℕ). first ++ l) (append-nil zs ∙ part)
       ∙ sym (append_assoc first more (drop (4 + n) xs))
 
-headed_length : (h : ReplyHeader) (body : List ℕ) → length (headed h body) ≡ 16 + length body
+headed_length : (h : ReplyHeader) (body : List ℕ) → length (with_header h body) ≡ 16 + length body
 unfolding reply_header number_bytes
 headed_length h body = simp length-append (omega arith)
 
@@ -51,7 +51,7 @@ module _ (h : ReplyHeader) (old new : List ℕ) (len : ℕ) (all : length old �
     (small : len ≤ 20 + body_limit)
     (n : new ≡ (number_bytes w32 (to_z w32 (len - 4)) ++ reply_header.written h) ++ drop 20 old) where
   abbrev text : List ℕ
-  text = headed h (drop 20 old)
+  text = with_header h (drop 20 old)
 
   size : length text ≡ len - 4
   size = omega (arith, headed_length h (drop 20 old), length-drop 20 old, all, room)
@@ -59,13 +59,13 @@ module _ (h : ReplyHeader) (old new : List ℕ) (len : ℕ) (all : length old �
   shown : to_z w32 (len - 4) ≡ pos (length text)
   shown = ap (to_z w32) (sym size) ∙ to_z_pos w32 (length text) (omega (arith, size, small))
 
-  whole : new ≡ framed text
+  whole : new ≡ frame_bytes text
   whole =
       n ∙ append_assoc (number_bytes w32 (to_z w32 (len - 4))) (reply_header.written h) (drop 20 old)
       ∙ ap (λ z. number_bytes w32 z ++ text) shown
 
   -- the vector holds what was written
-  pub filled_whole : {out : List ℕ} → out ≡ take len (new ++ drop (length new) old) → out ≡ framed text
+  pub filled_whole : {out : List ℕ} → out ≡ take len (new ++ drop (length new) old) → out ≡ frame_bytes text
   filled_whole o =
       let long = ap (λ (l : List ℕ). length l) whole ∙ counted_length (length text) text ∙ omega (arith, size, room) in
       o ∙ take_at new (drop (length new) old) len long ∙ whole

@@ -3,7 +3,7 @@ use Rattle.std.proofs.Common.{◌≡◌, ℕ, List, [], ◌∷◌, Option, Some,
 use Rattle.std.specs.Prelude.{codes}
 use Rattle.std.specs.FinSet as set
 use Rattle.jute.specs.Format.{number_bytes}
-use Rattle.jute.specs.Records.{stat}
+use Rattle.jute.specs.Records.{stat_format}
 use Rattle.jute.specs.declared.owned.Id.{Id}
 use Rattle.jute.specs.declared.stat.Stat.{Stat}
 use Rattle.client_records.specs.Responses.{exists_response, get_data_response}
@@ -13,11 +13,11 @@ use Rattle.data_tree.specs.declared.node.Node.{Node}
 use Rattle.read_processor.specs.declared.request.Request.{Request}
 use Rattle.read_processor.specs.declared.request.Request.TheVariants.{Exists, GetData}
 use Rattle.read_processor.specs.Look.{look_at_node, shown_look}
-use Rattle.read_processor.specs.Rows.{WorkedLooks, WorkedWatches, asked, node, reader, exists_bytes, get_data_bytes}
+use Rattle.read_processor.specs.Rows.{WorkedLooks, WorkedWatches, path_without_watch, readable_node, reader_id, exists_bytes, get_data_bytes}
 
 -- the numbers that the node shows, by how many children it has
 abbrev numbers : ℕ → Stat
-numbers children = shown_stat node.stat (java_int children) (java_int 2)
+numbers children = shown_stat readable_node.stat (java_int children) (java_int 2)
 
 no_children : set.len (set.empty {R = path_cmp}) ≡ 0
 no_children = set.len-empty path_cmp
@@ -26,30 +26,31 @@ abbrev read_by : ℕ → List ℕ
 read_by children = get_data_response.written (record { bytes = Some (codes "hi"); stat = numbers children })
 
 read_by_hand : read_by 0 ≡ get_data_bytes
-unfolding get_data_response stat number_bytes
+unfolding get_data_response stat_format number_bytes
 read_by_hand = refl
 
 abbrev exists_by : ℕ → List ℕ
 exists_by children = exists_response.written (record { stat = numbers children })
 
 exists_by_hand : exists_by 0 ≡ exists_bytes
-unfolding exists_response stat number_bytes
+unfolding exists_response stat_format number_bytes
 exists_by_hand = refl
 
-found : (ids : List Id) (r : Request) {o : Option Node} → o ≡ Some node
-    → look_at_node ids r o ≡ look_at_node ids r (Some node)
+found : (ids : List Id) (r : Request) {o : Option Node} → o ≡ Some readable_node
+    → look_at_node ids r o ≡ look_at_node ids r (Some readable_node)
 found ids r e = ap (look_at_node ids r) e
 
 pub worked : WorkedLooks
 worked = record {
   read = λ s h.
-      found (reader ∷ []) (GetData (asked (codes "/a"))) h.0 ∙ ap (λ k. shown_look (read_by k)) no_children
+      found (reader_id ∷ []) (GetData (path_without_watch (codes "/a"))) h.0
+      ∙ ap (λ k. shown_look (read_by k)) no_children
       ∙ ap (λ (l : List ℕ). shown_look l) read_by_hand;
-  not_read = λ s h. found [] (GetData (asked (codes "/a"))) h.0;
+  not_read = λ s h. found [] (GetData (path_without_watch (codes "/a"))) h.0;
   exists = λ s h.
-      found [] (Exists (asked (codes "/a"))) h.0 ∙ ap (λ k. shown_look (exists_by k)) no_children
+      found [] (Exists (path_without_watch (codes "/a"))) h.0 ∙ ap (λ k. shown_look (exists_by k)) no_children
       ∙ ap (λ (l : List ℕ). shown_look l) exists_by_hand;
-  missing = λ s h. ap (look_at_node [] (GetData (asked (codes "/q")))) h.1;
+  missing = λ s h. ap (look_at_node [] (GetData (path_without_watch (codes "/q")))) h.1;
   not_asked_for = λ s h. refl;
   null = λ s h. refl;
 }

@@ -13,5 +13,5 @@ event_body event =
     watcher_event.written
     (record { kind = event_number event.kind; state = SYNC_CONNECTED; path = Some event.path })
 
-abbrev pub of_event : Event → Look
-of_event event = shown_look (event_body event)
+abbrev pub look_of_event : Event → Look
+look_of_event event = shown_look (event_body event)

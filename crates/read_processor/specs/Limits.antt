@@ -6,5 +6,5 @@ abbrev pub body_limit : ℕ
 body_limit = 2 ^ 31 - 1 - 16
 
 -- there is no body where it is too long for a frame
-abbrev pub fitting : List ℕ → Option (List ℕ)
-fitting text = if nat_le (length text) body_limit then Some text else None
+abbrev pub fitting_body : List ℕ → Option (List ℕ)
+fitting_body text = if nat_le (length text) body_limit then Some text else None

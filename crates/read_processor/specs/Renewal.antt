@@ -10,7 +10,7 @@ use Rattle.data_tree.specs.declared.node.Node.{Node}
 use Rattle.watch_manager.specs.declared.event.Event.{Event}
 use Rattle.watch_manager.specs.declared.event.EventKind.{EventKind}
 use Rattle.watch_manager.specs.declared.event.EventKind.TheVariants.{NodeCreated, NodeDeleted, NodeDataChanged, NodeChildrenChanged}
-use Rattle.read_processor.specs.Look.{is_asked}
+use Rattle.read_processor.specs.Look.{is_request_path}
 use Rattle.read_processor.specs.declared.watch.Watch.{Watch}
 use Rattle.read_processor.specs.declared.watch.Watch.TheVariants as watch
 use Rattle.read_processor.specs.declared.renewal.WatchList.{WatchList}
@@ -20,13 +20,13 @@ use Rattle.read_processor.specs.declared.renewal.Renewal.{Renewal}
 -- ---- one path
 
 -- what a client missed since the zxid at a path of one of its lists, as the node there tells
-abbrev pub missed : WatchList → ℤ → Option Node → Option EventKind
-missed Data since None = Some NodeDeleted
-missed Data since (Some node) = if int_lt since node.stat.mzxid then Some NodeDataChanged else None
-missed Exist since None = None
-missed Exist since (Some node) = Some NodeCreated
-missed Child since None = Some NodeDeleted
-missed Child since (Some node) = if int_lt since node.stat.pzxid then Some NodeChildrenChanged else None
+abbrev pub missed_kind : WatchList → ℤ → Option Node → Option EventKind
+missed_kind Data since None = Some NodeDeleted
+missed_kind Data since (Some node) = if int_lt since node.stat.mzxid then Some NodeDataChanged else None
+missed_kind Exist since None = None
+missed_kind Exist since (Some node) = Some NodeCreated
+missed_kind Child since None = Some NodeDeleted
+missed_kind Child since (Some node) = if int_lt since node.stat.pzxid then Some NodeChildrenChanged else None
 
 -- who waits for a node to be made watches its data
 abbrev pub watch_at : WatchList → List ℕ → Watch
@@ -34,37 +34,37 @@ watch_at Data path = watch.Data path
 watch_at Exist path = watch.Data path
 watch_at Child path = watch.Child path
 
-abbrev pub missed_at : State → ℤ → WatchList → List ℕ → Option EventKind
-missed_at s since list path = missed list since (finmap.get s.nodes path)
+abbrev pub missed_kind_at : State → ℤ → WatchList → List ℕ → Option EventKind
+missed_kind_at s since list path = missed_kind list since (finmap.get s.nodes path)
 
 -- a path gives the event that was missed there, or else its watch
 abbrev pub event_at : State → ℤ → WatchList → List ℕ → Option Event
-event_at s since list path = option_map (λ kind. record { kind = kind; path = path }) (missed_at s since list path)
+event_at s since list path = option_map (λ kind. record { kind = kind; path = path }) (missed_kind_at s since list path)
 
-abbrev pub kept_at : State → ℤ → WatchList → List ℕ → Option Watch
-kept_at s since list path = if is_some (missed_at s since list path) then None else Some (watch_at list path)
+abbrev pub kept_watch_at : State → ℤ → WatchList → List ℕ → Option Watch
+kept_watch_at s since list path = if is_some (missed_kind_at s since list path) then None else Some (watch_at list path)
 
 -- ---- the three lists
 
 -- what the paths give, in the order of the lists
-abbrev pub of_all : {A : Type 0} → (WatchList → List ℕ → Option A) → SetWatches → List A
-of_all gives asked =
+abbrev pub of_all_lists : {A : Type 0} → (WatchList → List ℕ → Option A) → SetWatches → List A
+of_all_lists gives asked =
     filter_map (gives Data) asked.data_watches
     ++ filter_map (gives Exist) asked.exist_watches
     ++ filter_map (gives Child) asked.child_watches
 
 -- each path may be asked for
-abbrev pub are_asked : SetWatches → Bool
-are_asked asked =
-    list_all is_asked asked.data_watches
-    && list_all is_asked asked.exist_watches
-    && list_all is_asked asked.child_watches
+abbrev pub are_request_paths : SetWatches → Bool
+are_request_paths asked =
+    list_all is_request_path asked.data_watches
+    && list_all is_request_path asked.exist_watches
+    && list_all is_request_path asked.child_watches
 
-abbrev pub renew : State → SetWatches → Option Renewal
-renew s asked =
-    if are_asked asked
+abbrev pub renew_watches : State → SetWatches → Option Renewal
+renew_watches s asked =
+    if are_request_paths asked
     then Some (record {
-      events = of_all (event_at s asked.relative_zxid) asked;
-      watches = of_all (kept_at s asked.relative_zxid) asked;
+      events = of_all_lists (event_at s asked.relative_zxid) asked;
+      watches = of_all_lists (kept_watch_at s asked.relative_zxid) asked;
     })
     else None

@@ -2,7 +2,7 @@
 use Rattle.std.specs.Prelude.{◌≡◌, ℕ, pos, List, [], ◌∷◌, ◌++◌, Some, None, true, false, codes}
 use Rattle.std.specs.FinMap as finmap
 use Rattle.std.specs.FinSet as set
-use Rattle.values.specs.Hex.{spelled}
+use Rattle.values.specs.Hex.{hex_bytes}
 use Rattle.jute.specs.declared.owned.Id.{Id}
 use Rattle.jute.specs.declared.codes.TheConstants.{BAD_ARGUMENTS, NO_NODE, NO_AUTH}
 use Rattle.client_records.specs.declared.request.PathAndWatch.{PathAndWatch}
@@ -12,18 +12,18 @@ use Rattle.data_tree.specs.declared.node.Node.{Node}
 use Rattle.watch_manager.specs.declared.event.EventKind.TheVariants.{NodeDataChanged, NodeCreated}
 use Rattle.read_processor.specs.declared.request.Request.TheVariants.{Exists, GetData}
 use Rattle.read_processor.specs.declared.watch.Watch.TheVariants.{Data, Child}
-use Rattle.read_processor.specs.Look.{look, without_body, shown_look}
+use Rattle.read_processor.specs.Look.{look_at_state, without_body, shown_look}
 use Rattle.read_processor.specs.Watch.{watch_of}
-use Rattle.read_processor.specs.Renewal.{renew}
+use Rattle.read_processor.specs.Renewal.{renew_watches}
 
-abbrev pub reader : Id
-reader = record { scheme = codes "digest"; id = codes "ann:QQ==" }
+abbrev pub reader_id : Id
+reader_id = record { scheme = codes "digest"; id = codes "ann:QQ==" }
 
 -- a node with the data "hi", which one id may read
-abbrev pub node : Node
-node = record {
+abbrev pub readable_node : Node
+readable_node = record {
   bytes = Some (codes "hi");
-  acl = record { perms = pos 1; id = reader } ∷ [];
+  acl = record { perms = pos 1; id = reader_id } ∷ [];
   stat = record {
     czxid = pos 4294967297;
     mzxid = pos 4294967298;
@@ -45,38 +45,43 @@ stat_of_node =
 
 -- what the replies to exists and to getData have behind their headers
 abbrev pub exists_bytes : List ℕ
-exists_bytes = spelled stat_of_node
+exists_bytes = hex_bytes stat_of_node
 
 abbrev pub get_data_bytes : List ℕ
-get_data_bytes = spelled (codes "00000002 6869 " ++ stat_of_node)
+get_data_bytes = hex_bytes (codes "00000002 6869 " ++ stat_of_node)
 
 -- the state has the node at /a, and none at /q
-abbrev pub Holds : State → Type 0
-Holds s = (finmap.get s.nodes (codes "/a") ≡ Some node) × (finmap.get s.nodes (codes "/q") ≡ None)
+abbrev pub HoldsNode : State → Type 0
+HoldsNode s = (finmap.get s.nodes (codes "/a") ≡ Some readable_node) × (finmap.get s.nodes (codes "/q") ≡ None)
 
-abbrev pub asked : List ℕ → PathAndWatch
-asked path = record { path = Some path; watch = false }
+abbrev pub path_without_watch : List ℕ → PathAndWatch
+path_without_watch path = record { path = Some path; watch = false }
 
 -- the same, at each state that holds the node
-abbrev pub At : (State → Type 0) → Type 0
-At P = (s : State) → Holds s → P s
+abbrev pub AtEachState : (State → Type 0) → Type 0
+AtEachState P = (s : State) → HoldsNode s → P s
 
 pub record WorkedLooks : Type 0 where
-  pub read : At (λ s. look s (reader ∷ []) (GetData (asked (codes "/a"))) ≡ shown_look get_data_bytes)
-  pub not_read : At (λ s. look s [] (GetData (asked (codes "/a"))) ≡ without_body NO_AUTH)
+  pub read : AtEachState (λ s. look_at_state s (reader_id ∷ []) (GetData (path_without_watch (codes "/a")))
+      ≡ shown_look get_data_bytes)
+  pub not_read : AtEachState (λ s. look_at_state s [] (GetData (path_without_watch (codes "/a")))
+      ≡ without_body NO_AUTH)
   -- no permission is asked for
-  pub exists : At (λ s. look s [] (Exists (asked (codes "/a"))) ≡ shown_look exists_bytes)
-  pub missing : At (λ s. look s [] (GetData (asked (codes "/q"))) ≡ without_body NO_NODE)
-  pub not_asked_for : At (λ s. look s [] (GetData (asked (codes "q"))) ≡ without_body BAD_ARGUMENTS)
-  pub null : At (λ s. look s [] (GetData (record { path = None; watch = false })) ≡ without_body BAD_ARGUMENTS)
+  pub exists : AtEachState (λ s. look_at_state s [] (Exists (path_without_watch (codes "/a")))
+      ≡ shown_look exists_bytes)
+  pub missing : AtEachState (λ s. look_at_state s [] (GetData (path_without_watch (codes "/q"))) ≡ without_body NO_NODE)
+  pub not_asked_for : AtEachState
+      (λ s. look_at_state s [] (GetData (path_without_watch (codes "q"))) ≡ without_body BAD_ARGUMENTS)
+  pub null : AtEachState (λ s. look_at_state s [] (GetData (record { path = None; watch = false }))
+      ≡ without_body BAD_ARGUMENTS)
 
-abbrev pub watched : List ℕ → PathAndWatch
-watched path = record { path = Some path; watch = true }
+abbrev pub path_with_watch : List ℕ → PathAndWatch
+path_with_watch path = record { path = Some path; watch = true }
 
 -- A client that was told of all up to the node's pzxid had read these nodes, found these absent, and read the children
 -- of these.
-abbrev pub watched_before : List (List ℕ) → List (List ℕ) → List (List ℕ) → SetWatches
-watched_before read absent parents = record {
+abbrev pub set_watches_of : List (List ℕ) → List (List ℕ) → List (List ℕ) → SetWatches
+set_watches_of read absent parents = record {
   relative_zxid = pos 4294967297;
   data_watches = read;
   exist_watches = absent;
@@ -84,21 +89,21 @@ watched_before read absent parents = record {
 }
 
 pub record WorkedWatches : Type 0 where
-  pub waits : watch_of (Exists (watched (codes "/q"))) NO_NODE ≡ Some (Data (codes "/q"))
-  pub missing : watch_of (GetData (watched (codes "/q"))) NO_NODE ≡ None
+  pub waits : watch_of (Exists (path_with_watch (codes "/q"))) NO_NODE ≡ Some (Data (codes "/q"))
+  pub missing : watch_of (GetData (path_with_watch (codes "/q"))) NO_NODE ≡ None
   -- The node's data changed since, its children didn't, and /q isn't there yet.
-  pub renewed : At (λ s.
-      renew s (watched_before (codes "/a" ∷ []) (codes "/q" ∷ []) (codes "/a" ∷ []))
+  pub renewed : AtEachState (λ s.
+      renew_watches s (set_watches_of (codes "/a" ∷ []) (codes "/q" ∷ []) (codes "/a" ∷ []))
       ≡ Some (record {
         events = record { kind = NodeDataChanged; path = codes "/a" } ∷ [];
         watches = Data (codes "/q") ∷ Child (codes "/a") ∷ [];
       }))
   -- a path that stands twice is told twice
-  pub twice : At (λ s.
-      renew s (watched_before [] (codes "/a" ∷ codes "/a" ∷ []) [])
+  pub twice : AtEachState (λ s.
+      renew_watches s (set_watches_of [] (codes "/a" ∷ codes "/a" ∷ []) [])
       ≡ Some (record {
         events = record { kind = NodeCreated; path = codes "/a" }
             ∷ record { kind = NodeCreated; path = codes "/a" } ∷ [];
         watches = [];
       }))
-  pub not_asked_for : At (λ s. renew s (watched_before (codes "/a" ∷ []) [] (codes "a" ∷ [])) ≡ None)
+  pub not_asked_for : AtEachState (λ s. renew_watches s (set_watches_of (codes "/a" ∷ []) [] (codes "a" ∷ [])) ≡ None)

@@ -2,9 +2,9 @@
 //! lengths are tested before anything is written.
 
 ghost use Rattle.std.specs.Prelude.{◌≡◌, ◌<◌, ◌^◌, IfOk};
-ghost use Rattle.data_tree.specs.Stats.{length_of};
-ghost use Rattle.read_processor.specs.Limits.{fitting};
-ghost use Rattle.read_processor.specs.Look.{exists_body, get_data_body, get_acl_body, get_children_body, get_children2_body, body_of};
+ghost use Rattle.data_tree.specs.Stats.{length_or_zero};
+ghost use Rattle.read_processor.specs.Limits.{fitting_body};
+ghost use Rattle.read_processor.specs.Look.{exists_body, get_data_body, get_acl_body, get_children_body, get_children2_body, reply_body};
 
 use crate::body::{BODY_LIMIT, Body};
 use crate::counts::{acls_len, names_len, with_bytes};
@@ -17,7 +17,7 @@ use std::alloc::Global;
 use values::{Blob, Bytes, NoMemory};
 
 // A node's bytes, borrowed.
-fn lent(bytes: &Option<Blob>) -> Option<Bytes<'_>>
+fn borrow_bytes(bytes: &Option<Blob>) -> Option<Bytes<'_>>
     ensures { result ≡ bytes.now }
 {
     match bytes {
@@ -28,7 +28,7 @@ fn lent(bytes: &Option<Blob>) -> Option<Bytes<'_>>
 
 // How many bytes are lent; null has none.
 fn lent_len(bytes: &Option<Bytes<'_>>) -> usize
-    ensures length { result ≡ length_of bytes.now }
+    ensures length { result ≡ length_or_zero bytes.now }
     ensures small { result < 2 ^ 63 }
 {
     match bytes {
@@ -37,17 +37,17 @@ fn lent_len(bytes: &Option<Bytes<'_>>) -> usize
     }
 }
 
-#[tactic(auto, unfolding(client_records::specs::Responses::exists_response, jute::specs::Records::stat, jute::specs::Format::number_bytes))]
+#[tactic(auto, unfolding(client_records::specs::Responses::exists_response, jute::specs::Records::stat_format, jute::specs::Format::number_bytes))]
 fn exists(alloc: Global, node: &Node) -> Result<Option<Body>, NoMemory>
-    ensures { IfOk result (λ body. body ≡ fitting (exists_body node.now)) }
+    ensures { IfOk result (λ body. body ≡ fitting_body (exists_body node.now)) }
 {
     Body::of(alloc, &ExistsResponse { stat: node.shown() })
 }
 
 fn get_data(alloc: Global, node: &Node) -> Result<Option<Body>, NoMemory>
-    ensures { IfOk result (λ body. body ≡ fitting (get_data_body node.now)) }
+    ensures { IfOk result (λ body. body ≡ fitting_body (get_data_body node.now)) }
 {
-    let bytes = lent(&node.bytes);
+    let bytes = borrow_bytes(&node.bytes);
     if lent_len(&bytes) > BODY_LIMIT {
         return Ok(None);
     }
@@ -63,7 +63,7 @@ fn get_data(alloc: Global, node: &Node) -> Result<Option<Body>, NoMemory>
 // A node's numbers with the entries of its list.
 fn get_entries(alloc: Global, node: &Node, entries: &[Acl]) -> Result<Option<Body>, NoMemory>
     requires { entries.now ≡ node.now.acl }
-    ensures { IfOk result (λ body. body ≡ fitting (get_acl_body node.now)) }
+    ensures { IfOk result (λ body. body ≡ fitting_body (get_acl_body node.now)) }
 {
     let Some(_) = acls_len(entries) else {
         return Ok(None);
@@ -79,7 +79,7 @@ fn get_entries(alloc: Global, node: &Node, entries: &[Acl]) -> Result<Option<Bod
 
 // The open list has entries for as long as they are written.
 fn get_acl(alloc: Global, node: &Node) -> Result<Option<Body>, NoMemory>
-    ensures { IfOk result (λ body. body ≡ fitting (get_acl_body node.now)) }
+    ensures { IfOk result (λ body. body ≡ fitting_body (get_acl_body node.now)) }
 {
     match node.acl.listed() {
         None => get_entries(alloc, node, open_list(alloc)?.as_slice()),
@@ -88,7 +88,7 @@ fn get_acl(alloc: Global, node: &Node) -> Result<Option<Body>, NoMemory>
 }
 
 fn get_children(alloc: Global, node: &Node) -> Result<Option<Body>, NoMemory>
-    ensures { IfOk result (λ body. body ≡ fitting (get_children_body node.now)) }
+    ensures { IfOk result (λ body. body ≡ fitting_body (get_children_body node.now)) }
 {
     let Some(size) = names_len(node.children.iter()) else {
         return Ok(None);
@@ -98,7 +98,7 @@ fn get_children(alloc: Global, node: &Node) -> Result<Option<Body>, NoMemory>
 }
 
 fn get_children2(alloc: Global, node: &Node) -> Result<Option<Body>, NoMemory>
-    ensures { IfOk result (λ body. body ≡ fitting (get_children2_body node.now)) }
+    ensures { IfOk result (λ body. body ≡ fitting_body (get_children2_body node.now)) }
 {
     let stat = node.shown();
     let Some(names) = names_len(node.children.iter()) else {
@@ -113,7 +113,7 @@ fn get_children2(alloc: Global, node: &Node) -> Result<Option<Body>, NoMemory>
 
 /// The body of the reply that shows the node.
 pub fn body_of(alloc: Global, request: &Request<'_>, node: &Node) -> Result<Option<Body>, NoMemory>
-    ensures { IfOk result (λ body. body ≡ fitting (body_of request.now node.now)) }
+    ensures { IfOk result (λ body. body ≡ fitting_body (reply_body request.now node.now)) }
 {
     match request {
         Request::Exists(_) => exists(alloc, node),

@@ -2,11 +2,11 @@
 
 ghost use Rattle.std.specs.Prelude.{◌≡◌, ◌≤◌, ◌<◌, ◌^◌, ◌++◌, [], length, map, drop, IfOk, String, string_bytes};
 ghost use Rattle.jute.specs.Format.{int, long};
-ghost use Rattle.jute.specs.Frame.{framed};
-ghost use Rattle.jute.specs.Records.{reply_header, stat};
-ghost use Rattle.client_records.specs.Fields.{names};
-ghost use Rattle.read_processor.specs.Limits.{body_limit, fitting};
-ghost use Rattle.read_processor.specs.Reply.{headed};
+ghost use Rattle.jute.specs.Frame.{frame_bytes};
+ghost use Rattle.jute.specs.Records.{reply_header, stat_format};
+ghost use Rattle.client_records.specs.Fields.{names_format};
+ghost use Rattle.read_processor.specs.Limits.{body_limit, fitting_body};
+ghost use Rattle.read_processor.specs.Reply.{with_header};
 
 use byteorder::{BigEndian, ByteOrder};
 use client_records::put_names;
@@ -31,13 +31,13 @@ pub struct Body {
 
 impl Model for Body {
     ghost use Rattle.std.specs.Prelude.{List, ℕ, drop};
-    ghost use Rattle.read_processor.specs.Inner.Room.{HasRoom};
+    ghost use Rattle.read_processor.specs.Inner.Room.{HasHeaderRoom};
 
     ghost Value = { List ℕ };
 
     ghost view = { λ b. drop 20 b.bytes.items };
 
-    ghost invariant = { λ b. HasRoom b.bytes.items };
+    ghost invariant = { λ b. HasHeaderRoom b.bytes.items };
 }
 
 // Writes an int over the bytes that stand in front. It is lent, since a number that is passed comes back as its bits.
@@ -112,7 +112,7 @@ impl Body {
     pub fn of<T: WriteRecord>(alloc: Global, response: &T) -> Result<Option<Body>, NoMemory>
         requires writable { T.format.Writable response.now }
         requires small { length (T.format.written response.now) < 2 ^ 63 }
-        ensures { IfOk result (λ body. body ≡ fitting (T.format.written response.now)) }
+        ensures { IfOk result (λ body. body ≡ fitting_body (T.format.written response.now)) }
     {
         let length = response.written_len();
         if length > BODY_LIMIT {
@@ -130,8 +130,8 @@ impl Body {
         texts: Iter<'_, String>,
     ) -> Result<Body, NoMemory>
         requires within { size ≤ body_limit }
-        requires whole { length (names.written (map string_bytes texts)) ≤ size }
-        ensures { IfOk result (λ body. body ≡ names.written (map string_bytes texts.entry)) }
+        requires whole { length (names_format.written (map string_bytes texts)) ≤ size }
+        ensures { IfOk result (λ body. body ≡ names_format.written (map string_bytes texts.entry)) }
     {
         let mut bytes = room(alloc, size)?;
         put_names(&mut bytes, texts)?;
@@ -139,10 +139,10 @@ impl Body {
     }
 
     // A Stat behind what is there.
-    #[tactic(auto, unfolding(jute::specs::Format::number_bytes, jute::specs::Records::stat))]
+    #[tactic(auto, unfolding(jute::specs::Format::number_bytes, jute::specs::Records::stat_format))]
     pub(crate) fn with_stat(self, numbers: &Stat) -> Result<Body, NoMemory>
-        requires { length (self ++ stat.written numbers.now) ≤ body_limit }
-        ensures { IfOk result (λ body. body ≡ self ++ stat.written numbers.now) }
+        requires { length (self ++ stat_format.written numbers.now) ≤ body_limit }
+        ensures { IfOk result (λ body. body ≡ self ++ stat_format.written numbers.now) }
     {
         let mut bytes = self.bytes;
         numbers.write(&mut bytes)?;
@@ -151,7 +151,7 @@ impl Body {
 
     /// The frame of a reply with this header. It takes no memory.
     pub fn into_frame(self, header: &ReplyHeader) -> Blob
-        ensures { result ≡ framed (headed header.now self) }
+        ensures { result ≡ frame_bytes (with_header header.now self) }
     {
         let mut bytes = self.bytes;
         let size = (bytes.len() - 4) as i32;

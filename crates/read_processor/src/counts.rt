@@ -2,11 +2,11 @@
 //! tree may hold more than any number counts.
 
 ghost use Rattle.std.specs.Prelude.{◌≤◌, ◌+◌, length, map, Some, String, string_bytes};
-ghost use Rattle.jute.specs.Format.{name, vector, or_null};
-ghost use Rattle.jute.specs.Owned.{acl};
-ghost use Rattle.client_records.specs.Fields.{names};
+ghost use Rattle.jute.specs.Format.{text_or_empty, vector_of, or_null};
+ghost use Rattle.jute.specs.Owned.{acl_format};
+ghost use Rattle.client_records.specs.Fields.{names_format};
 ghost use Rattle.read_processor.specs.Limits.{body_limit};
-ghost use Rattle.read_processor.specs.Inner.Counts.{Counts};
+ghost use Rattle.read_processor.specs.Inner.Counts.{CountsBytes};
 
 use crate::body::BODY_LIMIT;
 use jute::Acl;
@@ -15,7 +15,7 @@ use std::collections::btree_set::Iter;
 // So many bytes more.
 pub fn with_bytes(count: usize, more: usize) -> Option<usize>
     requires { count ≤ body_limit }
-    ensures { Counts result (count + more) }
+    ensures { CountsBytes result (count + more) }
 {
     if more > BODY_LIMIT - count {
         return None;
@@ -27,17 +27,17 @@ pub fn with_bytes(count: usize, more: usize) -> Option<usize>
 #[tactic(auto, unfolding(jute::specs::Format::number_bytes))]
 fn with_text(count: usize, text: &str) -> Option<usize>
     requires { count ≤ body_limit }
-    ensures { Counts result (count + length (name.written text.now)) }
+    ensures { CountsBytes result (count + length (text_or_empty.written text.now)) }
 {
     let behind_length = with_bytes(count, 4)?;
     with_bytes(behind_length, text.len())
 }
 
 // An entry of an access control list more.
-#[tactic(auto, unfolding(jute::specs::Format::number_bytes, jute::specs::Owned::acl, jute::specs::Owned::id))]
+#[tactic(auto, unfolding(jute::specs::Format::number_bytes, jute::specs::Owned::acl_format, jute::specs::Owned::id_format))]
 fn with_acl(count: usize, entry: &Acl) -> Option<usize>
     requires { count ≤ body_limit }
-    ensures { Counts result (count + length (acl.written entry.now)) }
+    ensures { CountsBytes result (count + length (acl_format.written entry.now)) }
 {
     let behind_perms = with_bytes(count, 4)?;
     let behind_scheme = with_text(behind_perms, entry.id.scheme.as_str())?;
@@ -46,7 +46,7 @@ fn with_acl(count: usize, entry: &Acl) -> Option<usize>
 
 // An access control list, behind its count.
 pub fn acls_len(entries: &[Acl]) -> Option<usize>
-    ensures { Counts result (length ((vector acl).written (Some entries.now))) }
+    ensures { CountsBytes result (length ((vector_of acl_format).written (Some entries.now))) }
 {
     let mut count = 4;
     for entry in entries {
@@ -57,7 +57,7 @@ pub fn acls_len(entries: &[Acl]) -> Option<usize>
 
 // Names, behind their count.
 pub fn names_len(texts: Iter<'_, String>) -> Option<usize>
-    ensures { Counts result (length (names.written (map string_bytes texts.entry))) }
+    ensures { CountsBytes result (length (names_format.written (map string_bytes texts.entry))) }
 {
     let mut count = 4;
     for text in texts {

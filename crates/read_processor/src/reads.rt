@@ -2,7 +2,7 @@
 
 ghost use Rattle.std.specs.Prelude.{◌≡◌, ◌&&◌, IfOk};
 ghost use Rattle.std.specs.Option.{option_copied};
-ghost use Rattle.read_processor.specs.Look.{look, look_at_path, look_at_node, wants_read, is_asked, path_of};
+ghost use Rattle.read_processor.specs.Look.{look_at_state, look_at_path, look_at_node, wants_read, is_request_path, requested_path};
 
 use crate::bodies::body_of;
 use crate::permissions::may_read;
@@ -15,15 +15,15 @@ use std::alloc::Global;
 use values::{NoMemory, Str};
 
 /// Whether a path may be asked for.
-pub fn is_asked(path: &[u8]) -> bool
-    ensures { result ≡ is_asked path.now }
+pub fn is_readable_path(path: &[u8]) -> bool
+    ensures { result ≡ is_request_path path.now }
 {
     path.starts_with(b"/") && !path.contains(&0)
 }
 
 // The path that a request asks for; `None` is null.
 fn path_of<'a, 'b>(request: &'b Request<'a>) -> &'b Option<Str<'a>>
-    ensures { result.now ≡ path_of request.now }
+    ensures { result.now ≡ requested_path request.now }
 {
     match request {
         Request::Exists(request) => &request.path,
@@ -76,7 +76,7 @@ fn look_at_path(
     let Some(path) = path else {
         return Look::without_body(alloc, BAD_ARGUMENTS);
     };
-    if !is_asked(path.as_str().as_bytes()) {
+    if !is_readable_path(path.as_str().as_bytes()) {
         return Look::without_body(alloc, BAD_ARGUMENTS);
     }
     look_at_node(alloc, ids, request, tree.node(path.as_str()))
@@ -84,7 +84,7 @@ fn look_at_path(
 
 /// What a read shows of the tree, to a client that has shown these ids.
 pub fn look(alloc: Global, tree: &Tree, ids: &[Id], request: &Request<'_>) -> Result<Look, NoMemory>
-    ensures { IfOk result (λ shown. shown ≡ look tree.now ids.now request.now) }
+    ensures { IfOk result (λ shown. shown ≡ look_at_state tree.now ids.now request.now) }
 {
     look_at_path(alloc, tree, ids, request, path_of(request))
 }

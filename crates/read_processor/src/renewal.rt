@@ -3,10 +3,10 @@
 ghost use Rattle.std.specs.Prelude.{◌≡◌, ◌++◌, ◌∷◌, [], OnOk, IfOk};
 ghost use Rattle.std.specs.List.{filter_map, list_all};
 ghost use Rattle.std.specs.Option.{option_copied};
-ghost use Rattle.read_processor.specs.Look.{is_asked};
-ghost use Rattle.read_processor.specs.Renewal.{missed, watch_at, event_at, kept_at, are_asked, renew};
+ghost use Rattle.read_processor.specs.Look.{is_request_path};
+ghost use Rattle.read_processor.specs.Renewal.{missed_kind, watch_at, event_at, kept_watch_at, are_request_paths, renew_watches};
 
-use crate::reads::is_asked;
+use crate::reads::is_readable_path;
 use crate::watch::Watch;
 use client_records::{Name, SetWatches};
 use data_tree::{Node, Tree};
@@ -36,8 +36,8 @@ pub enum WatchList {
 
 // What a client missed since the zxid at a path of the list, as the node there tells. The zxid is lent, since a number
 // that is passed comes back as its bits.
-fn missed(list: WatchList, since: &i64, node: Option<&Node>) -> Option<EventKind>
-    ensures { result ≡ missed list since.now (option_copied node.entry) }
+fn kind_missed(list: WatchList, since: &i64, node: Option<&Node>) -> Option<EventKind>
+    ensures { result ≡ missed_kind list since.now (option_copied node.entry) }
 {
     match (list, node) {
         (WatchList::Data, Some(node)) if node.stat.mzxid > *since => {
@@ -85,9 +85,9 @@ impl<'a> Found<'a> {
             ++ filter_map (event_at tree.now since.now list) (path.now ∷ [])) }
         ensures watches { OnOk result (self.new.watches.items ≡
             self.old.watches.items
-            ++ filter_map (kept_at tree.now since.now list) (path.now ∷ [])) }
+            ++ filter_map (kept_watch_at tree.now since.now list) (path.now ∷ [])) }
     {
-        match missed(list, since, tree.node(path.as_str())) {
+        match kind_missed(list, since, tree.node(path.as_str())) {
             None => self.watches.push(watch_at(list, path))?,
             Some(kind) => {
                 let path = Text::new(alloc, path.as_str())?;
@@ -109,7 +109,7 @@ impl<'a> Found<'a> {
         ensures events { OnOk result (self.new.events.items ≡
             self.old.events.items ++ filter_map (event_at tree.now since.now list) paths.now) }
         ensures watches { OnOk result (self.new.watches.items ≡
-            self.old.watches.items ++ filter_map (kept_at tree.now since.now list) paths.now) }
+            self.old.watches.items ++ filter_map (kept_watch_at tree.now since.now list) paths.now) }
     {
         for path in paths {
             self.add(alloc, tree, since, list, path)?;
@@ -120,14 +120,16 @@ impl<'a> Found<'a> {
 
 // Whether all the paths may be asked for.
 fn all_asked(paths: &[Name<'_>]) -> bool
-    ensures { result ≡ list_all is_asked paths.now }
+    ensures { result ≡ list_all is_request_path paths.now }
 {
-    paths.iter().all(|path| is_asked(path.as_str().as_bytes()))
+    paths
+        .iter()
+        .all(|path| is_readable_path(path.as_str().as_bytes()))
 }
 
 // Whether the paths of all lists may be asked for.
 fn are_asked(asked: &SetWatches<'_>) -> bool
-    ensures { result ≡ are_asked asked.now }
+    ensures { result ≡ are_request_paths asked.now }
 {
     all_asked(asked.data_watches.as_slice())
         && all_asked(asked.exist_watches.as_slice())
@@ -141,7 +143,7 @@ pub fn renew<'a>(
     tree: &Tree,
     asked: &SetWatches<'a>,
 ) -> Result<Option<Renewal<'a>>, NoMemory>
-    ensures { IfOk result (λ renewal. renewal ≡ renew tree.now asked.now) }
+    ensures { IfOk result (λ renewal. renewal ≡ renew_watches tree.now asked.now) }
 {
     if !are_asked(asked) {
         return Ok(None);

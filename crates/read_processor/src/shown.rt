@@ -1,9 +1,9 @@
 //! What a read shows.
 
 ghost use Rattle.std.specs.Prelude.{◌≡◌, IfOk};
-ghost use Rattle.read_processor.specs.Events.{of_event};
+ghost use Rattle.read_processor.specs.Events.{look_of_event};
 ghost use Rattle.read_processor.specs.Look.{without_body};
-ghost use Rattle.read_processor.specs.Reply.{reply};
+ghost use Rattle.read_processor.specs.Reply.{reply_frame};
 
 use crate::body::{BODY_LIMIT, Body};
 use client_records::WatcherEvent;
@@ -37,7 +37,7 @@ impl Look {
     /// What tells a client of an event. It answers no request, so its frame has `NOTIFICATION_XID` and
     /// the zxid -1.
     pub fn of_event(alloc: Global, event: &Event) -> Result<Look, NoMemory>
-        ensures { IfOk result (λ look. look ≡ of_event event.now) }
+        ensures { IfOk result (λ look. look ≡ look_of_event event.now) }
     {
         let path = event.path.as_str();
         if path.len() > BODY_LIMIT {
@@ -59,7 +59,7 @@ impl Look {
 
     /// The frame of the reply, if its body isn't too long for one. It takes no memory.
     pub fn into_frame(self, xid: i32, zxid: i64) -> Option<Blob>
-        ensures { result ≡ reply xid zxid self }
+        ensures { result ≡ reply_frame xid zxid self }
     {
         let header = ReplyHeader {
             xid,

@@ -8,13 +8,13 @@ use Rattle.observer_core.specs.declared.engine.Stop.TheVariants as stops
 use Rattle.observer_core.specs.declared.event.Event.{Event}
 use Rattle.observer_core.specs.declared.event.Output.{Output}
 use Rattle.observer_core.specs.Machine.{Machine}
-use Rattle.observer_core.specs.Plays.{Plays}
+use Rattle.observer_core.specs.Plays.{PlaysEvents}
 use Rattle.observer_core.specs.Play.{play}
 use Rattle.values.specs.Gains.{Gains}
 use Rattle.values.proofs.Gaining.{gains_all}
 use Rattle.replay_script.specs.declared.script.Script.{Script}
 use Rattle.replay.specs.Lines.{output_line}
-use Rattle.replay.specs.Replay.{happened, printed, WritesFront, PrintsFront, Ends}
+use Rattle.replay.specs.Replay.{replay_of, printed_lines, WritesFront, PrintsFront, EndsReplay}
 use Rattle.replay.specs.declared.ending.Ending.{Ending}
 use Rattle.replay.specs.declared.ending.Ending.TheVariants.{Done, BadLine, Failed, NoMemory, NotClean, NoNode}
 
@@ -26,27 +26,28 @@ appends_both (Some x) (Some y) (Some z) xs ys p q = q ∙ ap (λ l. l ++ ys) p �
 
 -- the outputs of an engine that was fed are the first of all
 first_at : (fed : Result (Unit {0}) Stop) (m : Machine) (events : List Event) (outputs : List Output)
-    (after : Option Machine) → Plays fed (Some m) events [] outputs after → Gains [] (play m events).outputs outputs
+    (after : Option Machine) → PlaysEvents fed (Some m) events [] outputs after
+    → Gains [] (play m events).outputs outputs
 first_at (Ok u) m events outputs after p = gains_all [] _ _ p.0
 first_at (Err stops.NoMemory) m events outputs after p = p.0
 first_at (Err stops.Closed) m events outputs after p = absurd p
 
 plays_from : (fed : Result (Unit {0}) Stop) (engine : Option Machine) (m : Machine) (events : List Event)
     (old outputs : List Output) (after : Option Machine) → engine ≡ Some m → old ≡ []
-    → Plays fed engine events old outputs after → Plays fed (Some m) events [] outputs after
+    → PlaysEvents fed engine events old outputs after → PlaysEvents fed (Some m) events [] outputs after
 plays_from fed engine m events old outputs after is_engine none p =
-    subst (λ e. Plays fed e events [] outputs after) is_engine
-    (subst (λ o. Plays fed engine events o outputs after) none p)
+    subst (λ e. PlaysEvents fed e events [] outputs after) is_engine
+    (subst (λ o. PlaysEvents fed engine events o outputs after) none p)
 
 pub fed_first : (fed : Result (Unit {0}) Stop) (engine : Option Machine) (m : Machine) (events : List Event)
     (old outputs : List Output) (after : Option Machine) → engine ≡ Some m → old ≡ []
-    → Plays fed engine events old outputs after → Gains [] (play m events).outputs outputs
+    → PlaysEvents fed engine events old outputs after → Gains [] (play m events).outputs outputs
 fed_first fed engine m events old outputs after is_engine none p =
     first_at fed m events outputs after (plays_from fed engine m events old outputs after is_engine none p)
 
 -- where no memory was refused they are all, and the machine is the one that is left
 all_at : (fed : Result (Unit {0}) Stop) (m : Machine) (events : List Event) (outputs : List Output)
-    (after : Option Machine) → IsOk fed → Plays fed (Some m) events [] outputs after
+    (after : Option Machine) → IsOk fed → PlaysEvents fed (Some m) events [] outputs after
     → (outputs ≡ (play m events).outputs)
     × (after ≡ Some (play m events).after)
 all_at (Ok u) m events outputs after ok p = (p.0, p.1)
@@ -54,7 +55,7 @@ all_at (Err e) m events outputs after ok p = absurd (true≢false (sym ok))
 
 pub fed_all : (fed : Result (Unit {0}) Stop) (engine : Option Machine) (m : Machine) (events : List Event)
     (old outputs : List Output) (after : Option Machine) → engine ≡ Some m → old ≡ []
-    → Plays fed engine events old outputs after → IsOk fed → (outputs ≡ (play m events).outputs)
+    → PlaysEvents fed engine events old outputs after → IsOk fed → (outputs ≡ (play m events).outputs)
     × (after ≡ Some (play m events).after)
 fed_all fed engine m events old outputs after is_engine none p ok =
     all_at fed m events outputs after ok (plays_from fed engine m events old outputs after is_engine none p)
@@ -106,17 +107,17 @@ front_kept script a b c p q =
     ]
 
 -- what was printed stays
-pub ends_kept : (ending : Ending) (text : List ℕ) (a b c : Option (List ℕ)) → Ends ending text a b → Keeps b c
-    → Ends ending text a c
-ends_kept Done text a b c p q = (p.0, p.1, appends_kept a b c (printed (happened p.0)) p.2 q)
+pub ends_kept : (ending : Ending) (text : List ℕ) (a b c : Option (List ℕ)) → EndsReplay ending text a b → Keeps b c
+    → EndsReplay ending text a c
+ends_kept Done text a b c p q = (p.0, p.1, appends_kept a b c (printed_lines (replay_of p.0)) p.2 q)
 ends_kept (BadLine number) text a b c p q = (p.0, keeps_both a b c p.1 q)
 ends_kept Failed text a b c p q =
-    elim p as (λ _. Ends Failed text a c) [
+    elim p as (λ _. EndsReplay Failed text a c) [
       | inl same ↦ inl (keeps_both a b c same q)
       | inr found ↦ inr found
     ]
 ends_kept NoMemory text a b c p q =
-    elim p as (λ _. Ends NoMemory text a c) [
+    elim p as (λ _. EndsReplay NoMemory text a c) [
       | inl same ↦ inl (keeps_both a b c same q)
       | inr found ↦ inr (found.0, found.1, front_kept found.0 a b c found.2 q)
     ]

@@ -5,15 +5,15 @@ use Rattle.std.specs.Fmt.{radix_digits, signed_decimal}
 use Rattle.values.specs.Faults.{fault_number, fault_word}
 use Rattle.observer_core.specs.declared.event.Output.{Output}
 use Rattle.observer_core.specs.declared.event.Output.TheVariants.{ToLeader, ToClient, CloseLeader, CloseClient}
-use Rattle.values.specs.Hex.{digits}
+use Rattle.values.specs.Hex.{hex_digits}
 
 abbrev pub line_end : List ℕ
 line_end = 10 ∷ []
 
 -- what an output prints, without the end of the line
 abbrev pub output_text : Output → List ℕ
-output_text (ToLeader bytes) = codes "L " ++ digits bytes
-output_text (ToClient client bytes) = codes "C " ++ decimal client ++ codes " " ++ digits bytes
+output_text (ToLeader bytes) = codes "L " ++ hex_digits bytes
+output_text (ToClient client bytes) = codes "C " ++ decimal client ++ codes " " ++ hex_digits bytes
 output_text (CloseLeader fault) = codes "L close F" ++ decimal (fault_number fault) ++ codes " " ++ fault_word fault
 output_text (CloseClient client) = codes "C " ++ decimal client ++ codes " close"
 
@@ -21,14 +21,14 @@ abbrev pub output_line : Output → List ℕ
 output_line output = output_text output ++ line_end
 
 -- the 64 bits of two's complement as a number in lower-case hexadecimal digits, without zeros in front
-abbrev pub hex_number : ℤ → List ℕ
-hex_number number = radix_digits 16 false (cast_unsigned w64 number)
+abbrev pub hex_digits_of : ℤ → List ℕ
+hex_digits_of number = radix_digits 16 false (cast_unsigned w64 number)
 
 -- the last line: the last zxid and the number of paths
 abbrev pub end_line : ℤ → ℕ → List ℕ
-end_line zxid paths = codes "end zxid=0x" ++ hex_number zxid ++ codes " paths=" ++ decimal paths ++ line_end
+end_line zxid paths = codes "end zxid=0x" ++ hex_digits_of zxid ++ codes " paths=" ++ decimal paths ++ line_end
 
 -- the one line of an audit: the counted cversion and pzxid
 abbrev pub count_line : ℤ → ℤ → List ℕ
 count_line cversion pzxid =
-    codes "cversion=" ++ signed_decimal cversion ++ codes " pzxid=0x" ++ hex_number pzxid ++ line_end
+    codes "cversion=" ++ signed_decimal cversion ++ codes " pzxid=0x" ++ hex_digits_of pzxid ++ line_end

@@ -8,7 +8,7 @@ use Rattle.observer_core.specs.declared.event.Event.{Event}
 use Rattle.observer_core.specs.declared.event.Event.TheVariants as events
 use Rattle.observer_core.specs.declared.event.Output.{Output}
 use Rattle.observer_core.specs.Machine.{Machine}
-use Rattle.observer_core.specs.Steps.{Happened}
+use Rattle.observer_core.specs.Steps.{StepResult}
 use Rattle.observer_core.specs.Play.{play, new_machine, primed_machine}
 use Rattle.values.specs.Gains.{Gains}
 use Rattle.replay_script.specs.Script.{script_of}
@@ -20,15 +20,15 @@ use Rattle.replay.specs.Ending.{status_of}
 use Rattle.replay.specs.declared.ending.Ending.{Ending}
 use Rattle.replay.specs.declared.ending.Ending.TheVariants.{Done, BadLine, Failed, NoMemory, NotClean, NoNode}
 
-abbrev pub event_of : ScriptEvent → Event
-event_of LeaderUp = events.LeaderUp
-event_of (LeaderBytes bytes) = events.LeaderBytes bytes
-event_of LeaderEnd = events.LeaderEnd
-event_of (ClientUp client) = events.ClientUp client
-event_of (ClientBytes client bytes) = events.ClientBytes client bytes
-event_of (ClientEnd client) = events.ClientEnd client
-event_of (Expire session) = events.Expire session
-event_of Checkpoint = events.Checkpoint
+abbrev pub event_of_script : ScriptEvent → Event
+event_of_script LeaderUp = events.LeaderUp
+event_of_script (LeaderBytes bytes) = events.LeaderBytes bytes
+event_of_script LeaderEnd = events.LeaderEnd
+event_of_script (ClientUp client) = events.ClientUp client
+event_of_script (ClientBytes client bytes) = events.ClientBytes client bytes
+event_of_script (ClientEnd client) = events.ClientEnd client
+event_of_script (Expire session) = events.Expire session
+event_of_script Checkpoint = events.Checkpoint
 
 -- what the script sets up
 abbrev pub settings_of : Script → Settings
@@ -44,15 +44,15 @@ abbrev pub machine_of : Script → Machine
 machine_of script = if script.primed then primed_machine (settings_of script) else new_machine (settings_of script)
 
 -- what happens when the script's events come to the observer that its settings set up
-abbrev pub happened : Script → Happened Machine
-happened script = play (machine_of script) (map event_of script.events)
+abbrev pub replay_of : Script → StepResult Machine
+replay_of script = play (machine_of script) (map event_of_script script.events)
 
 abbrev pub end_line_of : Machine → List ℕ
 end_line_of m = end_line m.world.replica.learner.last_zxid (finmap.len m.world.replica.tree.nodes)
 
 -- a line for each output, and the end line
-abbrev pub printed : Happened Machine → List ℕ
-printed all = flat_map output_line all.outputs ++ end_line_of all.after
+abbrev pub printed_lines : StepResult Machine → List ℕ
+printed_lines all = flat_map output_line all.outputs ++ end_line_of all.after
 
 -- the lines of the first outputs were written
 pub record WritesFront (old new : Option (List ℕ)) (outputs : List Output) : Type 0 where
@@ -62,24 +62,24 @@ pub record WritesFront (old new : Option (List ℕ)) (outputs : List Output) : T
 
 -- all that a script causes was printed
 abbrev pub PrintsAll : Script → Option (List ℕ) → Option (List ℕ) → Type 0
-PrintsAll script old new = Appends old new (printed (happened script))
+PrintsAll script old new = Appends old new (printed_lines (replay_of script))
 
 -- nothing was printed, or the lines of the first outputs
 abbrev pub PrintsFront : Script → Option (List ℕ) → Option (List ℕ) → Type 0
-PrintsFront script old new = Keeps old new ⊎ WritesFront old new (happened script).outputs
+PrintsFront script old new = Keeps old new ⊎ WritesFront old new (replay_of script).outputs
 
 -- What was printed, by the way in which the replay of a text ended: the lines of all outputs and the end line;
 -- nothing, where the text is no script; where memory was refused nothing, or the lines of the first outputs; and where
 -- a read or a write failed nothing, unless the text is a script.
-abbrev pub Ends : Ending → List ℕ → Option (List ℕ) → Option (List ℕ) → Type 0
-Ends Done text old new = (script : Script) × (script_of text ≡ Ok script) × PrintsAll script old new
-Ends (BadLine number) text old new = (script_of text ≡ Err number) × Keeps old new
-Ends Failed text old new = Keeps old new ⊎ ((script : Script) × (script_of text ≡ Ok script))
-Ends NoMemory text old new =
+abbrev pub EndsReplay : Ending → List ℕ → Option (List ℕ) → Option (List ℕ) → Type 0
+EndsReplay Done text old new = (script : Script) × (script_of text ≡ Ok script) × PrintsAll script old new
+EndsReplay (BadLine number) text old new = (script_of text ≡ Err number) × Keeps old new
+EndsReplay Failed text old new = Keeps old new ⊎ ((script : Script) × (script_of text ≡ Ok script))
+EndsReplay NoMemory text old new =
     Keeps old new ⊎ ((script : Script) × (script_of text ≡ Ok script) × PrintsFront script old new)
-Ends NotClean text old new = ⊥
-Ends NoNode text old new = ⊥
+EndsReplay NotClean text old new = ⊥
+EndsReplay NoNode text old new = ⊥
 
 -- the same by the exit status
-abbrev pub EndsWith : ℕ → List ℕ → Option (List ℕ) → Option (List ℕ) → Type 0
-EndsWith status text old new = (ending : Ending) × (status ≡ status_of ending) × Ends ending text old new
+abbrev pub EndsReplayWith : ℕ → List ℕ → Option (List ℕ) → Option (List ℕ) → Type 0
+EndsReplayWith status text old new = (ending : Ending) × (status ≡ status_of ending) × EndsReplay ending text old new

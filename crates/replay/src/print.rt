@@ -1,7 +1,7 @@
 //! The lines that a replay and an audit print.
 
 ghost use Rattle.std.specs.Prelude.{◌≡◌, ◌++◌, OnOk, decimal};
-ghost use Rattle.replay.specs.Lines.{output_line, hex_number, end_line, count_line};
+ghost use Rattle.replay.specs.Lines.{output_line, hex_digits_of, end_line, count_line};
 ghost use Rattle.std.specs.Fmt.{signed_decimal};
 
 use observer_core::Output;
@@ -36,7 +36,7 @@ fn put_signed(out: &mut Vec<u8>, number: i32) -> Result<(), NoMemory>
 
 // As the 64 bits of two's complement, without zeros in front.
 fn put_hex_number(out: &mut Vec<u8>, number: i64) -> Result<(), NoMemory>
-    ensures { OnOk result (out.new.items ≡ out.old.items ++ hex_number number) }
+    ensures { OnOk result (out.new.items ≡ out.old.items ++ hex_digits_of number) }
 {
     let bits = number.cast_unsigned();
     match write!(out, "{bits:x}") {

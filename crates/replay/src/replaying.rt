@@ -6,7 +6,7 @@ ghost use Rattle.std.specs.Io.KnownBytes.{Appends};
 ghost use Rattle.observer_core.specs.Machine.{Machine as TheMachine};
 ghost use Rattle.observer_core.specs.Play.{play, primed_machine, new_machine};
 ghost use Rattle.replay.specs.Lines.{output_line};
-ghost use Rattle.replay.specs.Replay.{event_of, end_line_of, printed, WritesFront, PrintsAll, PrintsFront, Ends, EndsWith};
+ghost use Rattle.replay.specs.Replay.{event_of_script, end_line_of, printed_lines, WritesFront, PrintsAll, PrintsFront, EndsReplay, EndsReplayWith};
 ghost use Rattle.replay.specs.declared.replaying.PrintError.TheVariants as print_errors;
 
 use crate::ending::Ending;
@@ -36,7 +36,7 @@ impl From<NoMemory> for PrintError {
 
 /// The event that a line of a script says.
 pub fn event_of(event: &ScriptEvent) -> Event<'_>
-    ensures { result ≡ event_of event.now }
+    ensures { result ≡ event_of_script event.now }
 {
     match event {
         ScriptEvent::LeaderUp => Event::LeaderUp,
@@ -54,7 +54,7 @@ pub fn event_of(event: &ScriptEvent) -> Event<'_>
 }
 
 fn events_of(alloc: Global, script: &[ScriptEvent]) -> Result<Vec<Event<'_>>, NoMemory>
-    ensures { IfOk result (λ events. events.items ≡ map event_of script.now) }
+    ensures { IfOk result (λ events. events.items ≡ map event_of_script script.now) }
 {
     let mut events = Vec::with_capacity(alloc, script.len())?;
     for event in script {
@@ -161,7 +161,7 @@ fn feed<W: Write>(
     writer: &mut W,
 ) -> Result<(), PrintError>
     ensures ok { OnOk result ((m : TheMachine) → engine ≡ Some m
-        → Appends (W.contents writer.old) (W.contents writer.new) (printed (play m events.now))) }
+        → Appends (W.contents writer.old) (W.contents writer.new) (printed_lines (play m events.now))) }
     ensures no_memory { result ≡ Err print_errors.NoMemory → (m : TheMachine) → engine ≡ Some m
         → WritesFront (W.contents writer.old) (W.contents writer.new) (play m events.now).outputs }
 {
@@ -197,7 +197,7 @@ fn play_script<W: Write>(alloc: Global, script: Script, writer: &mut W) -> Resul
 
 /// Replays a text, and prints what goes out.
 pub fn replay_text<W: Write>(alloc: Global, text: &[u8], writer: &mut W) -> Ending
-    ensures { Ends result text.now (W.contents writer.old) (W.contents writer.new) }
+    ensures { EndsReplay result text.now (W.contents writer.old) (W.contents writer.new) }
 {
     let script = match parse(alloc, text) {
         Ok(script) => script,
@@ -214,7 +214,7 @@ pub fn replay_text<W: Write>(alloc: Global, text: &[u8], writer: &mut W) -> Endi
 /// Reads a script to its end, replays it, and prints what goes out. A script that is read in part is not replayed.
 pub fn replay<R: Read, W: Write>(alloc: Global, reader: &mut R, writer: &mut W) -> Ending
     ensures { IfSome (R.remaining reader.old)
-        (λ text. Ends result text (W.contents writer.old) (W.contents writer.new)) }
+        (λ text. EndsReplay result text (W.contents writer.old) (W.contents writer.new)) }
 {
     let mut text = Vec::new(alloc);
     if let Err(error) = reader.read_to_end(&mut text) {
@@ -240,7 +240,7 @@ pub fn replay_on<R: Read, W: Write, E: Write>(
     errors: &mut E,
 ) -> u8
     ensures ends { IfSome (R.remaining reader.old)
-        (λ text. EndsWith result text (W.contents writer.old) (W.contents writer.new)) }
+        (λ text. EndsReplayWith result text (W.contents writer.old) (W.contents writer.new)) }
     ensures quiet { result ≡ 0 → errors.new ≡ errors.old }
 {
     let ending = replay(alloc, reader, writer);

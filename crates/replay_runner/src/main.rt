@@ -7,8 +7,8 @@
 ghost use Rattle.std.specs.Prelude.{◌≡◌, ◌≢◌, IfSome, None};
 ghost use Rattle.std.specs.IoError.{error_kind};
 ghost use Rattle.replay.specs.Ending.{status_of};
-ghost use Rattle.replay.specs.Replay.{EndsWith};
-ghost use Rattle.auditing.specs.Auditing.{EndsWith as AuditEndsWith};
+ghost use Rattle.replay.specs.Replay.{EndsReplayWith};
+ghost use Rattle.auditing.specs.Auditing.{EndsAuditWith as AuditEndsWith};
 
 use auditing::audit_on;
 use replay::{Command, Ending, Source, command_of, replay_on};
@@ -47,7 +47,7 @@ fn ending_of(error: &Error) -> Ending
 
 // Answers the exit status; no contract sees what stands on standard output.
 fn replay_from<R: Read>(rt: &HostRuntime, reader: &mut R) -> u8
-    ensures { IfSome (R.remaining reader.old) (λ text. EndsWith result text None None) }
+    ensures { IfSome (R.remaining reader.old) (λ text. EndsReplayWith result text None None) }
 {
     match BufWriter::new(rt.alloc(), rt.stdout()) {
         Ok(mut writer) => replay_on(rt.alloc(), reader, &mut writer, &mut rt.stderr()),

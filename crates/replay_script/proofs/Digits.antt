@@ -7,16 +7,16 @@ use Rattle.std.proofs.lemmas.Bool.Decides.{nat_tests}
 use Rattle.std.proofs.lemmas.List.{at_drop_more, take-append-drop}
 use Rattle.std.proofs.lemmas.Grind.{flat_map-append}
 use Rattle.values.specs.Maybe.{◌>>=◌}
-use Rattle.values.specs.Hex.{digit_of, bytes_of, without_blanks, digit, digits}
+use Rattle.values.specs.Hex.{digit_value, bytes_of_digits, without_blanks, hex_digit, hex_digits}
 use Rattle.values.specs.Gains.{Puts}
 
 -- the bytes that digits spell behind the value of one that waits for its second
 abbrev pub bytes_behind : Option ℕ → List ℕ → Option (List ℕ)
-bytes_behind None text = bytes_of text
+bytes_behind None text = bytes_of_digits text
 bytes_behind (Some h) [] = None
 bytes_behind (Some h) (low ∷ text) = do
-  l ← digit_of low
-  bytes ← bytes_of text
+  l ← digit_value low
+  bytes ← bytes_of_digits text
   Some ((h * 16 + l) ∷ bytes)
 
 -- bytes with others in front
@@ -24,30 +24,31 @@ abbrev pub onto : List ℕ → Option (List ℕ) → Option (List ℕ)
 onto front bytes = option_map (λ bs. front ++ bs) bytes
 
 -- a first digit waits
-pub bytes_behind_first : (high h : ℕ) (text : List ℕ) → digit_of high ≡ Some h
+pub bytes_behind_first : (high h : ℕ) (text : List ℕ) → digit_value high ≡ Some h
     → bytes_behind None (high ∷ text) ≡ bytes_behind (Some h) text
 bytes_behind_first high h [] e = refl
 bytes_behind_first high h (low ∷ text) e =
-    ap (λ d. d >>= (λ h. digit_of low >>= (λ l. bytes_of text >>= (λ bytes. Some ((h * 16 + l) ∷ bytes))))) e
+    ap (λ d. d >>= (λ h. digit_value low >>= (λ l. bytes_of_digits text >>= (λ bytes. Some ((h * 16 + l) ∷ bytes))))) e
 
 -- a second one makes a byte
-pub bytes_behind_second : (front : List ℕ) (h low l : ℕ) (text : List ℕ) → digit_of low ≡ Some l
+pub bytes_behind_second : (front : List ℕ) (h low l : ℕ) (text : List ℕ) → digit_value low ≡ Some l
     → onto front (bytes_behind (Some h) (low ∷ text)) ≡ onto (front ++ (h * 16 + l) ∷ []) (bytes_behind None text)
 bytes_behind_second front h low l text e =
-    ap (λ d. onto front (d >>= (λ l. bytes_of text >>= (λ bytes. Some ((h * 16 + l) ∷ bytes))))) e
-    ∙ elim (bytes_of text) as (λ bs. onto front (bs >>= (λ bytes. Some ((h * 16 + l) ∷ bytes))) ≡ onto
+    ap (λ d. onto front (d >>= (λ l. bytes_of_digits text >>= (λ bytes. Some ((h * 16 + l) ∷ bytes))))) e
+    ∙ elim (bytes_of_digits text) as (λ bs. onto front (bs >>= (λ bytes. Some ((h * 16 + l) ∷ bytes))) ≡ onto
     (front ++ (h * 16 + l) ∷ []) bs) [
       | None ↦ refl
       | Some bs ↦ ap Some (sym (append_assoc front ((h * 16 + l) ∷ []) bs))
     ]
 
 -- nothing is spelled where one is no digit
-pub bytes_behind_none : (waiting : Option ℕ) (b : ℕ) (text : List ℕ) → digit_of b ≡ None
+pub bytes_behind_none : (waiting : Option ℕ) (b : ℕ) (text : List ℕ) → digit_value b ≡ None
     → bytes_behind waiting (b ∷ text) ≡ None
 bytes_behind_none None b [] e = refl
 bytes_behind_none None b (low ∷ text) e =
-    ap (λ d. d >>= (λ h. digit_of low >>= (λ l. bytes_of text >>= (λ bytes. Some ((h * 16 + l) ∷ bytes))))) e
-bytes_behind_none (Some h) b text e = ap (λ d. d >>= (λ l. bytes_of text >>= (λ bytes. Some ((h * 16 + l) ∷ bytes)))) e
+    ap (λ d. d >>= (λ h. digit_value low >>= (λ l. bytes_of_digits text >>= (λ bytes. Some ((h * 16 + l) ∷ bytes))))) e
+bytes_behind_none (Some h) b text e =
+    ap (λ d. d >>= (λ l. bytes_of_digits text >>= (λ bytes. Some ((h * 16 + l) ∷ bytes)))) e
 
 -- what is no blank stays
 pub without_blanks_kept : (text : List ℕ) (i : ℕ) → i < length text → get_or text i 0 ≢ 32
@@ -69,7 +70,7 @@ without_blanks_passed text i h eq =
 
 -- what is spelled behind `front` from place i on, where a first digit stands there
 pub first_read : (text front items : List ℕ) (i d : ℕ) (waits waits' : Option ℕ) (whole : Option (List ℕ))
-    → i < length text → get_or text i 0 ≢ 32 → digit_of (get_or text i 0) ≡ Some d → waits ≡ None → waits' ≡ Some d
+    → i < length text → get_or text i 0 ≢ 32 → digit_value (get_or text i 0) ≡ Some d → waits ≡ None → waits' ≡ Some d
     → items ≡ front → onto front (bytes_behind waits (without_blanks (drop i text))) ≡ whole
     → onto items (bytes_behind waits' (without_blanks (drop (i + 1) text))) ≡ whole
 first_read text front items i d waits waits' whole h ne digit none some same e =
@@ -83,7 +84,8 @@ first_read text front items i d waits waits' whole h ne digit none some same e =
 
 -- and where a second one does
 pub second_read : (text front items : List ℕ) (i first d : ℕ) (waits waits' : Option ℕ) (whole : Option (List ℕ))
-    → i < length text → get_or text i 0 ≢ 32 → digit_of (get_or text i 0) ≡ Some d → waits ≡ Some first → waits' ≡ None
+    → i < length text → get_or text i 0 ≢ 32 → digit_value (get_or text i 0) ≡ Some d → waits ≡ Some first
+    → waits' ≡ None
     → items ≡ front ++ (first * 16 + d) ∷ [] → onto front (bytes_behind waits (without_blanks (drop i text))) ≡ whole
     → onto items (bytes_behind waits' (without_blanks (drop (i + 1) text))) ≡ whole
 second_read text front items i first d waits waits' whole h ne digit some none more e =
@@ -99,12 +101,13 @@ second_read text front items i first d waits waits' whole h ne digit some none m
 
 -- where memory was refused behind some bytes, the digits of these stand there
 pub digits_so_far : {U E : Type 0} (r : Result U E) (old bytes new : List ℕ) (i : ℕ) → IsErr r
-    → new ≡ old ++ digits (take i bytes) → Puts r old (digits bytes) new
+    → new ≡ old ++ hex_digits (take i bytes) → Puts r old (hex_digits bytes) new
 digits_so_far (Ok u) old bytes new i err e = absurd cc
 digits_so_far (Err d) old bytes new i err e = record {
-  front = digits (take i bytes);
-  rest = digits (drop i bytes);
+  front = hex_digits (take i bytes);
+  rest = hex_digits (drop i bytes);
   gained = e;
-  of = ap digits (sym (take-append-drop i bytes)) ∙ flat_map-append (λ b. digit (b / 16) ∷ digit (b % 16) ∷ [])
+  of = ap hex_digits (sym (take-append-drop i bytes))
+      ∙ flat_map-append (λ b. hex_digit (b / 16) ∷ hex_digit (b % 16) ∷ [])
       (take i bytes) (drop i bytes);
 }

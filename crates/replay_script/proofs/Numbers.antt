@@ -3,27 +3,28 @@ use Rattle.std.proofs.Common.{◌≡◌, ℕ, ◌+◌, ◌-◌, ◌*◌, ◌<◌
 use Rattle.std.proofs.lemmas.List.{at_drop_more}
 use Rattle.std.specs.Char.{is_ascii_digit}
 use Rattle.std.proofs.lemmas.Bool.Decides.{nat_tests}
-use Rattle.replay_script.specs.Number.{number_behind, number_up_to, up_to}
+use Rattle.replay_script.specs.Number.{number_after, number_up_to, if_at_most}
 
 -- a number that is too large stays so, whatever follows it
-pub up_to-too_large : (limit n : ℕ) (bs : List ℕ) → limit < n → up_to limit (number_behind n bs) ≡ None
+pub up_to-too_large : (limit n : ℕ) (bs : List ℕ) → limit < n → if_at_most limit (number_after n bs) ≡ None
 up_to-too_large limit n [] h = grind (arith, nat_tests)
 up_to-too_large limit n (b ∷ bs) h =
-    elim (is_ascii_digit b) as (λ d. up_to limit (cond d (number_behind (n * 10 + (b - 48)) bs) None) ≡ None) [
+    elim (is_ascii_digit b) as (λ d. if_at_most limit (cond d (number_after (n * 10 + (b - 48)) bs) None) ≡ None) [
       | true ↦ up_to-too_large limit (n * 10 + (b - 48)) bs (omega arith)
       | false ↦ refl
     ]
 
 -- so it is at the digit that makes it too large
 pub too_large_at : (limit n i : ℕ) (text : List ℕ) → i < length text → is_ascii_digit (get_or text i 0) ≡ true
-    → limit < n * 10 + (get_or text i 0 - 48) → up_to limit (number_behind n (drop i text)) ≡ None
+    → limit < n * 10 + (get_or text i 0 - 48) → if_at_most limit (number_after n (drop i text)) ≡ None
 too_large_at limit n i text h digit large =
-    at_drop_more (λ t. up_to limit (number_behind n t)) text i 0 h
-    ∙ ap (λ d. up_to limit (cond d (number_behind (n * 10 + (get_or text i 0 - 48)) (drop (i + 1) text)) None)) digit
+    at_drop_more (λ t. if_at_most limit (number_after n t)) text i 0 h
+    ∙ ap (λ d. if_at_most limit (cond d (number_after (n * 10 + (get_or text i 0 - 48)) (drop (i + 1) text)) None))
+    digit
     ∙ up_to-too_large limit (n * 10 + (get_or text i 0 - 48)) (drop (i + 1) text) large
 
 -- a text that is not empty spells what its digits spell
-pub none_spelled : (limit : ℕ) (text : List ℕ) → up_to limit (number_behind 0 text) ≡ None
+pub none_spelled : (limit : ℕ) (text : List ℕ) → if_at_most limit (number_after 0 text) ≡ None
     → number_up_to limit text ≡ None
 none_spelled limit [] h = refl
 none_spelled limit (b ∷ bs) h = h

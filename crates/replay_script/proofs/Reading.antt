@@ -7,7 +7,7 @@ use Rattle.std.proofs.lemmas.List.Splits.{slice_split_first, slice_split_none}
 use Rattle.std.proofs.lemmas.List.Sums.{fails_before_first}
 use Rattle.std.proofs.lemmas.Grind.{common_steps}
 use Rattle.replay_script.specs.Cut.{cut_at}
-use Rattle.replay_script.specs.Script.{Kept, lines_of, with_text, or_bad, script_behind}
+use Rattle.replay_script.specs.Script.{PartialScript, lines_of, with_text, or_bad, script_after}
 use Rattle.replay_script.specs.declared.script.Script.{Script}
 use Rattle.replay_script.specs.declared.cut.Cut.{Cut}
 use Rattle.replay_script.specs.declared.parser.ScriptError.{ScriptError}
@@ -35,10 +35,10 @@ pub lines_of_cut : (text : List ℕ) → lines_of text ≡ (cut_at 10 text).fron
 lines_of_cut text = cut_line text (nat_lt (position_or_len (λ b. b == 10) text) (length text)) refl
 
 -- what is read with the next line
-pub script_behind_cut : (count : ℕ) (kept : Kept) (text : List ℕ)
-    → script_behind count kept (lines_of text) ≡ or_bad (count + 1) (with_text kept (cut_at 10 text).front)
-    (λ more. script_behind (count + 1) more (lines_behind (cut_at 10 text).behind))
-script_behind_cut count kept text = ap (script_behind count kept) (lines_of_cut text)
+pub script_behind_cut : (count : ℕ) (kept : PartialScript) (text : List ℕ)
+    → script_after count kept (lines_of text) ≡ or_bad (count + 1) (with_text kept (cut_at 10 text).front)
+    (λ more. script_after (count + 1) more (lines_behind (cut_at 10 text).behind))
+script_behind_cut count kept text = ap (script_after count kept) (lines_of_cut text)
 
 -- what stands behind a cut is shorter
 abbrev pub length_behind : Option (List ℕ) → ℕ
@@ -57,18 +57,19 @@ pub length_behind_cut : (text : List ℕ) → length_behind (cut_at 10 text).beh
 length_behind_cut text = shorter text (nat_lt (position_or_len (λ b. b == 10) text) (length text)) refl
 
 -- one more line is read
-pub reads : (count : ℕ) (kept : Kept) (rest : Option (List ℕ)) (bytes : List ℕ) (cut : Cut) (front : List ℕ)
-    (after : Option Kept) → rest ≡ Some bytes → cut ≡ cut_at 10 bytes → front ≡ cut.front → with_text kept front ≡ after
-    → script_behind count kept (lines_behind rest) ≡ or_bad (count + 1) after
-    (λ more. script_behind (count + 1) more (lines_behind cut.behind))
+pub reads : (count : ℕ) (kept : PartialScript) (rest : Option (List ℕ)) (bytes : List ℕ) (cut : Cut) (front : List ℕ)
+    (after : Option PartialScript) → rest ≡ Some bytes → cut ≡ cut_at 10 bytes → front ≡ cut.front
+    → with_text kept front ≡ after
+    → script_after count kept (lines_behind rest) ≡ or_bad (count + 1) after
+    (λ more. script_after (count + 1) more (lines_behind cut.behind))
 reads count kept rest bytes cut front after is_some is_cut is_front is_after =
-    ap (λ r. script_behind count kept (lines_behind r)) is_some
+    ap (λ r. script_after count kept (lines_behind r)) is_some
     ∙ script_behind_cut count kept bytes
     ∙ ap (λ (c : Cut). or_bad (count + 1) (with_text kept c.front)
-    (λ more. script_behind (count + 1) more (lines_behind c.behind))) (sym is_cut)
-    ∙ ap (λ t. or_bad (count + 1) (with_text kept t) (λ more. script_behind (count + 1) more (lines_behind cut.behind)))
+    (λ more. script_after (count + 1) more (lines_behind c.behind))) (sym is_cut)
+    ∙ ap (λ t. or_bad (count + 1) (with_text kept t) (λ more. script_after (count + 1) more (lines_behind cut.behind)))
     (sym is_front)
-    ∙ ap (λ o. or_bad (count + 1) o (λ more. script_behind (count + 1) more (lines_behind cut.behind))) is_after
+    ∙ ap (λ o. or_bad (count + 1) o (λ more. script_after (count + 1) more (lines_behind cut.behind))) is_after
 
 -- the number of a bad line is the one that is named
 pub named : (found : Result Script ℕ) (m n : ℕ)

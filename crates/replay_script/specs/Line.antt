@@ -8,7 +8,7 @@ use Rattle.settings.specs.Settings as settings
 use Rattle.replay_script.specs.Cut.{cut_at}
 use Rattle.values.specs.Maybe.{◌>>=◌}
 use Rattle.replay_script.specs.Number.{number_up_to, int_of, ints_of}
-use Rattle.values.specs.Hex.{hex}
+use Rattle.values.specs.Hex.{bytes_of_hex}
 use Rattle.replay_script.specs.declared.event.ScriptEvent.{ScriptEvent}
 use Rattle.replay_script.specs.declared.event.ScriptEvent.TheVariants.{LeaderUp, LeaderBytes, LeaderEnd, ClientUp, ClientBytes, ClientEnd, Expire, Checkpoint}
 use Rattle.replay_script.specs.declared.event.Setting.{Setting}
@@ -39,7 +39,7 @@ abbrev pub coming_of : List ℕ → Option Coming
 coming_of text =
     if bytes_eq text (codes "up") then Some Up
     else (if bytes_eq text (codes "end") then Some End
-    else option_map Bytes (hex text))
+    else option_map Bytes (bytes_of_hex text))
 
 abbrev pub leader_event : Coming → ScriptEvent
 leader_event Up = LeaderUp
@@ -63,57 +63,57 @@ client_of text = do
 -- a session's id of 8 bytes, in two's complement
 abbrev pub expire_of : List ℕ → Option ScriptEvent
 expire_of text = do
-  bytes ← hex text
+  bytes ← bytes_of_hex text
   if length bytes == 8 then Some (Expire (cast_signed w64 (big_number 8 bytes))) else None
 
-abbrev pub server_of : List ℕ → Option Setting
-server_of text = do
+abbrev pub server_setting : List ℕ → Option Setting
+server_setting text = do
   number ← int_of text
   option_map Server (settings.server_id_of number)
 
-abbrev pub epochs_of : List ℕ → Option Setting
-epochs_of text = do
+abbrev pub epochs_setting : List ℕ → Option Setting
+epochs_setting text = do
   numbers ← ints_of text
   option_map Epochs (settings.epochs_of numbers.0 numbers.1)
 
-abbrev pub timeouts_of : List ℕ → Option Setting
-timeouts_of text = do
+abbrev pub timeouts_setting : List ℕ → Option Setting
+timeouts_setting text = do
   numbers ← ints_of text
   option_map Timeouts (settings.timeouts_of numbers.0 numbers.1)
 
-abbrev pub secret_of : List ℕ → Option Setting
-secret_of text = do
-  bytes ← hex text
+abbrev pub secret_setting : List ℕ → Option Setting
+secret_setting text = do
+  bytes ← bytes_of_hex text
   option_map Secret (settings.secret_of bytes)
 
 -- what a word says with nothing behind it
-abbrev pub alone : Keyword → Option Line
-alone words.Primed = Some (Header Primed)
-alone words.Checkpoint = Some (Happening Checkpoint)
-alone words.Server = None
-alone words.Epochs = None
-alone words.Timeouts = None
-alone words.Secret = None
-alone words.Leader = None
-alone words.Client = None
-alone words.Expire = None
+abbrev pub line_of_keyword : Keyword → Option Line
+line_of_keyword words.Primed = Some (Header Primed)
+line_of_keyword words.Checkpoint = Some (Happening Checkpoint)
+line_of_keyword words.Server = None
+line_of_keyword words.Epochs = None
+line_of_keyword words.Timeouts = None
+line_of_keyword words.Secret = None
+line_of_keyword words.Leader = None
+line_of_keyword words.Client = None
+line_of_keyword words.Expire = None
 
 -- what a word says with a blank and a text behind it
-abbrev pub followed : Keyword → List ℕ → Option Line
-followed words.Server text = option_map Header (server_of text)
-followed words.Epochs text = option_map Header (epochs_of text)
-followed words.Timeouts text = option_map Header (timeouts_of text)
-followed words.Secret text = option_map Header (secret_of text)
-followed words.Leader text = option_map (λ coming. Happening (leader_event coming)) (coming_of text)
-followed words.Client text = option_map Happening (client_of text)
-followed words.Expire text = option_map Happening (expire_of text)
-followed words.Primed text = None
-followed words.Checkpoint text = None
+abbrev pub line_with_text : Keyword → List ℕ → Option Line
+line_with_text words.Server text = option_map Header (server_setting text)
+line_with_text words.Epochs text = option_map Header (epochs_setting text)
+line_with_text words.Timeouts text = option_map Header (timeouts_setting text)
+line_with_text words.Secret text = option_map Header (secret_setting text)
+line_with_text words.Leader text = option_map (λ coming. Happening (leader_event coming)) (coming_of text)
+line_with_text words.Client text = option_map Happening (client_of text)
+line_with_text words.Expire text = option_map Happening (expire_of text)
+line_with_text words.Primed text = None
+line_with_text words.Checkpoint text = None
 
 -- what a word says with this behind it
-abbrev pub said : Keyword → Option (List ℕ) → Option Line
-said word None = alone word
-said word (Some text) = followed word text
+abbrev pub line_of_words : Keyword → Option (List ℕ) → Option Line
+line_of_words word None = line_of_keyword word
+line_of_words word (Some text) = line_with_text word text
 
 -- What a line says, and nothing where it is not a line of the language. Every line is UTF-8: one that is not empty
 -- and no comment has ASCII alone.
@@ -121,4 +121,4 @@ abbrev pub line_of : List ℕ → Option Line
 line_of [] = Some Blank
 line_of (b ∷ bs) =
     if b == 35 then (if is_utf8 (b ∷ bs) then Some Blank else None)
-    else (keyword_of (cut_at 32 (b ∷ bs)).front >>= (λ word. said word (cut_at 32 (b ∷ bs)).behind))
+    else (keyword_of (cut_at 32 (b ∷ bs)).front >>= (λ word. line_of_words word (cut_at 32 (b ∷ bs)).behind))

@@ -6,22 +6,22 @@ use Rattle.values.specs.Maybe.{◌>>=◌}
 use Rattle.replay_script.specs.Cut.{cut_at}
 
 -- the number that decimal digits spell behind those that spell n
-abbrev pub number_behind : ℕ → List ℕ → Option ℕ
-number_behind n [] = Some n
-number_behind n (b ∷ bs) = if is_ascii_digit b then number_behind (n * 10 + (b - 48)) bs else None
+abbrev pub number_after : ℕ → List ℕ → Option ℕ
+number_after n [] = Some n
+number_after n (b ∷ bs) = if is_ascii_digit b then number_after (n * 10 + (b - 48)) bs else None
 
 -- the number that a text spells: decimal digits, at least one, and as many zeros in front as one likes
 abbrev pub number_of : List ℕ → Option ℕ
 number_of [] = None
-number_of (b ∷ bs) = number_behind 0 (b ∷ bs)
+number_of (b ∷ bs) = number_after 0 (b ∷ bs)
 
 -- nothing in place of a number above a limit
-abbrev pub up_to : ℕ → Option ℕ → Option ℕ
-up_to limit None = None
-up_to limit (Some n) = if nat_le n limit then Some n else None
+abbrev pub if_at_most : ℕ → Option ℕ → Option ℕ
+if_at_most limit None = None
+if_at_most limit (Some n) = if nat_le n limit then Some n else None
 
 abbrev pub number_up_to : ℕ → List ℕ → Option ℕ
-number_up_to limit text = up_to limit (number_of text)
+number_up_to limit text = if_at_most limit (number_of text)
 
 -- a number that fits an int
 abbrev pub int_of : List ℕ → Option ℤ

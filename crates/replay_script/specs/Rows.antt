@@ -12,44 +12,44 @@ use Rattle.replay_script.specs.declared.script.Script.{Script}
 
 -- ---- lines
 
-abbrev pub Sets : List ℕ → Setting → Type 0
-Sets text setting = line_of text ≡ Some (Header setting)
+abbrev pub IsSettingLine : List ℕ → Setting → Type 0
+IsSettingLine text setting = line_of text ≡ Some (Header setting)
 
-abbrev pub Says : List ℕ → ScriptEvent → Type 0
-Says text event = line_of text ≡ Some (Happening event)
+abbrev pub IsEventLine : List ℕ → ScriptEvent → Type 0
+IsEventLine text event = line_of text ≡ Some (Happening event)
 
-abbrev pub IsBad : List ℕ → Type 0
-IsBad text = line_of text ≡ None
+abbrev pub IsBadLine : List ℕ → Type 0
+IsBadLine text = line_of text ≡ None
 
 pub record GoodLines : Type 0 where
   pub empty : line_of [] ≡ Some Blank
-  pub server : Sets (codes "server 0255") (Server (pos 255))
-  pub epochs : Sets (codes "epochs 2147483647 0") (Epochs (epoch_pair (pos 2147483647) (pos 0)))
-  pub timeouts : Sets (codes "timeouts 7 7") (Timeouts (timeout_pair (pos 7) (pos 7)))
-  pub secret : Sets (codes "secret aB ") (Secret (171 ∷ []))
-  pub leader_up : Says (codes "leader up") LeaderUp
-  pub leader_bytes : Says (codes "leader  0 0Ff") (LeaderBytes (0 ∷ 255 ∷ []))
-  pub client_up : Says (codes "client 4294967295 up") (ClientUp 4294967295)
-  pub client_bytes : Says (codes "client 1 0a0B") (ClientBytes 1 (10 ∷ 11 ∷ []))
-  pub client_end : Says (codes "client 1 end") (ClientEnd 1)
-  pub expire : Says (codes "expire ff 00000000000001") (Expire (negsuc 72057594037927934))
+  pub server : IsSettingLine (codes "server 0255") (Server (pos 255))
+  pub epochs : IsSettingLine (codes "epochs 2147483647 0") (Epochs (epoch_pair (pos 2147483647) (pos 0)))
+  pub timeouts : IsSettingLine (codes "timeouts 7 7") (Timeouts (timeout_pair (pos 7) (pos 7)))
+  pub secret : IsSettingLine (codes "secret aB ") (Secret (171 ∷ []))
+  pub leader_up : IsEventLine (codes "leader up") LeaderUp
+  pub leader_bytes : IsEventLine (codes "leader  0 0Ff") (LeaderBytes (0 ∷ 255 ∷ []))
+  pub client_up : IsEventLine (codes "client 4294967295 up") (ClientUp 4294967295)
+  pub client_bytes : IsEventLine (codes "client 1 0a0B") (ClientBytes 1 (10 ∷ 11 ∷ []))
+  pub client_end : IsEventLine (codes "client 1 end") (ClientEnd 1)
+  pub expire : IsEventLine (codes "expire ff 00000000000001") (Expire (negsuc 72057594037927934))
 
 pub record BadLines : Type 0 where
-  pub server : IsBad (codes "server 256")
-  pub two_blanks : IsBad (codes "server  1")
-  pub sign : IsBad (codes "client +1 up")
-  pub large : IsBad (codes "client 4294967296 up")
-  pub bounds : IsBad (codes "timeouts 2 1")
-  pub blank_behind : IsBad (codes "primed ")
-  pub nothing : IsBad (codes "leader ")
-  pub odd : IsBad (codes "leader abc")
-  pub short : IsBad (codes "expire ff000000000000")
-  pub tab : IsBad (9 ∷ [])
+  pub server : IsBadLine (codes "server 256")
+  pub two_blanks : IsBadLine (codes "server  1")
+  pub sign : IsBadLine (codes "client +1 up")
+  pub large : IsBadLine (codes "client 4294967296 up")
+  pub bounds : IsBadLine (codes "timeouts 2 1")
+  pub blank_behind : IsBadLine (codes "primed ")
+  pub nothing : IsBadLine (codes "leader ")
+  pub odd : IsBadLine (codes "leader abc")
+  pub short : IsBadLine (codes "expire ff000000000000")
+  pub tab : IsBadLine (9 ∷ [])
 
 -- ---- texts
 
-abbrev pub ended : List ℕ → List ℕ
-ended line = line ++ 10 ∷ []
+abbrev pub with_newline : List ℕ → List ℕ
+with_newline line = line ++ 10 ∷ []
 
 -- the script of this server id and these events, with the defaults of all else
 abbrev pub script_of_server : ℤ → List ScriptEvent → Script
@@ -64,9 +64,9 @@ script_of_server id events = record {
 
 pub record WholeTexts : Type 0 where
   pub nothing : script_of [] ≡ Ok (script_of_server (pos 1) [])
-  pub one_event : script_of (ended (codes "server 3") ++ ended (codes "leader up")) ≡ Ok
+  pub one_event : script_of (with_newline (codes "server 3") ++ with_newline (codes "leader up")) ≡ Ok
       (script_of_server (pos 3) (LeaderUp ∷ []))
   -- the first bad line is named: the third, where a setting stands twice
-  pub twice : script_of (ended (codes "primed") ++ ended [] ++ codes "primed") ≡ Err 3
+  pub twice : script_of (with_newline (codes "primed") ++ with_newline [] ++ codes "primed") ≡ Err 3
   -- and the second, where one stands behind an event
-  pub late : script_of (ended (codes "checkpoint") ++ ended (codes "server 3") ++ codes "what") ≡ Err 2
+  pub late : script_of (with_newline (codes "checkpoint") ++ with_newline (codes "server 3") ++ codes "what") ≡ Err 2

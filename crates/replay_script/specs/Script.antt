@@ -18,23 +18,23 @@ lines_of text = slice_split (λ b. b == 10) text
 -- ---- what lines say together
 
 -- the settings, as far as a line has set them, and the events in order
-pub record Kept : Type 0 where
+pub record PartialScript : Type 0 where
   pub settings : Settings
   pub events : List ScriptEvent
 
 -- what no line says
-abbrev pub kept_of_nothing : Kept
-kept_of_nothing = record {
+abbrev pub empty_script : PartialScript
+empty_script = record {
   settings = record { server = None; epochs = None; timeouts = None; secret = None; primed = false };
   events = [];
 }
 
-abbrev pub is_kept : Setting → Settings → Bool
-is_kept (Server id) settings = is_some settings.server
-is_kept (Epochs epochs) settings = is_some settings.epochs
-is_kept (Timeouts timeouts) settings = is_some settings.timeouts
-is_kept (Secret bytes) settings = is_some settings.secret
-is_kept Primed settings = settings.primed
+abbrev pub is_set : Setting → Settings → Bool
+is_set (Server id) settings = is_some settings.server
+is_set (Epochs epochs) settings = is_some settings.epochs
+is_set (Timeouts timeouts) settings = is_some settings.timeouts
+is_set (Secret bytes) settings = is_some settings.secret
+is_set Primed settings = settings.primed
 
 abbrev pub with_setting : Settings → Setting → Settings
 with_setting settings (Server id) = record settings { server = Some id }
@@ -48,26 +48,26 @@ is_empty [] = true
 is_empty (x ∷ xs) = false
 
 -- a setting stands once, and before each event
-abbrev pub may_stand : Kept → Line → Bool
-may_stand kept Blank = true
-may_stand kept (Header setting) = is_empty kept.events && not (is_kept setting kept.settings)
-may_stand kept (Happening event) = true
+abbrev pub is_line_allowed : PartialScript → Line → Bool
+is_line_allowed kept Blank = true
+is_line_allowed kept (Header setting) = is_empty kept.events && not (is_set setting kept.settings)
+is_line_allowed kept (Happening event) = true
 
-abbrev pub with_line : Kept → Line → Kept
+abbrev pub with_line : PartialScript → Line → PartialScript
 with_line kept Blank = kept
 with_line kept (Header setting) = record kept { settings = with_setting kept.settings setting }
 with_line kept (Happening event) = record kept { events = kept.events ++ event ∷ [] }
 
 -- nothing, where this is no line of the language, or may not stand here
-abbrev pub with_read : Kept → Option Line → Option Kept
+abbrev pub with_read : PartialScript → Option Line → Option PartialScript
 with_read kept None = None
-with_read kept (Some line) = if may_stand kept line then Some (with_line kept line) else None
+with_read kept (Some line) = if is_line_allowed kept line then Some (with_line kept line) else None
 
-abbrev pub with_text : Kept → List ℕ → Option Kept
+abbrev pub with_text : PartialScript → List ℕ → Option PartialScript
 with_text kept text = with_read kept (line_of text)
 
 -- with the defaults of what no line sets
-abbrev pub script_with : Kept → Script
+abbrev pub script_with : PartialScript → Script
 script_with kept =
     let settings = kept.settings in
     record {
@@ -81,15 +81,15 @@ script_with kept =
 
 -- ---- the script of a text, or the number of its first bad line, which are counted from 1
 
-abbrev pub or_bad : ℕ → Option Kept → (Kept → Result Script ℕ) → Result Script ℕ
+abbrev pub or_bad : ℕ → Option PartialScript → (PartialScript → Result Script ℕ) → Result Script ℕ
 or_bad number None next = Err number
 or_bad number (Some kept) next = next kept
 
 -- a fold over the lines, of which `count` were read before
-abbrev pub script_behind : ℕ → Kept → List (List ℕ) → Result Script ℕ
-script_behind count kept [] = Ok (script_with kept)
-script_behind count kept (text ∷ texts) =
-    or_bad (count + 1) (with_text kept text) (λ more. script_behind (count + 1) more texts)
+abbrev pub script_after : ℕ → PartialScript → List (List ℕ) → Result Script ℕ
+script_after count kept [] = Ok (script_with kept)
+script_after count kept (text ∷ texts) =
+    or_bad (count + 1) (with_text kept text) (λ more. script_after (count + 1) more texts)
 
 abbrev pub script_of : List ℕ → Result Script ℕ
-script_of text = script_behind 0 kept_of_nothing (lines_of text)
+script_of text = script_after 0 empty_script (lines_of text)

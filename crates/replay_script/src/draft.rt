@@ -18,19 +18,19 @@ pub struct Draft {
 }
 
 impl Model for Draft {
-    ghost use Rattle.replay_script.specs.Script.{Kept};
+    ghost use Rattle.replay_script.specs.Script.{PartialScript};
 
-    ghost Value = { Kept };
+    ghost Value = { PartialScript };
 
     ghost view = { λ d. record { settings = d.settings; events = d.events.items } };
 }
 
 impl Settings {
     ghost use Rattle.std.specs.Prelude.{◌≡◌};
-    ghost use Rattle.replay_script.specs.Script.{is_kept, with_setting};
+    ghost use Rattle.replay_script.specs.Script.{is_set, with_setting};
 
     fn is_kept(&self, setting: &Setting) -> bool
-        ensures { result ≡ is_kept setting.now self.now }
+        ensures { result ≡ is_set setting.now self.now }
     {
         match setting {
             Setting::Server(_) => self.server.is_some(),
@@ -56,11 +56,11 @@ impl Settings {
 
 impl Draft {
     ghost use Rattle.std.specs.Prelude.{◌≡◌, Some, None, OnOk, IfOk, if◌then◌else◌};
-    ghost use Rattle.replay_script.specs.Script.{kept_of_nothing, may_stand, with_line, with_text, script_with};
+    ghost use Rattle.replay_script.specs.Script.{empty_script, is_line_allowed, with_line, with_text, script_with};
 
     /// No line was read.
     pub fn new(alloc: Global) -> Draft
-        ensures { result ≡ kept_of_nothing }
+        ensures { result ≡ empty_script }
     {
         Draft {
             settings: Settings {
@@ -75,7 +75,7 @@ impl Draft {
     }
 
     fn may_stand(&self, line: &Line) -> bool
-        ensures { result ≡ may_stand self.now line.now }
+        ensures { result ≡ is_line_allowed self.now line.now }
     {
         match line {
             Line::Header(setting) => self.events.is_empty() && !self.settings.is_kept(setting),

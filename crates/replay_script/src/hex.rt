@@ -1,14 +1,14 @@
 //! Bytes as hexadecimal digits.
 
 ghost use Rattle.std.specs.Prelude.{◌≡◌, ◌<◌, ◌+◌, ◌++◌, IfSome, IfOk, OnOk};
-ghost use Rattle.values.specs.Hex.{digit_of, hex, digit, digits};
+ghost use Rattle.values.specs.Hex.{digit_value, bytes_of_hex, hex_digit, hex_digits};
 ghost use Rattle.values.specs.Gains.{Puts};
 
 use std::alloc::Global;
 use values::{Blob, NoMemory};
 
 fn digit_of(byte: u8) -> Option<u8>
-    ensures value { result ≡ digit_of byte }
+    ensures value { result ≡ digit_value byte }
     ensures small { IfSome result (λ d. d < 16) }
 {
     match byte {
@@ -22,7 +22,7 @@ fn digit_of(byte: u8) -> Option<u8>
 /// The bytes that a text spells, two hexadecimal digits for each, if it spells at least one. Digits are of either
 /// case, and blanks are passed over.
 pub fn read_hex(alloc: Global, text: &[u8]) -> Result<Option<Blob>, NoMemory>
-    ensures { IfOk result (λ found. found ≡ hex text.now) }
+    ensures { IfOk result (λ found. found ≡ bytes_of_hex text.now) }
 {
     let mut bytes = Vec::with_capacity(alloc, text.len() / 2)?;
     let mut high = None;
@@ -49,7 +49,7 @@ pub fn read_hex(alloc: Global, text: &[u8]) -> Result<Option<Blob>, NoMemory>
 
 fn digit(value: u8) -> u8
     requires { value < 16 }
-    ensures { result ≡ digit value }
+    ensures { result ≡ hex_digit value }
 {
     if value < 10 {
         b'0' + value
@@ -60,7 +60,7 @@ fn digit(value: u8) -> u8
 
 /// Appends bytes in lower-case hexadecimal digits. Where memory is refused, some of the digits may stand there.
 pub fn put_hex(out: &mut Vec<u8>, bytes: &[u8]) -> Result<(), NoMemory>
-    ensures { Puts result out.old.items (digits bytes.now) out.new.items }
+    ensures { Puts result out.old.items (hex_digits bytes.now) out.new.items }
 {
     for byte in bytes {
         out.extend_from_slice(&[digit(byte / 16), digit(byte % 16)])?;

@@ -2,7 +2,7 @@
 
 ghost use Rattle.std.specs.Prelude.{◌≡◌, IfOk};
 ghost use Rattle.std.specs.Str.{is_utf8};
-ghost use Rattle.replay_script.specs.Line.{keyword_of, coming_of, leader_event, client_event, client_of, expire_of, server_of, epochs_of, timeouts_of, secret_of, alone, followed, said, line_of};
+ghost use Rattle.replay_script.specs.Line.{keyword_of, coming_of, leader_event, client_event, client_of, expire_of, server_setting, epochs_setting, timeouts_setting, secret_setting, line_of_keyword, line_with_text, line_of_words, line_of};
 
 use crate::cut::cut_at;
 use crate::event::{Coming, Keyword, Line, ScriptEvent, Setting};
@@ -103,14 +103,14 @@ fn expire_of(alloc: Global, text: &[u8]) -> Result<Option<ScriptEvent>, NoMemory
 }
 
 fn server_of(text: &[u8]) -> Option<Setting>
-    ensures { result ≡ server_of text.now }
+    ensures { result ≡ server_setting text.now }
 {
     let id = ServerId::new(int_of(text)?)?;
     Some(Setting::Server(id))
 }
 
 fn epochs_of(text: &[u8]) -> Option<Setting>
-    ensures { result ≡ epochs_of text.now }
+    ensures { result ≡ epochs_setting text.now }
 {
     let (accepted, current) = ints_of(text)?;
     let epochs = Epochs::new(accepted, current)?;
@@ -118,7 +118,7 @@ fn epochs_of(text: &[u8]) -> Option<Setting>
 }
 
 fn timeouts_of(text: &[u8]) -> Option<Setting>
-    ensures { result ≡ timeouts_of text.now }
+    ensures { result ≡ timeouts_setting text.now }
 {
     let (least, greatest) = ints_of(text)?;
     let timeouts = TimeoutBounds::new(least, greatest)?;
@@ -126,7 +126,7 @@ fn timeouts_of(text: &[u8]) -> Option<Setting>
 }
 
 fn secret_of(alloc: Global, text: &[u8]) -> Result<Option<Setting>, NoMemory>
-    ensures { IfOk result (λ setting. setting ≡ secret_of text.now) }
+    ensures { IfOk result (λ setting. setting ≡ secret_setting text.now) }
 {
     match read_hex(alloc, text)? {
         None => Ok(None),
@@ -135,7 +135,7 @@ fn secret_of(alloc: Global, text: &[u8]) -> Result<Option<Setting>, NoMemory>
 }
 
 fn alone(word: Keyword) -> Option<Line>
-    ensures { result ≡ alone word }
+    ensures { result ≡ line_of_keyword word }
 {
     match word {
         Keyword::Primed => Some(Line::Header(Setting::Primed)),
@@ -151,7 +151,7 @@ fn alone(word: Keyword) -> Option<Line>
 }
 
 fn followed(alloc: Global, word: Keyword, text: &[u8]) -> Result<Option<Line>, NoMemory>
-    ensures { IfOk result (λ line. line ≡ followed word text.now) }
+    ensures { IfOk result (λ line. line ≡ line_with_text word text.now) }
 {
     match word {
         Keyword::Server => Ok(server_of(text).map(Line::Header)),

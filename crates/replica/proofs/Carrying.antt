@@ -8,24 +8,24 @@ use Rattle.values.specs.declared.fault.ReadError.TheVariants as errors
 use Rattle.jute.specs.Format.{◌>>=◌}
 use Rattle.txn_codec.specs.declared.txn.Txn.{Txn}
 use Rattle.data_tree.specs.State.{State}
-use Rattle.data_tree.specs.Meaning.{mean, answer_of}
+use Rattle.data_tree.specs.Meaning.{effect_of_txn, answer_of}
 use Rattle.data_tree.specs.declared.outcome.Outcome.{Outcome}
 use Rattle.data_tree.specs.declared.outcome.Trigger.{Trigger}
 use Rattle.snapshot_codec.specs.Made.{Loading, with_loaded}
 use Rattle.snapshot_codec.specs.declared.part.ImagePart.{ImagePart}
 use Rattle.quorum_packet.specs.Feed.{CanBeWritten}
-use Rattle.quorum_packet.specs.Packet.{packet}
+use Rattle.quorum_packet.specs.Packet.{packet_format}
 use Rattle.quorum_packet.specs.declared.item.Item.{Item}
 use Rattle.quorum_packet.specs.declared.packet.QuorumPacket.{QuorumPacket}
 use Rattle.learner_sync.specs.Learner.{Learner}
-use Rattle.learner_sync.specs.Learn.{Learned, learn}
-use Rattle.learner_sync.specs.Laws.{stands_alone, Tells, CanBeDone, ActsTell}
+use Rattle.learner_sync.specs.Learn.{LearnerStep, learn_item}
+use Rattle.learner_sync.specs.Laws.{is_only_act, AccountsForLog, CanBeDone, ActsAccountForLog}
 use Rattle.learner_sync.specs.declared.act.Act.{Act}
 use Rattle.learner_sync.specs.declared.act.Act.TheVariants as act
 use Rattle.replica.specs.Replica.{Replica}
-use Rattle.replica.specs.Taking.{Taken, unloaded, quiet, last_of, apply, with_image, rebuild, carry_out, carry_out_all, with_learner, take, sent_by, Takes}
-use Rattle.replica.specs.Inner.{told, is_part, PartStandsAlone}
-use Rattle.replica.specs.declared.brought.Brought.{Brought}
+use Rattle.replica.specs.Taking.{ItemEffect, nothing_loaded, no_effect, last_txn, apply_to_tree, with_image_state, rebuild_tree, carry_out, carry_out_all, with_learner, take_item, packets_of_act, TakesItem}
+use Rattle.replica.specs.Inner.{with_triggers, is_part_load, IsPartAlone}
+use Rattle.replica.specs.declared.item_outcome.ItemOutcome.{ItemOutcome}
 
 -- ---- a part stands alone
 
@@ -40,9 +40,9 @@ kept-first (act.LoadPart p ∷ acts) loading r = (refl, refl)
 kept-first (a ∷ acts) loading r = tt
 
 abbrev IsOther : Act → Type 0
-IsOther a = is_part a ≡ false
+IsOther a = is_part_load a ≡ false
 
-others-alone : (acts : List Act) → AllByRecursion IsOther acts → PartStandsAlone acts
+others-alone : (acts : List Act) → AllByRecursion IsOther acts → IsPartAlone acts
 others-alone [] h = tt
 others-alone (act.LoadPart p ∷ acts) h = cc (h.0)
 others-alone (a ∷ acts) h = h
@@ -54,42 +54,42 @@ others-kept (act.LoadPart p ∷ acts) loading r first-loading first h = cc (h.0)
 others-kept (a ∷ acts) loading r first-loading first h = tt
 
 -- no part stands behind the first act
-rest-others : (a : Act) (acts : List Act) → PartStandsAlone (a ∷ acts) → AllByRecursion IsOther acts
+rest-others : (a : Act) (acts : List Act) → IsPartAlone (a ∷ acts) → AllByRecursion IsOther acts
 rest-others (act.LoadPart p) acts h = subst (AllByRecursion IsOther) (sym h) tt
 rest-others a acts h = h.1
 
-pub alone-rest : (acts : List Act) (a : Act) (rest : List Act) → acts ≡ a ∷ rest → PartStandsAlone acts
-    → PartStandsAlone rest
-alone-rest acts a rest e h = others-alone rest (rest-others a rest (subst PartStandsAlone e h))
+pub alone-rest : (acts : List Act) (a : Act) (rest : List Act) → acts ≡ a ∷ rest → IsPartAlone acts
+    → IsPartAlone rest
+alone-rest acts a rest e h = others-alone rest (rest-others a rest (subst IsPartAlone e h))
 
-pub kept-rest : (acts : List Act) (a : Act) (rest : List Act) → acts ≡ a ∷ rest → PartStandsAlone acts
+pub kept-rest : (acts : List Act) (a : Act) (rest : List Act) → acts ≡ a ∷ rest → IsPartAlone acts
     → (loading : Loading) (r : Replica) (first-loading : Loading) (first : Replica)
     → Kept rest loading r first-loading first
 kept-rest acts a rest e h loading r first-loading first =
-    others-kept rest loading r first-loading first (rest-others a rest (subst PartStandsAlone e h))
+    others-kept rest loading r first-loading first (rest-others a rest (subst IsPartAlone e h))
 
 -- ---- one act behind the other
 
 -- one more was carried out
-pub carried-on : (t u : Taken) (acts : List Act) (a : Act) (rest : List Act) (whole : Result Taken Fault)
+pub carried-on : (t u : ItemEffect) (acts : List Act) (a : Act) (rest : List Act) (whole : Result ItemEffect Fault)
     → acts ≡ a ∷ rest → carry_out_all t acts ≡ whole → carry_out t a ≡ Ok u → carry_out_all u rest ≡ whole
 carried-on t u acts a rest whole is e one =
-    sym (ap (λ (x : Result Taken Fault). x >>= λ u. carry_out_all u rest) one)
+    sym (ap (λ (x : Result ItemEffect Fault). x >>= λ u. carry_out_all u rest) one)
     ∙ sym (ap (carry_out_all t) is) ∙ e
 
-pub carried-none : (t : Taken) (acts : List Act) (whole : Result Taken Fault) → acts ≡ []
+pub carried-none : (t : ItemEffect) (acts : List Act) (whole : Result ItemEffect Fault) → acts ≡ []
     → carry_out_all t acts ≡ whole → whole ≡ Ok t
 carried-none t acts whole is e = sym e ∙ ap (carry_out_all t) is
 
 -- only a part is refused
-only-a-part : (a : Act) (t : Taken) (rest : List Act) (first-loading : Loading) (first : Replica) (e : Fault)
+only-a-part : (a : Act) (t : ItemEffect) (rest : List Act) (first-loading : Loading) (first : Replica) (e : Fault)
     → Kept (a ∷ rest) t.loading t.replica first-loading first → carry_out t a ≡ Err e
     → (t.loading ≡ first-loading) × (t.replica ≡ first)
 only-a-part (act.LoadPart p) t rest first-loading first e k refused = k
 only-a-part a t rest first-loading first e k refused = cc
 
 -- one was refused: so is the whole, and nothing changed
-pub carried-refused : (t u : Taken) (acts : List Act) (a : Act) (rest : List Act) (whole : Result Taken Fault)
+pub carried-refused : (t u : ItemEffect) (acts : List Act) (a : Act) (rest : List Act) (whole : Result ItemEffect Fault)
     (first-loading : Loading) (first : Replica) (e : Fault) → acts ≡ a ∷ rest → carry_out_all t acts ≡ whole
     → Kept acts t.loading t.replica first-loading first → carry_out t a ≡ Err e → u ≡ t
     → (whole ≡ Err e) × (u.loading ≡ first-loading) × (u.replica ≡ first)
@@ -97,22 +97,22 @@ carried-refused t u acts a rest whole first-loading first e is done kept refused
     let k = only-a-part a t rest first-loading first e
     (subst (λ (acts : List Act). Kept acts t.loading t.replica first-loading first) is kept) refused in (
       sym done ∙ ap (carry_out_all t) is
-          ∙ ap (λ (x : Result Taken Fault). x >>= λ u. carry_out_all u rest) refused,
-      ap (λ (x : Taken). x.loading) same ∙ k.0,
-      ap (λ (x : Taken). x.replica) same ∙ k.1,
+          ∙ ap (λ (x : Result ItemEffect Fault). x >>= λ u. carry_out_all u rest) refused,
+      ap (λ (x : ItemEffect). x.loading) same ∙ k.0,
+      ap (λ (x : ItemEffect). x.replica) same ∙ k.1,
     )
 
 -- ---- the log's last transaction
 
-pub applied-told : (t : Taken) (o : Option Txn) (triggers : List Trigger) (r : Replica)
-    → apply (told t.triggers t.replica) o ≡ told triggers r
-    → apply t o ≡ record t { triggers = triggers; replica = r }
+pub applied-told : (t : ItemEffect) (o : Option Txn) (triggers : List Trigger) (r : Replica)
+    → apply_to_tree (with_triggers t.triggers t.replica) o ≡ with_triggers triggers r
+    → apply_to_tree t o ≡ record t { triggers = triggers; replica = r }
 applied-told t None triggers r e =
-    ap (λ (u : Taken). record t { triggers = u.triggers; replica = u.replica }) e
+    ap (λ (u : ItemEffect). record t { triggers = u.triggers; replica = u.replica }) e
 applied-told t (Some txn) triggers r e =
-    ap (λ (u : Taken). record t { triggers = u.triggers; replica = u.replica }) e
+    ap (λ (u : ItemEffect). record t { triggers = u.triggers; replica = u.replica }) e
 
-last-is : (log : List Txn) (t : Txn) → Some t ≡ slice_get log (length log - 1) → last_of log ≡ Some t
+last-is : (log : List Txn) (t : Txn) → Some t ≡ slice_get log (length log - 1) → last_txn log ≡ Some t
 last-is [] t e = cc
 last-is (u ∷ []) t e = sym e
 last-is (u ∷ v ∷ log) t e =
@@ -121,22 +121,23 @@ last-is (u ∷ v ∷ log) t e =
 
 -- it was meant on the tree
 pub applied-last : (r : Replica) (triggers : List Trigger) (log : List Txn) (t : Txn) (tree : State) (outcome : Outcome)
-    → log ≡ r.learner.log → Some t ≡ slice_get log (length log - 1) → tree ≡ (mean r.tree t).state
-    → outcome ≡ answer_of (mean r.tree t)
-    → apply (told triggers r) (last_of r.learner.log) ≡ told outcome.triggers (record r { tree = tree })
+    → log ≡ r.learner.log → Some t ≡ slice_get log (length log - 1) → tree ≡ (effect_of_txn r.tree t).state
+    → outcome ≡ answer_of (effect_of_txn r.tree t)
+    → apply_to_tree (with_triggers triggers r) (last_txn r.learner.log)
+    ≡ with_triggers outcome.triggers (record r { tree = tree })
 applied-last r triggers log t tree outcome is last state answer =
-    ap (λ (log : List Txn). apply (told triggers r) (last_of log)) (sym is)
-    ∙ ap (apply (told triggers r)) (last-is log t last)
-    ∙ ap (λ (s : State). told (mean r.tree t).triggers (record r { tree = s })) (sym state)
-    ∙ ap (λ (o : Outcome). told o.triggers (record r { tree = tree })) (sym answer)
+    ap (λ (log : List Txn). apply_to_tree (with_triggers triggers r) (last_txn log)) (sym is)
+    ∙ ap (apply_to_tree (with_triggers triggers r)) (last-is log t last)
+    ∙ ap (λ (s : State). with_triggers (effect_of_txn r.tree t).triggers (record r { tree = s })) (sym state)
+    ∙ ap (λ (o : Outcome). with_triggers o.triggers (record r { tree = tree })) (sym answer)
 
 -- ---- what is learnt tells that a part stands alone
 
-other-of : (a : Act) → stands_alone a ≡ false → IsOther a
+other-of : (a : Act) → is_only_act a ≡ false → IsOther a
 other-of (act.LoadPart p) h = cc
 other-of a h = refl
 
-others-of : (acts : List Act) → AllByRecursion (λ a. stands_alone a ≡ false) acts → AllByRecursion IsOther acts
+others-of : (acts : List Act) → AllByRecursion (λ a. is_only_act a ≡ false) acts → AllByRecursion IsOther acts
 others-of [] h = tt
 others-of (a ∷ acts) h = (other-of a h.0, others-of acts h.1)
 
@@ -144,7 +145,7 @@ others-of (a ∷ acts) h = (other-of a h.0, others-of acts h.1)
 abbrev OnlyAPart : List Act → Learner → Learner → Type 0
 OnlyAPart acts l after = (p : ImagePart) × (acts ≡ act.LoadPart p ∷ []) × (after ≡ l)
 
-told-apart : (acts : List Act) (l after : Learner) → Tells acts l after
+told-apart : (acts : List Act) (l after : Learner) → AccountsForLog acts l after
     → OnlyAPart acts l after ⊎ AllByRecursion IsOther acts
 told-apart [] l after tell = inr tt
 told-apart (act.LoadPart p ∷ acts) l after tell = inl (p, ap (λ (xs : List Act). act.LoadPart p ∷ xs) tell.0, tell.1)
@@ -159,31 +160,32 @@ told-apart (act.DropImage ∷ acts) l after tell = inr (others-of (act.DropImage
 told-apart (act.Epochs ∷ acts) l after tell = inr (others-of (act.Epochs ∷ acts) tell.2)
 told-apart (act.ServeFrom ∷ acts) l after tell = inr (others-of (act.ServeFrom ∷ acts) tell.2)
 
-tells-alone : (acts : List Act) (l after : Learner) → Tells acts l after → PartStandsAlone acts
+tells-alone : (acts : List Act) (l after : Learner) → AccountsForLog acts l after → IsPartAlone acts
 tells-alone acts l after tell = by (told-apart acts l after tell)
   where
-    by : OnlyAPart acts l after ⊎ AllByRecursion IsOther acts → PartStandsAlone acts
-    by (inl only) = subst PartStandsAlone (sym only.1) refl
+    by : OnlyAPart acts l after ⊎ AllByRecursion IsOther acts → IsPartAlone acts
+    by (inl only) = subst IsPartAlone (sym only.1) refl
     by (inr others) = others-alone acts others
 
 -- ---- a refused item leaves the learner
 
-never-refused : (t : Taken) (acts : List Act) (e : Fault) → AllByRecursion IsOther acts
+never-refused : (t : ItemEffect) (acts : List Act) (e : Fault) → AllByRecursion IsOther acts
     → carry_out_all t acts ≡ Err e → ⊥
 never-refused t [] e h refused = cc
 never-refused t (act.LoadPart p ∷ acts) e h refused = cc (h.0)
 never-refused t (act.Send p ∷ acts) e h refused =
     never-refused (record t { replies = t.replies ++ p ∷ [] }) acts e h.1 refused
 never-refused t (act.Apply ∷ acts) e h refused =
-    never-refused (apply t (last_of t.replica.learner.log)) acts e h.1 refused
+    never-refused (apply_to_tree t (last_txn t.replica.learner.log)) acts e h.1 refused
 never-refused t (act.LoadImage ∷ acts) e h refused =
-    never-refused (with_image t t.loading.made.state) acts e h.1 refused
-never-refused t (act.DropImage ∷ acts) e h refused = never-refused (record t { loading = unloaded }) acts e h.1 refused
-never-refused t (act.Truncate zxid ∷ acts) e h refused = never-refused (rebuild t) acts e h.1 refused
+    never-refused (with_image_state t t.loading.made.state) acts e h.1 refused
+never-refused t (act.DropImage ∷ acts) e h refused =
+    never-refused (record t { loading = nothing_loaded }) acts e h.1 refused
+never-refused t (act.Truncate zxid ∷ acts) e h refused = never-refused (rebuild_tree t) acts e h.1 refused
 never-refused t (act.Epochs ∷ acts) e h refused = never-refused t acts e h.1 refused
 never-refused t (act.ServeFrom ∷ acts) e h refused = never-refused t acts e h.1 refused
 
-refused-stays : (acts : List Act) (l after : Learner) (t : Taken) (e : Fault) → Tells acts l after
+refused-stays : (acts : List Act) (l after : Learner) (t : ItemEffect) (e : Fault) → AccountsForLog acts l after
     → carry_out_all t acts ≡ Err e → after ≡ l
 refused-stays acts l after t e tell refused = by (told-apart acts l after tell)
   where
@@ -193,56 +195,57 @@ refused-stays acts l after t e tell refused = by (told-apart acts l after tell)
 
 -- ---- an item
 
-module _ (tells : ActsTell) (loading : Loading) (r : Replica) (i : Item) (acts : List Act) (learnt : Replica)
-    (is : learn r.learner i ≡ Ok (record { acts = acts; after = learnt.learner }))
+module _ (tells : ActsAccountForLog) (loading : Loading) (r : Replica) (i : Item) (acts : List Act) (learnt : Replica)
+    (is : learn_item r.learner i ≡ Ok (record { acts = acts; after = learnt.learner }))
     (same : learnt ≡ record r { learner = learnt.learner }) where
-  abbrev x : Learned
+  abbrev x : LearnerStep
   x = record { acts = acts; after = learnt.learner }
 
-  pub item-alone : PartStandsAlone acts
+  pub item-alone : IsPartAlone acts
   item-alone = tells-alone acts r.learner learnt.learner (tells.tells r.learner i x is)
 
   -- what was learnt is carried out
-  carried-out : take loading r i ≡ carry_out_all (quiet loading learnt) acts
+  carried-out : take_item loading r i ≡ carry_out_all (no_effect loading learnt) acts
   carried-out =
-      ap (λ (y : Result Learned Fault). y >>= λ x. carry_out_all (quiet loading (with_learner r x)) x.acts) is
-      ∙ ap (λ (s : Replica). carry_out_all (quiet loading s) acts) (sym same)
+      ap (λ (y : Result LearnerStep Fault). y >>= λ x. carry_out_all (no_effect loading (with_learner r x)) x.acts) is
+      ∙ ap (λ (s : Replica). carry_out_all (no_effect loading s) acts) (sym same)
 
-  pub item-taken : (result : Result Brought ReadError) (loading-after : Loading) (r-after : Replica)
-      → Takes result (carry_out_all (quiet loading learnt) acts) loading learnt loading-after r-after
-      → Takes result (take loading r i) loading r loading-after r-after
+  pub item-taken : (result : Result ItemOutcome ReadError) (loading-after : Loading) (r-after : Replica)
+      → TakesItem result (carry_out_all (no_effect loading learnt) acts) loading learnt loading-after r-after
+      → TakesItem result (take_item loading r i) loading r loading-after r-after
   item-taken (Ok brought) loading-after r-after t = carried-out ∙ t
   item-taken (Err (errors.Fault e)) loading-after r-after t =
       let stays : learnt.learner ≡ r.learner =
-      refused-stays acts r.learner learnt.learner (quiet loading learnt) e (tells.tells r.learner i x is) t.0 in
+      refused-stays acts r.learner learnt.learner (no_effect loading learnt) e (tells.tells r.learner i x is) t.0 in
       (carried-out ∙ t.0, t.1, t.2 ∙ same ∙ ap (λ (l : Learner). record r { learner = l }) stays)
   item-taken (Err errors.NoMemory) loading-after r-after t = tt
 
 -- ---- what is sent can be written
 
 abbrev pub AreWritable : List QuorumPacket → Type 0
-AreWritable replies = AllByRecursion packet.Writable replies
+AreWritable replies = AllByRecursion packet_format.Writable replies
 
-all-push : (ps : List QuorumPacket) (p : QuorumPacket) → AreWritable ps → packet.Writable p → AreWritable (ps ++ p ∷ [])
+all-push : (ps : List QuorumPacket) (p : QuorumPacket) → AreWritable ps → packet_format.Writable p
+    → AreWritable (ps ++ p ∷ [])
 all-push [] p h w = (w, tt)
 all-push (q ∷ ps) p h w = (h.0, all-push ps p h.1 w)
 
-abbrev Written : Result Taken Fault → Type 0
+abbrev Written : Result ItemEffect Fault → Type 0
 Written (Ok t) = AreWritable t.replies
 Written (Err e) = Unit {0}
 
-replies-written : (t : Taken) (acts : List Act) → AllByRecursion CanBeDone acts → AreWritable t.replies
+replies-written : (t : ItemEffect) (acts : List Act) → AllByRecursion CanBeDone acts → AreWritable t.replies
     → Written (carry_out_all t acts)
 replies-written t [] h w = w
 replies-written t (act.Send p ∷ acts) h w =
     replies-written (record t { replies = t.replies ++ p ∷ [] }) acts h.1 (all-push t.replies p w h.0)
 replies-written t (act.Apply ∷ acts) h w =
-    by (last_of t.replica.learner.log) (λ u same. replies-written u acts h.1 (subst AreWritable (sym same) w))
+    by (last_txn t.replica.learner.log) (λ u same. replies-written u acts h.1 (subst AreWritable (sym same) w))
   where
-    by : (o : Option Txn) → ((u : Taken) → u.replies ≡ t.replies → Written (carry_out_all u acts))
-        → Written (carry_out_all (apply t o) acts)
+    by : (o : Option Txn) → ((u : ItemEffect) → u.replies ≡ t.replies → Written (carry_out_all u acts))
+        → Written (carry_out_all (apply_to_tree t o) acts)
     by None others = others t refl
-    by (Some txn) others = others (apply t (Some txn)) refl
+    by (Some txn) others = others (apply_to_tree t (Some txn)) refl
 replies-written t (act.LoadPart p ∷ acts) h w =
     by (with_loaded t.loading p) (λ loaded. replies-written (record t { loading = loaded }) acts h.1 w)
   where
@@ -251,32 +254,32 @@ replies-written t (act.LoadPart p ∷ acts) h w =
         → Written ((x >>= λ loaded. Ok (record t { loading = loaded })) >>= λ u. carry_out_all u acts)
     by (Ok loaded) others = others loaded
     by (Err e) others = tt
-replies-written t (act.LoadImage ∷ acts) h w = replies-written (with_image t t.loading.made.state) acts h.1 w
-replies-written t (act.DropImage ∷ acts) h w = replies-written (record t { loading = unloaded }) acts h.1 w
-replies-written t (act.Truncate zxid ∷ acts) h w = replies-written (rebuild t) acts h.1 w
+replies-written t (act.LoadImage ∷ acts) h w = replies-written (with_image_state t t.loading.made.state) acts h.1 w
+replies-written t (act.DropImage ∷ acts) h w = replies-written (record t { loading = nothing_loaded }) acts h.1 w
+replies-written t (act.Truncate zxid ∷ acts) h w = replies-written (rebuild_tree t) acts h.1 w
 replies-written t (act.Epochs ∷ acts) h w = replies-written t acts h.1 w
 replies-written t (act.ServeFrom ∷ acts) h w = replies-written t acts h.1 w
 
-take-written : (tells : ActsTell) (loading : Loading) (r : Replica) (i : Item) → CanBeWritten i
-    → Written (take loading r i)
-take-written tells loading r i w = by (learn r.learner i) refl
+take-written : (tells : ActsAccountForLog) (loading : Loading) (r : Replica) (i : Item) → CanBeWritten i
+    → Written (take_item loading r i)
+take-written tells loading r i w = by (learn_item r.learner i) refl
   where
-    by : (x : Result Learned Fault) → learn r.learner i ≡ x
-        → Written (x >>= λ x. carry_out_all (quiet loading (with_learner r x)) x.acts)
+    by : (x : Result LearnerStep Fault) → learn_item r.learner i ≡ x
+        → Written (x >>= λ x. carry_out_all (no_effect loading (with_learner r x)) x.acts)
     by (Ok x) e =
-        replies-written (quiet loading (with_learner r x)) x.acts (tells.sends r.learner i x e w) tt
+        replies-written (no_effect loading (with_learner r x)) x.acts (tells.sends r.learner i x e w) tt
     by (Err fault) e = tt
 
-pub item-written : (tells : ActsTell) (loading : Loading) (r : Replica) (i : Item)
-    (result : Result Brought ReadError) (loading-after : Loading) (r-after : Replica)
-    → Takes result (take loading r i) loading r loading-after r-after → CanBeWritten i
+pub item-written : (tells : ActsAccountForLog) (loading : Loading) (r : Replica) (i : Item)
+    (result : Result ItemOutcome ReadError) (loading-after : Loading) (r-after : Replica)
+    → TakesItem result (take_item loading r i) loading r loading-after r-after → CanBeWritten i
     → IfOk result (λ b. AreWritable b.replies)
 item-written tells loading r i (Ok b) loading-after r-after t w = subst Written t (take-written tells loading r i w)
 item-written tells loading r i (Err e) loading-after r-after t w = tt
 
 -- ---- what introduces the replica
 
-pub sent-written : (acts : List Act) → AllByRecursion CanBeDone acts → AreWritable (flat_map sent_by acts)
+pub sent-written : (acts : List Act) → AllByRecursion CanBeDone acts → AreWritable (flat_map packets_of_act acts)
 sent-written [] h = tt
 sent-written (act.Send p ∷ acts) h = (h.0, sent-written acts h.1)
 sent-written (a ∷ acts) h = sent-written acts h.1

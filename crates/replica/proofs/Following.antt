@@ -5,29 +5,30 @@ use Rattle.values.specs.declared.fault.Fault.{Fault}
 use Rattle.jute.specs.Format.{◌>>=◌}
 use Rattle.txn_codec.specs.declared.txn.Txn.{Txn}
 use Rattle.data_tree.specs.State.{State}
-use Rattle.data_tree.specs.Meaning.{mean, after}
+use Rattle.data_tree.specs.Meaning.{effect_of_txn, state_after}
 use Rattle.snapshot_codec.specs.Made.{Loading, with_loaded}
 use Rattle.snapshot_codec.specs.declared.part.ImagePart.{ImagePart}
 use Rattle.quorum_packet.specs.declared.item.Item.{Item}
 use Rattle.learner_sync.specs.Learner.{Learner}
-use Rattle.learner_sync.specs.Learn.{Learned, start_in, learn, checkpoint_in, checkpoint}
-use Rattle.learner_sync.specs.Laws.{stands_alone, Tells, ActsTell}
+use Rattle.learner_sync.specs.Learn.{LearnerStep, start_in, learn_item, checkpoint_in, checkpoint_learner}
+use Rattle.learner_sync.specs.Laws.{is_only_act, AccountsForLog, ActsAccountForLog}
 use Rattle.learner_sync.specs.Laws.{FollowsItsLog as LearnerFollows, LogsAreFollowed as LearnersFollow}
 use Rattle.learner_sync.specs.declared.act.Act.{Act}
 use Rattle.learner_sync.specs.declared.act.Act.TheVariants as act
 use Rattle.learner_sync.specs.declared.phase.Phase.{Phase}
 use Rattle.learner_sync.specs.declared.phase.Phase.TheVariants as phase
 use Rattle.replica.specs.Replica.{Replica}
-use Rattle.replica.specs.Taking.{Taken, unloaded, quiet, last_of, apply, carry_out_all, take, is_serving_in, rebase_if}
+use Rattle.replica.specs.Taking.{ItemEffect, nothing_loaded, no_effect, last_txn, apply_to_tree, carry_out_all, take_item, is_serving_in, checkpoint_if}
 use Rattle.replica.specs.Laws.{FollowsItsLog, LogsAreFollowed}
 
 -- ---- one transaction more
 
-after-push : (s : State) (log : List Txn) (t : Txn) → after s (log ++ t ∷ []) ≡ (mean (after s log) t).state
+after-push : (s : State) (log : List Txn) (t : Txn)
+    → state_after s (log ++ t ∷ []) ≡ (effect_of_txn (state_after s log) t).state
 after-push s [] t = refl
-after-push s (u ∷ log) t = after-push (mean s u).state log t
+after-push s (u ∷ log) t = after-push (effect_of_txn s u).state log t
 
-last-push : (log : List Txn) (t : Txn) → last_of (log ++ t ∷ []) ≡ Some t
+last-push : (log : List Txn) (t : Txn) → last_txn (log ++ t ∷ []) ≡ Some t
 last-push [] t = refl
 last-push (u ∷ []) t = refl
 last-push (u ∷ v ∷ log) t = last-push (v ∷ log) t
@@ -35,16 +36,16 @@ last-push (u ∷ v ∷ log) t = last-push (v ∷ log) t
 -- ---- what is carried out
 
 -- the replica that is left follows
-abbrev Follows : Result Taken Fault → Type 0
+abbrev Follows : Result ItemEffect Fault → Type 0
 Follows (Ok t) = FollowsItsLog t.replica
 Follows (Err e) = Unit {0}
 
 -- what doesn't stand alone leaves the replica
-stays : (t : Taken) (acts : List Act) → AllByRecursion (λ a. stands_alone a ≡ false) acts → FollowsItsLog t.replica
+stays : (t : ItemEffect) (acts : List Act) → AllByRecursion (λ a. is_only_act a ≡ false) acts → FollowsItsLog t.replica
     → Follows (carry_out_all t acts)
 stays t [] h f = f
 stays t (act.Send p ∷ acts) h f = stays (record t { replies = t.replies ++ p ∷ [] }) acts h.1 f
-stays t (act.DropImage ∷ acts) h f = stays (record t { loading = unloaded }) acts h.1 f
+stays t (act.DropImage ∷ acts) h f = stays (record t { loading = nothing_loaded }) acts h.1 f
 stays t (act.Epochs ∷ acts) h f = stays t acts h.1 f
 stays t (act.ServeFrom ∷ acts) h f = stays t acts h.1 f
 stays t (act.Apply ∷ acts) h f = cc (h.0)
@@ -52,21 +53,22 @@ stays t (act.LoadPart p ∷ acts) h f = cc (h.0)
 stays t (act.LoadImage ∷ acts) h f = cc (h.0)
 stays t (act.Truncate zxid ∷ acts) h f = cc (h.0)
 
-module _ (loading : Loading) (r : Replica) (l : Learner) (is : r.tree ≡ after r.base r.learner.log)
+module _ (loading : Loading) (r : Replica) (l : Learner) (is : r.tree ≡ state_after r.base r.learner.log)
     (f : LearnerFollows l) where
-  abbrev begun : Taken
-  begun = quiet loading (record r { learner = l })
+  abbrev begun : ItemEffect
+  begun = no_effect loading (record r { learner = l })
 
   same-log : l.log ≡ r.learner.log → FollowsItsLog begun.replica
-  same-log e = record { tree = is ∙ ap (after r.base) (sym e); learner = f }
+  same-log e = record { tree = is ∙ ap (state_after r.base) (sym e); learner = f }
 
-  one-more : (t : Txn) → l.log ≡ r.learner.log ++ t ∷ [] → FollowsItsLog (apply begun (last_of l.log)).replica
+  one-more : (t : Txn) → l.log ≡ r.learner.log ++ t ∷ [] → FollowsItsLog (apply_to_tree begun (last_txn l.log)).replica
   one-more t e =
-      let last : last_of l.log ≡ Some t = ap last_of e ∙ last-push r.learner.log t in
-      let tree : (mean r.tree t).state ≡ after r.base l.log =
-      ap (λ (s : State). (mean s t).state) is ∙ sym (after-push r.base r.learner.log t) ∙ ap (after r.base) (sym e) in
-      let applied : FollowsItsLog (apply begun (Some t)).replica = record { tree = tree; learner = f } in
-      subst (λ (o : Option Txn). FollowsItsLog (apply begun o).replica) (sym last) applied
+      let last : last_txn l.log ≡ Some t = ap last_txn e ∙ last-push r.learner.log t in
+      let tree : (effect_of_txn r.tree t).state ≡ state_after r.base l.log =
+      ap (λ (s : State). (effect_of_txn s t).state) is ∙ sym (after-push r.base r.learner.log t)
+      ∙ ap (state_after r.base) (sym e) in
+      let applied : FollowsItsLog (apply_to_tree begun (Some t)).replica = record { tree = tree; learner = f } in
+      subst (λ (o : Option Txn). FollowsItsLog (apply_to_tree begun o).replica) (sym last) applied
 
   loads : (p : ImagePart) → l ≡ r.learner → Follows (carry_out_all begun (act.LoadPart p ∷ []))
   loads p e = by (with_loaded loading p)
@@ -76,12 +78,12 @@ module _ (loading : Loading) (r : Replica) (l : Learner) (is : r.tree ≡ after 
       by (Ok loaded) = same-log (ap (λ (x : Learner). x.log) e)
       by (Err e) = tt
 
-  done : (acts : List Act) → Tells acts r.learner l → Follows (carry_out_all begun acts)
+  done : (acts : List Act) → AccountsForLog acts r.learner l → Follows (carry_out_all begun acts)
   done [] tell = same-log tell.0
   done (act.Apply ∷ []) tell = one-more tell.0 tell.1
   done (act.Truncate zxid ∷ []) tell = record { tree = refl; learner = f }
   done (act.LoadImage ∷ []) tell =
-      record { tree = ap (after loading.made.state) (sym tell.0); learner = f }
+      record { tree = ap (state_after loading.made.state) (sym tell.0); learner = f }
   done (act.LoadPart p ∷ acts) tell =
       subst (λ (xs : List Act). Follows (carry_out_all begun (act.LoadPart p ∷ xs))) (sym tell.0) (loads p tell.1)
   done (act.Send p ∷ acts) tell = stays begun (act.Send p ∷ acts) tell.2 (same-log tell.0)
@@ -94,12 +96,12 @@ module _ (loading : Loading) (r : Replica) (l : Learner) (is : r.tree ≡ after 
 
 -- ---- all of it
 
-module _ (learners : LearnersFollow) (tells : ActsTell) where
-  takes-follow : (loading : Loading) (r : Replica) (i : Item) → FollowsItsLog r → Follows (take loading r i)
-  takes-follow loading r i f = by (learn r.learner i) refl
+module _ (learners : LearnersFollow) (tells : ActsAccountForLog) where
+  takes-follow : (loading : Loading) (r : Replica) (i : Item) → FollowsItsLog r → Follows (take_item loading r i)
+  takes-follow loading r i f = by (learn_item r.learner i) refl
     where
-      by : (x : Result Learned Fault) → learn r.learner i ≡ x
-          → Follows (x >>= λ x. carry_out_all (quiet loading (record r { learner = x.after })) x.acts)
+      by : (x : Result LearnerStep Fault) → learn_item r.learner i ≡ x
+          → Follows (x >>= λ x. carry_out_all (no_effect loading (record r { learner = x.after })) x.acts)
       by (Ok x) e =
           done loading r x.after f.tree (learners.learns r.learner i x f.learner e) x.acts
           (tells.tells r.learner i x e)
@@ -111,10 +113,10 @@ module _ (learners : LearnersFollow) (tells : ActsTell) where
   begins-follow ph r server_id f = refl
 
   rebased : (ph : Phase) (r : Replica) → r.learner.phase ≡ ph → FollowsItsLog r
-      → FollowsItsLog (rebase_if (is_serving_in ph) r)
+      → FollowsItsLog (checkpoint_if (is_serving_in ph) r)
   rebased phase.Serving r e f =
-      let log : (checkpoint r.learner).log ≡ [] = ap (λ (ph : Phase). (checkpoint_in ph r.learner).log) e in
-      record { tree = ap (after r.tree) (sym log); learner = learners.checks r.learner f.learner }
+      let log : (checkpoint_learner r.learner).log ≡ [] = ap (λ (ph : Phase). (checkpoint_in ph r.learner).log) e in
+      record { tree = ap (state_after r.tree) (sym log); learner = learners.checks r.learner f.learner }
   rebased ph r e f = f
 
   pub logs-are-followed : LogsAreFollowed
@@ -123,7 +125,7 @@ module _ (learners : LearnersFollow) (tells : ActsTell) where
     primed = record { tree = refl; learner = learners.primed };
     takes = λ loading r i t f e. subst Follows e (takes-follow loading r i f);
     begins = λ r server_id f. record {
-      tree = f.tree ∙ ap (after r.base) (sym (begins-follow r.learner.phase r server_id f));
+      tree = f.tree ∙ ap (state_after r.base) (sym (begins-follow r.learner.phase r server_id f));
       learner = learners.starts r.learner server_id f.learner;
     };
     leaves = λ r f. record { tree = f.tree; learner = learners.ends r.learner f.learner };

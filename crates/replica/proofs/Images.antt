@@ -17,57 +17,58 @@ use Rattle.quorum_packet.specs.declared.kind.PacketKind.TheVariants as kinds
 use Rattle.quorum_packet.specs.declared.packet.QuorumPacket.{QuorumPacket}
 use Rattle.quorum_packet.specs.Kinds.{kind_of}
 use Rattle.learner_sync.specs.Learner.{Learner}
-use Rattle.learner_sync.specs.Learn.{Learned, one, load, pass_over, hello, sync, await_image, at_phase, replay, serve, packet_in, part_in, learn}
-use Rattle.learner_sync.specs.Learn.{quiet as nothing_learnt}
-use Rattle.learner_sync.specs.Laws.{is_of_image, ActsTell}
+use Rattle.learner_sync.specs.Learn.{LearnerStep, single_act, load_part, load_to_drop, packet_in_hello, packet_in_sync, await_image, at_phase, packet_in_replay, packet_in_serving, packet_in_phase, part_in_phase, learn_item}
+use Rattle.learner_sync.specs.Learn.{no_acts as nothing_learnt}
+use Rattle.learner_sync.specs.Laws.{is_of_image, ActsAccountForLog}
 use Rattle.learner_sync.specs.declared.act.Act.{Act}
 use Rattle.learner_sync.specs.declared.act.Act.TheVariants as act
 use Rattle.learner_sync.specs.declared.phase.Phase.{Phase}
 use Rattle.learner_sync.specs.declared.phase.Phase.TheVariants as phase
 use Rattle.replica.specs.Replica.{Replica}
-use Rattle.replica.specs.Taking.{Taken, unloaded, quiet, last_of, apply, rebuild, carry_out_all, with_learner, take, loaded_with, take_whole}
-use Rattle.replica.specs.Laws.{awaits_image_in, awaits_image, with_loading, ImagesComeInParts}
+use Rattle.replica.specs.Taking.{ItemEffect, nothing_loaded, no_effect, last_txn, apply_to_tree, rebuild_tree, carry_out_all, with_learner, take_item, loading_of, take_whole}
+use Rattle.replica.specs.Laws.{awaits_image_in, awaits_image, with_given_loading, ImagesComeInParts}
 
 -- what is learnt is done
-abbrev carried : Loading → Replica → Result Learned Fault → Result Taken Fault
-carried loading r learnt = learnt >>= λ x. carry_out_all (quiet loading (with_learner r x)) x.acts
+abbrev carried : Loading → Replica → Result LearnerStep Fault → Result ItemEffect Fault
+carried loading r learnt = learnt >>= λ x. carry_out_all (no_effect loading (with_learner r x)) x.acts
 
 -- ---- packets
 
 -- what doesn't concern an image leaves alone what is loaded
-apart : (loading : Loading) (t : Taken) (acts : List Act) → AllByRecursion (λ a. is_of_image a ≡ false) acts
-    → carry_out_all (with_loading loading t) acts ≡ (carry_out_all t acts >>= λ u. Ok (with_loading loading u))
+apart : (loading : Loading) (t : ItemEffect) (acts : List Act) → AllByRecursion (λ a. is_of_image a ≡ false) acts
+    → carry_out_all (with_given_loading loading t) acts
+    ≡ (carry_out_all t acts >>= λ u. Ok (with_given_loading loading u))
 apart loading t [] h = refl
 apart loading t (act.Send p ∷ acts) h = apart loading (record t { replies = t.replies ++ p ∷ [] }) acts h.1
-apart loading t (act.Apply ∷ acts) h = by (last_of t.replica.learner.log) (λ u. apart loading u acts h.1)
+apart loading t (act.Apply ∷ acts) h = by (last_txn t.replica.learner.log) (λ u. apart loading u acts h.1)
   where
     by : (o : Option Txn)
-        → ((u : Taken)
-        → carry_out_all (with_loading loading u) acts
-        ≡ (carry_out_all u acts >>= λ u. Ok (with_loading loading u)))
-        → carry_out_all (apply (with_loading loading t) o) acts
-        ≡ (carry_out_all (apply t o) acts >>= λ u. Ok (with_loading loading u))
+        → ((u : ItemEffect)
+        → carry_out_all (with_given_loading loading u) acts
+        ≡ (carry_out_all u acts >>= λ u. Ok (with_given_loading loading u)))
+        → carry_out_all (apply_to_tree (with_given_loading loading t) o) acts
+        ≡ (carry_out_all (apply_to_tree t o) acts >>= λ u. Ok (with_given_loading loading u))
     by None others = others t
-    by (Some txn) others = others (apply t (Some txn))
-apart loading t (act.Truncate zxid ∷ acts) h = apart loading (rebuild t) acts h.1
+    by (Some txn) others = others (apply_to_tree t (Some txn))
+apart loading t (act.Truncate zxid ∷ acts) h = apart loading (rebuild_tree t) acts h.1
 apart loading t (act.Epochs ∷ acts) h = apart loading t acts h.1
 apart loading t (act.ServeFrom ∷ acts) h = apart loading t acts h.1
 apart loading t (act.LoadPart p ∷ acts) h = cc (h.0)
 apart loading t (act.LoadImage ∷ acts) h = cc (h.0)
 apart loading t (act.DropImage ∷ acts) h = cc (h.0)
 
-packets-apart : ActsTell → (loading : Loading) (r : Replica) (p : QuorumPacket)
-    → take loading r (item.Packet p) ≡ (take_whole r (OnePacket p) >>= λ t. Ok (with_loading loading t))
-packets-apart tells loading r p = by (learn r.learner (item.Packet p)) refl
+packets-apart : ActsAccountForLog → (loading : Loading) (r : Replica) (p : QuorumPacket)
+    → take_item loading r (item.Packet p) ≡ (take_whole r (OnePacket p) >>= λ t. Ok (with_given_loading loading t))
+packets-apart tells loading r p = by (learn_item r.learner (item.Packet p)) refl
   where
-    by : (x : Result Learned Fault) → learn r.learner (item.Packet p) ≡ x
-        → carried loading r x ≡ (carried unloaded r x >>= λ t. Ok (with_loading loading t))
-    by (Ok x) e = apart loading (quiet unloaded (with_learner r x)) x.acts (tells.packets r.learner p x e)
+    by : (x : Result LearnerStep Fault) → learn_item r.learner (item.Packet p) ≡ x
+        → carried loading r x ≡ (carried nothing_loaded r x >>= λ t. Ok (with_given_loading loading t))
+    by (Ok x) e = apart loading (no_effect nothing_loaded (with_learner r x)) x.acts (tells.packets r.learner p x e)
     by (Err fault) e = refl
 
 -- ---- an image is announced
 
-abbrev Awaits : Result Taken Fault → Type 0
+abbrev Awaits : Result ItemEffect Fault → Type 0
 Awaits (Ok t) = awaits_image t.replica ≡ true
 Awaits (Err e) = Unit {0}
 
@@ -80,79 +81,81 @@ awaited loading r zxid = by (int_lt zxid (pos 0))
     by false = refl
 
 snap-awaits : (loading : Loading) (r : Replica) (p : QuorumPacket) → kind_of p.kind ≡ Some kinds.Snap
-    → Awaits (take loading r (item.Packet p))
+    → Awaits (take_item loading r (item.Packet p))
 snap-awaits loading r p k = by r.learner.phase refl
   where
-    by : (ph : Phase) → r.learner.phase ≡ ph → Awaits (carried loading r (packet_in ph r.learner p))
+    by : (ph : Phase) → r.learner.phase ≡ ph → Awaits (carried loading r (packet_in_phase ph r.learner p))
     by phase.Down e = ap awaits_image_in e
-    by phase.Hello e = subst (λ (k : Option PacketKind). Awaits (carried loading r (hello k r.learner p))) (sym k) tt
+    by phase.Hello e = subst (λ (k : Option PacketKind). Awaits (carried loading r (packet_in_hello k r.learner p)))
+        (sym k) tt
     by phase.Sync e =
-        subst (λ (k : Option PacketKind). Awaits (carried loading r (sync k r.learner p))) (sym k)
+        subst (λ (k : Option PacketKind). Awaits (carried loading r (packet_in_sync k r.learner p))) (sym k)
         (awaited loading r p.zxid)
     by (phase.Image zxid) e = tt
     by (phase.ReplayOnImage applied) e =
-        subst (λ (k : Option PacketKind). Awaits (carried loading r (replay k r.learner p))) (sym k)
+        subst (λ (k : Option PacketKind). Awaits (carried loading r (packet_in_replay k r.learner p))) (sym k)
         (ap awaits_image_in e)
     by phase.Replay e =
-        subst (λ (k : Option PacketKind). Awaits (carried loading r (replay k r.learner p))) (sym k)
+        subst (λ (k : Option PacketKind). Awaits (carried loading r (packet_in_replay k r.learner p))) (sym k)
         (ap awaits_image_in e)
     by phase.Serving e =
-        subst (λ (k : Option PacketKind). Awaits (carried loading r (serve k r.learner p))) (sym k)
+        subst (λ (k : Option PacketKind). Awaits (carried loading r (packet_in_serving k r.learner p))) (sym k)
         (ap awaits_image_in e)
 
 -- ---- parts
 
-load-inner : (p : ImagePart) (l : Learner) (zxid : ℤ) → is_end (Part p) ≡ false → load p l zxid ≡ one (act.LoadPart p) l
+load-inner : (p : ImagePart) (l : Learner) (zxid : ℤ) → is_end (Part p) ≡ false
+    → load_part p l zxid ≡ single_act (act.LoadPart p) l
 load-inner part.End l zxid e = cc
 load-inner p l zxid e = refl
 
-pass-inner : (p : ImagePart) (l : Learner) → is_end (Part p) ≡ false → pass_over p l ≡ one (act.LoadPart p) l
+pass-inner : (p : ImagePart) (l : Learner) → is_end (Part p) ≡ false → load_to_drop p l ≡ single_act (act.LoadPart p) l
 pass-inner part.End l e = cc
 pass-inner p l e = refl
 
 part-inner : (ph : Phase) (l : Learner) (p : ImagePart) → awaits_image_in ph ≡ true → is_end (Part p) ≡ false
-    → part_in ph l p ≡ Ok (one (act.LoadPart p) l)
+    → part_in_phase ph l p ≡ Ok (single_act (act.LoadPart p) l)
 part-inner phase.Hello l p a e = cc
 part-inner phase.Sync l p a e = cc
-part-inner (phase.Image zxid) l p a e = ap (λ (x : Learned). Ok x) (load-inner p l zxid e)
-part-inner ph l p a e = ap (λ (x : Learned). Ok x) (pass-inner p l e)
+part-inner (phase.Image zxid) l p a e = ap (λ (x : LearnerStep). Ok x) (load-inner p l zxid e)
+part-inner ph l p a e = ap (λ (x : LearnerStep). Ok x) (pass-inner p l e)
 
 inner-loads : (loading : Loading) (r : Replica) (p : ImagePart) → awaits_image r ≡ true → is_end (Part p) ≡ false
-    → take loading r (item.Part p) ≡ (with_loaded loading p >>= λ loaded. Ok (quiet loaded r))
+    → take_item loading r (item.Part p) ≡ (with_loaded loading p >>= λ loaded. Ok (no_effect loaded r))
 inner-loads loading r p a e =
     ap (carried loading r) (part-inner r.learner.phase r.learner p a e) ∙ by (with_loaded loading p)
   where
     by : (x : Result Loading Fault)
-        → ((x >>= λ loaded. Ok (record (quiet loading r) { loading = loaded })) >>= λ u. carry_out_all u [])
-        ≡ (x >>= λ loaded. Ok (quiet loaded r))
+        → ((x >>= λ loaded. Ok (record (no_effect loading r) { loading = loaded })) >>= λ u. carry_out_all u [])
+        ≡ (x >>= λ loaded. Ok (no_effect loaded r))
     by (Ok loaded) = refl
     by (Err fault) = refl
 
 end-is-image : (loading : Loading) (r : Replica)
-    → take loading r (item.Part part.End) ≡ take_whole r (OneImage loading.made.state)
+    → take_item loading r (item.Part part.End) ≡ take_whole r (OneImage loading.made.state)
 end-is-image loading r = by r.learner.phase
   where
-    by : (ph : Phase) → carried loading r (part_in ph r.learner part.End)
-        ≡ carried (loaded_with loading.made.state) r (part_in ph r.learner part.End)
+    by : (ph : Phase) → carried loading r (part_in_phase ph r.learner part.End)
+        ≡ carried (loading_of loading.made.state) r (part_in_phase ph r.learner part.End)
     by phase.Hello = refl
     by phase.Sync = refl
     by (phase.Image zxid) = refl
     by ph = refl
 
-abbrev Unloads : Result Taken Fault → Type 0
-Unloads (Ok t) = t.loading ≡ unloaded
+abbrev Unloads : Result ItemEffect Fault → Type 0
+Unloads (Ok t) = t.loading ≡ nothing_loaded
 Unloads (Err e) = Unit {0}
 
-end-unloads : (loading : Loading) (r : Replica) → Unloads (take loading r (item.Part part.End))
+end-unloads : (loading : Loading) (r : Replica) → Unloads (take_item loading r (item.Part part.End))
 end-unloads loading r = by r.learner.phase
   where
-    by : (ph : Phase) → Unloads (carried loading r (part_in ph r.learner part.End))
+    by : (ph : Phase) → Unloads (carried loading r (part_in_phase ph r.learner part.End))
     by phase.Hello = tt
     by phase.Sync = tt
     by (phase.Image zxid) = refl
     by ph = refl
 
-pub images-come-in-parts : ActsTell → ImagesComeInParts
+pub images-come-in-parts : ActsAccountForLog → ImagesComeInParts
 images-come-in-parts tells = record {
   packets = packets-apart tells;
   announced = λ loading r p t k e. subst Awaits e (snap-awaits loading r p k);

@@ -3,7 +3,7 @@ use Rattle.std.specs.Prelude.{refl}
 use Rattle.std.specs.Coded.{Coded, code_by, coded×}
 use Rattle.settings.specs.Settings.{EpochPair}
 use Rattle.data_tree.specs.State.{State}
-use Rattle.data_tree.specs.Meaning.{fresh}
+use Rattle.data_tree.specs.Meaning.{fresh_state}
 use Rattle.learner_sync.specs.Learner.{Learner, new_learner, primed_learner}
 
 pub record Replica : Type 0 where
@@ -16,11 +16,11 @@ pub record Replica : Type 0 where
 
 -- before any leader
 abbrev pub new_replica : EpochPair → Replica
-new_replica epochs = record { learner = new_learner epochs; base = fresh; tree = fresh }
+new_replica epochs = record { learner = new_learner epochs; base = fresh_state; tree = fresh_state }
 
 -- one that serves, in the first epoch
 abbrev pub primed_replica : Replica
-primed_replica = record { learner = primed_learner; base = fresh; tree = fresh }
+primed_replica = record { learner = primed_learner; base = fresh_state; tree = fresh_state }
 
 -- ---- code
 

@@ -16,10 +16,10 @@
 //! `specs/Taking.antt` says what each call does, and the laws in `law` what holds of every replica.
 #![tactic(auto)]
 
-mod brought;
+mod item_outcome;
 pub mod law;
 mod replica;
 mod taking;
 
-pub use brought::Brought;
+pub use item_outcome::ItemOutcome;
 pub use replica::Replica;

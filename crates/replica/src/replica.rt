@@ -2,9 +2,9 @@
 
 ghost use Rattle.std.specs.Prelude.{◌≡◌, IfOk, OnOk};
 ghost use Rattle.std.specs.List.{AllByRecursion};
-ghost use Rattle.quorum_packet.specs.Packet.{packet as packet_format};
+ghost use Rattle.quorum_packet.specs.Packet.{packet_format};
 ghost use Rattle.replica.specs.Replica.{new_replica, primed_replica};
-ghost use Rattle.replica.specs.Taking.{begin, leave, rebase, is_serving};
+ghost use Rattle.replica.specs.Taking.{follow_leader, without_leader, checkpoint_replica, is_serving};
 
 use data_tree::Tree;
 use learner_sync::{Act, Learner, Phase};
@@ -92,8 +92,8 @@ impl Replica {
         alloc: Global,
         server_id: ServerId,
     ) -> Result<Listed<QuorumPacket>, NoMemory>
-        ensures replies { IfOk result (λ replies. replies ≡ (begin self.old server_id).replies) }
-        ensures after { OnOk result (self.new ≡ (begin self.old server_id).replica) }
+        ensures replies { IfOk result (λ replies. replies ≡ (follow_leader self.old server_id).replies) }
+        ensures after { OnOk result (self.new ≡ (follow_leader self.old server_id).replica) }
         ensures writable { IfOk result (λ replies. AllByRecursion packet_format.Writable replies) }
     {
         learner_sync::law::acts();
@@ -109,14 +109,14 @@ impl Replica {
 
     /// The leader is gone, or what it sent was refused.
     pub fn end(&mut self)
-        ensures { self.new ≡ leave self.old }
+        ensures { self.new ≡ without_leader self.old }
     {
         self.learner.end();
     }
 
     /// While clients are served, the tree is the new base, and the log is empty. Otherwise nothing happens.
     pub fn checkpoint(&mut self, alloc: Global) -> Result<(), NoMemory>
-        ensures { OnOk result (self.new ≡ rebase self.old) }
+        ensures { OnOk result (self.new ≡ checkpoint_replica self.old) }
     {
         if !self.is_serving() {
             return Ok(());

@@ -3,13 +3,13 @@
 ghost use Rattle.std.specs.Prelude.{◌≡◌, OnOk, IfOk};
 ghost use Rattle.std.specs.List.{AllByRecursion};
 ghost use Rattle.quorum_packet.specs.Feed.{CanBeWritten};
-ghost use Rattle.quorum_packet.specs.Packet.{packet as packet_format};
-ghost use Rattle.data_tree.specs.Meaning.{after};
-ghost use Rattle.learner_sync.specs.Learn.{learn};
-ghost use Rattle.replica.specs.Taking.{Takes, unloaded, quiet, last_of, apply, carry_out_all, take};
-ghost use Rattle.replica.specs.Inner.{told, Learns, CarriesOut, PartStandsAlone};
+ghost use Rattle.quorum_packet.specs.Packet.{packet_format};
+ghost use Rattle.data_tree.specs.Meaning.{state_after};
+ghost use Rattle.learner_sync.specs.Learn.{learn_item};
+ghost use Rattle.replica.specs.Taking.{TakesItem, nothing_loaded, no_effect, last_txn, apply_to_tree, carry_out_all, take_item};
+ghost use Rattle.replica.specs.Inner.{with_triggers, UpdatesLearner, CarriesOutAct, IsPartAlone};
 
-use crate::brought::Brought;
+use crate::item_outcome::ItemOutcome;
 use crate::replica::Replica;
 use data_tree::{Tree, Trigger};
 use learner_sync::Act;
@@ -22,7 +22,7 @@ use values::{Listed, NoMemory, ReadError};
 impl Replica {
     // What is learnt of an item.
     fn learn(&mut self, alloc: Global, item: Item) -> Result<Listed<Act>, ReadError>
-        ensures { Learns result (learn self.old.learner item) self.old self.new }
+        ensures { UpdatesLearner result (learn_item self.old.learner item) self.old self.new }
     {
         self.learner.step(alloc, item)
     }
@@ -30,7 +30,8 @@ impl Replica {
     // The log's last transaction is meant on the tree.
     fn apply_last(&mut self, alloc: Global, triggers: &mut Listed<Trigger>) -> Result<(), NoMemory>
         ensures { OnOk result
-            (apply (told triggers.old self.old) (last_of self.old.learner.log) ≡ told triggers.new self.new) }
+            (apply_to_tree (with_triggers triggers.old self.old) (last_txn self.old.learner.log)
+            ≡ with_triggers triggers.new self.new) }
     {
         let Some(txn) = self.learner.since_base().last() else {
             return Ok(());
@@ -44,7 +45,7 @@ impl Replica {
     fn load_image(&mut self, alloc: Global, loader: &mut Loader) -> Result<(), NoMemory>
         ensures replica { OnOk result
             (self.new ≡ record self.old { base = loader.old.made.state; tree = loader.old.made.state }) }
-        ensures loader { OnOk result (loader.new ≡ unloaded) }
+        ensures loader { OnOk result (loader.new ≡ nothing_loaded) }
     {
         match loader.part(alloc, ImagePart::End) {
             Ok(()) => {
@@ -62,7 +63,7 @@ impl Replica {
 
     // The tree is made of the base and the log.
     fn rebuild(&mut self, alloc: Global) -> Result<(), NoMemory>
-        ensures { OnOk result (self.new ≡ record self.old { tree = after self.old.base self.old.learner.log }) }
+        ensures { OnOk result (self.new ≡ record self.old { tree = state_after self.old.base self.old.learner.log }) }
     {
         // The old tree goes first, so that no more than two are there.
         self.tree = Tree::empty(alloc);
@@ -83,7 +84,7 @@ impl Replica {
         replies: &mut Vec<QuorumPacket>,
         triggers: &mut Listed<Trigger>,
     ) -> Result<(), ReadError>
-        ensures { CarriesOut result act
+        ensures { CarriesOutAct result act
             (record { replies = replies.old.items; triggers = triggers.old; loading = loader.old; replica = self.old })
             (record { replies = replies.new.items; triggers = triggers.new; loading = loader.new; replica = self.new }) }
     {
@@ -107,9 +108,9 @@ impl Replica {
         alloc: Global,
         loader: &mut Loader,
         acts: Listed<Act>,
-    ) -> Result<Brought, ReadError>
-        requires { PartStandsAlone acts }
-        ensures { Takes result (carry_out_all (quiet loader.old self.old) acts)
+    ) -> Result<ItemOutcome, ReadError>
+        requires { IsPartAlone acts }
+        ensures { TakesItem result (carry_out_all (no_effect loader.old self.old) acts)
             loader.old self.old loader.new self.new }
     {
         let mut replies = Vec::new(alloc);
@@ -117,7 +118,7 @@ impl Replica {
         for act in acts.into_vec() {
             self.carry_out(alloc, loader, act, &mut replies, &mut triggers)?;
         }
-        Ok(Brought {
+        Ok(ItemOutcome {
             replies: Listed::from_vec(replies),
             triggers,
         })
@@ -131,8 +132,8 @@ impl Replica {
         alloc: Global,
         loader: &mut Loader,
         item: Item,
-    ) -> Result<Brought, ReadError>
-        ensures takes { Takes result (take loader.old self.old item) loader.old self.old loader.new self.new }
+    ) -> Result<ItemOutcome, ReadError>
+        ensures takes { TakesItem result (take_item loader.old self.old item) loader.old self.old loader.new self.new }
         ensures writable { CanBeWritten item
             → IfOk result (λ brought. AllByRecursion packet_format.Writable brought.replies) }
     {

@@ -1,7 +1,7 @@
 -- The lines in which it is recorded what came, as a script has them.
 use Rattle.std.specs.Prelude.{ℕ, ℤ, zero, suc, List, [], ◌∷◌, ◌++◌, codes, decimal}
 use Rattle.std.specs.Int.{w64, cast_unsigned, to_be_bytes}
-use Rattle.values.specs.Hex.{digits}
+use Rattle.values.specs.Hex.{hex_digits}
 use Rattle.intake.specs.declared.message.Message.{Message}
 use Rattle.intake.specs.declared.message.Message.TheVariants.{Up, Bytes, End, Checkpoint, Expire}
 
@@ -10,7 +10,7 @@ line_end = 10 ∷ []
 
 -- a session's id, in 16 digits
 unfoldable pub session_digits : ℤ → List ℕ
-session_digits session = digits (to_be_bytes w64 (cast_unsigned w64 session))
+session_digits session = hex_digits (to_be_bytes w64 (cast_unsigned w64 session))
 
 -- who sends it: the leader at port 0, a client by its number
 abbrev pub port_words : ℕ → List ℕ
@@ -19,7 +19,7 @@ port_words (suc n) = codes "client " ++ decimal (suc n) ++ codes " "
 
 abbrev pub message_line : ℕ → Message → List ℕ
 message_line port Up = port_words port ++ codes "up" ++ line_end
-message_line port (Bytes bytes) = port_words port ++ digits bytes ++ line_end
+message_line port (Bytes bytes) = port_words port ++ hex_digits bytes ++ line_end
 message_line port End = port_words port ++ codes "end" ++ line_end
 message_line port Checkpoint = codes "checkpoint" ++ line_end
 message_line port (Expire session) = codes "expire " ++ session_digits session ++ line_end

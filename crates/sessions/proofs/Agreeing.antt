@@ -10,14 +10,14 @@ use Rattle.settings.specs.Settings.{is_server_id}
 use Rattle.jute.specs.declared.owned.Id.{Id}
 use Rattle.sessions.specs.declared.request.SessionRequest.{SessionRequest}
 use Rattle.sessions.specs.Credentials.{session_id_of}
-use Rattle.sessions.specs.State.{Terms, Connection, Guests, Connections, State}
-use Rattle.sessions.specs.Sessions.{no_sessions, connection_in, close, close_as, close_one, expire, expire_as, ended, welcome, accepted, rejoin, joined, with_id, ids_limit}
-use Rattle.sessions.specs.Agreement.{IsOpenedBy, Agrees, SessionsAreApart}
+use Rattle.sessions.specs.State.{SessionSettings, ConnectedClient, Guests, ConnectedClients, SessionTable}
+use Rattle.sessions.specs.Sessions.{no_sessions, connection_in, close_connection, close_as, close_if_some, expire_guest, expire_as, without_guest, session_response, accepted_connect, reopen_session, with_session_connected, with_id, ids_limit}
+use Rattle.sessions.specs.Agreement.{IsOpenedBy, SessionsAgree, SessionsAreApart}
 use Rattle.sessions.proofs.Maps.{none-some, some-some, apart, other, same_or_other, inserted, inserted_elsewhere, removed_elsewhere, at_inserted, at_removed, remove_absent, remove_inserted, insert_inserted, remove_past_insert}
 use Rattle.sessions.proofs.Numbers.{counters_apart}
 
 -- a connection that has this session
-abbrev pub Has : ℤ → Connections → ℕ → Type 0
+abbrev pub Has : ℤ → ConnectedClients → ℕ → Type 0
 Has session connections n = (ids : List Id)
     × (finmap.get connections n ≡ Some (record { session = session; ids = ids }))
 
@@ -25,13 +25,13 @@ abbrev pub AtGuest : Guests → ℤ → Option ℕ → ℤ → Option ℕ → Ty
 AtGuest guests key new session o =
     ((session ≡ key) × (new ≡ o)) ⊎ ((eq_by_cmp int_cmp session key ≡ false) × (finmap.get guests session ≡ Some o))
 
-abbrev pub AtConnection : Connections → ℕ → Connection → ℕ → Connection → Type 0
+abbrev pub AtConnection : ConnectedClients → ℕ → ConnectedClient → ℕ → ConnectedClient → Type 0
 AtConnection connections key new n c =
     ((n ≡ key) × (new ≡ c)) ⊎ ((eq_by_cmp nat_cmp n key ≡ false) × (finmap.get connections n ≡ Some c))
 
 -- ---- nothing yet
 
-pub starts : (terms : Terms) → IsTrue (is_server_id terms.server_id) → Agrees (no_sessions terms)
+pub starts : (terms : SessionSettings) → IsTrue (is_server_id terms.server_id) → SessionsAgree (no_sessions terms)
 starts terms h = record {
   server_id = h;
   counter = omega arith;
@@ -49,8 +49,8 @@ sessions_are_apart s a m n c d at_m at_n same =
 
 -- ---- a connection closes
 
-pub closed : (s : State) (n : ℕ) (c : Connection) → Agrees s → finmap.get s.connections n ≡ Some c
-    → Agrees (close_as s n (Some c))
+pub closed : (s : SessionTable) (n : ℕ) (c : ConnectedClient) → SessionsAgree s → finmap.get s.connections n ≡ Some c
+    → SessionsAgree (close_as s n (Some c))
 closed s n c a here = record {
   server_id = a.server_id;
   counter = a.counter;
@@ -75,7 +75,8 @@ closed s n c a here = record {
           old.0,
           removed_elsewhere nat_cmp_total exact_unsigned s.connections n m
               (other nat_cmp_total exact_unsigned m n (λ same. apart int_cmp_total exact_signed session c.session b.0
-              (ap (λ (x : Connection). x.session) (some-some (sym old.1 ∙ ap (finmap.get s.connections) same ∙ here)))))
+              (ap (λ (x : ConnectedClient). x.session)
+              (some-some (sym old.1 ∙ ap (finmap.get s.connections) same ∙ here)))))
               ∙ old.1,
         )
 
@@ -87,29 +88,39 @@ closed s n c a here = record {
     from session o (inr b) = a.opened session o b.1
 
 -- a connection that has no session is taken out in vain
-pub unclosed : (s : State) (n : ℕ) → finmap.get s.connections n ≡ None
-    → record s { connections = finmap.remove s.connections n } ≡ close s n
+pub unclosed : (s : SessionTable) (n : ℕ) → finmap.get s.connections n ≡ None
+    → record s { connections = finmap.remove s.connections n } ≡ close_connection s n
 unclosed s n none =
     (λ i. record s { connections = remove_absent nat_cmp_total exact_unsigned s.connections n none i })
     ∙ ap (close_as s n) (sym none)
 
 -- the connection of a guest session closes
-pub closing : (s : State) (session : ℤ) (n : ℕ) → Agrees s → finmap.get s.guests session ≡ Some (Some n)
-    → close s n ≡ record s { guests = finmap.insert s.guests session None; connections = finmap.remove s.connections n }
+pub closing : (s : SessionTable) (session : ℤ) (n : ℕ) → SessionsAgree s → finmap.get s.guests session ≡ Some (Some n)
+    → close_connection s n ≡ record s {
+      guests = finmap.insert s.guests session None;
+      connections =
+          finmap.remove s.connections n;
+    }
 closing s session n a has = ap (close_as s n) (a.connections session n has).1
 
-closing_agrees : (s : State) (session : ℤ) (n : ℕ) → Agrees s → finmap.get s.guests session ≡ Some (Some n)
-    → Agrees (record s { guests = finmap.insert s.guests session None; connections = finmap.remove s.connections n })
+closing_agrees : (s : SessionTable) (session : ℤ) (n : ℕ) → SessionsAgree s
+    → finmap.get s.guests session ≡ Some (Some n)
+    → SessionsAgree (record s {
+      guests = finmap.insert s.guests session None;
+      connections =
+          finmap.remove s.connections n;
+    })
 closing_agrees s session n a has =
     let at = a.connections session n has in
     closed s n (record { session = session; ids = at.0 }) a at.1
 
 -- ---- a session that no connection has ends
 
-abbrev pub IsFree : State → ℤ → Type 0
+abbrev pub IsFree : SessionTable → ℤ → Type 0
 IsFree s session = (m : ℕ) → finmap.get s.guests session ≡ Some (Some m) → ⊥
 
-pub ends : (s : State) (session : ℤ) → Agrees s → IsFree s session → Agrees (ended s session)
+pub ends : (s : SessionTable) (session : ℤ) → SessionsAgree s → IsFree s session
+    → SessionsAgree (without_guest s session)
 ends s session a free = record {
   server_id = a.server_id;
   counter = a.counter;
@@ -124,8 +135,8 @@ ends s session a free = record {
 }
 
 -- what is no session ends in vain
-pub expires_nothing : (s : State) (session : ℤ) → finmap.get s.guests session ≡ None
-    → expire s session ≡ record { closed = None; after = record s { guests = finmap.remove s.guests session } }
+pub expires_nothing : (s : SessionTable) (session : ℤ) → finmap.get s.guests session ≡ None
+    → expire_guest s session ≡ record { closed = None; after = record s { guests = finmap.remove s.guests session } }
 expires_nothing s session none =
     ap (expire_as s session) none
     ∙ (λ i. record {
@@ -135,25 +146,28 @@ expires_nothing s session none =
     })
 
 -- a guest session ends, and its connection closes
-pub ends_closing : (s : State) (session : ℤ) (n : ℕ) → Agrees s → finmap.get s.guests session ≡ Some (Some n)
-    → Agrees (record s { guests = finmap.remove s.guests session; connections = finmap.remove s.connections n })
+pub ends_closing : (s : SessionTable) (session : ℤ) (n : ℕ) → SessionsAgree s
+    → finmap.get s.guests session ≡ Some (Some n)
+    → SessionsAgree (record s { guests = finmap.remove s.guests session; connections = finmap.remove s.connections n })
 ends_closing s session n a has =
-    subst (λ (guests : Guests). Agrees (record s { guests = guests; connections = finmap.remove s.connections n }))
+    subst (λ (guests : Guests). SessionsAgree
+    (record s { guests = guests; connections = finmap.remove s.connections n }))
     (remove_inserted int_cmp_total exact_signed s.guests session None)
     (ends (record s
     { guests = finmap.insert s.guests session None; connections = finmap.remove s.connections n }) session
     (closing_agrees s session n a has)
     (λ m e. none-some m (some-some (sym (inserted int_cmp_total exact_signed s.guests session None) ∙ e))))
 
-pub expires_closing : (s : State) (session : ℤ) (n : ℕ) → Agrees s → finmap.get s.guests session ≡ Some (Some n)
-    → expire s session ≡ record {
+pub expires_closing : (s : SessionTable) (session : ℤ) (n : ℕ) → SessionsAgree s
+    → finmap.get s.guests session ≡ Some (Some n)
+    → expire_guest s session ≡ record {
       closed = Some n;
       after = record s
           { guests = finmap.remove s.guests session; connections = finmap.remove s.connections n };
     }
 expires_closing s session n a has =
     ap (expire_as s session) has
-    ∙ ap (λ (x : State). record { closed = Some n; after = ended x session }) (closing s session n a has)
+    ∙ ap (λ (x : SessionTable). record { closed = Some n; after = without_guest x session }) (closing s session n a has)
     ∙ ap (λ (guests : Guests). record {
       closed = Some n;
       after = record s
@@ -163,8 +177,9 @@ expires_closing s session n a has =
 
 -- ---- a connection without a session gets one that no connection has
 
-pub joins : (s : State) (n : ℕ) (session : ℤ) → Agrees s → finmap.get s.connections n ≡ None → IsFree s session
-    → IsOpenedBy s.terms.server_id s.counter session → Agrees (joined s n session)
+pub joins : (s : SessionTable) (n : ℕ) (session : ℤ) → SessionsAgree s → finmap.get s.connections n ≡ None
+    → IsFree s session
+    → IsOpenedBy s.terms.server_id s.counter session → SessionsAgree (with_session_connected s n session)
 joins s n session a none free opened = record {
   server_id = a.server_id;
   counter = a.counter;
@@ -174,10 +189,10 @@ joins s n session a none free opened = record {
   ids = λ m d e. few m d (at_inserted nat_cmp_total exact_unsigned s.connections n new m d e);
 }
   where
-    new : Connection
+    new : ConnectedClient
     new = record { session = session; ids = [] }
 
-    has : (m : ℕ) (d : Connection) → AtConnection s.connections n new m d
+    has : (m : ℕ) (d : ConnectedClient) → AtConnection s.connections n new m d
         → finmap.get (finmap.insert s.guests session (Some n)) d.session ≡ Some (Some m)
     has m d (inl b) =
         (λ i. finmap.get (finmap.insert s.guests session (Some n)) ((sym b.1 i).session))
@@ -210,24 +225,28 @@ joins s n session a none free opened = record {
     from t o (inl b) = subst (λ x. IsOpenedBy s.terms.server_id s.counter x) (sym b.0) opened
     from t o (inr b) = a.opened t o b.1
 
-    few : (m : ℕ) (d : Connection) → AtConnection s.connections n new m d → length d.ids ≤ ids_limit
-    few m d (inl b) = subst (λ (x : Connection). length x.ids ≤ ids_limit) b.1 (omega arith)
+    few : (m : ℕ) (d : ConnectedClient) → AtConnection s.connections n new m d → length d.ids ≤ ids_limit
+    few m d (inl b) = subst (λ (x : ConnectedClient). length x.ids ≤ ids_limit) b.1 (omega arith)
     few m d (inr b) = a.ids m d b.1
 
 -- ---- a session is given back
 
 -- two connections, since one has a session and the other has none
-older_apart : (s : State) (session : ℤ) (n older : ℕ) → Agrees s → finmap.get s.connections n ≡ None
+older_apart : (s : SessionTable) (session : ℤ) (n older : ℕ) → SessionsAgree s → finmap.get s.connections n ≡ None
     → finmap.get s.guests session ≡ Some (Some older) → older ≡ n → ⊥
 older_apart s session n older a none has same =
     let at = a.connections session older has in
     none-some (record { session = session; ids = at.0 }) (sym none ∙ sym (ap (finmap.get s.connections) same) ∙ at.1)
 
 -- where an older connection has it
-pub rejoins_older : (s : State) (n : ℕ) (request : SessionRequest) (older : ℕ) → Agrees s
+pub rejoins_older : (s : SessionTable) (n : ℕ) (request : SessionRequest) (older : ℕ) → SessionsAgree s
     → finmap.get s.connections n ≡ None → finmap.get s.guests request.session_id ≡ Some (Some older)
-    → rejoin s n request ≡ record {
-      connected = record { response = welcome s.terms request.session_id request.time_out; older = Some older };
+    → reopen_session s n request ≡ record {
+      connected = record {
+        response = session_response s.terms request.session_id request.time_out;
+        older =
+            Some older;
+      };
       after = record s {
         guests = finmap.insert s.guests request.session_id (Some n);
         connections =
@@ -236,10 +255,10 @@ pub rejoins_older : (s : State) (n : ℕ) (request : SessionRequest) (older : �
     }
 rejoins_older s n request older a none has =
     let id = request.session_id in
-    ap (λ (o : Option ℕ). accepted (close_one s o) n id request.time_out o) (ap connection_in has)
-    ∙ ap (λ (x : State). accepted x n id request.time_out (Some older)) (closing s id older a has)
+    ap (λ (o : Option ℕ). accepted_connect (close_if_some s o) n id request.time_out o) (ap connection_in has)
+    ∙ ap (λ (x : SessionTable). accepted_connect x n id request.time_out (Some older)) (closing s id older a has)
     ∙ (λ i. record {
-      connected = record { response = welcome s.terms id request.time_out; older = Some older };
+      connected = record { response = session_response s.terms id request.time_out; older = Some older };
       after = record s {
         guests = insert_inserted int_cmp_total exact_signed s.guests id (Some n) None i;
         connections =
@@ -249,14 +268,15 @@ rejoins_older s n request older a none has =
       };
     })
 
-pub joins_older : (s : State) (n : ℕ) (session : ℤ) (older : ℕ) → Agrees s → finmap.get s.connections n ≡ None
+pub joins_older : (s : SessionTable) (n : ℕ) (session : ℤ) (older : ℕ) → SessionsAgree s
+    → finmap.get s.connections n ≡ None
     → finmap.get s.guests session ≡ Some (Some older)
-    → Agrees (record s {
+    → SessionsAgree (record s {
       guests = finmap.insert s.guests session (Some n);
       connections = finmap.remove (finmap.insert s.connections n (record { session = session; ids = [] })) older;
     })
 joins_older s n session older a none has =
-    subst (λ (x : Guests × Connections). Agrees (record s { guests = x.0; connections = x.1 }))
+    subst (λ (x : Guests × ConnectedClients). SessionsAgree (record s { guests = x.0; connections = x.1 }))
     (λ i. (
       insert_inserted int_cmp_total exact_signed s.guests session (Some n) None i,
       sym (remove_past_insert nat_cmp_total exact_unsigned s.connections n
@@ -273,16 +293,18 @@ joins_older s n session older a none has =
     (a.opened session (Some older) has))
 
 -- where no connection has it
-pub rejoins_free : (s : State) (n : ℕ) (request : SessionRequest) → finmap.get s.guests request.session_id ≡ Some None
-    → rejoin s n request ≡ record {
-      connected = record { response = welcome s.terms request.session_id request.time_out; older = None };
-      after = joined s n request.session_id;
+pub rejoins_free : (s : SessionTable) (n : ℕ) (request : SessionRequest)
+    → finmap.get s.guests request.session_id ≡ Some None
+    → reopen_session s n request ≡ record {
+      connected = record { response = session_response s.terms request.session_id request.time_out; older = None };
+      after = with_session_connected s n request.session_id;
     }
 rejoins_free s n request has =
-    ap (λ (o : Option ℕ). accepted (close_one s o) n request.session_id request.time_out o) (ap connection_in has)
+    ap (λ (o : Option ℕ). accepted_connect (close_if_some s o) n request.session_id request.time_out o)
+    (ap connection_in has)
 
-pub joins_free : (s : State) (n : ℕ) (session : ℤ) → Agrees s → finmap.get s.connections n ≡ None
-    → finmap.get s.guests session ≡ Some None → Agrees (joined s n session)
+pub joins_free : (s : SessionTable) (n : ℕ) (session : ℤ) → SessionsAgree s → finmap.get s.connections n ≡ None
+    → finmap.get s.guests session ≡ Some None → SessionsAgree (with_session_connected s n session)
 joins_free s n session a none has =
     joins s n session a none (λ m e. none-some m (some-some (sym has ∙ e))) (a.opened session None has)
 
@@ -297,9 +319,10 @@ has_none (Some (Some n)) known not = absurd (not n refl)
 
 -- ---- an id is shown
 
-pub shows : (s : State) (n : ℕ) (c : Connection) (id : Id) → Agrees s → finmap.get s.connections n ≡ Some c
+pub shows : (s : SessionTable) (n : ℕ) (c : ConnectedClient) (id : Id) → SessionsAgree s
+    → finmap.get s.connections n ≡ Some c
     → length c.ids < ids_limit
-    → Agrees (record s { connections = finmap.insert s.connections n (with_id c id) })
+    → SessionsAgree (record s { connections = finmap.insert s.connections n (with_id c id) })
 shows s n c id a here below = record {
   server_id = a.server_id;
   counter = a.counter;
@@ -309,7 +332,7 @@ shows s n c id a here below = record {
   ids = λ m d e. few m d (at_inserted nat_cmp_total exact_unsigned s.connections n (with_id c id) m d e);
 }
   where
-    has : (m : ℕ) (d : Connection) → AtConnection s.connections n (with_id c id) m d
+    has : (m : ℕ) (d : ConnectedClient) → AtConnection s.connections n (with_id c id) m d
         → finmap.get s.guests d.session ≡ Some (Some m)
     has m d (inl b) =
         (λ i. finmap.get s.guests ((sym b.1 i).session)) ∙ a.guests n c here ∙ ap (λ x. Some (Some x)) (sym b.0)
@@ -323,7 +346,7 @@ shows s n c id a here below = record {
     of t m e (inl same) =
         let old = a.connections t m e in
         let session : c.session ≡ t =
-        ap (λ (x : Connection). x.session) (some-some
+        ap (λ (x : ConnectedClient). x.session) (some-some
         (sym here ∙ sym (ap (finmap.get s.connections) same) ∙ old.1)) in (
           c.ids ++ id ∷ [],
           ap (finmap.get (finmap.insert s.connections n (with_id c id))) same
@@ -334,9 +357,9 @@ shows s n c id a here below = record {
         let old = a.connections t m e in
         (old.0, inserted_elsewhere nat_cmp_total exact_unsigned s.connections n (with_id c id) m f ∙ old.1)
 
-    few : (m : ℕ) (d : Connection) → AtConnection s.connections n (with_id c id) m d → length d.ids ≤ ids_limit
+    few : (m : ℕ) (d : ConnectedClient) → AtConnection s.connections n (with_id c id) m d → length d.ids ≤ ids_limit
     few m d (inl b) =
-        subst (λ (x : Connection). length x.ids ≤ ids_limit) b.1
+        subst (λ (x : ConnectedClient). length x.ids ≤ ids_limit) b.1
         (let e : length (c.ids ++ id ∷ []) ≡ length c.ids + 1 = length-append c.ids (id ∷ []) in omega arith)
     few m d (inr b) = a.ids m d b.1
 
@@ -347,7 +370,8 @@ pub raised : (server_id : ℤ) (counter : ℕ) (session : ℤ) → IsOpenedBy se
 raised server_id counter session o =
     record { own = o.own; first = o.first; last = (let h = o.last in omega arith); is = o.is }
 
-pub counts : (s : State) → Agrees s → s.counter + 1 < 2 ^ 56 → Agrees (record s { counter = s.counter + 1 })
+pub counts : (s : SessionTable) → SessionsAgree s → s.counter + 1 < 2 ^ 56
+    → SessionsAgree (record s { counter = s.counter + 1 })
 counts s a below = record {
   server_id = a.server_id;
   counter = below;
@@ -361,7 +385,7 @@ pub next : (server_id : ℤ) (counter : ℕ) → IsOpenedBy server_id (counter +
 next server_id counter = record { own = counter + 1; first = omega arith; last = omega arith; is = refl }
 
 -- no session has that counter yet
-pub fresh : (s : State) → Agrees s → s.counter + 1 < 2 ^ 56
+pub fresh : (s : SessionTable) → SessionsAgree s → s.counter + 1 < 2 ^ 56
     → finmap.get s.guests (session_id_of s.terms.server_id (s.counter + 1)) ≡ None
 fresh s a below = by (finmap.get s.guests (session_id_of s.terms.server_id (s.counter + 1))) refl
   where

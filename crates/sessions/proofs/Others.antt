@@ -9,62 +9,64 @@ use Rattle.std.specs.FinMap as finmap
 use Rattle.jute.specs.declared.owned.Id.{Id}
 use Rattle.sessions.specs.declared.request.SessionRequest.{SessionRequest}
 use Rattle.sessions.specs.Credentials.{session_id_of, digest_id}
-use Rattle.sessions.specs.State.{Connection, State}
-use Rattle.sessions.specs.Sessions.{Connects, Shows, greatest_counter, ids_limit, is_same_id, with_id, is_valid, connection_of, close_as, close_one, expire_as, connect, show_in, digest_text, auth_by}
-use Rattle.sessions.specs.Agreement.{OthersStay}
+use Rattle.sessions.specs.State.{ConnectedClient, SessionTable}
+use Rattle.sessions.specs.Sessions.{ConnectResult, AuthResult, greatest_counter, ids_limit, is_same_id, with_id, is_valid, connection_of, close_as, close_if_some, expire_as, connect_session, show_in, digest_text, auth_by}
+use Rattle.sessions.specs.Agreement.{OtherConnectionsStay}
 use Rattle.sessions.proofs.Cases.{at_if}
 use Rattle.sessions.proofs.Maps.{other, inserted_elsewhere, removed_elsewhere}
 
 -- the connection is as it was
-abbrev Stays : State → ℕ → State → Type 0
+abbrev Stays : SessionTable → ℕ → SessionTable → Type 0
 Stays s m new = finmap.get new.connections m ≡ finmap.get s.connections m
 
 elsewhere : (m n : ℕ) → m ≢ n → eq_by_cmp nat_cmp m n ≡ false
 elsewhere m n apart = other nat_cmp_total exact_unsigned m n apart
 
-put_elsewhere : (s : State) (m n : ℕ) (c : Connection) → m ≢ n
+put_elsewhere : (s : SessionTable) (m n : ℕ) (c : ConnectedClient) → m ≢ n
     → finmap.get (finmap.insert s.connections n c) m ≡ finmap.get s.connections m
 put_elsewhere s m n c apart = inserted_elsewhere nat_cmp_total exact_unsigned s.connections n c m (elsewhere m n apart)
 
-closes_as : (s : State) (n : ℕ) (o : Option Connection) (m : ℕ) → m ≢ n → Stays s m (close_as s n o)
+closes_as : (s : SessionTable) (n : ℕ) (o : Option ConnectedClient) (m : ℕ) → m ≢ n → Stays s m (close_as s n o)
 closes_as s n None m apart = refl
 closes_as s n (Some c) m apart = removed_elsewhere nat_cmp_total exact_unsigned s.connections n m (elsewhere m n apart)
 
-closes_one : (s : State) (o : Option ℕ) (m : ℕ) → o ≢ Some m → Stays s m (close_one s o)
+closes_one : (s : SessionTable) (o : Option ℕ) (m : ℕ) → o ≢ Some m → Stays s m (close_if_some s o)
 closes_one s None m apart = refl
 closes_one s (Some n) m apart = closes_as s n (finmap.get s.connections n) m (λ e. apart (ap Some (sym e)))
 
-expires_as : (s : State) (session : ℤ) (o : Option (Option ℕ)) (m : ℕ) → (expire_as s session o).closed ≢ Some m
+expires_as : (s : SessionTable) (session : ℤ) (o : Option (Option ℕ)) (m : ℕ) → (expire_as s session o).closed ≢ Some m
     → Stays s m (expire_as s session o).after
 expires_as s session None m apart = refl
 expires_as s session (Some o) m apart = closes_one s o m apart
 
-shows_in : (s : State) (n : ℕ) (id : Id) (o : Option Connection) (m : ℕ) → m ≢ n → Stays s m (show_in s n id o).after
+shows_in : (s : SessionTable) (n : ℕ) (id : Id) (o : Option ConnectedClient) (m : ℕ) → m ≢ n
+    → Stays s m (show_in s n id o).after
 shows_in s n id None m apart = refl
 shows_in s n id (Some c) m apart =
-    at_if (λ (x : Shows). Stays s m x.after) (list_any (λ shown. is_same_id shown id) c.ids) _ _ (λ _. refl)
-    (λ _. at_if (λ (x : Shows). Stays s m x.after) (nat_lt (length c.ids) ids_limit) _ _
+    at_if (λ (x : AuthResult). Stays s m x.after) (list_any (λ shown. is_same_id shown id) c.ids) _ _ (λ _. refl)
+    (λ _. at_if (λ (x : AuthResult). Stays s m x.after) (nat_lt (length c.ids) ids_limit) _ _
     (λ _. put_elsewhere s m n (with_id c id) apart) (λ _. refl))
 
-shows_by : (s : State) (n : ℕ) (o : Option (List ℕ)) (m : ℕ) → m ≢ n → Stays s m (auth_by s n o).after
+shows_by : (s : SessionTable) (n : ℕ) (o : Option (List ℕ)) (m : ℕ) → m ≢ n → Stays s m (auth_by s n o).after
 shows_by s n None m apart = refl
 shows_by s n (Some text) m apart = shows_in s n (digest_id text) (finmap.get s.connections n) m apart
 
-abbrev Leaves : State → ℕ → Connects → Type 0
+abbrev Leaves : SessionTable → ℕ → ConnectResult → Type 0
 Leaves s m x = x.connected.older ≢ Some m → Stays s m x.after
 
-connects : (s : State) (n : ℕ) (request : SessionRequest) (m : ℕ) → m ≢ n → Leaves s m (connect s n request)
+connects : (s : SessionTable) (n : ℕ) (request : SessionRequest) (m : ℕ) → m ≢ n
+    → Leaves s m (connect_session s n request)
 connects s n request m apart =
     at_if (Leaves s m) (int_eq request.session_id (pos 0)) _ _
     (λ _. at_if (Leaves s m) (s.counter == greatest_counter) _ _ (λ _ _. refl)
     (λ _ _. put_elsewhere s m n (record { session = session_id_of s.terms.server_id (s.counter + 1); ids = [] }) apart))
     (λ _. at_if (Leaves s m) (is_valid s request) _ _
-    (λ _ stays. put_elsewhere (close_one s (connection_of s request.session_id)) m n
+    (λ _ stays. put_elsewhere (close_if_some s (connection_of s request.session_id)) m n
     (record { session = request.session_id; ids = [] }) apart
     ∙ closes_one s (connection_of s request.session_id) m stays)
     (λ _ _. refl))
 
-pub others_stay : OthersStay
+pub others_stay : OtherConnectionsStay
 others_stay = record {
   connects = connects;
   auths = λ s n scheme bytes m apart. shows_by s n (digest_text scheme bytes) m apart;

@@ -6,8 +6,8 @@ use Rattle.settings.specs.Settings.{is_server_id}
 use Rattle.jute.specs.declared.owned.Id.{Id}
 use Rattle.sessions.specs.Credentials.{session_id_of}
 use Rattle.sessions.specs.declared.request.SessionRequest.{SessionRequest}
-use Rattle.sessions.specs.State.{Terms, Connection, State}
-use Rattle.sessions.specs.Sessions.{ids_limit, no_sessions, session_of, is_valid, connect, auth, close, expire}
+use Rattle.sessions.specs.State.{SessionSettings, ConnectedClient, SessionTable}
+use Rattle.sessions.specs.Sessions.{ids_limit, no_sessions, session_of_connection, is_valid, connect_session, add_auth, close_connection, expire_guest}
 
 -- the session was opened by this server with one of its counters so far
 pub record IsOpenedBy (server_id : ℤ) (counter : ℕ) (session : ℤ) : Type 0 where
@@ -17,11 +17,11 @@ pub record IsOpenedBy (server_id : ℤ) (counter : ℕ) (session : ℤ) : Type 0
   pub is : session ≡ session_id_of server_id own
 
 -- Connections and sessions name each other.
-pub record Agrees (s : State) : Type 0 where
+pub record SessionsAgree (s : SessionTable) : Type 0 where
   pub server_id : IsTrue (is_server_id s.terms.server_id)
   pub counter : s.counter < 2 ^ 56
   -- each connection's session is a guest session, and that session's connection is this one
-  pub guests : (n : ℕ) (c : Connection) → finmap.get s.connections n ≡ Some c
+  pub guests : (n : ℕ) (c : ConnectedClient) → finmap.get s.connections n ≡ Some c
       → finmap.get s.guests c.session ≡ Some (Some n)
   -- a guest session's connection has that session
   pub connections : (session : ℤ) (n : ℕ) → finmap.get s.guests session ≡ Some (Some n)
@@ -30,57 +30,65 @@ pub record Agrees (s : State) : Type 0 where
   pub opened : (session : ℤ) (o : Option ℕ) → finmap.get s.guests session ≡ Some o
       → IsOpenedBy s.terms.server_id s.counter session
   -- no connection has shown too many ids
-  pub ids : (n : ℕ) (c : Connection) → finmap.get s.connections n ≡ Some c → length c.ids ≤ ids_limit
+  pub ids : (n : ℕ) (c : ConnectedClient) → finmap.get s.connections n ≡ Some c → length c.ids ≤ ids_limit
 
 -- no two connections have one session
 abbrev pub SessionsAreApart : Type 0
-SessionsAreApart = (s : State) → Agrees s → (m n : ℕ) (c d : Connection)
+SessionsAreApart = (s : SessionTable) → SessionsAgree s → (m n : ℕ) (c d : ConnectedClient)
     → finmap.get s.connections m ≡ Some c → finmap.get s.connections n ≡ Some d → c.session ≡ d.session → m ≡ n
 
 -- ---- laws
 
 -- at the start sessions and connections agree, and they do after each step
 pub record AgreementIsKept : Type 0 where
-  pub starts : (terms : Terms) → IsTrue (is_server_id terms.server_id) → Agrees (no_sessions terms)
-  pub connects : (s : State) (n : ℕ) (request : SessionRequest) → Agrees s → finmap.get s.connections n ≡ None
-      → Agrees (connect s n request).after
-  pub auths : (s : State) (n : ℕ) (scheme bytes : Option (List ℕ)) → Agrees s → Agrees (auth s n scheme bytes).after
-  pub closes : (s : State) (n : ℕ) → Agrees s → Agrees (close s n)
-  pub expires : (s : State) (session : ℤ) → Agrees s → Agrees (expire s session).after
+  pub starts : (terms : SessionSettings) → IsTrue (is_server_id terms.server_id) → SessionsAgree (no_sessions terms)
+  pub connects : (s : SessionTable) (n : ℕ) (request : SessionRequest) → SessionsAgree s
+      → finmap.get s.connections n ≡ None
+      → SessionsAgree (connect_session s n request).after
+  pub auths : (s : SessionTable) (n : ℕ) (scheme bytes : Option (List ℕ)) → SessionsAgree s
+      → SessionsAgree (add_auth s n scheme bytes).after
+  pub closes : (s : SessionTable) (n : ℕ) → SessionsAgree s → SessionsAgree (close_connection s n)
+  pub expires : (s : SessionTable) (session : ℤ) → SessionsAgree s → SessionsAgree (expire_guest s session).after
 
 -- a step of one connection leaves the session and the ids of every other, save of one that it answers as closed
-pub record OthersStay : Type 0 where
-  pub connects : (s : State) (n : ℕ) (request : SessionRequest) (m : ℕ) → m ≢ n
-      → (connect s n request).connected.older ≢ Some m
-      → finmap.get (connect s n request).after.connections m ≡ finmap.get s.connections m
-  pub auths : (s : State) (n : ℕ) (scheme bytes : Option (List ℕ)) (m : ℕ) → m ≢ n
-      → finmap.get (auth s n scheme bytes).after.connections m ≡ finmap.get s.connections m
-  pub closes : (s : State) (n m : ℕ) → m ≢ n → finmap.get (close s n).connections m ≡ finmap.get s.connections m
-  pub expires : (s : State) (session : ℤ) (m : ℕ) → (expire s session).closed ≢ Some m
-      → finmap.get (expire s session).after.connections m ≡ finmap.get s.connections m
+pub record OtherConnectionsStay : Type 0 where
+  pub connects : (s : SessionTable) (n : ℕ) (request : SessionRequest) (m : ℕ) → m ≢ n
+      → (connect_session s n request).connected.older ≢ Some m
+      → finmap.get (connect_session s n request).after.connections m ≡ finmap.get s.connections m
+  pub auths : (s : SessionTable) (n : ℕ) (scheme bytes : Option (List ℕ)) (m : ℕ) → m ≢ n
+      → finmap.get (add_auth s n scheme bytes).after.connections m ≡ finmap.get s.connections m
+  pub closes : (s : SessionTable) (n m : ℕ) → m ≢ n
+      → finmap.get (close_connection s n).connections m ≡ finmap.get s.connections m
+  pub expires : (s : SessionTable) (session : ℤ) (m : ℕ) → (expire_guest s session).closed ≢ Some m
+      → finmap.get (expire_guest s session).after.connections m ≡ finmap.get s.connections m
 
 -- the session of this id, where 0 is none's
-abbrev pub named : ℤ → Option ℤ
-named session = if int_eq session (pos 0) then None else Some session
+abbrev pub nonzero_session : ℤ → Option ℤ
+nonzero_session session = if int_eq session (pos 0) then None else Some session
 
 -- no session is 0, so the answer's session tells whether the connection has one now
-abbrev pub AnswersTell : Type 0
-AnswersTell = (s : State) (n : ℕ) (request : SessionRequest) → Agrees s → finmap.get s.connections n ≡ None
-    → session_of (connect s n request).after n ≡ named (connect s n request).connected.response.session_id
+abbrev pub ResponsesNameSessions : Type 0
+ResponsesNameSessions = (s : SessionTable) (n : ℕ) (request : SessionRequest) → SessionsAgree s
+    → finmap.get s.connections n ≡ None
+    → session_of_connection (connect_session s n request).after n
+    ≡ nonzero_session (connect_session s n request).connected.response.session_id
 
 -- a session of this server that has ended
-pub record IsEnded (s : State) (session : ℤ) : Type 0 where
+pub record IsEnded (s : SessionTable) (session : ℤ) : Type 0 where
   pub opened : IsOpenedBy s.terms.server_id s.counter session
   pub none : finmap.get s.guests session ≡ None
 
 -- A session that has ended is valid for nobody, whatever comes.
-pub record EndedIsEnded : Type 0 where
-  pub ends : (s : State) (session : ℤ) (o : Option ℕ) → Agrees s → finmap.get s.guests session ≡ Some o
-      → IsEnded (expire s session).after session
-  pub refused : (s : State) (request : SessionRequest) → IsEnded s request.session_id → is_valid s request ≡ false
-  pub connects : (s : State) (n : ℕ) (request : SessionRequest) (session : ℤ) → Agrees s
-      → finmap.get s.connections n ≡ None → IsEnded s session → IsEnded (connect s n request).after session
-  pub auths : (s : State) (n : ℕ) (scheme bytes : Option (List ℕ)) (session : ℤ) → IsEnded s session
-      → IsEnded (auth s n scheme bytes).after session
-  pub closes : (s : State) (n : ℕ) (session : ℤ) → Agrees s → IsEnded s session → IsEnded (close s n) session
-  pub expires : (s : State) (one session : ℤ) → Agrees s → IsEnded s session → IsEnded (expire s one).after session
+pub record EndedSessionsStayEnded : Type 0 where
+  pub ends : (s : SessionTable) (session : ℤ) (o : Option ℕ) → SessionsAgree s → finmap.get s.guests session ≡ Some o
+      → IsEnded (expire_guest s session).after session
+  pub refused : (s : SessionTable) (request : SessionRequest) → IsEnded s request.session_id
+      → is_valid s request ≡ false
+  pub connects : (s : SessionTable) (n : ℕ) (request : SessionRequest) (session : ℤ) → SessionsAgree s
+      → finmap.get s.connections n ≡ None → IsEnded s session → IsEnded (connect_session s n request).after session
+  pub auths : (s : SessionTable) (n : ℕ) (scheme bytes : Option (List ℕ)) (session : ℤ) → IsEnded s session
+      → IsEnded (add_auth s n scheme bytes).after session
+  pub closes : (s : SessionTable) (n : ℕ) (session : ℤ) → SessionsAgree s → IsEnded s session
+      → IsEnded (close_connection s n) session
+  pub expires : (s : SessionTable) (one session : ℤ) → SessionsAgree s → IsEnded s session
+      → IsEnded (expire_guest s one).after session

@@ -2,15 +2,15 @@
 use Rattle.std.specs.Prelude.{ℕ, ℤ, Option, None, Some}
 use Rattle.std.specs.FinMap as finmap
 use Rattle.jute.specs.declared.owned.Id.{Id}
-use Rattle.sessions.specs.State.{Connection, Guests, Connections}
+use Rattle.sessions.specs.State.{ConnectedClient, Guests, ConnectedClients}
 use Rattle.sessions.specs.Sessions.{with_id}
 
 -- a session that is known gets another connection, or none
-abbrev pub replaced : Guests → ℤ → Option ℕ → Option (Option ℕ) → Guests
-replaced guests session connection None = guests
-replaced guests session connection (Some o) = finmap.insert guests session connection
+abbrev pub with_guest_connection : Guests → ℤ → Option ℕ → Option (Option ℕ) → Guests
+with_guest_connection guests session connection None = guests
+with_guest_connection guests session connection (Some o) = finmap.insert guests session connection
 
 -- an open connection shows an id
-abbrev pub shown : Connections → ℕ → Id → Option Connection → Connections
-shown connections n id None = connections
-shown connections n id (Some c) = finmap.insert connections n (with_id c id)
+abbrev pub with_shown_id : ConnectedClients → ℕ → Id → Option ConnectedClient → ConnectedClients
+with_shown_id connections n id None = connections
+with_shown_id connections n id (Some c) = finmap.insert connections n (with_id c id)

@@ -10,28 +10,28 @@ use Rattle.sessions.specs.declared.request.SessionRequest.{SessionRequest}
 use Rattle.sessions.specs.declared.request.SessionResponse.{SessionResponse}
 use Rattle.sessions.specs.declared.request.Connected.{Connected}
 use Rattle.sessions.specs.Credentials.{session_id_of, password_of, digest_id}
-use Rattle.sessions.specs.State.{Terms, Connection, State, state_of}
+use Rattle.sessions.specs.State.{SessionSettings, ConnectedClient, SessionTable, session_table_of}
 
 -- before any connection
-abbrev pub no_sessions : Terms → State
-no_sessions terms = state_of terms 0 finmap.empty finmap.empty
+abbrev pub no_sessions : SessionSettings → SessionTable
+no_sessions terms = session_table_of terms 0 finmap.empty finmap.empty
 
 -- ---- what is asked
 
-abbrev pub session_in : Option Connection → Option ℤ
+abbrev pub session_in : Option ConnectedClient → Option ℤ
 session_in None = None
 session_in (Some c) = Some c.session
 
 -- the connection's session, if it has one
-abbrev pub session_of : State → ℕ → Option ℤ
-session_of s n = session_in (finmap.get s.connections n)
+abbrev pub session_of_connection : SessionTable → ℕ → Option ℤ
+session_of_connection s n = session_in (finmap.get s.connections n)
 
-abbrev pub ids_in : Option Connection → List Id
+abbrev pub ids_in : Option ConnectedClient → List Id
 ids_in None = []
 ids_in (Some c) = c.ids
 
 -- the ids that the connection has shown, in order
-abbrev pub ids_of : State → ℕ → List Id
+abbrev pub ids_of : SessionTable → ℕ → List Id
 ids_of s n = ids_in (finmap.get s.connections n)
 
 abbrev pub connection_in : Option (Option ℕ) → Option ℕ
@@ -39,125 +39,125 @@ connection_in None = None
 connection_in (Some o) = o
 
 -- the connection that has the session now
-abbrev pub connection_of : State → ℤ → Option ℕ
+abbrev pub connection_of : SessionTable → ℤ → Option ℕ
 connection_of s session = connection_in (finmap.get s.guests session)
 
 -- ---- close: the connection and its ids go, its session stays
 
-abbrev pub close_as : State → ℕ → Option Connection → State
+abbrev pub close_as : SessionTable → ℕ → Option ConnectedClient → SessionTable
 close_as s n None = s
 close_as s n (Some c) =
     record s { guests = finmap.insert s.guests c.session None; connections = finmap.remove s.connections n }
 
-abbrev pub close : State → ℕ → State
-close s n = close_as s n (finmap.get s.connections n)
+abbrev pub close_connection : SessionTable → ℕ → SessionTable
+close_connection s n = close_as s n (finmap.get s.connections n)
 
-abbrev pub close_one : State → Option ℕ → State
-close_one s None = s
-close_one s (Some n) = close s n
+abbrev pub close_if_some : SessionTable → Option ℕ → SessionTable
+close_if_some s None = s
+close_if_some s (Some n) = close_connection s n
 
 -- ---- expire: a guest session ends, and its connection closes
 
-pub record Expires : Type 0 where
+pub record ExpireResult : Type 0 where
   -- the connection that is closed
   pub closed : Option ℕ
-  pub after : State
+  pub after : SessionTable
 
-abbrev pub ended : State → ℤ → State
-ended s session = record s { guests = finmap.remove s.guests session }
+abbrev pub without_guest : SessionTable → ℤ → SessionTable
+without_guest s session = record s { guests = finmap.remove s.guests session }
 
-abbrev pub expire_as : State → ℤ → Option (Option ℕ) → Expires
+abbrev pub expire_as : SessionTable → ℤ → Option (Option ℕ) → ExpireResult
 expire_as s session None = record { closed = None; after = s }
-expire_as s session (Some o) = record { closed = o; after = ended (close_one s o) session }
+expire_as s session (Some o) = record { closed = o; after = without_guest (close_if_some s o) session }
 
-abbrev pub expire : State → ℤ → Expires
-expire s session = expire_as s session (finmap.get s.guests session)
+abbrev pub expire_guest : SessionTable → ℤ → ExpireResult
+expire_guest s session = expire_as s session (finmap.get s.guests session)
 
 -- ---- connect
 
-pub record Connects : Type 0 where
+pub record ConnectResult : Type 0 where
   pub connected : Connected
-  pub after : State
+  pub after : SessionTable
 
-abbrev pub clamped : TimeoutPair → ℤ → ℤ
-clamped bounds time_out =
+abbrev pub clamped_timeout : TimeoutPair → ℤ → ℤ
+clamped_timeout bounds time_out =
     if int_lt time_out bounds.least then bounds.least
     else if int_lt bounds.greatest time_out then bounds.greatest
     else time_out
 
-abbrev pub welcome : Terms → ℤ → ℤ → SessionResponse
-welcome terms session time_out =
+abbrev pub session_response : SessionSettings → ℤ → ℤ → SessionResponse
+session_response terms session time_out =
     record {
-      time_out = clamped terms.timeouts time_out;
+      time_out = clamped_timeout terms.timeouts time_out;
       session_id = session;
       password = password_of terms.secret session;
     }
 
 -- a refusal is all zeros, and the caller closes the connection
-abbrev pub refusal : SessionResponse
-refusal = record { time_out = pos 0; session_id = pos 0; password = replicate 16 0 }
+abbrev pub refusal_response : SessionResponse
+refusal_response = record { time_out = pos 0; session_id = pos 0; password = replicate 16 0 }
 
-abbrev pub refused : State → Connects
-refused s = record { connected = record { response = refusal; older = None }; after = s }
+abbrev pub refused_connect : SessionTable → ConnectResult
+refused_connect s = record { connected = record { response = refusal_response; older = None }; after = s }
 
 -- a connection that has shown no id yet
-abbrev pub new_connection : ℤ → Connection
+abbrev pub new_connection : ℤ → ConnectedClient
 new_connection session = record { session = session; ids = [] }
 
 -- the connection has the session from now on
-abbrev pub joined : State → ℕ → ℤ → State
-joined s n session = record s {
+abbrev pub with_session_connected : SessionTable → ℕ → ℤ → SessionTable
+with_session_connected s n session = record s {
   guests = finmap.insert s.guests session (Some n);
   connections = finmap.insert s.connections n (new_connection session);
 }
 
-abbrev pub accepted : State → ℕ → ℤ → ℤ → Option ℕ → Connects
-accepted s n session time_out older =
+abbrev pub accepted_connect : SessionTable → ℕ → ℤ → ℤ → Option ℕ → ConnectResult
+accepted_connect s n session time_out older =
     record {
       connected = record
-          { response = welcome s.terms session time_out; older = older };
-      after = joined s n session;
+          { response = session_response s.terms session time_out; older = older };
+      after = with_session_connected s n session;
     }
 
 abbrev pub greatest_counter : ℕ
 greatest_counter = 2 ^ 56 - 1
 
 -- a new guest session, with the next counter, while there is one
-abbrev pub open_new : State → ℕ → ℤ → Connects
+abbrev pub open_new : SessionTable → ℕ → ℤ → ConnectResult
 open_new s n time_out =
-    if s.counter == greatest_counter then refused s
+    if s.counter == greatest_counter then refused_connect s
     else
     let counter = s.counter + 1 in
-    accepted (record s { counter = counter }) n (session_id_of s.terms.server_id counter) time_out None
+    accepted_connect (record s { counter = counter }) n (session_id_of s.terms.server_id counter) time_out None
 
 abbrev pub is_password : List ℕ → Option (List ℕ) → Bool
 is_password own None = false
 is_password own (Some given) = bytes_eq given own
 
 -- a guest session, with its own password
-abbrev pub is_valid : State → SessionRequest → Bool
+abbrev pub is_valid : SessionTable → SessionRequest → Bool
 is_valid s request =
     finmap.contains_key s.guests request.session_id && is_password
     (password_of s.terms.secret request.session_id) request.password
 
 -- an older connection of the session is closed first
-abbrev pub rejoin : State → ℕ → SessionRequest → Connects
-rejoin s n request =
+abbrev pub reopen_session : SessionTable → ℕ → SessionRequest → ConnectResult
+reopen_session s n request =
     let older = connection_of s request.session_id in
-    accepted (close_one s older) n request.session_id request.time_out older
+    accepted_connect (close_if_some s older) n request.session_id request.time_out older
 
-abbrev pub connect : State → ℕ → SessionRequest → Connects
-connect s n request =
+abbrev pub connect_session : SessionTable → ℕ → SessionRequest → ConnectResult
+connect_session s n request =
     if int_eq request.session_id (pos 0) then open_new s n request.time_out
-    else if is_valid s request then rejoin s n request
-    else refused s
+    else if is_valid s request then reopen_session s n request
+    else refused_connect s
 
 -- ---- auth
 
-pub record Shows : Type 0 where
+pub record AuthResult : Type 0 where
   -- false where it is refused, and the caller closes the connection
   pub is_accepted : Bool
-  pub after : State
+  pub after : SessionTable
 
 abbrev pub is_same_id : Id → Id → Bool
 is_same_id a b = bytes_eq a.scheme b.scheme && bytes_eq a.id b.id
@@ -166,11 +166,11 @@ is_same_id a b = bytes_eq a.scheme b.scheme && bytes_eq a.id b.id
 abbrev pub ids_limit : ℕ
 ids_limit = 1024
 
-abbrev pub with_id : Connection → Id → Connection
+abbrev pub with_id : ConnectedClient → Id → ConnectedClient
 with_id c id = record c { ids = c.ids ++ id ∷ [] }
 
 -- an id that was shown already is no second one
-abbrev pub show_in : State → ℕ → Id → Option Connection → Shows
+abbrev pub show_in : SessionTable → ℕ → Id → Option ConnectedClient → AuthResult
 show_in s n id None = record { is_accepted = false; after = s }
 show_in s n id (Some c) =
     if list_any (λ shown. is_same_id shown id) c.ids then record { is_accepted = true; after = s }
@@ -178,8 +178,8 @@ show_in s n id (Some c) =
     { is_accepted = true; after = record s { connections = finmap.insert s.connections n (with_id c id) } }
     else record { is_accepted = false; after = s }
 
-abbrev pub show : State → ℕ → Id → Shows
-show s n id = show_in s n id (finmap.get s.connections n)
+abbrev pub add_id : SessionTable → ℕ → Id → AuthResult
+add_id s n id = show_in s n id (finmap.get s.connections n)
 
 -- what is shown by the scheme "digest" and a text; nothing by another scheme, or by null, or by bytes that are no text
 abbrev pub digest_text : Option (List ℕ) → Option (List ℕ) → Option (List ℕ)
@@ -187,9 +187,9 @@ digest_text None bytes = None
 digest_text (Some scheme) None = None
 digest_text (Some scheme) (Some bytes) = if bytes_eq scheme (codes "digest") && is_utf8 bytes then Some bytes else None
 
-abbrev pub auth_by : State → ℕ → Option (List ℕ) → Shows
+abbrev pub auth_by : SessionTable → ℕ → Option (List ℕ) → AuthResult
 auth_by s n None = record { is_accepted = false; after = s }
-auth_by s n (Some text) = show s n (digest_id text)
+auth_by s n (Some text) = add_id s n (digest_id text)
 
-abbrev pub auth : State → ℕ → Option (List ℕ) → Option (List ℕ) → Shows
-auth s n scheme bytes = auth_by s n (digest_text scheme bytes)
+abbrev pub add_auth : SessionTable → ℕ → Option (List ℕ) → Option (List ℕ) → AuthResult
+add_auth s n scheme bytes = auth_by s n (digest_text scheme bytes)

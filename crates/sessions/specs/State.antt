@@ -7,13 +7,13 @@ use Rattle.settings.specs.Settings.{TimeoutPair}
 use Rattle.jute.specs.declared.owned.Id.{Id}
 
 -- what sessions are opened with
-pub record Terms : Type 0 where
+pub record SessionSettings : Type 0 where
   pub server_id : ℤ
   pub timeouts : TimeoutPair
   pub secret : List ℕ
 
 -- a connection that has a session, and the ids that it has shown
-pub record Connection : Type 0 where
+pub record ConnectedClient : Type 0 where
   pub session : ℤ
   pub ids : List Id
 
@@ -22,21 +22,21 @@ abbrev pub Guests : Type 0
 Guests = finmap.FinMap int_cmp (Option ℕ)
 
 -- the connections that have a session, by their numbers
-abbrev pub Connections : Type 0
-Connections = finmap.FinMap nat_cmp Connection
+abbrev pub ConnectedClients : Type 0
+ConnectedClients = finmap.FinMap nat_cmp ConnectedClient
 
-pub record State : Type 0 where
-  pub terms : Terms
+pub record SessionTable : Type 0 where
+  pub terms : SessionSettings
   -- how many sessions were opened
   pub counter : ℕ
   pub guests : Guests
-  pub connections : Connections
+  pub connections : ConnectedClients
 
-abbrev pub terms_of : ℤ → TimeoutPair → List ℕ → Terms
-terms_of server_id timeouts secret = record { server_id = server_id; timeouts = timeouts; secret = secret }
+abbrev pub session_settings_of : ℤ → TimeoutPair → List ℕ → SessionSettings
+session_settings_of server_id timeouts secret = record { server_id = server_id; timeouts = timeouts; secret = secret }
 
-abbrev pub state_of : Terms → ℕ → Guests → Connections → State
-state_of terms counter guests connections =
+abbrev pub session_table_of : SessionSettings → ℕ → Guests → ConnectedClients → SessionTable
+session_table_of terms counter guests connections =
     record { terms = terms; counter = counter; guests = guests; connections = connections }
 
 -- ---- codes
@@ -46,8 +46,8 @@ timeouts_code =
     code_by (ℤ × ℤ) (coded× coded_ℤ coded_ℤ) (λ t. (t.least, t.greatest))
     (λ p. record { least = p.0; greatest = p.1 }) (λ _. refl)
 
-abbrev pub terms_code : Coded Terms
-terms_code =
+abbrev pub session_settings_code : Coded SessionSettings
+session_settings_code =
     code_by (ℤ × (TimeoutPair × List ℕ)) (coded× coded_ℤ (coded× timeouts_code (coded_list coded_ℕ)))
     (λ t. (t.server_id, (t.timeouts, t.secret))) (λ p. record { server_id = p.0; timeouts = p.1.0; secret = p.1.1 })
     (λ _. refl)
@@ -57,20 +57,20 @@ id_code =
     code_by (List ℕ × List ℕ) (coded× (coded_list coded_ℕ) (coded_list coded_ℕ)) (λ i. (i.scheme, i.id))
     (λ p. record { scheme = p.0; id = p.1 }) (λ _. refl)
 
-abbrev pub connection_code : Coded Connection
-connection_code =
+abbrev pub connected_client_code : Coded ConnectedClient
+connected_client_code =
     code_by (ℤ × List Id) (coded× coded_ℤ (coded_list id_code)) (λ c. (c.session, c.ids))
     (λ p. record { session = p.0; ids = p.1 }) (λ _. refl)
 
 abbrev pub guests_code : Coded Guests
 guests_code = finmap.code {R = int_cmp} coded_ℤ (coded_option coded_ℕ)
 
-abbrev pub connections_code : Coded Connections
-connections_code = finmap.code {R = nat_cmp} coded_ℕ connection_code
+abbrev pub connected_clients_code : Coded ConnectedClients
+connected_clients_code = finmap.code {R = nat_cmp} coded_ℕ connected_client_code
 
-abbrev pub state_code : Coded State
-state_code =
-    code_by (Terms × (ℕ × (Guests × Connections)))
-    (coded× terms_code (coded× coded_ℕ (coded× guests_code connections_code)))
+abbrev pub session_table_code : Coded SessionTable
+session_table_code =
+    code_by (SessionSettings × (ℕ × (Guests × ConnectedClients)))
+    (coded× session_settings_code (coded× coded_ℕ (coded× guests_code connected_clients_code)))
     (λ s. (s.terms, (s.counter, (s.guests, s.connections))))
     (λ p. record { terms = p.0; counter = p.1.0; guests = p.1.1.0; connections = p.1.1.1 }) (λ _. refl)

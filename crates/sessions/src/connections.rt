@@ -4,7 +4,7 @@ ghost use Rattle.std.specs.Prelude.{◌≡◌, OnOk, OnErr};
 ghost use Rattle.std.specs.Option.{option_copied};
 ghost use Rattle.std.specs.FinMap as finmap;
 ghost use Rattle.sessions.specs.Sessions.{new_connection, with_id};
-ghost use Rattle.sessions.specs.Inner.{shown};
+ghost use Rattle.sessions.specs.Inner.{with_shown_id};
 
 use jute::Id;
 use std::alloc::Global;
@@ -20,11 +20,11 @@ pub struct Connection {
 }
 
 impl Model for Connection {
-    ghost use Rattle.sessions.specs.State.{Connection as TheConnection, connection_code};
+    ghost use Rattle.sessions.specs.State.{ConnectedClient as TheConnection, connected_client_code};
 
     ghost Value = { TheConnection };
 
-    ghost coded = { connection_code };
+    ghost coded = { connected_client_code };
 
     ghost view = { λ c. record { session = c.session; ids = c.ids.items } };
 }
@@ -60,11 +60,11 @@ pub struct Connections {
 
 impl Model for Connections {
     ghost use Rattle.std.specs.FinMap as finmap;
-    ghost use Rattle.sessions.specs.State.{Connections as TheConnections, connections_code};
+    ghost use Rattle.sessions.specs.State.{ConnectedClients as TheConnections, connected_clients_code};
 
     ghost Value = { TheConnections };
 
-    ghost coded = { connections_code };
+    ghost coded = { connected_clients_code };
 
     ghost view = { λ c. finmap.from_entries c.map.entries };
 }
@@ -110,7 +110,7 @@ impl Connections {
     /// Shows an id at a connection that has a session.
     pub fn show(&mut self, number: u64, id: Id) -> Result<(), NoMemory>
         ensures ok { let connection = finmap.get self.old number in
-            OnOk result (self.new ≡ shown self.old number id connection) }
+            OnOk result (self.new ≡ with_shown_id self.old number id connection) }
         ensures err { OnErr result (self.new ≡ self.old) }
     {
         match self.map.get_mut(&number) {

@@ -3,7 +3,7 @@
 ghost use Rattle.std.specs.Prelude.{◌≡◌, OnOk, OnErr, Some};
 ghost use Rattle.std.specs.FinMap as finmap;
 ghost use Rattle.sessions.specs.Sessions.{connection_in};
-ghost use Rattle.sessions.specs.Inner.{replaced};
+ghost use Rattle.sessions.specs.Inner.{with_guest_connection};
 
 use std::alloc::Global;
 use std::collections::BTreeMap;
@@ -57,7 +57,7 @@ impl Guests {
     pub fn replace(&mut self, session: i64, connection: Option<u64>) -> Option<u64>
         ensures older { result ≡ connection_in (finmap.get self.old session) }
         ensures new { let known = finmap.get self.old session in
-            self.new ≡ replaced self.old session connection known }
+            self.new ≡ with_guest_connection self.old session connection known }
     {
         match self.map.get_mut(&session) {
             None => return None,

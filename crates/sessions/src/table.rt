@@ -3,9 +3,9 @@
 ghost use Rattle.std.specs.Prelude.{◌≡◌, OnErr, IfOk, IfNone, IsTrue, None, nat_lt, length};
 ghost use Rattle.std.specs.Option.{option_copied};
 ghost use Rattle.std.specs.FinMap as finmap;
-ghost use Rattle.sessions.specs.State.{terms_of};
-ghost use Rattle.sessions.specs.Sessions.{no_sessions, session_of, ids_of, close, expire, clamped, welcome, is_valid, open_new, rejoin, connect, refusal, show, digest_text, auth, ids_limit};
-ghost use Rattle.sessions.specs.Agreement.{Agrees};
+ghost use Rattle.sessions.specs.State.{session_settings_of};
+ghost use Rattle.sessions.specs.Sessions.{no_sessions, session_of_connection, ids_of, close_connection, expire_guest, clamped_timeout, session_response, is_valid, open_new, reopen_session, connect_session, refusal_response, add_id, digest_text, add_auth, ids_limit};
+ghost use Rattle.sessions.specs.Agreement.{SessionsAgree};
 
 use crate::connections::Connections;
 use crate::credentials::{COUNTERS, digest_id, password, session_id};
@@ -33,22 +33,23 @@ pub struct Sessions {
 }
 
 impl Model for Sessions {
-    ghost use Rattle.sessions.specs.State.{State, terms_of, state_of, state_code};
-    ghost use Rattle.sessions.specs.Agreement.{Agrees};
+    ghost use Rattle.sessions.specs.State.{SessionTable, session_settings_of, session_table_of, session_table_code};
+    ghost use Rattle.sessions.specs.Agreement.{SessionsAgree};
 
-    ghost Value = { State };
+    ghost Value = { SessionTable };
 
-    ghost coded = { state_code };
+    ghost coded = { session_table_code };
 
-    ghost view = { λ s. state_of (terms_of s.server_id s.timeouts s.secret) s.counter s.guests s.connections };
+    ghost view = { λ s. session_table_of (session_settings_of s.server_id s.timeouts s.secret) s.counter s.guests
+        s.connections };
 
-    ghost invariant = { λ s. Agrees (state_of (terms_of s.server_id s.timeouts s.secret)
+    ghost invariant = { λ s. SessionsAgree (session_table_of (session_settings_of s.server_id s.timeouts s.secret)
         s.counter s.guests s.connections) };
 }
 
 // A timeout within the bounds, in milliseconds.
-fn clamped(bounds: TimeoutBounds, time_out: i32) -> i32
-    ensures { result ≡ clamped bounds time_out }
+fn clamp_timeout(bounds: TimeoutBounds, time_out: i32) -> i32
+    ensures { result ≡ clamped_timeout bounds time_out }
 {
     if time_out < bounds.least() {
         return bounds.least();
@@ -60,8 +61,8 @@ fn clamped(bounds: TimeoutBounds, time_out: i32) -> i32
 }
 
 // The answer to a client that gets no session.
-fn refused() -> Connected
-    ensures { result ≡ record { response = refusal; older = None } }
+fn refused_connect() -> Connected
+    ensures { result ≡ record { response = refusal_response; older = None } }
 {
     Connected {
         response: SessionResponse {
@@ -108,7 +109,7 @@ impl Sessions {
         timeouts: TimeoutBounds,
         secret: Secret,
     ) -> Sessions
-        ensures { result ≡ no_sessions (terms_of server_id timeouts secret) }
+        ensures { result ≡ no_sessions (session_settings_of server_id timeouts secret) }
     {
         // The contract of `number` tells the prover the number's bounds, which the invariant rests on.
         let _number = server_id.number();
@@ -124,9 +125,9 @@ impl Sessions {
 
     /// The connection's session, if it has one.
     pub fn session(&self, connection: u64) -> Option<i64>
-        ensures session { result ≡ session_of self.now connection }
+        ensures session { result ≡ session_of_connection self.now connection }
         ensures none { IfNone result (finmap.get self.now.connections connection ≡ None) }
-        ensures agrees { Agrees self.now }
+        ensures agrees { SessionsAgree self.now }
     {
         match self.connections.get(connection) {
             None => None,
@@ -152,11 +153,11 @@ impl Sessions {
     }
 
     // What a client is answered that has the session from now on.
-    fn welcome(&self, session: i64, time_out: i32) -> SessionResponse
-        ensures { result ≡ welcome self.now.terms session time_out }
+    fn response_for(&self, session: i64, time_out: i32) -> SessionResponse
+        ensures { result ≡ session_response self.now.terms session time_out }
     {
         SessionResponse {
-            time_out: clamped(self.timeouts, time_out),
+            time_out: clamp_timeout(self.timeouts, time_out),
             session_id: session,
             password: password(&self.secret, session),
         }
@@ -175,11 +176,11 @@ impl Sessions {
         ensures err { OnErr result (self.new ≡ self.old) }
     {
         if self.counter == COUNTERS - 1 {
-            return Ok(refused());
+            return Ok(refused_connect());
         }
         let counter = self.counter + 1;
         let session = session_id(self.server_id, counter);
-        let response = self.welcome(session, time_out);
+        let response = self.response_for(session, time_out);
         self.connections.add(alloc, connection, session)?;
         match self.guests.add(session, connection) {
             Err(e) => {
@@ -212,7 +213,7 @@ impl Sessions {
     }
 
     // Gives a session back.
-    fn rejoin(
+    fn reopen(
         &mut self,
         alloc: Global,
         connection: u64,
@@ -220,11 +221,11 @@ impl Sessions {
     ) -> Result<Connected, NoMemory>
         requires known { IsTrue (finmap.contains_key self.old.guests request.now.session_id) }
         requires free { finmap.get self.old.connections connection ≡ None }
-        ensures ok { IfOk result (λ connected. rejoin self.old connection request.now
+        ensures ok { IfOk result (λ connected. reopen_session self.old connection request.now
             ≡ record { connected = connected; after = self.new }) }
         ensures err { OnErr result (self.new ≡ self.old) }
     {
-        let response = self.welcome(request.session_id, request.time_out);
+        let response = self.response_for(request.session_id, request.time_out);
         self.connections.add(alloc, connection, request.session_id)?;
         let older = self.guests.replace(request.session_id, Some(connection));
         if let Some(older) = older {
@@ -241,7 +242,7 @@ impl Sessions {
         request: &SessionRequest<'_>,
     ) -> Result<Connected, NoMemory>
         requires { finmap.get self.old.connections connection ≡ None }
-        ensures ok { IfOk result (λ connected. connect self.old connection request.now
+        ensures ok { IfOk result (λ connected. connect_session self.old connection request.now
             ≡ record { connected = connected; after = self.new }) }
         ensures err { OnErr result (self.new ≡ self.old) }
     {
@@ -249,14 +250,14 @@ impl Sessions {
             return self.open_new(alloc, connection, request.time_out);
         }
         if !self.is_valid(request) {
-            return Ok(refused());
+            return Ok(refused_connect());
         }
-        self.rejoin(alloc, connection, request)
+        self.reopen(alloc, connection, request)
     }
 
     // Shows an id.
     fn show(&mut self, connection: u64, id: Id) -> Result<bool, NoMemory>
-        ensures ok { IfOk result (λ is_accepted. show self.old connection id
+        ensures ok { IfOk result (λ is_accepted. add_id self.old connection id
             ≡ record { is_accepted = is_accepted; after = self.new }) }
         ensures err { OnErr result (self.new ≡ self.old) }
     {
@@ -284,7 +285,7 @@ impl Sessions {
     ) -> Result<bool, NoMemory>
         ensures ok { let given = option_copied scheme.entry in
             let text = option_copied bytes.entry in
-            IfOk result (λ is_accepted. auth self.old connection given text
+            IfOk result (λ is_accepted. add_auth self.old connection given text
             ≡ record { is_accepted = is_accepted; after = self.new }) }
         ensures err { OnErr result (self.new ≡ self.old) }
     {
@@ -296,7 +297,7 @@ impl Sessions {
 
     /// Drops a connection and its ids. Its session stays.
     pub fn close(&mut self, connection: u64)
-        ensures { self.new ≡ close self.old connection }
+        ensures { self.new ≡ close_connection self.old connection }
     {
         match self.connections.take(connection) {
             None => return,
@@ -308,7 +309,7 @@ impl Sessions {
 
     /// Ends a guest session, and drops and answers its connection, which is to be closed. Nothing else has that id.
     pub fn expire(&mut self, session: i64) -> Option<u64>
-        ensures { expire self.old session ≡ record { closed = result; after = self.new } }
+        ensures { expire_guest self.old session ≡ record { closed = result; after = self.new } }
     {
         match self.guests.remove(session) {
             None => return None,

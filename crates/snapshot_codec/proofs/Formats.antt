@@ -6,17 +6,17 @@ use Rattle.std.proofs.lemmas.Bool.{eqb-true}
 use Rattle.std.proofs.lemmas.Slice.Eq.{bytes_eq-Decides}
 use Rattle.values.specs.declared.fault.Fault.{Fault}
 use Rattle.values.specs.declared.fault.Fault.TheVariants.{Short, BadPath, BadImage}
-use Rattle.jute.specs.Format.{int, long, buffer, count, count_limit, text, vector, both}
-use Rattle.jute.specs.Laws.{Sound}
+use Rattle.jute.specs.Format.{int, long, buffer, count_format, count_limit, text_format, vector_of, pair_of}
+use Rattle.jute.specs.Laws.{IsSound}
 use Rattle.jute.specs.Loading.{AreSound, NeverWaits}
-use Rattle.jute.specs.Owned.{acl}
+use Rattle.jute.specs.Owned.{acl_format}
 use Rattle.jute.specs.Records.{stat_persisted}
 use Rattle.jute.specs.declared.owned.Acl.{Acl}
 use Rattle.jute.proofs.Public.{ok_is, not_refused, guard_ended, bind_ok, int_sound, long_sound, count_sound, buffer_sound, text_sound, vector_sound, acl_sound, stat_persisted_sound, both_sound, judged_sound, case_sound}
-use Rattle.txn_codec.specs.Paths.{is_root, is_path, path_of}
+use Rattle.txn_codec.specs.Paths.{is_root, is_path, checked_path}
 use Rattle.data_tree.specs.Making.{has_place}
-use Rattle.snapshot_codec.specs.Made.{Made, with_value, with_listed_node, list_of, image_load}
-use Rattle.snapshot_codec.specs.Parts.{Value, Count, Path, Close, Part, count_of, count_back, session_of, session_back, acl_of, acl_back, slash, path_text, root_text, root_of, root_back, next_of, next_back, node_of, node_back, node_body, signature, signature_of, signature_back, counted_parts, part_format, parts}
+use Rattle.snapshot_codec.specs.Made.{LoadedParts, with_value, with_listed_node, list_at_key, image_load}
+use Rattle.snapshot_codec.specs.Parts.{Value, Count, Path, Close, Part, count_value, count_back, session_value, session_back, acl_value, acl_back, root_path, path_value, root_text_value, root_value, root_back, next_value, next_back, node_value, node_back, node_body, signature_text, signature_value, signature_back, counted_parts, part_format, part_stream}
 use Rattle.snapshot_codec.specs.declared.part.ImageNode.{ImageNode}
 use Rattle.snapshot_codec.specs.declared.part.ImagePart.TheVariants as part
 use Rattle.snapshot_codec.specs.declared.part.PartPhase.{PartPhase}
@@ -27,68 +27,68 @@ use Rattle.snapshot_codec.specs.declared.part.PartPhase.TheVariants.{SessionCoun
 abbrev Good : Value → Result Value Fault
 Good v = Ok v
 
-count_returns : (n : Option ℕ) (v : Value) → count_of n ≡ Ok v → count_back v ≡ Some n
+count_returns : (n : Option ℕ) (v : Value) → count_value n ≡ Ok v → count_back v ≡ Some n
 count_returns None v e = absurd cc
 count_returns (Some n) v e = ap count_back (sym (ok_is (Count n) v e))
 
-pub path_is : (t : List ℕ) (v : Value) → path_text t ≡ Ok v → v ≡ Path t
+pub path_is : (t : List ℕ) (v : Value) → path_value t ≡ Ok v → v ≡ Path t
 path_is t v e =
-    let p = bind_ok (path_of t) (λ path. Good (Path path)) v e in
+    let p = bind_ok (checked_path t) (λ path. Good (Path path)) v e in
     sym (ok_is (Path p.0) v p.2) ∙ ap (λ x. Path x) (sym (guard_ended (is_path t) BadPath t p.0 p.1).1)
 
-pub root_is : (t : List ℕ) → is_root t ≡ true → t ≡ slash
+pub root_is : (t : List ℕ) → is_root t ≡ true → t ≡ root_path
 root_is [] e = absurd cc
 root_is (b ∷ []) e = ap (λ (n : ℕ). n ∷ []) (eqb-true b 47 e)
 root_is (b ∷ c ∷ t) e = absurd cc
 
-root_back_of : (t : List ℕ) (v : Value) → root_text t ≡ Ok v → root_back v ≡ Some (Some t)
-root_back_of [] v e = ap root_back (sym (ok_is (Path slash) v e))
+root_back_of : (t : List ℕ) (v : Value) → root_text_value t ≡ Ok v → root_back v ≡ Some (Some t)
+root_back_of [] v e = ap root_back (sym (ok_is (Path root_path) v e))
 root_back_of (b ∷ t) v e = by (is_root (b ∷ t)) refl e
   where
-    by : (r : Bool) → is_root (b ∷ t) ≡ r → cond r (Err BadImage) (path_text (b ∷ t)) ≡ Ok v
+    by : (r : Bool) → is_root (b ∷ t) ≡ r → cond r (Err BadImage) (path_value (b ∷ t)) ≡ Ok v
         → root_back v ≡ Some (Some (b ∷ t))
     by true h k = absurd cc
     by false h k = ap root_back (path_is (b ∷ t) v k) ∙ ap (λ r. Some (Some (cond r [] (b ∷ t)))) h
 
-root_returns : (t : Option (List ℕ)) (v : Value) → root_of t ≡ Ok v → root_back v ≡ Some t
+root_returns : (t : Option (List ℕ)) (v : Value) → root_value t ≡ Ok v → root_back v ≡ Some t
 root_returns None v e = absurd cc
 root_returns (Some t) v e = root_back_of t v e
 
-next_returns : (t : Option (List ℕ)) (v : Value) → next_of t ≡ Ok v → next_back v ≡ Some t
+next_returns : (t : Option (List ℕ)) (v : Value) → next_value t ≡ Ok v → next_back v ≡ Some t
 next_returns None v e = absurd cc
 next_returns (Some t) v e = by (is_root t) refl e
   where
-    by : (r : Bool) → is_root t ≡ r → cond r (Good Close) (path_text t) ≡ Ok v → next_back v ≡ Some (Some t)
+    by : (r : Bool) → is_root t ≡ r → cond r (Good Close) (path_value t) ≡ Ok v → next_back v ≡ Some (Some t)
     by true h k = ap next_back (sym (ok_is Close v k)) ∙ ap (λ x. Some (Some x)) (sym (root_is t h))
     by false h k = ap next_back (path_is t v k)
 
-signature_returns : (t : Option (List ℕ)) (v : Value) → signature_of t ≡ Ok v → signature_back v ≡ Some t
+signature_returns : (t : Option (List ℕ)) (v : Value) → signature_value t ≡ Ok v → signature_back v ≡ Some t
 signature_returns None v e = absurd cc
 signature_returns (Some t) v e =
-    let g = guard_ended (bytes_eq t signature) BadImage (Part part.End) v e in
-    ap signature_back (sym g.1) ∙ ap (λ x. Some (Some x)) (sym ((bytes_eq-Decides t signature).0 g.0))
+    let g = guard_ended (bytes_eq t signature_text) BadImage (Part part.End) v e in
+    ap signature_back (sym g.1) ∙ ap (λ x. Some (Some x)) (sym ((bytes_eq-Decides t signature_text).0 g.0))
 
 -- ---- the formats
 
-counted_sound : Sound counted_parts
-counted_sound = judged_sound count_of count_back (count count_limit) count_returns (count_sound count_limit)
+counted_sound : IsSound counted_parts
+counted_sound = judged_sound count_value count_back (count_format count_limit) count_returns (count_sound count_limit)
 
-body_sound : Sound node_body
+body_sound : IsSound node_body
 body_sound = both_sound buffer _ buffer_sound (both_sound long stat_persisted long_sound stat_persisted_sound)
 
-pub part_sound : (phase : PartPhase) → Sound (part_format phase)
+pub part_sound : (phase : PartPhase) → IsSound (part_format phase)
 part_sound SessionCount = counted_sound
-part_sound (Sessions n) = case_sound session_of session_back (both long int) (λ s. refl)
+part_sound (Sessions n) = case_sound session_value session_back (pair_of long int) (λ s. refl)
     (both_sound long int long_sound int_sound)
 part_sound AclCount = counted_sound
-part_sound (Acls n) = case_sound acl_of acl_back (both long (vector acl)) (λ a. refl)
-    (both_sound long (vector acl) long_sound (vector_sound acl acl_sound))
-part_sound Root = judged_sound root_of root_back text root_returns text_sound
-part_sound Nodes = judged_sound next_of next_back text next_returns text_sound
-part_sound (Body path) = case_sound (node_of path) node_back node_body (λ n. refl) body_sound
-part_sound Signature = judged_sound signature_of signature_back text signature_returns text_sound
+part_sound (Acls n) = case_sound acl_value acl_back (pair_of long (vector_of acl_format)) (λ a. refl)
+    (both_sound long (vector_of acl_format) long_sound (vector_sound acl_format acl_sound))
+part_sound Root = judged_sound root_value root_back text_format root_returns text_sound
+part_sound Nodes = judged_sound next_value next_back text_format next_returns text_sound
+part_sound (Body path) = case_sound (node_value path) node_back node_body (λ n. refl) body_sound
+part_sound Signature = judged_sound signature_value signature_back text_format signature_returns text_sound
 
-pub parts_sound : AreSound parts
+pub parts_sound : AreSound part_stream
 parts_sound = record { sound = λ phase. part_sound phase }
 
 -- ---- no refusal waits
@@ -97,21 +97,22 @@ not_short : {A : Type 0} (b : Bool) (x : A) → cond b (Err BadImage) (Ok x) ≡
 not_short true x e = absurd cc
 not_short false x e = not_refused x Short e
 
-place_waits : (b : Bool) (x : Made) → cond b (Ok x) (Err BadImage) ≡ Err Short → ⊥
+place_waits : (b : Bool) (x : LoadedParts) → cond b (Ok x) (Err BadImage) ≡ Err Short → ⊥
 place_waits true x e = not_refused x Short e
 place_waits false x e = absurd cc
 
-node_waits : (made : Made) (n : ImageNode) (list : Option (List Acl)) → with_listed_node made n list ≡ Err Short → ⊥
+node_waits : (made : LoadedParts) (n : ImageNode) (list : Option (List Acl))
+    → with_listed_node made n list ≡ Err Short → ⊥
 node_waits made n None e = absurd cc
 node_waits made n (Some list) e = place_waits (has_place made.state.nodes n.path) _ e
 
-value_waits : (made : Made) (v : Value) → with_value made v ≡ Err Short → ⊥
+value_waits : (made : LoadedParts) (v : Value) → with_value made v ≡ Err Short → ⊥
 value_waits made (Count n) e = not_refused made Short e
 value_waits made (Path path) e = not_refused made Short e
 value_waits made Close e = not_refused made Short e
 value_waits made (Part (part.Session s)) e = not_short (is_some (finmap.get made.state.sessions s.id)) _ e
 value_waits made (Part (part.Acl a)) e = not_short (is_some (finmap.get made.lists a.key)) _ e
-value_waits made (Part (part.Node n)) e = node_waits made n (list_of made.lists n.acl) e
+value_waits made (Part (part.Node n)) e = node_waits made n (list_at_key made.lists n.acl) e
 value_waits made (Part part.End) e = not_refused made Short e
 
 pub never_waits : NeverWaits image_load

@@ -5,15 +5,15 @@ use Rattle.std.specs.FinMap.{find, is_sorted}
 use Rattle.std.specs.FinMap.Entries.{below_all}
 use Rattle.std.specs.List.{flat_map, AllByRecursion}
 use Rattle.ephemerals.specs.Orders.{Bytes, path_cmp}
-use Rattle.jute.specs.Format.{int, long, count, count_limit, text, both}
+use Rattle.jute.specs.Format.{int, long, count_format, count_limit, text_format, pair_of}
 use Rattle.jute.specs.declared.owned.Acl.{Acl}
 use Rattle.txn_codec.specs.Paths.{is_root, is_path}
 use Rattle.data_tree.specs.State.{State}
 use Rattle.data_tree.specs.Whole.{IsWhole}
 use Rattle.data_tree.specs.declared.node.Node.{Node}
-use Rattle.snapshot_codec.specs.Parts.{Value, Part, slash, signature, node_body}
-use Rattle.snapshot_codec.specs.Written.{walk_cmp, walk, Lists, lists_from, lists_of, key_of, session_part, list_part, counted_values, node_values, bytes_from, image_bytes, FitsImage}
-use Rattle.snapshot_codec.specs.Writes.{sessions_bytes, FitSessions, keyed_bytes, table_bytes, FitLists, Tables, nodes_bytes, FitNodes, Writes}
+use Rattle.snapshot_codec.specs.Parts.{Value, Part, root_path, signature_text, node_body}
+use Rattle.snapshot_codec.specs.Written.{walk_cmp, walk_of, Lists, lists_from, lists_of, key_of, session_part, list_part, counted_values, node_values, bytes_from, image_bytes, FitsImage}
+use Rattle.snapshot_codec.specs.Writes.{sessions_bytes, FitSessions, keyed_bytes, table_bytes, FitLists, MakesTable, nodes_bytes, FitNodes, WritesBytes}
 use Rattle.snapshot_codec.specs.declared.write_error.WriteError.{WriteError}
 use Rattle.snapshot_codec.specs.declared.write_error.WriteError.TheVariants.{NotWhole, NoMemory}
 use Rattle.snapshot_codec.specs.declared.part.PartPhase.TheVariants.{Sessions, AclCount, Acls, Root, Nodes}
@@ -23,16 +23,16 @@ use Rattle.snapshot_codec.proofs.WalkOrder.{first, walk_find, walk_sorted}
 
 sessions_out : (xs : List (ℤ × ℤ)) (vs : List Value)
     → bytes_from (sessions_from (length xs)) (map (λ x. Part (session_part x)) xs ++ vs)
-    ≡ flat_map (both long int).written xs ++ bytes_from AclCount vs
+    ≡ flat_map (pair_of long int).written xs ++ bytes_from AclCount vs
 sessions_out [] vs = refl
 sessions_out (x ∷ xs) vs =
     let behind = map (λ (y : ℤ × ℤ). Part (session_part y)) xs ++ vs in
-    let own = (both long int).written x in
+    let own = (pair_of long int).written x in
     ap (λ b. bytes_from (cond b AclCount (Sessions (suc (length xs)))) (Part (session_part x) ∷ behind))
     (not_zero (length xs))
     ∙ ap (λ n. own ++ bytes_from (sessions_from n) behind) (sym (one_less (length xs)))
     ∙ ap (λ (b : List ℕ). own ++ b) (sessions_out xs vs)
-    ∙ sym (append_assoc own (flat_map (both long int).written xs) (bytes_from AclCount vs))
+    ∙ sym (append_assoc own (flat_map (pair_of long int).written xs) (bytes_from AclCount vs))
 
 lists_out : (xs : Lists) (vs : List Value)
     → bytes_from (acls_from (length xs)) (map (λ x. Part (list_part x)) xs ++ vs)
@@ -46,7 +46,7 @@ lists_out (x ∷ xs) vs =
     ∙ sym (append_assoc (keyed_bytes x) (flat_map keyed_bytes xs) (bytes_from Root vs))
 
 pub end_bytes : List ℕ
-end_bytes = text.written (Some slash) ++ text.written (Some signature)
+end_bytes = text_format.written (Some root_path) ++ text_format.written (Some signature_text)
 
 module _ (lists : Lists) where
   abbrev body : Bytes × Node → List ℕ
@@ -65,25 +65,27 @@ module _ (lists : Lists) where
   nodes_out : (es : List (Bytes × Node)) → NotRoots es
       → bytes_from Nodes (node_values lists es) ≡ nodes_bytes lists es ++ end_bytes
   unfolding end_bytes
-  nodes_out [] h = ap (λ (b : List ℕ). text.written (Some slash) ++ b) (append-nil (text.written (Some signature)))
+  nodes_out [] h = ap (λ (b : List ℕ). text_format.written (Some root_path) ++ b)
+      (append-nil (text_format.written (Some signature_text)))
   nodes_out (e ∷ es) h =
-      ap (λ (b : List ℕ). text.written (Some e.0) ++ (body e ++ b)) (nodes_out es h.1)
-      ∙ ap (λ r. text.written (Some (cond r [] e.0)) ++ (body e ++ (nodes_bytes lists es ++ end_bytes))) (sym h.0)
-      ∙ behind_path (text.written (Some (cond (is_root e.0) [] e.0))) e es
+      ap (λ (b : List ℕ). text_format.written (Some e.0) ++ (body e ++ b)) (nodes_out es h.1)
+      ∙ ap (λ r. text_format.written (Some (cond r [] e.0)) ++ (body e ++ (nodes_bytes lists es ++ end_bytes)))
+      (sym h.0)
+      ∙ behind_path (text_format.written (Some (cond (is_root e.0) [] e.0))) e es
 
   root_out : (e : Bytes × Node) (es : List (Bytes × Node)) → NotRoots es
       → bytes_from Root (node_values lists (e ∷ es)) ≡ nodes_bytes lists (e ∷ es) ++ end_bytes
   root_out e es h =
-      ap (λ (b : List ℕ). text.written (Some (cond (is_root e.0) [] e.0)) ++ (body e ++ b)) (nodes_out es h)
-      ∙ behind_path (text.written (Some (cond (is_root e.0) [] e.0))) e es
+      ap (λ (b : List ℕ). text_format.written (Some (cond (is_root e.0) [] e.0)) ++ (body e ++ b)) (nodes_out es h)
+      ∙ behind_path (text_format.written (Some (cond (is_root e.0) [] e.0))) e es
 
   walk_out : (es : List (Bytes × Node)) → T (is_sorted walk_cmp es) → ArePaths es
-      → is_some (find path_cmp slash es) ≡ true
+      → is_some (find path_cmp root_path es) ≡ true
       → bytes_from Root (node_values lists es) ≡ nodes_bytes lists es ++ end_bytes
   walk_out [] h p some = absurd (true≢false (sym some))
   walk_out (e ∷ es) h p some =
       let root = first_root e es h p some in
-      let below : T (below_all walk_cmp slash es) = subst (λ (q : Bytes). T (below_all walk_cmp q es)) (sym root)
+      let below : T (below_all walk_cmp root_path es) = subst (λ (q : Bytes). T (below_all walk_cmp q es)) (sym root)
       (first (below_all walk_cmp e.0 es) (is_sorted walk_cmp es) h) in
       root_out e es (no_roots es (others es below (behind_first e es p)))
     where
@@ -96,20 +98,20 @@ module _ (lists : Lists) where
 -- the sections of a whole state's image
 pub sections : (s : State) → IsWhole s
     → ((sessions_bytes (finmap.entries s.sessions) ++ table_bytes (lists_of s.nodes))
-    ++ nodes_bytes (lists_of s.nodes) (walk s.nodes)) ++ end_bytes
+    ++ nodes_bytes (lists_of s.nodes) (walk_of s.nodes)) ++ end_bytes
     ≡ image_bytes s
 sections s w = sym (
     ap (λ (b : List ℕ). counted (length ids) ++ b)
     (sessions_out ids (counted_values list_part table ++ node_values table es))
     ∙ ap (λ (b : List ℕ). counted (length ids)
-    ++ (flat_map (both long int).written ids ++ (counted (length table) ++ b)))
+    ++ (flat_map (pair_of long int).written ids ++ (counted (length table) ++ b)))
     (lists_out table (node_values table es))
     ∙ ap (λ (b : List ℕ). counted (length ids)
-    ++ (flat_map (both long int).written ids ++ (counted (length table) ++ (flat_map keyed_bytes table ++ b))))
+    ++ (flat_map (pair_of long int).written ids ++ (counted (length table) ++ (flat_map keyed_bytes table ++ b))))
     (walk_out table es (walk_sorted s.nodes)
     (λ q some. w.named.paths q (sym (ap is_some (walk_find s.nodes q)) ∙ some))
-    (ap is_some (walk_find s.nodes slash) ∙ w.root))
-    ∙ joined (counted (length ids)) (flat_map (both long int).written ids) (counted (length table))
+    (ap is_some (walk_find s.nodes root_path) ∙ w.root))
+    ∙ joined (counted (length ids)) (flat_map (pair_of long int).written ids) (counted (length table))
     (flat_map keyed_bytes table)
     (nodes_bytes table es) end_bytes)
   where
@@ -120,10 +122,10 @@ sections s w = sym (
     table = lists_of s.nodes
 
     es : List (Bytes × Node)
-    es = walk s.nodes
+    es = walk_of s.nodes
 
     counted : ℕ → List ℕ
-    counted n = (count count_limit).written (Some n)
+    counted n = (count_format count_limit).written (Some n)
 
     joined : (a b c d e f : List ℕ) → a ++ (b ++ (c ++ (d ++ (e ++ f)))) ≡ (((a ++ b) ++ (c ++ d)) ++ e) ++ f
     joined a b c d e f =
@@ -152,13 +154,13 @@ module _ (s : State) where
   table = lists_of s.nodes
 
   abbrev PathFits : Bytes × Node → Type 0
-  PathFits e = text.Fits (Some e.0)
+  PathFits e = text_format.Fits (Some e.0)
 
   abbrev BodyFits : Bytes × Node → Type 0
   BodyFits e = node_body.Fits (e.1.bytes, (key_of table e.1.acl, e.1.stat))
 
   pub fits_image : IsWhole s → FitSessions (finmap.entries s.sessions) → FitLists table
-      → FitNodes table (walk s.nodes) → FitsImage s
+      → FitNodes table (walk_of s.nodes) → FitsImage s
   fits_image w a b c = (
     w,
     record {
@@ -166,8 +168,8 @@ module _ (s : State) where
       sessions = a.1;
       list_count = b.0;
       lists = b.1;
-      paths = all_first PathFits BodyFits (walk s.nodes) c;
-      nodes = all_second PathFits BodyFits (walk s.nodes) c;
+      paths = all_first PathFits BodyFits (walk_of s.nodes) c;
+      nodes = all_second PathFits BodyFits (walk_of s.nodes) c;
     },
   )
 
@@ -177,21 +179,22 @@ module _ (s : State) where
   pub fit_lists : FitsImage s → FitLists table
   fit_lists h = (h.1.list_count, h.1.lists)
 
-  pub fit_nodes : FitsImage s → FitNodes table (walk s.nodes)
-  fit_nodes h = all_both PathFits BodyFits (walk s.nodes) h.1.paths h.1.nodes
+  pub fit_nodes : FitsImage s → FitNodes table (walk_of s.nodes)
+  fit_nodes h = all_both PathFits BodyFits (walk_of s.nodes) h.1.paths h.1.nodes
 
 -- ---- what is written, call by call
 
-module _ (s : State) (rows : List (Bytes × Node)) (is : rows ≡ walk s.nodes) where
+module _ (s : State) (rows : List (Bytes × Node)) (is : rows ≡ walk_of s.nodes) where
   pub put_all : (ids : List (ℤ × ℤ)) (zero one two three four all : List ℕ) → IsWhole s
       → ids ≡ finmap.entries s.sessions → zero ≡ [] → one ≡ zero ++ sessions_bytes ids
       → two ≡ one ++ table_bytes (lists_from [] rows)
       → three ≡ two ++ nodes_bytes (lists_from [] rows) rows
-      → four ≡ three ++ text.written (Some slash) → all ≡ four ++ text.written (Some signature) → all ≡ image_bytes s
+      → four ≡ three ++ text_format.written (Some root_path) → all ≡ four ++ text_format.written (Some signature_text)
+      → all ≡ image_bytes s
   unfolding end_bytes
   put_all ids zero one two three four all w same a b c d e f =
-      f ∙ ap (λ (t : List ℕ). t ++ text.written (Some signature)) e
-      ∙ append_assoc three (text.written (Some slash)) (text.written (Some signature))
+      f ∙ ap (λ (t : List ℕ). t ++ text_format.written (Some signature_text)) e
+      ∙ append_assoc three (text_format.written (Some root_path)) (text_format.written (Some signature_text))
       ∙ ap (λ (t : List ℕ). t ++ end_bytes) (d ∙ (λ i. (c ∙ (λ j. (b ∙ (λ k. a k ++ sessions_bytes (same k))) j
       ++ table_bytes (lists_from [] (is j)))) i ++ nodes_bytes (lists_from [] (is i)) (is i)))
       ∙ sections s w
@@ -203,14 +206,14 @@ module _ (s : State) (rows : List (Bytes × Node)) (is : rows ≡ walk s.nodes) 
       (subst (λ (es : List (Bytes × Node)). FitLists (lists_from [] es)) is b)
       (subst (λ (es : List (Bytes × Node)). FitNodes (lists_from [] es) es) is c)
 
-  pub lists_refused : {A : Type 0} (e : WriteError) → Tables (Err e) (lists_from [] rows)
+  pub lists_refused : {A : Type 0} (e : WriteError) → MakesTable (Err e) (lists_from [] rows)
       → ◌≡◌ {A = Result A WriteError} (Err e) (Err NotWhole) → FitsImage s → ⊥
   lists_refused NotWhole bad same h =
       bad (subst (λ (es : List (Bytes × Node)). FitLists (lists_from [] es)) (sym is) (fit_lists s h))
   lists_refused NoMemory bad same h = absurd cc
 
   pub nodes_refused : {A : Type 0} (e : WriteError) (bytes old new : List ℕ)
-      → Writes (Err e) bytes old new (FitNodes (lists_from [] rows) rows)
+      → WritesBytes (Err e) bytes old new (FitNodes (lists_from [] rows) rows)
       → ◌≡◌ {A = Result A WriteError} (Err e) (Err NotWhole) → FitsImage s → ⊥
   nodes_refused NotWhole bytes old new bad same h =
       bad (subst (λ (es : List (Bytes × Node)). FitNodes (lists_from [] es) es) (sym is) (fit_nodes s h))

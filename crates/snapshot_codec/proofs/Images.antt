@@ -18,10 +18,10 @@ use Rattle.ephemerals.specs.Orders.{Bytes, pair_cmp, path_cmp}
 use Rattle.ephemerals.proofs.Totals.{path_total, pair_total, pair_exact}
 use Rattle.jute.specs.Codes.{open_acl}
 use Rattle.jute.specs.Format.{◌>>=◌}
-use Rattle.jute.specs.Laws.{IsBytes, Takes, TakesSpellings, Named}
+use Rattle.jute.specs.Laws.{IsBytes, TakesSpelling, TakesSpellings, NamesFaults}
 use Rattle.jute.specs.Loading.{load_from, made_of, IsLoaded, IsRefused}
-use Rattle.jute.specs.Pieces.{Stands, Eats}
-use Rattle.jute.specs.Stream.{Streamed}
+use Rattle.jute.specs.Pieces.{IsStable, LeavesFewer}
+use Rattle.jute.specs.Stream.{IsStreamable}
 use Rattle.jute.specs.declared.owned.Acl.{Acl}
 use Rattle.jute.proofs.Public.{bind_ok, bind_err, ok_is, not_refused, guard_ok, guard_ended, guard_err, guard_refused, then_stands, at_most, load_stands, load_eats, stand_on, stand_front, loaded_again, load_takes, load_answers, load_names}
 use Rattle.txn_codec.specs.Paths.{is_root}
@@ -31,9 +31,9 @@ use Rattle.data_tree.specs.Nodes.{Nodes}
 use Rattle.data_tree.specs.State.{State}
 use Rattle.data_tree.specs.Whole.{is_owner}
 use Rattle.data_tree.specs.declared.node.Node.{Node}
-use Rattle.snapshot_codec.specs.Image.{Sessions, Lists, Rows, parts_in, sessions_in, lists_in, rows_in, list_named, HasPlace, GoesBehind, EachGoesBehind, AreAt, IsMadeOf, SpellsImage, IsOut, AgainstImage, image, image_read}
-use Rattle.snapshot_codec.specs.Made.{Made, nothing, list_of, node_with, with_listed_node, with_part, with_value, image_load}
-use Rattle.snapshot_codec.specs.Parts.{Value, Count, Path, Close, Part, parts}
+use Rattle.snapshot_codec.specs.Image.{SessionEntries, Lists, Rows, parts_in, sessions_in, lists_in, rows_in, list_named, HasPlace, IsAllowedAfter, AreAllowedAfter, AreAt, IsMadeOf, SpellsImage, IsRefusedAfter, AgainstImage, image_format, image_read}
+use Rattle.snapshot_codec.specs.Made.{LoadedParts, no_loaded_parts, list_at_key, node_with, with_listed_node, with_part, with_value, image_load}
+use Rattle.snapshot_codec.specs.Parts.{Value, Count, Path, Close, Part, part_stream}
 use Rattle.snapshot_codec.specs.declared.part.ImageNode.{ImageNode}
 use Rattle.snapshot_codec.specs.declared.part.ImagePart.{ImagePart}
 use Rattle.snapshot_codec.specs.declared.part.ImagePart.TheVariants as part
@@ -44,10 +44,10 @@ use Rattle.snapshot_codec.proofs.Reading.{streamed}
 
 -- ---- one part
 
-abbrev pub FitsBehind : Made → List ImagePart → Type 0
+abbrev pub FitsBehind : LoadedParts → List ImagePart → Type 0
 FitsBehind made front = Fits made (flat_map sessions_in front) (flat_map lists_in front) (flat_map rows_in front)
 
-fits_nothing : FitsBehind nothing []
+fits_nothing : FitsBehind no_loaded_parts []
 fits_nothing = record {
   state = record {
     timeouts = λ id. finmap.get-empty int_cmp id;
@@ -58,14 +58,14 @@ fits_nothing = record {
   closed = λ path none name. refl;
 }
   where
-    unowned : (session : ℤ) (path : Bytes) → is_owner session (finmap.get (nothing.state.nodes) path) ≡ false
+    unowned : (session : ℤ) (path : Bytes) → is_owner session (finmap.get (no_loaded_parts.state.nodes) path) ≡ false
     unowned session path = ap (is_owner session) (finmap.get-empty path_cmp path)
 
-moved : (made : Made) (s t : Sessions) (l m : Lists) (r q : Rows) → Fits made s l r → s ≡ t → l ≡ m → r ≡ q
+moved : (made : LoadedParts) (s t : SessionEntries) (l m : Lists) (r q : Rows) → Fits made s l r → s ≡ t → l ≡ m → r ≡ q
     → Fits made t m q
 moved made s t l m r q f e g h =
     subst (λ (x : Rows). Fits made t m x) h (subst (λ (x : Lists). Fits made t x r) g
-    (subst (λ (x : Sessions). Fits made x l r) e f))
+    (subst (λ (x : SessionEntries). Fits made x l r) e f))
 
 pub gained : {A : Type 0} (f : ImagePart → List A) (front : List ImagePart) (p : ImagePart) (xs : List A) → f p ≡ xs
     → flat_map f front ++ xs ≡ flat_map f (front ++ p ∷ [])
@@ -77,8 +77,8 @@ pub kept : {A : Type 0} (f : ImagePart → List A) (front : List ImagePart) (p :
     → flat_map f front ≡ flat_map f (front ++ p ∷ [])
 kept f front p e = sym (append-nil (flat_map f front)) ∙ gained f front p [] e
 
-module _ (made : Made) (front : List ImagePart) (f : FitsBehind made front) where
-  abbrev sessions : Sessions
+module _ (made : LoadedParts) (front : List ImagePart) (f : FitsBehind made front) where
+  abbrev sessions : SessionEntries
   sessions = flat_map sessions_in front
 
   abbrev lists : Lists
@@ -87,13 +87,13 @@ module _ (made : Made) (front : List ImagePart) (f : FitsBehind made front) wher
   abbrev rows : Rows
   rows = flat_map rows_in front
 
-  named_same : (key : ℤ) → list_of made.lists key ≡ list_named lists key
+  named_same : (key : ℤ) → list_at_key made.lists key ≡ list_named lists key
   named_same key = ap (λ (o : Option (List Acl)). cond (int_eq key (negsuc 0)) (Some open_acl) o) (f.table key)
 
-  abbrev Goes : ImagePart → Made → Type 0
-  Goes p next = GoesBehind front p × FitsBehind next (front ++ p ∷ [])
+  abbrev Goes : ImagePart → LoadedParts → Type 0
+  Goes p next = IsAllowedAfter front p × FitsBehind next (front ++ p ∷ [])
 
-  session_goes : (id timeout : ℤ) (next : Made) → with_part made
+  session_goes : (id timeout : ℤ) (next : LoadedParts) → with_part made
       (part.Session (record { id = id; timeout = timeout })) ≡ Ok next
       → Goes (part.Session (record { id = id; timeout = timeout })) next
   session_goes id timeout next e =
@@ -104,13 +104,13 @@ module _ (made : Made) (front : List ImagePart) (f : FitsBehind made front) wher
         none,
         moved next (sessions ++ (id, timeout) ∷ []) (flat_map sessions_in (front ++ p ∷ [])) lists
             (flat_map lists_in (front ++ p ∷ [])) rows (flat_map rows_in (front ++ p ∷ []))
-            (subst (λ (m : Made). Fits m (sessions ++ (id, timeout) ∷ []) lists rows) g.1
+            (subst (λ (m : LoadedParts). Fits m (sessions ++ (id, timeout) ∷ []) lists rows) g.1
             (session_fits made sessions lists rows id timeout f none))
             (gained sessions_in front p ((id, timeout) ∷ []) refl) (kept lists_in front p refl)
             (kept rows_in front p refl),
       )
 
-  acl_goes : (key : ℤ) (list : Option (List Acl)) (next : Made)
+  acl_goes : (key : ℤ) (list : Option (List Acl)) (next : LoadedParts)
       → with_part made (part.Acl (record { key = key; list = list })) ≡ Ok next
       → Goes (part.Acl (record { key = key; list = list })) next
   acl_goes key list next e =
@@ -121,13 +121,13 @@ module _ (made : Made) (front : List ImagePart) (f : FitsBehind made front) wher
         none,
         moved next sessions (flat_map sessions_in (front ++ p ∷ [])) (lists ++ (key, acl_or_open list) ∷ [])
             (flat_map lists_in (front ++ p ∷ [])) rows (flat_map rows_in (front ++ p ∷ []))
-            (subst (λ (m : Made). Fits m sessions (lists ++ (key, acl_or_open list) ∷ []) rows) g.1
+            (subst (λ (m : LoadedParts). Fits m sessions (lists ++ (key, acl_or_open list) ∷ []) rows) g.1
             (list_fits made sessions lists rows key (acl_or_open list) f none))
             (kept sessions_in front p refl) (gained lists_in front p ((key, acl_or_open list) ∷ []) refl)
             (kept rows_in front p refl),
       )
 
-  node_goes : (n : ImageNode) (named : Option (List Acl)) (next : Made) → list_named lists n.acl ≡ named
+  node_goes : (n : ImageNode) (named : Option (List Acl)) (next : LoadedParts) → list_named lists n.acl ≡ named
       → with_listed_node made n named ≡ Ok next
       → Goes (part.Node n) next
   node_goes n None next is e = absurd cc
@@ -140,14 +140,14 @@ module _ (made : Made) (front : List ImagePart) (f : FitsBehind made front) wher
         (place, ap is_some is),
         moved next sessions (flat_map sessions_in (front ++ p ∷ [])) lists (flat_map lists_in (front ++ p ∷ []))
             (rows ++ (n.path, n) ∷ []) (flat_map rows_in (front ++ p ∷ []))
-            (subst (λ (m : Made). Fits m sessions lists (rows ++ (n.path, n) ∷ [])) g.1
+            (subst (λ (m : LoadedParts). Fits m sessions lists (rows ++ (n.path, n) ∷ [])) g.1
             (node_fits made sessions lists rows n.path n acl is f (is_root n.path) refl place))
             (kept sessions_in front p refl) (kept lists_in front p refl)
             (gained rows_in front p ((n.path, n) ∷ []) refl),
       )
 
   -- a part that is taken goes with those before it
-  pub part_goes : (p : ImagePart) (next : Made) → with_part made p ≡ Ok next → Goes p next
+  pub part_goes : (p : ImagePart) (next : LoadedParts) → with_part made p ≡ Ok next → Goes p next
   part_goes (part.Session s) next e = session_goes s.id s.timeout next e
   part_goes (part.Acl a) next e = acl_goes a.key a.list next e
   part_goes (part.Node n) next e =
@@ -155,7 +155,7 @@ module _ (made : Made) (front : List ImagePart) (f : FitsBehind made front) wher
   part_goes part.End next e =
       let same : made ≡ next = ok_is made next e in (
         tt,
-        subst (λ (m : Made). FitsBehind m (front ++ part.End ∷ [])) same
+        subst (λ (m : LoadedParts). FitsBehind m (front ++ part.End ∷ [])) same
             (moved made sessions (flat_map sessions_in (front ++ part.End ∷ [])) lists
             (flat_map lists_in (front ++ part.End ∷ [])) rows (flat_map rows_in (front ++ part.End ∷ [])) f
             (kept sessions_in front part.End refl) (kept lists_in front part.End refl)
@@ -164,7 +164,7 @@ module _ (made : Made) (front : List ImagePart) (f : FitsBehind made front) wher
 
   node_taken : (n : ImageNode) (named : Option (List Acl)) → HasPlace (is_root n.path) rows n.path
       → is_some named ≡ true
-      → (next : Made) × (with_listed_node made n named ≡ Ok next)
+      → (next : LoadedParts) × (with_listed_node made n named ≡ Ok next)
   node_taken n None place some = absurd (true≢false (sym some))
   node_taken n (Some acl) place some = (
     record made { state = with_node made.state n.path (node_with n acl) },
@@ -173,7 +173,7 @@ module _ (made : Made) (front : List ImagePart) (f : FitsBehind made front) wher
   )
 
   -- and one that goes with them is taken
-  pub part_taken : (p : ImagePart) → GoesBehind front p → (next : Made) × (with_part made p ≡ Ok next)
+  pub part_taken : (p : ImagePart) → IsAllowedAfter front p → (next : LoadedParts) × (with_part made p ≡ Ok next)
   part_taken (part.Session s) h = (
     record made { state = with_session made.state s.id s.timeout },
     rw (none_is _ (f.state.timeouts s.id ∙ h)) refl,
@@ -188,33 +188,33 @@ module _ (made : Made) (front : List ImagePart) (f : FitsBehind made front) wher
   part_taken part.End h = (made, refl)
 
 -- a part is refused for one reason
-node_fault : (made : Made) (n : ImageNode) (named : Option (List Acl)) (e : Fault)
+node_fault : (made : LoadedParts) (n : ImageNode) (named : Option (List Acl)) (e : Fault)
     → with_listed_node made n named ≡ Err e → BadImage ≡ e
 node_fault made n None e h = cc
 node_fault made n (Some acl) e h =
     (guard_refused (has_place made.state.nodes n.path) BadImage e
     (record made { state = with_node made.state n.path (node_with n acl) }) h).1
 
-part_fault : (made : Made) (p : ImagePart) (e : Fault) → with_part made p ≡ Err e → BadImage ≡ e
+part_fault : (made : LoadedParts) (p : ImagePart) (e : Fault) → with_part made p ≡ Err e → BadImage ≡ e
 part_fault made (part.Session s) e h =
     (guard_err (is_some (finmap.get made.state.sessions s.id)) BadImage e
     (record made { state = with_session made.state s.id s.timeout }) h).1
 part_fault made (part.Acl a) e h =
     (guard_err (is_some (finmap.get made.lists a.key)) BadImage e
     (record made { lists = finmap.insert made.lists a.key (acl_or_open a.list) }) h).1
-part_fault made (part.Node n) e h = node_fault made n (list_of made.lists n.acl) e h
+part_fault made (part.Node n) e h = node_fault made n (list_at_key made.lists n.acl) e h
 part_fault made part.End e h = absurd (not_refused made e h)
 
 -- ---- all of them
 
 -- what was taken goes together
-order_of : (vs : List Value) (old new : Made) (front : List ImagePart) → FitsBehind old front
+order_of : (vs : List Value) (old new : LoadedParts) (front : List ImagePart) → FitsBehind old front
     → made_of image_load old vs ≡ Ok new
-    → EachGoesBehind front (flat_map parts_in vs) × FitsBehind new (front ++ flat_map parts_in vs)
+    → AreAllowedAfter front (flat_map parts_in vs) × FitsBehind new (front ++ flat_map parts_in vs)
 order_of [] old new front f e = (
   tt,
   subst (λ (ps : List ImagePart). FitsBehind new ps) (sym (append-nil front))
-      (subst (λ (m : Made). FitsBehind m front) (ok_is old new e) f),
+      (subst (λ (m : LoadedParts). FitsBehind m front) (ok_is old new e) f),
 )
 order_of (Count n ∷ vs) old new front f e = order_of vs old new front f e
 order_of (Path path ∷ vs) old new front f e = order_of vs old new front f e
@@ -228,9 +228,9 @@ order_of (Part p ∷ vs) old new front f e =
     )
 
 -- and what goes together is taken
-made_by : (vs : List Value) (old : Made) (front : List ImagePart) → FitsBehind old front
-    → EachGoesBehind front (flat_map parts_in vs)
-    → (new : Made) × (made_of image_load old vs ≡ Ok new)
+made_by : (vs : List Value) (old : LoadedParts) (front : List ImagePart) → FitsBehind old front
+    → AreAllowedAfter front (flat_map parts_in vs)
+    → (new : LoadedParts) × (made_of image_load old vs ≡ Ok new)
 made_by [] old front f h = (old, refl)
 made_by (Count n ∷ vs) old front f h = made_by vs old front f h
 made_by (Path path ∷ vs) old front f h = made_by vs old front f h
@@ -239,7 +239,7 @@ made_by (Part p ∷ vs) old front f h =
     let step = part_taken old front f p h.0 in
     let goes = part_goes old front f p step.0 step.1 in
     let others = made_by vs step.0 (front ++ p ∷ []) goes.1 h.1 in
-    (others.0, ap (λ (q : Result Made Fault). q >>= λ next. made_of image_load next vs) step.1 ∙ others.1)
+    (others.0, ap (λ (q : Result LoadedParts Fault). q >>= λ next. made_of image_load next vs) step.1 ∙ others.1)
 
 -- ---- there is one such state
 
@@ -260,7 +260,7 @@ one_node lists rows path None (Some a) b g h = absurd g
 one_node lists rows path (Some r) None b g h = absurd g
 one_node lists rows path (Some r) (Some a) None g h = absurd h
 
-one_state : (s t : State) (ids : Sessions) (named : Lists) (placed : Rows) → IsMadeOf s ids named placed
+one_state : (s t : State) (ids : SessionEntries) (named : Lists) (placed : Rows) → IsMadeOf s ids named placed
     → IsMadeOf t ids named placed → s ≡ t
 one_state s t ids named placed f g =
     let timeouts = finmap.same_map int_cmp_total exact_signed s.sessions t.sessions
@@ -273,65 +273,65 @@ one_state s t ids named placed f g =
 
 -- ---- the image
 
-abbrev shown : Made × List ℕ → Result (State × List ℕ) Fault
+abbrev shown : LoadedParts × List ℕ → Result (State × List ℕ) Fault
 shown x = Ok (x.0.state, x.1)
 
 image_takes : (bytes : List ℕ) (s : State) (rest : List ℕ) → IsBytes bytes → image_read bytes ≡ Ok (s, rest)
-    → Takes image bytes s rest
+    → TakesSpelling image_format bytes s rest
 unfolding image_read
 image_takes bytes s rest fits e =
-    let loads = bind_ok (load_from image_load SessionCount nothing bytes) shown (s, rest) e in
-    let l = load_takes image_load parts_sound SessionCount nothing loads.0.0 bytes loads.0.1 fits loads.1 in
-    let f = stand_front parts l.0.found SessionCount l.0.end bytes loads.0.1 l.0.stand in
-    let o = order_of l.0.found nothing loads.0.0 [] fits_nothing l.0.made in
-    let taken : Takes image bytes loads.0.0.state loads.0.1 = record {
+    let loads = bind_ok (load_from image_load SessionCount no_loaded_parts bytes) shown (s, rest) e in
+    let l = load_takes image_load parts_sound SessionCount no_loaded_parts loads.0.0 bytes loads.0.1 fits loads.1 in
+    let f = stand_front part_stream l.0.found SessionCount l.0.end bytes loads.0.1 l.0.stand in
+    let o = order_of l.0.found no_loaded_parts loads.0.0 [] fits_nothing l.0.made in
+    let taken : TakesSpelling image_format bytes loads.0.0.state loads.0.1 = record {
       text = f.0;
       parts = f.1;
       spells = record { found = l.0.found; end = l.0.end; stand = f.2; ends = l.0.ends; order = o.0; made = o.1.state };
       rest_fits = l.1;
     } in
-    subst (λ (y : State × List ℕ). Takes image bytes y.0 y.1)
+    subst (λ (y : State × List ℕ). TakesSpelling image_format bytes y.0 y.1)
     (ok_is (loads.0.0.state, loads.0.1) (s, rest) loads.2) taken
 
-pub image_taken : TakesSpellings image
+pub image_taken : TakesSpellings image_format
 image_taken = image_takes
 
 pub image_again : (s : State) (text rest : List ℕ) → SpellsImage s text → image_read (text ++ rest) ≡ Ok (s, rest)
 unfolding image_read
 image_again s text rest sp =
-    let m = made_by sp.found nothing [] fits_nothing sp.order in
-    let o = order_of sp.found nothing m.0 [] fits_nothing m.1 in
+    let m = made_by sp.found no_loaded_parts [] fits_nothing sp.order in
+    let o = order_of sp.found no_loaded_parts m.0 [] fits_nothing m.1 in
     let same : m.0.state ≡ s = one_state m.0.state s _ _ _ o.1.state sp.made in
-    let loaded : IsLoaded image_load SessionCount nothing (text ++ rest) m.0 rest = record {
+    let loaded : IsLoaded image_load SessionCount no_loaded_parts (text ++ rest) m.0 rest = record {
       found = sp.found;
       end = sp.end;
-      stand = stand_on parts sp.found SessionCount sp.end text rest sp.stand;
+      stand = stand_on part_stream sp.found SessionCount sp.end text rest sp.stand;
       ends = sp.ends;
       made = m.1;
     } in
-    ap (λ (q : Result (Made × List ℕ) Fault). q >>= shown)
-    (loaded_again image_load parts_sound SessionCount nothing m.0 (text ++ rest) rest loaded)
+    ap (λ (q : Result (LoadedParts × List ℕ) Fault). q >>= shown)
+    (loaded_again image_load parts_sound SessionCount no_loaded_parts m.0 (text ++ rest) rest loaded)
     ∙ ap (λ (t : State). Ok (t, rest)) same
 
 -- ---- in pieces
 
-ate : (r : Result (Made × List ℕ) Fault) (n : ℕ) → Eats r n → Eats (r >>= shown) n
+ate : (r : Result (LoadedParts × List ℕ) Fault) (n : ℕ) → LeavesFewer r n → LeavesFewer (r >>= shown) n
 ate (Ok x) n h = h
 ate (Err e) n h = tt
 
-image_eats : (bytes : List ℕ) → Eats (image_read bytes) (length bytes)
+image_eats : (bytes : List ℕ) → LeavesFewer (image_read bytes) (length bytes)
 unfolding image_read
-image_eats bytes = ate (load_from image_load SessionCount nothing bytes) (length bytes)
-    (load_eats image_load streamed SessionCount nothing bytes)
+image_eats bytes = ate (load_from image_load SessionCount no_loaded_parts bytes) (length bytes)
+    (load_eats image_load streamed SessionCount no_loaded_parts bytes)
 
-image_stands : (bytes more : List ℕ) → Stands (image_read bytes) more (image_read (bytes ++ more))
+image_stands : (bytes more : List ℕ) → IsStable (image_read bytes) more (image_read (bytes ++ more))
 unfolding image_read
 image_stands bytes more =
-    then_stands (load_from image_load SessionCount nothing bytes)
-    (load_from image_load SessionCount nothing (bytes ++ more)) more shown
-    (load_stands image_load streamed SessionCount nothing bytes more) (λ a rest. refl)
+    then_stands (load_from image_load SessionCount no_loaded_parts bytes)
+    (load_from image_load SessionCount no_loaded_parts (bytes ++ more)) more shown
+    (load_stands image_load streamed SessionCount no_loaded_parts bytes more) (λ a rest. refl)
 
-pub image_streamed : Streamed image
+pub image_streamed : IsStreamable image_format
 image_streamed = record {
   pieced = record {
     stands = image_stands;
@@ -344,8 +344,8 @@ image_streamed = record {
 -- ---- refusals
 
 -- the next value is refused exactly where it is out
-out_of : (made : Made) (front : List ImagePart) (v : Value) (e : Fault) → FitsBehind made front
-    → with_value made v ≡ Err e → (e ≡ BadImage) × IsOut front v
+out_of : (made : LoadedParts) (front : List ImagePart) (v : Value) (e : Fault) → FitsBehind made front
+    → with_value made v ≡ Err e → (e ≡ BadImage) × IsRefusedAfter front v
 out_of made front (Count n) e f h = absurd (not_refused made e h)
 out_of made front (Path path) e f h = absurd (not_refused made e h)
 out_of made front Close e f h = absurd (not_refused made e h)
@@ -354,28 +354,28 @@ out_of made front (Part p) e f h = (
   λ goes. let t = part_taken made front f p goes in not_refused t.0 e (sym t.1 ∙ h),
 )
 
-is_refused : (made : Made) (front : List ImagePart) (v : Value) → FitsBehind made front → IsOut front v
+is_refused : (made : LoadedParts) (front : List ImagePart) (v : Value) → FitsBehind made front → IsRefusedAfter front v
     → with_value made v ≡ Err BadImage
 is_refused made front (Count n) f out = absurd out
 is_refused made front (Path path) f out = absurd out
 is_refused made front Close f out = absurd out
 is_refused made front (Part p) f out = by (with_part made p) refl
   where
-    by : (r : Result Made Fault) → with_part made p ≡ r → r ≡ Err BadImage
+    by : (r : Result LoadedParts Fault) → with_part made p ≡ r → r ≡ Err BadImage
     by (Ok next) h = absurd (out (part_goes made front f p next h).0)
     by (Err e) h = ap (λ d. Err d) (sym (part_fault made p e h))
 
 image_names : (bytes : List ℕ) (e : Fault) → IsBytes bytes → image_read bytes ≡ Err e → AgainstImage e bytes
 unfolding image_read
 image_names bytes e fits h =
-    elim (bind_err (load_from image_load SessionCount nothing bytes) shown e h) [
-      | inl first ↦ named (load_names image_load parts_sound SessionCount nothing bytes e fits first)
+    elim (bind_err (load_from image_load SessionCount no_loaded_parts bytes) shown e h) [
+      | inl first ↦ named (load_names image_load parts_sound SessionCount no_loaded_parts bytes e fits first)
       | inr never ↦ absurd (not_refused (never.0.0.state, never.0.1) e never.2)
     ]
   where
-    named : IsRefused image_load SessionCount nothing bytes e → AgainstImage e bytes
+    named : IsRefused image_load SessionCount no_loaded_parts bytes e → AgainstImage e bytes
     named r =
-        let o = order_of r.found nothing r.so_far [] fits_nothing r.made in
+        let o = order_of r.found no_loaded_parts r.so_far [] fits_nothing r.made in
         record {
           found = r.found;
           end = r.end;
@@ -393,13 +393,13 @@ image_names bytes e fits h =
 
 image_answers : (bytes : List ℕ) (e : Fault) → AgainstImage e bytes → image_read bytes ≡ Err e
 unfolding image_read
-image_answers bytes e a = ap (λ (q : Result (Made × List ℕ) Fault). q >>= shown)
-    (load_answers image_load parts_sound SessionCount nothing bytes e refused)
+image_answers bytes e a = ap (λ (q : Result (LoadedParts × List ℕ) Fault). q >>= shown)
+    (load_answers image_load parts_sound SessionCount no_loaded_parts bytes e refused)
   where
-    refused : IsRefused image_load SessionCount nothing bytes e
+    refused : IsRefused image_load SessionCount no_loaded_parts bytes e
     refused =
-        let m = made_by a.found nothing [] fits_nothing a.order in
-        let o = order_of a.found nothing m.0 [] fits_nothing m.1 in
+        let m = made_by a.found no_loaded_parts [] fits_nothing a.order in
+        let o = order_of a.found no_loaded_parts m.0 [] fits_nothing m.1 in
         record {
           found = a.found;
           end = a.end;
@@ -424,17 +424,17 @@ image_answers bytes e a = ap (λ (q : Result (Made × List ℕ) Fault). q >>= sh
           ];
         }
 
-pub image_named : Named image
+pub image_named : NamesFaults image_format
 image_named = record { names = image_names; answers = image_answers }
 
 -- what was refused for another reason than too few bytes begins no image
 pub begins_none : (bytes more text rest : List ℕ) (s : State) (e : Fault) → image_read bytes ≡ Err e → (e ≡ Short → ⊥)
     → bytes ++ more ≡ text ++ rest → SpellsImage s text → ⊥
 begins_none bytes more text rest s e h other same sp =
-    by (subst (λ (r : Result (State × List ℕ) Fault). Stands r more (image_read (bytes ++ more))) h
+    by (subst (λ (r : Result (State × List ℕ) Fault). IsStable r more (image_read (bytes ++ more))) h
     (image_stands bytes more))
   where
-    by : Stands (let r : Result (State × List ℕ) Fault = Err e in r) more (image_read (bytes ++ more)) → ⊥
+    by : IsStable (let r : Result (State × List ℕ) Fault = Err e in r) more (image_read (bytes ++ more)) → ⊥
     by (inl short) = other short
     by (inr stands) = not_refused (s, rest) e (sym (ap image_read same ∙ image_again s text rest sp) ∙ stands)
 

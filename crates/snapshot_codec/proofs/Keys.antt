@@ -5,7 +5,7 @@ use Rattle.std.specs.FinMap as finmap
 use Rattle.std.specs.Ordering.{int_eq}
 use Rattle.std.proofs.lemmas.Bool.Decides.{Decides-int_eq}
 use Rattle.snapshot_codec.specs.AclLists.{AclLists}
-use Rattle.snapshot_codec.specs.Made.{list_of}
+use Rattle.snapshot_codec.specs.Made.{list_at_key}
 
 not_open : (key : ℤ) → (of_z w64 key ≡ 18446744073709551615 → ⊥) → int_eq key (negsuc 0) ≡ false
 not_open key other = by (int_eq key (negsuc 0)) (Decides-int_eq key (negsuc 0)).0
@@ -16,5 +16,5 @@ not_open key other = by (int_eq key (negsuc 0)) (Decides-int_eq key (negsuc 0)).
 
 -- any other key names its entry's list
 pub list_at : (lists : AclLists) (key : ℤ) → (of_z w64 key ≡ 18446744073709551615 → ⊥)
-    → list_of lists key ≡ finmap.get lists key
+    → list_at_key lists key ≡ finmap.get lists key
 list_at lists key other = rw (not_open key other) refl

@@ -15,16 +15,16 @@ use Rattle.std.proofs.lemmas.Map.Views.{tells_apart}
 use Rattle.values.specs.declared.fault.Fault.TheVariants.{BadText, BadPath}
 use Rattle.ephemerals.specs.Orders.{Bytes, path_cmp}
 use Rattle.ephemerals.proofs.Totals.{path_total}
-use Rattle.jute.specs.Format.{◌>>=◌, int, long, buffer_limit, text_of, text, vector, both}
-use Rattle.jute.specs.Owned.{acl}
-use Rattle.jute.specs.Relation.{Stand}
+use Rattle.jute.specs.Format.{◌>>=◌, int, long, buffer_limit, text_of, text_format, vector_of, pair_of}
+use Rattle.jute.specs.Owned.{acl_format}
+use Rattle.jute.specs.Relation.{SpellsItems}
 use Rattle.jute.specs.declared.owned.Acl.{Acl}
 use Rattle.txn_codec.specs.Paths.{is_root, is_path}
 use Rattle.data_tree.specs.State.{State}
 use Rattle.data_tree.specs.Whole.{IsWhole}
 use Rattle.data_tree.specs.declared.node.Node.{Node}
-use Rattle.snapshot_codec.specs.Parts.{Value, Path, Close, Part, slash, signature, next_of, node_body, parts, part_format, part_after, sessions_from, acls_from}
-use Rattle.snapshot_codec.specs.Written.{walk_cmp, walk, Lists, lists_of, key_of, session_part, list_part, node_values, values_of, bytes_from, IsWithinLimits}
+use Rattle.snapshot_codec.specs.Parts.{Value, Path, Close, Part, root_path, signature_text, next_value, node_body, part_stream, part_format, part_after, sessions_from, acls_from}
+use Rattle.snapshot_codec.specs.Written.{walk_cmp, walk_of, Lists, lists_of, key_of, session_part, list_part, node_values, values_of, bytes_from, IsWithinLimits}
 use Rattle.snapshot_codec.specs.declared.part.PartPhase.{PartPhase}
 use Rattle.snapshot_codec.specs.declared.part.PartPhase.TheVariants.{SessionCount, Sessions, AclCount, Acls, Root, Nodes}
 use Rattle.snapshot_codec.proofs.Formats.{part_sound, root_is}
@@ -37,7 +37,7 @@ FitFrom phase [] = Unit {0}
 FitFrom phase (v ∷ vs) = (part_format phase).Fits v × FitFrom (part_after phase v) vs
 
 pub stand_written : (vs : List Value) (phase : PartPhase) → FitFrom phase vs
-    → (end : PartPhase) × Stand parts vs phase (bytes_from phase vs) end []
+    → (end : PartPhase) × SpellsItems part_stream vs phase (bytes_from phase vs) end []
 stand_written [] phase h = (phase, (refl, refl))
 stand_written (v ∷ vs) phase h =
     let others = stand_written vs (part_after phase v) h.1 in (
@@ -63,7 +63,7 @@ not_zero n = by (suc n == 0) refl
 pub one_less : (n : ℕ) → n ≡ suc n - 1
 one_less n = omega arith
 
-sessions_fit : (xs : List (ℤ × ℤ)) (vs : List Value) → AllByRecursion (both long int).Fits xs → FitFrom AclCount vs
+sessions_fit : (xs : List (ℤ × ℤ)) (vs : List Value) → AllByRecursion (pair_of long int).Fits xs → FitFrom AclCount vs
     → FitFrom (sessions_from (length xs)) (map (λ x. Part (session_part x)) xs ++ vs)
 sessions_fit [] vs h k = k
 sessions_fit (x ∷ xs) vs h k =
@@ -73,7 +73,8 @@ sessions_fit (x ∷ xs) vs h k =
     ((refl, h.0), subst (λ n. FitFrom (sessions_from n) behind) (one_less (length xs)) (sessions_fit xs vs h.1 k))
 
 lists_fit : (xs : Lists) (vs : List Value)
-    → AllByRecursion (λ (l : ℤ × List Acl). (both long (vector acl)).Fits (l.0, Some l.1)) xs → FitFrom Root vs
+    → AllByRecursion (λ (l : ℤ × List Acl). (pair_of long (vector_of acl_format)).Fits (l.0, Some l.1)) xs
+    → FitFrom Root vs
     → FitFrom (acls_from (length xs)) (map (λ x. Part (list_part x)) xs ++ vs)
 lists_fit [] vs h k = k
 lists_fit (x ∷ xs) vs h k =
@@ -84,7 +85,7 @@ lists_fit (x ∷ xs) vs h k =
 
 -- ---- texts
 
-text_fits : (t : List ℕ) → is_utf8 t ≡ true → length t ≤ buffer_limit → text.Fits (Some t)
+text_fits : (t : List ℕ) → is_utf8 t ≡ true → length t ≤ buffer_limit → text_format.Fits (Some t)
 text_fits t is short =
     let made : text_of (Some t) ≡ Ok (Some t) = ap (λ b. cond b (Ok (Some t)) (Err BadText)) is in (made, short)
 
@@ -92,28 +93,28 @@ none_is_text : IsUtf8 []
 unfolding encode
 none_is_text = ([], (refl, refl))
 
-slash_is_text : IsUtf8 slash
+slash_is_text : IsUtf8 root_path
 unfolding encode
-slash_is_text = (slash, (refl, refl))
+slash_is_text = (root_path, (refl, refl))
 
-signature_is_text : IsUtf8 signature
+signature_is_text : IsUtf8 signature_text
 unfolding encode
-signature_is_text = (signature, (refl, refl))
+signature_is_text = (signature_text, (refl, refl))
 
-no_text : text.Fits (Some [])
+no_text : text_format.Fits (Some [])
 no_text = text_fits [] (is_utf8-from_IsUtf8 [] none_is_text) (omega arith)
 
-slash_text : text.Fits (Some slash)
-slash_text = text_fits slash (is_utf8-from_IsUtf8 slash slash_is_text) (omega arith)
+slash_text : text_format.Fits (Some root_path)
+slash_text = text_fits root_path (is_utf8-from_IsUtf8 root_path slash_is_text) (omega arith)
 
-end_text : text.Fits (Some signature)
-end_text = text_fits signature (is_utf8-from_IsUtf8 signature signature_is_text) (omega arith)
+end_text : text_format.Fits (Some signature_text)
+end_text = text_fits signature_text (is_utf8-from_IsUtf8 signature_text signature_is_text) (omega arith)
 
 -- ---- nodes
 
 module _ (lists : Lists) where
   abbrev Paths : List (Bytes × Node) → Type 0
-  Paths es = AllByRecursion (λ (e : Bytes × Node). text.Fits (Some e.0)) es
+  Paths es = AllByRecursion (λ (e : Bytes × Node). text_format.Fits (Some e.0)) es
 
   abbrev Bodies : List (Bytes × Node) → Type 0
   Bodies es =
@@ -122,7 +123,7 @@ module _ (lists : Lists) where
   abbrev Others : List (Bytes × Node) → Type 0
   Others es = AllByRecursion (λ (e : Bytes × Node). (is_root e.0 ≡ false) × (is_path e.0 ≡ true)) es
 
-  next_path : (p : Bytes) → is_root p ≡ false → is_path p ≡ true → next_of (Some p) ≡ Ok (Path p)
+  next_path : (p : Bytes) → is_root p ≡ false → is_path p ≡ true → next_value (Some p) ≡ Ok (Path p)
   next_path p other is = λ i. cond (other i) (Ok Close) (cond (is i) (Ok p) (Err BadPath) >>= λ path. Ok (Path path))
 
   nodes_fit : (es : List (Bytes × Node)) → Others es → Paths es → Bodies es → FitFrom Nodes (node_values lists es)
@@ -160,52 +161,55 @@ behind_first e es h q some = h q (by (eq_by_cmp path_cmp q e.0))
     by true = refl
     by false = some
 
-pub others : (es : List (Bytes × Node)) → T (below_all walk_cmp slash es) → ArePaths es
+pub others : (es : List (Bytes × Node)) → T (below_all walk_cmp root_path es) → ArePaths es
     → AllByRecursion (λ (e : Bytes × Node). (is_root e.0 ≡ false) × (is_path e.0 ≡ true)) es
 others [] h p = tt
 others (e ∷ es) h p = (
   (by (is_root e.0) refl, p e.0 (here_some path_total e es)),
-  others es (second (is_lt (walk_cmp slash e.0)) (below_all walk_cmp slash es) h) (behind_first e es p),
+  others es (second (is_lt (walk_cmp root_path e.0)) (below_all walk_cmp root_path es) h) (behind_first e es p),
 )
   where
-    above : walk_cmp slash e.0 ≡ Less
-    above = less (walk_cmp slash e.0) (first (is_lt (walk_cmp slash e.0)) (below_all walk_cmp slash es) h)
+    above : walk_cmp root_path e.0 ≡ Less
+    above = less (walk_cmp root_path e.0) (first (is_lt (walk_cmp root_path e.0)) (below_all walk_cmp root_path es) h)
 
     by : (b : Bool) → is_root e.0 ≡ b → b ≡ false
-    by true root = absurd (none_before_root slash refl (ap (walk_cmp slash) (sym (root_is e.0 root)) ∙ above))
+    by true root = absurd (none_before_root root_path refl (ap (walk_cmp root_path) (sym (root_is e.0 root)) ∙ above))
     by false root = refl
 
 pub first_root : (e : Bytes × Node) (es : List (Bytes × Node)) → T (is_sorted walk_cmp (e ∷ es)) → ArePaths (e ∷ es)
-    → is_some (find path_cmp slash (e ∷ es)) ≡ true → slash ≡ e.0
-first_root e es h p some = by (eq_by_cmp path_cmp slash e.0) refl some
+    → is_some (find path_cmp root_path (e ∷ es)) ≡ true → root_path ≡ e.0
+first_root e es h p some = by (eq_by_cmp path_cmp root_path e.0) refl some
   where
-    by : (b : Bool) → eq_by_cmp path_cmp slash e.0 ≡ b → is_some (cond b (Some e.1) (find path_cmp slash es)) ≡ true
-        → slash ≡ e.0
-    by true is k = tells_apart exact_bytes slash e.0 is
+    by : (b : Bool) → eq_by_cmp path_cmp root_path e.0 ≡ b
+        → is_some (cond b (Some e.1) (find path_cmp root_path es)) ≡ true
+        → root_path ≡ e.0
+    by true is k = tells_apart exact_bytes root_path e.0 is
     by false is k =
         absurd (none_before_root e.0 (p e.0 (here_some path_total e es))
-        (less_found e.0 slash es (first (below_all walk_cmp e.0 es) (is_sorted walk_cmp es) h) k))
+        (less_found e.0 root_path es (first (below_all walk_cmp e.0 es) (is_sorted walk_cmp es) h) k))
 
 walk_fits : (lists : Lists) (es : List (Bytes × Node)) → T (is_sorted walk_cmp es) → ArePaths es
-    → is_some (find path_cmp slash es) ≡ true → Paths lists es → Bodies lists es → FitFrom Root (node_values lists es)
+    → is_some (find path_cmp root_path es) ≡ true → Paths lists es → Bodies lists es
+    → FitFrom Root (node_values lists es)
 walk_fits lists [] h p some ps bs = absurd (true≢false (sym some))
 walk_fits lists (e ∷ es) h p some ps bs =
     let root = first_root e es h p some in
-    let below : T (below_all walk_cmp slash es) = subst (λ (q : Bytes). T (below_all walk_cmp q es)) (sym root)
+    let below : T (below_all walk_cmp root_path es) = subst (λ (q : Bytes). T (below_all walk_cmp q es)) (sym root)
     (first (below_all walk_cmp e.0 es) (is_sorted walk_cmp es) h) in (
       first_fits lists e.0 (ap is_root (sym root)),
       ((refl, bs.0), nodes_fit lists es (others es below (behind_first e es p)) ps.1 bs.1),
     )
 
 pub values_fit : (s : State) → IsWhole s
-    → IsWithinLimits (finmap.entries s.sessions) (lists_of s.nodes) (walk s.nodes) → FitFrom SessionCount (values_of s)
+    → IsWithinLimits (finmap.entries s.sessions) (lists_of s.nodes) (walk_of s.nodes)
+    → FitFrom SessionCount (values_of s)
 values_fit s w l = (
   (refl, l.session_count),
   sessions_fit (finmap.entries s.sessions) _ l.sessions (
     (refl, l.list_count),
     lists_fit (lists_of s.nodes) _ l.lists
-        (walk_fits (lists_of s.nodes) (walk s.nodes) (walk_sorted s.nodes)
+        (walk_fits (lists_of s.nodes) (walk_of s.nodes) (walk_sorted s.nodes)
         (λ q some. w.named.paths q (sym (ap is_some (walk_find s.nodes q)) ∙ some))
-        (ap is_some (walk_find s.nodes slash) ∙ w.root) l.paths l.nodes),
+        (ap is_some (walk_find s.nodes root_path) ∙ w.root) l.paths l.nodes),
   ),
 )

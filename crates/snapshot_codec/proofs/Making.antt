@@ -14,7 +14,7 @@ use Rattle.std.proofs.lemmas.Bool.Decides.{Decides-int_eq}
 use Rattle.std.proofs.lemmas.List.Folds.{list_any-append}
 use Rattle.std.proofs.lemmas.Map.Lookups.{exact_bytes, exact_signed}
 use Rattle.std.proofs.lemmas.Map.Views.{tells_apart}
-use Rattle.ephemerals.specs.Orders.{Bytes, Pairs, path_cmp, pair_cmp}
+use Rattle.ephemerals.specs.Orders.{Bytes, OwnerPairs, path_cmp, pair_cmp}
 use Rattle.ephemerals.specs.Pairs.{with_pair}
 use Rattle.ephemerals.proofs.Ties.{tied_then, same_session}
 use Rattle.ephemerals.proofs.Totals.{path_total, pair_total}
@@ -26,8 +26,8 @@ use Rattle.data_tree.specs.Nodes.{Nodes}
 use Rattle.data_tree.specs.State.{State}
 use Rattle.data_tree.specs.Whole.{is_owner}
 use Rattle.data_tree.specs.declared.node.Node.{Node}
-use Rattle.snapshot_codec.specs.Image.{Sessions, Lists, Rows, list_named, HasPlace, is_child, AreAt, IsMadeOf}
-use Rattle.snapshot_codec.specs.Made.{Made, node_with}
+use Rattle.snapshot_codec.specs.Image.{SessionEntries, Lists, Rows, list_named, HasPlace, is_child, AreAt, IsMadeOf}
+use Rattle.snapshot_codec.specs.Made.{LoadedParts, node_with}
 use Rattle.snapshot_codec.specs.declared.part.ImageNode.{ImageNode}
 
 pub and_parts : (a b : Bool) → (a && b) ≡ true → (a ≡ true) × (b ≡ true)
@@ -62,7 +62,7 @@ module _ (lists : Lists) (rows : Rows) (path : Bytes) where
   some_node None found h e = absurd (true≢false (sym e))
 
 -- the parts so far; and no path without a row has a child among the rows
-pub record Fits (made : Made) (sessions : Sessions) (lists : Lists) (rows : Rows) : Type 0 where
+pub record Fits (made : LoadedParts) (sessions : SessionEntries) (lists : Lists) (rows : Rows) : Type 0 where
   pub state : IsMadeOf made.state sessions lists rows
   pub table : (key : ℤ) → finmap.get made.lists key ≡ find int_cmp key lists
   pub closed : (path : Bytes) → find path_cmp path rows ≡ None → (name : Bytes)
@@ -70,7 +70,7 @@ pub record Fits (made : Made) (sessions : Sessions) (lists : Lists) (rows : Rows
 
 -- ---- a session
 
-pub session_fits : (made : Made) (sessions : Sessions) (lists : Lists) (rows : Rows) (id timeout : ℤ)
+pub session_fits : (made : LoadedParts) (sessions : SessionEntries) (lists : Lists) (rows : Rows) (id timeout : ℤ)
     → Fits made sessions lists rows
     → find int_cmp id sessions ≡ None
     → Fits (record made { state = with_session made.state id timeout }) (sessions ++ (id, timeout) ∷ []) lists rows
@@ -121,7 +121,8 @@ still_at lists key list none rows path (Some r) (Some n) h = record {
 still_at lists key list none rows path None (Some n) h = absurd h
 still_at lists key list none rows path (Some r) None h = absurd h
 
-pub list_fits : (made : Made) (sessions : Sessions) (lists : Lists) (rows : Rows) (key : ℤ) (list : List Acl)
+pub list_fits : (made : LoadedParts) (sessions : SessionEntries) (lists : Lists) (rows : Rows) (key : ℤ)
+    (list : List Acl)
     → Fits made sessions lists rows → find int_cmp key lists ≡ None
     → Fits (record made { lists = finmap.insert made.lists key list }) sessions (lists ++ (key, list) ∷ []) rows
 list_fits made sessions lists rows key list f none = record {
@@ -144,7 +145,7 @@ pair_tie : (session owner : ℤ) (q path : Bytes) → eq_by_cmp pair_cmp (sessio
 pair_tie session owner q path = tied_then (int_cmp session owner) (path_cmp q path)
 
 -- the pairs at another path are those from before
-other_path : (pairs : Pairs) (owner session : ℤ) (path q : Bytes) → eq_by_cmp path_cmp q path ≡ false
+other_path : (pairs : OwnerPairs) (owner session : ℤ) (path q : Bytes) → eq_by_cmp path_cmp q path ≡ false
     → set.contains (with_pair pairs owner path) (session, q) ≡ set.contains pairs (session, q)
 other_path pairs owner session path q apart = by (int_eq owner (pos 0))
   where
@@ -161,7 +162,7 @@ other_path pairs owner session path q apart = by (int_eq owner (pos 0))
         ∙ ap (λ b. eq_by_cmp int_cmp session owner && b) apart ∙ drop_and (eq_by_cmp int_cmp session owner))
 
 -- at a path that had no pair there is the owner's, if it has one
-own_path : (pairs : Pairs) (owner session : ℤ) (path : Bytes) → set.contains pairs (session, path) ≡ false
+own_path : (pairs : OwnerPairs) (owner session : ℤ) (path : Bytes) → set.contains pairs (session, path) ≡ false
     → set.contains (with_pair pairs owner path) (session, path) ≡ (not (int_eq session (pos 0)) && int_eq owner session)
 own_path pairs owner session path none = by (int_eq owner (pos 0)) refl
   where
@@ -206,7 +207,7 @@ no_rows (r ∷ rows) = false
 found_first : (r : Bytes × ImageNode) (rows : Rows) → find path_cmp r.0 (r ∷ rows) ≡ Some r.1
 found_first r rows = ap (λ t. cond (is_eq t) (Some r.1) (find path_cmp r.0 rows)) (tied_itself path_total r.0)
 
-module _ (made : Made) (sessions : Sessions) (lists : Lists) where
+module _ (made : LoadedParts) (sessions : SessionEntries) (lists : Lists) where
   abbrev nodes : Nodes
   nodes = made.state.nodes
 
@@ -272,7 +273,7 @@ or_turned true false = refl
 or_turned false true = refl
 or_turned false false = refl
 
-module _ (made : Made) (sessions : Sessions) (lists : Lists) (rows : Rows) (path : Bytes) (row : ImageNode)
+module _ (made : LoadedParts) (sessions : SessionEntries) (lists : Lists) (rows : Rows) (path : Bytes) (row : ImageNode)
     (acl : List Acl)
     (named : list_named lists row.acl ≡ Some acl) (f : Fits made sessions lists rows) where
   abbrev more : Rows
@@ -284,7 +285,7 @@ module _ (made : Made) (sessions : Sessions) (lists : Lists) (rows : Rows) (path
   abbrev state : State
   state = made.state
 
-  abbrev pub after : Made
+  abbrev pub after : LoadedParts
   after = record made { state = with_node state path fresh }
 
   -- what was at the path before

@@ -6,22 +6,22 @@ use Rattle.values.specs.declared.fault.ReadError.{ReadError}
 use Rattle.values.specs.declared.fault.ReadError.TheVariants as errors
 use Rattle.jute.specs.Format.{◌>>=◌, judged_at}
 use Rattle.jute.specs.Loading.{load_from, unless_last}
-use Rattle.jute.specs.Reads.{Failed}
+use Rattle.jute.specs.Reads.{IsFailureOf}
 use Rattle.jute.specs.Stream.{IsStream}
 use Rattle.jute.specs.declared.stat.StatPersisted.{StatPersisted}
 use Rattle.jute.proofs.Public.{bind_ok, bind_err, ok_is, not_refused, shorter_rest, load_read, load_refused, sound_streamed}
 use Rattle.data_tree.specs.State.{State}
 use Rattle.snapshot_codec.specs.Image.{image_read}
-use Rattle.snapshot_codec.specs.Made.{Made, Loading, nothing, with_part, with_loaded, image_load}
-use Rattle.snapshot_codec.specs.Parts.{Value, Count, Path, Close, Part, node_body, node_of, parts, part_format, part_after, part_in, is_end}
+use Rattle.snapshot_codec.specs.Made.{LoadedParts, Loading, no_loaded_parts, with_part, with_loaded, image_load}
+use Rattle.snapshot_codec.specs.Parts.{Value, Count, Path, Close, Part, node_body, node_value, part_stream, part_format, part_after, part_in, is_end}
 use Rattle.snapshot_codec.specs.Reads.{ReadsPart, TakesPart, LoadsNext}
 use Rattle.snapshot_codec.specs.declared.part.ImagePart.{ImagePart}
 use Rattle.snapshot_codec.specs.declared.part.PartPhase.{PartPhase}
 use Rattle.snapshot_codec.specs.declared.part.PartPhase.TheVariants.{SessionCount, Body}
 use Rattle.snapshot_codec.proofs.Formats.{parts_sound}
 
-abbrev pub streamed : IsStream parts
-streamed = sound_streamed parts parts_sound
+abbrev pub streamed : IsStream part_stream
+streamed = sound_streamed part_stream parts_sound
 
 -- ---- one value
 
@@ -36,13 +36,13 @@ shown_as at phase next v old new shown is read to shows = (
 )
 
 -- what is refused for a fault is refused so too
-pub fails_too : {A B : Type 0} (e : ReadError) (a : Result A Fault) (b : Result B Fault) → Failed e a
-    → ((d : Fault) → a ≡ Err d → b ≡ Err d) → Failed e b
+pub fails_too : {A B : Type 0} (e : ReadError) (a : Result A Fault) (b : Result B Fault) → IsFailureOf e a
+    → ((d : Fault) → a ≡ Err d → b ≡ Err d) → IsFailureOf e b
 fails_too errors.NoMemory a b h f = tt
 fails_too (errors.Fault d) a b h f = f d h
 
 pub body_read : (path : List ℕ) (b : Option (List ℕ) × (ℤ × StatPersisted)) (old new : List ℕ)
-    → node_body.read old ≡ Ok (b, new) → (part_format (Body path)).read old ≡ Ok (node_of path b, new)
+    → node_body.read old ≡ Ok (b, new) → (part_format (Body path)).read old ≡ Ok (node_value path b, new)
 unfolding judged_at
 body_read path b old new h = rw h refl
 
@@ -52,7 +52,7 @@ unfolding judged_at
 body_fails path old d h = rw h refl
 
 pub body_refused : (path : List ℕ) (phase next : PartPhase) (e : ReadError) (old new : List ℕ) → phase ≡ Body path
-    → Failed e (node_body.read old) × (new ≡ old) → next ≡ phase → ReadsPart (Err e) phase next old new
+    → IsFailureOf e (node_body.read old) × (new ≡ old) → next ≡ phase → ReadsPart (Err e) phase next old new
 body_refused path phase next e old new is h same = (
   fails_too e (node_body.read old) ((part_format phase).read old) h.0
       (λ d k. ap (λ (p : PartPhase). (part_format p).read old) is ∙ body_fails path old d k),
@@ -68,11 +68,11 @@ part_is (Count n) part e = absurd cc
 part_is (Path path) part e = absurd cc
 part_is Close part e = absurd cc
 
-module _ (phase next : PartPhase) (made : Made) (old new : List ℕ) where
+module _ (phase next : PartPhase) (made : LoadedParts) (old new : List ℕ) where
   pub less : (shown : Option ImagePart) → ReadsPart (Ok shown) phase next old new → length new < length old
-  less shown r = shorter_rest parts streamed phase old new r.0 r.1
+  less shown r = shorter_rest part_stream streamed phase old new r.0 r.1
 
-  abbrev left : Made → Result (Made × List ℕ) Fault
+  abbrev left : LoadedParts → Result (LoadedParts × List ℕ) Fault
   left after = load_from image_load next after new
 
   hidden_by : (v : Value) → (part_format phase).read old ≡ Ok (v, new) → part_in v ≡ None
@@ -105,7 +105,8 @@ module _ (phase next : PartPhase) (made : Made) (old new : List ℕ) where
       let m = bind_ok (with_part made part)
       (λ m. (let q : Result Loading Fault = Ok (record { made = m; ended = is_end (Part part) }) in q)) after took in
       let same = ok_is (record { made = m.0; ended = is_end (Part part) }) after m.2 in
-      taken part r ∙ ap (λ (q : Result Made Fault). q >>= λ s. unless_last (is_end (Part part)) s new (left s)) m.1
+      taken part r ∙ ap (λ (q : Result LoadedParts Fault). q >>= λ s. unless_last (is_end (Part part)) s new (left s))
+      m.1
       ∙ ap (λ (l : Loading). unless_last l.ended l.made new (left l.made)) same
 
   part_refused : (part : ImagePart) (e : Fault) → ReadsPart (Ok (Some part)) phase next old new
@@ -116,7 +117,8 @@ module _ (phase next : PartPhase) (made : Made) (old new : List ℕ) where
       taken part r
       ∙ elim (bind_err (with_part made part)
       (λ m. (let q : Result Loading Fault = Ok (record { made = m; ended = is_end (Part part) }) in q)) e refuses) [
-        | inl first ↦ ap (λ (q : Result Made Fault). q >>= λ s. unless_last (is_end (Part part)) s new (left s)) first
+        | inl first ↦ ap (λ (q : Result LoadedParts Fault). q >>= λ s. unless_last (is_end (Part part)) s new (left s))
+            first
         | inr never ↦ absurd (not_refused (record { made = never.0; ended = is_end (Part part) }) e never.2)
       ]
 
@@ -136,7 +138,7 @@ module _ (phase next : PartPhase) (made : Made) (old new : List ℕ) where
       (ap (λ m. with_part m part >>= λ m.
       (let q : Result Loading Fault = Ok (record { made = m; ended = is_end (Part part) }) in q)) (sym is) ∙ k))
 
-pub value_refused : (phase next : PartPhase) (made : Made) (old new : List ℕ) (e : ReadError) (after : Loading)
+pub value_refused : (phase next : PartPhase) (made : LoadedParts) (old new : List ℕ) (e : ReadError) (after : Loading)
     → ReadsPart (Err e) phase next old new → LoadsNext (Err e) phase made old next after new
 value_refused phase next made old new e after r =
     fails_too e ((part_format phase).read old) (load_from image_load phase made old) r.0
@@ -148,27 +150,27 @@ value_refused phase next made old new e after r =
 abbrev pub LoadsOn : Loading → PartPhase → List ℕ → List ℕ → Type 0
 LoadsOn loading phase ahead bytes =
     unless_last loading.ended loading.made ahead (load_from image_load phase loading.made ahead)
-    ≡ load_from image_load SessionCount nothing bytes
+    ≡ load_from image_load SessionCount no_loaded_parts bytes
 
 module _ (loading : Loading) (phase : PartPhase) (ahead bytes : List ℕ) (on : LoadsOn loading phase ahead bytes) where
   pub ended_is_read : loading.ended ≡ true → image_read bytes ≡ Ok (loading.made.state, ahead)
   unfolding image_read
   ended_is_read ended =
-      ap (λ (q : Result (Made × List ℕ) Fault). q
+      ap (λ (q : Result (LoadedParts × List ℕ) Fault). q
       >>= λ x. (let r : Result (State × List ℕ) Fault = Ok (x.0.state, x.1) in r))
       (sym on ∙ ap (λ b. unless_last b loading.made ahead (load_from image_load phase loading.made ahead)) ended)
 
-  going : loading.ended ≡ false → load_from image_load SessionCount nothing bytes
+  going : loading.ended ≡ false → load_from image_load SessionCount no_loaded_parts bytes
       ≡ load_from image_load phase loading.made ahead
   going more = sym on ∙ ap (λ b. unless_last b loading.made ahead (load_from image_load phase loading.made ahead)) more
 
   pub failed_is_read : loading.ended ≡ false → (e : ReadError)
-      → Failed e (load_from image_load phase loading.made ahead)
-      → Failed e (image_read bytes)
+      → IsFailureOf e (load_from image_load phase loading.made ahead)
+      → IsFailureOf e (image_read bytes)
   unfolding image_read
   failed_is_read more e h =
       fails_too e (load_from image_load phase loading.made ahead) (image_read bytes) h
-      (λ d k. ap (λ (q : Result (Made × List ℕ) Fault). q >>= λ x.
+      (λ d k. ap (λ (q : Result (LoadedParts × List ℕ) Fault). q >>= λ x.
       (let r : Result (State × List ℕ) Fault = Ok (x.0.state, x.1) in r))
       (going more ∙ k))
 

@@ -11,10 +11,10 @@ use Rattle.ephemerals.proofs.Totals.{path_total}
 use Rattle.jute.specs.Codes.{open_acl}
 use Rattle.jute.specs.Format.{number_bytes}
 use Rattle.jute.specs.Records.{stat_persisted}
-use Rattle.data_tree.specs.Meaning.{fresh, first_node}
+use Rattle.data_tree.specs.Meaning.{fresh_state, preset_node}
 use Rattle.data_tree.specs.declared.node.Node.{Node}
-use Rattle.snapshot_codec.specs.Rows.{fresh_image, session_image, reading, node_of, some_nodes, WorkedImages}
-use Rattle.snapshot_codec.specs.Written.{walk_cmp, walk, lists_from, session_part, list_part, node_values, counted_values, bytes_from}
+use Rattle.snapshot_codec.specs.Rows.{fresh_image, session_image, world_acl, node_with_acl, some_nodes, WorkedImages}
+use Rattle.snapshot_codec.specs.Written.{walk_cmp, walk_of, lists_from, session_part, list_part, node_values, counted_values, bytes_from}
 use Rattle.snapshot_codec.specs.declared.part.PartPhase.TheVariants.{SessionCount}
 use Rattle.snapshot_codec.proofs.WalkOrder.{walk_total}
 
@@ -37,7 +37,7 @@ module _ {K X : Type 0} (R : K → K → Ordering) where
       finmap.entries-insert o (finmap.from_entries {R = R} es) e.0 e.1 ∙ ap (put R e.0 e.1) (entries_put o es)
 
 -- the nodes that were put, in the order of the walk
-walk_put : (es : List (Bytes × Node)) → walk (finmap.from_entries es) ≡ put_all walk_cmp (put_all path_cmp es)
+walk_put : (es : List (Bytes × Node)) → walk_of (finmap.from_entries es) ≡ put_all walk_cmp (put_all path_cmp es)
 walk_put es =
     entries_put walk_cmp walk_total (finmap.entries (finmap.from_entries {R = path_cmp} es))
     ∙ ap (put_all walk_cmp) (entries_put path_cmp path_total es)
@@ -49,21 +49,22 @@ bytes_of sessions nodes =
 
 fresh_entries : List (Bytes × Node)
 fresh_entries =
-    (codes "/zookeeper/quota", first_node set.empty)
-    ∷ (codes "/zookeeper", first_node (set.insert set.empty (codes "quota")))
-    ∷ (codes "/", first_node (set.insert set.empty (codes "zookeeper")))
+    (codes "/zookeeper/quota", preset_node set.empty)
+    ∷ (codes "/zookeeper", preset_node (set.insert set.empty (codes "quota")))
+    ∷ (codes "/", preset_node (set.insert set.empty (codes "zookeeper")))
     ∷ []
 
-fresh_walk : walk fresh.nodes ≡ put_all walk_cmp (put_all path_cmp fresh_entries)
+fresh_walk : walk_of fresh_state.nodes ≡ put_all walk_cmp (put_all path_cmp fresh_entries)
 unfolding fresh_entries
 fresh_walk = walk_put fresh_entries
 
 some_entries : List (Bytes × Node)
 some_entries =
-    (codes "/", node_of open_acl) ∷ (codes "/a", node_of (reading (pos 3))) ∷ (codes "/a-b", node_of open_acl)
-    ∷ (codes "/b", node_of (reading (pos 3))) ∷ (codes "/a/b", node_of (reading (pos 1))) ∷ []
+    (codes "/", node_with_acl open_acl) ∷ (codes "/a", node_with_acl (world_acl (pos 3)))
+    ∷ (codes "/a-b", node_with_acl open_acl)
+    ∷ (codes "/b", node_with_acl (world_acl (pos 3))) ∷ (codes "/a/b", node_with_acl (world_acl (pos 1))) ∷ []
 
-some_walk : walk some_nodes ≡ put_all walk_cmp (put_all path_cmp some_entries)
+some_walk : walk_of some_nodes ≡ put_all walk_cmp (put_all path_cmp some_entries)
 unfolding some_entries
 some_walk = walk_put some_entries
 
@@ -87,7 +88,7 @@ unfolding put_all some_entries
 the_order = refl
 
 the_keys : lists_from [] (put_all walk_cmp (put_all path_cmp some_entries))
-    ≡ (pos 1, reading (pos 3)) ∷ (pos 2, reading (pos 1)) ∷ []
+    ≡ (pos 1, world_acl (pos 3)) ∷ (pos 2, world_acl (pos 1)) ∷ []
 unfolding put_all some_entries
 the_keys = refl
 

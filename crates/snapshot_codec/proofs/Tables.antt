@@ -22,14 +22,14 @@ use Rattle.ephemerals.proofs.Totals.{path_total}
 use Rattle.values.specs.declared.fault.Fault.{Fault}
 use Rattle.values.specs.declared.fault.Fault.TheVariants.{BadLength}
 use Rattle.jute.specs.Codes.{open_acl}
-use Rattle.jute.specs.Format.{count, count_limit, long, vector, both}
-use Rattle.jute.specs.Laws.{Sound}
-use Rattle.jute.specs.Owned.{acl}
+use Rattle.jute.specs.Format.{count_format, count_limit, long, vector_of, pair_of}
+use Rattle.jute.specs.Laws.{IsSound}
+use Rattle.jute.specs.Owned.{acl_format}
 use Rattle.jute.specs.declared.owned.Acl.{Acl}
 use Rattle.jute.proofs.Public.{acl_sound, vector_sound}
 use Rattle.data_tree.specs.declared.node.Node.{Node}
-use Rattle.snapshot_codec.specs.Written.{same_list, Lists, key_in, with_list, lists_from, key_of}
-use Rattle.snapshot_codec.specs.Writes.{FitsList, list_bytes, GivesList, FitLists, keyed_bytes, IsTable, Adds, Tables, NamesKey, Writes}
+use Rattle.snapshot_codec.specs.Written.{is_same_list, Lists, key_in, with_list, lists_from, key_of}
+use Rattle.snapshot_codec.specs.Writes.{FitsList, list_bytes, GivesList, FitLists, keyed_bytes, IsTable, AddsList, MakesTable, NamesKey, WritesBytes}
 use Rattle.snapshot_codec.specs.declared.key_table.KeyTable.{KeyTable}
 use Rattle.snapshot_codec.specs.declared.write_error.WriteError.{WriteError}
 use Rattle.snapshot_codec.specs.declared.write_error.WriteError.TheVariants.{NotWhole, NoMemory}
@@ -75,8 +75,8 @@ module _ {K X : Type 0} (f : K → List ℕ) where
 
 -- ---- the bytes of a list stand for it
 
-pub lists_sound : Sound (vector acl)
-lists_sound = vector_sound acl acl_sound
+pub lists_sound : IsSound (vector_of acl_format)
+lists_sound = vector_sound acl_format acl_sound
 
 list_in : List Acl → Result (Option (List Acl) × List ℕ) Fault → List Acl
 list_in other (Ok x) = unwrap_or x.0 other
@@ -85,57 +85,57 @@ list_in other (Err e) = other
 list_exact : (a b : List Acl) → FitsList a → FitsList b → list_bytes a ≡ list_bytes b → a ≡ b
 unfolding list_in
 list_exact a b f g e =
-    ap (list_in a) (sym (again a f) ∙ ap (λ (bytes : List ℕ). (vector acl).read (bytes ++ [])) e ∙ again b g)
+    ap (list_in a) (sym (again a f) ∙ ap (λ (bytes : List ℕ). (vector_of acl_format).read (bytes ++ [])) e ∙ again b g)
   where
-    again : (l : List Acl) → FitsList l → (vector acl).read (list_bytes l ++ []) ≡ Ok (Some l, [])
+    again : (l : List Acl) → FitsList l → (vector_of acl_format).read (list_bytes l ++ []) ≡ Ok (Some l, [])
     again l h = lists_sound.lawful.again (Some l) (list_bytes l) [] (lists_sound.lawful.writes (Some l) h)
 
 -- ---- one more list
 
-new_key : (es : Lists) (key : ℤ) (list asked : List Acl) → key_in es asked ≡ None → same_list list asked ≡ true
+new_key : (es : Lists) (key : ℤ) (list asked : List Acl) → key_in es asked ≡ None → is_same_list list asked ≡ true
     → key_in (es ++ (key, list) ∷ []) asked ≡ Some key
 new_key [] key list asked none same = ap (λ b. cond b (Some key) None) same
-new_key (e ∷ es) key list asked none same = by (new_key es key list asked) (same_list e.1 asked) none
+new_key (e ∷ es) key list asked none same = by (new_key es key list asked) (is_same_list e.1 asked) none
   where
-    by : (key_in es asked ≡ None → same_list list asked ≡ true → key_in (es ++ (key, list) ∷ []) asked ≡ Some key)
+    by : (key_in es asked ≡ None → is_same_list list asked ≡ true → key_in (es ++ (key, list) ∷ []) asked ≡ Some key)
         → (b : Bool) → cond b (Some e.0) (key_in es asked) ≡ None
         → cond b (Some e.0) (key_in (es ++ (key, list) ∷ []) asked) ≡ Some key
     by later true n = absurd (true≢false (ap is_some n))
     by later false n = later n same
 
-old_key : (es : Lists) (key : ℤ) (list asked : List Acl) → same_list list asked ≡ false
+old_key : (es : Lists) (key : ℤ) (list asked : List Acl) → is_same_list list asked ≡ false
     → key_in (es ++ (key, list) ∷ []) asked ≡ key_in es asked
 old_key [] key list asked other = ap (λ b. cond b (Some key) None) other
 old_key (e ∷ es) key list asked other =
-    ap (cond (same_list e.1 asked) (Some e.0)) (old_key es key list asked other)
+    ap (cond (is_same_list e.1 asked) (Some e.0)) (old_key es key list asked other)
 
-not_same : (a b : List Acl) → a ≢ b → same_list a b ≡ false
-not_same a b other = by (same_list a b) refl
+not_same : (a b : List Acl) → a ≢ b → is_same_list a b ≡ false
+not_same a b other = by (is_same_list a b) refl
   where
-    by : (t : Bool) → same_list a b ≡ t → t ≡ false
+    by : (t : Bool) → is_same_list a b ≡ t → t ≡ false
     by true e = absurd (other ((list_decides a b).0 e))
     by false e = refl
 
 -- a list that stands under a key fits, where all do
 abbrev Fit : ℤ × List Acl → Type 0
-Fit l = (both long (vector acl)).Fits (l.0, Some l.1)
+Fit l = (pair_of long (vector_of acl_format)).Fits (l.0, Some l.1)
 
 pub keyed_fits : (es : Lists) (asked : List Acl) → AllByRecursion Fit es → is_some (key_in es asked) ≡ true
     → FitsList asked
 keyed_fits [] asked h some = absurd (true≢false (sym some))
-keyed_fits (e ∷ es) asked h some = by (keyed_fits es asked h.1) (same_list e.1 asked) refl some
+keyed_fits (e ∷ es) asked h some = by (keyed_fits es asked h.1) (is_same_list e.1 asked) refl some
   where
-    by : (is_some (key_in es asked) ≡ true → FitsList asked) → (b : Bool) → same_list e.1 asked ≡ b
+    by : (is_some (key_in es asked) ≡ true → FitsList asked) → (b : Bool) → is_same_list e.1 asked ≡ b
         → is_some (cond b (Some e.0) (key_in es asked)) ≡ true → FitsList asked
     by later true same k = subst (λ (l : List Acl). FitsList l) ((list_decides e.1 asked).0 same) h.0.1
     by later false same k = later k
 
 -- ---- how many lists there are
 
-pub many_fit : (n : ℕ) → n ≤ count_limit → (count count_limit).Fits (Some n)
+pub many_fit : (n : ℕ) → n ≤ count_limit → (count_format count_limit).Fits (Some n)
 many_fit n le = (rw (le-leb n count_limit le) refl, record { sfits = omega arith })
 
-pub fits_many : (n : ℕ) → (count count_limit).Fits (Some n) → n ≤ count_limit
+pub fits_many : (n : ℕ) → (count_format count_limit).Fits (Some n) → n ≤ count_limit
 fits_many n h = by (leb n count_limit) refl h.0
   where
     by : (b : Bool) → leb n count_limit ≡ b → cond b (Ok (Some n)) (Err BadLength) ≡ Ok (Some n) → n ≤ count_limit
@@ -191,7 +191,7 @@ module _ (old new : KeyTable) (lists : Lists) (list : List Acl) where
             ∙ ap (λ (b : List ℕ). flat_map keyed_bytes lists ++ b) (sym (append-nil (keyed_bytes (key, list))))
             ∙ sym (flat_map-append keyed_bytes lists ((key, list) ∷ []));
         fit = (
-          subst (λ n. (count count_limit).Fits (Some n)) (sym (append-length lists (key, list)))
+          subst (λ n. (count_format count_limit).Fits (Some n)) (sym (append-length lists (key, list)))
               (many_fit (suc (length lists)) few_more),
           all_append Fit lists (key, list) t.fit.1 (record { sfits = omega arith }, fits),
         );
@@ -235,7 +235,7 @@ pub too_long : (lists : Lists) (list : List Acl) → list ≢ open_acl → (Fits
 too_long lists list other bad h =
     bad (keyed_fits (with_list lists list) list h.1 (by (not_same list open_acl other) (keyed_with lists list)))
   where
-    by : same_list list open_acl ≡ false → has_key (with_list lists list) list ≡ true
+    by : is_same_list list open_acl ≡ false → has_key (with_list lists list) list ≡ true
         → is_some (key_in (with_list lists list) list) ≡ true
     by e k = ap (λ (b : Bool). b || is_some (key_in (with_list lists list) list)) (sym e) ∙ k
 
@@ -243,8 +243,8 @@ pub too_many : (lists : Lists) (list : List Acl) → list ≢ open_acl → key_i
     → count_limit ≤ length lists → FitLists (with_list lists list) → ⊥
 too_many lists list other none full h =
     let many : suc (length lists) ≤ count_limit = fits_many (suc (length lists))
-    (subst (λ n. (count count_limit).Fits (Some n)) (append-length lists (pos (suc (length lists)), list))
-    (subst (λ (l : Lists). (count count_limit).Fits (Some (length l))) (grown lists list other none) h.0)) in
+    (subst (λ n. (count_format count_limit).Fits (Some n)) (append-length lists (pos (suc (length lists)), list))
+    (subst (λ (l : Lists). (count_format count_limit).Fits (Some (length l))) (grown lists list other none) h.0)) in
     absurd (omega arith)
 
 -- lists only grow
@@ -255,7 +255,8 @@ fit_before lists list = by (has_key lists list)
     by true h = h
     by false h = (
       (let many : suc (length lists) ≤ count_limit = fits_many (suc (length lists))
-          (subst (λ n. (count count_limit).Fits (Some n)) (append-length lists (pos (suc (length lists)), list)) h.0) in
+          (subst (λ n. (count_format count_limit).Fits (Some n)) (append-length lists (pos (suc (length lists)), list))
+          h.0) in
           many_fit (length lists) (omega arith)),
       all_front Fit lists ((pos (suc (length lists)), list) ∷ []) h.1,
     )
@@ -270,7 +271,7 @@ looked table lists list slice found t fits same e =
     e ∙ ap (λ (b : List ℕ). tree.get_by (λ k. path_cmp b k.items) table.keys) same ∙ t.found list fits
 
 pub adds_err : (Z : Type 0) (e : WriteError) (lists : Lists) (list asked : List Acl) (new : KeyTable)
-    → list ≡ asked → list ≢ open_acl → GivesList {Z = Z} (Err e) list → Adds (Err e) lists asked new
+    → list ≡ asked → list ≢ open_acl → GivesList {Z = Z} (Err e) list → AddsList (Err e) lists asked new
 adds_err Z NotWhole lists list asked new same other bad =
     subst (λ (l : List Acl). FitLists (with_list lists l) → ⊥) same (too_long lists list other bad)
 adds_err Z NoMemory lists list asked new same other bad = tt
@@ -280,7 +281,7 @@ fit_earlier [] lists h = h
 fit_earlier (e ∷ es) lists h = fit_before lists e.1.acl (fit_earlier es (with_list lists e.1.acl) h)
 
 pub tables_err : (e : WriteError) (lists : Lists) (x : Bytes × Node) (rest : List (Bytes × Node)) (all : Lists)
-    (new : KeyTable) → lists_from lists (x ∷ rest) ≡ all → Adds (Err e) lists x.1.acl new → Tables (Err e) all
+    (new : KeyTable) → lists_from lists (x ∷ rest) ≡ all → AddsList (Err e) lists x.1.acl new → MakesTable (Err e) all
 tables_err NotWhole lists x rest all new is bad =
     λ h. bad (fit_earlier rest (with_list lists x.1.acl) (subst (λ (l : Lists). FitLists l) (sym is) h))
 tables_err NoMemory lists x rest all new is bad = tt
@@ -288,7 +289,7 @@ tables_err NoMemory lists x rest all new is bad = tt
 -- no list of a node is too long, where all that have keys fit
 pub key_err : (e : WriteError) (table : KeyTable) (lists : Lists) (list : List Acl) (bytes old new : List ℕ)
     (Fits : Type 0) → IsTable table lists → has_key lists list ≡ true → NamesKey (Err e) lists list
-    → Writes (Err e) bytes old new Fits
+    → WritesBytes (Err e) bytes old new Fits
 key_err NotWhole table lists list bytes old new Fits t has bad =
     absurd (bad.1 (keyed_fits lists list t.fit.1
     (ap (λ (b : Bool). b || is_some (key_in lists list)) (sym (not_same list open_acl bad.0)) ∙ has)))

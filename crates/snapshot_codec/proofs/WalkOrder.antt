@@ -18,8 +18,8 @@ use Rattle.ephemerals.proofs.Totals.{path_total}
 use Rattle.txn_codec.specs.Paths.{is_name, is_root, is_path, has_slash, before_last_slash, after_last_slash, or_root, parent_of, name_of, child_of}
 use Rattle.data_tree.specs.Nodes.{Nodes}
 use Rattle.data_tree.specs.Whole.{is_child_name}
-use Rattle.snapshot_codec.specs.Parts.{slash}
-use Rattle.snapshot_codec.specs.Written.{rank, walk_cmp, walk}
+use Rattle.snapshot_codec.specs.Parts.{root_path}
+use Rattle.snapshot_codec.specs.Written.{byte_rank, walk_cmp, walk_of}
 use Rattle.snapshot_codec.proofs.Formats.{root_is}
 use Rattle.snapshot_codec.proofs.Making.{not_true}
 use Rattle.snapshot_codec.proofs.Whole.{all_behind, or_true, child_is}
@@ -106,7 +106,7 @@ module _ {K X : Type 0} {R : K → K → Ordering} (o : IsTotalOrder R) where
 
 -- ---- the order of the walk
 
-pub rank_exact : (a b : ℕ) → rank a ≡ rank b → a ≡ b
+pub rank_exact : (a b : ℕ) → byte_rank a ≡ byte_rank b → a ≡ b
 rank_exact a b = by (a == 47) (b == 47) refl refl
   where
     by : (s t : Bool) → (a == 47) ≡ s → (b == 47) ≡ t → (if s then 0 else suc a) ≡ (if t then 0 else suc b) → a ≡ b
@@ -116,17 +116,17 @@ rank_exact a b = by (a == 47) (b == 47) refl refl
     by false false e f h = ap pred h
 
 -- bytes that tie are the same
-pub rank_exact_cmp : (a b : ℕ) → on rank nat_cmp a b ≡ Equal → a ≡ b
-rank_exact_cmp a b e = rank_exact a b (nat_cmp-IsAntisymmetric (rank a) (rank b) e)
+pub rank_exact_cmp : (a b : ℕ) → on byte_rank nat_cmp a b ≡ Equal → a ≡ b
+rank_exact_cmp a b e = rank_exact a b (nat_cmp-IsAntisymmetric (byte_rank a) (byte_rank b) e)
 
-pub rank_total : IsTotalOrder (on rank nat_cmp)
-rank_total = on_total rank nat_cmp_total
+pub rank_total : IsTotalOrder (on byte_rank nat_cmp)
+rank_total = on_total byte_rank nat_cmp_total
 
 pub walk_total : IsTotalOrder walk_cmp
 walk_total = lists_total rank_total
 
 pub walk_exact : (x y : Bytes) → walk_cmp x y ≡ Equal → x ≡ y
-walk_exact = slice_cmp-IsAntisymmetric {R = on rank nat_cmp} rank_exact_cmp
+walk_exact = slice_cmp-IsAntisymmetric {R = on byte_rank nat_cmp} rank_exact_cmp
 
 same_tie : (q k : Bytes) → eq_by_cmp walk_cmp q k ≡ eq_by_cmp path_cmp q k
 same_tie q k =
@@ -140,15 +140,15 @@ pub same_find : {X : Type 0} (q : Bytes) (es : List (Bytes × X)) → find walk_
 same_find q [] = refl
 same_find q (e ∷ es) = λ i. cond (same_tie q e.0 i) (Some e.1) (same_find q es i)
 
-pub walk_find : (nodes : Nodes) (q : Bytes) → find path_cmp q (walk nodes) ≡ finmap.get nodes q
+pub walk_find : (nodes : Nodes) (q : Bytes) → find path_cmp q (walk_of nodes) ≡ finmap.get nodes q
 walk_find nodes q =
-    sym (same_find q (walk nodes))
+    sym (same_find q (walk_of nodes))
     ∙ sym (finmap.get-entries (finmap.from_entries {R = walk_cmp} (finmap.entries nodes)) q)
     ∙ finmap.get-from_entries walk_total (finmap.entries nodes) q
     ∙ same_find q (finmap.entries nodes)
     ∙ sym (finmap.get-entries nodes q)
 
-pub walk_sorted : (nodes : Nodes) → T (is_sorted walk_cmp (walk nodes))
+pub walk_sorted : (nodes : Nodes) → T (is_sorted walk_cmp (walk_of nodes))
 walk_sorted nodes = finmap.entries_sorted (finmap.from_entries {R = walk_cmp} (finmap.entries nodes))
 
 prefix_less : (p : Bytes) (b : ℕ) (t : Bytes) → walk_cmp p (p ++ b ∷ t) ≡ Less
@@ -157,9 +157,9 @@ prefix_less (x ∷ p) b t =
     ap (λ r. ordering_then r (walk_cmp p (p ++ b ∷ t))) (tied_itself rank_total x) ∙ prefix_less p b t
 
 -- no path stands before "/"
-pub none_before_root : (path : Bytes) → is_path path ≡ true → walk_cmp path slash ≡ Less → ⊥
+pub none_before_root : (path : Bytes) → is_path path ≡ true → walk_cmp path root_path ≡ Less → ⊥
 none_before_root [] is l = true≢false (sym is)
-none_before_root (b ∷ t) is l = by (nat_lt (rank b) 0) refl l
+none_before_root (b ∷ t) is l = by (nat_lt (byte_rank b) 0) refl l
   where
     lesser : (o : Ordering) → o ≡ Less → T (is_lt o)
     lesser o e = subst (λ (x : Ordering). T (is_lt x)) (sym e) tt
@@ -172,12 +172,12 @@ none_before_root (b ∷ t) is l = by (nat_lt (rank b) 0) refl l
     then_end true k = at_end t k
     then_end false k = lesser Greater k
 
-    by : (lesser : Bool) → nat_lt (rank b) 0 ≡ lesser
-        → ordering_then (cond lesser Less (cond (rank b == 0) Equal Greater)) (walk_cmp t []) ≡ Less → ⊥
+    by : (lesser : Bool) → nat_lt (byte_rank b) 0 ≡ lesser
+        → ordering_then (cond lesser Less (cond (byte_rank b == 0) Equal Greater)) (walk_cmp t []) ≡ Less → ⊥
     by true h k =
-        let none : rank b < 0 = ltb→lt (rank b) 0 (subst T (sym h) tt) in
+        let none : byte_rank b < 0 = ltb→lt (byte_rank b) 0 (subst T (sym h) tt) in
         absurd (omega arith)
-    by false h k = then_end (rank b == 0) k
+    by false h k = then_end (byte_rank b == 0) k
 
 -- ---- a child's path
 
@@ -215,7 +215,7 @@ after_is (b ∷ xs) name none =
 abbrev pub IsBelow : Bytes → Bytes → Bytes → Type 0
 IsBelow path name child = (path ≡ parent_of child) × (name ≡ name_of child) × (is_root child ≡ false)
 
-below_root : (name : Bytes) → is_name name ≡ true → has_slash name ≡ false → IsBelow slash name (slash ++ name)
+below_root : (name : Bytes) → is_name name ≡ true → has_slash name ≡ false → IsBelow root_path name (root_path ++ name)
 below_root [] is none = absurd (true≢false (sym is))
 below_root (b ∷ name) is none = (
   ap or_root (sym (before_is [] (b ∷ name) none)),

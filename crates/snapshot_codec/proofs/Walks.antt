@@ -13,7 +13,7 @@ use Rattle.ephemerals.specs.Orders.{Bytes}
 use Rattle.data_tree.specs.Nodes.{Nodes}
 use Rattle.data_tree.specs.declared.node.Node.{Node}
 use Rattle.snapshot_codec.specs.Walks.{IsBelow, IsWalk}
-use Rattle.snapshot_codec.specs.Written.{rank, walk_cmp, walk}
+use Rattle.snapshot_codec.specs.Written.{byte_rank, walk_cmp, walk_of}
 use Rattle.snapshot_codec.proofs.WalkOrder.{first, second, less, less_at, rank_exact, rank_exact_cmp, rank_total, walk_total, walk_find, walk_sorted}
 
 is_less : (o : Ordering) → o ≡ Less → T (is_lt o)
@@ -21,14 +21,14 @@ is_less o e = subst (λ (x : Ordering). T (is_lt x)) (sym e) tt
 
 -- a byte that isn't greater than a slash is one
 only_slash : (c : ℕ) (y t : Bytes) → walk_cmp (c ∷ y) (47 ∷ t) ≡ Less → c ≡ 47
-only_slash c y t l = by (nat_lt (rank c) 0) (rank c == 0) refl refl l
+only_slash c y t l = by (nat_lt (byte_rank c) 0) (byte_rank c == 0) refl refl l
   where
-    by : (lesser same : Bool) → nat_lt (rank c) 0 ≡ lesser → (rank c == 0) ≡ same
+    by : (lesser same : Bool) → nat_lt (byte_rank c) 0 ≡ lesser → (byte_rank c == 0) ≡ same
         → ordering_then (cond lesser Less (cond same Equal Greater)) (walk_cmp y t) ≡ Less → c ≡ 47
     by true same e f k =
-        let none : rank c < 0 = ltb→lt (rank c) 0 (subst T (sym e) tt) in
+        let none : byte_rank c < 0 = ltb→lt (byte_rank c) 0 (subst T (sym e) tt) in
         absurd (omega arith)
-    by false true e f k = rank_exact c 47 (eqb-true (rank c) 0 f)
+    by false true e f k = rank_exact c 47 (eqb-true (byte_rank c) 0 f)
     by false false e f k = absurd (is_less Greater k)
 
 between_below : (p y t : Bytes) → walk_cmp p y ≡ Less → walk_cmp y (p ++ 47 ∷ t) ≡ Less → IsBelow p y
@@ -36,11 +36,11 @@ between_below [] [] t l m = absurd (is_less Equal l)
 between_below [] (c ∷ y) t l m = (y, ap (λ (n : ℕ). n ∷ y) (only_slash c y t m))
 between_below (a ∷ p) [] t l m = absurd (is_less Greater l)
 between_below (a ∷ p) (c ∷ y) t l m =
-    by (between_below p y t) (on rank nat_cmp a c) refl l (ap (λ r. ordering_then r (walk_cmp y (p ++ 47 ∷ t)))
+    by (between_below p y t) (on byte_rank nat_cmp a c) refl l (ap (λ r. ordering_then r (walk_cmp y (p ++ 47 ∷ t)))
     (sym (rank_total.antisymm c a)) ∙ m)
   where
     by : (walk_cmp p y ≡ Less → walk_cmp y (p ++ 47 ∷ t) ≡ Less → IsBelow p y) → (o : Ordering)
-        → on rank nat_cmp a c ≡ o → ordering_then o (walk_cmp p y) ≡ Less
+        → on byte_rank nat_cmp a c ≡ o → ordering_then o (walk_cmp p y) ≡ Less
         → ordering_then (ordering_reverse o) (walk_cmp y (p ++ 47 ∷ t)) ≡ Less → IsBelow (a ∷ p) (c ∷ y)
     by later Less e k n = absurd (is_less Greater n)
     by later Equal e k n =
@@ -70,10 +70,10 @@ keys_ascend (e ∷ es) h = (
   keys_ascend es (second (below_all walk_cmp e.0 es) (is_sorted walk_cmp es) h),
 )
 
-pub nodes_are_walked : (nodes : Nodes) → IsWalk nodes (walk nodes)
+pub nodes_are_walked : (nodes : Nodes) → IsWalk nodes (walk_of nodes)
 nodes_are_walked nodes = record {
   nodes_found = walk_find nodes;
-  ascends = keys_ascend (walk nodes) (walk_sorted nodes);
+  ascends = keys_ascend (walk_of nodes) (walk_sorted nodes);
   together = λ before between behind rest x y z is below.
       let others = behind ++ z ∷ rest in
       let from_x = sorted_behind before (x ∷ (between ++ y ∷ others))

@@ -17,16 +17,16 @@ use Rattle.values.specs.declared.fault.Fault.TheVariants.{BadPath, BadImage}
 use Rattle.ephemerals.specs.Orders.{Bytes, path_cmp}
 use Rattle.ephemerals.proofs.Totals.{path_total}
 use Rattle.jute.specs.Loading.{EndsAt, EndsOnce}
-use Rattle.jute.specs.Relation.{Stand}
+use Rattle.jute.specs.Relation.{SpellsItems}
 use Rattle.jute.proofs.Public.{bind_ok, ok_is, guard_ended}
-use Rattle.txn_codec.specs.Paths.{are_names, is_root, is_path, is_child_path, path_of, has_slash, before_last_slash, after_last_slash, or_root, parent_of, name_of, child_of}
+use Rattle.txn_codec.specs.Paths.{are_names, is_root, is_path, is_child_path, checked_path, has_slash, before_last_slash, after_last_slash, or_root, parent_of, name_of, child_of}
 use Rattle.data_tree.specs.State.{State}
 use Rattle.data_tree.specs.Naming.{PathsEndInNames}
-use Rattle.data_tree.specs.Whole.{has_node, lists, is_listed, has_parent, is_child_name, AreNamed, IsWhole}
+use Rattle.data_tree.specs.Whole.{has_node, is_listed_at, is_listed, has_parent, is_child_name, AreNamed, IsWhole}
 use Rattle.data_tree.specs.declared.node.Node.{Node}
-use Rattle.snapshot_codec.specs.Image.{Sessions, Lists, Rows, parts_in, rows_in, HasPlace, GoesBehind, EachGoesBehind, is_child, AreAt, IsMadeOf, SpellsImage}
+use Rattle.snapshot_codec.specs.Image.{SessionEntries, Lists, Rows, parts_in, rows_in, HasPlace, IsAllowedAfter, AreAllowedAfter, is_child, AreAt, IsMadeOf, SpellsImage}
 use Rattle.snapshot_codec.specs.Made.{image_load}
-use Rattle.snapshot_codec.specs.Parts.{Value, Count, Path, Close, Part, slash, count_of, session_of, acl_of, root_of, next_of, node_of, path_text, signature, signature_of, sessions_from, acls_from, parts, part_format, part_after, is_end}
+use Rattle.snapshot_codec.specs.Parts.{Value, Count, Path, Close, Part, root_path, count_value, session_value, acl_value, root_value, next_value, node_value, path_value, signature_text, signature_value, sessions_from, acls_from, part_stream, part_format, part_after, is_end}
 use Rattle.snapshot_codec.specs.declared.part.ImageNode.{ImageNode}
 use Rattle.snapshot_codec.specs.declared.part.ImagePart.{ImagePart}
 use Rattle.snapshot_codec.specs.declared.part.ImagePart.TheVariants as part
@@ -143,29 +143,29 @@ acls_on n = by (eqb n 0)
     by true = (tt, refl)
     by false = (tt, refl)
 
-text_path : (t : Bytes) (v : Value) → path_text t ≡ Ok v → is_path t ≡ true
+text_path : (t : Bytes) (v : Value) → path_value t ≡ Ok v → is_path t ≡ true
 text_path t v e =
-    let p = bind_ok (path_of t) (λ path. (let r : Result Value Fault = Ok (Path path) in r)) v e in
+    let p = bind_ok (checked_path t) (λ path. (let r : Result Value Fault = Ok (Path path) in r)) v e in
     (guard_ended (is_path t) BadPath t p.0 p.1).0
 
 count_step : (phase : PartPhase) (on : (n : ℕ) → Keeps (part_after phase (Count n))
     × (waits (part_after phase (Count n)) ≡ true))
-    (a : Option ℕ) (v : Value) → count_of a ≡ Ok v → Step phase v
+    (a : Option ℕ) (v : Value) → count_value a ≡ Ok v → Step phase v
 unfolding ArePaths no_rows
 count_step phase on None v e = absurd cc
 count_step phase on (Some n) v e = subst (Step phase) (ok_is (Count n) v e) (tt, (on n).0, λ w. inr (refl, (on n).1))
 
-root_step : (a : Option (List ℕ)) (v : Value) → root_of a ≡ Ok v → Step Root v
+root_step : (a : Option (List ℕ)) (v : Value) → root_value a ≡ Ok v → Step Root v
 unfolding ArePaths no_rows
 root_step None v e = absurd cc
-root_step (Some []) v e = subst (Step Root) (ok_is (Path slash) v e) (tt, refl, λ w. inr (refl, refl))
+root_step (Some []) v e = subst (Step Root) (ok_is (Path root_path) v e) (tt, refl, λ w. inr (refl, refl))
 root_step (Some (b ∷ t)) v e = by (is_root (b ∷ t)) e
   where
-    by : (r : Bool) → cond r (Err BadImage) (path_text (b ∷ t)) ≡ Ok v → Step Root v
+    by : (r : Bool) → cond r (Err BadImage) (path_value (b ∷ t)) ≡ Ok v → Step Root v
     by true k = absurd cc
     by false k = subst (Step Root) (sym (path_is (b ∷ t) v k)) (tt, text_path (b ∷ t) v k, λ w. inr (refl, refl))
 
-next_step : (a : Option (List ℕ)) (v : Value) → next_of a ≡ Ok v → Step Nodes v
+next_step : (a : Option (List ℕ)) (v : Value) → next_value a ≡ Ok v → Step Nodes v
 unfolding ArePaths no_rows
 next_step None v e = absurd cc
 next_step (Some t) v e = by (is_root t) e
@@ -173,15 +173,15 @@ next_step (Some t) v e = by (is_root t) e
     good : Value → Result Value Fault
     good x = Ok x
 
-    by : (r : Bool) → cond r (Ok Close) (path_text t) ≡ Ok v → Step Nodes v
+    by : (r : Bool) → cond r (Ok Close) (path_value t) ≡ Ok v → Step Nodes v
     by true k = subst (Step Nodes) (ok_is Close v k) (tt, tt, λ w. absurd (true≢false (sym w)))
     by false k = subst (Step Nodes) (sym (path_is t v k)) (tt, text_path t v k, λ w. absurd (true≢false (sym w)))
 
-end_step : (a : Option (List ℕ)) (v : Value) → signature_of a ≡ Ok v → Step Signature v
+end_step : (a : Option (List ℕ)) (v : Value) → signature_value a ≡ Ok v → Step Signature v
 unfolding ArePaths no_rows
 end_step None v e = absurd cc
 end_step (Some t) v e =
-    subst (Step Signature) (guard_ended (bytes_eq t signature) BadImage (Part part.End) v e).1
+    subst (Step Signature) (guard_ended (bytes_eq t signature_text) BadImage (Part part.End) v e).1
     (tt, tt, λ w. absurd (true≢false (sym w)))
 
 step_of : (phase : PartPhase) (v : Value) (text : List ℕ) → (part_format phase).Spells v text → Keeps phase
@@ -189,14 +189,15 @@ step_of : (phase : PartPhase) (v : Value) (text : List ℕ) → (part_format pha
 unfolding ArePaths no_rows
 step_of SessionCount v text s k = count_step SessionCount sessions_on s.0 v s.1
 step_of (SessionsLeft n) v text s k =
-    subst (Step (SessionsLeft n)) (ok_is (session_of s.0) v s.1)
+    subst (Step (SessionsLeft n)) (ok_is (session_value s.0) v s.1)
     (tt, (sessions_on _).0, λ w. inr (refl, (sessions_on _).1))
 step_of AclCount v text s k = count_step AclCount acls_on s.0 v s.1
 step_of (AclsLeft n) v text s k =
-    subst (Step (AclsLeft n)) (ok_is (acl_of s.0) v s.1) (tt, (acls_on _).0, λ w. inr (refl, (acls_on _).1))
+    subst (Step (AclsLeft n)) (ok_is (acl_value s.0) v s.1) (tt, (acls_on _).0, λ w. inr (refl, (acls_on _).1))
 step_of Root v text s k = root_step s.0 v s.1
 step_of Nodes v text s k = next_step s.0 v s.1
-step_of (Body path) v text s k = subst (Step (Body path)) (ok_is (node_of path s.0) v s.1) ((k, tt), tt, λ w. inl refl)
+step_of (Body path) v text s k =
+    subst (Step (Body path)) (ok_is (node_value path s.0) v s.1) ((k, tt), tt, λ w. inl refl)
 step_of Signature v text s k = end_step s.0 v s.1
 
 -- ---- all of it
@@ -218,7 +219,8 @@ rows_of vs = flat_map rows_in (flat_map parts_in vs)
 rows_first : (v : Value) (vs : List Value) → rows_of (v ∷ vs) ≡ rows_at v ++ rows_of vs
 rows_first v vs = flat_map-append rows_in (parts_in v) (flat_map parts_in vs)
 
-stand_paths : (vs : List Value) (phase end : PartPhase) (bytes rest : List ℕ) → Stand parts vs phase bytes end rest
+stand_paths : (vs : List Value) (phase end : PartPhase) (bytes rest : List ℕ)
+    → SpellsItems part_stream vs phase bytes end rest
     → Keeps phase → ArePaths (rows_of vs)
 unfolding ArePaths
 stand_paths [] phase end bytes rest h k = tt
@@ -231,7 +233,8 @@ going_on : (last : Bool) (vs : List Value) (others : Type 0) → EndsAt last vs 
 going_on true vs others h e = absurd (true≢false e)
 going_on false vs others h e = h
 
-node_comes : (vs : List Value) (phase end : PartPhase) (bytes rest : List ℕ) → Stand parts vs phase bytes end rest
+node_comes : (vs : List Value) (phase end : PartPhase) (bytes rest : List ℕ)
+    → SpellsItems part_stream vs phase bytes end rest
     → Keeps phase
     → EndsOnce image_load vs → waits phase ≡ true → no_rows (rows_of vs) ≡ false
 node_comes [] phase end bytes rest h k ends w = absurd ends
@@ -250,7 +253,7 @@ node_comes (v ∷ vs) phase end bytes rest h k ends w =
 pub record Linked (rows : Rows) : Type 0 where
   pub parents : (path : Bytes) → is_some (find path_cmp path rows) ≡ true → is_root path ≡ false
       → is_some (find path_cmp (parent_of path) rows) ≡ true
-  pub root : no_rows rows ≡ false → is_some (find path_cmp slash rows) ≡ true
+  pub root : no_rows rows ≡ false → is_some (find path_cmp root_path rows) ≡ true
 
 no_links : Linked []
 unfolding no_rows
@@ -267,9 +270,9 @@ module _ (rows : Rows) (path : Bytes) (row : ImageNode) (l : Linked rows) where
   root_linked : is_root path ≡ true → rows ≡ [] → Linked more
   root_linked root first = record {
     parents = λ q some other. absurd (true≢false (sym root ∙ ap is_root (sym (same q some)) ∙ other));
-    root = λ some. ap (λ (r : Rows). is_some (find path_cmp slash (r ++ (path, row) ∷ []))) first
-        ∙ ap (λ (p : Bytes). is_some (find path_cmp slash ((p, row) ∷ []))) (root_is path root)
-        ∙ ap (λ t. is_some (cond (is_eq t) (Some row) None)) (tied_itself path_total slash);
+    root = λ some. ap (λ (r : Rows). is_some (find path_cmp root_path (r ++ (path, row) ∷ []))) first
+        ∙ ap (λ (p : Bytes). is_some (find path_cmp root_path ((p, row) ∷ []))) (root_is path root)
+        ∙ ap (λ t. is_some (cond (is_eq t) (Some row) None)) (tied_itself path_total root_path);
   }
     where
       found : (q : Bytes) (b : Bool) → eq_by_cmp path_cmp q path ≡ b → is_some (cond b (Some row) None) ≡ true
@@ -302,7 +305,7 @@ module _ (rows : Rows) (path : Bytes) (row : ImageNode) (l : Linked rows) where
     child_linked : Linked more
     child_linked = record {
       parents = λ q some other. by q (eq_by_cmp path_cmp q path) refl (sym (more_find q) ∙ some) other;
-      root = λ some. still slash (l.root (some_rows rows parent));
+      root = λ some. still root_path (l.root (some_rows rows parent));
     }
       where
         by : (q : Bytes) (b : Bool) → eq_by_cmp path_cmp q path ≡ b
@@ -317,7 +320,7 @@ module _ (rows : Rows) (path : Bytes) (row : ImageNode) (l : Linked rows) where
   node_linked true e h = root_linked e h
   node_linked false e h = child_linked h.0 h.1
 
-linked_part : (front : List ImagePart) (p : ImagePart) → Linked (flat_map rows_in front) → GoesBehind front p
+linked_part : (front : List ImagePart) (p : ImagePart) → Linked (flat_map rows_in front) → IsAllowedAfter front p
     → Linked (flat_map rows_in (front ++ p ∷ []))
 linked_part front (part.Session s) l h = subst Linked (kept rows_in front (part.Session s) refl) l
 linked_part front (part.Acl a) l h = subst Linked (kept rows_in front (part.Acl a) refl) l
@@ -326,7 +329,7 @@ linked_part front (part.Node n) l h =
     subst Linked (gained rows_in front (part.Node n) ((n.path, n) ∷ []) refl)
     (node_linked (flat_map rows_in front) n.path n l (is_root n.path) refl h.0)
 
-linked_all : (ps front : List ImagePart) → Linked (flat_map rows_in front) → EachGoesBehind front ps
+linked_all : (ps front : List ImagePart) → Linked (flat_map rows_in front) → AreAllowedAfter front ps
     → Linked (flat_map rows_in (front ++ ps))
 linked_all [] front l h = subst Linked (kept rows_in front part.End refl
     ∙ flat_map-append rows_in front (part.End ∷ []) ∙ sym (flat_map-append rows_in front [])) l
@@ -340,7 +343,7 @@ and_both : (a b : Bool) → (a && b) ≡ true → (a ≡ true) × (b ≡ true)
 and_both true b k = (refl, k)
 and_both false b k = absurd (true≢false (sym k))
 
-module _ (s : State) (ids : Sessions) (named : Lists) (rows : Rows) (made : IsMadeOf s ids named rows)
+module _ (s : State) (ids : SessionEntries) (named : Lists) (rows : Rows) (made : IsMadeOf s ids named rows)
     (l : Linked rows) (paths : ArePaths rows) (ends : PathsEndInNames) where
   there : (path : Bytes) → has_node s.nodes path ≡ is_some (find path_cmp path rows)
   there path = by (find path_cmp path rows) (finmap.get s.nodes path) (made.nodes path)
@@ -352,7 +355,7 @@ module _ (s : State) (ids : Sessions) (named : Lists) (rows : Rows) (made : IsMa
       by (Some r) None h = absurd h
 
   listed : (path name : Bytes) → has_node s.nodes path ≡ true
-      → lists s.nodes path name ≡ list_any (is_child path name) rows
+      → is_listed_at s.nodes path name ≡ list_any (is_child path name) rows
   listed path name some = by (find path_cmp path rows) (finmap.get s.nodes path) (made.nodes path) some
     where
       by : (row : Option ImageNode) (node : Option Node) → AreAt named rows path row node → is_some node ≡ true
@@ -423,14 +426,15 @@ module _ (s : State) (ids : Sessions) (named : Lists) (rows : Rows) (made : IsMa
   parent_lists : (path : Bytes) → has_node s.nodes path ≡ true → has_parent s.nodes path ≡ true
   parent_lists path some = by (is_root path) refl
     where
-      by : (b : Bool) → is_root path ≡ b → cond b true (lists s.nodes (parent_of path) (name_of path)) ≡ true
+      by : (b : Bool) → is_root path ≡ b → cond b true (is_listed_at s.nodes (parent_of path) (name_of path)) ≡ true
       by true e = refl
       by false e =
           let row = sym (there path) ∙ some in
           listed (parent_of path) (name_of path) (there (parent_of path) ∙ l.parents path row e)
           ∙ any_at rows path e row
 
-  child_stands : (path name : Bytes) → lists s.nodes path name ≡ true → has_node s.nodes (child_of path name) ≡ true
+  child_stands : (path name : Bytes) → is_listed_at s.nodes path name ≡ true
+      → has_node s.nodes (child_of path name) ≡ true
   child_stands path name e =
       there (child_of path name)
       ∙ any_found rows path name paths (sym (listed path name (listed_some name (finmap.get s.nodes path) e)) ∙ e)
@@ -479,7 +483,7 @@ module _ (s : State) (ids : Sessions) (named : Lists) (rows : Rows) (made : IsMa
 
   made_whole : no_rows rows ≡ false → IsWhole s
   made_whole some = record {
-    root = there slash ∙ l.root some;
+    root = there root_path ∙ l.root some;
     named = made_named;
     links = record { parents = parent_lists; children = child_stands };
     owners = made.owners;

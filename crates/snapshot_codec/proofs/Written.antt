@@ -25,12 +25,12 @@ use Rattle.jute.specs.declared.owned.Acl.{Acl}
 use Rattle.txn_codec.specs.Paths.{is_root, is_path, parent_of, name_of, child_of}
 use Rattle.data_tree.specs.Nodes.{Nodes}
 use Rattle.data_tree.specs.State.{State}
-use Rattle.data_tree.specs.Whole.{has_node, lists, is_listed, IsWhole}
+use Rattle.data_tree.specs.Whole.{has_node, is_listed_at, is_listed, IsWhole}
 use Rattle.data_tree.specs.declared.node.Node.{Node}
-use Rattle.snapshot_codec.specs.Image.{Sessions, Rows, parts_in, sessions_in, lists_in, rows_in, list_named, HasPlace, GoesBehind, EachGoesBehind, is_child, AreAt, IsMadeOf, IsMadeOfParts, image}
+use Rattle.snapshot_codec.specs.Image.{SessionEntries, Rows, parts_in, sessions_in, lists_in, rows_in, list_named, HasPlace, IsAllowedAfter, AreAllowedAfter, is_child, AreAt, IsMadeOf, IsMadeOfParts, image_format}
 use Rattle.snapshot_codec.specs.Made.{image_load}
 use Rattle.snapshot_codec.specs.Parts.{Value, Part, is_end}
-use Rattle.snapshot_codec.specs.Written.{walk_cmp, walk, same_acl, same_list, Lists, key_in, with_list, lists_from, lists_of, key_of, session_part, list_part, row_of, node_values, counted_values, values_of}
+use Rattle.snapshot_codec.specs.Written.{walk_cmp, walk_of, is_same_acl, is_same_list, Lists, key_in, with_list, lists_from, lists_of, key_of, session_part, list_part, image_node_of, node_values, counted_values, values_of}
 use Rattle.snapshot_codec.specs.declared.part.ImageNode.{ImageNode}
 use Rattle.snapshot_codec.specs.declared.part.ImagePart.{ImagePart}
 use Rattle.snapshot_codec.specs.declared.part.ImagePart.TheVariants as part
@@ -56,10 +56,10 @@ part_ends f none (x ∷ xs) vs h =
 -- ---- the parts
 
 node_part : Lists → Bytes × Node → ImagePart
-node_part lists e = part.Node (row_of lists e)
+node_part lists e = part.Node (image_node_of lists e)
 
 abbrev row : Lists → Bytes × Node → Bytes × ImageNode
-row lists e = (e.0, row_of lists e)
+row lists e = (e.0, image_node_of lists e)
 
 parts_of_map : {A : Type 0} (f : A → ImagePart) (xs : List A) (vs : List Value)
     → flat_map parts_in (map (λ x. Part (f x)) xs ++ vs) ≡ map f xs ++ flat_map parts_in vs
@@ -87,13 +87,13 @@ itself (x ∷ xs) = ap (λ (r : List _). x ∷ r) (itself xs)
 
 -- ---- ACL lists
 
-same_acl_decides : (a b : Acl) → (same_acl a b ≡ true → a ≡ b) × (a ≡ b → same_acl a b ≡ true)
+same_acl_decides : (a b : Acl) → (is_same_acl a b ≡ true → a ≡ b) × (a ≡ b → is_same_acl a b ≡ true)
 same_acl_decides a b = (
   λ e. equal e,
-  λ e. subst (λ (x : Acl). same_acl a x ≡ true) e own,
+  λ e. subst (λ (x : Acl). is_same_acl a x ≡ true) e own,
 )
   where
-    equal : same_acl a b ≡ true → a ≡ b
+    equal : is_same_acl a b ≡ true → a ≡ b
     equal e =
         let p = and_parts (int_eq a.perms b.perms) (bytes_eq a.id.scheme b.id.scheme && bytes_eq a.id.id b.id.id) e in
         let q = and_parts (bytes_eq a.id.scheme b.id.scheme) (bytes_eq a.id.id b.id.id) p.1 in
@@ -105,11 +105,11 @@ same_acl_decides a b = (
           };
         }
 
-    own : same_acl a a ≡ true
+    own : is_same_acl a a ≡ true
     own = λ i. (Decides-int_eq a.perms a.perms).1 refl i
         && ((bytes_decides a.id.scheme a.id.scheme).1 refl i && (bytes_decides a.id.id a.id.id).1 refl i)
 
-pub list_decides : (a b : List Acl) → (same_list a b ≡ true → a ≡ b) × (a ≡ b → same_list a b ≡ true)
+pub list_decides : (a b : List Acl) → (is_same_list a b ≡ true → a ≡ b) × (a ≡ b → is_same_list a b ≡ true)
 list_decides = pointwise_decides same_acl_decides
 
 -- the keys stand in order from one on
@@ -163,14 +163,14 @@ key_names : (n : ℕ) (es : Lists) (list : List Acl) → Numbered n es → is_so
 unfolding Numbered
 key_names n [] list h some = absurd (true≢false (sym some))
 key_names n (e ∷ es) list h some =
-    by (key_names (suc n) es list h.1) (same_list e.1 list) refl some
+    by (key_names (suc n) es list h.1) (is_same_list e.1 list) refl some
   where
     other : (m : ℕ) → suc n < suc m → eq_by_cmp int_cmp (pos (suc m)) (pos (suc n)) ≡ false
     other m l = ap is_eq (int_cmp_total.antisymm (pos (suc m)) (pos (suc n))
         ∙ ap ordering_reverse (pos_less (suc n) (suc m) (let k : suc n < suc m = omega arith in k)))
 
     by : (is_some (key_in es list) ≡ true → Names (suc n) es list (unwrap_or (key_in es list) (negsuc 0)))
-        → (b : Bool) → same_list e.1 list ≡ b → is_some (cond b (Some e.0) (key_in es list)) ≡ true
+        → (b : Bool) → is_same_list e.1 list ≡ b → is_some (cond b (Some e.0) (key_in es list)) ≡ true
         → Names n (e ∷ es) list (unwrap_or (cond b (Some e.0) (key_in es list)) (negsuc 0))
     by later true is k = (
       ap (λ r. cond (is_eq r) (Some e.1) (find int_cmp e.0 es)) (tied_itself int_cmp_total e.0)
@@ -191,12 +191,12 @@ key_names n (e ∷ es) list h some =
 
 -- a list has a key, or is the open one
 abbrev pub has_key : Lists → List Acl → Bool
-has_key lists list = same_list list open_acl || is_some (key_in lists list)
+has_key lists list = is_same_list list open_acl || is_some (key_in lists list)
 
 still_in : (es fs : Lists) (list : List Acl) → is_some (key_in es list) ≡ true
     → is_some (key_in (es ++ fs) list) ≡ true
 still_in [] fs list some = absurd (true≢false (sym some))
-still_in (e ∷ es) fs list some = by (still_in es fs list) (same_list e.1 list) some
+still_in (e ∷ es) fs list some = by (still_in es fs list) (is_same_list e.1 list) some
   where
     by : (is_some (key_in es list) ≡ true → is_some (key_in (es ++ fs) list) ≡ true) → (b : Bool)
         → is_some (cond b (Some e.0) (key_in es list)) ≡ true
@@ -206,7 +206,7 @@ still_in (e ∷ es) fs list some = by (still_in es fs list) (same_list e.1 list)
 
 new_in : (es : Lists) (key : ℤ) (list : List Acl) → is_some (key_in (es ++ (key, list) ∷ []) list) ≡ true
 new_in [] key list = ap (λ b. is_some (cond b (Some key) None)) ((list_decides list list).1 refl)
-new_in (e ∷ es) key list = by (new_in es key list) (same_list e.1 list)
+new_in (e ∷ es) key list = by (new_in es key list) (is_same_list e.1 list)
   where
     by : is_some (key_in (es ++ (key, list) ∷ []) list) ≡ true → (b : Bool)
         → is_some (cond b (Some e.0) (key_in (es ++ (key, list) ∷ []) list)) ≡ true
@@ -230,14 +230,14 @@ kept_with es list asked h = by (has_key es list)
   where
     by : (b : Bool) → has_key (cond b es (es ++ (pos (suc (length es)), list) ∷ [])) asked ≡ true
     by true = h
-    by false = or_right (same_list asked open_acl) (is_some (key_in es asked)) _ (still_in es _ asked) h
+    by false = or_right (is_same_list asked open_acl) (is_some (key_in es asked)) _ (still_in es _ asked) h
 
 pub keyed_with : (es : Lists) (list : List Acl) → has_key (with_list es list) list ≡ true
 keyed_with es list = by (has_key es list) refl
   where
     by : (b : Bool) → has_key es list ≡ b → has_key (cond b es (es ++ (pos (suc (length es)), list) ∷ [])) list ≡ true
     by true e = e
-    by false e = or_on (same_list list open_acl) _ (new_in es (pos (suc (length es))) list)
+    by false e = or_on (is_same_list list open_acl) _ (new_in es (pos (suc (length es))) list)
 
 pub kept_from : (es : List (Bytes × Node)) (lists : Lists) (asked : List Acl) → has_key lists asked ≡ true
     → has_key (lists_from lists es) asked ≡ true
@@ -275,7 +275,7 @@ numbered_from (e ∷ es) lists h = numbered_from es (with_list lists e.1.acl) (n
 
 named : (lists : Lists) (list : List Acl) → Numbered 0 lists → has_key lists list ≡ true
     → list_named lists (key_of lists list) ≡ Some list
-named lists list h k = by (same_list list open_acl) refl k
+named lists list h k = by (is_same_list list open_acl) refl k
   where
     key : ℤ
     key = unwrap_or (key_in lists list) (negsuc 0)
@@ -283,7 +283,7 @@ named lists list h k = by (same_list list open_acl) refl k
     not_open : (m : ℕ) → int_eq (pos (suc m)) (negsuc 0) ≡ false
     not_open m = refl
 
-    by : (b : Bool) → same_list list open_acl ≡ b → (b || is_some (key_in lists list)) ≡ true
+    by : (b : Bool) → is_same_list list open_acl ≡ b → (b || is_some (key_in lists list)) ≡ true
         → list_named lists (cond b (negsuc 0) (unwrap_or (key_in lists list) (negsuc 0))) ≡ Some list
     by true e k = ap (λ (l : List Acl). Some l) (sym ((list_decides list open_acl).0 e))
     by false e k =
@@ -293,13 +293,13 @@ named lists list h k = by (same_list list open_acl) refl k
 
 -- ---- each part goes with those before it
 
-each_append : (xs ys front : List ImagePart) → EachGoesBehind front xs → EachGoesBehind (front ++ xs) ys
-    → EachGoesBehind front (xs ++ ys)
-each_append [] ys front h k = subst (λ (f : List ImagePart). EachGoesBehind f ys) (append-nil front) k
+each_append : (xs ys front : List ImagePart) → AreAllowedAfter front xs → AreAllowedAfter (front ++ xs) ys
+    → AreAllowedAfter front (xs ++ ys)
+each_append [] ys front h k = subst (λ (f : List ImagePart). AreAllowedAfter f ys) (append-nil front) k
 each_append (x ∷ xs) ys front h k = (
   h.0,
   each_append xs ys (front ++ x ∷ []) h.1
-      (subst (λ (f : List ImagePart). EachGoesBehind f ys) (sym (append_assoc front (x ∷ []) xs)) k),
+      (subst (λ (f : List ImagePart). AreAllowedAfter f ys) (sym (append_assoc front (x ∷ []) xs)) k),
 )
 
 map_last : {A B : Type 0} (f : A → B) (front : List B) (ahead : List A) (x : A)
@@ -311,12 +311,13 @@ map_last f front (a ∷ ahead) x =
     ∙ ap (λ (r : List _). r ++ f x ∷ []) (append_assoc front (f a ∷ []) (map f ahead))
 
 each_by : {A : Type 0} (f : A → ImagePart) (front : List ImagePart) (ys xs : List A)
-    → ((ahead : List A) (x : A) (bs : List A) → ys ++ xs ≡ ahead ++ x ∷ bs → GoesBehind (front ++ map f ahead) (f x))
-    → EachGoesBehind (front ++ map f ys) (map f xs)
+    → ((ahead : List A) (x : A) (bs : List A) → ys ++ xs ≡ ahead ++ x ∷ bs
+    → IsAllowedAfter (front ++ map f ahead) (f x))
+    → AreAllowedAfter (front ++ map f ys) (map f xs)
 each_by f front ys [] h = tt
 each_by f front ys (x ∷ xs) h = (
   h ys x xs refl,
-  subst (λ (r : List ImagePart). EachGoesBehind r (map f xs)) (map_last f front ys x)
+  subst (λ (r : List ImagePart). AreAllowedAfter r (map f xs)) (map_last f front ys x)
       (each_by f front (ys ++ x ∷ []) xs (λ ahead y bs e. h ahead y bs (sym (append_assoc ys (x ∷ []) xs) ∙ e))),
 )
 
@@ -344,7 +345,7 @@ found_alike lists q (e ∷ es) = by (found_alike lists q es) (eq_by_cmp path_cmp
   where
     by : Alike lists (find path_cmp q es) (find path_cmp q (map (row lists) es)) → (b : Bool)
         → Alike lists (cond b (Some e.1) (find path_cmp q es))
-        (cond b (Some (row_of lists e)) (find path_cmp q (map (row lists) es)))
+        (cond b (Some (image_node_of lists e)) (find path_cmp q (map (row lists) es)))
     by later true = (refl, refl, refl)
     by later false = later
 
@@ -415,7 +416,7 @@ module _ (s : State) (w : IsWhole s) where
   nodes = s.nodes
 
   abbrev es : List (Bytes × Node)
-  es = walk nodes
+  es = walk_of nodes
 
   abbrev table : Lists
   table = lists_of nodes
@@ -423,7 +424,7 @@ module _ (s : State) (w : IsWhole s) where
   abbrev rows : Rows
   rows = map (row table) es
 
-  abbrev ids : Sessions
+  abbrev ids : SessionEntries
   ids = finmap.entries s.sessions
 
   numbered : Numbered 0 table
@@ -450,7 +451,7 @@ module _ (s : State) (w : IsWhole s) where
   path_of_node : (path : Bytes) → has_node nodes path ≡ true → is_path path ≡ true
   path_of_node = w.named.paths
 
-  child_stands : (path name : Bytes) → lists nodes path name ≡ true → list_any (is_child path name) rows ≡ true
+  child_stands : (path name : Bytes) → is_listed_at nodes path name ≡ true → list_any (is_child path name) rows ≡ true
   child_stands path name e =
       let below = child_below path name (path_of_node path (lists_there name (finmap.get nodes path) e))
       (w.named.names path name e) in
@@ -459,14 +460,15 @@ module _ (s : State) (w : IsWhole s) where
       && (eq_by_cmp path_cmp path (sym below.0 i) && eq_by_cmp path_cmp name (sym below.1 i)))
       ∙ (λ i. same_path path i && same_path name i)) rows (there child ∙ w.links.children path name e)
 
-  listed_at : (q : Bytes) → has_node nodes q ≡ true → is_root q ≡ false → lists nodes (parent_of q) (name_of q) ≡ true
+  listed_at : (q : Bytes) → has_node nodes q ≡ true → is_root q ≡ false
+      → is_listed_at nodes (parent_of q) (name_of q) ≡ true
   listed_at q some other =
-      sym (ap (λ b. cond b true (lists nodes (parent_of q) (name_of q))) other) ∙ w.links.parents q some
+      sym (ap (λ b. cond b true (is_listed_at nodes (parent_of q) (name_of q))) other) ∙ w.links.parents q some
 
-  child_listed : (path name : Bytes) → list_any (is_child path name) rows ≡ true → lists nodes path name ≡ true
+  child_listed : (path name : Bytes) → list_any (is_child path name) rows ≡ true → is_listed_at nodes path name ≡ true
   child_listed path name e =
       let f = child_at table path name es e in
-      (λ i. lists nodes (f.3 i) (f.4 i)) ∙ listed_at f.0 (sym (ap is_some (walk_find nodes f.0)) ∙ f.1) f.2
+      (λ i. is_listed_at nodes (f.3 i) (f.4 i)) ∙ listed_at f.0 (sym (ap is_some (walk_find nodes f.0)) ∙ f.1) f.2
 
   at : (path : Bytes) → AreAt table rows path (find path_cmp path rows) (finmap.get nodes path)
   unfolding Alike
@@ -503,14 +505,14 @@ module _ (s : State) (w : IsWhole s) where
   abbrev list_parts : List ImagePart
   list_parts = map list_part table
 
-  sessions_go : EachGoesBehind [] session_parts
+  sessions_go : AreAllowedAfter [] session_parts
   sessions_go = each_by session_part [] [] ids (λ ahead x bs e.
       ap (find int_cmp x.0) (each_of sessions_in session_part (λ y. y) (λ y. refl) ahead ∙ itself ahead)
-      ∙ before_none int_cmp_total ahead x bs (subst (λ (l : Sessions). T (is_sorted int_cmp l)) e
+      ∙ before_none int_cmp_total ahead x bs (subst (λ (l : SessionEntries). T (is_sorted int_cmp l)) e
       (finmap.entries_sorted s.sessions)))
 
-  lists_go : EachGoesBehind session_parts list_parts
-  lists_go = subst (λ (f : List ImagePart). EachGoesBehind f list_parts) (append-nil session_parts)
+  lists_go : AreAllowedAfter session_parts list_parts
+  lists_go = subst (λ (f : List ImagePart). AreAllowedAfter f list_parts) (append-nil session_parts)
       (each_by list_part session_parts [] table (λ ahead x bs e.
       ap (find int_cmp x.0) (flat_map-append lists_in session_parts (map list_part ahead)
       ∙ (λ i. none_of lists_in session_part (λ y. refl) ids i
@@ -600,7 +602,7 @@ module _ (s : State) (w : IsWhole s) where
     has_place true e = root_first e ahead refl
     has_place false e = (new_path, parent_before e)
 
-    node_goes : GoesBehind (front ++ map (node_part table) ahead) (node_part table x)
+    node_goes : IsAllowedAfter (front ++ map (node_part table) ahead) (node_part table x)
     unfolding node_part
     node_goes = (
       subst (λ (r : Rows). HasPlace (is_root x.0) r x.0) (sym (rows_before ahead)) (has_place (is_root x.0) refl),
@@ -608,8 +610,8 @@ module _ (s : State) (w : IsWhole s) where
           ∙ ap is_some (named table x.1.acl numbered (keyed_in table ahead x bs (subst (AllKeyed table) is keyed))),
     )
 
-  nodes_go : EachGoesBehind front (map (node_part table) es)
-  nodes_go = subst (λ (f : List ImagePart). EachGoesBehind f (map (node_part table) es)) (append-nil front)
+  nodes_go : AreAllowedAfter front (map (node_part table) es)
+  nodes_go = subst (λ (f : List ImagePart). AreAllowedAfter f (map (node_part table) es)) (append-nil front)
       (each_by (node_part table) front [] es (λ ahead x bs e. node_goes ahead x bs e))
 
   abbrev whole_parts : List ImagePart
@@ -626,7 +628,7 @@ module _ (s : State) (w : IsWhole s) where
       ∙ ap (λ (r : List ImagePart). session_parts ++ r) (parts_of_map list_part table (node_values table es)
       ∙ ap (λ (r : List ImagePart). list_parts ++ r) (parts_of_nodes table es))
 
-  order : EachGoesBehind [] whole_parts
+  order : AreAllowedAfter [] whole_parts
   order =
       each_append session_parts (list_parts ++ (map (node_part table) es ++ part.End ∷ [])) [] sessions_go
       (each_append list_parts (map (node_part table) es ++ part.End ∷ []) session_parts lists_go
@@ -647,9 +649,9 @@ module _ (s : State) (w : IsWhole s) where
           ∙ ap (λ (r : List _). flat_map f (front ++ map (node_part table) es) ++ (r ++ [])) e
           ∙ append-nil (flat_map f (front ++ map (node_part table) es))
 
-      moved : {t : Sessions} {l : Lists} {r : Rows} → t ≡ ids → l ≡ table → r ≡ rows → IsMadeOf s t l r
+      moved : {t : SessionEntries} {l : Lists} {r : Rows} → t ≡ ids → l ≡ table → r ≡ rows → IsMadeOf s t l r
       moved {t} {l} {r} e f g =
-          subst (λ (x : Sessions). IsMadeOf s x l r) (sym e) (subst (λ (x : Lists). IsMadeOf s ids x r) (sym f)
+          subst (λ (x : SessionEntries). IsMadeOf s x l r) (sym e) (subst (λ (x : Lists). IsMadeOf s ids x r) (sym f)
           (subst (λ (x : Rows). IsMadeOf s ids table x) (sym g) made))
 
   ends_once : EndsOnce image_load (values_of s)
@@ -657,7 +659,7 @@ module _ (s : State) (w : IsWhole s) where
       part_ends session_part (λ x. refl) ids (counted_values list_part table ++ node_values table es)
       (part_ends list_part (λ x. refl) table (node_values table es) (node_ends table es))
 
-pub image_written : WritesSpellings image
+pub image_written : WritesSpellings image_format
 image_written s fits =
     let st = stand_written (values_of s) SessionCount (values_fit s fits.0 fits.1) in
     record {
@@ -665,6 +667,6 @@ image_written s fits =
       end = st.0;
       stand = st.1;
       ends = ends_once s fits.0;
-      order = subst (EachGoesBehind []) (sym (parts_are s fits.0)) (order s fits.0);
+      order = subst (AreAllowedAfter []) (sym (parts_are s fits.0)) (order s fits.0);
       made = subst (IsMadeOfParts s) (sym (parts_are s fits.0)) (made_of_parts s fits.0);
     }

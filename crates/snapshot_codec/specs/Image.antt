@@ -9,17 +9,17 @@ use Rattle.values.specs.declared.fault.Fault.{Fault}
 use Rattle.values.specs.declared.fault.Fault.TheVariants.{BadImage}
 use Rattle.ephemerals.specs.Orders.{Bytes, path_cmp}
 use Rattle.jute.specs.Codes.{open_acl}
-use Rattle.jute.specs.Format.{Format, ◌>>=◌, Behind}
+use Rattle.jute.specs.Format.{Format, ◌>>=◌, SpellsFront}
 use Rattle.jute.specs.Loading.{load_from, EndsOnce, NoneIsLast}
-use Rattle.jute.specs.Relation.{Stand}
+use Rattle.jute.specs.Relation.{SpellsItems}
 use Rattle.jute.specs.declared.owned.Acl.{Acl}
 use Rattle.txn_codec.specs.Paths.{is_root, parent_of, name_of}
 use Rattle.txn_codec.specs.Acls.{acl_or_open}
 use Rattle.data_tree.specs.State.{State}
 use Rattle.data_tree.specs.Whole.{AreOwned}
 use Rattle.data_tree.specs.declared.node.Node.{Node}
-use Rattle.snapshot_codec.specs.Made.{nothing, image_load}
-use Rattle.snapshot_codec.specs.Parts.{Value, Part, parts, part_format}
+use Rattle.snapshot_codec.specs.Made.{no_loaded_parts, image_load}
+use Rattle.snapshot_codec.specs.Parts.{Value, Part, part_stream, part_format}
 pub use Rattle.snapshot_codec.specs.Written.{Lists}
 use Rattle.snapshot_codec.specs.Written.{image_bytes, FitsImage}
 use Rattle.snapshot_codec.specs.declared.part.ImageNode.{ImageNode}
@@ -30,8 +30,8 @@ use Rattle.snapshot_codec.specs.declared.part.PartPhase.TheVariants.{SessionCoun
 
 -- ---- sessions, ACL lists and nodes among the parts
 
-abbrev pub Sessions : Type 0
-Sessions = List (ℤ × ℤ)
+abbrev pub SessionEntries : Type 0
+SessionEntries = List (ℤ × ℤ)
 
 abbrev pub Rows : Type 0
 Rows = List (Bytes × ImageNode)
@@ -40,7 +40,7 @@ abbrev pub parts_in : Value → List ImagePart
 parts_in (Part p) = p ∷ []
 parts_in v = []
 
-abbrev pub sessions_in : ImagePart → Sessions
+abbrev pub sessions_in : ImagePart → SessionEntries
 sessions_in (part.Session s) = (s.id, s.timeout) ∷ []
 sessions_in p = []
 
@@ -65,20 +65,20 @@ HasPlace true rows path = rows ≡ []
 HasPlace false rows path = (find path_cmp path rows ≡ None) × (is_some (find path_cmp (parent_of path) rows) ≡ true)
 
 -- a part goes with those before it
-abbrev pub Goes : Sessions → Lists → Rows → ImagePart → Type 0
-Goes sessions lists rows (part.Session s) = find int_cmp s.id sessions ≡ None
-Goes sessions lists rows (part.Acl a) = find int_cmp a.key lists ≡ None
-Goes sessions lists rows (part.Node n) =
+abbrev pub IsAllowedWith : SessionEntries → Lists → Rows → ImagePart → Type 0
+IsAllowedWith sessions lists rows (part.Session s) = find int_cmp s.id sessions ≡ None
+IsAllowedWith sessions lists rows (part.Acl a) = find int_cmp a.key lists ≡ None
+IsAllowedWith sessions lists rows (part.Node n) =
     HasPlace (is_root n.path) rows n.path × (is_some (list_named lists n.acl) ≡ true)
-Goes sessions lists rows part.End = Unit {0}
+IsAllowedWith sessions lists rows part.End = Unit {0}
 
-abbrev pub GoesBehind : List ImagePart → ImagePart → Type 0
-GoesBehind front p = Goes (flat_map sessions_in front) (flat_map lists_in front) (flat_map rows_in front) p
+abbrev pub IsAllowedAfter : List ImagePart → ImagePart → Type 0
+IsAllowedAfter front p = IsAllowedWith (flat_map sessions_in front) (flat_map lists_in front) (flat_map rows_in front) p
 
 -- each goes with the front and those of its own list before it
-abbrev pub EachGoesBehind : List ImagePart → List ImagePart → Type 0
-EachGoesBehind front [] = Unit {0}
-EachGoesBehind front (p ∷ ps) = GoesBehind front p × EachGoesBehind (front ++ p ∷ []) ps
+abbrev pub AreAllowedAfter : List ImagePart → List ImagePart → Type 0
+AreAllowedAfter front [] = Unit {0}
+AreAllowedAfter front (p ∷ ps) = IsAllowedAfter front p × AreAllowedAfter (front ++ p ∷ []) ps
 
 -- ---- the state that they make
 
@@ -100,7 +100,7 @@ AreAt lists rows path None None = Unit {0}
 AreAt lists rows path (Some row) (Some node) = IsNodeOf lists rows path row node
 AreAt lists rows path row found = ⊥
 
-pub record IsMadeOf (s : State) (sessions : Sessions) (lists : Lists) (rows : Rows) : Type 0 where
+pub record IsMadeOf (s : State) (sessions : SessionEntries) (lists : Lists) (rows : Rows) : Type 0 where
   pub timeouts : (id : ℤ) → finmap.get s.sessions id ≡ find int_cmp id sessions
   pub nodes : (path : Bytes) → AreAt lists rows path (find path_cmp path rows) (finmap.get s.nodes path)
   -- each node with an owner gives the pair of the owner and the path
@@ -115,15 +115,15 @@ IsMadeOfParts s ps = IsMadeOf s (flat_map sessions_in ps) (flat_map lists_in ps)
 pub record SpellsImage (s : State) (text : List ℕ) : Type 0 where
   pub found : List Value
   pub end : PartPhase
-  pub stand : Stand parts found SessionCount text end []
+  pub stand : SpellsItems part_stream found SessionCount text end []
   pub ends : EndsOnce image_load found
-  pub order : EachGoesBehind [] (flat_map parts_in found)
+  pub order : AreAllowedAfter [] (flat_map parts_in found)
   pub made : IsMadeOfParts s (flat_map parts_in found)
 
 -- a part that doesn't go with those before it
-abbrev pub IsOut : List ImagePart → Value → Type 0
-IsOut front (Part p) = ¬ GoesBehind front p
-IsOut front v = ⊥
+abbrev pub IsRefusedAfter : List ImagePart → Value → Type 0
+IsRefusedAfter front (Part p) = ¬ IsAllowedAfter front p
+IsRefusedAfter front v = ⊥
 
 -- What stands at the front is as it should be, and isn't the end. The next field is against its spelling; or a whole
 -- part stands there, and doesn't go with those before it.
@@ -131,18 +131,18 @@ pub record AgainstImage (e : Fault) (bytes : List ℕ) : Type 0 where
   pub found : List Value
   pub end : PartPhase
   pub rest : List ℕ
-  pub stand : Stand parts found SessionCount bytes end rest
+  pub stand : SpellsItems part_stream found SessionCount bytes end rest
   pub none_last : NoneIsLast image_load found
-  pub order : EachGoesBehind [] (flat_map parts_in found)
+  pub order : AreAllowedAfter [] (flat_map parts_in found)
   pub next : (part_format end).against e rest
-      ⊎ ((e ≡ BadImage) × Behind (part_format end) (λ v behind. IsOut (flat_map parts_in found) v) rest)
+      ⊎ ((e ≡ BadImage) × SpellsFront (part_format end) (λ v behind. IsRefusedAfter (flat_map parts_in found) v) rest)
 
 -- the loading of its parts
 unfoldable pub image_read : List ℕ → Result (State × List ℕ) Fault
-image_read bytes = load_from image_load SessionCount nothing bytes >>= λ x. Ok (x.0.state, x.1)
+image_read bytes = load_from image_load SessionCount no_loaded_parts bytes >>= λ x. Ok (x.0.state, x.1)
 
-abbrev pub image : Format State
-image = record {
+abbrev pub image_format : Format State
+image_format = record {
   Spells = SpellsImage;
   written = image_bytes;
   Fits = FitsImage;

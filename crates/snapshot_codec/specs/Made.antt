@@ -8,65 +8,65 @@ use Rattle.values.specs.declared.fault.Fault.{Fault}
 use Rattle.values.specs.declared.fault.Fault.TheVariants.{BadImage}
 use Rattle.jute.specs.Codes.{open_acl}
 use Rattle.jute.specs.Format.{◌>>=◌}
-use Rattle.jute.specs.Loading.{Loads}
+use Rattle.jute.specs.Loading.{LoadRules}
 use Rattle.jute.specs.declared.owned.Acl.{Acl}
 use Rattle.data_tree.specs.Making.{empty_state, with_session, with_node, has_place}
 use Rattle.txn_codec.specs.Acls.{acl_or_open}
 use Rattle.data_tree.specs.State.{State, state_code}
 use Rattle.data_tree.specs.declared.node.Node.{Node}
 use Rattle.snapshot_codec.specs.AclLists.{AclLists, lists_code}
-use Rattle.snapshot_codec.specs.Parts.{Value, Count, Path, Close, Part, parts, is_end}
+use Rattle.snapshot_codec.specs.Parts.{Value, Count, Path, Close, Part, part_stream, is_end}
 use Rattle.snapshot_codec.specs.declared.part.ImageNode.{ImageNode}
 use Rattle.snapshot_codec.specs.declared.part.ImagePart.{ImagePart}
 use Rattle.snapshot_codec.specs.declared.part.ImagePart.TheVariants as part
 use Rattle.snapshot_codec.specs.declared.part.PartPhase.{PartPhase}
 
 -- a state, and the ACL lists that nodes may name
-pub record Made : Type 0 where
+pub record LoadedParts : Type 0 where
   pub state : State
   pub lists : AclLists
 
-abbrev pub nothing : Made
-nothing = record { state = empty_state; lists = finmap.empty }
+abbrev pub no_loaded_parts : LoadedParts
+no_loaded_parts = record { state = empty_state; lists = finmap.empty }
 
 -- -1 names the open list
-abbrev pub list_of : AclLists → ℤ → Option (List Acl)
-list_of lists key = if int_eq key (negsuc 0) then Some open_acl else finmap.get lists key
+abbrev pub list_at_key : AclLists → ℤ → Option (List Acl)
+list_at_key lists key = if int_eq key (negsuc 0) then Some open_acl else finmap.get lists key
 
 abbrev pub node_with : ImageNode → List Acl → Node
 node_with node acl = record { bytes = node.bytes; acl = acl; stat = node.stat; children = set.empty }
 
-abbrev pub with_listed_node : Made → ImageNode → Option (List Acl) → Result Made Fault
+abbrev pub with_listed_node : LoadedParts → ImageNode → Option (List Acl) → Result LoadedParts Fault
 with_listed_node made node None = Err BadImage
 with_listed_node made node (Some acl) =
     if has_place made.state.nodes node.path
     then Ok (record made { state = with_node made.state node.path (node_with node acl) }) else Err BadImage
 
 -- an id, a key and a path are new, a key that a node names is there, and so is a parent
-abbrev pub with_part : Made → ImagePart → Result Made Fault
+abbrev pub with_part : LoadedParts → ImagePart → Result LoadedParts Fault
 with_part made (part.Session s) =
     if is_some (finmap.get made.state.sessions s.id) then Err BadImage
     else Ok (record made { state = with_session made.state s.id s.timeout })
 with_part made (part.Acl a) =
     if is_some (finmap.get made.lists a.key) then Err BadImage
     else Ok (record made { lists = finmap.insert made.lists a.key (acl_or_open a.list) })
-with_part made (part.Node n) = with_listed_node made n (list_of made.lists n.acl)
+with_part made (part.Node n) = with_listed_node made n (list_at_key made.lists n.acl)
 with_part made part.End = Ok made
 
-abbrev pub with_value : Made → Value → Result Made Fault
+abbrev pub with_value : LoadedParts → Value → Result LoadedParts Fault
 with_value made (Count n) = Ok made
 with_value made (Path path) = Ok made
 with_value made Close = Ok made
 with_value made (Part p) = with_part made p
 
 -- an image as a value that is read in parts
-abbrev pub image_load : Loads PartPhase Value Made
-image_load = record { stream = parts; takes = with_value; is_last = is_end }
+abbrev pub image_load : LoadRules PartPhase Value LoadedParts
+image_load = record { stream = part_stream; takes = with_value; is_last = is_end }
 
 -- ---- a loader: what was made, and whether the last part was the end
 
 pub record Loading : Type 0 where
-  pub made : Made
+  pub made : LoadedParts
   pub ended : Bool
 
 abbrev pub with_loaded : Loading → ImagePart → Result Loading Fault

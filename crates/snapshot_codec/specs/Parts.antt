@@ -5,13 +5,13 @@ use Rattle.std.specs.Prelude.{◌≡◌, ℕ, ℤ, Bool, true, false, List, [], 
 use Rattle.std.specs.Str.{bytes_eq}
 use Rattle.values.specs.declared.fault.Fault.{Fault}
 use Rattle.values.specs.declared.fault.Fault.TheVariants.{BadLength, BadPath, BadImage}
-use Rattle.jute.specs.Format.{Format, ◌>>=◌, int, long, count, count_limit, buffer, text, vector, both, judged, case_of}
-use Rattle.jute.specs.Owned.{acl}
+use Rattle.jute.specs.Format.{Format, ◌>>=◌, int, long, count_format, count_limit, buffer, text_format, vector_of, pair_of, judged_format, case_of}
+use Rattle.jute.specs.Owned.{acl_format}
 use Rattle.jute.specs.Records.{stat_persisted}
-use Rattle.jute.specs.Stream.{values, Phased}
+use Rattle.jute.specs.Stream.{values, PhasedStream}
 use Rattle.jute.specs.declared.owned.Acl.{Acl}
 use Rattle.jute.specs.declared.stat.StatPersisted.{StatPersisted}
-use Rattle.txn_codec.specs.Paths.{is_root, path_of}
+use Rattle.txn_codec.specs.Paths.{is_root, checked_path}
 use Rattle.snapshot_codec.specs.declared.part.ImagePart.{ImagePart}
 use Rattle.snapshot_codec.specs.declared.part.ImagePart.TheVariants as part
 use Rattle.snapshot_codec.specs.declared.part.PartPhase.{PartPhase}
@@ -37,45 +37,45 @@ is_end v = false
 -- ---- what the fields stand for
 
 -- there is no null count
-abbrev pub count_of : Option ℕ → Result Value Fault
-count_of None = Err BadLength
-count_of (Some n) = Ok (Count n)
+abbrev pub count_value : Option ℕ → Result Value Fault
+count_value None = Err BadLength
+count_value (Some n) = Ok (Count n)
 
-abbrev pub session_of : ℤ × ℤ → Value
-session_of s = Part (part.Session (record { id = s.0; timeout = s.1 }))
+abbrev pub session_value : ℤ × ℤ → Value
+session_value s = Part (part.Session (record { id = s.0; timeout = s.1 }))
 
-abbrev pub acl_of : ℤ × Option (List Acl) → Value
-acl_of a = Part (part.Acl (record { key = a.0; list = a.1 }))
+abbrev pub acl_value : ℤ × Option (List Acl) → Value
+acl_value a = Part (part.Acl (record { key = a.0; list = a.1 }))
 
-abbrev pub path_text : List ℕ → Result Value Fault
-path_text text = path_of text >>= λ path. Ok (Path path)
+abbrev pub path_value : List ℕ → Result Value Fault
+path_value text = checked_path text >>= λ path. Ok (Path path)
 
-abbrev pub slash : List ℕ
-slash = codes "/"
+abbrev pub root_path : List ℕ
+root_path = codes "/"
 
 -- The first path is empty, and the root's. "/" would end the nodes before there is one; any other path is refused with
 -- its node, which has no parent.
-abbrev pub root_text : List ℕ → Result Value Fault
-root_text [] = Ok (Path slash)
-root_text (b ∷ bytes) = if is_root (b ∷ bytes) then Err BadImage else path_text (b ∷ bytes)
+abbrev pub root_text_value : List ℕ → Result Value Fault
+root_text_value [] = Ok (Path root_path)
+root_text_value (b ∷ bytes) = if is_root (b ∷ bytes) then Err BadImage else path_value (b ∷ bytes)
 
-abbrev pub root_of : Option (List ℕ) → Result Value Fault
-root_of None = Err BadPath
-root_of (Some path) = root_text path
+abbrev pub root_value : Option (List ℕ) → Result Value Fault
+root_value None = Err BadPath
+root_value (Some path) = root_text_value path
 
-abbrev pub next_of : Option (List ℕ) → Result Value Fault
-next_of None = Err BadPath
-next_of (Some path) = if is_root path then Ok Close else path_text path
+abbrev pub next_value : Option (List ℕ) → Result Value Fault
+next_value None = Err BadPath
+next_value (Some path) = if is_root path then Ok Close else path_value path
 
-abbrev pub node_of : List ℕ → Option (List ℕ) × (ℤ × StatPersisted) → Value
-node_of path n = Part (part.Node (record { path = path; bytes = n.0; acl = n.1.0; stat = n.1.1 }))
+abbrev pub node_value : List ℕ → Option (List ℕ) × (ℤ × StatPersisted) → Value
+node_value path n = Part (part.Node (record { path = path; bytes = n.0; acl = n.1.0; stat = n.1.1 }))
 
-abbrev pub signature : List ℕ
-signature = codes "BenWasHere"
+abbrev pub signature_text : List ℕ
+signature_text = codes "BenWasHere"
 
-abbrev pub signature_of : Option (List ℕ) → Result Value Fault
-signature_of None = Err BadImage
-signature_of (Some text) = if bytes_eq text signature then Ok (Part part.End) else Err BadImage
+abbrev pub signature_value : Option (List ℕ) → Result Value Fault
+signature_value None = Err BadImage
+signature_value (Some text) = if bytes_eq text signature_text then Ok (Part part.End) else Err BadImage
 
 -- ---- and back
 
@@ -97,7 +97,7 @@ root_back v = None
 
 abbrev pub next_back : Value → Option (Option (List ℕ))
 next_back (Path path) = Some (Some path)
-next_back Close = Some (Some slash)
+next_back Close = Some (Some root_path)
 next_back v = None
 
 abbrev pub node_back : Value → Option (Option (List ℕ) × (ℤ × StatPersisted))
@@ -105,27 +105,27 @@ node_back (Part (part.Node n)) = Some (n.bytes, (n.acl, n.stat))
 node_back v = None
 
 abbrev pub signature_back : Value → Option (Option (List ℕ))
-signature_back (Part part.End) = Some (Some signature)
+signature_back (Part part.End) = Some (Some signature_text)
 signature_back v = None
 
 -- ---- the phases
 
 abbrev pub counted_parts : Format Value
-counted_parts = judged count_of count_back (count count_limit)
+counted_parts = judged_format count_value count_back (count_format count_limit)
 
 -- what stands behind the path of a node: its bytes, the key of its list, and its numbers
 abbrev pub node_body : Format (Option (List ℕ) × (ℤ × StatPersisted))
-node_body = both buffer (both long stat_persisted)
+node_body = pair_of buffer (pair_of long stat_persisted)
 
 abbrev pub part_format : PartPhase → Format Value
 part_format SessionCount = counted_parts
-part_format (Sessions n) = case_of session_of session_back (both long int)
+part_format (Sessions n) = case_of session_value session_back (pair_of long int)
 part_format AclCount = counted_parts
-part_format (Acls n) = case_of acl_of acl_back (both long (vector acl))
-part_format Root = judged root_of root_back text
-part_format Nodes = judged next_of next_back text
-part_format (Body path) = case_of (node_of path) node_back node_body
-part_format Signature = judged signature_of signature_back text
+part_format (Acls n) = case_of acl_value acl_back (pair_of long (vector_of acl_format))
+part_format Root = judged_format root_value root_back text_format
+part_format Nodes = judged_format next_value next_back text_format
+part_format (Body path) = case_of (node_value path) node_back node_body
+part_format Signature = judged_format signature_value signature_back text_format
 
 abbrev pub sessions_from : ℕ → PartPhase
 sessions_from n = if n == 0 then AclCount else Sessions n
@@ -155,8 +155,8 @@ part_after phase (Part (part.Node n)) = Nodes
 part_after phase (Part part.End) = SessionCount
 
 -- images, one behind another, in parts
-abbrev pub parts : Phased PartPhase Value
-parts = record { reading = λ phase. values (part_format phase); after = part_after }
+abbrev pub part_stream : PhasedStream PartPhase Value
+part_stream = record { reading = λ phase. values (part_format phase); after = part_after }
 
 -- a node has begun
 abbrev pub IsBody : PartPhase → Type 0

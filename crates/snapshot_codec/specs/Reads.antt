@@ -2,10 +2,10 @@
 use Rattle.std.specs.Prelude.{◌≡◌, ◌<◌, ◌≤◌, ℕ, List, Option, Some, None, Result, Ok, Err, drop, length}
 use Rattle.values.specs.declared.fault.ReadError.{ReadError}
 use Rattle.jute.specs.Loading.{load_from, unless_last}
-use Rattle.jute.specs.Reads.{Failed}
+use Rattle.jute.specs.Reads.{IsFailureOf}
 use Rattle.data_tree.specs.State.{State}
 use Rattle.snapshot_codec.specs.Image.{image_read}
-use Rattle.snapshot_codec.specs.Made.{Made, Loading, with_loaded, image_load}
+use Rattle.snapshot_codec.specs.Made.{LoadedParts, Loading, with_loaded, image_load}
 use Rattle.snapshot_codec.specs.Parts.{Value, Path, Close, part_format, part_after, part_in}
 use Rattle.snapshot_codec.specs.declared.part.ImagePart.{ImagePart}
 use Rattle.snapshot_codec.specs.declared.part.PartPhase.{PartPhase}
@@ -15,17 +15,17 @@ use Rattle.snapshot_codec.specs.declared.part.PartPhase.{PartPhase}
 abbrev pub ReadsPart : Result (Option ImagePart) ReadError → PartPhase → PartPhase → List ℕ → List ℕ → Type 0
 ReadsPart (Ok shown) phase next old new =
     (v : Value) × ((part_format phase).read old ≡ Ok (v, new)) × (next ≡ part_after phase v) × (part_in v ≡ shown)
-ReadsPart (Err e) phase next old new = Failed e ((part_format phase).read old) × (new ≡ old) × (next ≡ phase)
+ReadsPart (Err e) phase next old new = IsFailureOf e ((part_format phase).read old) × (new ≡ old) × (next ≡ phase)
 
 -- the part was taken; or it is refused, and the loader is as it was
 abbrev pub TakesPart : Result (Unit {0}) ReadError → ImagePart → Loading → Loading → Type 0
 TakesPart (Ok u) part old new = with_loaded old part ≡ Ok new
-TakesPart (Err e) part old new = Failed e (with_loaded old part) × (new ≡ old)
+TakesPart (Err e) part old new = IsFailureOf e (with_loaded old part) × (new ≡ old)
 
 -- a state, and how many bytes its image took
 abbrev pub ReadsImage : Result (State × ℕ) ReadError → List ℕ → Type 0
 ReadsImage (Ok x) bytes = (image_read bytes ≡ Ok (x.0, drop x.1 bytes)) × (x.1 ≤ length bytes)
-ReadsImage (Err e) bytes = Failed e (image_read bytes)
+ReadsImage (Err e) bytes = IsFailureOf e (image_read bytes)
 
 -- what stands where the path of a further node may
 abbrev pub path_or_close : Option (List ℕ) → Value
@@ -33,9 +33,10 @@ path_or_close None = Close
 path_or_close (Some path) = Path path
 
 -- What stood next was loaded: what was to be loaded is what is left to load, unless it was the last. Or it is refused.
-abbrev pub LoadsNext : Result (Unit {0}) ReadError → PartPhase → Made → List ℕ → PartPhase → Loading → List ℕ → Type 0
+abbrev pub LoadsNext : Result (Unit {0}) ReadError → PartPhase → LoadedParts → List ℕ → PartPhase → Loading → List ℕ
+    → Type 0
 LoadsNext (Ok u) phase made old next loading new =
     (load_from image_load phase made old
     ≡ unless_last loading.ended loading.made new (load_from image_load next loading.made new))
     × (length new < length old)
-LoadsNext (Err e) phase made old next loading new = Failed e (load_from image_load phase made old)
+LoadsNext (Err e) phase made old next loading new = IsFailureOf e (load_from image_load phase made old)

@@ -9,8 +9,8 @@ use Rattle.std.specs.Ordering.{nat_cmp}
 use Rattle.std.specs.declared.vec.Vec.{Vec}
 use Rattle.ephemerals.specs.Orders.{Bytes}
 use Rattle.jute.specs.Codes.{open_acl}
-use Rattle.jute.specs.Format.{int, long, count, count_limit, text, vector, both}
-use Rattle.jute.specs.Owned.{acl}
+use Rattle.jute.specs.Format.{int, long, count_format, count_limit, text_format, vector_of, pair_of}
+use Rattle.jute.specs.Owned.{acl_format}
 use Rattle.jute.specs.declared.owned.Acl.{Acl}
 use Rattle.txn_codec.specs.Paths.{is_root}
 use Rattle.data_tree.specs.declared.node.Node.{Node}
@@ -24,26 +24,26 @@ use Rattle.snapshot_codec.specs.declared.write_error.WriteError.TheVariants.{Not
 -- ---- behind other bytes
 
 -- all that was to be written stands behind the old bytes, and fits; or it doesn't
-abbrev pub Writes : Result (Unit {0}) WriteError → List ℕ → List ℕ → List ℕ → Type 0 → Type 0
-Writes (Ok u) bytes old new Fits = (new ≡ old ++ bytes) × Fits
-Writes (Err NotWhole) bytes old new Fits = ¬ Fits
-Writes (Err NoMemory) bytes old new Fits = Unit {0}
+abbrev pub WritesBytes : Result (Unit {0}) WriteError → List ℕ → List ℕ → List ℕ → Type 0 → Type 0
+WritesBytes (Ok u) bytes old new Fits = (new ≡ old ++ bytes) × Fits
+WritesBytes (Err NotWhole) bytes old new Fits = ¬ Fits
+WritesBytes (Err NoMemory) bytes old new Fits = Unit {0}
 
 -- ---- sessions
 
 abbrev pub FitSessions : List (ℤ × ℤ) → Type 0
-FitSessions ids = (count count_limit).Fits (Some (length ids)) × AllByRecursion (both long int).Fits ids
+FitSessions ids = (count_format count_limit).Fits (Some (length ids)) × AllByRecursion (pair_of long int).Fits ids
 
 abbrev pub sessions_bytes : List (ℤ × ℤ) → List ℕ
-sessions_bytes ids = (count count_limit).written (Some (length ids)) ++ flat_map (both long int).written ids
+sessions_bytes ids = (count_format count_limit).written (Some (length ids)) ++ flat_map (pair_of long int).written ids
 
 -- ---- lists
 
 abbrev pub FitsList : List Acl → Type 0
-FitsList list = (vector acl).Fits (Some list)
+FitsList list = (vector_of acl_format).Fits (Some list)
 
 abbrev pub list_bytes : List Acl → List ℕ
-list_bytes list = (vector acl).written (Some list)
+list_bytes list = (vector_of acl_format).written (Some list)
 
 abbrev pub GivesList : {Z : Type 0} → Result (Vec ℕ Z) WriteError → List Acl → Type 0
 GivesList (Ok bytes) list = (bytes.items ≡ list_bytes list) × FitsList list
@@ -52,14 +52,14 @@ GivesList (Err NoMemory) list = Unit {0}
 
 abbrev pub FitLists : Lists → Type 0
 FitLists lists =
-    (count count_limit).Fits (Some (length lists))
-    × AllByRecursion (λ (l : ℤ × List Acl). (both long (vector acl)).Fits (l.0, Some l.1)) lists
+    (count_format count_limit).Fits (Some (length lists))
+    × AllByRecursion (λ (l : ℤ × List Acl). (pair_of long (vector_of acl_format)).Fits (l.0, Some l.1)) lists
 
 abbrev pub keyed_bytes : ℤ × List Acl → List ℕ
-keyed_bytes l = (both long (vector acl)).written (l.0, Some l.1)
+keyed_bytes l = (pair_of long (vector_of acl_format)).written (l.0, Some l.1)
 
 abbrev pub table_bytes : Lists → List ℕ
-table_bytes lists = (count count_limit).written (Some (length lists)) ++ flat_map keyed_bytes lists
+table_bytes lists = (count_format count_limit).written (Some (length lists)) ++ flat_map keyed_bytes lists
 
 -- the table has these lists, and finds each by its bytes
 pub record IsTable (table : KeyTable) (lists : Lists) : Type 0 where
@@ -70,15 +70,15 @@ pub record IsTable (table : KeyTable) (lists : Lists) : Type 0 where
   pub fit : FitLists lists
 
 -- one more list was added, if it has no key yet
-abbrev pub Adds : Result (Unit {0}) WriteError → Lists → List Acl → KeyTable → Type 0
-Adds (Ok u) lists list new = IsTable new (with_list lists list)
-Adds (Err NotWhole) lists list new = ¬ FitLists (with_list lists list)
-Adds (Err NoMemory) lists list new = Unit {0}
+abbrev pub AddsList : Result (Unit {0}) WriteError → Lists → List Acl → KeyTable → Type 0
+AddsList (Ok u) lists list new = IsTable new (with_list lists list)
+AddsList (Err NotWhole) lists list new = ¬ FitLists (with_list lists list)
+AddsList (Err NoMemory) lists list new = Unit {0}
 
-abbrev pub Tables : Result KeyTable WriteError → Lists → Type 0
-Tables (Ok table) lists = IsTable table lists
-Tables (Err NotWhole) lists = ¬ FitLists lists
-Tables (Err NoMemory) lists = Unit {0}
+abbrev pub MakesTable : Result KeyTable WriteError → Lists → Type 0
+MakesTable (Ok table) lists = IsTable table lists
+MakesTable (Err NotWhole) lists = ¬ FitLists lists
+MakesTable (Err NoMemory) lists = Unit {0}
 
 -- the key, which is a long; or the list doesn't fit
 abbrev pub NamesKey : Result ℤ WriteError → Lists → List Acl → Type 0
@@ -93,12 +93,12 @@ abbrev pub shown_rows : List (WalkPath × Bor Node) → List (Bytes × Node)
 shown_rows rows = map (λ e. (e.0.text.now, e.1.now)) rows
 
 abbrev pub FitsNode : Bytes → Node → ℤ → Type 0
-FitsNode path node key = text.Fits (Some path) × node_body.Fits (node.bytes, (key, node.stat))
+FitsNode path node key = text_format.Fits (Some path) × node_body.Fits (node.bytes, (key, node.stat))
 
 -- the root's path is written empty
 abbrev pub node_bytes : Bytes → Node → ℤ → List ℕ
 node_bytes path node key =
-    text.written (Some (if is_root path then [] else path)) ++ node_body.written (node.bytes, (key, node.stat))
+    text_format.written (Some (if is_root path then [] else path)) ++ node_body.written (node.bytes, (key, node.stat))
 
 abbrev pub FitNodes : Lists → List (Bytes × Node) → Type 0
 FitNodes lists es = AllByRecursion (λ (e : Bytes × Node). FitsNode e.0 e.1 (key_of lists e.1.acl)) es

@@ -10,8 +10,8 @@ use Rattle.std.specs.Str.{bytes_eq}
 use Rattle.std.specs.declared.cmp.Ordering.{Ordering}
 use Rattle.ephemerals.specs.Orders.{Bytes}
 use Rattle.jute.specs.Codes.{open_acl}
-use Rattle.jute.specs.Format.{int, long, count, count_limit, text, vector, both}
-use Rattle.jute.specs.Owned.{acl}
+use Rattle.jute.specs.Format.{int, long, count_format, count_limit, text_format, vector_of, pair_of}
+use Rattle.jute.specs.Owned.{acl_format}
 use Rattle.jute.specs.declared.owned.Acl.{Acl}
 use Rattle.data_tree.specs.State.{State, Nodes}
 use Rattle.data_tree.specs.Whole.{IsWhole}
@@ -26,24 +26,24 @@ use Rattle.snapshot_codec.specs.declared.part.PartPhase.TheVariants.{SessionCoun
 -- ---- the walk
 
 -- ascending bytes, but that a slash stands before every other byte
-abbrev pub rank : ℕ → ℕ
-rank b = if b == 47 then 0 else suc b
+abbrev pub byte_rank : ℕ → ℕ
+byte_rank b = if b == 47 then 0 else suc b
 
 abbrev pub walk_cmp : Bytes → Bytes → Ordering
-walk_cmp = slice_cmp (on rank nat_cmp)
+walk_cmp = slice_cmp (on byte_rank nat_cmp)
 
 -- The nodes depth first: a parent stands before what is below it, and all that is below one child before the next one,
 -- children in ascending bytes.
-abbrev pub walk : Nodes → List (Bytes × Node)
-walk nodes = finmap.entries (finmap.from_entries {R = walk_cmp} (finmap.entries nodes))
+abbrev pub walk_of : Nodes → List (Bytes × Node)
+walk_of nodes = finmap.entries (finmap.from_entries {R = walk_cmp} (finmap.entries nodes))
 
 -- ---- ACL lists and their keys
 
-abbrev pub same_acl : Acl → Acl → Bool
-same_acl a b = int_eq a.perms b.perms && (bytes_eq a.id.scheme b.id.scheme && bytes_eq a.id.id b.id.id)
+abbrev pub is_same_acl : Acl → Acl → Bool
+is_same_acl a b = int_eq a.perms b.perms && (bytes_eq a.id.scheme b.id.scheme && bytes_eq a.id.id b.id.id)
 
-abbrev pub same_list : List Acl → List Acl → Bool
-same_list = pointwise same_acl
+abbrev pub is_same_list : List Acl → List Acl → Bool
+is_same_list = pointwise is_same_acl
 
 -- the lists under their keys
 abbrev pub Lists : Type 0
@@ -52,12 +52,12 @@ Lists = List (ℤ × List Acl)
 -- the first key under which the list stands
 abbrev pub key_in : Lists → List Acl → Option ℤ
 key_in [] list = None
-key_in (e ∷ es) list = if same_list e.1 list then Some e.0 else key_in es list
+key_in (e ∷ es) list = if is_same_list e.1 list then Some e.0 else key_in es list
 
 -- a list that has no key yet gets the next one; the open list gets none
 abbrev pub with_list : Lists → List Acl → Lists
 with_list lists list =
-    if same_list list open_acl || is_some (key_in lists list) then lists
+    if is_same_list list open_acl || is_some (key_in lists list) then lists
     else lists ++ (pos (suc (length lists)), list) ∷ []
 
 -- the keys are 1, 2, .. in the order in which the lists are first used
@@ -66,11 +66,11 @@ lists_from lists [] = lists
 lists_from lists (e ∷ es) = lists_from (with_list lists e.1.acl) es
 
 abbrev pub lists_of : Nodes → Lists
-lists_of nodes = lists_from [] (walk nodes)
+lists_of nodes = lists_from [] (walk_of nodes)
 
 -- -1 names the open list
 abbrev pub key_of : Lists → List Acl → ℤ
-key_of lists list = if same_list list open_acl then negsuc 0 else unwrap_or (key_in lists list) (negsuc 0)
+key_of lists list = if is_same_list list open_acl then negsuc 0 else unwrap_or (key_in lists list) (negsuc 0)
 
 -- ---- the parts
 
@@ -80,12 +80,12 @@ session_part s = part.Session (record { id = s.0; timeout = s.1 })
 abbrev pub list_part : ℤ × List Acl → ImagePart
 list_part l = part.Acl (record { key = l.0; list = Some l.1 })
 
-abbrev pub row_of : Lists → Bytes × Node → ImageNode
-row_of lists e = record { path = e.0; bytes = e.1.bytes; acl = key_of lists e.1.acl; stat = e.1.stat }
+abbrev pub image_node_of : Lists → Bytes × Node → ImageNode
+image_node_of lists e = record { path = e.0; bytes = e.1.bytes; acl = key_of lists e.1.acl; stat = e.1.stat }
 
 abbrev pub node_values : Lists → List (Bytes × Node) → List Value
 node_values lists [] = Close ∷ Part part.End ∷ []
-node_values lists (e ∷ es) = Path e.0 ∷ Part (part.Node (row_of lists e)) ∷ node_values lists es
+node_values lists (e ∷ es) = Path e.0 ∷ Part (part.Node (image_node_of lists e)) ∷ node_values lists es
 
 abbrev pub counted_values : {A : Type 0} → (A → ImagePart) → List A → List Value
 counted_values f xs = Count (length xs) ∷ map (λ x. Part (f x)) xs
@@ -93,7 +93,7 @@ counted_values f xs = Count (length xs) ∷ map (λ x. Part (f x)) xs
 abbrev pub values_of : State → List Value
 values_of s =
     counted_values session_part (finmap.entries s.sessions)
-    ++ (counted_values list_part (lists_of s.nodes) ++ node_values (lists_of s.nodes) (walk s.nodes))
+    ++ (counted_values list_part (lists_of s.nodes) ++ node_values (lists_of s.nodes) (walk_of s.nodes))
 
 -- ---- the bytes
 
@@ -109,13 +109,13 @@ image_bytes s = bytes_from SessionCount (values_of s)
 
 -- no count, session, list, path or node passes a limit of its format
 pub record IsWithinLimits (ids : List (ℤ × ℤ)) (keyed : Lists) (walked : List (Bytes × Node)) : Type 0 where
-  pub session_count : (count count_limit).Fits (Some (length ids))
-  pub sessions : AllByRecursion (both long int).Fits ids
-  pub list_count : (count count_limit).Fits (Some (length keyed))
-  pub lists : AllByRecursion (λ (l : ℤ × List Acl). (both long (vector acl)).Fits (l.0, Some l.1)) keyed
-  pub paths : AllByRecursion (λ (e : Bytes × Node). text.Fits (Some e.0)) walked
+  pub session_count : (count_format count_limit).Fits (Some (length ids))
+  pub sessions : AllByRecursion (pair_of long int).Fits ids
+  pub list_count : (count_format count_limit).Fits (Some (length keyed))
+  pub lists : AllByRecursion (λ (l : ℤ × List Acl). (pair_of long (vector_of acl_format)).Fits (l.0, Some l.1)) keyed
+  pub paths : AllByRecursion (λ (e : Bytes × Node). text_format.Fits (Some e.0)) walked
   pub nodes : AllByRecursion (λ (e : Bytes × Node). node_body.Fits (e.1.bytes, (key_of keyed e.1.acl, e.1.stat))) walked
 
 -- the tree is whole, and passes no limit
 abbrev pub FitsImage : State → Type 0
-FitsImage s = IsWhole s × IsWithinLimits (finmap.entries s.sessions) (lists_of s.nodes) (walk s.nodes)
+FitsImage s = IsWhole s × IsWithinLimits (finmap.entries s.sessions) (lists_of s.nodes) (walk_of s.nodes)

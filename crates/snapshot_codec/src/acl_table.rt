@@ -3,7 +3,7 @@
 ghost use Rattle.std.specs.Prelude.{◌≡◌, OnOk, OnErr, IfOk, is_some};
 ghost use Rattle.std.specs.FinMap as finmap;
 ghost use Rattle.std.specs.Option.{option_copied};
-ghost use Rattle.snapshot_codec.specs.Made.{list_of};
+ghost use Rattle.snapshot_codec.specs.Made.{list_at_key};
 
 use jute::Acl;
 use jute::codes::open_list;
@@ -75,7 +75,7 @@ impl AclTable {
 
     /// A copy of the list that the key names, if it names one.
     pub fn list(&self, key: i64) -> Result<Option<AclList>, NoMemory>
-        ensures { IfOk result (λ list. list ≡ list_of self.now key) }
+        ensures { IfOk result (λ list. list ≡ list_at_key self.now key) }
     {
         if key == OPEN_KEY {
             return Ok(Some(AclList::open()));

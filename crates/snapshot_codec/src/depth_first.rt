@@ -6,7 +6,7 @@ ghost use Rattle.std.specs.Cmp.Rules.{comparing};
 ghost use Rattle.std.specs.Cmp;
 ghost use Rattle.std.specs.Ordering.{is_eq};
 ghost use Rattle.std.proofs.Common.{rules};
-ghost use Rattle.snapshot_codec.specs.Written.{rank, walk_cmp, walk};
+ghost use Rattle.snapshot_codec.specs.Written.{byte_rank, walk_cmp, walk_of};
 ghost use Rattle.snapshot_codec.specs.Writes.{shown_rows};
 ghost use Rattle.snapshot_codec.specs.Totals.{walk_total_on};
 
@@ -18,7 +18,7 @@ use values::NoMemory;
 
 // Where a byte stands among the bytes of paths.
 fn rank(byte: u8) -> u16
-    ensures { result ≡ rank byte }
+    ensures { result ≡ byte_rank byte }
 {
     if byte == b'/' {
         return 0;
@@ -94,7 +94,7 @@ impl<'a> Ord for WalkPath<'a> {
 
 /// The nodes of the tree under their paths, in the order of a walk.
 pub fn depth_first(alloc: Global, tree: &Tree) -> Result<BTreeMap<WalkPath<'_>, &Node>, NoMemory>
-    ensures { IfOk result (λ rows. shown_rows rows.entries ≡ walk tree.now.nodes) }
+    ensures { IfOk result (λ rows. shown_rows rows.entries ≡ walk_of tree.now.nodes) }
 {
     let mut rows = BTreeMap::new(alloc);
     for (path, node) in tree.nodes() {

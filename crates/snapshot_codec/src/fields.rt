@@ -1,7 +1,7 @@
 //! What stands in each phase of an image.
 
 ghost use Rattle.std.specs.Prelude.{◌≡◌};
-ghost use Rattle.jute.specs.Reads.{Gives};
+ghost use Rattle.jute.specs.Reads.{ReadsOwned};
 ghost use Rattle.snapshot_codec.specs.Parts.{Count, Path as PathValue, Part, node_body, part_format, sessions_from, acls_from};
 ghost use Rattle.snapshot_codec.specs.Reads.{path_or_close};
 ghost use Rattle.snapshot_codec.specs.declared.part.ImagePart.TheVariants as part;
@@ -19,7 +19,7 @@ pub const SIGNATURE: &str = "BenWasHere";
 /// Reads how many sessions or ACL lists follow; null is `BadLength`.
 #[tactic(auto, unfolding(jute::specs::Format::judged_at))]
 pub fn read_count(reader: &mut Reader<'_>) -> Result<u32, ReadError>
-    ensures { Gives (part_format SessionCount).read (λ n. Count n) result reader.old reader.new }
+    ensures { ReadsOwned (part_format SessionCount).read (λ n. Count n) result reader.old reader.new }
 {
     let mut ahead = reader.ahead();
     match ahead.read_count()? {
@@ -34,7 +34,7 @@ pub fn read_count(reader: &mut Reader<'_>) -> Result<u32, ReadError>
 /// Reads a session.
 #[tactic(auto, unfolding(jute::specs::Format::judged_at))]
 pub fn read_session(reader: &mut Reader<'_>) -> Result<ImageSession, ReadError>
-    ensures { Gives (part_format (Sessions 0)).read (λ s. Part (part.Session s)) result reader.old reader.new }
+    ensures { ReadsOwned (part_format (Sessions 0)).read (λ s. Part (part.Session s)) result reader.old reader.new }
 {
     let mut ahead = reader.ahead();
     let id = ahead.read_long()?;
@@ -46,7 +46,7 @@ pub fn read_session(reader: &mut Reader<'_>) -> Result<ImageSession, ReadError>
 /// Reads an ACL list and its key.
 #[tactic(auto, unfolding(jute::specs::Format::judged_at))]
 pub fn read_acl(alloc: Global, reader: &mut Reader<'_>) -> Result<ImageAcl, ReadError>
-    ensures { Gives (part_format (Acls 0)).read (λ a. Part (part.Acl a)) result reader.old reader.new }
+    ensures { ReadsOwned (part_format (Acls 0)).read (λ a. Part (part.Acl a)) result reader.old reader.new }
 {
     let mut ahead = reader.ahead();
     let key = ahead.read_long()?;
@@ -58,7 +58,7 @@ pub fn read_acl(alloc: Global, reader: &mut Reader<'_>) -> Result<ImageAcl, Read
 /// Reads the path of the first node, which is empty. A null one is `BadPath`, "/" is `BadImage`.
 #[tactic(auto, unfolding(jute::specs::Format::judged_at))]
 pub fn read_root(alloc: Global, reader: &mut Reader<'_>) -> Result<Path, ReadError>
-    ensures { Gives (part_format Root).read (λ p. PathValue p) result reader.old reader.new }
+    ensures { ReadsOwned (part_format Root).read (λ p. PathValue p) result reader.old reader.new }
 {
     let mut ahead = reader.ahead();
     let Some(text) = ahead.read_string()? else {
@@ -80,7 +80,7 @@ pub fn read_root(alloc: Global, reader: &mut Reader<'_>) -> Result<Path, ReadErr
 /// `BadPath`.
 #[tactic(auto, unfolding(jute::specs::Format::judged_at))]
 pub fn read_next(alloc: Global, reader: &mut Reader<'_>) -> Result<Option<Path>, ReadError>
-    ensures { Gives (part_format Nodes).read path_or_close result reader.old reader.new }
+    ensures { ReadsOwned (part_format Nodes).read path_or_close result reader.old reader.new }
 {
     let mut ahead = reader.ahead();
     let Some(text) = ahead.read_string()? else {
@@ -119,7 +119,7 @@ impl NodeBody {
 
 /// Reads what stands behind the path of a node. The bytes are copied last: a node that isn't whole yet costs no copy.
 pub fn read_body(alloc: Global, reader: &mut Reader<'_>) -> Result<NodeBody, ReadError>
-    ensures { Gives node_body.read (λ b. (b.bytes, (b.acl, b.stat))) result reader.old reader.new }
+    ensures { ReadsOwned node_body.read (λ b. (b.bytes, (b.acl, b.stat))) result reader.old reader.new }
 {
     let mut ahead = reader.ahead();
     let borrowed = ahead.read_buffer()?;
@@ -136,7 +136,7 @@ pub fn read_body(alloc: Global, reader: &mut Reader<'_>) -> Result<NodeBody, Rea
 /// Reads the text that ends an image; another one, and null, is `BadImage`.
 #[tactic(auto, unfolding(jute::specs::Format::judged_at))]
 pub fn read_signature(reader: &mut Reader<'_>) -> Result<(), ReadError>
-    ensures { Gives (part_format Signature).read (λ u. Part part.End) result reader.old reader.new }
+    ensures { ReadsOwned (part_format Signature).read (λ u. Part part.End) result reader.old reader.new }
 {
     let mut ahead = reader.ahead();
     let Some(text) = ahead.read_string()? else {

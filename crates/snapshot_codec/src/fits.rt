@@ -1,8 +1,8 @@
 //! What is within the limits of an image.
 
 ghost use Rattle.std.specs.Prelude.{◌↔◌, IsTrue, Some};
-ghost use Rattle.jute.specs.Format.{buffer, text as text_format, vector};
-ghost use Rattle.jute.specs.Owned.{acl};
+ghost use Rattle.jute.specs.Format.{buffer, text_format, vector_of};
+ghost use Rattle.jute.specs.Owned.{acl_format};
 
 use jute::{Acl, BUFFER_LIMIT, COUNT_LIMIT};
 use values::Blob;
@@ -25,9 +25,9 @@ pub fn fits_bytes(bytes: &Option<Blob>) -> bool
 }
 
 // Whether the texts of an entry of an ACL list are within the limit.
-#[tactic(auto, unfolding(jute::specs::Owned::acl, jute::specs::Owned::id))]
+#[tactic(auto, unfolding(jute::specs::Owned::acl_format, jute::specs::Owned::id_format))]
 fn fits_entry(entry: &Acl) -> bool
-    ensures { IsTrue result ↔ acl.Fits entry.now }
+    ensures { IsTrue result ↔ acl_format.Fits entry.now }
 {
     let _perms = entry.perms;
     if !fits_text(entry.id.scheme.as_str()) {
@@ -38,7 +38,7 @@ fn fits_entry(entry: &Acl) -> bool
 
 /// Whether an ACL list is within the limits.
 pub fn fits_list(list: &[Acl]) -> bool
-    ensures { IsTrue result ↔ (vector acl).Fits (Some list.now) }
+    ensures { IsTrue result ↔ (vector_of acl_format).Fits (Some list.now) }
 {
     if list.len() > COUNT_LIMIT as usize {
         return false;

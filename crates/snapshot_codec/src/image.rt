@@ -1,7 +1,7 @@
 //! Images that are all there.
 
 ghost use Rattle.std.specs.Prelude.{◌≡◌, false};
-ghost use Rattle.jute.specs.Reads.{Gives};
+ghost use Rattle.jute.specs.Reads.{ReadsOwned};
 ghost use Rattle.snapshot_codec.specs.Image.{image_read};
 ghost use Rattle.snapshot_codec.specs.Reads.{LoadsNext, ReadsImage};
 
@@ -59,7 +59,7 @@ fn load_next(
 // Loads the parts of an image. A refused read leaves the place.
 #[tactic(auto, unfolding(crate::specs::Image::image_read))]
 fn load_image(alloc: Global, reader: &mut Reader<'_>) -> Result<Image, ReadError>
-    ensures { Gives image_read (λ image. image) result reader.old reader.new }
+    ensures { ReadsOwned image_read (λ image. image) result reader.old reader.new }
 {
     let mut ahead = reader.ahead();
     let mut phase = PartPhase::SessionCount;

@@ -4,7 +4,7 @@ ghost use Rattle.std.specs.Prelude.{◌≡◌, ◌≤◌, ◌++◌, [], OnOk};
 ghost use Rattle.std.specs.BTreeMap.{btree_map_len};
 ghost use Rattle.jute.specs.Format.{count_limit};
 ghost use Rattle.snapshot_codec.specs.Written.{Lists, lists_from};
-ghost use Rattle.snapshot_codec.specs.Writes.{shown_rows, GivesList, IsTable, Adds, Tables, NamesKey, table_bytes};
+ghost use Rattle.snapshot_codec.specs.Writes.{shown_rows, GivesList, IsTable, AddsList, MakesTable, NamesKey, table_bytes};
 
 use crate::depth_first::WalkPath;
 use crate::fits::fits_list;
@@ -44,7 +44,7 @@ pub struct KeyTable {
 impl KeyTable {
     // Adds a list that has no key yet.
     fn add(&mut self, alloc: Global, acl: &AclList) -> Result<(), WriteError>
-        ensures { (lists : Lists) → IsTable self.old lists → Adds result lists acl.now self.new }
+        ensures { (lists : Lists) → IsTable self.old lists → AddsList result lists acl.now self.new }
     {
         let Some(list) = acl.listed() else {
             return Ok(());
@@ -67,7 +67,7 @@ impl KeyTable {
     /// The lists of the nodes, in the order in which they are first used. It is `NotWhole` where one of them, or how
     /// many they are, passes a limit.
     pub fn of(alloc: Global, rows: &BTreeMap<WalkPath<'_>, &Node>) -> Result<KeyTable, WriteError>
-        ensures { Tables result (lists_from [] (shown_rows rows.now.entries)) }
+        ensures { MakesTable result (lists_from [] (shown_rows rows.now.entries)) }
     {
         let mut table = KeyTable {
             keys: BTreeMap::new(alloc),

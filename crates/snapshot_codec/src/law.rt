@@ -3,23 +3,23 @@
 ghost use Rattle.std.specs.Prelude.{◌≡◌, ◌≢◌, ◌++◌, ℕ, List, Ok, Err};
 ghost use Rattle.data_tree.specs.State.{State, Nodes};
 ghost use Rattle.data_tree.specs.Whole.{IsWhole};
-ghost use Rattle.jute.specs.Laws.{Named, TakesSpellings, WritesSpellings};
+ghost use Rattle.jute.specs.Laws.{NamesFaults, TakesSpellings, WritesSpellings};
 ghost use Rattle.jute.specs.Loading.{AreSound, NeverWaits};
-ghost use Rattle.jute.specs.Stream.{ComesInPieces, Streamed};
+ghost use Rattle.jute.specs.Stream.{ComesInPieces, IsStreamable};
 ghost use Rattle.values.specs.declared.fault.Fault.{Fault as TheFault};
 ghost use Rattle.values.specs.declared.fault.Fault.TheVariants.{Short};
-ghost use Rattle.snapshot_codec.specs.Image.{SpellsImage, image, image_read};
+ghost use Rattle.snapshot_codec.specs.Image.{SpellsImage, image_format, image_read};
 ghost use Rattle.snapshot_codec.specs.Made.{image_load};
-ghost use Rattle.snapshot_codec.specs.Parts.{parts};
+ghost use Rattle.snapshot_codec.specs.Parts.{part_stream};
 ghost use Rattle.snapshot_codec.specs.Rows.{WorkedImages};
 ghost use Rattle.snapshot_codec.specs.Walks.{IsWalk};
-ghost use Rattle.snapshot_codec.specs.Written.{walk};
+ghost use Rattle.snapshot_codec.specs.Written.{walk_of};
 
 /// What stands in a phase is read exactly where its spelling stands, however the bytes are cut, and a refusal names the
 /// first field that no bytes at its place spell. No part is refused for want of bytes.
 pub fn image_parts()
-    ensures sound { AreSound parts }
-    ensures pieces { ComesInPieces parts }
+    ensures sound { AreSound part_stream }
+    ensures pieces { ComesInPieces part_stream }
     ensures goes_on { NeverWaits image_load }
 {}
 
@@ -29,16 +29,17 @@ pub fn image_parts()
 /// an image is whole. What is written of a whole state within the limits is its image, and so is read again, whatever
 /// follows.
 pub fn images()
-    ensures taken { TakesSpellings image }
+    ensures taken { TakesSpellings image_format }
     ensures again { (s : State) (text rest : List ℕ) → SpellsImage s text
         → image_read (text ++ rest) ≡ Ok (s, rest) }
-    ensures streamed { Streamed image }
-    ensures named { Named image }
+    ensures streamed { IsStreamable image_format }
+    ensures named { NamesFaults image_format }
     ensures refused { (bytes more text rest : List ℕ) (s : State) (e : TheFault)
         → image_read bytes ≡ Err e → e ≢ Short
         → bytes ++ more ≡ text ++ rest → ¬ SpellsImage s text }
-    ensures writes { WritesSpellings image }
-    ensures back { (s : State) (rest : List ℕ) → image.Fits s → image_read (image.written s ++ rest) ≡ Ok (s, rest) }
+    ensures writes { WritesSpellings image_format }
+    ensures back { (s : State) (rest : List ℕ) → image_format.Fits s
+        → image_read (image_format.written s ++ rest) ≡ Ok (s, rest) }
     ensures whole { (s : State) (text : List ℕ) → SpellsImage s text → IsWhole s }
 {
     data_tree::law::names();
@@ -46,7 +47,7 @@ pub fn images()
 
 /// In an image each node stands once, a parent before its children, and what is below a node directly behind it.
 pub fn walks()
-    ensures { (nodes : Nodes) → IsWalk nodes (walk nodes) }
+    ensures { (nodes : Nodes) → IsWalk nodes (walk_of nodes) }
 {}
 
 /// Images that were worked out by hand: what is written of the fresh tree, in which order nodes stand, and which keys

@@ -1,7 +1,7 @@
 //! A tree that is made of the parts of an image.
 
 ghost use Rattle.std.specs.Prelude.{◌≡◌, IsTrue, false};
-ghost use Rattle.snapshot_codec.specs.Made.{nothing, node_with};
+ghost use Rattle.snapshot_codec.specs.Made.{no_loaded_parts, node_with};
 ghost use Rattle.snapshot_codec.specs.Reads.{TakesPart};
 
 use crate::acl_table::AclTable;
@@ -37,7 +37,7 @@ impl Model for Loader {
 impl Loader {
     /// Where an image begins. It takes no memory.
     pub fn new(alloc: Global) -> Loader
-        ensures { result ≡ record { made = nothing; ended = false } }
+        ensures { result ≡ record { made = no_loaded_parts; ended = false } }
     {
         Loader {
             tree: Tree::empty(alloc),

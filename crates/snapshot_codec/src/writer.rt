@@ -5,7 +5,7 @@ ghost use Rattle.std.specs.FinMap as finmap;
 ghost use Rattle.jute.specs.Records.{stat_persisted};
 ghost use Rattle.txn_codec.specs.Paths.{is_root};
 ghost use Rattle.snapshot_codec.specs.Written.{image_bytes, lists_from, FitsImage};
-ghost use Rattle.snapshot_codec.specs.Writes.{shown_rows, IsTable, Writes, sessions_bytes, FitSessions, node_bytes, FitsNode, nodes_bytes, FitNodes};
+ghost use Rattle.snapshot_codec.specs.Writes.{shown_rows, IsTable, WritesBytes, sessions_bytes, FitSessions, node_bytes, FitsNode, nodes_bytes, FitNodes};
 ghost use Rattle.snapshot_codec.specs.declared.write_error.WriteError.TheVariants as errors;
 
 use crate::depth_first::{WalkPath, depth_first};
@@ -20,7 +20,7 @@ use std::collections::BTreeMap;
 
 // Writes how many sessions there are, and the sessions.
 fn put_sessions(out: &mut Vec<u8>, sessions: &Timeouts) -> Result<(), WriteError>
-    ensures { Writes result (sessions_bytes (finmap.entries sessions.now)) out.old.items out.new.items
+    ensures { WritesBytes result (sessions_bytes (finmap.entries sessions.now)) out.old.items out.new.items
         (FitSessions (finmap.entries sessions.now)) }
 {
     let entries = sessions.iter();
@@ -66,7 +66,7 @@ fn numbers(stat: &StatPersisted) -> StatPersisted
 
 // Writes a node: its path, which is empty at the root, its bytes, the key of its list, and its numbers.
 fn put_node(out: &mut Vec<u8>, path: &str, node: &Node, key: &i64) -> Result<(), WriteError>
-    ensures { Writes result (node_bytes path.now node.now key.now) out.old.items out.new.items
+    ensures { WritesBytes result (node_bytes path.now node.now key.now) out.old.items out.new.items
         (FitsNode path.now node.now key.now) }
 {
     if !fits_text(path) || !fits_bytes(&node.bytes) {
@@ -88,7 +88,7 @@ fn put_nodes(
 ) -> Result<(), WriteError>
     requires { IsTable table.now (lists_from [] (shown_rows rows.now.entries)) }
     ensures { let walked = shown_rows rows.now.entries in
-        Writes result (nodes_bytes (lists_from [] walked) walked) out.old.items out.new.items
+        WritesBytes result (nodes_bytes (lists_from [] walked) walked) out.old.items out.new.items
         (FitNodes (lists_from [] walked) walked) }
 {
     for (path, node) in rows {

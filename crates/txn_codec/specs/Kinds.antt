@@ -22,13 +22,13 @@ code_of kinds.CreateSession = negsuc 9
 code_of kinds.CloseSession = negsuc 10
 code_of kinds.Error = negsuc 0
 
-abbrev pub types : List TxnKind
-types = kinds.Create ∷ kinds.Delete ∷ kinds.SetData ∷ kinds.SetAcl ∷ kinds.Check ∷ kinds.Multi ∷ kinds.CreateSession
+abbrev pub txn_kinds : List TxnKind
+txn_kinds = kinds.Create ∷ kinds.Delete ∷ kinds.SetData ∷ kinds.SetAcl ∷ kinds.Check ∷ kinds.Multi ∷ kinds.CreateSession
     ∷ kinds.CloseSession ∷ kinds.Error ∷ []
 
 -- the type with that code; every other code is refused
 abbrev pub kind_of : ℤ → Result TxnKind Fault
-kind_of code = ok_or (find (λ k. int_eq code (code_of k)) types) BadTxnType
+kind_of code = ok_or (find (λ k. int_eq code (code_of k)) txn_kinds) BadTxnType
 
 abbrev pub operation_kind : Operation → TxnKind
 operation_kind (operations.Create c) = kinds.Create
@@ -45,16 +45,16 @@ body_kind (bodies.CreateSession timeout) = kinds.CreateSession
 body_kind bodies.CloseSession = kinds.CloseSession
 
 -- whether a part of a multi may be of that type
-abbrev pub is_part : TxnKind → Bool
-is_part kinds.Create = true
-is_part kinds.Delete = true
-is_part kinds.SetData = true
-is_part kinds.Check = true
-is_part kinds.Error = true
-is_part kinds.SetAcl = false
-is_part kinds.Multi = false
-is_part kinds.CreateSession = false
-is_part kinds.CloseSession = false
+abbrev pub is_part_kind : TxnKind → Bool
+is_part_kind kinds.Create = true
+is_part_kind kinds.Delete = true
+is_part_kind kinds.SetData = true
+is_part_kind kinds.Check = true
+is_part_kind kinds.Error = true
+is_part_kind kinds.SetAcl = false
+is_part_kind kinds.Multi = false
+is_part_kind kinds.CreateSession = false
+is_part_kind kinds.CloseSession = false
 
-abbrev pub part_type : TxnKind → Result TxnKind Fault
-part_type k = if is_part k then Ok k else Err BadTxnType
+abbrev pub part_kind_of : TxnKind → Result TxnKind Fault
+part_kind_of k = if is_part_kind k then Ok k else Err BadTxnType

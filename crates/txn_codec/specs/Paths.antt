@@ -27,12 +27,12 @@ abbrev pub is_path : List ℕ → Bool
 is_path bytes = is_root bytes || is_child_path bytes
 
 -- the text as a path
-abbrev pub path_of : List ℕ → Result (List ℕ) Fault
-path_of p = if is_path p then Ok p else Err BadPath
+abbrev pub checked_path : List ℕ → Result (List ℕ) Fault
+checked_path p = if is_path p then Ok p else Err BadPath
 
 -- the text as the path of a node that has a parent
-abbrev pub child_path_of : List ℕ → Result (List ℕ) Fault
-child_path_of p = if is_child_path p then Ok p else Err BadPath
+abbrev pub checked_child_path : List ℕ → Result (List ℕ) Fault
+checked_child_path p = if is_child_path p then Ok p else Err BadPath
 
 -- some byte is a slash
 abbrev pub has_slash : List ℕ → Bool

@@ -2,9 +2,9 @@
 use Rattle.std.specs.Prelude.{◌≡◌, ◌≢◌, ℕ, ℤ, negsuc, List, [], ◌∷◌, Option, Some, None, Result, Ok, Err, Bool, ◌⊎◌, if◌then◌else◌}
 use Rattle.values.specs.declared.fault.Fault.{Fault}
 use Rattle.values.specs.declared.fault.Fault.TheVariants.{BadPath, BadTxnType}
-use Rattle.jute.specs.Format.{Format, int, long, boolean, buffer, text, vector, both, mapped, judged, case_of, or_null}
-use Rattle.jute.specs.Owned.{acl}
-use Rattle.jute.specs.Sums.{empty, refusal, tagged, held, whole as whole_by}
+use Rattle.jute.specs.Format.{Format, int, long, boolean, buffer, text_format, vector_of, pair_of, mapped_format, judged_format, case_of, or_null}
+use Rattle.jute.specs.Owned.{acl_format}
+use Rattle.jute.specs.Sums.{empty_format, refusal_format, tagged_format, held_in_buffer, whole_value as whole_by}
 use Rattle.txn_codec.specs.declared.kind.TxnKind.{TxnKind}
 use Rattle.txn_codec.specs.declared.kind.TxnKind.TheVariants as kinds
 use Rattle.txn_codec.specs.declared.place.Place.{Place}
@@ -20,20 +20,20 @@ use Rattle.txn_codec.specs.declared.txn.Body.{Body}
 use Rattle.txn_codec.specs.declared.txn.Body.TheVariants as bodies
 use Rattle.txn_codec.specs.declared.txn.Txn.{Txn}
 use Rattle.txn_codec.specs.Paths.{is_path, is_child_path}
-use Rattle.txn_codec.specs.Kinds.{kind_of, code_of, part_type, operation_kind, body_kind}
+use Rattle.txn_codec.specs.Kinds.{kind_of, code_of, part_kind_of, operation_kind, body_kind}
 
 -- ---- fields
 
 -- a text that passes a test; null passes none
-abbrev pub tested : (List ℕ → Bool) → Option (List ℕ) → Result (List ℕ) Fault
-tested test None = Err BadPath
-tested test (Some p) = if test p then Ok p else Err BadPath
+abbrev pub tested_text : (List ℕ → Bool) → Option (List ℕ) → Result (List ℕ) Fault
+tested_text test None = Err BadPath
+tested_text test (Some p) = if test p then Ok p else Err BadPath
 
 abbrev pub path_by : (List ℕ → Bool) → Format (List ℕ)
-path_by test = judged (tested test) (λ p. Some (Some p)) text
+path_by test = judged_format (tested_text test) (λ p. Some (Some p)) text_format
 
-abbrev pub path : Format (List ℕ)
-path = path_by is_path
+abbrev pub path_format : Format (List ℕ)
+path_format = path_by is_path
 
 -- the path of a node that has a parent
 abbrev pub child_path : Format (List ℕ)
@@ -55,50 +55,51 @@ int_or_end = record {
 }
 
 -- the last field of a create: it may be left out of one that stands alone
-abbrev pub last_of : Place → Format ℤ
-last_of Alone = int_or_end
-last_of Part = int
+abbrev pub last_field : Place → Format ℤ
+last_field Alone = int_or_end
+last_field Part = int
 
 -- a type, by its code
-abbrev pub kind : Format TxnKind
-kind = judged kind_of (λ k. Some (code_of k)) int
+abbrev pub kind_format : Format TxnKind
+kind_format = judged_format kind_of (λ k. Some (code_of k)) int
 
 -- a type that a part of a multi may have
 abbrev pub part_kind : Format TxnKind
-part_kind = judged part_type (λ k. Some k) kind
+part_kind = judged_format part_kind_of (λ k. Some k) kind_format
 
 -- ---- records
 
 -- CreateTxn, or with a last field that may be left out CreateTxnV0
 abbrev pub create_with : Format ℤ → Format Create
-create_with last = mapped
+create_with last = mapped_format
     (λ v. record { path = v.0; bytes = v.1.0; acl = v.1.1.0; ephemeral = v.1.1.1.0; parent_cversion = v.1.1.1.1 })
     (λ c. (c.path, (c.bytes, (c.acl, (c.ephemeral, c.parent_cversion)))))
-    (both child_path (both buffer (both (vector acl) (both boolean last))))
+    (pair_of child_path (pair_of buffer (pair_of (vector_of acl_format) (pair_of boolean last))))
 
-abbrev pub create : Format Create
-create = create_with int
+abbrev pub create_format : Format Create
+create_format = create_with int
 
 abbrev pub set_data : Format SetData
-set_data = mapped
+set_data = mapped_format
     (λ v. record { path = v.0; bytes = v.1.0; version = v.1.1 })
     (λ s. (s.path, (s.bytes, s.version)))
-    (both path (both buffer int))
+    (pair_of path_format (pair_of buffer int))
 
 abbrev pub set_acl : Format SetAcl
-set_acl = mapped
+set_acl = mapped_format
     (λ v. record { path = v.0; acl = v.1.0; version = v.1.1 })
     (λ s. (s.path, (s.acl, s.version)))
-    (both path (both (vector acl) int))
+    (pair_of path_format (pair_of (vector_of acl_format) int))
 
-abbrev pub check : Format Check
-check = mapped (λ v. record { path = v.0; version = v.1 }) (λ s. (s.path, s.version)) (both path int)
+abbrev pub check_format : Format Check
+check_format = mapped_format (λ v. record { path = v.0; version = v.1 }) (λ s. (s.path, s.version))
+    (pair_of path_format int)
 
-abbrev pub header : Format TxnHeader
-header = mapped
+abbrev pub txn_header : Format TxnHeader
+txn_header = mapped_format
     (λ v. record { client_id = v.0; cxid = v.1.0; zxid = v.1.1.0; time = v.1.1.1 })
     (λ h. (h.client_id, (h.cxid, (h.zxid, h.time))))
-    (both long (both int (both long long)))
+    (pair_of long (pair_of int (pair_of long long)))
 
 -- ---- operations, behind their type; a create's last field is as given
 
@@ -122,29 +123,29 @@ abbrev pub as_error : Operation → Option ℤ
 as_error (operations.Error e) = Some e
 as_error o = None
 
-abbrev pub operation : Format ℤ → TxnKind → Format Operation
-operation last kinds.Create = case_of operations.Create as_create (create_with last)
-operation last kinds.Delete = case_of operations.Delete as_delete child_path
-operation last kinds.SetData = case_of operations.SetData as_set_data set_data
-operation last kinds.Check = case_of operations.Check as_check check
-operation last kinds.Error = case_of operations.Error as_error int
-operation last kinds.SetAcl = refusal BadTxnType
-operation last kinds.Multi = refusal BadTxnType
-operation last kinds.CreateSession = refusal BadTxnType
-operation last kinds.CloseSession = refusal BadTxnType
+abbrev pub operation_format : Format ℤ → TxnKind → Format Operation
+operation_format last kinds.Create = case_of operations.Create as_create (create_with last)
+operation_format last kinds.Delete = case_of operations.Delete as_delete child_path
+operation_format last kinds.SetData = case_of operations.SetData as_set_data set_data
+operation_format last kinds.Check = case_of operations.Check as_check check_format
+operation_format last kinds.Error = case_of operations.Error as_error int
+operation_format last kinds.SetAcl = refusal_format BadTxnType
+operation_format last kinds.Multi = refusal_format BadTxnType
+operation_format last kinds.CreateSession = refusal_format BadTxnType
+operation_format last kinds.CloseSession = refusal_format BadTxnType
 
 -- the format in which an operation is written behind its type
 abbrev pub format_of_operation : Operation → Format Operation
-format_of_operation o = operation int (operation_kind o)
+format_of_operation o = operation_format int (operation_kind o)
 
 -- ---- parts of a multi (Txn of MultiTxn): a type, and a buffer that holds just the operation
 
-abbrev pub part : Format Operation
-part = tagged part_kind operation_kind (λ k. held (operation int k))
+abbrev pub multi_part : Format Operation
+multi_part = tagged_format part_kind operation_kind (λ k. held_in_buffer (operation_format int k))
 
 -- null stands for no parts
-abbrev pub parts : Format (List Operation)
-parts = or_null (vector part)
+abbrev pub multi_parts : Format (List Operation)
+multi_parts = or_null (vector_of multi_part)
 
 -- ---- bodies: a type, and what stands behind it
 
@@ -168,32 +169,33 @@ abbrev pub as_close : Body → Option (Unit {0})
 as_close bodies.CloseSession = Some tt
 as_close b = None
 
-abbrev pub single : TxnKind → Format Body
-single k = case_of bodies.Single as_single (operation int_or_end k)
+abbrev pub single_body : TxnKind → Format Body
+single_body k = case_of bodies.Single as_single (operation_format int_or_end k)
 
-abbrev pub content : TxnKind → Format Body
-content kinds.Create = single kinds.Create
-content kinds.Delete = single kinds.Delete
-content kinds.SetData = single kinds.SetData
-content kinds.Check = single kinds.Check
-content kinds.Error = single kinds.Error
-content kinds.SetAcl = case_of bodies.SetAcl as_set_acl set_acl
-content kinds.Multi = case_of bodies.Multi as_multi parts
-content kinds.CreateSession = case_of bodies.CreateSession as_session int
-content kinds.CloseSession = case_of (λ none. bodies.CloseSession) as_close empty
+abbrev pub body_content : TxnKind → Format Body
+body_content kinds.Create = single_body kinds.Create
+body_content kinds.Delete = single_body kinds.Delete
+body_content kinds.SetData = single_body kinds.SetData
+body_content kinds.Check = single_body kinds.Check
+body_content kinds.Error = single_body kinds.Error
+body_content kinds.SetAcl = case_of bodies.SetAcl as_set_acl set_acl
+body_content kinds.Multi = case_of bodies.Multi as_multi multi_parts
+body_content kinds.CreateSession = case_of bodies.CreateSession as_session int
+body_content kinds.CloseSession = case_of (λ none. bodies.CloseSession) as_close empty_format
 
 -- the format in which a body is written behind its type
 abbrev pub format_of_body : Body → Format Body
-format_of_body b = content (body_kind b)
+format_of_body b = body_content (body_kind b)
 
-abbrev pub body : Format Body
-body = tagged kind body_kind content
+abbrev pub body_format : Format Body
+body_format = tagged_format kind_format body_kind body_content
 
 -- ---- transactions
 
-abbrev pub txn : Format Txn
-txn = mapped (λ v. record { header = v.0; body = v.1 }) (λ t. (t.header, t.body)) (both header body)
+abbrev pub txn_format : Format Txn
+txn_format = mapped_format (λ v. record { header = v.0; body = v.1 }) (λ t. (t.header, t.body))
+    (pair_of txn_header body_format)
 
 -- a value that is all of a text
-abbrev pub whole : {A : Type 0} → Format A → List ℕ → Result A Fault
-whole f bytes = whole_by f.read bytes
+abbrev pub value_of_whole : {A : Type 0} → Format A → List ℕ → Result A Fault
+value_of_whole f bytes = whole_by f.read bytes

@@ -1,11 +1,11 @@
 //! Reading transactions field by field.
 
 ghost use Rattle.std.specs.Prelude.{◌≡◌, IfOk, IfErr, Ok};
-ghost use Rattle.jute.specs.Reads.{Gives, GivesWhole};
+ghost use Rattle.jute.specs.Reads.{ReadsOwned, ReadsOwnedWhole};
 ghost use Rattle.jute.specs.Format.{int};
-ghost use Rattle.jute.specs.Sums.{held};
-ghost use Rattle.txn_codec.specs.Kinds.{part_type};
-ghost use Rattle.txn_codec.specs.Spelling.{path, child_path, last_of, kind, part_kind, create_with, create as create_format, set_data as set_data_format, set_acl as set_acl_format, check as check_format, header as header_format, operation, part, parts, content, body, txn, whole};
+ghost use Rattle.jute.specs.Sums.{held_in_buffer};
+ghost use Rattle.txn_codec.specs.Kinds.{part_kind_of};
+ghost use Rattle.txn_codec.specs.Spelling.{path_format, child_path, last_field, kind_format, part_kind, create_with, create_format, set_data as set_data_format, set_acl as set_acl_format, check_format, txn_header as header_format, operation_format, multi_part, multi_parts, body_content, body_format, txn_format, value_of_whole};
 ghost use Rattle.txn_codec.specs.Parents.{HaveParents};
 ghost use Rattle.txn_codec.specs.Refusals.{IfFault, AgainstTxn};
 ghost use Rattle.txn_codec.specs.declared.txn.Txn.{Txn as TheTxn};
@@ -20,7 +20,7 @@ use values::{Fault, Listed, ReadError};
 
 #[tactic(auto, unfolding(jute::specs::Format::judged_at))]
 fn read_path(alloc: Global, reader: &mut Reader<'_>) -> Result<Path, ReadError>
-    ensures { Gives path.read (λ p. p) result reader.old reader.new }
+    ensures { ReadsOwned path_format.read (λ p. p) result reader.old reader.new }
 {
     let mut ahead = reader.ahead();
     let Some(text) = ahead.read_string()? else {
@@ -33,7 +33,7 @@ fn read_path(alloc: Global, reader: &mut Reader<'_>) -> Result<Path, ReadError>
 
 #[tactic(auto, unfolding(jute::specs::Format::judged_at))]
 fn read_child_path(alloc: Global, reader: &mut Reader<'_>) -> Result<Path, ReadError>
-    ensures { Gives child_path.read (λ p. p) result reader.old reader.new }
+    ensures { ReadsOwned child_path.read (λ p. p) result reader.old reader.new }
 {
     let mut ahead = reader.ahead();
     let Some(text) = ahead.read_string()? else {
@@ -46,7 +46,7 @@ fn read_child_path(alloc: Global, reader: &mut Reader<'_>) -> Result<Path, ReadE
 
 #[tactic(auto, unfolding(jute::specs::Format::judged_at))]
 fn read_kind(reader: &mut Reader<'_>) -> Result<TxnKind, ReadError>
-    ensures { Gives kind.read (λ k. k) result reader.old reader.new }
+    ensures { ReadsOwned kind_format.read (λ k. k) result reader.old reader.new }
 {
     let mut ahead = reader.ahead();
     let kind = TxnKind::from_code(ahead.read_int()?)?;
@@ -57,7 +57,7 @@ fn read_kind(reader: &mut Reader<'_>) -> Result<TxnKind, ReadError>
 // The type of a part of a multi.
 #[tactic(auto, unfolding(jute::specs::Format::judged_at))]
 fn read_part_kind(reader: &mut Reader<'_>) -> Result<TxnKind, ReadError>
-    ensures { Gives part_kind.read (λ k. k) result reader.old reader.new }
+    ensures { ReadsOwned part_kind.read (λ k. k) result reader.old reader.new }
 {
     let mut ahead = reader.ahead();
     let kind = read_kind(&mut ahead)?.of_part()?;
@@ -86,7 +86,7 @@ impl<'a> ReadRecord<'a> for TxnHeader {
 
 // The last field of a create; of one that stands alone it may be left out, which means -1.
 fn read_parent_cversion(place: Place, reader: &mut Reader<'_>) -> Result<i32, ReadError>
-    ensures { Gives (last_of place).read (λ z. z) result reader.old reader.new }
+    ensures { ReadsOwned (last_field place).read (λ z. z) result reader.old reader.new }
 {
     if matches!(place, Place::Alone) && reader.rest().is_empty() {
         return Ok(-1);
@@ -95,7 +95,7 @@ fn read_parent_cversion(place: Place, reader: &mut Reader<'_>) -> Result<i32, Re
 }
 
 fn read_create(alloc: Global, place: Place, reader: &mut Reader<'_>) -> Result<Create, ReadError>
-    ensures { Gives (create_with (last_of place)).read (λ c. c) result reader.old reader.new }
+    ensures { ReadsOwned (create_with (last_field place)).read (λ c. c) result reader.old reader.new }
 {
     let mut ahead = reader.ahead();
     let path = read_child_path(alloc, &mut ahead)?;
@@ -171,7 +171,7 @@ fn read_operation(
     place: Place,
     reader: &mut Reader<'_>,
 ) -> Result<Operation, ReadError>
-    ensures { Gives (operation (last_of place) kind).read (λ o. o) result reader.old reader.new }
+    ensures { ReadsOwned (operation_format (last_field place) kind).read (λ o. o) result reader.old reader.new }
 {
     match kind {
         TxnKind::Create => Ok(Operation::Create(read_create(alloc, place, reader)?)),
@@ -186,9 +186,9 @@ fn read_operation(
 }
 
 // All of a text as an operation of that type.
-#[tactic(auto, unfolding(jute::specs::Sums::whole))]
+#[tactic(auto, unfolding(jute::specs::Sums::whole_value))]
 fn read_held(alloc: Global, kind: TxnKind, bytes: &[u8]) -> Result<Operation, ReadError>
-    ensures { GivesWhole (whole (operation int kind) bytes.now) result }
+    ensures { ReadsOwnedWhole (value_of_whole (operation_format int kind) bytes.now) result }
 {
     let mut ahead = Reader::new(bytes);
     let operation = read_operation(alloc, kind, Place::Part, &mut ahead)?;
@@ -205,7 +205,7 @@ fn read_buffered(
     kind: TxnKind,
     reader: &mut Reader<'_>,
 ) -> Result<Operation, ReadError>
-    ensures { Gives (held (operation int kind)).read (λ o. o) result reader.old reader.new }
+    ensures { ReadsOwned (held_in_buffer (operation_format int kind)).read (λ o. o) result reader.old reader.new }
 {
     let mut ahead = reader.ahead();
     let Some(bytes) = ahead.read_buffer()? else {
@@ -217,7 +217,7 @@ fn read_buffered(
 }
 
 impl<'a> ReadRecord<'a> for Operation {
-    ghost read_of = { part.read };
+    ghost read_of = { multi_part.read };
 
     // A part of a multi: a type, and a buffer with the operation.
     #[tactic(auto, unfolding(jute::specs::Sums::tagged_at))]
@@ -233,7 +233,7 @@ impl<'a> ReadRecord<'a> for Operation {
 // The parts of a multi; null stands for none.
 #[tactic(auto, unfolding(jute::specs::Format::judged_at))]
 fn read_parts(alloc: Global, reader: &mut Reader<'_>) -> Result<Listed<Operation>, ReadError>
-    ensures { Gives parts.read (λ p. p) result reader.old reader.new }
+    ensures { ReadsOwned multi_parts.read (λ p. p) result reader.old reader.new }
 {
     match read_vector(alloc, reader)? {
         None => Ok(Listed::from_vec(Vec::new(alloc))),
@@ -244,7 +244,7 @@ fn read_parts(alloc: Global, reader: &mut Reader<'_>) -> Result<Listed<Operation
 // What stands behind a transaction's type.
 #[tactic(auto, unfolding(jute::specs::Format::judged_at))]
 fn read_content(alloc: Global, kind: TxnKind, reader: &mut Reader<'_>) -> Result<Body, ReadError>
-    ensures { Gives (content kind).read (λ b. b) result reader.old reader.new }
+    ensures { ReadsOwned (body_content kind).read (λ b. b) result reader.old reader.new }
 {
     match kind {
         TxnKind::Create | TxnKind::Delete | TxnKind::SetData | TxnKind::Check | TxnKind::Error =>
@@ -258,7 +258,7 @@ fn read_content(alloc: Global, kind: TxnKind, reader: &mut Reader<'_>) -> Result
 
 #[tactic(auto, unfolding(jute::specs::Sums::tagged_at))]
 fn read_body(alloc: Global, reader: &mut Reader<'_>) -> Result<Body, ReadError>
-    ensures { Gives body.read (λ b. b) result reader.old reader.new }
+    ensures { ReadsOwned body_format.read (λ b. b) result reader.old reader.new }
 {
     let mut ahead = reader.ahead();
     let kind = read_kind(&mut ahead)?;
@@ -268,7 +268,7 @@ fn read_body(alloc: Global, reader: &mut Reader<'_>) -> Result<Body, ReadError>
 }
 
 fn read_txn(alloc: Global, reader: &mut Reader<'_>) -> Result<Txn, ReadError>
-    ensures { Gives txn.read (λ t. t) result reader.old reader.new }
+    ensures { ReadsOwned txn_format.read (λ t. t) result reader.old reader.new }
 {
     let mut ahead = reader.ahead();
     let header = TxnHeader::read(alloc, &mut ahead)?;
@@ -277,9 +277,9 @@ fn read_txn(alloc: Global, reader: &mut Reader<'_>) -> Result<Txn, ReadError>
     Ok(Txn { header, body })
 }
 
-#[tactic(auto, unfolding(jute::specs::Sums::whole))]
+#[tactic(auto, unfolding(jute::specs::Sums::whole_value))]
 fn read_whole(alloc: Global, bytes: &[u8]) -> Result<Txn, ReadError>
-    ensures { GivesWhole (whole txn bytes.now) result }
+    ensures { ReadsOwnedWhole (value_of_whole txn_format bytes.now) result }
 {
     let mut ahead = Reader::new(bytes);
     let txn = read_txn(alloc, &mut ahead)?;
@@ -293,19 +293,19 @@ fn read_whole(alloc: Global, bytes: &[u8]) -> Result<Txn, ReadError>
 /// (zookeeper.jute). A refusal is the fault of the first field that is against the spelling.
 pub fn decode_txn(alloc: Global, bytes: &[u8]) -> Result<Txn, ReadError>
     // What is read is spelled so.
-    ensures found { IfOk result (λ t. txn.Spells t bytes.now) }
+    ensures found { IfOk result (λ t. txn_format.Spells t bytes.now) }
     // What is spelled so is read, unless memory runs out.
-    ensures only { (t : TheTxn) → txn.Spells t bytes.now → GivesWhole (Ok t) result }
+    ensures only { (t : TheTxn) → txn_format.Spells t bytes.now → ReadsOwnedWhole (Ok t) result }
     // Which fault it is.
-    ensures exact { GivesWhole (whole txn bytes.now) result }
+    ensures exact { ReadsOwnedWhole (value_of_whole txn_format bytes.now) result }
     // A refusal comes only where the bytes spell no transaction ..
     ensures none { IfErr result (λ e. IfFault e (λ fault.
-        (t : TheTxn) → txn.Spells t bytes.now → ⊥)) }
+        (t : TheTxn) → txn_format.Spells t bytes.now → ⊥)) }
     // .. and names the first field that is against the spelling, and no other fault.
     ensures named { IfErr result (λ e. IfFault e (λ fault. AgainstTxn fault bytes.now)) }
     // What is read is within the limits, so it may be written and is then read again.
-    ensures fits { IfOk result (λ t. txn.Fits t) }
-    ensures writable { IfOk result (λ t. txn.Writable t) }
+    ensures fits { IfOk result (λ t. txn_format.Fits t) }
+    ensures writable { IfOk result (λ t. txn_format.Writable t) }
     // A node that is made or removed is not "/".
     ensures parents { IfOk result (λ t. HaveParents t.body) }
 {

@@ -2,8 +2,8 @@
 
 ghost use Rattle.std.specs.Prelude.{◌≡◌, ◌<◌, ◌^◌, length};
 ghost use Rattle.values.specs.Gains.{Puts};
-ghost use Rattle.jute.specs.Sums.{held};
-ghost use Rattle.txn_codec.specs.Spelling.{create as create_format, set_data as set_data_format, set_acl as set_acl_format, check as check_format, header as header_format, kind as kind_format, format_of_operation, part as part_format, parts as parts_format, format_of_body, txn as txn_format};
+ghost use Rattle.jute.specs.Sums.{held_in_buffer};
+ghost use Rattle.txn_codec.specs.Spelling.{create_format, set_data as set_data_format, set_acl as set_acl_format, check_format, txn_header as header_format, kind_format, format_of_operation, multi_part as part_format, multi_parts as parts_format, format_of_body, txn_format};
 
 use crate::kind::TxnKind;
 use crate::txn::{Body, Check, Create, Operation, SetAcl, SetData, Txn, TxnHeader};
@@ -123,9 +123,9 @@ fn put_operation(out: &mut Vec<u8>, operation: &Operation) -> Result<(), NoMemor
 
 // A buffer that holds the operation.
 fn put_buffered(out: &mut Vec<u8>, operation: &Operation) -> Result<(), NoMemory>
-    requires { (held (format_of_operation operation.now)).Writable operation.now }
+    requires { (held_in_buffer (format_of_operation operation.now)).Writable operation.now }
     ensures { Puts result out.old.items
-        ((held (format_of_operation operation.now)).written operation.now) out.new.items }
+        ((held_in_buffer (format_of_operation operation.now)).written operation.now) out.new.items }
 {
     put_int(out, operation_len(operation) as i32)?;
     put_operation(out, operation)

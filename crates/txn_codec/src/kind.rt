@@ -1,7 +1,7 @@
 //! Types of transactions.
 
 ghost use Rattle.std.specs.Prelude.{◌≡◌};
-ghost use Rattle.txn_codec.specs.Kinds.{kind_of, code_of, part_type};
+ghost use Rattle.txn_codec.specs.Kinds.{kind_of, code_of, part_kind_of};
 
 use values::Fault;
 
@@ -56,7 +56,7 @@ impl TxnKind {
 
     // The type, where a part of a multi may be of it; another one is `BadTxnType`.
     pub(crate) fn of_part(self) -> Result<TxnKind, Fault>
-        ensures { result ≡ part_type self }
+        ensures { result ≡ part_kind_of self }
     {
         match self {
             TxnKind::Create

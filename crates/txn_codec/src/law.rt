@@ -2,31 +2,31 @@
 
 ghost use Rattle.std.specs.Prelude.{◌≡◌, ℕ, List, Ok, Err};
 ghost use Rattle.values.specs.declared.fault.Fault.{Fault as TheFault};
-ghost use Rattle.jute.specs.Laws.{IsBytes, Sound, SoundAtEnd};
+ghost use Rattle.jute.specs.Laws.{IsBytes, IsSound, IsSoundAtEnd};
 ghost use Rattle.txn_codec.specs.Refusals.{AgainstTxn};
-ghost use Rattle.txn_codec.specs.Spelling.{path, child_path, kind, part_kind, create, set_data, set_acl, check, header, part, parts, body, txn, whole};
+ghost use Rattle.txn_codec.specs.Spelling.{path_format, child_path, kind_format, part_kind, create_format, set_data, set_acl, check_format, txn_header, multi_part, multi_parts, body_format, txn_format, value_of_whole};
 ghost use Rattle.txn_codec.specs.declared.txn.Txn.{Txn as TheTxn};
 
 /// What is read is spelled so, what is spelled is read, and what is written is a spelling. So what
 /// was written within the limits is read again. A refusal names the first field that is against its
 /// spelling, and what is so named is what reading answers.
 pub fn transactions()
-    ensures path { Sound path }
-    ensures child_path { Sound child_path }
-    ensures kind { Sound kind }
-    ensures part_kind { Sound part_kind }
-    ensures create { Sound create }
-    ensures set_data { Sound set_data }
-    ensures set_acl { Sound set_acl }
-    ensures check { Sound check }
-    ensures header { Sound header }
-    ensures part { Sound part }
-    ensures parts { Sound parts }
-    ensures body { SoundAtEnd body }
-    ensures txn { SoundAtEnd txn }
-    ensures again { (t : TheTxn) → txn.Fits t → whole txn (txn.written t) ≡ Ok t }
+    ensures path { IsSound path_format }
+    ensures child_path { IsSound child_path }
+    ensures kind { IsSound kind_format }
+    ensures part_kind { IsSound part_kind }
+    ensures create { IsSound create_format }
+    ensures set_data { IsSound set_data }
+    ensures set_acl { IsSound set_acl }
+    ensures check { IsSound check_format }
+    ensures header { IsSound txn_header }
+    ensures part { IsSound multi_part }
+    ensures parts { IsSound multi_parts }
+    ensures body { IsSoundAtEnd body_format }
+    ensures txn { IsSoundAtEnd txn_format }
+    ensures again { (t : TheTxn) → txn_format.Fits t → value_of_whole txn_format (txn_format.written t) ≡ Ok t }
     ensures names { (bytes : List ℕ) (e : TheFault) → IsBytes bytes
-        → whole txn bytes ≡ Err e → AgainstTxn e bytes }
+        → value_of_whole txn_format bytes ≡ Err e → AgainstTxn e bytes }
     ensures answers { (bytes : List ℕ) (e : TheFault) → IsBytes bytes
-        → AgainstTxn e bytes → whole txn bytes ≡ Err e }
+        → AgainstTxn e bytes → value_of_whole txn_format bytes ≡ Err e }
 {}

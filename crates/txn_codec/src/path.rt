@@ -1,8 +1,8 @@
 //! Paths that are checked.
 
 ghost use Rattle.std.specs.Prelude.{◌≡◌, List, ℕ, string_bytes, IsTrue, IfOk};
-ghost use Rattle.jute.specs.Reads.{GivesWhole};
-ghost use Rattle.txn_codec.specs.Paths.{are_names, is_path, is_child_path, path_of, child_path_of, parent_of, name_of, child_of};
+ghost use Rattle.jute.specs.Reads.{ReadsOwnedWhole};
+ghost use Rattle.txn_codec.specs.Paths.{are_names, is_path, is_child_path, checked_path, checked_child_path, parent_of, name_of, child_of};
 
 use std::alloc::Global;
 use std::marker::Model;
@@ -93,7 +93,7 @@ pub fn child_of(alloc: Global, path: &str, name: &str) -> Result<String, NoMemor
 impl Path {
     /// The text as a path; a text that is not one is `BadPath`.
     pub fn new(alloc: Global, text: &str) -> Result<Path, ReadError>
-        ensures { GivesWhole (path_of text.now) result }
+        ensures { ReadsOwnedWhole (checked_path text.now) result }
     {
         if !is_path(text.as_bytes()) {
             return Err(ReadError::Fault(Fault::BadPath));
@@ -105,7 +105,7 @@ impl Path {
 
     // The text as the path of a node that has a parent.
     pub(crate) fn new_child(alloc: Global, text: &str) -> Result<Path, ReadError>
-        ensures { GivesWhole (child_path_of text.now) result }
+        ensures { ReadsOwnedWhole (checked_child_path text.now) result }
     {
         if !is_child_path(text.as_bytes()) {
             return Err(ReadError::Fault(Fault::BadPath));

@@ -5,20 +5,20 @@ use Rattle.std.specs.List.{flat_map}
 use Rattle.values.specs.Maybe.{◌>>=◌}
 
 -- the value of a hexadecimal digit of either case
-abbrev pub digit_of : ℕ → Option ℕ
-digit_of b =
+abbrev pub digit_value : ℕ → Option ℕ
+digit_value b =
     if is_in_range 48 57 b then Some (b - 48)
     else (if is_in_range 97 102 b then Some (b - 87)
     else (if is_in_range 65 70 b then Some (b - 55) else None))
 
 -- the bytes that digits spell, two for each
-abbrev pub bytes_of : List ℕ → Option (List ℕ)
-bytes_of [] = Some []
-bytes_of (high ∷ []) = None
-bytes_of (high ∷ low ∷ text) = do
-  h ← digit_of high
-  l ← digit_of low
-  bytes ← bytes_of text
+abbrev pub bytes_of_digits : List ℕ → Option (List ℕ)
+bytes_of_digits [] = Some []
+bytes_of_digits (high ∷ []) = None
+bytes_of_digits (high ∷ low ∷ text) = do
+  h ← digit_value high
+  l ← digit_value low
+  bytes ← bytes_of_digits text
   Some ((h * 16 + l) ∷ bytes)
 
 abbrev pub without_blanks : List ℕ → List ℕ
@@ -30,21 +30,21 @@ at_least_one [] = None
 at_least_one (b ∷ bytes) = Some (b ∷ bytes)
 
 -- HEX: the bytes that a text spells, with blanks passed over
-abbrev pub hex : List ℕ → Option (List ℕ)
-hex text = bytes_of (without_blanks text) >>= at_least_one
+abbrev pub bytes_of_hex : List ℕ → Option (List ℕ)
+bytes_of_hex text = bytes_of_digits (without_blanks text) >>= at_least_one
 
 -- the bytes that a text spells; none where it spells none
 abbrev pub bytes_in : Option (List ℕ) → List ℕ
 bytes_in None = []
 bytes_in (Some bytes) = bytes
 
-abbrev pub spelled : List ℕ → List ℕ
-spelled text = bytes_in (hex text)
+abbrev pub hex_bytes : List ℕ → List ℕ
+hex_bytes text = bytes_in (bytes_of_hex text)
 
 -- the lower-case digit of a value
-abbrev pub digit : ℕ → ℕ
-digit value = if nat_lt value 10 then 48 + value else 87 + value
+abbrev pub hex_digit : ℕ → ℕ
+hex_digit value = if nat_lt value 10 then 48 + value else 87 + value
 
 -- bytes in lower-case digits
-abbrev pub digits : List ℕ → List ℕ
-digits bytes = flat_map (λ b. digit (b / 16) ∷ digit (b % 16) ∷ []) bytes
+abbrev pub hex_digits : List ℕ → List ℕ
+hex_digits bytes = flat_map (λ b. hex_digit (b / 16) ∷ hex_digit (b % 16) ∷ []) bytes

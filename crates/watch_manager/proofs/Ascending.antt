@@ -12,7 +12,7 @@ use Rattle.std.specs.Ordering.{eq_by_cmp, match_ordering}
 use Rattle.std.specs.Cmp.{IsTotalOrder}
 use Rattle.std.proofs.lemmas.Map.Keys.{sorted_head, sorted_tail}
 use Rattle.std.proofs.lemmas.Map.Lookups.{CmpEqualImpliesEq}
-use Rattle.watch_manager.specs.Ascending.{ascending, inserted}
+use Rattle.watch_manager.specs.Ascending.{sorted_distinct, with_inserted_keys}
 
 no_entries : {A : Type 0} (xs : List A) → length xs ≡ 0 → xs ≡ []
 no_entries [] e = refl
@@ -55,7 +55,7 @@ module _ {K : Type 0} {R : K → K → Ordering} (o : IsTotalOrder R) where
   abbrev unmarked : List (K × Unit {0}) → List K
   unmarked es = map (λ (e : K × Unit {0}). e.0) es
 
-  pub ascending-nil : ascending R [] ≡ []
+  pub ascending-nil : sorted_distinct R [] ≡ []
   ascending-nil = ap unmarked (entries-empty o)
 
   unmarked-put : (k : K) (es : List (K × Unit {0}))
@@ -71,7 +71,7 @@ module _ {K : Type 0} {R : K → K → Ordering} (o : IsTotalOrder R) where
       by later Greater = ap (λ ks. e.0 ∷ ks) later
 
   -- the last value is put in its place
-  pub ascending-cons : (k : K) (ks : List K) → ascending R (k ∷ ks) ≡ insert_key R (ascending R ks) k
+  pub ascending-cons : (k : K) (ks : List K) → sorted_distinct R (k ∷ ks) ≡ insert_key R (sorted_distinct R ks) k
   ascending-cons k ks =
       ap unmarked (finmap.entries-insert o (finmap.from_entries {R = R} (marked ks)) k (tt {0}))
       ∙ unmarked-put k (finmap.entries (finmap.from_entries {R = R} (marked ks)))
@@ -81,7 +81,7 @@ module _ {K : Type 0} {R : K → K → Ordering} (o : IsTotalOrder R) where
   placed [] = []
   placed (k ∷ ks) = insert_key R (placed ks) k
 
-  pub ascending-placed : (ks : List K) → ascending R ks ≡ placed ks
+  pub ascending-placed : (ks : List K) → sorted_distinct R ks ≡ placed ks
   ascending-placed [] = ascending-nil
   ascending-placed (k ∷ ks) = ascending-cons k ks ∙ ap (λ xs. insert_key R xs k) (ascending-placed ks)
 
@@ -99,21 +99,24 @@ module _ {K : Type 0} {R : K → K → Ordering} (o : IsTotalOrder R) where
   module _ (exact : CmpEqualImpliesEq R) where
     -- what holds the same values is the same in order
     pub same_ascending : (xs ys : List K)
-        → ((q : K) → list_any (eq_by_cmp R q) xs ≡ list_any (eq_by_cmp R q) ys) → ascending R xs ≡ ascending R ys
+        → ((q : K) → list_any (eq_by_cmp R q) xs ≡ list_any (eq_by_cmp R q) ys)
+        → sorted_distinct R xs ≡ sorted_distinct R ys
     same_ascending xs ys same = ap (λ m. finmap.keys m) (finmap.same_map o exact _ _ (λ q.
         finmap.get-from_entries o (marked xs) q ∙ find-marked q xs
         ∙ ap (λ b. cond b (Some (tt {0})) None) (same q)
         ∙ sym (finmap.get-from_entries o (marked ys) q ∙ find-marked q ys)))
 
     -- the order in which values come makes no difference
-    pub insert-ascending : (ks : List K) (k : K) → insert_key R (ascending R ks) k ≡ ascending R (ks ++ k ∷ [])
+    pub insert-ascending : (ks : List K) (k : K)
+        → insert_key R (sorted_distinct R ks) k ≡ sorted_distinct R (ks ++ k ∷ [])
     insert-ascending ks k =
         sym (ascending-cons k ks)
         ∙ same_ascending (k ∷ ks) (ks ++ k ∷ []) (λ q. sym (any-push (eq_by_cmp R q) ks k))
 
-    pub inserted-ascending : (before ks : List K) → inserted R (ascending R before) ks ≡ ascending R (before ++ ks)
-    inserted-ascending before [] = ap (λ xs. ascending R xs) (sym (append-nil before))
+    pub inserted-ascending : (before ks : List K)
+        → with_inserted_keys R (sorted_distinct R before) ks ≡ sorted_distinct R (before ++ ks)
+    inserted-ascending before [] = ap (λ xs. sorted_distinct R xs) (sym (append-nil before))
     inserted-ascending before (k ∷ ks) =
-        ap (λ xs. inserted R xs ks) (insert-ascending before k)
+        ap (λ xs. with_inserted_keys R xs ks) (insert-ascending before k)
         ∙ inserted-ascending (before ++ k ∷ []) ks
-        ∙ ap (λ xs. ascending R xs) (append_assoc before (k ∷ []) ks)
+        ∙ ap (λ xs. sorted_distinct R xs) (append_assoc before (k ∷ []) ks)

@@ -13,9 +13,9 @@ use Rattle.std.specs.Ordering.{eq_by_cmp, is_eq, nat_cmp}
 use Rattle.std.specs.Cmp.{nat_cmp_total, eq_by_cmp_equiv, tied_itself}
 use Rattle.std.proofs.lemmas.Map.Lookups.{exact_unsigned}
 use Rattle.std.specs.FinSet as set
-use Rattle.watch_manager.specs.Pairs.{Connections, in_number}
+use Rattle.watch_manager.specs.Pairs.{ConnectionSet, sorted_connections}
 
-abbrev set_of : List ℕ → Connections
+abbrev set_of : List ℕ → ConnectionSet
 set_of keys = set.from_list keys
 
 pub contains-keys : (keys : List ℕ) (q : ℕ) → set.contains (set_of keys) q ≡ list_any (eq_by_cmp nat_cmp q) keys
@@ -98,7 +98,7 @@ same_marked xs ys same = finmap.same_map nat_cmp_total exact_unsigned _ _ (λ q.
         by false y = refl
 
 -- a sorted list of numbers lists its set in order
-pub items-sorted : (ns : List ℕ) → IsStrictlySortedBy nat_cmp ns → in_number (set_of ns) ≡ ns
+pub items-sorted : (ns : List ℕ) → IsStrictlySortedBy nat_cmp ns → sorted_connections (set_of ns) ≡ ns
 items-sorted ns s =
     ap (λ m. finmap.keys m)
     (same_marked (set.items (set_of ns)) ns (λ q. sym (set.contains-items (set_of ns) q) ∙ contains-keys ns q))

@@ -11,8 +11,8 @@ use Rattle.std.specs.FinSet as set
 use Rattle.ephemerals.specs.Orders.{Bytes}
 use Rattle.data_tree.specs.declared.outcome.Trigger.{Trigger}
 use Rattle.data_tree.specs.declared.outcome.Trigger.TheVariants.{Created, Deleted, DataChanged, ChildrenChanged}
-use Rattle.watch_manager.specs.Pairs.{watch_cmp, same_path, in_number, watchers, without_path}
-use Rattle.watch_manager.specs.Watches.{Fired, told, each_but, tells, after, fire}
+use Rattle.watch_manager.specs.Pairs.{watch_cmp, same_path, sorted_connections, watchers_of, without_watches_on}
+use Rattle.watch_manager.specs.Watches.{FireResult, events_for, connections_not_told, events_of_trigger, watches_after, fire}
 use Rattle.watch_manager.specs.Rows.{watches_on}
 use Rattle.watch_manager.specs.declared.event.Event.{Event}
 use Rattle.watch_manager.specs.declared.event.EventKind.TheVariants.{NodeCreated, NodeDeleted, NodeDataChanged, NodeChildrenChanged}
@@ -39,11 +39,11 @@ Rises [] = Unit {0}
 Rises (n ∷ ns) = AllByRecursion (λ m. nat_cmp n m ≡ Less) ns × Rises ns
 
 abbrev pub events_of : Listed → Listed → Trigger → List (ℕ × Event)
-events_of own child (Created path) = told NodeCreated path (at path own)
+events_of own child (Created path) = events_for NodeCreated path (at path own)
 events_of own child (Deleted path) =
-    told NodeDeleted path (at path own) ++ told NodeDeleted path (others (at path own) (at path child))
-events_of own child (DataChanged path) = told NodeDataChanged path (at path own)
-events_of own child (ChildrenChanged path) = told NodeChildrenChanged path (at path child)
+    events_for NodeDeleted path (at path own) ++ events_for NodeDeleted path (others (at path own) (at path child))
+events_of own child (DataChanged path) = events_for NodeDataChanged path (at path own)
+events_of own child (ChildrenChanged path) = events_for NodeChildrenChanged path (at path child)
 
 abbrev pub own_after : Listed → Trigger → Listed
 own_after own (Created path) = but path own
@@ -68,7 +68,7 @@ abbrev pub AllInOrder : Listed → Listed → List Trigger → Type 0
 AllInOrder own child [] = Unit {0}
 AllInOrder own child (t ∷ ts) = InOrder own child t × AllInOrder (own_after own t) (child_after child t) ts
 
-abbrev pub fire_listed : Listed → Listed → List Trigger → Fired
+abbrev pub fire_listed : Listed → Listed → List Trigger → FireResult
 fire_listed own child [] = record { events = []; left = watches_on own child }
 fire_listed own child (t ∷ ts) =
     let rest = fire_listed (own_after own t) (child_after child t) ts in
@@ -79,7 +79,7 @@ unfolding IsStrictlySortedBy
 sorted [] h = tt
 sorted (n ∷ ns) h = (h.0, sorted ns h.1)
 
-watchers-listed : (path : Bytes) (ps : Listed) → watchers path (set.from_list ps) ≡ set.from_list (at path ps)
+watchers-listed : (path : Bytes) (ps : Listed) → watchers_of path (set.from_list ps) ≡ set.from_list (at path ps)
 watchers-listed path ps = set.same_set nat_cmp_total exact_unsigned _ _ (λ c.
     contains-watchers path (set.from_list ps) c
     ∙ set.contains-from_list watch_total ps (path, c)
@@ -87,9 +87,9 @@ watchers-listed path ps = set.same_set nat_cmp_total exact_unsigned _ _ (λ c.
     ∙ sym (set.contains-from_list nat_cmp_total (at path ps) c))
 
 in_number-at : (path : Bytes) (ps : Listed) → Rises (at path ps)
-    → in_number (watchers path (set.from_list ps)) ≡ at path ps
+    → sorted_connections (watchers_of path (set.from_list ps)) ≡ at path ps
 in_number-at path ps h =
-    ap (λ s. in_number s) (watchers-listed path ps) ∙ items-sorted (at path ps) (sorted (at path ps) h)
+    ap (λ s. sorted_connections s) (watchers-listed path ps) ∙ items-sorted (at path ps) (sorted (at path ps) h)
 
 any-others : (path : Bytes) (q : Bytes × ℕ) (ps : Listed)
     → list_any (eq_by_cmp watch_cmp q) (but path ps) ≡ (list_any (eq_by_cmp watch_cmp q) ps && not (same_path path q.0))
@@ -119,7 +119,7 @@ any-others path q (p ∷ ps) = by (any-others path q ps) (not (same_path path p.
     by rest false e x is =
         rest ∙ or_and x (list_any (eq_by_cmp watch_cmp q) ps) (not (same_path path q.0)) (λ t. same (is ∙ t) ∙ e)
 
-without-listed : (path : Bytes) (ps : Listed) → without_path path (set.from_list ps) ≡ set.from_list (but path ps)
+without-listed : (path : Bytes) (ps : Listed) → without_watches_on path (set.from_list ps) ≡ set.from_list (but path ps)
 without-listed path ps = set.same_set watch_total watch_exact _ _ (λ q.
     contains-without_path path (set.from_list ps) q
     ∙ ap (λ b. b && not (same_path path q.0)) (set.contains-from_list watch_total ps q)
@@ -127,23 +127,24 @@ without-listed path ps = set.same_set watch_total watch_exact _ _ (λ q.
     ∙ sym (set.contains-from_list watch_total (but path ps) q))
 
 each_but-at : (path : Bytes) (own child : Listed) → Rises (at path child)
-    → each_but (watchers path (set.from_list own)) (watchers path (set.from_list child))
+    → connections_not_told (watchers_of path (set.from_list own)) (watchers_of path (set.from_list child))
     ≡ others (at path own) (at path child)
 each_but-at path own child h = λ i. filter (λ (c : ℕ). not (has c i)) (in_number-at path child h i)
   where
-    has : (c : ℕ) → set.contains (watchers path (set.from_list own)) c ≡ list_any (eq_by_cmp nat_cmp c) (at path own)
+    has : (c : ℕ) → set.contains (watchers_of path (set.from_list own)) c ≡ list_any (eq_by_cmp nat_cmp c) (at path own)
     has c = ap (λ s. set.contains s c) (watchers-listed path own) ∙ set.contains-from_list nat_cmp_total (at path own) c
 
 tells-listed : (own child : Listed) (t : Trigger) → InOrder own child t
-    → tells (watches_on own child) t ≡ events_of own child t
-tells-listed own child (Created path) h = ap (told NodeCreated path) (in_number-at path own h)
+    → events_of_trigger (watches_on own child) t ≡ events_of own child t
+tells-listed own child (Created path) h = ap (events_for NodeCreated path) (in_number-at path own h)
 tells-listed own child (Deleted path) h =
-    λ i. told NodeDeleted path (in_number-at path own h.0 i) ++ told NodeDeleted path (each_but-at path own child h.1 i)
-tells-listed own child (DataChanged path) h = ap (told NodeDataChanged path) (in_number-at path own h)
-tells-listed own child (ChildrenChanged path) h = ap (told NodeChildrenChanged path) (in_number-at path child h)
+    λ i. events_for NodeDeleted path (in_number-at path own h.0 i)
+    ++ events_for NodeDeleted path (each_but-at path own child h.1 i)
+tells-listed own child (DataChanged path) h = ap (events_for NodeDataChanged path) (in_number-at path own h)
+tells-listed own child (ChildrenChanged path) h = ap (events_for NodeChildrenChanged path) (in_number-at path child h)
 
 after-listed : (own child : Listed) (t : Trigger)
-    → after (watches_on own child) t ≡ watches_on (own_after own t) (child_after child t)
+    → watches_after (watches_on own child) t ≡ watches_on (own_after own t) (child_after child t)
 after-listed own child (Created path) = λ i. record { own = without-listed path own i; child = set.from_list child }
 after-listed own child (Deleted path) =
     λ i. record { own = without-listed path own i; child = without-listed path child i }
@@ -155,6 +156,7 @@ pub evaluated : (own child : Listed) (ts : List Trigger) → AllInOrder own chil
     → fire (watches_on own child) ts ≡ fire_listed own child ts
 evaluated own child [] h = refl
 evaluated own child (t ∷ ts) h =
-    let rest : fire (after (watches_on own child) t) ts ≡ fire_listed (own_after own t) (child_after child t) ts =
+    let rest : fire (watches_after (watches_on own child) t) ts
+    ≡ fire_listed (own_after own t) (child_after child t) ts =
     ap (λ w. fire w ts) (after-listed own child t) ∙ evaluated (own_after own t) (child_after child t) ts h.1 in
     λ i. record { events = tells-listed own child t h.0 i ++ (rest i).events; left = (rest i).left }

@@ -17,9 +17,9 @@ use Rattle.ephemerals.specs.Orders.{Bytes, path_cmp}
 use Rattle.ephemerals.specs.Grouped.{all_pairs, by_bytes}
 use Rattle.ephemerals.proofs.Ascending.{any-ascending}
 use Rattle.ephemerals.proofs.Ties.{tied_then}
-use Rattle.watch_manager.specs.Pairs.{Connections, Pairs, watch_cmp, in_number}
+use Rattle.watch_manager.specs.Pairs.{ConnectionSet, WatchPairs, watch_cmp, sorted_connections}
 use Rattle.watch_manager.specs.Summary.{table_rank, watched_cmp, watched_in}
-use Rattle.watch_manager.specs.Ascending.{ascending, inserted}
+use Rattle.watch_manager.specs.Ascending.{sorted_distinct, with_inserted_keys}
 use Rattle.watch_manager.specs.Totals.{watched_total}
 use Rattle.watch_manager.specs.Inner.Listing.{path_rows, rows_of, AddsInOrder}
 use Rattle.watch_manager.specs.declared.watched.Table.{Table}
@@ -101,11 +101,11 @@ at_path path (c ∷ cs) q =
     and_comm false false = refl
 
 -- the connections of a set, in order or not
-any-in_number : (path : Bytes) (conns : Connections) (q : Bytes × ℕ)
-    → list_any (eq_by_cmp watch_cmp q) (map (λ (c : ℕ). (path, c)) (in_number conns))
+any-in_number : (path : Bytes) (conns : ConnectionSet) (q : Bytes × ℕ)
+    → list_any (eq_by_cmp watch_cmp q) (map (λ (c : ℕ). (path, c)) (sorted_connections conns))
     ≡ list_any (eq_by_cmp watch_cmp q) (map (λ (c : ℕ). (path, c)) (set.items conns))
 any-in_number path conns q =
-    at_path path (in_number conns) q
+    at_path path (sorted_connections conns) q
     ∙ ap (λ b. b && eq_by_cmp path_cmp q.0 path) (any-ascending nat_cmp_total (set.items conns) q.1)
     ∙ sym (at_path path (set.items conns) q)
 
@@ -114,21 +114,21 @@ path_rows-pairs : (table : Table) (path : Bytes) (conns : List ℕ)
 path_rows-pairs table path [] = refl
 path_rows-pairs table path (c ∷ cs) = ap (λ rows. watched_in table (path, c) ∷ rows) (path_rows-pairs table path cs)
 
-any-path_rows : (table : Table) (path : Bytes) (conns : Connections) (q : Watched)
-    → list_any (eq_by_cmp watched_cmp q) (path_rows table path (in_number conns))
+any-path_rows : (table : Table) (path : Bytes) (conns : ConnectionSet) (q : Watched)
+    → list_any (eq_by_cmp watched_cmp q) (path_rows table path (sorted_connections conns))
     ≡ (list_any (eq_by_cmp watch_cmp (q.path, q.conn)) (map (λ (c : ℕ). (path, c)) (set.items conns))
     && same_table q table)
 any-path_rows table path conns q =
-    ap (list_any (eq_by_cmp watched_cmp q)) (path_rows-pairs table path (in_number conns))
-    ∙ any-watched_in table (map (λ (c : ℕ). (path, c)) (in_number conns)) q
+    ap (list_any (eq_by_cmp watched_cmp q)) (path_rows-pairs table path (sorted_connections conns))
+    ∙ any-watched_in table (map (λ (c : ℕ). (path, c)) (sorted_connections conns)) q
     ∙ ap (λ b. b && same_table q table) (any-in_number path conns (q.path, q.conn))
 
-any-rows_of : (table : Table) (es : List (Bytes × Connections)) (q : Watched)
+any-rows_of : (table : Table) (es : List (Bytes × ConnectionSet)) (q : Watched)
     → list_any (eq_by_cmp watched_cmp q) (rows_of table es)
     ≡ (list_any (eq_by_cmp watch_cmp (q.path, q.conn)) (all_pairs es) && same_table q table)
 any-rows_of table [] q = refl
 any-rows_of table (e ∷ es) q =
-    list_any-append (eq_by_cmp watched_cmp q) (path_rows table e.0 (in_number e.1)) (rows_of table es)
+    list_any-append (eq_by_cmp watched_cmp q) (path_rows table e.0 (sorted_connections e.1)) (rows_of table es)
     ∙ (λ i. any-path_rows table e.0 e.1 q i || any-rows_of table es q i)
     ∙ and_or (list_any (eq_by_cmp watch_cmp (q.path, q.conn)) (map (λ (c : ℕ). (e.0, c)) (set.items e.1)))
     (list_any (eq_by_cmp watch_cmp (q.path, q.conn)) (all_pairs es)) (same_table q table)
@@ -137,7 +137,8 @@ any-rows_of table (e ∷ es) q =
     (all_pairs es)))
 
 -- the rows of a table are its watches
-any-table : (table : Table) (es : List (Bytes × Connections)) (watches : Pairs) → set.from_list (all_pairs es) ≡ watches
+any-table : (table : Table) (es : List (Bytes × ConnectionSet)) (watches : WatchPairs)
+    → set.from_list (all_pairs es) ≡ watches
     → (q : Watched) → list_any (eq_by_cmp watched_cmp q) (rows_of table es)
     ≡ list_any (eq_by_cmp watched_cmp q) (map (watched_in table) (set.items watches))
 any-table table es watches are q =
@@ -163,38 +164,41 @@ sorted_bytes {X} {Z} (e ∷ es) s = (each es s.0, sorted_bytes es s.1)
 -- ---- a table, added path by path
 
 -- the rest leads where all the watches lead
-pub record Adding (table : Table) (watches : Pairs) (old now : List Watched) (rest : List (Bytes × Connections))
+pub record Adding (table : Table) (watches : WatchPairs) (old now : List Watched) (rest : List (Bytes × ConnectionSet))
     : Type 0 where
-  pub all : List (Bytes × Connections)
+  pub all : List (Bytes × ConnectionSet)
   pub are : set.from_list (all_pairs all) ≡ watches
-  pub leads : inserted watched_cmp now (rows_of table rest) ≡ inserted watched_cmp old (rows_of table all)
+  pub leads : with_inserted_keys watched_cmp now (rows_of table rest)
+      ≡ with_inserted_keys watched_cmp old (rows_of table all)
 
 inserted-append : (keys xs ys : List Watched)
-    → inserted watched_cmp keys (xs ++ ys) ≡ inserted watched_cmp (inserted watched_cmp keys xs) ys
+    → with_inserted_keys watched_cmp keys (xs ++ ys)
+    ≡ with_inserted_keys watched_cmp (with_inserted_keys watched_cmp keys xs) ys
 inserted-append keys [] ys = refl
 inserted-append keys (x ∷ xs) ys = inserted-append (insert_key watched_cmp keys x) xs ys
 
-pub begins : (table : Table) (watches : Pairs) (old : List Watched) (all : List (Bytes × Connections))
+pub begins : (table : Table) (watches : WatchPairs) (old : List Watched) (all : List (Bytes × ConnectionSet))
     → set.from_list (all_pairs all) ≡ watches → Adding table watches old old all
 begins table watches old all are = record { all = all; are = are; leads = refl }
 
-pub adds : (table : Table) (watches : Pairs) (old now new : List Watched) (path : Bytes) (conns : Connections)
-    (rest : List (Bytes × Connections)) → Adding table watches old now ((path, conns) ∷ rest)
-    → new ≡ inserted watched_cmp now (path_rows table path (in_number conns)) → Adding table watches old new rest
+pub adds : (table : Table) (watches : WatchPairs) (old now new : List Watched) (path : Bytes) (conns : ConnectionSet)
+    (rest : List (Bytes × ConnectionSet)) → Adding table watches old now ((path, conns) ∷ rest)
+    → new ≡ with_inserted_keys watched_cmp now (path_rows table path (sorted_connections conns))
+    → Adding table watches old new rest
 adds table watches old now new path conns rest h is = record {
   all = h.all;
   are = h.are;
   leads =
-      ap (λ keys. inserted watched_cmp keys (rows_of table rest)) is
-      ∙ sym (inserted-append now (path_rows table path (in_number conns)) (rows_of table rest))
+      ap (λ keys. with_inserted_keys watched_cmp keys (rows_of table rest)) is
+      ∙ sym (inserted-append now (path_rows table path (sorted_connections conns)) (rows_of table rest))
       ∙ h.leads;
 }
 
-pub ends : (table : Table) (watches : Pairs) (old now : List Watched) → Adding table watches old now []
+pub ends : (table : Table) (watches : WatchPairs) (old now : List Watched) → Adding table watches old now []
     → AddsInOrder old (map (watched_in table) (set.items watches)) now
 ends table watches old now h before is =
     h.leads
-    ∙ ap (λ keys. inserted watched_cmp keys (rows_of table h.all)) is
+    ∙ ap (λ keys. with_inserted_keys watched_cmp keys (rows_of table h.all)) is
     ∙ inserted-ascending watched_total watched_exact before (rows_of table h.all)
     ∙ same_ascending watched_total watched_exact (before ++ rows_of table h.all)
     (before ++ map (watched_in table) (set.items watches)) (λ q.

@@ -6,12 +6,12 @@ use Rattle.std.proofs.lemmas.Map.Views.{tells_apart}
 use Rattle.std.proofs.lemmas.Map.Lookups.{exact_unsigned}
 use Rattle.std.specs.FinSet as set
 use Rattle.ephemerals.specs.Orders.{Bytes}
-use Rattle.watch_manager.specs.Pairs.{Pairs, watch_cmp, without_connection, same_connection}
+use Rattle.watch_manager.specs.Pairs.{WatchPairs, watch_cmp, without_connection, same_connection}
 use Rattle.watch_manager.specs.Laws.{OthersKeepWatches}
 use Rattle.watch_manager.proofs.Totals.{watch_total, watch_exact}
 use Rattle.watch_manager.proofs.Watchers.{contains-without_connection}
 
-sets : (pairs : Pairs) (path : Bytes) (conn : ℕ) (p : Bytes) (other : ℕ) → other ≢ conn
+sets : (pairs : WatchPairs) (path : Bytes) (conn : ℕ) (p : Bytes) (other : ℕ) → other ≢ conn
     → set.contains (set.insert pairs (path, conn)) (p, other) ≡ set.contains pairs (p, other)
 sets pairs path conn p other apart =
     set.contains-insert watch_total pairs (path, conn) (p, other)
@@ -22,7 +22,7 @@ sets pairs path conn p other apart =
     by true same = absurd (apart (ap (λ (q : Bytes × ℕ). q.1) (tells_apart watch_exact (p, other) (path, conn) same)))
     by false differ = refl
 
-drops : (pairs : Pairs) (conn : ℕ) (p : Bytes) (other : ℕ) → other ≢ conn
+drops : (pairs : WatchPairs) (conn : ℕ) (p : Bytes) (other : ℕ) → other ≢ conn
     → set.contains (without_connection conn pairs) (p, other) ≡ set.contains pairs (p, other)
 drops pairs conn p other apart = contains-without_connection conn pairs (p, other)
     ∙ by (same_connection conn other) refl

@@ -8,9 +8,9 @@ use Rattle.std.specs.FinSet as set
 use Rattle.ephemerals.specs.Orders.{Bytes}
 use Rattle.data_tree.specs.declared.outcome.Trigger.{Trigger}
 use Rattle.data_tree.specs.declared.outcome.Trigger.TheVariants.{Created, Deleted, DataChanged, ChildrenChanged}
-use Rattle.watch_manager.specs.Pairs.{Connections, Pairs, in_number, watchers, without_path}
-use Rattle.watch_manager.specs.Watching.{Watching}
-use Rattle.watch_manager.specs.Watches.{told, each_but, tells, after, fire}
+use Rattle.watch_manager.specs.Pairs.{ConnectionSet, WatchPairs, sorted_connections, watchers_of, without_watches_on}
+use Rattle.watch_manager.specs.Watching.{WatchTables}
+use Rattle.watch_manager.specs.Watches.{events_for, connections_not_told, events_of_trigger, watches_after, fire}
 use Rattle.watch_manager.specs.declared.event.EventKind.{EventKind}
 use Rattle.ephemerals.proofs.Ascending.{any-ascending}
 use Rattle.watch_manager.proofs.Tables.{unwatched}
@@ -23,12 +23,12 @@ rest_empty : {A : Type 0} (xs ys : List A) → xs ++ ys ≡ [] → ys ≡ []
 rest_empty [] ys e = e
 rest_empty (x ∷ xs) ys e = absurd (let more : length (x ∷ (xs ++ ys)) ≡ 0 = ap length e in omega (arith, more))
 
-none_told : (kind : EventKind) (path : Bytes) (ns : List ℕ) → told kind path ns ≡ [] → ns ≡ []
+none_told : (kind : EventKind) (path : Bytes) (ns : List ℕ) → events_for kind path ns ≡ [] → ns ≡ []
 none_told kind path [] e = refl
 none_told kind path (n ∷ ns) e =
-    absurd (let more : length (told kind path (n ∷ ns)) ≡ 0 = ap length e in omega (arith, more))
+    absurd (let more : length (events_for kind path (n ∷ ns)) ≡ 0 = ap length e in omega (arith, more))
 
-none_listed : (conns : Connections) → in_number conns ≡ [] → conns ≡ set.empty
+none_listed : (conns : ConnectionSet) → sorted_connections conns ≡ [] → conns ≡ set.empty
 none_listed conns e = set.same_set nat_cmp_total exact_unsigned _ _ (λ q.
     set.contains-items conns q
     ∙ sym (any-ascending nat_cmp_total (set.items conns) q)
@@ -42,25 +42,28 @@ none_kept keep (n ∷ ns) all e =
     ≡ 0 = ap (λ b. length (cond b (n ∷ filter keep ns) (filter keep ns))) (sym (all n))
     ∙ ap length e in omega (arith, more))
 
-untouched : (kind : EventKind) (path : Bytes) (pairs : Pairs) → told kind path (in_number (watchers path pairs)) ≡ []
-    → without_path path pairs ≡ pairs
+untouched : (kind : EventKind) (path : Bytes) (pairs : WatchPairs)
+    → events_for kind path (sorted_connections (watchers_of path pairs)) ≡ []
+    → without_watches_on path pairs ≡ pairs
 untouched kind path pairs e =
-    sym (unwatched path pairs (none_listed (watchers path pairs)
-    (none_told kind path (in_number (watchers path pairs)) e)))
+    sym (unwatched path pairs (none_listed (watchers_of path pairs)
+    (none_told kind path (sorted_connections (watchers_of path pairs)) e)))
 
-untouched-others : (kind : EventKind) (path : Bytes) (own child : Pairs) → watchers path own ≡ set.empty
-    → told kind path (each_but (watchers path own) (watchers path child)) ≡ [] → without_path path child ≡ child
+untouched-others : (kind : EventKind) (path : Bytes) (own child : WatchPairs) → watchers_of path own ≡ set.empty
+    → events_for kind path (connections_not_told (watchers_of path own) (watchers_of path child)) ≡ []
+    → without_watches_on path child ≡ child
 untouched-others kind path own child none e =
-    sym (unwatched path child (none_listed (watchers path child)
-    (none_kept (λ (c : ℕ). not (set.contains (watchers path own) c)) (in_number (watchers path child))
+    sym (unwatched path child (none_listed (watchers_of path child)
+    (none_kept (λ (c : ℕ). not (set.contains (watchers_of path own) c)) (sorted_connections (watchers_of path child))
     (λ c. ap (λ s. not (set.contains s c)) none ∙ ap not (set.contains-empty nat_cmp c))
-    (none_told kind path (each_but (watchers path own) (watchers path child)) e))))
+    (none_told kind path (connections_not_told (watchers_of path own) (watchers_of path child)) e))))
 
-after-silent : (w : Watching) (t : Trigger) → tells w t ≡ [] → after w t ≡ w
+after-silent : (w : WatchTables) (t : Trigger) → events_of_trigger w t ≡ [] → watches_after w t ≡ w
 after-silent w (Created path) e = λ i. record { own = untouched _ path w.own e i; child = w.child }
 after-silent w (Deleted path) e =
     let first = front_empty _ _ e in
-    let none = none_listed (watchers path w.own) (none_told _ path (in_number (watchers path w.own)) first) in
+    let none = none_listed (watchers_of path w.own)
+    (none_told _ path (sorted_connections (watchers_of path w.own)) first) in
     λ i. record {
       own = untouched _ path w.own first i;
       child = untouched-others _ path w.own w.child none
@@ -69,8 +72,8 @@ after-silent w (Deleted path) e =
 after-silent w (DataChanged path) e = λ i. record { own = untouched _ path w.own e i; child = w.child }
 after-silent w (ChildrenChanged path) e = λ i. record { own = w.own; child = untouched _ path w.child e i }
 
-pub silent : (w : Watching) (ts : List Trigger) → (fire w ts).events ≡ [] → w ≡ (fire w ts).left
+pub silent : (w : WatchTables) (ts : List Trigger) → (fire w ts).events ≡ [] → w ≡ (fire w ts).left
 silent w [] e = refl
 silent w (t ∷ ts) e =
-    sym (after-silent w t (front_empty (tells w t) (fire (after w t) ts).events e))
-    ∙ silent (after w t) ts (rest_empty (tells w t) (fire (after w t) ts).events e)
+    sym (after-silent w t (front_empty (events_of_trigger w t) (fire (watches_after w t) ts).events e))
+    ∙ silent (watches_after w t) ts (rest_empty (events_of_trigger w t) (fire (watches_after w t) ts).events e)

@@ -7,11 +7,11 @@ use Rattle.std.specs.Cmp.{nat_cmp_total, eq_by_cmp_equiv}
 use Rattle.std.proofs.lemmas.Map.Views.{tells_apart}
 use Rattle.std.proofs.lemmas.Map.Lookups.{exact_unsigned, exact_bytes}
 use Rattle.std.specs.FinSet as set
-use Rattle.ephemerals.specs.Orders.{Bytes, Names, path_cmp, in_order}
+use Rattle.ephemerals.specs.Orders.{Bytes, Names, path_cmp, sorted_names}
 use Rattle.ephemerals.proofs.Ties.{tied_then}
 use Rattle.ephemerals.proofs.Totals.{path_total}
-use Rattle.watch_manager.specs.Pairs.{Connections, Pairs, watch_cmp, in_number, watchers, without_path, without_connection, same_path, same_connection}
-use Rattle.watch_manager.specs.Inner.Grouped.{pair_cmp, ConnPairs, AgreeOn, without_conns, without_paths, without_key}
+use Rattle.watch_manager.specs.Pairs.{ConnectionSet, WatchPairs, watch_cmp, sorted_connections, watchers_of, without_watches_on, without_connection, same_path, same_connection}
+use Rattle.watch_manager.specs.Inner.Grouped.{pair_cmp, ConnPairs, AgreeOn, without_conns, without_watched_paths, without_key}
 use Rattle.watch_manager.proofs.Totals.{watch_total, watch_exact, conn_total, conn_exact}
 use Rattle.ephemerals.proofs.Ascending.{any-ascending}
 use Rattle.watch_manager.proofs.Watchers.{contains-watchers, contains-without_path, contains-without_connection}
@@ -32,7 +32,7 @@ pub agree-empty : AgreeOn set.empty set.empty
 agree-empty path conn =
     set.contains-empty watch_cmp (path, conn) ∙ sym (set.contains-empty (pair_cmp nat_cmp path_cmp) (conn, path))
 
-pub agree-insert : (pairs : Pairs) (turn : ConnPairs) (p : Bytes) (c : ℕ) → AgreeOn pairs turn
+pub agree-insert : (pairs : WatchPairs) (turn : ConnPairs) (p : Bytes) (c : ℕ) → AgreeOn pairs turn
     → AgreeOn (set.insert pairs (p, c)) (set.insert turn (c, p))
 agree-insert pairs turn p c agree q d =
     set.contains-insert watch_total pairs (p, c) (q, d)
@@ -63,8 +63,8 @@ contains-without_conns p (c ∷ cs) turn d q =
     by false y true z = refl
     by false y false z = refl
 
-contains-without_paths : (c : ℕ) (ps : List Bytes) (pairs : Pairs) (q : Bytes) (d : ℕ)
-    → set.contains (without_paths c ps pairs) (q, d)
+contains-without_paths : (c : ℕ) (ps : List Bytes) (pairs : WatchPairs) (q : Bytes) (d : ℕ)
+    → set.contains (without_watched_paths c ps pairs) (q, d)
     ≡ (set.contains pairs (q, d) && not (eq_by_cmp nat_cmp d c && list_any (eq_by_cmp path_cmp q) ps))
 contains-without_paths c [] pairs q d = by (set.contains pairs (q, d)) (eq_by_cmp nat_cmp d c)
   where
@@ -98,17 +98,19 @@ there true b c same = ap (λ x. x && not c) (same refl) ∙ by c ∙ sym (and-fa
 there false b c same = refl
 
 -- the path is taken out at each connection that watches it
-pub agree-without_path : (pairs : Pairs) (turn : ConnPairs) (p : Bytes) (conns : Connections) → AgreeOn pairs turn
-    → conns ≡ watchers p pairs → AgreeOn (without_path p pairs) (without_conns p (in_number conns) turn)
+pub agree-without_path : (pairs : WatchPairs) (turn : ConnPairs) (p : Bytes) (conns : ConnectionSet)
+    → AgreeOn pairs turn
+    → conns ≡ watchers_of p pairs → AgreeOn (without_watches_on p pairs)
+    (without_conns p (sorted_connections conns) turn)
 agree-without_path pairs turn p conns agree is q d =
     contains-without_path p pairs (q, d)
     ∙ ap (λ b. set.contains pairs (q, d) && not b) ((eq_by_cmp_equiv path_total).symm p q)
     ∙ sym (there (eq_by_cmp path_cmp q p) (set.contains pairs (q, d)) (set.contains pairs (p, d))
     (λ t. ap (λ x. set.contains pairs (x, d)) (tells_apart exact_bytes q p t)))
     ∙ (λ i. agree q d i && not (eq_by_cmp path_cmp q p && sym listed i))
-    ∙ sym (contains-without_conns p (in_number conns) turn d q)
+    ∙ sym (contains-without_conns p (sorted_connections conns) turn d q)
   where
-    listed : list_any (eq_by_cmp nat_cmp d) (in_number conns) ≡ set.contains pairs (p, d)
+    listed : list_any (eq_by_cmp nat_cmp d) (sorted_connections conns) ≡ set.contains pairs (p, d)
     listed =
         any-ascending nat_cmp_total (set.items conns) d
         ∙ sym (set.contains-items conns d)
@@ -116,7 +118,7 @@ agree-without_path pairs turn p conns agree is q d =
         ∙ contains-watchers p pairs d
 
 -- a path that nobody watches
-pub unwatched : (p : Bytes) (pairs : Pairs) → watchers p pairs ≡ set.empty → pairs ≡ without_path p pairs
+pub unwatched : (p : Bytes) (pairs : WatchPairs) → watchers_of p pairs ≡ set.empty → pairs ≡ without_watches_on p pairs
 unwatched p pairs none =
     set.same_set watch_total watch_exact _ _ (λ r. by r.0 r.1 (same_path p r.0) refl
     ∙ sym (contains-without_path p pairs r))
@@ -131,25 +133,25 @@ unwatched p pairs none =
     by q d false e = sym (and-true (set.contains pairs (q, d)))
 
 -- the connection is taken out at each path that it watches
-pub are_dropped : (pairs : Pairs) (turn : ConnPairs) (c : ℕ) (paths : Names) → AgreeOn pairs turn
+pub are_dropped : (pairs : WatchPairs) (turn : ConnPairs) (c : ℕ) (paths : Names) → AgreeOn pairs turn
     → ((p : Bytes) → set.contains paths p ≡ set.contains turn (c, p))
-    → without_paths c (in_order paths) pairs ≡ without_connection c pairs
+    → without_watched_paths c (sorted_names paths) pairs ≡ without_connection c pairs
 are_dropped pairs turn c paths agree is = set.same_set watch_total watch_exact _ _ (λ r.
-    contains-without_paths c (in_order paths) pairs r.0 r.1
+    contains-without_paths c (sorted_names paths) pairs r.0 r.1
     ∙ ap (λ b. set.contains pairs r && not (eq_by_cmp nat_cmp r.1 c && b)) (listed r.0)
     ∙ there (eq_by_cmp nat_cmp r.1 c) (set.contains pairs r) (set.contains pairs (r.0, c))
     (λ t. ap (λ x. set.contains pairs (r.0, x)) (tells_apart exact_unsigned r.1 c t))
     ∙ ap (λ b. set.contains pairs r && not b) ((eq_by_cmp_equiv nat_cmp_total).symm r.1 c)
     ∙ sym (contains-without_connection c pairs r))
   where
-    listed : (p : Bytes) → list_any (eq_by_cmp path_cmp p) (in_order paths) ≡ set.contains pairs (p, c)
+    listed : (p : Bytes) → list_any (eq_by_cmp path_cmp p) (sorted_names paths) ≡ set.contains pairs (p, c)
     listed p =
         any-ascending path_total (set.items paths) p
         ∙ sym (set.contains-items paths p)
         ∙ is p
         ∙ sym (agree p c)
 
-pub agree-without_connection : (pairs : Pairs) (turn : ConnPairs) (c : ℕ) → AgreeOn pairs turn
+pub agree-without_connection : (pairs : WatchPairs) (turn : ConnPairs) (c : ℕ) → AgreeOn pairs turn
     → AgreeOn (without_connection c pairs) (without_key c turn)
 agree-without_connection pairs turn c agree q d =
     contains-without_connection c pairs (q, d)
@@ -158,7 +160,7 @@ agree-without_connection pairs turn c agree q d =
     (λ x tie. ap (λ (p : ℕ × Bytes). not (same_connection c p.0)) (sym (conn_exact (d, q) x tie))))
 
 -- a connection that watches nothing
-pub watches_nothing : (pairs : Pairs) (turn : ConnPairs) (c : ℕ) → AgreeOn pairs turn
+pub watches_nothing : (pairs : WatchPairs) (turn : ConnPairs) (c : ℕ) → AgreeOn pairs turn
     → ((p : Bytes) → set.contains turn (c, p) ≡ false) → pairs ≡ without_connection c pairs
 watches_nothing pairs turn c agree none =
     set.same_set watch_total watch_exact _ _ (λ r. by r.0 r.1 (same_connection c r.1) refl

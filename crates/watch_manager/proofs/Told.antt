@@ -17,9 +17,9 @@ use Rattle.std.specs.FinSet as set
 use Rattle.ephemerals.specs.Orders.{Bytes}
 use Rattle.data_tree.specs.declared.outcome.Trigger.{Trigger}
 use Rattle.data_tree.specs.declared.outcome.Trigger.TheVariants.{Created, Deleted, DataChanged, ChildrenChanged}
-use Rattle.watch_manager.specs.Pairs.{Connections, Pairs, in_number, watchers, without_path, without_connection, same_connection}
-use Rattle.watch_manager.specs.Watching.{Watching, dropped}
-use Rattle.watch_manager.specs.Watches.{told, each_but, tells, after, fire}
+use Rattle.watch_manager.specs.Pairs.{ConnectionSet, WatchPairs, sorted_connections, watchers_of, without_watches_on, without_connection, same_connection}
+use Rattle.watch_manager.specs.Watching.{WatchTables, without_watches_of}
+use Rattle.watch_manager.specs.Watches.{events_for, connections_not_told, events_of_trigger, watches_after, fire}
 use Rattle.watch_manager.specs.Laws.{AllPass, WatchersPass}
 use Rattle.watch_manager.specs.declared.event.Event.{Event}
 use Rattle.watch_manager.specs.declared.event.EventKind.{EventKind}
@@ -66,30 +66,30 @@ all_members test (n ∷ ns) h = (
 )
 
 -- what all members of a set have, each of them has in the list
-in_number-all : (test : ℕ → Bool) (conns : Connections) → ((q : ℕ) → set.contains conns q ≡ true → test q ≡ true)
-    → AllByRecursion (λ q. test q ≡ true) (in_number conns)
+in_number-all : (test : ℕ → Bool) (conns : ConnectionSet) → ((q : ℕ) → set.contains conns q ≡ true → test q ≡ true)
+    → AllByRecursion (λ q. test q ≡ true) (sorted_connections conns)
 in_number-all test conns h =
-    all_members test (in_number conns) (λ q t. h q
+    all_members test (sorted_connections conns) (λ q t. h q
     (set.contains-items conns q ∙ sym (any-ascending nat_cmp_total (set.items conns) q) ∙ t))
 
 -- what a list of connections has, who is told has
 told-all : (test : ℕ → Bool) (kind : EventKind) (path : Bytes) (ns : List ℕ) → AllByRecursion (λ q. test q ≡ true) ns
-    → AllByRecursion (λ (e : ℕ × Event). test e.0 ≡ true) (told kind path ns)
+    → AllByRecursion (λ (e : ℕ × Event). test e.0 ≡ true) (events_for kind path ns)
 told-all test kind path [] h = tt
 told-all test kind path (n ∷ ns) h = (h.0, told-all test kind path ns h.1)
 
-watchers-all : (test : ℕ → Bool) (path : Bytes) (pairs : Pairs) → AllPass test pairs
-    → AllByRecursion (λ q. test q ≡ true) (in_number (watchers path pairs))
+watchers-all : (test : ℕ → Bool) (path : Bytes) (pairs : WatchPairs) → AllPass test pairs
+    → AllByRecursion (λ q. test q ≡ true) (sorted_connections (watchers_of path pairs))
 watchers-all test path pairs h =
-    in_number-all test (watchers path pairs) (λ q t. h path q (sym (contains-watchers path pairs q) ∙ t))
+    in_number-all test (watchers_of path pairs) (λ q t. h path q (sym (contains-watchers path pairs q) ∙ t))
 
-tells-all : (test : ℕ → Bool) (w : Watching) (t : Trigger) → WatchersPass test w
-    → AllByRecursion (λ (e : ℕ × Event). test e.0 ≡ true) (tells w t)
+tells-all : (test : ℕ → Bool) (w : WatchTables) (t : Trigger) → WatchersPass test w
+    → AllByRecursion (λ (e : ℕ × Event). test e.0 ≡ true) (events_of_trigger w t)
 tells-all test w (Created path) h = told-all test _ path _ (watchers-all test path w.own h.0)
 tells-all test w (Deleted path) h =
     all_append (λ (e : ℕ × Event). test e.0 ≡ true) _ _ (told-all test _ path _ (watchers-all test path w.own h.0))
-    (told-all test _ path _ (all_filter (λ q. test q ≡ true) (λ (c : ℕ). not (set.contains (watchers path w.own) c))
-    (in_number (watchers path w.child)) (watchers-all test path w.child h.1)))
+    (told-all test _ path _ (all_filter (λ q. test q ≡ true) (λ (c : ℕ). not (set.contains (watchers_of path w.own) c))
+    (sorted_connections (watchers_of path w.child)) (watchers-all test path w.child h.1)))
 tells-all test w (DataChanged path) h = told-all test _ path _ (watchers-all test path w.own h.0)
 tells-all test w (ChildrenChanged path) h = told-all test _ path _ (watchers-all test path w.child h.1)
 
@@ -97,24 +97,25 @@ both_front : (a b : Bool) → (a && b) ≡ true → a ≡ true
 both_front true b e = refl
 both_front false b e = e
 
-without_path-all : (test : ℕ → Bool) (path : Bytes) (pairs : Pairs) → AllPass test pairs
-    → AllPass test (without_path path pairs)
+without_path-all : (test : ℕ → Bool) (path : Bytes) (pairs : WatchPairs) → AllPass test pairs
+    → AllPass test (without_watches_on path pairs)
 without_path-all test path pairs h p c t = h p c (both_front _ _ (sym (contains-without_path path pairs (p, c)) ∙ t))
 
-after-all : (test : ℕ → Bool) (w : Watching) (t : Trigger) → WatchersPass test w → WatchersPass test (after w t)
+after-all : (test : ℕ → Bool) (w : WatchTables) (t : Trigger) → WatchersPass test w
+    → WatchersPass test (watches_after w t)
 after-all test w (Created path) h = (without_path-all test path w.own h.0, h.1)
 after-all test w (Deleted path) h = (without_path-all test path w.own h.0, without_path-all test path w.child h.1)
 after-all test w (DataChanged path) h = (without_path-all test path w.own h.0, h.1)
 after-all test w (ChildrenChanged path) h = (h.0, without_path-all test path w.child h.1)
 
-pub fire-all : (test : ℕ → Bool) (w : Watching) (ts : List Trigger) → WatchersPass test w
+pub fire-all : (test : ℕ → Bool) (w : WatchTables) (ts : List Trigger) → WatchersPass test w
     → AllByRecursion (λ (e : ℕ × Event). test e.0 ≡ true) (fire w ts).events × WatchersPass test (fire w ts).left
 fire-all test w [] h = (tt, h)
 fire-all test w (t ∷ ts) h =
-    let rest = fire-all test (after w t) ts (after-all test w t h) in
+    let rest = fire-all test (watches_after w t) ts (after-all test w t h) in
     (all_append (λ (e : ℕ × Event). test e.0 ≡ true) _ _ (tells-all test w t h) rest.0, rest.1)
 
-without_connection-all : (test : ℕ → Bool) (conn : ℕ) (pairs : Pairs)
+without_connection-all : (test : ℕ → Bool) (conn : ℕ) (pairs : WatchPairs)
     → AllPass (λ c. test c || same_connection conn c) pairs → AllPass test (without_connection conn pairs)
 without_connection-all test conn pairs h p c t =
     by (set.contains pairs (p, c)) (same_connection conn c) (test c) (h p c)
@@ -126,8 +127,9 @@ without_connection-all test conn pairs h p c t =
     by true false false h e = h refl
     by false same passes h e = absurd (true≢false (sym e))
 
-pub dropped-all : (test : ℕ → Bool) (w : Watching) (conn : ℕ) → WatchersPass (λ c. test c || same_connection conn c) w
-    → WatchersPass test (dropped conn w)
+pub dropped-all : (test : ℕ → Bool) (w : WatchTables) (conn : ℕ)
+    → WatchersPass (λ c. test c || same_connection conn c) w
+    → WatchersPass test (without_watches_of conn w)
 dropped-all test w conn h = (without_connection-all test conn w.own h.0, without_connection-all test conn w.child h.1)
 
 -- a set's list has each connection once
@@ -147,10 +149,10 @@ unfolding IsStrictlySortedBy
 sorted_keys [] h = tt
 sorted_keys (e ∷ es) h = (all_above e.0 es (front_holds _ _ h), sorted_keys es (rest_holds _ _ h))
 
-in_number-distinct : (conns : Connections) → IsDistinct same_connection (in_number conns)
+in_number-distinct : (conns : ConnectionSet) → IsDistinct same_connection (sorted_connections conns)
 in_number-distinct conns =
     let m = finmap.from_entries {R = nat_cmp} (map (λ (conn : ℕ). (conn, tt {0})) (set.items conns)) in
-    IsDistinct-from_sorted nat_cmp (in_number conns) (sorted_keys (finmap.entries m) (finmap.entries_sorted m))
+    IsDistinct-from_sorted nat_cmp (sorted_connections conns) (sorted_keys (finmap.entries m) (finmap.entries_sorted m))
 
 distinct_filter : (keep : ℕ → Bool) (ns : List ℕ) → IsDistinct same_connection ns
     → IsDistinct same_connection (filter keep ns)
@@ -172,7 +174,7 @@ distinct_append (n ∷ ns) ms g h apart =
     (all_append (λ m. same_connection n m ≡ false) ns ms g.0 apart.0, distinct_append ns ms g.1 h apart.1)
 
 told-connections : (kind : EventKind) (path : Bytes) (ns : List ℕ)
-    → map (λ (e : ℕ × Event). e.0) (told kind path ns) ≡ ns
+    → map (λ (e : ℕ × Event). e.0) (events_for kind path ns) ≡ ns
 told-connections kind path [] = refl
 told-connections kind path (n ∷ ns) = ap (λ ms. n ∷ ms) (told-connections kind path ns)
 
@@ -182,7 +184,7 @@ map-append [] ys = refl
 map-append (x ∷ xs) ys = ap (λ ns. x.0 ∷ ns) (map-append xs ys)
 
 -- who is passed over is none of those who were told
-apart_from : (already : Connections) (n : ℕ) (ms : List ℕ) → set.contains already n ≡ true
+apart_from : (already : ConnectionSet) (n : ℕ) (ms : List ℕ) → set.contains already n ≡ true
     → AllByRecursion (λ m. not (set.contains already m) ≡ true) ms
     → AllByRecursion (λ m. same_connection n m ≡ false) ms
 apart_from already n ms here =
@@ -196,30 +198,32 @@ apart_from already n ms here =
         ∙ ap not here))
     by m false e out = e
 
-parts-distinct : (already conns : Connections)
-    → IsDistinct same_connection (in_number already ++ each_but already conns)
+parts-distinct : (already conns : ConnectionSet)
+    → IsDistinct same_connection (sorted_connections already ++ connections_not_told already conns)
 parts-distinct already conns =
-    distinct_append (in_number already) (each_but already conns) (in_number-distinct already)
-    (distinct_filter (λ (c : ℕ). not (set.contains already c)) (in_number conns) (in_number-distinct conns))
+    distinct_append (sorted_connections already) (connections_not_told already conns) (in_number-distinct already)
+    (distinct_filter (λ (c : ℕ). not (set.contains already c)) (sorted_connections conns) (in_number-distinct conns))
     (all_mapped (λ n. set.contains already n ≡ true) (λ n. AllByRecursion (λ m. same_connection n m ≡ false)
-    (each_but already conns))
-    (λ n here. apart_from already n (each_but already conns) here
-    (all_kept (λ (c : ℕ). not (set.contains already c)) (in_number conns)))
-    (in_number already) (in_number-all (λ c. set.contains already c) already (λ q t. t)))
+    (connections_not_told already conns))
+    (λ n here. apart_from already n (connections_not_told already conns) here
+    (all_kept (λ (c : ℕ). not (set.contains already c)) (sorted_connections conns)))
+    (sorted_connections already) (in_number-all (λ c. set.contains already c) already (λ q t. t)))
 
-part-distinct : (kind : EventKind) (path : Bytes) (conns : Connections)
-    → IsDistinct same_connection (map (λ (e : ℕ × Event). e.0) (told kind path (in_number conns)))
+part-distinct : (kind : EventKind) (path : Bytes) (conns : ConnectionSet)
+    → IsDistinct same_connection (map (λ (e : ℕ × Event). e.0) (events_for kind path (sorted_connections conns)))
 part-distinct kind path conns =
-    subst (IsDistinct same_connection) (sym (told-connections kind path (in_number conns))) (in_number-distinct conns)
+    subst (IsDistinct same_connection) (sym (told-connections kind path (sorted_connections conns)))
+    (in_number-distinct conns)
 
-pub told_once : (w : Watching) (t : Trigger) → IsDistinct same_connection (map (λ (e : ℕ × Event). e.0) (tells w t))
-told_once w (Created path) = part-distinct _ path (watchers path w.own)
+pub told_once : (w : WatchTables) (t : Trigger)
+    → IsDistinct same_connection (map (λ (e : ℕ × Event). e.0) (events_of_trigger w t))
+told_once w (Created path) = part-distinct _ path (watchers_of path w.own)
 told_once w (Deleted path) =
     subst (IsDistinct same_connection)
-    (sym (map-append (told NodeDeleted path (in_number (watchers path w.own)))
-    (told NodeDeleted path (each_but (watchers path w.own) (watchers path w.child)))
-    ∙ (λ i. told-connections NodeDeleted path (in_number (watchers path w.own)) i
-    ++ told-connections NodeDeleted path (each_but (watchers path w.own) (watchers path w.child)) i)))
-    (parts-distinct (watchers path w.own) (watchers path w.child))
-told_once w (DataChanged path) = part-distinct _ path (watchers path w.own)
-told_once w (ChildrenChanged path) = part-distinct _ path (watchers path w.child)
+    (sym (map-append (events_for NodeDeleted path (sorted_connections (watchers_of path w.own)))
+    (events_for NodeDeleted path (connections_not_told (watchers_of path w.own) (watchers_of path w.child)))
+    ∙ (λ i. told-connections NodeDeleted path (sorted_connections (watchers_of path w.own)) i
+    ++ told-connections NodeDeleted path (connections_not_told (watchers_of path w.own) (watchers_of path w.child)) i)))
+    (parts-distinct (watchers_of path w.own) (watchers_of path w.child))
+told_once w (DataChanged path) = part-distinct _ path (watchers_of path w.own)
+told_once w (ChildrenChanged path) = part-distinct _ path (watchers_of path w.child)

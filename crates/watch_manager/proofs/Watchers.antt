@@ -7,7 +7,7 @@ use Rattle.std.proofs.lemmas.Map.Lookups.{exact_unsigned}
 use Rattle.std.specs.FinSet as set
 use Rattle.ephemerals.specs.Orders.{Bytes, path_cmp}
 use Rattle.ephemerals.proofs.Ties.{tied_then}
-use Rattle.watch_manager.specs.Pairs.{Connections, Pairs, watch_cmp, same_path, same_connection, watchers, without_path, without_connection}
+use Rattle.watch_manager.specs.Pairs.{ConnectionSet, WatchPairs, watch_cmp, same_path, same_connection, watchers_of, without_watches_on, without_connection}
 use Rattle.watch_manager.proofs.Totals.{watch_exact}
 
 pub any-watcher : (path : Bytes) (c : ℕ) (ps : List (Bytes × ℕ))
@@ -25,32 +25,32 @@ any-watcher path c (p ∷ ps) =
     by true = refl
     by false = refl
 
-pub contains-watchers : (path : Bytes) (pairs : Pairs) (c : ℕ)
-    → set.contains (watchers path pairs) c ≡ set.contains pairs (path, c)
+pub contains-watchers : (path : Bytes) (pairs : WatchPairs) (c : ℕ)
+    → set.contains (watchers_of path pairs) c ≡ set.contains pairs (path, c)
 contains-watchers path pairs c =
     set.contains-from_list nat_cmp_total (map (λ (p : Bytes × ℕ). p.1)
     (filter (λ (p : Bytes × ℕ). same_path path p.0) (set.items pairs))) c
     ∙ any-watcher path c (set.items pairs)
     ∙ sym (set.contains-items pairs (path, c))
 
-pub contains-without_path : (path : Bytes) (pairs : Pairs) (q : Bytes × ℕ)
-    → set.contains (without_path path pairs) q ≡ (set.contains pairs q && not (same_path path q.0))
+pub contains-without_path : (path : Bytes) (pairs : WatchPairs) (q : Bytes × ℕ)
+    → set.contains (without_watches_on path pairs) q ≡ (set.contains pairs q && not (same_path path q.0))
 contains-without_path path pairs q =
     set.contains-retain pairs (λ (p : Bytes × ℕ). not (same_path path p.0)) q
     (λ x tie. ap (λ (p : Bytes × ℕ). not (same_path path p.0)) (sym (watch_exact q x tie)))
 
-pub contains-without_connection : (conn : ℕ) (pairs : Pairs) (q : Bytes × ℕ)
+pub contains-without_connection : (conn : ℕ) (pairs : WatchPairs) (q : Bytes × ℕ)
     → set.contains (without_connection conn pairs) q ≡ (set.contains pairs q && not (same_connection conn q.1))
 contains-without_connection conn pairs q =
     set.contains-retain pairs (λ (p : Bytes × ℕ). not (same_connection conn p.1)) q
     (λ x tie. ap (λ (p : Bytes × ℕ). not (same_connection conn p.1)) (sym (watch_exact q x tie)))
 
 -- a set with the members that watch
-pub are_watchers : (path : Bytes) (pairs : Pairs) (conns : Connections)
-    → ((c : ℕ) → set.contains conns c ≡ set.contains pairs (path, c)) → conns ≡ watchers path pairs
+pub are_watchers : (path : Bytes) (pairs : WatchPairs) (conns : ConnectionSet)
+    → ((c : ℕ) → set.contains conns c ≡ set.contains pairs (path, c)) → conns ≡ watchers_of path pairs
 are_watchers path pairs conns is =
     set.same_set nat_cmp_total exact_unsigned _ _ (λ c. is c ∙ sym (contains-watchers path pairs c))
 
-pub no_watcher : (path : Bytes) (pairs : Pairs) → ((c : ℕ) → set.contains pairs (path, c) ≡ false)
-    → watchers path pairs ≡ set.empty
+pub no_watcher : (path : Bytes) (pairs : WatchPairs) → ((c : ℕ) → set.contains pairs (path, c) ≡ false)
+    → watchers_of path pairs ≡ set.empty
 no_watcher path pairs none = sym (are_watchers path pairs set.empty (λ c. set.contains-empty nat_cmp c ∙ sym (none c)))

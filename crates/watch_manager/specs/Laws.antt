@@ -4,47 +4,47 @@ use Rattle.std.specs.List.{AllByRecursion, IsDistinct}
 use Rattle.std.specs.FinSet as set
 use Rattle.ephemerals.specs.Orders.{Bytes}
 use Rattle.data_tree.specs.declared.outcome.Trigger.{Trigger}
-use Rattle.watch_manager.specs.Pairs.{Pairs, without_connection, same_connection}
-use Rattle.watch_manager.specs.Watching.{Watching, dropped}
-use Rattle.watch_manager.specs.Watches.{tells, fire}
+use Rattle.watch_manager.specs.Pairs.{WatchPairs, without_connection, same_connection}
+use Rattle.watch_manager.specs.Watching.{WatchTables, without_watches_of}
+use Rattle.watch_manager.specs.Watches.{events_of_trigger, fire}
 use Rattle.watch_manager.specs.declared.event.Event.{Event}
 
 -- a change tells a connection at most once
-abbrev pub ToldOnce : Type 0
-ToldOnce =
-    (w : Watching) (trigger : Trigger)
-    → IsDistinct same_connection (map (λ (e : ℕ × Event). e.0) (tells w trigger))
+abbrev pub ConnectionsAreToldOnce : Type 0
+ConnectionsAreToldOnce =
+    (w : WatchTables) (trigger : Trigger)
+    → IsDistinct same_connection (map (λ (e : ℕ × Event). e.0) (events_of_trigger w trigger))
 
 -- each connection in the table passes the test
-abbrev pub AllPass : (ℕ → Bool) → Pairs → Type 0
+abbrev pub AllPass : (ℕ → Bool) → WatchPairs → Type 0
 AllPass test pairs = (path : Bytes) (conn : ℕ) → set.contains pairs (path, conn) ≡ true → test conn ≡ true
 
 -- each connection that watches something does
-abbrev pub WatchersPass : (ℕ → Bool) → Watching → Type 0
+abbrev pub WatchersPass : (ℕ → Bool) → WatchTables → Type 0
 WatchersPass test w = AllPass test w.own × AllPass test w.child
 
 -- only those are told who watch something, and nobody watches anew: the test that all watchers pass is passed by those
 -- who are told
 abbrev pub OnlyWatchersAreTold : Type 0
 OnlyWatchersAreTold =
-    (test : ℕ → Bool) (w : Watching) (triggers : List Trigger) → WatchersPass test w
+    (test : ℕ → Bool) (w : WatchTables) (triggers : List Trigger) → WatchersPass test w
     → AllByRecursion (λ (e : ℕ × Event). test e.0 ≡ true) (fire w triggers).events
     × WatchersPass test (fire w triggers).left
 
 -- where nobody is told, no watch is used up
-abbrev pub SilenceKeepsWatches : Type 0
-SilenceKeepsWatches = (w : Watching) (triggers : List Trigger) → (fire w triggers).events ≡ []
+abbrev pub NoEventKeepsWatches : Type 0
+NoEventKeepsWatches = (w : WatchTables) (triggers : List Trigger) → (fire w triggers).events ≡ []
     → w ≡ (fire w triggers).left
 
 -- a connection that was dropped watches nothing, and nobody watches anew
 abbrev pub DroppedWatchesNothing : Type 0
 DroppedWatchesNothing =
-    (test : ℕ → Bool) (w : Watching) (conn : ℕ) → WatchersPass (λ c. test c || same_connection conn c) w
-    → WatchersPass test (dropped conn w)
+    (test : ℕ → Bool) (w : WatchTables) (conn : ℕ) → WatchersPass (λ c. test c || same_connection conn c) w
+    → WatchersPass test (without_watches_of conn w)
 
 -- setting a watch, and dropping a connection, leave the watches of every other connection
 pub record OthersKeepWatches : Type 0 where
-  pub sets : (pairs : Pairs) (path : Bytes) (conn : ℕ) (p : Bytes) (other : ℕ) → other ≢ conn
+  pub sets : (pairs : WatchPairs) (path : Bytes) (conn : ℕ) (p : Bytes) (other : ℕ) → other ≢ conn
       → set.contains (set.insert pairs (path, conn)) (p, other) ≡ set.contains pairs (p, other)
-  pub drops : (pairs : Pairs) (conn : ℕ) (p : Bytes) (other : ℕ) → other ≢ conn
+  pub drops : (pairs : WatchPairs) (conn : ℕ) (p : Bytes) (other : ℕ) → other ≢ conn
       → set.contains (without_connection conn pairs) (p, other) ≡ set.contains pairs (p, other)

@@ -8,19 +8,20 @@ use Rattle.std.specs.FinSet as set
 use Rattle.ephemerals.specs.Orders.{Bytes, path_cmp}
 
 -- connections by their numbers
-abbrev pub Connections : Type 0
-Connections = set.FinSet nat_cmp
+abbrev pub ConnectionSet : Type 0
+ConnectionSet = set.FinSet nat_cmp
 
 -- in ascending number
-abbrev pub in_number : Connections → List ℕ
-in_number conns = finmap.keys (finmap.from_entries {R = nat_cmp} (map (λ (conn : ℕ). (conn, tt {0})) (set.items conns)))
+abbrev pub sorted_connections : ConnectionSet → List ℕ
+sorted_connections conns = finmap.keys
+    (finmap.from_entries {R = nat_cmp} (map (λ (conn : ℕ). (conn, tt {0})) (set.items conns)))
 
 -- ascending path, then ascending connection
 abbrev pub watch_cmp : Bytes × ℕ → Bytes × ℕ → Ordering
 watch_cmp = then_cmp (on (λ (p : Bytes × ℕ). p.0) path_cmp) (on (λ (p : Bytes × ℕ). p.1) nat_cmp)
 
-abbrev pub Pairs : Type 0
-Pairs = set.FinSet watch_cmp
+abbrev pub WatchPairs : Type 0
+WatchPairs = set.FinSet watch_cmp
 
 abbrev pub same_path : Bytes → Bytes → Bool
 same_path a b = eq_by_cmp path_cmp a b
@@ -29,14 +30,14 @@ abbrev pub same_connection : ℕ → ℕ → Bool
 same_connection a b = eq_by_cmp nat_cmp a b
 
 -- the connections that watch the path
-abbrev pub watchers : Bytes → Pairs → Connections
-watchers path pairs =
+abbrev pub watchers_of : Bytes → WatchPairs → ConnectionSet
+watchers_of path pairs =
     set.from_list (map (λ (p : Bytes × ℕ). p.1) (filter (λ (p : Bytes × ℕ). same_path path p.0) (set.items pairs)))
 
 -- all watches but those on the path
-abbrev pub without_path : Bytes → Pairs → Pairs
-without_path path pairs = set.retain pairs (λ (p : Bytes × ℕ). not (same_path path p.0))
+abbrev pub without_watches_on : Bytes → WatchPairs → WatchPairs
+without_watches_on path pairs = set.retain pairs (λ (p : Bytes × ℕ). not (same_path path p.0))
 
 -- all watches but those of the connection
-abbrev pub without_connection : ℕ → Pairs → Pairs
+abbrev pub without_connection : ℕ → WatchPairs → WatchPairs
 without_connection conn pairs = set.retain pairs (λ (p : Bytes × ℕ). not (same_connection conn p.1))

@@ -4,8 +4,8 @@ use Rattle.std.specs.declared.cmp.Ordering.{Ordering}
 use Rattle.std.specs.Ordering.{nat_cmp, then_cmp, on}
 use Rattle.std.specs.FinSet as set
 use Rattle.ephemerals.specs.Orders.{Bytes, path_cmp}
-use Rattle.watch_manager.specs.Ascending.{ascending}
-use Rattle.watch_manager.specs.Watching.{Watching}
+use Rattle.watch_manager.specs.Ascending.{sorted_distinct}
+use Rattle.watch_manager.specs.Watching.{WatchTables}
 use Rattle.watch_manager.specs.declared.watched.Table.{Table}
 use Rattle.watch_manager.specs.declared.watched.Table.TheVariants.{Own, Child}
 use Rattle.watch_manager.specs.declared.watched.Watched.{Watched}
@@ -26,5 +26,6 @@ abbrev pub watched_in : Table → Bytes × ℕ → Watched
 watched_in table pair = record { path = pair.0; conn = pair.1; table = table }
 
 -- each watch of both tables once, in ascending order
-abbrev pub summary : Watching → List Watched
-summary w = ascending watched_cmp (map (watched_in Own) (set.items w.own) ++ map (watched_in Child) (set.items w.child))
+abbrev pub summary : WatchTables → List Watched
+summary w = sorted_distinct watched_cmp
+    (map (watched_in Own) (set.items w.own) ++ map (watched_in Child) (set.items w.child))

@@ -5,44 +5,45 @@ use Rattle.std.specs.FinSet as set
 use Rattle.ephemerals.specs.Orders.{Bytes}
 use Rattle.data_tree.specs.declared.outcome.Trigger.{Trigger}
 use Rattle.data_tree.specs.declared.outcome.Trigger.TheVariants.{Created, Deleted, DataChanged, ChildrenChanged}
-use Rattle.watch_manager.specs.Pairs.{Connections, in_number, watchers, without_path}
-use Rattle.watch_manager.specs.Watching.{Watching}
+use Rattle.watch_manager.specs.Pairs.{ConnectionSet, sorted_connections, watchers_of, without_watches_on}
+use Rattle.watch_manager.specs.Watching.{WatchTables}
 use Rattle.watch_manager.specs.declared.event.Event.{Event}
 use Rattle.watch_manager.specs.declared.event.EventKind.{EventKind}
 use Rattle.watch_manager.specs.declared.event.EventKind.TheVariants.{NodeCreated, NodeDeleted, NodeDataChanged, NodeChildrenChanged}
 
 -- each of the connections is told that this happened at the path
-abbrev pub told : EventKind → Bytes → List ℕ → List (ℕ × Event)
-told kind path conns = map (λ (conn : ℕ). (conn, record { kind = kind; path = path })) conns
+abbrev pub events_for : EventKind → Bytes → List ℕ → List (ℕ × Event)
+events_for kind path conns = map (λ (conn : ℕ). (conn, record { kind = kind; path = path })) conns
 
 -- in ascending number, but those that were told already
-abbrev pub each_but : Connections → Connections → List ℕ
-each_but already conns = filter (λ (conn : ℕ). not (set.contains already conn)) (in_number conns)
+abbrev pub connections_not_told : ConnectionSet → ConnectionSet → List ℕ
+connections_not_told already conns = filter (λ (conn : ℕ). not (set.contains already conn)) (sorted_connections conns)
 
 -- what a change tells those who watch
-abbrev pub tells : Watching → Trigger → List (ℕ × Event)
-tells w (Created path) = told NodeCreated path (in_number (watchers path w.own))
-tells w (Deleted path) =
-    told NodeDeleted path (in_number (watchers path w.own))
-    ++ told NodeDeleted path (each_but (watchers path w.own) (watchers path w.child))
-tells w (DataChanged path) = told NodeDataChanged path (in_number (watchers path w.own))
-tells w (ChildrenChanged path) = told NodeChildrenChanged path (in_number (watchers path w.child))
+abbrev pub events_of_trigger : WatchTables → Trigger → List (ℕ × Event)
+events_of_trigger w (Created path) = events_for NodeCreated path (sorted_connections (watchers_of path w.own))
+events_of_trigger w (Deleted path) =
+    events_for NodeDeleted path (sorted_connections (watchers_of path w.own))
+    ++ events_for NodeDeleted path (connections_not_told (watchers_of path w.own) (watchers_of path w.child))
+events_of_trigger w (DataChanged path) = events_for NodeDataChanged path (sorted_connections (watchers_of path w.own))
+events_of_trigger w (ChildrenChanged path) =
+    events_for NodeChildrenChanged path (sorted_connections (watchers_of path w.child))
 
 -- the watches after it: those that it told, or passed over, are used up
-abbrev pub after : Watching → Trigger → Watching
-after w (Created path) = record w { own = without_path path w.own }
-after w (Deleted path) = record { own = without_path path w.own; child = without_path path w.child }
-after w (DataChanged path) = record w { own = without_path path w.own }
-after w (ChildrenChanged path) = record w { child = without_path path w.child }
+abbrev pub watches_after : WatchTables → Trigger → WatchTables
+watches_after w (Created path) = record w { own = without_watches_on path w.own }
+watches_after w (Deleted path) = record { own = without_watches_on path w.own; child = without_watches_on path w.child }
+watches_after w (DataChanged path) = record w { own = without_watches_on path w.own }
+watches_after w (ChildrenChanged path) = record w { child = without_watches_on path w.child }
 
 -- connections with what they are told, in order, and the watches that are left
-pub record Fired : Type 0 where
+pub record FireResult : Type 0 where
   pub events : List (ℕ × Event)
-  pub left : Watching
+  pub left : WatchTables
 
 -- one change after the other
-abbrev pub fire : Watching → List Trigger → Fired
+abbrev pub fire : WatchTables → List Trigger → FireResult
 fire w [] = record { events = []; left = w }
 fire w (trigger ∷ triggers) =
-    let rest = fire (after w trigger) triggers in
-    record { events = tells w trigger ++ rest.events; left = rest.left }
+    let rest = fire (watches_after w trigger) triggers in
+    record { events = events_of_trigger w trigger ++ rest.events; left = rest.left }

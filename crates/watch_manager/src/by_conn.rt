@@ -2,7 +2,7 @@
 
 ghost use Rattle.std.specs.Prelude.{◌≡◌, List, ℕ, OnOk, OnErr, IfSome, IfNone, IsTrue, false};
 ghost use Rattle.std.specs.FinSet as set;
-ghost use Rattle.watch_manager.specs.Pairs.{in_number};
+ghost use Rattle.watch_manager.specs.Pairs.{sorted_connections};
 ghost use Rattle.watch_manager.specs.Inner.Grouped.{without_conns, without_key};
 
 use crate::conn_set::ConnSet;
@@ -94,7 +94,7 @@ impl ByConn {
 
     /// Takes out the path at each of the connections.
     pub fn remove_all(&mut self, conns: &ConnSet, path: &str)
-        ensures { self.new ≡ without_conns path.now (in_number conns.now) self.old }
+        ensures { self.new ≡ without_conns path.now (sorted_connections conns.now) self.old }
     {
         for conn in conns.iter() {
             self.remove(*conn, path);

@@ -4,9 +4,9 @@ ghost use Rattle.std.specs.Prelude.{◌≡◌, ℕ, OnOk, OnErr, IfOk, IfSome, I
 ghost use Rattle.std.specs.FinSet as set;
 ghost use Rattle.std.specs.Map.Iter.{ShowsInOrder, deref_pair};
 ghost use Rattle.ephemerals.specs.Grouped.{all_pairs, by_bytes};
-ghost use Rattle.watch_manager.specs.Pairs.{Connections, watchers, without_path};
-ghost use Rattle.watch_manager.specs.Inner.Grouped.{without_paths};
-ghost use Rattle.ephemerals.specs.Orders.{in_order};
+ghost use Rattle.watch_manager.specs.Pairs.{ConnectionSet, watchers_of, without_watches_on};
+ghost use Rattle.watch_manager.specs.Inner.Grouped.{without_watched_paths};
+ghost use Rattle.ephemerals.specs.Orders.{sorted_names};
 
 use crate::conn_set::ConnSet;
 use ephemerals::TextSet;
@@ -23,16 +23,16 @@ pub struct ByPath {
 }
 
 impl Model for ByPath {
-    ghost use Rattle.watch_manager.specs.Pairs.{Pairs};
-    ghost use Rattle.watch_manager.specs.Inner.Grouped.{path_pairs};
+    ghost use Rattle.watch_manager.specs.Pairs.{WatchPairs};
+    ghost use Rattle.watch_manager.specs.Inner.Grouped.{watch_pairs_of};
     ghost use Rattle.std.specs.FinSet as set;
     ghost use Rattle.std.specs.Coded.{coded_ℕ, coded_list, coded×};
 
-    ghost Value = { Pairs };
+    ghost Value = { WatchPairs };
 
     ghost coded = { set.code (coded× (coded_list coded_ℕ) coded_ℕ) };
 
-    ghost view = { λ b. path_pairs b.map.entries };
+    ghost view = { λ b. watch_pairs_of b.map.entries };
 }
 
 impl ByPath {
@@ -47,8 +47,8 @@ impl ByPath {
 
     /// The connections that watch the path, where there is a set of them.
     pub fn of(&self, path: &str) -> Option<&ConnSet>
-        ensures some { IfSome result (λ conns. conns.now ≡ watchers path.now self.now) }
-        ensures none { IfNone result (watchers path.now self.now ≡ set.empty) }
+        ensures some { IfSome result (λ conns. conns.now ≡ watchers_of path.now self.now) }
+        ensures none { IfNone result (watchers_of path.now self.now ≡ set.empty) }
     {
         match self.map.get(path) {
             None => return None,
@@ -59,7 +59,7 @@ impl ByPath {
     /// The paths with a set of connections, in ascending bytes, each with that set.
     pub fn iter(&self) -> Iter<'_, String, ConnSet>
         ensures pairs { set.from_list (all_pairs (by_bytes result)) ≡ self.now }
-        ensures runs { ShowsInOrder (deref_pair {K = String Global} {X = Connections}) }
+        ensures runs { ShowsInOrder (deref_pair {K = String Global} {X = ConnectionSet}) }
     {
         self.map.iter()
     }
@@ -116,7 +116,7 @@ impl ByPath {
 
     /// Takes out the connection at each of the paths.
     pub fn remove_all(&mut self, paths: &TextSet, conn: u64)
-        ensures { self.new ≡ without_paths conn (in_order paths.now) self.old }
+        ensures { self.new ≡ without_watched_paths conn (sorted_names paths.now) self.old }
     {
         for path in paths.iter() {
             self.remove(path.as_str(), conn);
@@ -125,9 +125,9 @@ impl ByPath {
 
     /// Takes out all pairs of a path, and answers its connections where there is a set of them.
     pub fn take(&mut self, path: &str) -> Option<ConnSet>
-        ensures conns { IfSome result (λ conns. conns ≡ watchers path.now self.old) }
-        ensures none { IfNone result (watchers path.now self.old ≡ set.empty) }
-        ensures rest { self.new ≡ without_path path.now self.old }
+        ensures conns { IfSome result (λ conns. conns ≡ watchers_of path.now self.old) }
+        ensures none { IfNone result (watchers_of path.now self.old ≡ set.empty) }
+        ensures rest { self.new ≡ without_watches_on path.now self.old }
     {
         self.map.remove(path)
     }

@@ -3,7 +3,7 @@
 ghost use Rattle.std.specs.Prelude.{◌≡◌, ◌↔◌, ℕ, OnOk, OnErr, IfOk, IsTrue, not};
 ghost use Rattle.std.specs.Map.Iter.{ShowsInOrder, deref};
 ghost use Rattle.std.specs.FinSet as set;
-ghost use Rattle.watch_manager.specs.Pairs.{in_number};
+ghost use Rattle.watch_manager.specs.Pairs.{sorted_connections};
 
 use std::alloc::Global;
 use std::collections::BTreeSet;
@@ -18,11 +18,11 @@ pub struct ConnSet {
 }
 
 impl Model for ConnSet {
-    ghost use Rattle.watch_manager.specs.Pairs.{Connections};
+    ghost use Rattle.watch_manager.specs.Pairs.{ConnectionSet};
     ghost use Rattle.std.specs.FinSet as set;
     ghost use Rattle.std.specs.Coded.{coded_ℕ};
 
-    ghost Value = { Connections };
+    ghost Value = { ConnectionSet };
 
     ghost coded = { set.code coded_ℕ };
 
@@ -71,7 +71,7 @@ impl ConnSet {
 
     /// The connections in ascending number.
     pub fn iter(&self) -> Iter<'_, u64>
-        ensures conns { result ≡ in_number self.now }
+        ensures conns { result ≡ sorted_connections self.now }
         ensures runs { ShowsInOrder (deref {X = ℕ}) }
     {
         self.conns.iter()

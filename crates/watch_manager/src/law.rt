@@ -1,15 +1,15 @@
 //! Laws of firing. Each is the contract of a function that does nothing.
 
-ghost use Rattle.watch_manager.specs.Laws.{ToldOnce, OnlyWatchersAreTold, SilenceKeepsWatches, DroppedWatchesNothing, OthersKeepWatches};
+ghost use Rattle.watch_manager.specs.Laws.{ConnectionsAreToldOnce, OnlyWatchersAreTold, NoEventKeepsWatches, DroppedWatchesNothing, OthersKeepWatches};
 ghost use Rattle.watch_manager.specs.Rows.{WorkedRows};
 
 /// A change tells a connection at most once, and only those are told who watch something. Where nobody is told,
 /// no watch is used up. Neither firing nor dropping a connection makes anybody watch anew, and a connection that was
 /// dropped watches nothing. What one connection does leaves the watches of every other.
 pub fn firing()
-    ensures once { ToldOnce }
+    ensures once { ConnectionsAreToldOnce }
     ensures watchers { OnlyWatchersAreTold }
-    ensures silent { SilenceKeepsWatches }
+    ensures silent { NoEventKeepsWatches }
     ensures dropped { DroppedWatchesNothing }
     ensures others { OthersKeepWatches }
 {}

@@ -2,7 +2,7 @@
 
 ghost use Rattle.std.specs.Prelude.{◌≡◌, OnOk};
 ghost use Rattle.std.specs.FinSet as set;
-ghost use Rattle.watch_manager.specs.Pairs.{watchers, without_path};
+ghost use Rattle.watch_manager.specs.Pairs.{watchers_of, without_watches_on};
 
 use crate::conn_set::ConnSet;
 use crate::table::WatchTable;
@@ -14,35 +14,35 @@ use values::NoMemory;
 /// The watches of a table that earlier changes have not used up. The table itself stays as it is, so that memory may
 /// still be refused.
 #[derive(Drop)]
-pub struct Left<'a> {
+pub struct UnusedWatches<'a> {
     table: &'a WatchTable,
     // The paths whose watches are used up.
     used: TextSet,
     nobody: ConnSet,
 }
 
-impl<'a> Model for Left<'a> {
+impl<'a> Model for UnusedWatches<'a> {
     ghost use Rattle.std.specs.Prelude.{◌≡◌};
-    ghost use Rattle.watch_manager.specs.Pairs.{Pairs};
-    ghost use Rattle.watch_manager.specs.Inner.Telling.{but_on};
+    ghost use Rattle.watch_manager.specs.Pairs.{WatchPairs};
+    ghost use Rattle.watch_manager.specs.Inner.Telling.{watches_elsewhere};
     ghost use Rattle.std.specs.FinSet as set;
     ghost use Rattle.std.specs.Coded.{coded_ℕ, coded_list, coded×};
 
-    ghost Value = { Pairs };
+    ghost Value = { WatchPairs };
 
     ghost coded = { set.code (coded× (coded_list coded_ℕ) coded_ℕ) };
 
-    ghost view = { λ l. but_on l.used l.table.now };
+    ghost view = { λ l. watches_elsewhere l.used l.table.now };
 
     ghost invariant = { λ l. l.nobody ≡ set.empty };
 }
 
-impl<'a> Left<'a> {
+impl<'a> UnusedWatches<'a> {
     /// The whole table.
-    pub fn new(alloc: Global, table: &'a WatchTable) -> Left<'a>
+    pub fn new(alloc: Global, table: &'a WatchTable) -> UnusedWatches<'a>
         ensures { result ≡ table.now }
     {
-        Left {
+        UnusedWatches {
             table,
             used: TextSet::new(alloc),
             nobody: ConnSet::new(alloc),
@@ -51,7 +51,7 @@ impl<'a> Left<'a> {
 
     /// The connections that still watch the path.
     pub fn watchers(&self, path: &str) -> &ConnSet
-        ensures { result.now ≡ watchers path.now self.now }
+        ensures { result.now ≡ watchers_of path.now self.now }
     {
         if self.used.contains(path) {
             return &self.nobody;
@@ -64,7 +64,7 @@ impl<'a> Left<'a> {
 
     /// Uses up the watches on a path.
     pub fn use_up(&mut self, alloc: Global, path: &str) -> Result<(), NoMemory>
-        ensures { OnOk result (self.new ≡ without_path path.now self.old) }
+        ensures { OnOk result (self.new ≡ without_watches_on path.now self.old) }
     {
         if self.watchers(path).is_empty() {
             return Ok(());

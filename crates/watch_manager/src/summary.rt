@@ -2,10 +2,10 @@
 
 ghost use Rattle.std.specs.Prelude.{◌≡◌, IfOk, OnOk, map};
 ghost use Rattle.std.specs.FinSet as set;
-ghost use Rattle.watch_manager.specs.Pairs.{in_number};
+ghost use Rattle.watch_manager.specs.Pairs.{sorted_connections};
 ghost use Rattle.watch_manager.specs.Summary.{watched_cmp, watched_in};
 ghost use Rattle.watch_manager.specs.Inner.Listing.{path_rows, AddsInOrder};
-ghost use Rattle.watch_manager.specs.Ascending.{inserted};
+ghost use Rattle.watch_manager.specs.Ascending.{with_inserted_keys};
 
 use crate::conn_set::ConnSet;
 use crate::table::WatchTable;
@@ -22,7 +22,7 @@ fn add_conns<'a>(
     table: Table,
 ) -> Result<(), NoMemory>
     ensures { OnOk result (rows.new.keys ≡
-        inserted watched_cmp rows.old.keys (path_rows table path.now (in_number conns.now))) }
+        with_inserted_keys watched_cmp rows.old.keys (path_rows table path.now (sorted_connections conns.now))) }
 {
     for conn in conns.iter() {
         let path = Str::new(path);

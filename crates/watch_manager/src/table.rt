@@ -4,7 +4,7 @@ ghost use Rattle.std.specs.Prelude.{◌≡◌, OnOk, OnErr, IfSome, IfNone, Stri
 ghost use Rattle.std.specs.FinSet as set;
 ghost use Rattle.std.specs.Map.Iter.{ShowsInOrder, deref_pair};
 ghost use Rattle.ephemerals.specs.Grouped.{all_pairs, by_bytes};
-ghost use Rattle.watch_manager.specs.Pairs.{Connections, watchers, without_path, without_connection};
+ghost use Rattle.watch_manager.specs.Pairs.{ConnectionSet, watchers_of, without_watches_on, without_connection};
 
 use crate::by_conn::ByConn;
 use crate::by_path::ByPath;
@@ -23,12 +23,12 @@ pub struct WatchTable {
 }
 
 impl Model for WatchTable {
-    ghost use Rattle.watch_manager.specs.Pairs.{Pairs};
+    ghost use Rattle.watch_manager.specs.Pairs.{WatchPairs};
     ghost use Rattle.watch_manager.specs.Inner.Grouped.{AgreeOn};
     ghost use Rattle.std.specs.FinSet as set;
     ghost use Rattle.std.specs.Coded.{coded_ℕ, coded_list, coded×};
 
-    ghost Value = { Pairs };
+    ghost Value = { WatchPairs };
 
     ghost coded = { set.code (coded× (coded_list coded_ℕ) coded_ℕ) };
 
@@ -50,8 +50,8 @@ impl WatchTable {
 
     /// The connections that watch the path, where there is a set of them.
     pub fn watchers(&self, path: &str) -> Option<&ConnSet>
-        ensures some { IfSome result (λ conns. conns.now ≡ watchers path.now self.now) }
-        ensures none { IfNone result (watchers path.now self.now ≡ set.empty) }
+        ensures some { IfSome result (λ conns. conns.now ≡ watchers_of path.now self.now) }
+        ensures none { IfNone result (watchers_of path.now self.now ≡ set.empty) }
     {
         self.by_path.of(path)
     }
@@ -59,7 +59,7 @@ impl WatchTable {
     /// The paths that are watched, in ascending bytes, each with its connections.
     pub fn iter(&self) -> Iter<'_, String, ConnSet>
         ensures pairs { set.from_list (all_pairs (by_bytes result)) ≡ self.now }
-        ensures runs { ShowsInOrder (deref_pair {K = String Global} {X = Connections}) }
+        ensures runs { ShowsInOrder (deref_pair {K = String Global} {X = ConnectionSet}) }
     {
         self.by_path.iter()
     }
@@ -83,7 +83,7 @@ impl WatchTable {
 
     /// Takes out the watches on a path, which takes no memory.
     pub fn use_up(&mut self, path: &str)
-        ensures { self.new ≡ without_path path.now self.old }
+        ensures { self.new ≡ without_watches_on path.now self.old }
     {
         match self.by_path.take(path) {
             None => return,

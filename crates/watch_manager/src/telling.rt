@@ -1,13 +1,13 @@
 //! Whom a change tells what.
 
 ghost use Rattle.std.specs.Prelude.{◌≡◌, ◌++◌, OnOk};
-ghost use Rattle.watch_manager.specs.Watches.{told, each_but, tells, after};
-ghost use Rattle.watch_manager.specs.Pairs.{in_number, watchers, without_path};
-ghost use Rattle.watch_manager.specs.Inner.Telling.{watching};
+ghost use Rattle.watch_manager.specs.Watches.{events_for, connections_not_told, events_of_trigger, watches_after};
+ghost use Rattle.watch_manager.specs.Pairs.{sorted_connections, watchers_of, without_watches_on};
+ghost use Rattle.watch_manager.specs.Inner.Telling.{watch_tables};
 
 use crate::conn_set::ConnSet;
 use crate::event::{Event, EventKind};
-use crate::left::Left;
+use crate::left::UnusedWatches;
 use data_tree::Trigger;
 use std::alloc::Global;
 use values::{NoMemory, Text};
@@ -21,7 +21,7 @@ fn tell_each(
     conns: &ConnSet,
 ) -> Result<(), NoMemory>
     ensures { OnOk result
-        (events.new.items ≡ events.old.items ++ told kind path.now (in_number conns.now)) }
+        (events.new.items ≡ events.old.items ++ events_for kind path.now (sorted_connections conns.now)) }
 {
     for conn in conns.iter() {
         let path = Text::new(alloc, path)?;
@@ -40,7 +40,7 @@ fn tell_others(
     conns: &ConnSet,
 ) -> Result<(), NoMemory>
     ensures { OnOk result (events.new.items ≡
-        events.old.items ++ told kind path.now (each_but already.now conns.now)) }
+        events.old.items ++ events_for kind path.now (connections_not_told already.now conns.now)) }
 {
     for conn in conns.iter() {
         if !already.contains(*conn) {
@@ -57,11 +57,11 @@ fn tell_table(
     alloc: Global,
     kind: EventKind,
     path: &str,
-    table: &mut Left<'_>,
+    table: &mut UnusedWatches<'_>,
 ) -> Result<(), NoMemory>
     ensures events { OnOk result (events.new.items ≡
-        events.old.items ++ told kind path.now (in_number (watchers path.now table.old))) }
-    ensures left { OnOk result (table.new ≡ without_path path.now table.old) }
+        events.old.items ++ events_for kind path.now (sorted_connections (watchers_of path.now table.old))) }
+    ensures left { OnOk result (table.new ≡ without_watches_on path.now table.old) }
 {
     tell_each(events, alloc, kind, path, table.watchers(path))?;
     table.use_up(alloc, path)
@@ -72,13 +72,13 @@ pub fn tell(
     events: &mut Vec<(u64, Event)>,
     alloc: Global,
     trigger: &Trigger,
-    own: &mut Left<'_>,
-    child: &mut Left<'_>,
+    own: &mut UnusedWatches<'_>,
+    child: &mut UnusedWatches<'_>,
 ) -> Result<(), NoMemory>
     ensures events { OnOk result (events.new.items ≡
-        events.old.items ++ tells (watching own.old child.old) trigger.now) }
+        events.old.items ++ events_of_trigger (watch_tables own.old child.old) trigger.now) }
     ensures left { OnOk result
-        (watching own.new child.new ≡ after (watching own.old child.old) trigger.now) }
+        (watch_tables own.new child.new ≡ watches_after (watch_tables own.old child.old) trigger.now) }
 {
     match trigger {
         Trigger::Created(path) => {

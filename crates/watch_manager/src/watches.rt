@@ -2,12 +2,12 @@
 
 ghost use Rattle.std.specs.Prelude.{◌≡◌, OnOk, OnErr, IfOk};
 ghost use Rattle.std.specs.FinSet as set;
-ghost use Rattle.watch_manager.specs.Watching.{no_watch, dropped};
-ghost use Rattle.watch_manager.specs.Watches.{fire, after};
+ghost use Rattle.watch_manager.specs.Watching.{no_watch, without_watches_of};
+ghost use Rattle.watch_manager.specs.Watches.{fire, watches_after};
 ghost use Rattle.watch_manager.specs.Summary.{summary};
 
 use crate::event::Event;
-use crate::left::Left;
+use crate::left::UnusedWatches;
 use crate::summary::{add_table, in_order};
 use crate::table::WatchTable;
 use crate::telling::tell;
@@ -28,11 +28,11 @@ pub struct Watches {
 }
 
 impl Model for Watches {
-    ghost use Rattle.watch_manager.specs.Watching.{Watching, watching_code};
+    ghost use Rattle.watch_manager.specs.Watching.{WatchTables, watch_tables_code};
 
-    ghost Value = { Watching };
+    ghost Value = { WatchTables };
 
-    ghost coded = { watching_code };
+    ghost coded = { watch_tables_code };
 
     ghost view = { λ w. record { own = w.own; child = w.child } };
 }
@@ -68,7 +68,7 @@ impl Watches {
 
     /// Drops all watches of a connection, which takes no memory.
     pub fn drop_conn(&mut self, conn: u64)
-        ensures { self.new ≡ dropped conn self.old }
+        ensures { self.new ≡ without_watches_of conn self.old }
     {
         self.own.drop_conn(conn);
         self.child.drop_conn(conn);
@@ -90,8 +90,8 @@ impl Watches {
         ensures { IfOk result
             (λ events. events.items ≡ (fire self.now triggers.now).events) }
     {
-        let mut own = Left::new(alloc, &self.own);
-        let mut child = Left::new(alloc, &self.child);
+        let mut own = UnusedWatches::new(alloc, &self.own);
+        let mut child = UnusedWatches::new(alloc, &self.child);
         let mut events = Vec::new(alloc);
         for trigger in triggers {
             tell(&mut events, alloc, trigger, &mut own, &mut child)?;
@@ -101,7 +101,7 @@ impl Watches {
 
     // Uses up what a change tells.
     fn use_up(&mut self, trigger: &Trigger)
-        ensures { self.new ≡ after self.old trigger.now }
+        ensures { self.new ≡ watches_after self.old trigger.now }
     {
         match trigger {
             Trigger::Created(path) => self.own.use_up(path.as_str()),

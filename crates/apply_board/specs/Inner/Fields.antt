@@ -24,17 +24,17 @@ module _ {W F : Type 0} where
 
 module _ {W F : Type 0} where
   -- what the opener's seat v knows once this seat was taken in, which took in none itself
-  abbrev pub taking : View W F → Sitting W F → View W F
-  taking v seat = record v {
+  abbrev pub with_sitting : View W F → Sitting W F → View W F
+  with_sitting v seat = record v {
     gathered = v.gathered ++ seat.view.given;
     gathered_marks = v.gathered_marks + cond seat.view.spent 1 0;
     unjoined = v.unjoined - 1;
   }
 
   -- and once these were, one after the other
-  abbrev pub gathering : View W F → List (Sitting W F) → View W F
-  gathering v [] = v
-  gathering v (seat ∷ seats) = gathering (taking v seat) seats
+  abbrev pub with_sittings : View W F → List (Sitting W F) → View W F
+  with_sittings v [] = v
+  with_sittings v (seat ∷ seats) = with_sittings (with_sitting v seat) seats
 
 -- there is a word more than slots, and room to list what lies in these
 pub record IsRoomy {A : Type 0} (board : BoardId) (groups : List A) (capacity : ℕ) : Type 0 where

@@ -4,20 +4,20 @@ use Rattle.std.specs.List.{zip}
 use Rattle.std.specs.BTreeMap.{get_by_text}
 use Rattle.ephemerals.specs.Orders.{Bytes}
 use Rattle.txn_codec.specs.declared.txn.Txn.{Txn}
-use Rattle.data_tree.specs.Commuting.{Tagged}
+use Rattle.data_tree.specs.Commuting.{GroupedTxn}
 use Rattle.batcher.specs.declared.draft.Draft.{Draft}
-use Rattle.batcher.specs.Groups.{group_with, classes_of}
+use Rattle.batcher.specs.Groups.{group_with, txn_groups_of}
 
 -- its transactions
 abbrev pub txns_in : Draft → List Txn
 txns_in draft = map (λ t. t.now) draft.txns.items
 
 -- with their groups
-abbrev pub taken_in : Draft → List Tagged
-taken_in draft = zip draft.numbers.items (txns_in draft)
+abbrev pub tagged_in : Draft → List GroupedTxn
+tagged_in draft = zip draft.numbers.items (txns_in draft)
 
 -- the groups, and what is kept to find them, are those of its transactions
 pub record IsDraft (draft : Draft) : Type 0 where
   pub numbers : length draft.numbers.items ≡ length (txns_in draft)
-  pub owners : (path : Bytes) → get_by_text draft.owners path ≡ group_with (taken_in draft) path
-  pub groups : draft.groups.items ≡ classes_of (taken_in draft)
+  pub owners : (path : Bytes) → get_by_text draft.owners path ≡ group_with (tagged_in draft) path
+  pub groups : draft.groups.items ≡ txn_groups_of (tagged_in draft)

@@ -2,32 +2,32 @@
 use Rattle.std.specs.Prelude.{ℕ, zero, suc, List, [], ◌∷◌, ◌++◌, Option, Some, None, ◌==◌, if◌then◌else◌}
 use Rattle.std.specs.FinSet as set
 use Rattle.ephemerals.specs.Orders.{Bytes}
-use Rattle.batcher.specs.Class.{Class, no_member}
+use Rattle.batcher.specs.Class.{TxnGroup, empty_group}
 use Rattle.batcher.specs.declared.met.Met.{Met}
 use Rattle.batcher.specs.declared.met.Met.TheVariants.{Nothing, Group, Several}
 
 -- the group gains the transaction at the place, with these paths
-abbrev pub joined : Class → ℕ → List Bytes → Class
-joined class place paths =
+abbrev pub with_txn_at : TxnGroup → ℕ → List Bytes → TxnGroup
+with_txn_at class place paths =
     record { members = class.members ++ place ∷ []; paths = set.union class.paths (set.from_list paths) }
 
 -- the group of this number gains a transaction; behind the last group it is a new one
-abbrev pub with_member : List Class → ℕ → ℕ → List Bytes → List Class
-with_member [] k place paths = joined no_member place paths ∷ []
-with_member (c ∷ cs) zero place paths = joined c place paths ∷ cs
+abbrev pub with_member : List TxnGroup → ℕ → ℕ → List Bytes → List TxnGroup
+with_member [] k place paths = with_txn_at empty_group place paths ∷ []
+with_member (c ∷ cs) zero place paths = with_txn_at c place paths ∷ cs
 with_member (c ∷ cs) (suc k) place paths = c ∷ with_member cs k place paths
 
 -- what was met, and what has one path more
-abbrev pub also : Met → Option ℕ → Met
-also met None = met
-also Nothing (Some k) = Group k
-also (Group j) (Some k) = if k == j then Group j else Several
-also Several (Some k) = Several
+abbrev pub met_with : Met → Option ℕ → Met
+met_with met None = met
+met_with Nothing (Some k) = Group k
+met_with (Group j) (Some k) = if k == j then Group j else Several
+met_with Several (Some k) = Several
 
 -- what was met, and what has each of the paths
 abbrev pub all_met : (Bytes → Option ℕ) → Met → List Bytes → Met
 all_met owner met [] = met
-all_met owner met (p ∷ ps) = all_met owner (also met (owner p)) ps
+all_met owner met (p ∷ ps) = all_met owner (met_with met (owner p)) ps
 
 -- the group that was met, or a new one; nothing, where several were met
 abbrev pub met_group : ℕ → Met → Option ℕ

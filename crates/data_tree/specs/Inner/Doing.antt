@@ -2,16 +2,16 @@
 use Rattle.std.specs.Prelude.{◌≡◌, ℤ, List, ◌++◌, Result, Ok, Err}
 use Rattle.values.specs.declared.fault.NoMemory.{NoMemory}
 use Rattle.data_tree.specs.State.{State}
-use Rattle.data_tree.specs.Meaning.{Meant}
+use Rattle.data_tree.specs.Meaning.{TxnEffect}
 use Rattle.data_tree.specs.declared.outcome.Trigger.{Trigger}
 
 -- the error is answered, the state is left, and what is fired stands behind what was fired before
-pub record IsDone (meant : Meant) (error : ℤ) (new : State) (before after : List Trigger) : Type 0 where
+pub record IsEffectDone (meant : TxnEffect) (error : ℤ) (new : State) (before after : List Trigger) : Type 0 where
   pub state : new ≡ meant.state
   pub err : error ≡ meant.err
   pub fired : after ≡ before ++ meant.triggers
 
 -- done; or refused for want of memory, and then the state is as it was
-abbrev pub Does : Meant → Result ℤ NoMemory → State → State → List Trigger → List Trigger → Type 0
-Does meant (Ok error) old new before after = IsDone meant error new before after
-Does meant (Err e) old new before after = new ≡ old
+abbrev pub DoesEffect : TxnEffect → Result ℤ NoMemory → State → State → List Trigger → List Trigger → Type 0
+DoesEffect meant (Ok error) old new before after = IsEffectDone meant error new before after
+DoesEffect meant (Err e) old new before after = new ≡ old

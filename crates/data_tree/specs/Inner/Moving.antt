@@ -9,19 +9,20 @@ use Rattle.data_tree.specs.Making.{update_node}
 use Rattle.data_tree.specs.declared.node.Node.{Node}
 
 -- there is a node just where one of the paths has a node
-abbrev pub HasRoom : Names → Nodes → Nodes → Type 0
-HasRoom paths nodes room = (q : Bytes) → has_node room q ≡ (set.contains paths q && has_node nodes q)
+abbrev pub IsRoomFor : Names → Nodes → Nodes → Type 0
+IsRoomFor paths nodes room = (q : Bytes) → has_node room q ≡ (set.contains paths q && has_node nodes q)
 
 -- the node, if any, in place of the one at the path
-abbrev pub filled : Bytes → Option Node → Nodes → Nodes
-filled path None room = room
-filled path (Some node) room = update_node room path (λ (n : Node). node)
+abbrev pub with_replaced_node : Bytes → Option Node → Nodes → Nodes
+with_replaced_node path None room = room
+with_replaced_node path (Some node) room = update_node room path (λ (n : Node). node)
 
 abbrev pub without_nodes : List Bytes → Nodes → Nodes
 without_nodes [] nodes = nodes
 without_nodes (p ∷ ps) nodes = without_nodes ps (finmap.remove nodes p)
 
 -- the room, with the nodes at the paths
-abbrev pub moved : List Bytes → Nodes → Nodes → Nodes
-moved [] nodes room = room
-moved (p ∷ ps) nodes room = moved ps (finmap.remove nodes p) (filled p (finmap.get nodes p) room)
+abbrev pub with_moved_nodes : List Bytes → Nodes → Nodes → Nodes
+with_moved_nodes [] nodes room = room
+with_moved_nodes (p ∷ ps) nodes room =
+    with_moved_nodes ps (finmap.remove nodes p) (with_replaced_node p (finmap.get nodes p) room)

@@ -4,7 +4,7 @@ use Rattle.std.specs.Ordering.{int_cmp}
 use Rattle.std.specs.FinMap as finmap
 use Rattle.std.specs.FinSet as set
 use Rattle.std.specs.declared.string.String.{String}
-use Rattle.ephemerals.specs.Orders.{Bytes, path_cmp, Pairs, Sessions}
+use Rattle.ephemerals.specs.Orders.{Bytes, path_cmp, OwnerPairs, SessionIds}
 use Rattle.ephemerals.specs.Grouped as grouped
 
 -- pairs of a path and a session
@@ -12,8 +12,8 @@ abbrev pub PathPairs : Type 0
 PathPairs = set.FinSet (grouped.pair_cmp path_cmp int_cmp)
 
 -- the session before the path
-abbrev pub turned : PathPairs → Pairs
-turned pairs = set.from_list (map (λ (p : Bytes × ℤ). (p.1, p.0)) (set.items pairs))
+abbrev pub swapped_pairs : PathPairs → OwnerPairs
+swapped_pairs pairs = set.from_list (map (λ (p : Bytes × ℤ). (p.1, p.0)) (set.items pairs))
 
-abbrev pub path_pairs : {Z : Type 0} → List (String Z × Sessions) → Pairs
-path_pairs es = turned (grouped.pairs_of (finmap.from_entries {R = path_cmp} (grouped.by_bytes es)))
+abbrev pub path_pairs : {Z : Type 0} → List (String Z × SessionIds) → OwnerPairs
+path_pairs es = swapped_pairs (grouped.pairs_of (finmap.from_entries {R = path_cmp} (grouped.by_bytes es)))

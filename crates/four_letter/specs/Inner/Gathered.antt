@@ -6,21 +6,21 @@ use Rattle.std.specs.List.{filter, flat_map}
 use Rattle.std.specs.Ordering.{eq_by_cmp, int_cmp}
 use Rattle.ephemerals.specs.Orders.{Bytes, path_cmp}
 use Rattle.watch_manager.specs.Pairs.{same_path}
-use Rattle.watch_manager.specs.Ascending.{ascending}
+use Rattle.watch_manager.specs.Ascending.{sorted_distinct}
 use Rattle.four_letter.specs.Texts.{session_line}
 use Rattle.four_letter.specs.declared.figures.WatchRow.{WatchRow}
 use denote.Ref.{Bor}
 
 -- paths, each with its sessions
-abbrev pub Gathered : Type 0
-Gathered = List (Bytes × List ℤ)
+abbrev pub SessionsByPath : Type 0
+SessionsByPath = List (Bytes × List ℤ)
 
 -- the entries of a map
-abbrev pub gathered : List (Bor (List ℕ) × BTreeSet ℤ) → Gathered
-gathered entries = map (λ (e : Bor (List ℕ) × BTreeSet ℤ). (e.0.now, e.1.keys)) entries
+abbrev pub sessions_by_path : List (Bor (List ℕ) × BTreeSet ℤ) → SessionsByPath
+sessions_by_path entries = map (λ (e : Bor (List ℕ) × BTreeSet ℤ). (e.0.now, e.1.keys)) entries
 
 -- the path of the watch has one more session, and all else stays
-abbrev pub AddsSession : WatchRow → Gathered → Gathered → Type 0
+abbrev pub AddsSession : WatchRow → SessionsByPath → SessionsByPath → Type 0
 AddsSession row old new =
     (q : Bytes) → find path_cmp q new
     ≡ (if eq_by_cmp path_cmp q row.path
@@ -32,13 +32,13 @@ sessions_on path rows =
     map (λ (r : WatchRow). r.session) (filter (λ (r : WatchRow). same_path path r.path) rows)
 
 -- sessions in order, where there are any
-abbrev pub in_order : List ℤ → Option (List ℤ)
-in_order [] = None
-in_order (session ∷ sessions) = Some (ascending int_cmp (session ∷ sessions))
+abbrev pub sorted_sessions : List ℤ → Option (List ℤ)
+sorted_sessions [] = None
+sorted_sessions (session ∷ sessions) = Some (sorted_distinct int_cmp (session ∷ sessions))
 
 -- at each path stand its sessions
-abbrev pub Gathers : List WatchRow → Gathered → Type 0
-Gathers rows all = (q : Bytes) → find path_cmp q all ≡ in_order (sessions_on q rows)
+abbrev pub GathersSessions : List WatchRow → SessionsByPath → Type 0
+GathersSessions rows all = (q : Bytes) → find path_cmp q all ≡ sorted_sessions (sessions_on q rows)
 
-abbrev pub blocks : Gathered → List ℕ
-blocks all = flat_map (λ (e : Bytes × List ℤ). e.0 ++ codes "\n" ++ flat_map session_line e.1) all
+abbrev pub path_blocks : SessionsByPath → List ℕ
+path_blocks all = flat_map (λ (e : Bytes × List ℤ). e.0 ++ codes "\n" ++ flat_map session_line e.1) all

@@ -3,6 +3,6 @@ use Rattle.std.specs.Prelude.{ℕ, ◌≡◌, ◌≤◌, ◌<◌, Option, Some, 
 use Rattle.read_processor.specs.Limits.{body_limit}
 
 -- the count of these bytes; none where they are more than a frame holds
-abbrev pub Counts : Option ℕ → ℕ → Type 0
-Counts None bytes = body_limit < bytes
-Counts (Some count) bytes = (count ≡ bytes) × (bytes ≤ body_limit)
+abbrev pub CountsBytes : Option ℕ → ℕ → Type 0
+CountsBytes None bytes = body_limit < bytes
+CountsBytes (Some count) bytes = (count ≡ bytes) × (bytes ≤ body_limit)

@@ -3,5 +3,5 @@ use Rattle.std.specs.Prelude.{ℕ, List, length, ◌+◌, ◌≤◌}
 use Rattle.read_processor.specs.Limits.{body_limit}
 
 -- room for a length and a header, and a body behind it that a frame holds
-abbrev pub HasRoom : List ℕ → Type 0
-HasRoom bytes = (20 ≤ length bytes) × (length bytes ≤ 20 + body_limit)
+abbrev pub HasHeaderRoom : List ℕ → Type 0
+HasHeaderRoom bytes = (20 ≤ length bytes) × (length bytes ≤ 20 + body_limit)

@@ -6,7 +6,7 @@ use Rattle.std.specs.FinMap as finmap
 use Rattle.std.specs.FinSet as set
 use Rattle.ephemerals.specs.Orders.{Bytes, path_cmp, Names}
 pub use Rattle.ephemerals.specs.Grouped.{pair_cmp, pairs_of, by_bytes}
-use Rattle.watch_manager.specs.Pairs.{Connections, Pairs, same_connection}
+use Rattle.watch_manager.specs.Pairs.{ConnectionSet, WatchPairs, same_connection}
 
 -- pairs of a connection and a path
 abbrev pub ConnPairs : Type 0
@@ -15,11 +15,11 @@ ConnPairs = set.FinSet (pair_cmp nat_cmp path_cmp)
 abbrev pub conn_pairs : List (ℕ × Names) → ConnPairs
 conn_pairs es = pairs_of (finmap.from_entries {R = nat_cmp} es)
 
-abbrev pub path_pairs : {Z : Type 0} → List (String Z × Connections) → Pairs
-path_pairs es = pairs_of (finmap.from_entries {R = path_cmp} (by_bytes es))
+abbrev pub watch_pairs_of : {Z : Type 0} → List (String Z × ConnectionSet) → WatchPairs
+watch_pairs_of es = pairs_of (finmap.from_entries {R = path_cmp} (by_bytes es))
 
 -- the same watches, by path and by connection
-abbrev pub AgreeOn : Pairs → ConnPairs → Type 0
+abbrev pub AgreeOn : WatchPairs → ConnPairs → Type 0
 AgreeOn by_path by_conn =
     (path : Bytes) (conn : ℕ) → set.contains by_path (path, conn) ≡ set.contains by_conn (conn, path)
 
@@ -29,9 +29,9 @@ without_conns path [] pairs = pairs
 without_conns path (conn ∷ conns) pairs = without_conns path conns (set.remove pairs (conn, path))
 
 -- without the connection at each of the paths
-abbrev pub without_paths : ℕ → List Bytes → Pairs → Pairs
-without_paths conn [] pairs = pairs
-without_paths conn (path ∷ paths) pairs = without_paths conn paths (set.remove pairs (path, conn))
+abbrev pub without_watched_paths : ℕ → List Bytes → WatchPairs → WatchPairs
+without_watched_paths conn [] pairs = pairs
+without_watched_paths conn (path ∷ paths) pairs = without_watched_paths conn paths (set.remove pairs (path, conn))
 
 -- without the pairs of the connection
 abbrev pub without_key : ℕ → ConnPairs → ConnPairs

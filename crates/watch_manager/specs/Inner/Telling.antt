@@ -2,12 +2,12 @@
 use Rattle.std.specs.Prelude.{ℕ, not}
 use Rattle.std.specs.FinSet as set
 use Rattle.ephemerals.specs.Orders.{Bytes, Names}
-use Rattle.watch_manager.specs.Pairs.{Pairs}
-use Rattle.watch_manager.specs.Watching.{Watching}
+use Rattle.watch_manager.specs.Pairs.{WatchPairs}
+use Rattle.watch_manager.specs.Watching.{WatchTables}
 
 -- the watches on other paths than these
-abbrev pub but_on : Names → Pairs → Pairs
-but_on paths pairs = set.retain pairs (λ (p : Bytes × ℕ). not (set.contains paths p.0))
+abbrev pub watches_elsewhere : Names → WatchPairs → WatchPairs
+watches_elsewhere paths pairs = set.retain pairs (λ (p : Bytes × ℕ). not (set.contains paths p.0))
 
-abbrev pub watching : Pairs → Pairs → Watching
-watching own child = record { own = own; child = child }
+abbrev pub watch_tables : WatchPairs → WatchPairs → WatchTables
+watch_tables own child = record { own = own; child = child }

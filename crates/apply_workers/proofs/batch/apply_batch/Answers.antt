@@ -1,9 +1,9 @@
 use Rattle.std.proofs.Common.{rules, ◌≡◌, true, false, sym, ap, ap₂, subst, ◌∙◌, length}
 use Rattle.std.proofs.lemmas.Result.{on_ok_weaker}
-use Rattle.data_tree.specs.Meaning.{outcomes}
+use Rattle.data_tree.specs.Meaning.{outcomes_of_txns}
 use Rattle.batcher.specs.Cut.{groups_of, is_batch, is_barrier_alone}
-use Rattle.apply_workers.specs.Homing.{timed, with_each, AreShares}
-use Rattle.apply_workers.specs.Taking.{cells_of_each, without_each}
+use Rattle.apply_workers.specs.Homing.{with_timeouts_set, with_all_cells, IsSplitByGroup}
+use Rattle.apply_workers.specs.Taking.{cells_of_each, without_group_cells}
 use Rattle.apply_workers.proofs.CameHome.{if_ok, came_home, cells_length}
 use Rattle.apply_workers.proofs.batch.apply_batch.Goals as goal
 
@@ -23,9 +23,10 @@ returns-clause-tree g c =
     c.in_ok-done.ensures.homes c.in_ok-done.ensures.count
     (c.in_ok-works.ensures.cells ∙ c.in_ok-cells.ensures.cells ∙ ap (λ cs. cells_of_each cs s) c.groups-2.ensures)
     c.in_ok-works.ensures.txns in
-    let left = c.in_ok-cells.ensures.rest ∙ ap (λ cs. without_each cs s) c.groups-2.ensures in
+    let left = c.in_ok-cells.ensures.rest ∙ ap (λ cs. without_group_cells cs s) c.groups-2.ensures in
     on_ok_weaker c.home.result
-    (λ h. h ∙ ap₂ (λ cs u. timed c.args.batch (with_each cs u)) back.left left ∙ law.state) c.home.ensures.tree
+    (λ h. h ∙ ap₂ (λ cs u. with_timeouts_set c.args.batch (with_all_cells cs u)) back.left left ∙ law.state)
+    c.home.ensures.tree
 
 pub returns-clause-outcomes : goal.returns-clause-outcomes
 returns-clause-outcomes g c =
@@ -38,6 +39,7 @@ returns-clause-outcomes g c =
     c.in_ok-done.ensures.homes c.in_ok-done.ensures.count
     (c.in_ok-works.ensures.cells ∙ c.in_ok-cells.ensures.cells ∙ ap (λ cs. cells_of_each cs s) c.groups-2.ensures)
     c.in_ok-works.ensures.txns in
-    if_ok c.home.result (λ v h. h (outcomes s c.args.batch)
-    (subst (λ shares. AreShares c.args.batch (outcomes s c.args.batch) shares) (sym back.answered) law.shares))
+    if_ok c.home.result (λ v h. h (outcomes_of_txns s c.args.batch)
+    (subst (λ shares. IsSplitByGroup c.args.batch (outcomes_of_txns s c.args.batch) shares) (sym back.answered)
+    law.shares))
     c.home.ensures.outcomes

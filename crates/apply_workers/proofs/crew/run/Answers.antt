@@ -3,8 +3,8 @@ use Rattle.apply_board.specs.Closing.{AreHome}
 use Rattle.apply_workers.proofs.Crews.{ready_fits, back}
 use Rattle.apply_workers.proofs.crew.run.Goals as goal
 
-pub worked-requires-after_bounds : goal.worked-requires-after_bounds
-worked-requires-after_bounds g c κs within = ready_fits _ _ c.in_ok-crew.crew.items c.in_ok-crew.ensures
+pub run_workers-requires-after_bounds : goal.run_workers-requires-after_bounds
+run_workers-requires-after_bounds g c κs within = ready_fits _ _ c.in_ok-crew.crew.items c.in_ok-crew.ensures
 
 pub close-requires : goal.close-requires
 close-requires g c = (back _ _ _ c.in_ok-seats.seats.items c.in_ok-crew.ensures c.in_ok-seats.ensures).0.0

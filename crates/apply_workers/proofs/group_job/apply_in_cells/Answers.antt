@@ -1,5 +1,5 @@
 use Rattle.std.proofs.Common.{rules, refl, ◌≡◌, ◌+◌, ◌∷◌, [], ◌++◌, arith, sym, ap, ◌∙◌, drop, get_or, Result, Ok, Err, OnErr}
-use Rattle.data_tree.specs.Cells.{mean_in_cells, after_in_cells, outcomes_in_cells}
+use Rattle.data_tree.specs.Cells.{effect_in_cells, after_in_cells, outcomes_in_cells}
 use Rattle.data_tree.specs.Meaning.{answer_of}
 use Rattle.apply_workers.specs.Places.{at_places}
 use Rattle.apply_workers.proofs.Loops.{goes_on, moved_on, next_place}
@@ -56,8 +56,8 @@ loop-place-preserved c =
           (ap (λ s. after_in_cells s rest) (sym done.cells)) at.invariant.cells;
       answers = goes_on old rest t _ (λ ts. outs ++ outcomes_in_cells at.cells ts)
           (λ ts. new ++ outcomes_in_cells c.apply.new.self ts) step
-          (moved_on outs new (outcomes_in_cells (mean_in_cells at.cells t).state rest)
-          (answer_of (mean_in_cells at.cells t)) items
+          (moved_on outs new (outcomes_in_cells (effect_in_cells at.cells t).state rest)
+          (answer_of (effect_in_cells at.cells t)) items
           ∙ ap (λ s. new ++ outcomes_in_cells s rest) (sym done.cells)) at.invariant.answers;
       count = omega arith;
       done = one_more c.args.cells (at_places c.args.txns.now c.args.members.now) at.cells c.apply.new.self old rest t i

@@ -1,7 +1,7 @@
 use Rattle.std.proofs.Common.{rules, ◌≡◌, ◌≤◌, ◌||◌, ◌+◌, arith, length, map, sym, ap, ap₂, ◌∙◌, subst, subst₂, slice_set}
 use Rattle.std.specs.List.{list_any}
 use Rattle.apply_workers.specs.Schedule.{has_work, done_by}
-use Rattle.apply_workers.specs.Hands.{all_shown, AreHeld}
+use Rattle.apply_workers.specs.Hands.{group_states_from, AreWithinGroups}
 use Rattle.apply_workers.proofs.Shown.{held_length, still_held, within_batch, DoneTo, AllDone, done_begins, done_goes_on, done_ends}
 use Rattle.apply_workers.proofs.groups.do_next.Goals.{then-taken, else-taken}
 use Rattle.apply_workers.proofs.groups.do_next.Goals as goal
@@ -9,7 +9,7 @@ use Rattle.apply_workers.proofs.groups.do_next.Goals as goal
 pub loop-place-init : goal.loop-place-init
 loop-place-init c =
     done_begins c.txns-txns.result.now c.groups-groups.result.now (has_work c.args.worker) (done_by c.args.worker)
-    c.args.hands.now (subst (λ cs. AreHeld cs c.args.hands.now) (sym c.groups-groups.ensures) c.requires)
+    c.args.hands.now (subst (λ cs. AreWithinGroups cs c.args.hands.now) (sym c.groups-groups.ensures) c.requires)
 
 pub bounds-groups-place : goal.bounds-groups-place
 bounds-groups-place c =
@@ -33,7 +33,7 @@ returns-in_err-done-clause-held c =
     let same = at.auto.hands in
     let l = c.loop-place-test.true in
     let new = slice_set at.hands at.place c.do_next.new.self in
-    subst (λ cs. AreHeld cs new) c.groups-groups.ensures
+    subst (λ cs. AreWithinGroups cs new) c.groups-groups.ensures
     (still_held c.groups-groups.result.now at.hands at.place c.index-groups-place.result c.index-hands-place.result
     c.do_next.new.self at.invariant.held (omega arith) c.index-groups-place.is
     c.in_err-done.ensures.count)
@@ -68,16 +68,18 @@ all_done c =
     c.args.hands.now c.loop-place.hands c.loop-place.place c.loop-place.taken c.loop-place.invariant past
 
 pub returns-clause-held : goal.returns-clause-held
-returns-clause-held c = subst (λ cs. AreHeld cs c.loop-place.hands) c.groups-groups.ensures (all_done c).held
+returns-clause-held c = subst (λ cs. AreWithinGroups cs c.loop-place.hands) c.groups-groups.ensures (all_done c).held
 
 pub returns-clause-taken : goal.returns-clause-taken
 returns-clause-taken c =
     (all_done c).taken_is
-    ∙ ap₂ (λ ts cs. list_any (has_work c.args.worker) (all_shown ts 0 cs c.args.hands.now)) c.txns-txns.ensures.txns
+    ∙ ap₂ (λ ts cs. list_any (has_work c.args.worker) (group_states_from ts 0 cs c.args.hands.now))
+    c.txns-txns.ensures.txns
     c.groups-groups.ensures
 
 pub returns-clause-groups : goal.returns-clause-groups
 returns-clause-groups c =
-    subst₂ (λ ts cs. all_shown ts 0 cs c.loop-place.hands
-    ≡ map (done_by c.args.worker) (all_shown ts 0 cs c.args.hands.now)) c.txns-txns.ensures.txns c.groups-groups.ensures
+    subst₂ (λ ts cs. group_states_from ts 0 cs c.loop-place.hands
+    ≡ map (done_by c.args.worker) (group_states_from ts 0 cs c.args.hands.now)) c.txns-txns.ensures.txns
+    c.groups-groups.ensures
     (all_done c).groups

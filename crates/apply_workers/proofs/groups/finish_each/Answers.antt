@@ -1,6 +1,6 @@
 use Rattle.std.proofs.Common.{rules, ◌≡◌, ◌<◌, length, sym, ap₂, ◌∙◌, subst}
 use Rattle.std.specs.Vec.Iter.{into_iter_items, into_iter_len}
-use Rattle.apply_workers.specs.Hands.{all_shown}
+use Rattle.apply_workers.specs.Hands.{group_states_from}
 use Rattle.apply_workers.proofs.Loops.{nothing_left}
 use Rattle.apply_workers.proofs.Shown.{within_batch, one_left, AllFinished, finish_ends, cells_left, all_answers}
 use Rattle.apply_workers.proofs.groups.finish_each.Goals as goal
@@ -30,9 +30,11 @@ all_finished c =
 pub returns-clause-cells : goal.returns-clause-cells
 returns-clause-cells c =
     (all_finished c).cells_are
-    ∙ ap₂ (λ ts cs. cells_left (all_shown ts 0 cs c.args.hands.items)) c.txns-txns.ensures.txns c.groups-groups.ensures
+    ∙ ap₂ (λ ts cs. cells_left (group_states_from ts 0 cs c.args.hands.items)) c.txns-txns.ensures.txns
+    c.groups-groups.ensures
 
 pub returns-clause-outcomes : goal.returns-clause-outcomes
 returns-clause-outcomes c =
     (all_finished c).answers_are
-    ∙ ap₂ (λ ts cs. all_answers (all_shown ts 0 cs c.args.hands.items)) c.txns-txns.ensures.txns c.groups-groups.ensures
+    ∙ ap₂ (λ ts cs. all_answers (group_states_from ts 0 cs c.args.hands.items)) c.txns-txns.ensures.txns
+    c.groups-groups.ensures

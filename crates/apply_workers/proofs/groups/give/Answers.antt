@@ -1,7 +1,7 @@
 use Rattle.std.proofs.Common.{rules, ◌≡◌, ◌≤◌, ◌||◌, ◌+◌, arith, length, map, sym, ap, ap₂, ◌∙◌, subst, subst₂, slice_set}
 use Rattle.std.specs.List.{list_any}
 use Rattle.apply_workers.specs.Schedule.{is_finished_by, given_by}
-use Rattle.apply_workers.specs.Hands.{all_shown, AreHeld}
+use Rattle.apply_workers.specs.Hands.{group_states_from, AreWithinGroups}
 use Rattle.apply_workers.proofs.Shown.{held_length, within_batch, DoneTo, AllDone, done_begins, done_goes_on, done_ends}
 use Rattle.apply_workers.proofs.groups.give.Goals.{then-taken, else-taken}
 use Rattle.apply_workers.proofs.groups.give.Goals as goal
@@ -10,7 +10,7 @@ pub loop-place-init : goal.loop-place-init
 loop-place-init c =
     done_begins c.txns-txns.result.now c.groups-groups.result.now (is_finished_by c.args.worker)
     (given_by c.args.worker)
-    c.args.hands.now (subst (λ cs. AreHeld cs c.args.hands.now) (sym c.groups-groups.ensures) c.requires)
+    c.args.hands.now (subst (λ cs. AreWithinGroups cs c.args.hands.now) (sym c.groups-groups.ensures) c.requires)
 
 pub bounds-groups-place : goal.bounds-groups-place
 bounds-groups-place c =
@@ -60,18 +60,18 @@ all_done c =
     c.args.hands.now c.loop-place.hands c.loop-place.place c.loop-place.taken c.loop-place.invariant past
 
 pub returns-clause-held : goal.returns-clause-held
-returns-clause-held c = subst (λ cs. AreHeld cs c.loop-place.hands) c.groups-groups.ensures (all_done c).held
+returns-clause-held c = subst (λ cs. AreWithinGroups cs c.loop-place.hands) c.groups-groups.ensures (all_done c).held
 
 pub returns-clause-taken : goal.returns-clause-taken
 returns-clause-taken c =
     (all_done c).taken_is
-    ∙ ap₂ (λ ts cs. list_any (is_finished_by c.args.worker) (all_shown ts 0 cs c.args.hands.now))
+    ∙ ap₂ (λ ts cs. list_any (is_finished_by c.args.worker) (group_states_from ts 0 cs c.args.hands.now))
     c.txns-txns.ensures.txns
     c.groups-groups.ensures
 
 pub returns-clause-groups : goal.returns-clause-groups
 returns-clause-groups c =
-    subst₂ (λ ts cs. all_shown ts 0 cs c.loop-place.hands
-    ≡ map (given_by c.args.worker) (all_shown ts 0 cs c.args.hands.now)) c.txns-txns.ensures.txns
+    subst₂ (λ ts cs. group_states_from ts 0 cs c.loop-place.hands
+    ≡ map (given_by c.args.worker) (group_states_from ts 0 cs c.args.hands.now)) c.txns-txns.ensures.txns
     c.groups-groups.ensures
     (all_done c).groups

@@ -1,6 +1,6 @@
 use Rattle.std.proofs.Common.{◌≡◌, ◌++◌, length}
 use Rattle.std.specs.Vec.Iter.{into_iter_items, into_iter_len}
-use Rattle.apply_workers.specs.Inner.{homes}
+use Rattle.apply_workers.specs.Inner.{finished_groups}
 use Rattle.apply_workers.proofs.home.all_done.Given as goal
 
 abbrev pub invariant-loop-group : goal.invariant-loop-group

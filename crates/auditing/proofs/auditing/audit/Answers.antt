@@ -1,6 +1,6 @@
 use Rattle.std.proofs.Common.{List, ℕ, ◌++◌, subst, ap, ◌∙◌}
 use Rattle.replay.proofs.Printing.{if_some}
-use Rattle.auditing.specs.Auditing.{Ends}
+use Rattle.auditing.specs.Auditing.{EndsAudit}
 use Rattle.auditing.proofs.Feeding.{ends_kept}
 use Rattle.auditing.proofs.auditing.audit.Goals as goal
 
@@ -12,7 +12,7 @@ returns-in-Ok g c =
     if_some (g.R.Read.remaining c.args.reader.now) _ _
     (λ (text : List ℕ) e.
     ends_kept ending text c.args.path.now old (g.W.Write.contents c.audit_text-ending.new.writer) _
-    (subst (λ t. Ends ending t c.args.path.now old (g.W.Write.contents c.audit_text-ending.new.writer))
+    (subst (λ t. EndsAudit ending t c.args.path.now old (g.W.Write.contents c.audit_text-ending.new.writer))
     (c.as_slice.ensures.value ∙ e ∙ ap (λ xs. xs ++ text) c.new-text.ensures.items) c.audit_text-ending.ensures)
     c.in-Ok.ensures.bytes)
     c.in_default.ensures.bytes

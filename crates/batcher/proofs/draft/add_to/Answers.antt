@@ -1,5 +1,5 @@
 use Rattle.std.proofs.Common.{◌∙◌, ◌≡◌, ap, arith, length}
-use Rattle.batcher.specs.Inner.Joining.{joined}
+use Rattle.batcher.specs.Inner.Joining.{with_txn_at}
 use Rattle.batcher.proofs.Drafting.{put_within, put_behind}
 use Rattle.batcher.proofs.draft.add_to.Goals as goal
 
@@ -14,4 +14,4 @@ returns c =
     let long : c.len.result ≡ length c.args.groups.now.items = c.len.ensures ∙ c.args.groups.now.ok.0 in
     c.in_ok-push.ensures.items
     ∙ put_behind c.args.groups.now.items c.args.group c.args.place c.args.paths.now c.add-2.new.self (omega arith)
-    (c.in_ok-add.ensures ∙ ap (λ class. joined class c.args.place c.args.paths.now) c.new-opened.ensures)
+    (c.in_ok-add.ensures ∙ ap (λ class. with_txn_at class c.args.place c.args.paths.now) c.new-opened.ensures)

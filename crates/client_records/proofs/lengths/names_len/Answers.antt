@@ -1,12 +1,12 @@
 use Rattle.std.proofs.Common.{map, string_bytes, ◌∙◌}
-use Rattle.jute.specs.Format.{name}
+use Rattle.jute.specs.Format.{text_or_empty}
 use Rattle.client_records.proofs.Sizes.{next_name, list_len, names_writable, nothing_yet, count_on, passes, stays_below}
 use Rattle.client_records.proofs.lengths.names_len.Goals as goal
 
 pub returns-in_err-len-clause-len : goal.returns-in_err-len-clause-len
 returns-in_err-len-clause-len c =
     c.from_residual.ensures
-    ∙ passes 4 _ (nothing_yet _ _) (list_len name (map string_bytes c.args.texts)) c.in_err-len.ensures
+    ∙ passes 4 _ (nothing_yet _ _) (list_len text_or_empty (map string_bytes c.args.texts)) c.in_err-len.ensures
 
 pub loop-text-init : goal.loop-text-init
 loop-text-init c =
@@ -14,7 +14,7 @@ loop-text-init c =
       tt,
       tt,
       count_on 4 _ c.in_ok-len.len (nothing_yet _ _)
-          (list_len name (map string_bytes c.args.texts)) c.in_ok-len.ensures,
+          (list_len text_or_empty (map string_bytes c.args.texts)) c.in_ok-len.ensures,
     )
 
 pub returns-in_err-len-2-clause-len : goal.returns-in_err-len-2-clause-len

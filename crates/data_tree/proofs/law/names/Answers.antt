@@ -1,4 +1,4 @@
-use Rattle.data_tree.specs.Meaning.{mean, fresh}
+use Rattle.data_tree.specs.Meaning.{effect_of_txn, fresh_state}
 use Rattle.data_tree.specs.Making.{with_node_in_place}
 use Rattle.data_tree.proofs.Naming.{name_is, each_of_named, named_of_each}
 use Rattle.data_tree.proofs.KeepingNames.{body_keeps, node_keeps, fresh_named}
@@ -8,11 +8,11 @@ pub returns-clause-paths : goal.returns-clause-paths
 returns-clause-paths c = λ path is. name_is path is
 
 pub returns-clause-fresh : goal.returns-clause-fresh
-returns-clause-fresh c = named_of_each fresh.nodes fresh_named
+returns-clause-fresh c = named_of_each fresh_state.nodes fresh_named
 
 pub returns-clause-transactions : goal.returns-clause-transactions
 returns-clause-transactions c =
-    λ s t has named. named_of_each (mean s t).state.nodes
+    λ s t has named. named_of_each (effect_of_txn s t).state.nodes
     (body_keeps t.header t.body s has (each_of_named s.nodes named))
 
 pub returns-clause-nodes : goal.returns-clause-nodes

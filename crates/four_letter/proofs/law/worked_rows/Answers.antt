@@ -1,6 +1,6 @@
 use Rattle.std.proofs.Common.{refl, []}
 use Rattle.std.specs.Fmt.{digits}
-use Rattle.four_letter.specs.Rows.{one_watches, three_watch}
+use Rattle.four_letter.specs.Rows.{one_watcher_figures, three_watcher_figures}
 use Rattle.four_letter.proofs.Evaluating.{wchs-placed, wchp-placed}
 use Rattle.four_letter.proofs.law.worked_rows.Goals as goal
 
@@ -15,8 +15,8 @@ returns c = record {
   mntr = refl;
   wchs = wchs-placed [];
   wchp = wchp-placed [];
-  wchs_one = wchs-placed one_watches.watches;
-  wchp_one = wchp-placed one_watches.watches;
-  wchs_three = wchs-placed three_watch.watches;
-  wchp_three = wchp-placed three_watch.watches;
+  wchs_one = wchs-placed one_watcher_figures.watches;
+  wchp_one = wchp-placed one_watcher_figures.watches;
+  wchs_three = wchs-placed three_watcher_figures.watches;
+  wchp_three = wchp-placed three_watcher_figures.watches;
 }

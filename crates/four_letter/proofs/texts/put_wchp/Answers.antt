@@ -1,7 +1,7 @@
 use Rattle.std.proofs.Common.{◌++◌, List, ℕ, ℤ, ap, subst, sym, codes, ◌∙◌}
 use Rattle.std.specs.List.{flat_map}
 use Rattle.four_letter.specs.Texts.{session_line}
-use Rattle.four_letter.specs.Inner.Gathered.{gathered, blocks, Gathers}
+use Rattle.four_letter.specs.Inner.Gathered.{sessions_by_path, path_blocks, GathersSessions}
 use Rattle.four_letter.proofs.Gathering.{blocks-gathered, block}
 use Rattle.four_letter.proofs.texts.put_wchp.Goals as goal
 
@@ -10,7 +10,7 @@ loop-path-init c =
     let given = c.into_iter-path-iterator.ensures.into_iter_gives in (
       tt,
       tt,
-      ap (λ text. c.args.out.now.items ++ text) (ap (λ es. blocks (gathered es)) given.0
+      ap (λ text. c.args.out.now.items ++ text) (ap (λ es. path_blocks (sessions_by_path es)) given.0
           ∙ blocks-gathered c.args.rows.now c.in_ok-by_path.by_path.entries c.in_ok-by_path.ensures given.5),
     )
 
@@ -19,12 +19,12 @@ loop-path-preserved c =
     let out = c.loop-path.out.items in
     let path = c.in-Some.path.now.now in
     let sessions = flat_map session_line c.in-Some.sessions.now.keys in
-    let rest = blocks (gathered c.next.new.self) in (
+    let rest = path_blocks (sessions_by_path c.next.new.self) in (
       tt,
       tt,
       ap (λ o. o ++ rest) (c.in_ok-put_sessions.ensures
           ∙ ap (λ o. o ++ sessions) (c.in_ok-put-2.ensures ∙ ap (λ o. o ++ codes "\n") c.in_ok-put.ensures))
           ∙ block out path (codes "\n") sessions rest
-          ∙ ap (λ es. out ++ blocks (gathered es)) (sym c.in-Some.ensures.steps)
+          ∙ ap (λ es. out ++ path_blocks (sessions_by_path es)) (sym c.in-Some.ensures.steps)
           ∙ c.loop-path.invariant.2,
     )

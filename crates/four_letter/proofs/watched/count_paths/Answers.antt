@@ -4,7 +4,7 @@ use Rattle.std.proofs.lemmas.List.{length-map}
 use Rattle.std.proofs.lemmas.Map.Lookups.{exact_bytes}
 use Rattle.ephemerals.specs.Orders.{Bytes, path_cmp}
 use Rattle.ephemerals.proofs.Totals.{path_total}
-use Rattle.watch_manager.specs.Ascending.{inserted}
+use Rattle.watch_manager.specs.Ascending.{with_inserted_keys}
 use Rattle.std.specs.BTreeSet.{insert_key}
 use Rattle.four_letter.specs.declared.figures.WatchRow.{WatchRow}
 use Rattle.four_letter.proofs.Counting.{inserted-all, seen-insert, rest_at}
@@ -14,7 +14,7 @@ use denote.Ref.{Bor}
 pub loop-row-init : goal.loop-row-init
 loop-row-init c =
     let paths = map (λ (r : WatchRow). r.path) c.args.rows.now in
-    ap (λ keys. inserted path_cmp (map (λ (k : Bor (List ℕ)). k.now) keys) paths) c.new-paths.ensures.empty
+    ap (λ keys. with_inserted_keys path_cmp (map (λ (k : Bor (List ℕ)). k.now) keys) paths) c.new-paths.ensures.empty
     ∙ inserted-all path_total exact_bytes paths
 
 pub loop-row-preserved : goal.loop-row-preserved
@@ -23,12 +23,12 @@ loop-row-preserved c =
     let i = c.loop-row.row-index in
     let keys = c.loop-row.paths.keys in
     let rest = map (λ (r : WatchRow). r.path) (drop (i + 1) rows) in
-    ap (λ ks. inserted path_cmp (map (λ (k : Bor (List ℕ)). k.now) ks) rest) c.in_ok-insert.ensures.keys
-    ∙ ap (λ ks. inserted path_cmp ks rest)
+    ap (λ ks. with_inserted_keys path_cmp (map (λ (k : Bor (List ℕ)). k.now) ks) rest) c.in_ok-insert.ensures.keys
+    ∙ ap (λ ks. with_inserted_keys path_cmp ks rest)
     (seen-insert path_cmp (λ (k : Bor (List ℕ)). k.now) keys c.as_str.result
     ∙ ap (insert_key path_cmp (map (λ (k : Bor (List ℕ)). k.now) keys)) c.as_str.ensures)
     ∙ ap (λ (rs : List WatchRow).
-    inserted path_cmp (map (λ (k : Bor (List ℕ)). k.now) keys) (map (λ (r : WatchRow). r.path) rs))
+    with_inserted_keys path_cmp (map (λ (k : Bor (List ℕ)). k.now) keys) (map (λ (r : WatchRow). r.path) rs))
     (sym (rest_at rows i c.row-item.result c.loop-row-test.true c.row-item.is))
     ∙ c.loop-row.invariant
 
@@ -39,6 +39,6 @@ returns c =
     c.len.ensures.len
     ∙ sym (length-map keys (λ (k : Bor (List ℕ)). k.now))
     ∙ ap (λ ks. length ks) (ap (λ (rs : List WatchRow).
-    inserted path_cmp (map (λ (k : Bor (List ℕ)). k.now) keys) (map (λ (r : WatchRow). r.path) rs))
+    with_inserted_keys path_cmp (map (λ (k : Bor (List ℕ)). k.now) keys) (map (λ (r : WatchRow). r.path) rs))
     (sym (drop_of_length-le rows c.loop-row-test.false))
     ∙ c.loop-row.invariant)

@@ -1,14 +1,15 @@
 use Rattle.std.proofs.Common.{sym, ap, subst, ◌∙◌}
 use Rattle.observer_core.specs.contracts.machine.World as of_world
 use Rattle.observer_core.specs.Machine.{World}
-use Rattle.observer_core.specs.Steps.{Happened}
-use Rattle.observer_core.specs.Inner.{Meets}
+use Rattle.observer_core.specs.Steps.{StepResult}
+use Rattle.observer_core.specs.Inner.{MeetsStep}
 use Rattle.observer_core.proofs.Serving.{taken_to_hand}
 use Rattle.observer_core.proofs.client.take_client_bytes.Goals as goal
 
 pub returns-in-Some-word_at : goal.returns-in-Some-word_at
 returns-in-Some-word_at c =
-    subst (λ (h : Happened World). Meets c.tell_word.result c.args.outputs.now.items h c.tell_word.new.outputs.items
+    subst (λ (h : StepResult World). MeetsStep c.tell_word.result c.args.outputs.now.items h
+    c.tell_word.new.outputs.items
     c.tell_word.new.world)
     (sym (taken_to_hand c.args.serving c.args.number _ _ (ap of_world.the_view c.world-inside.view_is ∙ c.world.view_is)
     c.in-Some.waiting c.add.new.self _ c.args.bytes.now _ _ _ c.in-Some.ensures.old c.in-Some.ensures.new
@@ -18,7 +19,8 @@ returns-in-Some-word_at c =
 
 pub returns-in-None : goal.returns-in-None
 returns-in-None c =
-    subst (λ (h : Happened World). Meets c.serve_all.result c.args.outputs.now.items h c.serve_all.new.outputs.items
+    subst (λ (h : StepResult World). MeetsStep c.serve_all.result c.args.outputs.now.items h
+    c.serve_all.new.outputs.items
     c.serve_all.new.world)
     (sym (taken_to_hand c.args.serving c.args.number _ _ (ap of_world.the_view c.world-inside.view_is ∙ c.world.view_is)
     c.in-Some.waiting c.add.new.self _ c.args.bytes.now _ _ _ c.in-Some.ensures.old c.in-Some.ensures.new

@@ -2,7 +2,7 @@ use Rattle.std.proofs.Common.{refl, []}
 use Rattle.std.specs.FinMap as finmap
 use Rattle.observer_core.specs.Machine.{World}
 use Rattle.observer_core.specs.Agreement.{ClientsAgree}
-use Rattle.observer_core.specs.Play.{serving}
+use Rattle.observer_core.specs.Play.{is_serving_clients}
 use Rattle.observer_core.specs.Serve.{open_client, end_client}
 use Rattle.observer_core.specs.Apart.{IsTakenUp}
 use Rattle.observer_core.proofs.Agreeing.{opened_agrees, serve_agrees}
@@ -24,7 +24,7 @@ returns c =
       sends = λ m n bytes agree. record {
         leader = refl;
         world = bytes_apart stay keep_watches told (λ (w : World). ClientsAgree w.clients) (λ w a. a.sessions) served
-            (serving m.world) n m.world
+            (is_serving_clients m.world) n m.world
             (finmap.get m.world.clients.connections n) bytes
             (λ k is. opened_agrees n (record { rest = [] }) m.world.clients agree);
       };

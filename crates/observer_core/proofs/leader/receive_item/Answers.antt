@@ -1,7 +1,7 @@
 use Rattle.std.proofs.Common.{subst, Err}
 use Rattle.observer_core.specs.Machine.{World}
-use Rattle.observer_core.specs.Leader.{receive}
-use Rattle.observer_core.specs.Inner.{Receives}
+use Rattle.observer_core.specs.Leader.{item_step}
+use Rattle.observer_core.specs.Inner.{ReceivesItem}
 use Rattle.observer_core.proofs.Delivering.{not_taken}
 use Rattle.observer_core.proofs.leader.receive_item.Goals as goal
 
@@ -14,8 +14,8 @@ returns-in-Err c =
     } in
     let old = c.args.outputs.now.items in
     let loading = c.args.loader.now in
-    subst (λ (w : World). Receives (Err c.in-Err.error) old
-    (receive (record { loading = loading; world = w }) c.args.item) (record { loading = loading; world = w }) old
+    subst (λ (w : World). ReceivesItem (Err c.in-Err.error) old
+    (item_step (record { loading = loading; world = w }) c.args.item) (record { loading = loading; world = w }) old
     (record { loading = c.take.new.loader; world = record inside { replica = c.take.new.self } }))
     c.world.view_is
     (not_taken (record { loading = loading; world = inside }) c.args.item old c.in-Err.error c.take.new.loader

@@ -1,6 +1,6 @@
 use Rattle.std.proofs.Common.{subst}
 use Rattle.observer_core.specs.Machine.{Clients}
-use Rattle.observer_core.specs.Inner.{telling, Meets}
+use Rattle.observer_core.specs.Inner.{send_outcome, MeetsStep}
 use Rattle.observer_core.proofs.Delivering.{told_meets}
 use Rattle.observer_core.proofs.leader.tell.Goals as goal
 
@@ -13,7 +13,7 @@ returns c =
     } in
     let old = c.args.outputs.now.items in
     let new = c.notify_each.new.outputs.items in
-    subst (λ (k : Clients). Meets c.notify_each.result old (telling k c.args.brought.now) new
+    subst (λ (k : Clients). MeetsStep c.notify_each.result old (send_outcome k c.args.brought.now) new
     (record inside { watches = c.fire.new.self }))
     c.clients.view_is
     (told_meets c.notify_each.result old c.send_each.new.outputs.items new inside c.args.brought.now

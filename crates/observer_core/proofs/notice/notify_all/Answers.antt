@@ -2,7 +2,7 @@ use Rattle.std.proofs.Common.{suc, List, ◌∷◌, drop, ap, sym, ◌∙◌}
 use Rattle.std.proofs.lemmas.Result.{err_from_is_err_and}
 use Rattle.std.proofs.Math.Seq.{drop-cons}
 use Rattle.watch_manager.specs.declared.event.Event.{Event}
-use Rattle.observer_core.specs.Clients.{notice, notices_to}
+use Rattle.observer_core.specs.Clients.{notice_to, notices_to}
 use Rattle.observer_core.proofs.Steps.{putting, stops_in_step}
 use Rattle.observer_core.proofs.notice.notify_all.Goals as goal
 
@@ -16,5 +16,5 @@ returns-in_err-notify c =
     rw p.1 (stops_in_step c.args.outputs.now.items (putting (notices_to c.args.number c.args.events.now))
     l.outputs.items c.notify.new.outputs.items
     (putting (notices_to c.args.number (drop l.event-index c.args.events.now)))
-    (putting (notice c.args.number c.event-item.result)) (λ u. putting (notices_to c.args.number others))
+    (putting (notice_to c.args.number c.event-item.result)) (λ u. putting (notices_to c.args.number others))
     (ap (λ (es : List Event). putting (notices_to c.args.number es)) is) c.in_err-notify.ensures l.invariant)

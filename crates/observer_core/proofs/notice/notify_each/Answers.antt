@@ -2,7 +2,7 @@ use Rattle.std.proofs.Common.{ℕ, suc, List, ◌∷◌, drop, ap, sym, ◌∙�
 use Rattle.std.proofs.lemmas.Result.{err_from_is_err_and}
 use Rattle.std.proofs.Math.Seq.{drop-cons}
 use Rattle.watch_manager.specs.declared.event.Event.{Event}
-use Rattle.observer_core.specs.Clients.{notice, notices}
+use Rattle.observer_core.specs.Clients.{notice_to, notices_of}
 use Rattle.observer_core.proofs.Steps.{putting, stops_in_step}
 use Rattle.observer_core.proofs.notice.notify_each.Goals as goal
 
@@ -14,8 +14,8 @@ returns-in_err-notify c =
     let others = drop (suc l.number-index) c.args.events.now in
     let is = drop-cons c.args.events.now l.number-index told c.loop-number-test.true
     ∙ ap (λ (e : ℕ × Event). e ∷ others) (sym c.loop-number-item.is) in
-    rw p.1 (stops_in_step c.args.outputs.now.items (putting (notices c.args.events.now)) l.outputs.items
+    rw p.1 (stops_in_step c.args.outputs.now.items (putting (notices_of c.args.events.now)) l.outputs.items
     c.notify.new.outputs.items
-    (putting (notices (drop l.number-index c.args.events.now))) (putting (notice told.0 told.1))
-    (λ u. putting (notices others))
-    (ap (λ (es : List (ℕ × Event)). putting (notices es)) is) c.in_err-notify.ensures l.invariant)
+    (putting (notices_of (drop l.number-index c.args.events.now))) (putting (notice_to told.0 told.1))
+    (λ u. putting (notices_of others))
+    (ap (λ (es : List (ℕ × Event)). putting (notices_of es)) is) c.in_err-notify.ensures l.invariant)

@@ -1,6 +1,6 @@
 use Rattle.std.proofs.lemmas.Result.{err_from_is_err_and}
 use Rattle.values.proofs.Gaining.{gains_nothing}
-use Rattle.observer_core.specs.Serve.{request}
+use Rattle.observer_core.specs.Serve.{answer_read}
 use Rattle.observer_core.proofs.reading.answer_request.Goals as goal
 
 pub returns-in_err-set_watch_if : goal.returns-in_err-set_watch_if
@@ -8,4 +8,4 @@ returns-in_err-set_watch_if c =
     let p = err_from_is_err_and c.from_residual-in_err-set_watch_if.result
     c.from_residual-in_err-set_watch_if.ensures.1 in
     rw p.1 (gains_nothing c.args.outputs.now.items
-    (request c.args.number c.args.world.now c.args.xid c.args.asked.now).outputs)
+    (answer_read c.args.number c.args.world.now c.args.xid c.args.asked.now).outputs)

@@ -3,7 +3,7 @@ use Rattle.std.proofs.lemmas.Result.{err_from_is_err_and}
 use Rattle.std.proofs.Math.Seq.{drop-cons}
 use Rattle.observer_core.specs.declared.event.Event.{Event}
 use Rattle.observer_core.specs.Machine.{Machine}
-use Rattle.observer_core.specs.Play.{happen, play}
+use Rattle.observer_core.specs.Play.{play_event, play}
 use Rattle.observer_core.proofs.Steps.{stops_in_step}
 use Rattle.observer_core.proofs.run.run.Goals as goal
 
@@ -16,6 +16,6 @@ returns-in_err-happen c =
     ∙ ap (λ (e : Event). e ∷ others) (sym c.event-item.is) in
     rw p.1 (stops_in_step c.args.outputs.now.items (play c.args.machine.now c.args.events.now) l.outputs.items
     c.happen.new.outputs.items
-    (play l.machine (drop l.event-index c.args.events.now)) (happen l.machine c.event-item.result)
+    (play l.machine (drop l.event-index c.args.events.now)) (play_event l.machine c.event-item.result)
     (λ (m : Machine). play m others)
     (ap (λ (es : List Event). play l.machine es) is) c.in_err-happen.ensures l.invariant)

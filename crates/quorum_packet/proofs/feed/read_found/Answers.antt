@@ -25,8 +25,8 @@ returns-then-is_end c =
 
 pub returns-in_ok-packet-in-Packets : goal.returns-in_ok-packet-in-Packets
 returns-in_ok-packet-in-Packets c =
-    packet_found c.args.phase.now c.phase_behind.result c.args.reader.now c.read.new.reader
-    c.in_ok-packet-in-Packets.packet c.in-Packets.is c.in_ok-packet-in-Packets.ensures c.phase_behind.ensures
+    packet_found c.args.phase.now c.phase_after_packet.result c.args.reader.now c.read.new.reader
+    c.in_ok-packet-in-Packets.packet c.in-Packets.is c.in_ok-packet-in-Packets.ensures c.phase_after_packet.ensures
 
 pub returns-in-None : goal.returns-in-None
 returns-in-None c =

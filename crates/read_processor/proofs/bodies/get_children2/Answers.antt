@@ -1,20 +1,20 @@
 use Rattle.std.proofs.Common.{◌≡◌, ◌++◌, List, ℕ, Some, ap, sym, ◌∙◌, arith}
 use Rattle.std.proofs.lemmas.List.{length-append}
-use Rattle.jute.specs.Records.{stat}
-use Rattle.ephemerals.specs.Orders.{in_order}
-use Rattle.data_tree.specs.Stats.{shown}
+use Rattle.jute.specs.Records.{stat_format}
+use Rattle.ephemerals.specs.Orders.{sorted_names}
+use Rattle.data_tree.specs.Stats.{stat_of}
 use Rattle.data_tree.specs.declared.node.Node.{Node}
-use Rattle.client_records.specs.Fields.{names}
+use Rattle.client_records.specs.Fields.{names_format}
 use Rattle.client_records.specs.Responses.{get_children2_response}
 use Rattle.read_processor.proofs.Filling.{fits, too_long}
 use Rattle.read_processor.proofs.Writing.{stat_length, stat_writable}
 use Rattle.read_processor.proofs.bodies.get_children2.Goals as goal
 
 abbrev children : Node → List ℕ
-children node = names.written (in_order node.children)
+children node = names_format.written (sorted_names node.children)
 
 abbrev numbers : Node → List ℕ
-numbers node = stat.written (shown node)
+numbers node = stat_format.written (stat_of node)
 
 pub returns-in_default : goal.returns-in_default
 unfolding get_children2_response

@@ -1,5 +1,5 @@
 use Rattle.std.proofs.Common.{arith, sym}
-use Rattle.data_tree.specs.Stats.{shown}
+use Rattle.data_tree.specs.Stats.{stat_of}
 use Rattle.client_records.specs.declared.response.GetDataResponse.{GetDataResponse}
 use Rattle.read_processor.specs.Look.{get_data_body}
 use Rattle.read_processor.proofs.Filling.{too_long}
@@ -8,8 +8,8 @@ use Rattle.read_processor.proofs.bodies.get_data.Goals as goal
 
 pub returns-then-lent_len-gt-BODY_LIMIT : goal.returns-then-lent_len-gt-BODY_LIMIT
 returns-then-lent_len-gt-BODY_LIMIT c =
-    let response : GetDataResponse = record { bytes = c.args.node.now.bytes; stat = shown c.args.node.now } in
-    let count = rw c.lent-bytes.ensures at c.lent_len.ensures.length in
+    let response : GetDataResponse = record { bytes = c.args.node.now.bytes; stat = stat_of c.args.node.now } in
+    let count = rw c.borrow_bytes-bytes.ensures at c.lent_len.ensures.length in
     let far = c.if-lent_len-gt-BODY_LIMIT.true in
     sym (too_long (get_data_body c.args.node.now) (omega (arith, get_data_length response, count, far)))
 
@@ -19,5 +19,5 @@ of-requires-clause-writable c =
 
 pub of-requires-clause-small : goal.of-requires-clause-small
 of-requires-clause-small c =
-    let response : GetDataResponse = record { bytes = c.lent-bytes.result; stat = c.shown.result } in
+    let response : GetDataResponse = record { bytes = c.borrow_bytes-bytes.result; stat = c.shown.result } in
     omega (arith, get_data_length response, c.lent_len.ensures.length, c.if-lent_len-gt-BODY_LIMIT.false)

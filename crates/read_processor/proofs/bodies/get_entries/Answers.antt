@@ -1,5 +1,5 @@
 use Rattle.std.proofs.Common.{arith, sym}
-use Rattle.data_tree.specs.Stats.{shown}
+use Rattle.data_tree.specs.Stats.{stat_of}
 use Rattle.client_records.specs.declared.response.GetAclResponse.{GetAclResponse}
 use Rattle.read_processor.specs.Look.{get_acl_body}
 use Rattle.read_processor.proofs.Filling.{too_long}
@@ -8,7 +8,7 @@ use Rattle.read_processor.proofs.bodies.get_entries.Goals as goal
 
 pub returns-in_default : goal.returns-in_default
 returns-in_default c =
-    let response : GetAclResponse = record { acl = c.args.node.now.acl; stat = shown c.args.node.now } in
+    let response : GetAclResponse = record { acl = c.args.node.now.acl; stat = stat_of c.args.node.now } in
     let long = rw c.requires at c.in_default.ensures in
     sym (too_long (get_acl_body c.args.node.now) (omega (arith, get_acl_length response, long)))
 

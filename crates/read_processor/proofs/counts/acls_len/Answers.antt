@@ -1,7 +1,7 @@
 use Rattle.std.proofs.Common.{length, arith}
 use Rattle.std.specs.List.{flat_map}
 use Rattle.std.proofs.lemmas.List.{take_all}
-use Rattle.jute.specs.Owned.{acl}
+use Rattle.jute.specs.Owned.{acl_format}
 use Rattle.jute.proofs.Writing.{length_item}
 use Rattle.read_processor.proofs.Counting.{counted_length, passed}
 use Rattle.read_processor.proofs.counts.acls_len.Goals as goal
@@ -10,14 +10,15 @@ pub returns-in_err-count : goal.returns-in_err-count
 returns-in_err-count c =
     let entries = c.args.entries.now in
     let entry = c.entry-item.result in
-    let whole = counted_length (length entries) (flat_map acl.written entries) in
-    let next = length_item acl.written entries c.loop-entry.entry-index entry c.loop-entry-test.true c.entry-item.is in
+    let whole = counted_length (length entries) (flat_map acl_format.written entries) in
+    let next = length_item acl_format.written entries c.loop-entry.entry-index entry c.loop-entry-test.true
+    c.entry-item.is in
     passed _ _ c.from_residual.ensures
     (omega (arith, whole, next, c.loop-entry.invariant.0, c.in_err-count.ensures))
 
 pub returns : goal.returns
 returns c =
     let entries = c.args.entries.now in
-    let whole = counted_length (length entries) (flat_map acl.written entries) in
+    let whole = counted_length (length entries) (flat_map acl_format.written entries) in
     let all = rw (take_all c.loop-entry.entry-index entries c.loop-entry-test.false) at c.loop-entry.invariant in
     (omega (arith, whole, all.0), omega (arith, whole, all.0, all.1))

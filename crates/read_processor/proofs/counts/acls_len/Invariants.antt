@@ -1,9 +1,9 @@
 use Rattle.std.proofs.Common.{◌≡◌, ◌+◌, ◌≤◌, length, take}
 use Rattle.std.specs.List.{flat_map}
-use Rattle.jute.specs.Owned.{acl}
+use Rattle.jute.specs.Owned.{acl_format}
 use Rattle.read_processor.specs.Limits.{body_limit}
 use Rattle.read_processor.proofs.counts.acls_len.Given as goal
 
 abbrev pub invariant-loop-entry : goal.invariant-loop-entry
 invariant-loop-entry l =
-    (l.count ≡ 4 + length (flat_map acl.written (take l.entry-index l.entries))) × (l.count ≤ body_limit)
+    (l.count ≡ 4 + length (flat_map acl_format.written (take l.entry-index l.entries))) × (l.count ≤ body_limit)

@@ -1,5 +1,5 @@
 use Rattle.std.proofs.Common.{List, ℕ, ◌++◌, subst, ap, ◌∙◌}
-use Rattle.replay.specs.Replay.{Ends}
+use Rattle.replay.specs.Replay.{EndsReplay}
 use Rattle.replay.proofs.Printing.{ends_kept, if_some}
 use Rattle.replay.proofs.replaying.replay.Goals as goal
 
@@ -11,7 +11,7 @@ returns-in-Ok g c =
     if_some (g.R.Read.remaining c.args.reader.now) _ _
     (λ (text : List ℕ) e.
     ends_kept ending text old (g.W.Write.contents c.replay_text-ending.new.writer) _
-    (subst (λ t. Ends ending t old (g.W.Write.contents c.replay_text-ending.new.writer))
+    (subst (λ t. EndsReplay ending t old (g.W.Write.contents c.replay_text-ending.new.writer))
     (c.as_slice.ensures.value ∙ e ∙ ap (λ xs. xs ++ text) c.new-text.ensures.items) c.replay_text-ending.ensures)
     c.in-Ok.ensures.bytes)
     c.in_default.ensures.bytes

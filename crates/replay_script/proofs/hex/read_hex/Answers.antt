@@ -1,6 +1,6 @@
 use Rattle.std.proofs.Common.{◌≡◌, ◌+◌, None, drop, get_or, sym, ap, subst, ◌<◌, IfSome, ◌∙◌, arith}
 use Rattle.values.specs.Maybe.{◌>>=◌}
-use Rattle.values.specs.Hex.{bytes_of, without_blanks, at_least_one}
+use Rattle.values.specs.Hex.{bytes_of_digits, without_blanks, at_least_one}
 use Rattle.replay_script.proofs.Digits.{bytes_behind, bytes_behind_none, first_read, onto, second_read, without_blanks_kept}
 use Rattle.replay_script.proofs.hex.read_hex.Goals as goal
 use Rattle.replay_script.proofs.hex.read_hex.Goals.{in-None, in-Some-high+in_ok-push-in-Some-high}
@@ -13,7 +13,7 @@ returns-in_default c =
     let kept = without_blanks_kept text i (omega arith) c.if-byte-eq32.false in
     let none = bytes_behind_none c.loop-byte.high (get_or text i 0) (without_blanks (drop (i + 1) text))
     (sym c.digit_of.ensures.value ∙ c.in_default.is) in
-    let all : bytes_of (without_blanks text) ≡ None = sym c.loop-byte.invariant.same
+    let all : bytes_of_digits (without_blanks text) ≡ None = sym c.loop-byte.invariant.same
     ∙ ap (λ t. onto bytes (bytes_behind c.loop-byte.high t)) kept ∙ ap (onto bytes) none in
     ap (λ bs. bs >>= at_least_one) (sym all)
 

@@ -1,6 +1,6 @@
 use Rattle.std.proofs.Common.{◌+◌, None, Some, sym, ap, ◌∙◌, cond, length, arith}
 use Rattle.replay_script.specs.Cut.{cut_at}
-use Rattle.replay_script.specs.Script.{Kept, lines_of, or_bad, script_behind, kept_of_nothing}
+use Rattle.replay_script.specs.Script.{PartialScript, lines_of, or_bad, script_after, empty_script}
 use Rattle.replay_script.proofs.Reading.{lines_behind, length_behind, length_behind_cut, named, reads}
 use Rattle.replay_script.proofs.parser.parse.Goals as goal
 
@@ -9,8 +9,8 @@ loop-rest-init c =
     record {
       counted = omega (arith, ap length c.new.ensures);
       same =
-          ap (λ (d : Kept). script_behind 0 d (lines_of c.new.result)) c.new-draft.ensures
-          ∙ ap (λ t. script_behind 0 kept_of_nothing (lines_of t)) c.new.ensures;
+          ap (λ (d : PartialScript). script_after 0 d (lines_of c.new.result)) c.new-draft.ensures
+          ∙ ap (λ t. script_after 0 empty_script (lines_of t)) c.new.ensures;
     }
 
 pub returns-then-not-branch-clause-bad_line : goal.returns-then-not-branch-clause-bad_line
@@ -20,7 +20,7 @@ returns-then-not-branch-clause-bad_line c =
     c.as_slice-in-Some.ensures c.in_ok-take_line.ensures in
     let bad = sym c.loop-rest.invariant.same ∙ read
     ∙ ap (λ b. or_bad (c.loop-rest.number + 1) (cond b (Some c.take_line.new.self) None)
-    (λ more. script_behind (c.loop-rest.number + 1) more (lines_behind c.cut_at-lines.result.behind)))
+    (λ more. script_after (c.loop-rest.number + 1) more (lines_behind c.cut_at-lines.result.behind)))
     c.if-not-branch.true in
     λ n e. named _ (c.loop-rest.number + 1) n e bad
 
@@ -38,6 +38,6 @@ loop-rest-preserved c =
       );
       same = sym (sym c.loop-rest.invariant.same ∙ read
           ∙ ap (λ b. or_bad (c.loop-rest.number + 1) (cond b (Some c.take_line.new.self) None)
-          (λ more. script_behind (c.loop-rest.number + 1) more (lines_behind c.cut_at-lines.result.behind)))
+          (λ more. script_after (c.loop-rest.number + 1) more (lines_behind c.cut_at-lines.result.behind)))
           c.if-not-branch.false);
     }

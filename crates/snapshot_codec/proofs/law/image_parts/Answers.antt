@@ -1,8 +1,8 @@
 use Rattle.jute.proofs.Public.{comes_in_pieces}
-use Rattle.snapshot_codec.specs.Parts.{parts}
+use Rattle.snapshot_codec.specs.Parts.{part_stream}
 use Rattle.snapshot_codec.proofs.Formats.{parts_sound, never_waits}
 use Rattle.snapshot_codec.proofs.Reading.{streamed}
 use Rattle.snapshot_codec.proofs.law.image_parts.Goals as goal
 
 pub returns : goal.returns
-returns c = record { sound = parts_sound; pieces = comes_in_pieces parts streamed; goes_on = never_waits }
+returns c = record { sound = parts_sound; pieces = comes_in_pieces part_stream streamed; goes_on = never_waits }

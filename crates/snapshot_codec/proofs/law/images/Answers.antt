@@ -1,4 +1,4 @@
-use Rattle.snapshot_codec.specs.Image.{image}
+use Rattle.snapshot_codec.specs.Image.{image_format}
 use Rattle.snapshot_codec.proofs.Images.{image_taken, image_again, image_streamed, image_named, begins_none}
 use Rattle.snapshot_codec.proofs.Whole.{image_whole}
 use Rattle.snapshot_codec.proofs.Written.{image_written}
@@ -12,6 +12,6 @@ returns c = record {
   named = image_named;
   refused = begins_none;
   writes = image_written;
-  back = λ s rest fits. image_again s (image.written s) rest (image_written s fits);
+  back = λ s rest fits. image_again s (image_format.written s) rest (image_written s fits);
   whole = image_whole c.names.ensures.paths;
 }

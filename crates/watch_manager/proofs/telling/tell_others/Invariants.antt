@@ -1,12 +1,12 @@
 use Rattle.std.proofs.Common.{◌≡◌, ◌++◌, ℕ, not}
 use Rattle.std.specs.List.{filter}
 use Rattle.std.specs.FinSet as set
-use Rattle.watch_manager.specs.Watches.{told, each_but}
+use Rattle.watch_manager.specs.Watches.{events_for, connections_not_told}
 use Rattle.watch_manager.proofs.telling.tell_others.Given as goal
 
 abbrev pub invariant-loop-conn : goal.invariant-loop-conn
 invariant-loop-conn l =
     (goal.iterator-loop-conn).can_next l.conn-iterator
     × (goal.iterator-loop-conn).is_finite l.conn-iterator
-    × (l.events.items ++ told l.kind l.path (filter (λ (c : ℕ). not (set.contains l.already c)) l.conn-iterator)
-    ≡ l.fn.events.items ++ told l.kind l.path (each_but l.already l.conns))
+    × (l.events.items ++ events_for l.kind l.path (filter (λ (c : ℕ). not (set.contains l.already c)) l.conn-iterator)
+    ≡ l.fn.events.items ++ events_for l.kind l.path (connections_not_told l.already l.conns))

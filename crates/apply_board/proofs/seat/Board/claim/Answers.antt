@@ -1,7 +1,7 @@
 use Rattle.std.proofs.Common.{ap, sym, ◌∙◌, ◌∷◌, arith, Some}
 use Rattle.atomic_table.specs.Table.{rest}
 use Rattle.apply_board.specs.declared.group.Group.TheVariants.{Unclaimed}
-use Rattle.apply_board.specs.Views.{numbers}
+use Rattle.apply_board.specs.Views.{result_numbers}
 use Rattle.apply_board.proofs.Claiming.{claims}
 use Rattle.apply_board.proofs.seat.Board.claim.Goals as goal
 
@@ -14,7 +14,7 @@ fetch_add-found-requires g c = let v = c.seat.view_is in let w = c.self.invarian
   ap (λ s. s.board) v ∙ (c.requires.own ∙ sym c.self.view_is),
   omega arith,
   claims _ _ _ _ _ c.seat.invariant.seated (c.seat.invariant.spent_is ∙ c.if-seat.false) (ap (λ s. s.view.claimed) v
-      ∙ (c.requires.idle ∙ ap (λ s. numbers s.view.given) (sym v))),
+      ∙ (c.requires.idle ∙ ap (λ s. result_numbers s.view.given) (sym v))),
 )
 
 pub exchange-requires : goal.exchange-requires

@@ -1,7 +1,7 @@
 use Rattle.std.proofs.Common.{ap, sym, ◌∙◌, arith, subst, ◌<◌, ◌++◌, ◌||◌}
 use Rattle.std.specs.Mem.Slots.{slots_items}
 use Rattle.apply_board.specs.Seats.{all_given, any_spent, works_of}
-use Rattle.apply_board.specs.Views.{numbers}
+use Rattle.apply_board.specs.Views.{result_numbers}
 use Rattle.apply_board.specs.Closing.{IsSettled}
 use Rattle.apply_board.proofs.Ends.{closes, are_full, settles, first_and_others, Lies}
 use Rattle.apply_board.proofs.seat.Board.close.Goals as goal
@@ -24,8 +24,9 @@ close_with-requires g c = let crew = first_and_others _ _ c.remove.result c.remo
     c.remove.ensures.value c.remove.ensures.items in
     c.gather.ensures.own.0 ∙ (ap (λ s. s.board) c.place.view_is ∙ (crew.1.own ∙ sym c.self.view_is))
 
-pub emptied-requires-clause-full : goal.emptied-requires-clause-full
-emptied-requires-clause-full g c = let crew = first_and_others _ _ c.remove.result c.remove.new.self.items c.requires
+pub drain_slots-requires-clause-full : goal.drain_slots-requires-clause-full
+drain_slots-requires-clause-full g c = let crew =
+    first_and_others _ _ c.remove.result c.remove.new.self.items c.requires
     c.remove.ensures.value c.remove.ensures.items in let v = c.close_with.ensures.values in
     let place = c.place.inside.place.me.0 in let is = c.place.view_is in let made = ap (λ s. s.view.made) is in
     let opener = crew.1.made in
@@ -33,7 +34,8 @@ emptied-requires-clause-full g c = let crew = first_and_others _ _ c.remove.resu
     c.gather.new.place.id place c.gather.new.place.me.0 c.remove.new.self.items v.2
     (ap (λ m. m.0) c.gather.ensures.view)
     (omega arith) c.place.invariant.seated c.place.invariant.alone (ap (λ s. s.view.claimed) is
-    ∙ (crew.1.idle ∙ ap (λ s. numbers s.view.given) (sym is))) (ap (λ s. s.view.unjoined) is ∙ crew.1.unjoined) in
+    ∙ (crew.1.idle ∙ ap (λ s. result_numbers s.view.given) (sym is))) (ap (λ s. s.view.unjoined) is ∙ crew.1.unjoined)
+    in
     are_full _ _ _ _ _ s
 
 pub returns : goal.returns
@@ -45,9 +47,10 @@ returns g c = let crew = first_and_others _ _ c.remove.result c.remove.new.self.
     c.gather.new.place.id place c.gather.new.place.me.0 c.remove.new.self.items v.2
     (ap (λ m. m.0) c.gather.ensures.view)
     (omega arith) c.place.invariant.seated c.place.invariant.alone (ap (λ s. s.view.claimed) is
-    ∙ (crew.1.idle ∙ ap (λ s. numbers s.view.given) (sym is))) (ap (λ s. s.view.unjoined) is ∙ crew.1.unjoined) in
+    ∙ (crew.1.idle ∙ ap (λ s. result_numbers s.view.given) (sym is))) (ap (λ s. s.view.unjoined) is ∙ crew.1.unjoined)
+    in
     let t = subst (λ s. Lies g.W.Yields.gives s.view.works (s.view.given ++ all_given c.remove.new.self.items)
     (s.view.spent || any_spent c.remove.new.self.items) (slots_items c.close_with.result.slots)) is s in
-    subst (λ l. IsSettled g.W.Yields.gives (works_of l) (all_given l) (any_spent l) c.emptied.result.items)
-    (sym crew.0) (settles _ _ _ _ (slots_items c.close_with.result.slots) c.emptied.result.items t
-    c.emptied.ensures)
+    subst (λ l. IsSettled g.W.Yields.gives (works_of l) (all_given l) (any_spent l) c.drain_slots.result.items)
+    (sym crew.0) (settles _ _ _ _ (slots_items c.close_with.result.slots) c.drain_slots.result.items t
+    c.drain_slots.ensures)

@@ -1,6 +1,6 @@
 use Rattle.std.proofs.Common.{◌≡◌, ◌<◌, true, reverse}
 use Rattle.apply_board.specs.Seats.{IsIdle}
-use Rattle.apply_board.specs.Inner.Fields.{gathering}
+use Rattle.apply_board.specs.Inner.Fields.{with_sittings}
 use Rattle.apply_board.proofs.Each.{Each}
 use Rattle.apply_board.proofs.seat.Board.gather.Given as goal
 
@@ -12,7 +12,7 @@ invariant-loop-other g l = record {
   made : 0 < l.place.me.0.made;
   seated : l.place.me.0.seated ≡ true;
   others : Each (λ s. (s.board ≡ l.self) × IsIdle s) (reverse l.others.items);
-  same : gathering l.place.me.0 (reverse l.others.items) ≡ gathering l.fn.place.me.0 l.fn.others.items;
+  same : with_sittings l.place.me.0 (reverse l.others.items) ≡ with_sittings l.fn.place.me.0 l.fn.others.items;
 }
 
 abbrev pub decreases-loop-other : goal.decreases-loop-other

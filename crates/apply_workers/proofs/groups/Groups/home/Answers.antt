@@ -1,10 +1,10 @@
 use Rattle.std.proofs.Common.{rules, ◌≡◌, true, false, IfOk, OnOk, sym, ap, ◌∙◌, subst}
 use Rattle.std.proofs.lemmas.Result.{on_ok_weaker}
 use Rattle.batcher.specs.Cut.{groups_of, is_batch, is_barrier_alone}
-use Rattle.apply_workers.specs.Homing.{timed, with_each, AreShares}
-use Rattle.apply_workers.specs.Schedule.{ended}
-use Rattle.apply_workers.specs.Hands.{all_shown}
-use Rattle.apply_workers.specs.Underway.{Underway}
+use Rattle.apply_workers.specs.Homing.{with_timeouts_set, with_all_cells, IsSplitByGroup}
+use Rattle.apply_workers.specs.Schedule.{batch_result}
+use Rattle.apply_workers.specs.Hands.{group_states_from}
+use Rattle.apply_workers.specs.Underway.{BatchProgress}
 use Rattle.apply_workers.proofs.CameHome.{if_ok}
 use Rattle.apply_workers.proofs.Sharing.{are_brought}
 use Rattle.apply_workers.proofs.groups.Groups.home.Goals as goal
@@ -16,10 +16,12 @@ returns-clause-tree c =
     let batch : is_batch txns ≡ true = search rules in
     let alone : is_barrier_alone txns ≡ false = search rules in
     let back = are_brought c.groups.ensures.each s txns batch alone c.self.inside.hands.items c.self.invariant in
-    subst (λ (u : Underway). OnOk c.home.result (c.home.new.tree ≡ (ended s u.batch u.progress.groups).state))
+    subst (λ (u : BatchProgress). OnOk c.home.result
+    (c.home.new.tree ≡ (batch_result s u.batch u.progress.groups).state))
     c.self.view_is
     (on_ok_weaker c.home.result
-    (λ h. h ∙ ap (λ cs. timed txns (with_each cs s)) c.in_ok-done.ensures.cells ∙ back.state) c.home.ensures.tree)
+    (λ h. h ∙ ap (λ cs. with_timeouts_set txns (with_all_cells cs s)) c.in_ok-done.ensures.cells ∙ back.state)
+    c.home.ensures.tree)
 
 pub returns-clause-outcomes : goal.returns-clause-outcomes
 returns-clause-outcomes c =
@@ -28,10 +30,11 @@ returns-clause-outcomes c =
     let batch : is_batch txns ≡ true = search rules in
     let alone : is_barrier_alone txns ≡ false = search rules in
     let hands = c.self.inside.hands.items in
-    let whole = (ended s txns (all_shown txns 0 (groups_of txns) hands)).outcomes in
+    let whole = (batch_result s txns (group_states_from txns 0 (groups_of txns) hands)).outcomes in
     let back = are_brought c.groups.ensures.each s txns batch alone hands c.self.invariant in
-    subst (λ (u : Underway). IfOk c.home.result (λ v. v.items ≡ (ended s u.batch u.progress.groups).outcomes))
+    subst (λ (u : BatchProgress). IfOk c.home.result
+    (λ v. v.items ≡ (batch_result s u.batch u.progress.groups).outcomes))
     c.self.view_is
     (if_ok c.home.result (λ v h. h whole
-    (subst (λ shares. AreShares txns whole shares) (sym c.in_ok-done.ensures.outcomes) back.shares))
+    (subst (λ shares. IsSplitByGroup txns whole shares) (sym c.in_ok-done.ensures.outcomes) back.shares))
     c.home.ensures.outcomes)

@@ -1,11 +1,11 @@
 use Rattle.std.proofs.Common.{sym, ap, ◌∙◌, map, string_bytes}
-use Rattle.data_tree.specs.Inner.Moving.{without_nodes, moved}
+use Rattle.data_tree.specs.Inner.Moving.{without_nodes, with_moved_nodes}
 use Rattle.data_tree.proofs.MovedCells.{all_moved, none_left}
 use Rattle.data_tree.proofs.node_map.NodeMap.take.Goals as goal
 
 pub returns-clause-taken : goal.returns-clause-taken
 returns-clause-taken c =
-    ap (λ ps. moved (map string_bytes ps) c.loop-path.self c.loop-path.taken) (sym c.in-None.ensures.steps.0)
+    ap (λ ps. with_moved_nodes (map string_bytes ps) c.loop-path.self c.loop-path.taken) (sym c.in-None.ensures.steps.0)
     ∙ c.loop-path.invariant.3
     ∙ all_moved c.args.paths.now c.args.self.now c.in_ok-taken.taken c.in_ok-taken.ensures
 

@@ -4,7 +4,7 @@ use Rattle.std.proofs.Math.Path.{subst}
 use Rattle.std.proofs.lemmas.Grind.{common_steps}
 use Rattle.jute.specs.declared.codes.TheConstants.{NODE_EXISTS}
 use Rattle.txn_codec.specs.declared.txn.Operation.TheVariants as op
-use Rattle.data_tree.specs.Inner.Doing.{IsDone}
+use Rattle.data_tree.specs.Inner.Doing.{IsEffectDone}
 use Rattle.txn_codec.specs.Paths.{parent_of, name_of}
 use Rattle.data_tree.specs.State.{State}
 use Rattle.data_tree.specs.Meaning.{of_operation}
@@ -22,7 +22,7 @@ returns-in-Taken c =
     let before : State =
     record { nodes = c.self.inside.nodes; pairs = c.self.inside.ephemerals; sessions = c.self.inside.timeouts } in
     let front : c.truncate-in-Taken.new.self.items ≡ c.args.triggers.now.items = grind (arith, common_steps) in
-    subst (λ (s : State). IsDone (of_operation c.args.header.now (op.Create c.args.create.now) s) NODE_EXISTS
+    subst (λ (s : State). IsEffectDone (of_operation c.args.header.now (op.Create c.args.create.now) s) NODE_EXISTS
     (let t : State =
     record { nodes = c.add_child.new.self; pairs = c.self.inside.ephemerals; sessions = c.self.inside.timeouts } in t)
     c.args.triggers.now.items c.truncate-in-Taken.new.self.items) c.self.view_is

@@ -4,7 +4,7 @@ use Rattle.std.specs.FinMap as finmap
 use Rattle.std.proofs.Math.Path.{subst}
 use Rattle.jute.specs.declared.codes.TheConstants.{NO_NODE}
 use Rattle.txn_codec.specs.declared.txn.Operation.TheVariants as op
-use Rattle.data_tree.specs.Inner.Doing.{IsDone}
+use Rattle.data_tree.specs.Inner.Doing.{IsEffectDone}
 use Rattle.std.proofs.lemmas.Int.{to_z-of_z}
 use Rattle.std.proofs.lemmas.Grind.{common_steps}
 use Rattle.ephemerals.specs.Pairs.{without_pair}
@@ -23,7 +23,7 @@ returns-in_default c =
     let before : State =
     record { nodes = c.self.inside.nodes; pairs = c.self.inside.ephemerals; sessions = c.self.inside.timeouts } in
     let front : c.truncate.new.self.items ≡ c.args.triggers.now.items = grind (arith, common_steps) in
-    subst (λ (s : State). IsDone (of_operation c.args.header.now (op.Delete c.args.path.now) s) NO_NODE
+    subst (λ (s : State). IsEffectDone (of_operation c.args.header.now (op.Delete c.args.path.now) s) NO_NODE
     (let t : State =
     record { nodes = c.remove.new.self; pairs = c.self.inside.ephemerals; sessions = c.self.inside.timeouts } in t)
     c.args.triggers.now.items c.truncate.new.self.items) c.self.view_is

@@ -6,7 +6,7 @@ use Rattle.std.specs.BTreeMap.{BTreeMap}
 use Rattle.std.specs.Map.{set_value, lookup}
 use Rattle.std.specs.declared.string.String.{String}
 use Rattle.std.proofs.lemmas.Map.Steps.{set_value_same}
-use Rattle.ephemerals.specs.Orders.{Bytes, Sessions}
+use Rattle.ephemerals.specs.Orders.{Bytes, SessionIds}
 use Rattle.ephemerals.specs.Inner.SessionsView.{path_pairs}
 use Rattle.ephemerals.proofs.Errors.{on_err}
 use Rattle.ephemerals.proofs.TextKeys.{query}
@@ -15,7 +15,7 @@ use Rattle.ephemerals.proofs.PathSets.{insert_through, insert_first}
 use Rattle.ephemerals.proofs.by_path.ByPath.insert.Goals as goal
 
 -- the set of a path that was written back as it was
-kept : {Z : Type 0} (m n : BTreeMap (String Z) Sessions) (path : Bytes) (old new : Sessions)
+kept : {Z : Type 0} (m n : BTreeMap (String Z) SessionIds) (path : Bytes) (old new : SessionIds)
     → n.entries ≡ set_value (query path) m.entries new → Some old ≡ lookup (query path) m.entries → new ≡ old
     → path_pairs n.entries ≡ path_pairs m.entries
 kept m n path old new written found is =

@@ -1,7 +1,7 @@
 use Rattle.std.proofs.Common.{ap, sym, ◌∙◌, to_z, of_z, w64}
 use Rattle.std.specs.FinSet as set
 use Rattle.std.proofs.lemmas.Int.{to_z-of_z}
-use Rattle.ephemerals.specs.Pairs.{paths_of, without_session}
+use Rattle.ephemerals.specs.Pairs.{paths_of_session, without_session}
 use Rattle.ephemerals.specs.Inner.PairsView.{pairs_of}
 use Rattle.ephemerals.proofs.Counts.{count-owned, count-without}
 use Rattle.ephemerals.proofs.PairSets.{owned-listed, owned-none, pairs-take, listed}
@@ -34,7 +34,7 @@ pub returns-clause-paths : goal.returns-clause-paths
 returns-clause-paths c =
     owned-listed c.self.inside.sets c.self.invariant.0 (to_z w64 (of_z w64 c.args.session)) c.in-Some.paths
     (λ p. ap (λ o. listed o p) (sym c.in-Some.ensures.value))
-    ∙ (λ i. paths_of (to_z-of_z w64 c.args.session c.ranges.session i) (c.self.view_is i))
+    ∙ (λ i. paths_of_session (to_z-of_z w64 c.args.session c.ranges.session i) (c.self.view_is i))
 
 pub returns-clause-rest : goal.returns-clause-rest
 returns-clause-rest c =
@@ -47,7 +47,7 @@ returns-in-None-clause-paths c =
     c.new.ensures
     ∙ sym (owned-none c.self.inside.sets c.self.invariant.0 (to_z w64 (of_z w64 c.args.session))
     (sym c.in-None.ensures.value))
-    ∙ (λ i. paths_of (to_z-of_z w64 c.args.session c.ranges.session i) (c.self.view_is i))
+    ∙ (λ i. paths_of_session (to_z-of_z w64 c.args.session c.ranges.session i) (c.self.view_is i))
 
 pub returns-in-None-clause-rest : goal.returns-in-None-clause-rest
 returns-in-None-clause-rest c =

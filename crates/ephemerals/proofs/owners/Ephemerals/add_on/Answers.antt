@@ -1,6 +1,6 @@
 use Rattle.std.proofs.Common.{ap, sym, ◌∙◌, OnOk, Result, Ok, Err}
 use Rattle.std.specs.FinSet as set
-use Rattle.ephemerals.specs.Orders.{Pairs}
+use Rattle.ephemerals.specs.Orders.{OwnerPairs}
 use Rattle.ephemerals.proofs.Steps.{gained_all, gained_none}
 use Rattle.ephemerals.proofs.owners.Ephemerals.add_on.Goals as goal
 
@@ -11,7 +11,7 @@ on_ok (Err e) f p = tt
 pub returns-in-None : goal.returns-in-None
 returns-in-None c =
     gained_none c.args.path.now c.args.self.now c.args.others.now
-    (λ v. ap (λ (s : Pairs). set.contains s (v, c.args.path.now)) (sym (c.others.invariant ∙ c.others.view_is))
+    (λ v. ap (λ (s : OwnerPairs). set.contains s (v, c.args.path.now)) (sym (c.others.invariant ∙ c.others.view_is))
     ∙ c.in-None.ensures.none v)
 
 pub returns : goal.returns
@@ -19,5 +19,5 @@ returns c =
     on_ok c.add_sessions.result
     (gained_all c.args.path.now c.in-Some.sessions.now c.args.self.now c.add_sessions.new.self c.args.others.now
     (λ v. c.in-Some.ensures.some v
-    ∙ ap (λ (s : Pairs). set.contains s (v, c.args.path.now)) (c.others.invariant ∙ c.others.view_is)))
+    ∙ ap (λ (s : OwnerPairs). set.contains s (v, c.args.path.now)) (c.others.invariant ∙ c.others.view_is)))
     c.add_sessions.ensures

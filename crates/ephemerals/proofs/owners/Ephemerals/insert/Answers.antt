@@ -2,12 +2,12 @@ use Rattle.std.proofs.Common.{◌≡◌, ℤ, false, sym, ◌∙◌, string_byte
 use Rattle.std.specs.FinSet as set
 use Rattle.std.proofs.lemmas.Bool.{not-false, not-true}
 use Rattle.values.proofs.SetSteps.{insert-present, remove-insert}
-use Rattle.ephemerals.specs.Orders.{Bytes, Pairs}
+use Rattle.ephemerals.specs.Orders.{Bytes, OwnerPairs}
 use Rattle.ephemerals.proofs.Totals.{pair_total, pair_exact}
 use Rattle.ephemerals.proofs.owners.Ephemerals.insert.Goals as goal
 
 -- what was added at a key that is the path, and taken out at the path again
-undone : (k : ℤ) (key path : Bytes) (old added new : Pairs) → key ≡ path → set.contains old (k, key) ≡ false
+undone : (k : ℤ) (key path : Bytes) (old added new : OwnerPairs) → key ≡ path → set.contains old (k, key) ≡ false
     → added ≡ set.insert old (k, key) → new ≡ set.remove added (k, path) → new ≡ old
 undone k key path old added new is none put out =
     out ∙ (λ i. set.remove (put i) (k, sym is i)) ∙ remove-insert pair_total pair_exact old (k, key) none

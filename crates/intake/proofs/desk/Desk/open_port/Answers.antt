@@ -23,5 +23,7 @@ returns-clause-ok c =
       no_received = c.in_ok-outbox.ensures.consumer.0;
       no_kept = c.new-link.ensures.2;
     } in
-    added c.self.inside.closed c.self.inside.engine c.self.inside.links c.add-2.new.self c.self.inside.next c.in-Some.next
-    c.self.inside.fresh.items end c.new-3.result link c.args.self.now c.self.view_is c.new-3.ensures new refl c.in-Ok.ensures.ok (search rules)
+    added c.self.inside.closed c.self.inside.engine c.self.inside.links c.add-2.new.self c.self.inside.next
+    c.in-Some.next
+    c.self.inside.fresh.items end c.new-3.result link c.args.self.now c.self.view_is c.new-3.ensures new refl
+    c.in-Ok.ensures.ok (search rules)

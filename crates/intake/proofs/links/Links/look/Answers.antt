@@ -7,8 +7,10 @@ use Rattle.intake.proofs.links.Links.look.Goals as goal
 pub returns : goal.returns
 returns c =
     let now = c.look.new.self in
-    let w = written_over c.self.inside.map (c.get_mut.follows.lender now) c.args.self.now c.args.number c.in-Some.link.now now
-    c.self.view_is c.in-Some.ensures.value ((c.get_mut.follows.holds now).3 (subst IsSome c.in-Some.ensures.value refl)) in
+    let w = written_over c.self.inside.map (c.get_mut.follows.lender now) c.args.self.now c.args.number
+    c.in-Some.link.now now
+    c.self.view_is c.in-Some.ensures.value
+    ((c.get_mut.follows.holds now).3 (subst IsSome c.in-Some.ensures.value refl)) in
     rests_at c.args.self.now c.args.number c.in-Some.link.now now (seen (c.get_mut.follows.lender now).entries) w
     (stays_took c.in-Some.link.now now c.look.ensures.inbox.0 c.look.ensures.outbox.0)
     c.look.ensures.inbox.1 (same_owed_ends c.in-Some.link.now now c.look.ensures.outbox)

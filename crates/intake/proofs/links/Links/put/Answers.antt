@@ -9,9 +9,12 @@ use Rattle.intake.proofs.links.Links.put.Goals as goal
 pub returns : goal.returns
 returns c =
     let now = c.put.new.self in
-    let w = written_over c.self.inside.map (c.get_mut.follows.lender now) c.args.self.now c.port_of-number.result c.in-Some.link.now now
-    c.self.view_is c.in-Some.ensures.value ((c.get_mut.follows.holds now).3 (subst IsSome c.in-Some.ensures.value refl)) in
-    puts_ok c.put.result c.args.self.now c.port_of-number.result c.in-Some.link.now now (seen (c.get_mut.follows.lender now).entries) c.args.output
+    let w = written_over c.self.inside.map (c.get_mut.follows.lender now) c.args.self.now c.port_of-number.result
+    c.in-Some.link.now now
+    c.self.view_is c.in-Some.ensures.value
+    ((c.get_mut.follows.holds now).3 (subst IsSome c.in-Some.ensures.value refl)) in
+    puts_ok c.put.result c.args.self.now c.port_of-number.result c.in-Some.link.now now
+    (seen (c.get_mut.follows.lender now).entries) c.args.output
     c.port_of-number.ensures w (stays_put c.in-Some.link.now now c.put.ensures.outbox c.put.ensures.inbox)
     (ap (λ i. received i) c.put.ensures.inbox) c.put.ensures.owes
 

@@ -1,5 +1,5 @@
-use Rattle.intake.specs.Links.{PutsOut}
+use Rattle.intake.specs.Links.{PutsShares}
 use Rattle.intake.proofs.links.Links.put_all.Given as goal
 
 abbrev pub invariant-loop-output : goal.invariant-loop-output
-invariant-loop-output l = PutsOut l.initial.self l.yielded l.self
+invariant-loop-output l = PutsShares l.initial.self l.yielded l.self

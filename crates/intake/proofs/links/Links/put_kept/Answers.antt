@@ -8,8 +8,10 @@ use Rattle.intake.proofs.links.Links.put_kept.Goals as goal
 pub returns : goal.returns
 returns c =
     let now = c.put_kept.new.self in
-    let w = written_over c.self.inside.map (c.get_mut.follows.lender now) c.args.self.now c.args.number c.in-Some.link.now now
-    c.self.view_is c.in-Some.ensures.value ((c.get_mut.follows.holds now).3 (subst IsSome c.in-Some.ensures.value refl)) in
+    let w = written_over c.self.inside.map (c.get_mut.follows.lender now) c.args.self.now c.args.number
+    c.in-Some.link.now now
+    c.self.view_is c.in-Some.ensures.value
+    ((c.get_mut.follows.holds now).3 (subst IsSome c.in-Some.ensures.value refl)) in
     rests_at c.args.self.now c.args.number c.in-Some.link.now now (seen (c.get_mut.follows.lender now).entries) w
     (stays_put c.in-Some.link.now now c.put_kept.ensures.outbox c.put_kept.ensures.inbox)
     (ap (λ i. received i) c.put_kept.ensures.inbox) c.put_kept.ensures.owes

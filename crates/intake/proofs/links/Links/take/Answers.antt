@@ -7,8 +7,11 @@ use Rattle.intake.proofs.links.Links.take.Goals as goal
 pub returns : goal.returns
 returns c =
     let now = c.take.new.self in
-    let w = written_over c.self.inside.map (c.get_mut.follows.lender now) c.args.self.now c.args.number c.in-Some.link.now now
-    c.self.view_is c.in-Some.ensures.value ((c.get_mut.follows.holds now).3 (subst IsSome c.in-Some.ensures.value refl)) in
-    takes_ok c.take.result c.args.self.now c.args.number c.in-Some.link.now now (seen (c.get_mut.follows.lender now).entries) c.args.fresh.now.items
+    let w = written_over c.self.inside.map (c.get_mut.follows.lender now) c.args.self.now c.args.number
+    c.in-Some.link.now now
+    c.self.view_is c.in-Some.ensures.value
+    ((c.get_mut.follows.holds now).3 (subst IsSome c.in-Some.ensures.value refl)) in
+    takes_ok c.take.result c.args.self.now c.args.number c.in-Some.link.now now
+    (seen (c.get_mut.follows.lender now).entries) c.args.fresh.now.items
     c.take.new.fresh.items w (stays_took c.in-Some.link.now now c.take.ensures.inbox c.take.ensures.outbox.0)
     c.take.ensures.own c.take.ensures.others (same_owed_ends c.in-Some.link.now now c.take.ensures.outbox)

@@ -1,7 +1,7 @@
 use Rattle.std.proofs.Common.{◌≡◌, ◌++◌, append_assoc}
 use Rattle.values.proofs.Gaining.{gains_first, gains_behind, gains_same, puts_behind, puts_same}
 use Rattle.jute.specs.Format.{int, long}
-use Rattle.jute.specs.Records.{stat, four_longs, three_ints}
+use Rattle.jute.specs.Records.{stat_format, four_longs, three_ints}
 use Rattle.jute.specs.declared.stat.Stat.{Stat}
 use Rattle.jute.proofs.Writing.{fails}
 use Rattle.jute.proofs.stat.StatWriteRecord.write.Goals as goal
@@ -9,8 +9,8 @@ use Rattle.jute.proofs.stat.StatWriteRecord.write.Goals as goal
 -- the fields in the groups in which they are written
 grouped : (s : Stat) → four_longs s.czxid s.mzxid s.ctime s.mtime ++ (three_ints s.version s.cversion s.aversion
     ++ (long.written s.ephemeral_owner ++ (int.written s.data_length ++ (int.written s.num_children ++ long.written
-    s.pzxid)))) ≡ stat.written s
-unfolding stat
+    s.pzxid)))) ≡ stat_format.written s
+unfolding stat_format
 grouped s = simp append_assoc
 
 pub returns : goal.returns

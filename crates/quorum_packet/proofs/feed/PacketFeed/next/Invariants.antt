@@ -1,13 +1,13 @@
 use Rattle.std.proofs.Common.{◌≡◌, ◌≤◌}
 use Rattle.std.specs.Prelude.{is_err}
 use Rattle.quorum_packet.specs.Feed.{unread_len}
-use Rattle.quorum_packet.specs.Items.{shows}
+use Rattle.quorum_packet.specs.Items.{items_shown_at}
 use Rattle.quorum_packet.proofs.feed.PacketFeed.next.Given as goal
 
 -- what is shown from here on is what is shown from the start
 abbrev pub invariant-loop-item : goal.invariant-loop-item
 invariant-loop-item l = record {
-  same : shows l.self ≡ shows l.fn.self;
+  same : items_shown_at l.self ≡ items_shown_at l.fn.self;
   less : unread_len l.self.unread ≤ unread_len l.fn.self.unread;
   fine : is_err l.self.unread ≡ is_err l.fn.self.unread;
 }

@@ -1,6 +1,6 @@
 use Rattle.std.proofs.Common.{drop, map, string_bytes, ap, ◌∙◌, arith}
 use Rattle.std.proofs.lemmas.List.{drop_at}
-use Rattle.client_records.specs.Fields.{names}
+use Rattle.client_records.specs.Fields.{names_format}
 use Rattle.read_processor.proofs.Writing.{names_writable}
 use Rattle.read_processor.proofs.body.Body.of_names.Goals as goal
 
@@ -10,5 +10,5 @@ put_names-requires c =
 
 pub returns : goal.returns
 returns c =
-    let text = names.written (map string_bytes c.args.texts) in
+    let text = names_format.written (map string_bytes c.args.texts) in
     ap (drop 20) c.in_ok-put_names.ensures ∙ drop_at c.in_ok-bytes.bytes.items text 20 c.in_ok-bytes.ensures

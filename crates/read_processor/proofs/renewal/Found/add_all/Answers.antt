@@ -2,7 +2,7 @@ use Rattle.std.proofs.Common.{◌≡◌, ℕ, ◌+◌, ◌<◌, List, [], ◌∷
 use Rattle.std.specs.List.{filter_map}
 use Rattle.std.proofs.lemmas.List.{drop_more}
 use Rattle.std.proofs.lemmas.List.Elements.{filter_map-append}
-use Rattle.read_processor.specs.Renewal.{event_at, kept_at}
+use Rattle.read_processor.specs.Renewal.{event_at, kept_watch_at}
 use Rattle.read_processor.proofs.renewal.Found.add_all.Goals as goal
 
 -- what the item at i gives is added, and the items behind it are left
@@ -20,7 +20,7 @@ one_more {A = A} {B = B} gives xs i x old new lt is added =
 pub loop-path-preserved : goal.loop-path-preserved
 loop-path-preserved c =
     let event = event_at c.args.tree.now c.args.since.now c.args.list in
-    let kept = kept_at c.args.tree.now c.args.since.now c.args.list in
+    let kept = kept_watch_at c.args.tree.now c.args.since.now c.args.list in
     let i = c.loop-path.path-index in
     let lt = c.loop-path-test.true in
     let added = c.in_ok-add.ensures in (

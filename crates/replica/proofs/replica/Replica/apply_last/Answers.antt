@@ -1,7 +1,7 @@
 use Rattle.std.proofs.Common.{◌≡◌, subst}
 use Rattle.replica.specs.Replica.{Replica}
-use Rattle.replica.specs.Taking.{last_of, apply}
-use Rattle.replica.specs.Inner.{told}
+use Rattle.replica.specs.Taking.{last_txn, apply_to_tree}
+use Rattle.replica.specs.Inner.{with_triggers}
 use Rattle.replica.proofs.Carrying.{applied-last}
 use Rattle.replica.proofs.replica.Replica.apply_last.Goals as goal
 
@@ -13,5 +13,5 @@ returns c =
     let applied =
     applied-last inside c.args.triggers.now c.since_base.result.now c.in-Some.txn.now c.apply.new.self outcome
     c.since_base.ensures c.in-Some.ensures.value c.in_ok-outcome.ensures.state c.in_ok-outcome.ensures.answer in
-    subst (λ (r : Replica). apply (told c.args.triggers.now r) (last_of r.learner.log)
-    ≡ told outcome.triggers (record inside { tree = c.apply.new.self })) c.self.view_is applied
+    subst (λ (r : Replica). apply_to_tree (with_triggers c.args.triggers.now r) (last_txn r.learner.log)
+    ≡ with_triggers outcome.triggers (record inside { tree = c.apply.new.self })) c.self.view_is applied

@@ -4,13 +4,13 @@ use Rattle.std.specs.Cmp.{nat_cmp_total}
 use Rattle.std.proofs.lemmas.Map.Lookups.{exact_unsigned}
 use Rattle.std.proofs.lemmas.Int.{to_z-of_z}
 use Rattle.jute.specs.declared.owned.Id.{Id}
-use Rattle.sessions.specs.State.{Connection}
+use Rattle.sessions.specs.State.{ConnectedClient}
 use Rattle.sessions.proofs.Maps.{seen-insert}
 use Rattle.sessions.proofs.connections.Connections.add.Goals as goal
 
 pub returns-clause-ok : goal.returns-clause-ok
 returns-clause-ok c =
-    let shown : ℤ → List Id → Connection = λ session ids. record { session = session; ids = ids } in
+    let shown : ℤ → List Id → ConnectedClient = λ session ids. record { session = session; ids = ids } in
     seen-insert nat_cmp_total exact_unsigned c.args.number c.self.inside.map c.insert.new.self
     (shown (to_z w64 (of_z w64 c.args.session)) c.new.result.items) c.in_ok-insert.ensures.updates
     ∙ (λ i. finmap.insert (c.self.view_is i) c.args.number

@@ -4,8 +4,8 @@ use Rattle.std.specs.FinMap as finmap
 use Rattle.std.specs.Cmp.{nat_cmp_total}
 use Rattle.std.proofs.lemmas.Map.Lookups.{exact_unsigned}
 use Rattle.std.proofs.lemmas.Result.{on_ok_weaker, on_err_weaker}
-use Rattle.sessions.specs.State.{Connection}
-use Rattle.sessions.specs.Inner.{shown}
+use Rattle.sessions.specs.State.{ConnectedClient}
+use Rattle.sessions.specs.Inner.{with_shown_id}
 use Rattle.sessions.proofs.Maps.{get-seen, seen-insert, insert_same}
 use Rattle.sessions.proofs.connections.Connections.show.Goals as goal
 
@@ -15,7 +15,7 @@ returns-in-None-clause-ok c =
     c.in-None.ensures.value ∙ sym (get-seen nat_cmp_total exact_unsigned c.self.inside.map c.args.number)
     ∙ ap (λ m. finmap.get m c.args.number) c.self.view_is in
     ap (λ m. finmap.from_entries m.entries) c.get_mut.follows.holds-at-none ∙ c.self.view_is
-    ∙ ap (λ (o : Option Connection). shown c.args.self.now c.args.number c.args.id o) none
+    ∙ ap (λ (o : Option ConnectedClient). with_shown_id c.args.self.now c.args.number c.args.id o) none
 
 pub returns-clause-ok : goal.returns-clause-ok
 returns-clause-ok c =
@@ -27,7 +27,8 @@ returns-clause-ok c =
     seen-insert nat_cmp_total exact_unsigned c.args.number c.self.inside.map (c.get_mut.follows.lender w) w
     ((c.get_mut.follows.holds w).3 (subst IsSome c.in-Some.ensures.value refl))
     ∙ (λ i. finmap.insert (c.self.view_is i) c.args.number (shows i))
-    ∙ ap (λ (o : Option Connection). shown c.args.self.now c.args.number c.args.id o) some) c.show.ensures.ok
+    ∙ ap (λ (o : Option ConnectedClient). with_shown_id c.args.self.now c.args.number c.args.id o) some)
+    c.show.ensures.ok
 
 pub returns-clause-err : goal.returns-clause-err
 returns-clause-err c =

@@ -5,7 +5,7 @@ use Rattle.std.specs.Cmp.{int_cmp_total}
 use Rattle.std.proofs.lemmas.Map.Lookups.{exact_signed}
 use Rattle.std.proofs.lemmas.Int.{to_z-of_z}
 use Rattle.sessions.specs.Sessions.{connection_in}
-use Rattle.sessions.specs.Inner.{replaced}
+use Rattle.sessions.specs.Inner.{with_guest_connection}
 use Rattle.sessions.proofs.Maps.{get-seen, seen-insert}
 use Rattle.sessions.proofs.guests.Guests.replace.Goals as goal
 
@@ -24,7 +24,7 @@ returns-in-None-clause-new c =
     (get-seen int_cmp_total exact_signed c.self.inside.map (to_z w64 (of_z w64 c.args.session)))
     ∙ (λ i. finmap.get (c.self.view_is i) (to_z-of_z w64 c.args.session c.ranges.session i)) in
     ap (λ m. finmap.from_entries m.entries) c.get_mut.follows.holds-at-none ∙ c.self.view_is
-    ∙ ap (λ (o : Option (Option ℕ)). replaced c.args.self.now c.args.session c.args.connection o) none
+    ∙ ap (λ (o : Option (Option ℕ)). with_guest_connection c.args.self.now c.args.session c.args.connection o) none
 
 pub returns-clause-older : goal.returns-clause-older
 returns-clause-older c =
@@ -45,4 +45,4 @@ returns-clause-new c =
     (c.get_mut.follows.lender w) w ((c.get_mut.follows.holds w).3 (subst IsSome c.in-Some.ensures.value refl))
     ∙ (λ i. finmap.insert (c.self.view_is i) (to_z-of_z w64 c.args.session c.ranges.session i)
     (c.replace.ensures.after i))
-    ∙ ap (λ (o : Option (Option ℕ)). replaced c.args.self.now c.args.session c.args.connection o) some
+    ∙ ap (λ (o : Option (Option ℕ)). with_guest_connection c.args.self.now c.args.session c.args.connection o) some

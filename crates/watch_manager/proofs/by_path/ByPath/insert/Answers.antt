@@ -11,18 +11,18 @@ use Rattle.std.proofs.lemmas.Map.Steps.{set_value_same}
 use Rattle.ephemerals.specs.Orders.{Bytes}
 use Rattle.ephemerals.proofs.Errors.{on_err}
 use Rattle.ephemerals.proofs.TextKeys.{query}
-use Rattle.watch_manager.specs.Pairs.{Connections}
-use Rattle.watch_manager.specs.Inner.Grouped.{path_pairs}
+use Rattle.watch_manager.specs.Pairs.{ConnectionSet}
+use Rattle.watch_manager.specs.Inner.Grouped.{watch_pairs_of}
 use Rattle.ephemerals.proofs.PathMaps.{seen, get-seen, seen-insert}
 use Rattle.ephemerals.proofs.Grouped.{insert_through, insert_first, contains-found}
 use Rattle.watch_manager.proofs.by_path.ByPath.insert.Goals as goal
 
 -- the set of a path that was written back as it was
-kept : {Z : Type 0} (m n : BTreeMap (String Z) Connections) (path : Bytes) (old new : Connections)
+kept : {Z : Type 0} (m n : BTreeMap (String Z) ConnectionSet) (path : Bytes) (old new : ConnectionSet)
     → n.entries ≡ set_value (query path) m.entries new → Some old ≡ lookup (query path) m.entries → new ≡ old
-    → path_pairs n.entries ≡ path_pairs m.entries
+    → watch_pairs_of n.entries ≡ watch_pairs_of m.entries
 kept m n path old new written found is =
-    ap (λ es. path_pairs es) (written ∙ set_value_same _ m.entries new (sym found ∙ (λ i. Some (sym is i))))
+    ap (λ es. watch_pairs_of es) (written ∙ set_value_same _ m.entries new (sym found ∙ (λ i. Some (sym is i))))
 
 pub returns-in_err-insert-in-Some-clause-err : goal.returns-in_err-insert-in-Some-clause-err
 returns-in_err-insert-in-Some-clause-err c =
@@ -64,7 +64,7 @@ returns-in_ok-insert-in-None-2-clause-ok c =
     c.get_mut.follows.holds-at-none ∙ sym c.in-None.ensures.value)
     c.new-conns.ensures
     c.in_ok-insert-in-None.ensures.ok
-    ∙ ap (λ x. set.insert (path_pairs x.entries) (c.args.path.now, c.args.conn)) c.get_mut.follows.holds-at-none
+    ∙ ap (λ x. set.insert (watch_pairs_of x.entries) (c.args.path.now, c.args.conn)) c.get_mut.follows.holds-at-none
     ∙ ap (λ s. set.insert s (c.args.path.now, c.args.conn)) c.self.view_is
 
 pub returns-in_ok-insert-in-None-2-clause-added : goal.returns-in_ok-insert-in-None-2-clause-added

@@ -2,9 +2,10 @@ use Rattle.std.proofs.Common.{ap, ◌∙◌}
 use Rattle.std.specs.Cmp.{nat_cmp_total}
 use Rattle.std.proofs.lemmas.Map.Lookups.{exact_unsigned, exact_bytes}
 use Rattle.ephemerals.proofs.Totals.{path_total}
-use Rattle.watch_manager.specs.Inner.Grouped.{path_pairs}
+use Rattle.watch_manager.specs.Inner.Grouped.{watch_pairs_of}
 use Rattle.ephemerals.proofs.Grouped.{no_pairs}
 use Rattle.watch_manager.proofs.by_path.ByPath.new.Goals as goal
 
 pub returns : goal.returns
-returns c = ap (λ es. path_pairs es) c.new.ensures.empty ∙ no_pairs path_total nat_cmp_total exact_bytes exact_unsigned
+returns c = ap (λ es. watch_pairs_of es) c.new.ensures.empty
+    ∙ no_pairs path_total nat_cmp_total exact_bytes exact_unsigned

@@ -1,11 +1,11 @@
 use Rattle.std.proofs.Common.{◌≡◌, map, string_bytes}
-use Rattle.ephemerals.specs.Orders.{in_order}
-use Rattle.watch_manager.specs.Inner.Grouped.{without_paths}
+use Rattle.ephemerals.specs.Orders.{sorted_names}
+use Rattle.watch_manager.specs.Inner.Grouped.{without_watched_paths}
 use Rattle.watch_manager.proofs.by_path.ByPath.remove_all.Given as goal
 
 abbrev pub invariant-loop-path : goal.invariant-loop-path
 invariant-loop-path l =
     (goal.iterator-loop-path).can_next l.path-iterator
     × (goal.iterator-loop-path).is_finite l.path-iterator
-    × (without_paths l.conn (map string_bytes l.path-iterator) l.self
-    ≡ without_paths l.conn (in_order l.paths) l.fn.self)
+    × (without_watched_paths l.conn (map string_bytes l.path-iterator) l.self
+    ≡ without_watched_paths l.conn (sorted_names l.paths) l.fn.self)

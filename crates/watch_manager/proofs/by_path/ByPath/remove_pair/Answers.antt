@@ -3,7 +3,7 @@ use Rattle.std.specs.Cmp.{nat_cmp_total}
 use Rattle.std.proofs.lemmas.Map.Lookups.{exact_unsigned, exact_bytes}
 use Rattle.ephemerals.proofs.Totals.{path_total}
 use Rattle.std.specs.FinSet as set
-use Rattle.watch_manager.specs.Inner.Grouped.{path_pairs}
+use Rattle.watch_manager.specs.Inner.Grouped.{watch_pairs_of}
 use Rattle.ephemerals.proofs.PathMaps.{seen, get-seen, seen-insert}
 use Rattle.ephemerals.proofs.Grouped.{remove_through, remove_none, emptied}
 use Rattle.watch_manager.proofs.by_path.ByPath.remove_pair.Goals as goal
@@ -30,7 +30,7 @@ returns-clause-emptied c left q =
 
 pub returns-in-None-clause-removed : goal.returns-in-None-clause-removed
 returns-in-None-clause-removed c =
-    ap (λ m. path_pairs m.entries) c.get_mut.follows.holds-at-none
+    ap (λ m. watch_pairs_of m.entries) c.get_mut.follows.holds-at-none
     ∙ remove_none path_total nat_cmp_total exact_bytes exact_unsigned (seen c.self.inside.map.entries) c.args.path.now
     c.args.conn (get-seen c.self.inside.map.entries c.args.path.now ∙ sym c.in-None.ensures.value)
     ∙ ap (λ s. set.remove s (c.args.path.now, c.args.conn)) c.self.view_is

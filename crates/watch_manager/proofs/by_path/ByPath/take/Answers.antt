@@ -2,7 +2,7 @@ use Rattle.std.proofs.Common.{ap, sym, ◌∙◌}
 use Rattle.std.specs.Cmp.{nat_cmp_total}
 use Rattle.std.proofs.lemmas.Map.Lookups.{exact_unsigned, exact_bytes}
 use Rattle.ephemerals.proofs.Totals.{path_total}
-use Rattle.watch_manager.specs.Pairs.{without_path}
+use Rattle.watch_manager.specs.Pairs.{without_watches_on}
 use Rattle.ephemerals.proofs.PathMaps.{seen, get-seen, seen-remove}
 use Rattle.ephemerals.proofs.Grouped.{taken}
 use Rattle.watch_manager.proofs.Found.{if_some, if_none}
@@ -23,4 +23,4 @@ returns-clause-rest c =
     taken path_total nat_cmp_total exact_bytes exact_unsigned (seen c.self.inside.map.entries)
     (seen c.remove.new.self.entries) c.args.path.now (seen-remove c.args.path.now c.self.inside.map
     c.remove.new.self c.remove.ensures.updates)
-    ∙ ap (λ s. without_path c.args.path.now s) c.self.view_is
+    ∙ ap (λ s. without_watches_on c.args.path.now s) c.self.view_is

@@ -1,9 +1,9 @@
 use Rattle.std.proofs.Common.{◌≡◌, ◌++◌, drop}
 use Rattle.watch_manager.specs.Watches.{fire}
-use Rattle.watch_manager.specs.Inner.Telling.{watching}
+use Rattle.watch_manager.specs.Inner.Telling.{watch_tables}
 use Rattle.watch_manager.proofs.watches.Watches.tell_all.Given as goal
 
 abbrev pub invariant-loop-trigger : goal.invariant-loop-trigger
 invariant-loop-trigger l =
-    l.events.items ++ (fire (watching l.own l.child) (drop l.trigger-index l.triggers)).events
+    l.events.items ++ (fire (watch_tables l.own l.child) (drop l.trigger-index l.triggers)).events
     ≡ (fire l.self l.triggers).events

@@ -1,8 +1,0 @@
-use Rattle.quorum_packet.specs.Unseen.{AreUnseenEntries, texts_left}
-use Rattle.quorum_packet.proofs.unseen.look_at_entries.Given as goal
-
-abbrev pub invariant-loop-entries : goal.invariant-loop-entries
-invariant-loop-entries l = AreUnseenEntries l.bytes l.entries
-
-abbrev pub decreases-loop-entries : goal.decreases-loop-entries
-decreases-loop-entries l = texts_left l.entries

@@ -1,0 +1,8 @@
+use Rattle.quorum_packet.specs.Unseen.{AreUnseenEntries, texts_left}
+use Rattle.quorum_packet.proofs.unseen.scan_entries.Given as goal
+
+abbrev pub invariant-loop-entries : goal.invariant-loop-entries
+invariant-loop-entries l = AreUnseenEntries l.bytes l.entries
+
+abbrev pub decreases-loop-entries : goal.decreases-loop-entries
+decreases-loop-entries l = texts_left l.entries

@@ -1,5 +1,0 @@
-use Rattle.watch_manager.proofs.Lefts.{but_on-none}
-use Rattle.watch_manager.proofs.left.Left.new.Goals as goal
-
-pub returns : goal.returns
-returns c = but_on-none c.new.result c.args.table.now c.new.ensures

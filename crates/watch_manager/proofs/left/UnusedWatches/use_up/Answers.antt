@@ -1,0 +1,18 @@
+use Rattle.std.proofs.Common.{ap, sym, ◌∙◌}
+use Rattle.std.specs.FinSet as set
+use Rattle.watch_manager.specs.Pairs.{without_watches_on}
+use Rattle.watch_manager.specs.Inner.Telling.{watches_elsewhere}
+use Rattle.watch_manager.proofs.Lefts.{but_on-insert}
+use Rattle.watch_manager.proofs.Tables.{unwatched}
+use Rattle.watch_manager.proofs.left.UnusedWatches.use_up.Goals as goal
+
+pub returns-then-is_empty : goal.returns-then-is_empty
+returns-then-is_empty c =
+    unwatched c.args.path.now c.args.self.now (sym c.watchers.ensures ∙ c.is_empty.ensures.0 c.if-is_empty.true)
+
+pub returns : goal.returns
+returns c =
+    ap (λ u. watches_elsewhere u c.self.inside.table.now) (c.in_ok-insert.ensures.ok
+    ∙ ap (λ p. set.insert c.self.inside.used p) c.in_ok-from_str.ensures.ok)
+    ∙ but_on-insert c.self.inside.used c.self.inside.table.now c.args.path.now
+    ∙ ap (λ s. without_watches_on c.args.path.now s) c.self.view_is

@@ -1,0 +1,132 @@
+#!/usr/bin/env python3
+"""Checks the names of definitions, and the sizes of crates and files.
+
+    tools/names.py
+
+What it refuses:
+
+- a definition (in specs/ of a crate) whose name is a single lower-case word, unless docs/GLOSSARY.md lists it under
+  "Names of one word": such a name seldom says of what it speaks;
+- a name that definitions of two or more crates have, unless docs/GLOSSARY.md lists it under "Names in several crates",
+  with the one meaning that it has in all of them;
+- an entry of these two lists that no definition has;
+- a crate of more than 100 functions, and a source file of more than 800 lines.
+
+Each definition, entry, crate and file counts as one. The last line is `N passed, M failed`; the exit status is 0 where
+nothing failed.
+"""
+import collections
+import os
+import re
+import sys
+
+TOP = os.path.dirname(os.path.dirname(os.path.realpath(__file__)))
+CRATES = os.path.join(TOP, "crates")
+GLOSSARY = os.path.join(TOP, "docs", "GLOSSARY.md")
+MOST_FUNCTIONS = 100
+MOST_LINES = 800
+
+# A declaration begins its line: words like `abbrev pub`, the name, parameters, a colon. What is in a module is indented.
+PARAMETERS = r"(?:\{[^}]*\}|\((?:[^()]|\([^()]*\))*\))"
+DECLARATION = re.compile(
+    rf"(?:(?:pub|abbrev|unfoldable|opaque|data|record)\s+)*([^\s:(){{}},]+)\s*(?:{PARAMETERS}\s*)*(?::(?=\s)|$)"
+)
+NO_NAMES = {"use", "module", "--", "}", ")", "pub"}
+ONE_WORD = re.compile(r"[a-z]+")
+FUNCTION = re.compile(r"^\s*(?:pub(?:\([a-z]+\))?\s+)?(?:const\s+)?(?:unsafe\s+)?fn\s+\w+", re.M)
+NAMES_OF_ONE_WORD = "Names of one word"
+NAMES_IN_SEVERAL_CRATES = "Names in several crates"
+
+
+def files_in(crate, folders, ending):
+    """Yields the files of a crate in these folders that have this ending, in order."""
+    for folder in folders:
+        for at, below, names in os.walk(os.path.join(CRATES, crate, folder)):
+            below.sort()
+            yield from (os.path.join(at, it) for it in sorted(names) if it.endswith(ending))
+
+
+def text_of(file):
+    with open(file, encoding="utf-8") as it:
+        return it.read()
+
+
+def names_in(file):
+    """Yields the names that a file of specs/ declares."""
+    in_module = False
+    for line in text_of(file).split("\n"):
+        if line and not line[0].isspace():
+            in_module = line.startswith(("module ", "pub module "))
+        depth = 2 if in_module else 0
+        if line[:depth].strip() or line[depth : depth + 1].isspace():
+            continue
+        found = DECLARATION.match(line, depth)
+        if found and found[1] not in NO_NAMES:
+            yield found[1]
+
+
+def definitions():
+    """Returns the definitions of all crates, each as crate, file and name."""
+    found = []
+    for crate in sorted(os.listdir(CRATES)):
+        for file in files_in(crate, ["specs"], ".antt"):
+            found += [(crate, os.path.relpath(file, CRATES), name) for name in names_in(file)]
+    return found
+
+
+def listed_under(heading):
+    """Returns the names in the first column of the glossary's table under this heading."""
+    _, found, after = text_of(GLOSSARY).partition(f"\n## {heading}\n")
+    if not found:
+        raise ValueError(f"docs/GLOSSARY.md has no heading `{heading}`")
+    section = after.partition("\n## ")[0]
+    return set(re.findall(r"^\| `([^`]+)` \|", section, re.M))
+
+
+def wrong_names(found):
+    """Yields what is wrong with the names of definitions, and with the glossary's two lists of them."""
+    one_word, several = listed_under(NAMES_OF_ONE_WORD), listed_under(NAMES_IN_SEVERAL_CRATES)
+    crates_of = collections.defaultdict(set)
+    for crate, file, name in found:
+        crates_of[name].add(crate)
+        if ONE_WORD.fullmatch(name) and name not in one_word:
+            yield f"{file}: `{name}` is a single word: say of what, or list it under `{NAMES_OF_ONE_WORD}`"
+    for name, crates in sorted(crates_of.items()):
+        if len(crates) > 1 and name not in several:
+            yield f"`{name}` is defined in {', '.join(sorted(crates))}: rename it, or list it under `{NAMES_IN_SEVERAL_CRATES}`"
+    for name in sorted(one_word - set(crates_of)):
+        yield f"docs/GLOSSARY.md lists `{name}` under `{NAMES_OF_ONE_WORD}`, and no definition has this name"
+    for name in sorted(several):
+        if len(crates_of[name]) < 2:
+            yield f"docs/GLOSSARY.md lists `{name}` under `{NAMES_IN_SEVERAL_CRATES}`, and no two crates have it"
+
+
+def wrong_sizes(crates, files):
+    """Yields the crates of too many functions, and the files of too many lines."""
+    for crate in crates:
+        count = sum(len(FUNCTION.findall(text_of(file))) for file in files_in(crate, ["src"], ".rt"))
+        if count > MOST_FUNCTIONS:
+            yield f"{crate} has {count} functions, and a crate has at most {MOST_FUNCTIONS}"
+    for file in files:
+        count = text_of(file).count("\n")
+        if count > MOST_LINES:
+            yield f"{os.path.relpath(file, TOP)} has {count} lines, and a file has at most {MOST_LINES}"
+
+
+def main():
+    found = definitions()
+    crates = sorted(it for it in os.listdir(CRATES) if os.path.isdir(os.path.join(CRATES, it, "src")))
+    files = [it for crate in crates for it in files_in(crate, ["src", "specs", "proofs"], (".rt", ".antt"))]
+    try:
+        wrong = [*wrong_names(found), *wrong_sizes(crates, files)]
+        entries = len(listed_under(NAMES_OF_ONE_WORD)) + len(listed_under(NAMES_IN_SEVERAL_CRATES))
+    except (OSError, ValueError) as why:
+        wrong, entries = [str(why)], 0
+    for it in wrong:
+        print(it)
+    print(f"{max(0, len(found) + entries + len(crates) + len(files) - len(wrong))} passed, {len(wrong)} failed")
+    return 1 if wrong else 0
+
+
+if __name__ == "__main__":
+    sys.exit(main())
