@@ -9,10 +9,11 @@ use Rattle.txn_codec.specs.Paths.{parent_of, name_of}
 use Rattle.txn_codec.specs.declared.txn.Create.{Create}
 use Rattle.txn_codec.specs.declared.txn.Txn.{Txn}
 use Rattle.txn_codec.specs.declared.txn.TxnHeader.{TxnHeader}
+use Rattle.node_map.specs.Updates.{next_cversion}
+use Rattle.node_map.specs.declared.node.Node.{Node}
 use Rattle.data_tree.specs.State.{State, SessionTimeouts}
-use Rattle.data_tree.specs.Meaning.{TxnEffect, effect_of_txn, outcomes_of_txns, answer_of, of_effect, create_under, create_taken, create_new, with_children, next_cversion}
+use Rattle.data_tree.specs.Meaning.{TxnEffect, effect_of_txn, outcomes_of_txns, answer_of, of_effect, create_under, create_taken, create_new, with_children}
 use Rattle.data_tree.specs.Commuting.{TransactionsSetTheirTimeouts}
-use Rattle.data_tree.specs.declared.node.Node.{Node}
 use Rattle.batcher.specs.Rows.{create_txn_of, path_a, path_b, path_a_x, path_a_y, path_b_z}
 use Rattle.apply_workers.specs.declared.step.Step.{Step}
 use Rattle.apply_workers.specs.Schedule.{schedule_result}

@@ -32,7 +32,7 @@ pub struct Groups {
 impl Model for Groups {
     ghost use Rattle.txn_codec.specs.contracts.txn.Txn as of_txn;
     ghost use Rattle.data_tree.specs.State.{state_code};
-    ghost use Rattle.data_tree.specs.contracts.node.Node as of_node;
+    ghost use Rattle.node_map.specs.contracts.node.Node as of_node;
     ghost use Rattle.data_tree.specs.contracts.outcome.Outcome as of_outcome;
     ghost use Rattle.batcher.specs.Cut.{groups_of};
     ghost use Rattle.apply_workers.specs.contracts.holder.Holder as of_holder;

@@ -24,7 +24,7 @@ pub struct GroupInProgress {
 
 impl Model for GroupInProgress {
     ghost use Rattle.data_tree.specs.State.{state_code};
-    ghost use Rattle.data_tree.specs.contracts.node.Node as of_node;
+    ghost use Rattle.node_map.specs.contracts.node.Node as of_node;
     ghost use Rattle.data_tree.specs.contracts.outcome.Outcome as of_outcome;
     ghost use Rattle.apply_workers.specs.contracts.holder.Holder as of_holder;
     ghost use Rattle.apply_workers.specs.Hands.{GroupProgress, group_progress_code};

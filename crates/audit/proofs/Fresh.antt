@@ -12,9 +12,10 @@ use Rattle.ephemerals.proofs.Totals.{path_total}
 use Rattle.txn_codec.specs.Parents.{HaveParents}
 use Rattle.txn_codec.specs.Paths.{is_root}
 use Rattle.txn_codec.specs.declared.txn.Txn.{Txn}
-use Rattle.data_tree.specs.Meaning.{state_after, fresh_state, preset_node}
-use Rattle.data_tree.specs.Whole.{is_listed, is_listed_at}
-use Rattle.data_tree.specs.declared.node.Node.{Node}
+use Rattle.node_map.specs.Updates.{preset_node}
+use Rattle.node_map.specs.Agreement.{is_listed, is_listed_at}
+use Rattle.node_map.specs.declared.node.Node.{Node}
+use Rattle.data_tree.specs.Meaning.{state_after, fresh_state}
 use Rattle.audit.specs.Count.{first_count, count_from_log}
 use Rattle.audit.specs.Laws.{CountsAreShown}
 use Rattle.audit.proofs.Holding.{Agrees, HasPlace}

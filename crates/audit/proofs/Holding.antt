@@ -16,10 +16,11 @@ use Rattle.ephemerals.proofs.Totals.{path_total}
 use Rattle.txn_codec.specs.Paths.{is_root, is_child_path, parent_of, name_of}
 use Rattle.txn_codec.specs.declared.txn.TxnHeader.{TxnHeader}
 use Rattle.txn_codec.specs.declared.txn.Create.{Create}
+use Rattle.node_map.specs.Updates.{next_cversion, new_node}
+use Rattle.node_map.specs.Agreement.{is_listed, is_listed_at}
+use Rattle.node_map.specs.declared.node.Node.{Node}
 use Rattle.data_tree.specs.State.{Nodes}
-use Rattle.data_tree.specs.Meaning.{next_cversion, with_children, new_node}
-use Rattle.data_tree.specs.Whole.{is_listed, is_listed_at}
-use Rattle.data_tree.specs.declared.node.Node.{Node}
+use Rattle.data_tree.specs.Meaning.{with_children}
 use Rattle.data_tree.specs.declared.outcome.Trigger.TheVariants.{Created, Deleted}
 use Rattle.audit.specs.declared.count.Count.{Count}
 use Rattle.audit.specs.Clean.{is_childless}

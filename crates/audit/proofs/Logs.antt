@@ -4,9 +4,9 @@ use Rattle.std.specs.FinMap as finmap
 use Rattle.std.proofs.lemmas.List.{take_all}
 use Rattle.ephemerals.specs.Orders.{Bytes}
 use Rattle.txn_codec.specs.declared.txn.Txn.{Txn}
+use Rattle.node_map.specs.declared.node.Node.{Node}
 use Rattle.data_tree.specs.State.{State}
 use Rattle.data_tree.specs.Meaning.{effect_of_txn, state_after, fresh_state}
-use Rattle.data_tree.specs.declared.node.Node.{Node}
 use Rattle.audit.specs.declared.count.Count.{Count}
 use Rattle.audit.specs.Clean.{is_clean, are_clean}
 use Rattle.audit.specs.Count.{count_after_triggers, count_after_log, first_count, count_from_log, numbers_of, count_at}

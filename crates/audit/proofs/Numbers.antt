@@ -3,7 +3,7 @@ use Rattle.std.proofs.Common.{◌≡◌, ℕ, ◌+◌, ◌-◌, ◌≤◌, ◌%�
 use Rattle.std.proofs.Math.IntN.{+ℤ_one, +ℤ_idr, +ℤ_assoc, +ℤ_comm, neg_ℤ-+ℤ, -ℤ-+ℤ_cancel, pos-+ℤ-pos, suc_ℤ-*ℤ}
 use Rattle.std.specs.Int.{int_wrap, int_wrapping_mul, cast_signed, int_rem_euclid}
 use Rattle.std.proofs.lemmas.Int.{wrapping_sub_is, wrapping_mul_is, int_wrap-add_left, int_wrap-sub_right, int_wrap-mul_left, SFits-int_wrap, int_rem_euclid_is}
-use Rattle.data_tree.specs.Stats.{shown_cversion, java_int}
+use Rattle.node_map.specs.Stats.{shown_cversion, java_int}
 
 -- twice the stored number less the number of children
 abbrev pub net : ℤ → ℕ → ℤ

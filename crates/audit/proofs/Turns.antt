@@ -17,10 +17,10 @@ use Rattle.ephemerals.proofs.Totals.{path_total}
 use Rattle.txn_codec.specs.Paths.{is_root, is_child_path, parent_of, name_of}
 use Rattle.txn_codec.specs.declared.txn.TxnHeader.{TxnHeader}
 use Rattle.txn_codec.specs.declared.txn.Operation.TheVariants as op
+use Rattle.node_map.specs.declared.node.Node.{Node}
 use Rattle.data_tree.specs.State.{State, Nodes}
 use Rattle.data_tree.specs.Meaning.{after_changes, with_children, delete_at, of_operation, state_without_session}
 use Rattle.data_tree.specs.Meaning.Change.{Disown}
-use Rattle.data_tree.specs.declared.node.Node.{Node}
 use Rattle.audit.specs.Clean.{is_childless, are_childless}
 use Rattle.audit.specs.Laws.{are_childless_in_turn, DeletesGoInTurn}
 use Rattle.audit.proofs.Names.{or_true, root_is, child_is}

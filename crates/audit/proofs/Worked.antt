@@ -8,9 +8,10 @@ use Rattle.std.specs.Ordering.{eq_by_cmp, int_eq}
 use Rattle.ephemerals.specs.Orders.{Bytes, path_cmp}
 use Rattle.ephemerals.proofs.Totals.{path_total}
 use Rattle.txn_codec.specs.declared.txn.TxnHeader.{TxnHeader}
+use Rattle.node_map.specs.Updates.{new_node, preset_node}
+use Rattle.node_map.specs.declared.node.Node.{Node}
 use Rattle.data_tree.specs.State.{Nodes}
-use Rattle.data_tree.specs.Meaning.{Effect, TxnEffect, with_children, new_node, create_under, create_taken, create_new, of_effect, effect_of_txn, state_after, fresh_state, preset_node}
-use Rattle.data_tree.specs.declared.node.Node.{Node}
+use Rattle.data_tree.specs.Meaning.{Effect, TxnEffect, with_children, create_under, create_taken, create_new, of_effect, effect_of_txn, state_after, fresh_state}
 use Rattle.audit.specs.declared.count.Count.{Count}
 use Rattle.audit.specs.Clean.{counts_up, is_clean, are_clean}
 use Rattle.audit.specs.Count.{count_after_triggers, first_count, count_from_log, numbers_of}

@@ -5,9 +5,9 @@ use Rattle.std.specs.Cmp.Lexicographic.{pointwise}
 use Rattle.ephemerals.specs.Orders.{Bytes}
 use Rattle.txn_codec.specs.Paths.{parent_of}
 use Rattle.txn_codec.specs.declared.txn.Txn.{Txn}
+use Rattle.node_map.specs.Agreement.{has_node}
 use Rattle.data_tree.specs.State.{State}
 use Rattle.data_tree.specs.Meaning.{effect_of_txn, state_after, fresh_state}
-use Rattle.data_tree.specs.Whole.{has_node}
 use Rattle.data_tree.specs.declared.outcome.Trigger.{Trigger}
 use Rattle.data_tree.specs.declared.outcome.Trigger.TheVariants.{Created, Deleted, DataChanged, ChildrenChanged}
 use Rattle.audit.specs.declared.count.Count.{Count}

@@ -9,10 +9,10 @@ use Rattle.txn_codec.specs.Paths.{is_child_path}
 use Rattle.txn_codec.specs.declared.txn.TxnHeader.{TxnHeader}
 use Rattle.txn_codec.specs.declared.txn.Txn.{Txn}
 use Rattle.txn_codec.specs.declared.txn.Operation.TheVariants as op
+use Rattle.node_map.specs.Stats.{stat_of}
+use Rattle.node_map.specs.declared.node.Node.{Node}
 use Rattle.data_tree.specs.State.{State}
 use Rattle.data_tree.specs.Meaning.{of_operation, state_without_session, state_after, fresh_state}
-use Rattle.data_tree.specs.Stats.{stat_of}
-use Rattle.data_tree.specs.declared.node.Node.{Node}
 use Rattle.audit.specs.declared.count.Count.{Count}
 use Rattle.audit.specs.Clean.{is_childless, closes_clean, are_clean}
 use Rattle.audit.specs.Count.{count_from_log}

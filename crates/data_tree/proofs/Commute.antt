@@ -7,12 +7,13 @@ use Rattle.std.specs.FinSet as set
 use Rattle.ephemerals.specs.Orders.{Bytes, path_cmp, sorted_names}
 use Rattle.ephemerals.specs.Pairs.{paths_of_session}
 use Rattle.txn_codec.specs.Paths.{parent_of, name_of}
+use Rattle.node_map.specs.Updates.{owner_of}
+use Rattle.node_map.specs.declared.node.Node.{Node}
 use Rattle.data_tree.specs.State.{State, Nodes}
-use Rattle.data_tree.specs.Meaning.{Effect, effect_of, create_under, create_taken, create_new, delete_at, set_data_at, set_acl_at, owner_of, TxnEffect, answer_of, of_effect, of_operation, of_set_acl, of_parts, of_failed, has_error, first_error, effect_of_txn, effect_of_body, after_changes, of_create_session, of_close_session, delete_operations, state_without_session}
+use Rattle.data_tree.specs.Meaning.{Effect, effect_of, create_under, create_taken, create_new, delete_at, set_data_at, set_acl_at, TxnEffect, answer_of, of_effect, of_operation, of_set_acl, of_parts, of_failed, has_error, first_error, effect_of_txn, effect_of_body, after_changes, of_create_session, of_close_session, delete_operations, state_without_session}
 use Rattle.data_tree.specs.Meaning.Change.{Put, Own, Disown}
 use Rattle.data_tree.specs.Footprint.{has_path, IsSameCell, AreSameAt, AreApart, footprint_of_operation, footprint_of_parts, footprint, KeepsToCells}
 use Rattle.data_tree.specs.Commuting.{IsConfined, IsConfinedTo, TransactionsKeepToTheirFootprints, TransactionsSetTheirTimeouts, DisjointTransactionsCommute, with_timeout_of, with_timeouts}
-use Rattle.data_tree.specs.declared.node.Node.{Node}
 use Rattle.data_tree.specs.declared.outcome.Outcome.{Outcome}
 use Rattle.txn_codec.specs.declared.txn.TxnHeader.{TxnHeader}
 use Rattle.txn_codec.specs.declared.txn.Create.{Create}

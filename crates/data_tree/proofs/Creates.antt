@@ -8,18 +8,18 @@ use Rattle.txn_codec.specs.declared.txn.TxnHeader.{TxnHeader}
 use Rattle.txn_codec.specs.declared.txn.Create.{Create}
 use Rattle.txn_codec.specs.declared.txn.Operation.TheVariants as op
 use Rattle.jute.specs.declared.codes.TheConstants.{NODE_EXISTS}
+use Rattle.node_map.specs.Updates.{next_cversion, update_node, update_found}
+use Rattle.node_map.specs.Children.{with_added_child, with_raised_stat, stat_after_create, added_child, without_added_child}
+use Rattle.node_map.specs.declared.node.Node.{Node}
 use Rattle.data_tree.specs.State.{State, Nodes}
-use Rattle.data_tree.specs.Meaning.{after_changes, create_new, create_taken, create_under, of_effect, of_operation, next_cversion, with_children}
+use Rattle.data_tree.specs.Meaning.{after_changes, create_new, create_taken, create_under, of_effect, of_operation, with_children}
 use Rattle.data_tree.specs.Meaning.Change.{Put}
-use Rattle.data_tree.specs.Making.{update_node, update_found}
-use Rattle.data_tree.specs.Inner.Children.{with_added_child, with_raised_stat, stat_after_create, added_child, without_added_child}
 use Rattle.data_tree.specs.Inner.Doing.{IsEffectDone}
-use Rattle.data_tree.specs.declared.node.Node.{Node}
 use Rattle.data_tree.specs.declared.outcome.Trigger.{Trigger}
 use Rattle.jute.specs.declared.stat.StatPersisted.{StatPersisted}
-use Rattle.data_tree.specs.declared.added_child.AddedChild.TheVariants.{Taken, Added}
+use Rattle.node_map.specs.declared.added_child.AddedChild.TheVariants.{Taken, Added}
 use Rattle.data_tree.proofs.Lists.{nothing_more}
-use Rattle.data_tree.proofs.NodeUpdates.{insert_same, added_child_taken, undone}
+use Rattle.node_map.proofs.NodeUpdates.{insert_same, added_child_taken, undone}
 
 -- a parent whose numbers rise at most
 with_raised_stat-is : (s : State) (h : TxnHeader) (c : Create) (path : Bytes) (parent : Node)

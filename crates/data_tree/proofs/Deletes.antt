@@ -11,12 +11,12 @@ use Rattle.txn_codec.specs.Paths.{parent_of, name_of}
 use Rattle.jute.specs.declared.codes.TheConstants.{NO_NODE}
 use Rattle.txn_codec.specs.declared.txn.TxnHeader.{TxnHeader}
 use Rattle.txn_codec.specs.declared.txn.Operation.TheVariants as op
+use Rattle.node_map.specs.Updates.{update_node, update_found}
+use Rattle.node_map.specs.Children.{without_child}
+use Rattle.node_map.specs.declared.node.Node.{Node}
 use Rattle.data_tree.specs.State.{State, Nodes}
 use Rattle.data_tree.specs.Meaning.{Effect, after_changes, delete_at, no_change, of_operation}
-use Rattle.data_tree.specs.Making.{update_node, update_found}
-use Rattle.data_tree.specs.Inner.Children.{without_child}
 use Rattle.data_tree.specs.Inner.Doing.{IsEffectDone}
-use Rattle.data_tree.specs.declared.node.Node.{Node}
 use Rattle.data_tree.specs.declared.outcome.Trigger.{Trigger}
 use Rattle.ephemerals.proofs.Totals.{path_total}
 use Rattle.data_tree.proofs.Lists.{nothing_more}

@@ -17,14 +17,15 @@ use Rattle.txn_codec.specs.declared.txn.Operation.{Operation}
 use Rattle.txn_codec.specs.declared.txn.Operation.TheVariants as op
 use Rattle.txn_codec.specs.declared.txn.Body.{Body}
 use Rattle.txn_codec.specs.declared.txn.Body.TheVariants as body
+use Rattle.node_map.specs.Updates.{next_cversion, owner_of, preset_node, with_name, update_found, update_node}
+use Rattle.node_map.specs.Agreement.{has_node, AreChildNames}
+use Rattle.node_map.specs.declared.node.Node.{Node}
+use Rattle.node_map.proofs.Links.{each_of_all}
+use Rattle.node_map.proofs.Naming.{name_is, IsNamed, EachIsNamed, each_with, each_without, names_with, names_without, no_names}
 use Rattle.data_tree.specs.State.{State, Nodes}
-use Rattle.data_tree.specs.Meaning.{Change, after_change, after_changes, effect_of, create_under, create_taken, create_new, next_cversion, with_children, owner_of, gained_pair, delete_at, lost_pair, set_data_at, set_acl_at, of_parts, of_multi, of_failed, has_error, delete_operations, state_without_session, effect_of_body, preset_node, fresh_state}
+use Rattle.data_tree.specs.Meaning.{Change, after_change, after_changes, effect_of, create_under, create_taken, create_new, with_children, gained_pair, delete_at, lost_pair, set_data_at, set_acl_at, of_parts, of_multi, of_failed, has_error, delete_operations, state_without_session, effect_of_body, fresh_state}
 use Rattle.data_tree.specs.Meaning.Change.{Put, Remove, Own, Disown}
-use Rattle.data_tree.specs.Making.{with_name, update_found, update_node, with_node, with_node_in_place}
-use Rattle.data_tree.specs.Whole.{has_node, AreChildNames}
-use Rattle.data_tree.specs.declared.node.Node.{Node}
-use Rattle.data_tree.proofs.Links.{each_of_all}
-use Rattle.data_tree.proofs.Naming.{name_is, IsNamed, EachIsNamed, each_with, each_without, names_with, names_without, no_names}
+use Rattle.data_tree.specs.Making.{with_node, with_node_in_place}
 
 or-true : (b : Bool) → (b || true) ≡ true
 or-true true = refl

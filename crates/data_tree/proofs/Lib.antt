@@ -1,13 +1,7 @@
 -- A list that grew and was cut back
 pub mod Lists
--- A map from texts as a finite map from bytes
-pub mod TextMaps
 -- A map from signed numbers as a finite map
 pub mod IntMaps
--- A map of entries that are in order
-pub mod EntriesInOrder
--- A node that was lent for writing
-pub mod NodeUpdates
 -- A pair that was added and is taken out again, and the changes of pairs
 pub mod UndonePairs
 -- What a create leaves where the name is taken, or where it is refused
@@ -26,19 +20,7 @@ pub mod Batches
 pub mod MovedCells
 -- What a transaction means doesn't hang on the sessions
 pub mod CellMeanings
--- A loop that stops at the first item that fails
-pub mod Deciding
--- The entries of a map are its nodes, and what links them
-pub mod Links
--- Items of a set that are as many as the set
-pub mod Counting
--- The owners of a map's nodes, as pairs
-pub mod OwnersOfNodes
--- How many nodes a loop found to be owned
-pub mod CountedOwners
 -- A node that was put where it has a place, and one that was not
 pub mod Placing
--- Paths and names stay right
-pub mod Naming
 -- What transactions and nodes that are put leave of paths and names
 pub mod KeepingNames

@@ -9,13 +9,15 @@ use Rattle.ephemerals.specs.Orders.{Bytes, path_cmp}
 use Rattle.ephemerals.proofs.Totals.{path_total}
 use Rattle.txn_codec.specs.Paths.{is_root, parent_of, name_of}
 use Rattle.jute.specs.declared.stat.StatPersisted.{StatPersisted}
+use Rattle.node_map.specs.Agreement.{has_node}
+use Rattle.node_map.specs.Updates.{update_node, update_found, with_name}
+use Rattle.node_map.specs.Children.{added_child, with_new_node}
+use Rattle.node_map.specs.declared.node.Node.{Node}
+use Rattle.node_map.specs.declared.added_child.AddedChild.TheVariants.{Taken, Added}
+use Rattle.node_map.proofs.NodeUpdates.{kept_name}
 use Rattle.data_tree.specs.State.{State, Nodes}
-use Rattle.data_tree.specs.Whole.{has_node}
-use Rattle.data_tree.specs.Making.{update_node, update_found, with_name, with_placed_node, with_node, with_node_in_place, has_place}
-use Rattle.data_tree.specs.Inner.Children.{added_child, with_new_node, with_new_node_placed}
-use Rattle.data_tree.specs.declared.node.Node.{Node}
-use Rattle.data_tree.specs.declared.added_child.AddedChild.TheVariants.{Taken, Added}
-use Rattle.data_tree.proofs.NodeUpdates.{kept_name}
+use Rattle.data_tree.specs.Making.{with_placed_node, with_node, with_node_in_place, has_place}
+use Rattle.data_tree.specs.Inner.Placing.{with_new_node_placed}
 
 -- a new node that is taken out again
 pub new_node_removed : (m : Nodes) (path : Bytes) (node : Node) → not (has_node m path) ≡ true

@@ -5,10 +5,10 @@ use Rattle.std.specs.FinSet as set
 use Rattle.ephemerals.specs.Orders.{Bytes, Names}
 use Rattle.ephemerals.specs.Pairs.{pairs_at, without_paths}
 use Rattle.txn_codec.specs.declared.txn.Txn.{Txn}
-use Rattle.data_tree.specs.State.{State, Nodes}
+use Rattle.node_map.specs.Updates.{with_entries}
+use Rattle.data_tree.specs.State.{State}
 use Rattle.data_tree.specs.Meaning.{TxnEffect, effect_of_txn, answer_of}
 use Rattle.data_tree.specs.Footprint.{IsSameCell}
-use Rattle.data_tree.specs.declared.node.Node.{Node}
 use Rattle.data_tree.specs.declared.outcome.Outcome.{Outcome}
 
 -- the cells at these paths, and no session
@@ -26,11 +26,6 @@ without_cells paths s = record {
   pairs = without_paths paths s.pairs;
   sessions = s.sessions;
 }
-
--- the nodes, and in their place those of the entries
-abbrev pub with_entries : Nodes → List (Bytes × Node) → Nodes
-with_entries nodes [] = nodes
-with_entries nodes (e ∷ es) = finmap.insert (with_entries nodes es) e.0 e.1
 
 -- what stands in the cells stands in the state too
 abbrev pub with_cells : State → State → State

@@ -1,6 +1,4 @@
 pub mod Sessions
-pub mod Nodes
-pub mod Stats
 pub mod State
 pub mod Meaning
 pub mod Whole

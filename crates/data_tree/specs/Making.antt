@@ -1,13 +1,14 @@
 -- How a tree is made of sessions and nodes, one by one.
-use Rattle.std.specs.Prelude.{ℤ, Bool, not, ◌&&◌, ◌==◌, Option, Some, None, if◌then◌else◌}
+use Rattle.std.specs.Prelude.{ℤ, Bool, not, ◌&&◌, ◌==◌, if◌then◌else◌}
 use Rattle.std.specs.FinMap as finmap
 use Rattle.std.specs.FinSet as set
 use Rattle.ephemerals.specs.Orders.{Bytes}
 use Rattle.ephemerals.specs.Pairs.{with_pair}
 use Rattle.txn_codec.specs.Paths.{is_root, parent_of, name_of}
+use Rattle.node_map.specs.Agreement.{has_node}
+use Rattle.node_map.specs.declared.node.Node.{Node}
+use Rattle.node_map.specs.Updates.{with_name, update_node}
 use Rattle.data_tree.specs.State.{State, Nodes}
-use Rattle.data_tree.specs.Whole.{has_node}
-use Rattle.data_tree.specs.declared.node.Node.{Node}
 
 -- no node and no session
 abbrev pub empty_state : State
@@ -15,18 +16,6 @@ empty_state = record { nodes = finmap.empty; pairs = set.empty; sessions = finma
 
 abbrev pub with_session : State → ℤ → ℤ → State
 with_session s session timeout = record s { sessions = finmap.insert s.sessions session timeout }
-
--- a node that lists the name too
-abbrev pub with_name : Bytes → Node → Node
-with_name name parent = record parent { children = set.insert parent.children name }
-
-abbrev pub update_found : Nodes → Bytes → (Node → Node) → Option Node → Nodes
-update_found nodes path f None = nodes
-update_found nodes path f (Some node) = finmap.insert nodes path (f node)
-
--- f of the node at the path, if any
-abbrev pub update_node : Nodes → Bytes → (Node → Node) → Nodes
-update_node nodes path f = update_found nodes path f (finmap.get nodes path)
 
 -- the node, and its owner's pair
 abbrev pub with_placed_node : State → Bytes → Node → State

@@ -1,6 +1,5 @@
 -- What a transaction does to the state, and what it answers (ZooKeeper Programmer's Guide).
-use Rattle.std.specs.Prelude.{ℤ, pos, negsuc, ◌+ℤ◌, List, [], ◌∷◌, ◌++◌, if◌then◌else◌, Bool, Option, Some, None, is_some, map, int_lt, codes}
-use Rattle.std.specs.Int.{int_wrap, w32}
+use Rattle.std.specs.Prelude.{ℤ, pos, List, [], ◌∷◌, ◌++◌, if◌then◌else◌, Bool, Option, Some, None, is_some, map, int_lt, codes}
 use Rattle.std.specs.Option.{unwrap_or}
 use Rattle.std.specs.List.{list_any}
 use Rattle.std.specs.Ordering.{int_eq}
@@ -8,9 +7,7 @@ use Rattle.std.specs.FinMap as finmap
 use Rattle.std.specs.FinSet as set
 use Rattle.ephemerals.specs.Orders.{Bytes, Names, sorted_names}
 use Rattle.ephemerals.specs.Pairs.{paths_of_session, without_session}
-use Rattle.jute.specs.Codes.{open_acl}
 use Rattle.jute.specs.declared.codes.TheConstants.{NO_NODE, NODE_EXISTS, RUNTIME_INCONSISTENCY}
-use Rattle.txn_codec.specs.Acls.{acl_or_open}
 use Rattle.txn_codec.specs.Paths.{parent_of, name_of}
 use Rattle.txn_codec.specs.declared.txn.TxnHeader.{TxnHeader}
 use Rattle.txn_codec.specs.declared.txn.Create.{Create}
@@ -21,8 +18,9 @@ use Rattle.txn_codec.specs.declared.txn.Operation.{Operation}
 use Rattle.txn_codec.specs.declared.txn.Operation.TheVariants as op
 use Rattle.txn_codec.specs.declared.txn.Body.{Body}
 use Rattle.txn_codec.specs.declared.txn.Body.TheVariants as body
+use Rattle.node_map.specs.declared.node.Node.{Node}
+use Rattle.node_map.specs.Updates.{next_cversion, owner_of, new_node, with_data, with_acl, preset_node}
 use Rattle.data_tree.specs.State.{State, Nodes}
-use Rattle.data_tree.specs.declared.node.Node.{Node}
 use Rattle.data_tree.specs.declared.outcome.Outcome.{Outcome}
 use Rattle.data_tree.specs.declared.outcome.Trigger.{Trigger}
 use Rattle.data_tree.specs.declared.outcome.Trigger.TheVariants.{Created, Deleted, DataChanged, ChildrenChanged}
@@ -57,36 +55,10 @@ pub record Effect : Type 0 where
 abbrev pub no_change : ℤ → Effect
 no_change error = record { err = error; changes = []; triggers = [] }
 
--- the stored cversion of the parent after a create: -1 counts it up by one, and Java's 32-bit numbers wrap
-abbrev pub next_cversion : ℤ → ℤ → ℤ
-next_cversion stored wanted = if int_eq wanted (negsuc 0) then int_wrap w32 (stored +ℤ pos 1) else wanted
-
 -- a parent whose children, stored cversion and pzxid are set
 abbrev pub with_children : Node → Names → ℤ → ℤ → Node
 with_children parent children cversion zxid =
     record parent { children = children; stat = record parent.stat { cversion = cversion; pzxid = zxid } }
-
--- the session that an ephemeral node belongs to, and 0 for any other node
-abbrev pub owner_of : TxnHeader → Bool → ℤ
-owner_of header ephemeral = if ephemeral then header.client_id else pos 0
-
-abbrev pub new_node : TxnHeader → Create → Node
-new_node header create = record {
-  bytes = create.bytes;
-  acl = acl_or_open create.acl;
-  stat = record {
-    czxid = header.zxid;
-    mzxid = header.zxid;
-    ctime = header.time;
-    mtime = header.time;
-    version = pos 0;
-    cversion = pos 0;
-    aversion = pos 0;
-    ephemeral_owner = owner_of header create.ephemeral;
-    pzxid = header.zxid;
-  };
-  children = set.empty;
-}
 
 -- session 0 owns nothing
 abbrev pub gained_pair : ℤ → Bytes → List Change
@@ -140,11 +112,6 @@ delete_at header path (Some node) (Some parent) = record {
   triggers = Deleted path ∷ ChildrenChanged (parent_of path) ∷ [];
 }
 
-abbrev pub with_data : TxnHeader → SetData → Node → Node
-with_data header body node =
-    record node
-    { bytes = body.bytes; stat = record node.stat { version = body.version; mzxid = header.zxid; mtime = header.time } }
-
 abbrev pub set_data_at : TxnHeader → SetData → Option Node → Effect
 set_data_at header body None = no_change NO_NODE
 set_data_at header body (Some node) =
@@ -162,9 +129,6 @@ effect_of header (op.Delete path) nodes =
 effect_of header (op.SetData body) nodes = set_data_at header body (finmap.get nodes body.path)
 effect_of header (op.Check body) nodes = no_change (pos 0)
 effect_of header (op.Error error) nodes = no_change error
-
-abbrev pub with_acl : SetAcl → Node → Node
-with_acl body node = record node { acl = acl_or_open body.acl; stat = record node.stat { aversion = body.version } }
 
 abbrev pub set_acl_at : SetAcl → Option Node → Effect
 set_acl_at body None = no_change NO_NODE
@@ -288,25 +252,6 @@ state_after s (t ∷ ts) = state_after (effect_of_txn s t).state ts
 abbrev pub outcomes_of_txns : State → List Txn → List Outcome
 outcomes_of_txns s [] = []
 outcomes_of_txns s (t ∷ ts) = answer_of (effect_of_txn s t) ∷ outcomes_of_txns (effect_of_txn s t).state ts
-
--- a node that nobody made: empty data, the open list, all numbers 0
-abbrev pub preset_node : Names → Node
-preset_node children = record {
-  bytes = Some [];
-  acl = open_acl;
-  stat = record {
-    czxid = pos 0;
-    mzxid = pos 0;
-    ctime = pos 0;
-    mtime = pos 0;
-    version = pos 0;
-    cversion = pos 0;
-    aversion = pos 0;
-    ephemeral_owner = pos 0;
-    pzxid = pos 0;
-  };
-  children = children;
-}
 
 -- the tree from which every log starts: /, /zookeeper and /zookeeper/quota
 abbrev pub fresh_state : State

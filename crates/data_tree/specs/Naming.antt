@@ -4,11 +4,11 @@ use Rattle.ephemerals.specs.Orders.{Bytes}
 use Rattle.txn_codec.specs.Paths.{is_path, is_child_path, name_of}
 use Rattle.txn_codec.specs.Parents.{HaveParents}
 use Rattle.txn_codec.specs.declared.txn.Txn.{Txn}
+use Rattle.node_map.specs.Agreement.{is_child_name, AreChildNames, AreNamed}
+use Rattle.node_map.specs.declared.node.Node.{Node}
 use Rattle.data_tree.specs.State.{State}
 use Rattle.data_tree.specs.Meaning.{effect_of_txn}
 use Rattle.data_tree.specs.Making.{with_node_in_place}
-use Rattle.data_tree.specs.Whole.{is_child_name, AreChildNames, AreNamed}
-use Rattle.data_tree.specs.declared.node.Node.{Node}
 
 -- what stands behind a path's last slash may stand there
 abbrev pub PathsEndInNames : Type 0

@@ -5,9 +5,9 @@ use Rattle.std.specs.FinMap as finmap
 use Rattle.std.specs.FinSet as set
 use Rattle.std.specs.Ordering.{int_cmp}
 use Rattle.ephemerals.specs.Orders.{OwnerPairs, path_cmp, pair_cmp}
-pub use Rattle.data_tree.specs.Nodes.{Nodes}
+pub use Rattle.node_map.specs.Nodes.{Nodes}
 pub use Rattle.data_tree.specs.Sessions.{SessionTimeouts}
-use Rattle.data_tree.specs.declared.node.Node.{Node}
+use Rattle.node_map.specs.declared.node.Node.{Node}
 
 -- the nodes by path, the ephemerals as pairs of a session and a path, and each session's timeout
 pub record State : Type 0 where

@@ -23,7 +23,7 @@ pub struct Cells {
 impl Model for Cells {
     ghost use Rattle.std.specs.FinMap as finmap;
     ghost use Rattle.data_tree.specs.State.{State, state_code};
-    ghost use Rattle.data_tree.specs.contracts.node.Node as node;
+    ghost use Rattle.node_map.specs.contracts.node.Node as node;
 
     ghost Value = { State };
 

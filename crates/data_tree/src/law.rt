@@ -1,8 +1,8 @@
 //! Laws of what transactions mean. Each is the contract of a function that does nothing.
 
+ghost use Rattle.node_map.specs.Agreement.{AreNamed};
 ghost use Rattle.data_tree.specs.Meaning.{fresh_state};
 ghost use Rattle.data_tree.specs.Naming.{PathsEndInNames, TransactionsKeepNames, NodesKeepNames};
-ghost use Rattle.data_tree.specs.Whole.{AreNamed};
 ghost use Rattle.data_tree.specs.Cells.{TakenCellsMove, CellsComeToEmptyCells, TakenAndPutBackIsTheState};
 ghost use Rattle.data_tree.specs.Commuting.{TransactionsKeepToTheirFootprints, DisjointTransactionsCommute, GroupsAreTheBatch, CellsPutBackAreTheBatch};
 ghost use Rattle.data_tree.specs.Commuting.{TransactionsSetTheirTimeouts};

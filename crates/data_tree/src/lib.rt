@@ -19,19 +19,15 @@
 //! ```
 #![tactic(auto)]
 
-mod added_child;
 mod cells;
 pub mod law;
-mod moving;
 mod multi;
-mod node;
-mod node_map;
 mod outcome;
 mod sessions;
 mod tree;
 
 pub use cells::Cells;
-pub use node::Node;
+pub use node_map::Node;
 pub use outcome::{Outcome, Trigger};
 pub use sessions::Timeouts;
 pub use tree::Tree;

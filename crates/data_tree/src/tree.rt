@@ -4,28 +4,27 @@ ghost use Rattle.std.specs.Prelude.{◌≡◌, ◌++◌, [], ◌↔◌, OnOk, On
 ghost use Rattle.std.specs.Option.{option_copied, option_map};
 ghost use Rattle.std.specs.FinMap as finmap;
 ghost use Rattle.std.specs.Map.Iter.{ShowsInOrder, deref_pair};
-ghost use Rattle.data_tree.specs.declared.node.Node.{Node as TheNode};
+ghost use Rattle.node_map.specs.declared.node.Node.{Node as TheNode};
+ghost use Rattle.node_map.specs.Agreement.{has_node};
+ghost use Rattle.node_map.specs.Stats.{stat_of, children_of};
 ghost use Rattle.data_tree.specs.Making.{with_placed_node};
 ghost use Rattle.data_tree.specs.Making.{empty_state, with_session, with_node_in_place, has_place};
-ghost use Rattle.data_tree.specs.Inner.Children.{with_new_node_placed};
-ghost use Rattle.data_tree.specs.Whole.{IsWhole, has_node};
+ghost use Rattle.data_tree.specs.Inner.Placing.{with_new_node_placed};
+ghost use Rattle.data_tree.specs.Whole.{IsWhole};
 ghost use Rattle.data_tree.specs.Meaning.{of_operation, of_set_acl, of_create_session, of_close_session, of_parts, of_multi, delete_operations, has_error, effect_of_txn, answer_of, fresh_state};
 ghost use Rattle.data_tree.specs.Cells.{cells_at, without_cells, with_cells};
 ghost use Rattle.data_tree.specs.Refused.{IsAfterFront};
 ghost use Rattle.data_tree.specs.Refused.{IsPartlyDone, IsLeftByRefused};
 ghost use Rattle.data_tree.specs.Inner.Doing.{DoesEffect};
-ghost use Rattle.data_tree.specs.Stats.{stat_of, children_of};
 ghost use Rattle.ephemerals.specs.Orders.{sorted_names};
 
-use crate::added_child::AddedChild;
 use crate::multi::{failed_outcome, first_error, has_error};
-use crate::node::Node;
-use crate::node_map::NodeMap;
 use crate::outcome::{Outcome, Trigger, fire_data_changed, fire_with_parent};
 use crate::sessions::Timeouts;
 use ephemerals::{Ephemerals, TextSet};
 use jute::Stat;
 use jute::codes::{NO_NODE, NODE_EXISTS};
+use node_map::{AddedChild, Node, NodeMap};
 use std::alloc::Global;
 use std::collections::btree_map::Iter;
 use std::marker::Model;
@@ -44,7 +43,7 @@ pub struct Tree {
 
 impl Model for Tree {
     ghost use Rattle.data_tree.specs.State.{State, state_code};
-    ghost use Rattle.data_tree.specs.contracts.node.Node as node;
+    ghost use Rattle.node_map.specs.contracts.node.Node as node;
 
     ghost Value = { State };
 

@@ -42,10 +42,11 @@ use Rattle.txn_codec.specs.declared.txn.Operation.TheVariants as operations
 use Rattle.txn_codec.specs.declared.txn.Body.TheVariants as bodies
 use Rattle.txn_codec.specs.declared.txn.Txn.{Txn}
 use Rattle.txn_codec.specs.Spelling.{txn_format, value_of_whole}
+use Rattle.node_map.specs.Updates.{preset_node, new_node, with_data}
+use Rattle.node_map.specs.Stats.{shown_stat, java_int, length_or_zero}
+use Rattle.node_map.specs.declared.node.Node.{Node}
 use Rattle.data_tree.specs.State.{State}
-use Rattle.data_tree.specs.Meaning.{effect_of_txn, fresh_state, preset_node, after_changes, create_new, create_taken, create_under, set_data_at, of_effect, new_node, with_data}
-use Rattle.data_tree.specs.Stats.{shown_stat, java_int, length_or_zero}
-use Rattle.data_tree.specs.declared.node.Node.{Node}
+use Rattle.data_tree.specs.Meaning.{effect_of_txn, fresh_state, after_changes, create_new, create_taken, create_under, set_data_at, of_effect}
 use Rattle.data_tree.specs.declared.outcome.Trigger.{Trigger}
 use Rattle.data_tree.specs.declared.outcome.Trigger.TheVariants.{Created, ChildrenChanged}
 use Rattle.jute.specs.declared.owned.Id.{Id}

@@ -8,8 +8,8 @@ use Rattle.jute.specs.declared.owned.Id.{Id}
 use Rattle.jute.specs.declared.stat.Stat.{Stat}
 use Rattle.client_records.specs.Responses.{exists_response, get_data_response}
 use Rattle.ephemerals.specs.Orders.{path_cmp}
-use Rattle.data_tree.specs.Stats.{shown_stat, java_int}
-use Rattle.data_tree.specs.declared.node.Node.{Node}
+use Rattle.node_map.specs.Stats.{shown_stat, java_int}
+use Rattle.node_map.specs.declared.node.Node.{Node}
 use Rattle.read_processor.specs.declared.request.Request.{Request}
 use Rattle.read_processor.specs.declared.request.Request.TheVariants.{Exists, GetData}
 use Rattle.read_processor.specs.Look.{look_at_node, shown_look}

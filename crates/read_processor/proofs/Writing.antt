@@ -9,7 +9,7 @@ use Rattle.jute.specs.Owned.{acl_format, id_format}
 use Rattle.jute.specs.Records.{stat_format}
 use Rattle.jute.specs.declared.owned.Acl.{Acl}
 use Rattle.jute.specs.declared.stat.Stat.{Stat}
-use Rattle.data_tree.specs.Stats.{length_or_zero}
+use Rattle.node_map.specs.Stats.{length_or_zero}
 use Rattle.client_records.specs.Fields.{names_format}
 use Rattle.client_records.specs.Responses.{get_data_response, get_acl_response, watcher_event}
 use Rattle.client_records.specs.declared.event.WatcherEvent.{WatcherEvent}

@@ -6,9 +6,9 @@ use Rattle.jute.specs.declared.owned.Id.{Id}
 use Rattle.jute.specs.declared.codes.TheConstants.{BAD_ARGUMENTS, NO_NODE, NO_AUTH}
 use Rattle.client_records.specs.Responses.{exists_response, get_data_response, get_acl_response, get_children_response, get_children2_response}
 use Rattle.ephemerals.specs.Orders.{sorted_names}
+use Rattle.node_map.specs.Stats.{stat_of}
+use Rattle.node_map.specs.declared.node.Node.{Node}
 use Rattle.data_tree.specs.State.{State}
-use Rattle.data_tree.specs.Stats.{stat_of}
-use Rattle.data_tree.specs.declared.node.Node.{Node}
 use Rattle.read_processor.specs.Permissions.{may_read}
 use Rattle.read_processor.specs.Limits.{fitting_body}
 use Rattle.read_processor.specs.declared.shown.Look.{Look}

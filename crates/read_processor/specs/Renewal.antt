@@ -5,8 +5,8 @@ use Rattle.std.specs.List.{filter_map, list_all}
 use Rattle.std.specs.Option.{option_map}
 use Rattle.std.specs.FinMap as finmap
 use Rattle.client_records.specs.declared.request.SetWatches.{SetWatches}
+use Rattle.node_map.specs.declared.node.Node.{Node}
 use Rattle.data_tree.specs.State.{State}
-use Rattle.data_tree.specs.declared.node.Node.{Node}
 use Rattle.watch_manager.specs.declared.event.Event.{Event}
 use Rattle.watch_manager.specs.declared.event.EventKind.{EventKind}
 use Rattle.watch_manager.specs.declared.event.EventKind.TheVariants.{NodeCreated, NodeDeleted, NodeDataChanged, NodeChildrenChanged}

@@ -7,8 +7,8 @@ use Rattle.jute.specs.declared.owned.Id.{Id}
 use Rattle.jute.specs.declared.codes.TheConstants.{BAD_ARGUMENTS, NO_NODE, NO_AUTH}
 use Rattle.client_records.specs.declared.request.PathAndWatch.{PathAndWatch}
 use Rattle.client_records.specs.declared.request.SetWatches.{SetWatches}
+use Rattle.node_map.specs.declared.node.Node.{Node}
 use Rattle.data_tree.specs.State.{State}
-use Rattle.data_tree.specs.declared.node.Node.{Node}
 use Rattle.watch_manager.specs.declared.event.EventKind.TheVariants.{NodeDataChanged, NodeCreated}
 use Rattle.read_processor.specs.declared.request.Request.TheVariants.{Exists, GetData}
 use Rattle.read_processor.specs.declared.watch.Watch.TheVariants.{Data, Child}

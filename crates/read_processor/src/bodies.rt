@@ -2,7 +2,7 @@
 //! lengths are tested before anything is written.
 
 ghost use Rattle.std.specs.Prelude.{◌≡◌, ◌<◌, ◌^◌, IfOk};
-ghost use Rattle.data_tree.specs.Stats.{length_or_zero};
+ghost use Rattle.node_map.specs.Stats.{length_or_zero};
 ghost use Rattle.read_processor.specs.Limits.{fitting_body};
 ghost use Rattle.read_processor.specs.Look.{exists_body, get_data_body, get_acl_body, get_children_body, get_children2_body, reply_body};
 

@@ -8,9 +8,9 @@ use Rattle.ephemerals.specs.Orders.{Bytes, path_cmp}
 use Rattle.jute.specs.Format.{int, long, count_format, count_limit, text_format, pair_of}
 use Rattle.jute.specs.declared.owned.Acl.{Acl}
 use Rattle.txn_codec.specs.Paths.{is_root, is_path}
+use Rattle.node_map.specs.declared.node.Node.{Node}
 use Rattle.data_tree.specs.State.{State}
 use Rattle.data_tree.specs.Whole.{IsWhole}
-use Rattle.data_tree.specs.declared.node.Node.{Node}
 use Rattle.snapshot_codec.specs.Parts.{Value, Part, root_path, signature_text, node_body}
 use Rattle.snapshot_codec.specs.Written.{walk_cmp, walk_of, Lists, lists_from, lists_of, key_of, session_part, list_part, counted_values, node_values, bytes_from, image_bytes, FitsImage}
 use Rattle.snapshot_codec.specs.Writes.{sessions_bytes, FitSessions, keyed_bytes, table_bytes, FitLists, MakesTable, nodes_bytes, FitNodes, WritesBytes}

@@ -27,10 +27,10 @@ use Rattle.jute.proofs.Public.{bind_ok, bind_err, ok_is, not_refused, guard_ok, 
 use Rattle.txn_codec.specs.Paths.{is_root}
 use Rattle.data_tree.specs.Making.{with_session, with_node, has_place}
 use Rattle.txn_codec.specs.Acls.{acl_or_open}
-use Rattle.data_tree.specs.Nodes.{Nodes}
+use Rattle.node_map.specs.Nodes.{Nodes}
 use Rattle.data_tree.specs.State.{State}
-use Rattle.data_tree.specs.Whole.{is_owner}
-use Rattle.data_tree.specs.declared.node.Node.{Node}
+use Rattle.node_map.specs.Agreement.{is_owner}
+use Rattle.node_map.specs.declared.node.Node.{Node}
 use Rattle.snapshot_codec.specs.Image.{SessionEntries, Lists, Rows, parts_in, sessions_in, lists_in, rows_in, list_named, HasPlace, IsAllowedAfter, AreAllowedAfter, AreAt, IsMadeOf, SpellsImage, IsRefusedAfter, AgainstImage, image_format, image_read}
 use Rattle.snapshot_codec.specs.Made.{LoadedParts, no_loaded_parts, list_at_key, node_with, with_listed_node, with_part, with_value, image_load}
 use Rattle.snapshot_codec.specs.Parts.{Value, Count, Path, Close, Part, part_stream}

@@ -20,9 +20,9 @@ use Rattle.jute.specs.Owned.{acl_format}
 use Rattle.jute.specs.Relation.{SpellsItems}
 use Rattle.jute.specs.declared.owned.Acl.{Acl}
 use Rattle.txn_codec.specs.Paths.{is_root, is_path}
+use Rattle.node_map.specs.declared.node.Node.{Node}
 use Rattle.data_tree.specs.State.{State}
 use Rattle.data_tree.specs.Whole.{IsWhole}
-use Rattle.data_tree.specs.declared.node.Node.{Node}
 use Rattle.snapshot_codec.specs.Parts.{Value, Path, Close, Part, root_path, signature_text, next_value, node_body, part_stream, part_format, part_after, sessions_from, acls_from}
 use Rattle.snapshot_codec.specs.Written.{walk_cmp, walk_of, Lists, lists_of, key_of, session_part, list_part, node_values, values_of, bytes_from, IsWithinLimits}
 use Rattle.snapshot_codec.specs.declared.part.PartPhase.{PartPhase}

@@ -21,11 +21,12 @@ use Rattle.ephemerals.proofs.Totals.{path_total, pair_total}
 use Rattle.jute.specs.Codes.{open_acl}
 use Rattle.jute.specs.declared.owned.Acl.{Acl}
 use Rattle.txn_codec.specs.Paths.{is_root, parent_of, name_of}
-use Rattle.data_tree.specs.Making.{with_session, with_node, has_place, with_name, update_node, update_found}
-use Rattle.data_tree.specs.Nodes.{Nodes}
+use Rattle.node_map.specs.Updates.{with_name, update_node, update_found}
+use Rattle.node_map.specs.Nodes.{Nodes}
+use Rattle.node_map.specs.Agreement.{is_owner}
+use Rattle.node_map.specs.declared.node.Node.{Node}
+use Rattle.data_tree.specs.Making.{with_session, with_node, has_place}
 use Rattle.data_tree.specs.State.{State}
-use Rattle.data_tree.specs.Whole.{is_owner}
-use Rattle.data_tree.specs.declared.node.Node.{Node}
 use Rattle.snapshot_codec.specs.Image.{SessionEntries, Lists, Rows, list_named, HasPlace, is_child, AreAt, IsMadeOf}
 use Rattle.snapshot_codec.specs.Made.{LoadedParts, node_with}
 use Rattle.snapshot_codec.specs.declared.part.ImageNode.{ImageNode}

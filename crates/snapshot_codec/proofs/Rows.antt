@@ -11,8 +11,9 @@ use Rattle.ephemerals.proofs.Totals.{path_total}
 use Rattle.jute.specs.Codes.{open_acl}
 use Rattle.jute.specs.Format.{number_bytes}
 use Rattle.jute.specs.Records.{stat_persisted}
-use Rattle.data_tree.specs.Meaning.{fresh_state, preset_node}
-use Rattle.data_tree.specs.declared.node.Node.{Node}
+use Rattle.node_map.specs.Updates.{preset_node}
+use Rattle.node_map.specs.declared.node.Node.{Node}
+use Rattle.data_tree.specs.Meaning.{fresh_state}
 use Rattle.snapshot_codec.specs.Rows.{fresh_image, session_image, world_acl, node_with_acl, some_nodes, WorkedImages}
 use Rattle.snapshot_codec.specs.Written.{walk_cmp, walk_of, lists_from, session_part, list_part, node_values, counted_values, bytes_from}
 use Rattle.snapshot_codec.specs.declared.part.PartPhase.TheVariants.{SessionCount}

@@ -27,7 +27,7 @@ use Rattle.jute.specs.Laws.{IsSound}
 use Rattle.jute.specs.Owned.{acl_format}
 use Rattle.jute.specs.declared.owned.Acl.{Acl}
 use Rattle.jute.proofs.Public.{acl_sound, vector_sound}
-use Rattle.data_tree.specs.declared.node.Node.{Node}
+use Rattle.node_map.specs.declared.node.Node.{Node}
 use Rattle.snapshot_codec.specs.Written.{is_same_list, Lists, key_in, with_list, lists_from, key_of}
 use Rattle.snapshot_codec.specs.Writes.{FitsList, list_bytes, GivesList, FitLists, keyed_bytes, IsTable, AddsList, MakesTable, NamesKey, WritesBytes}
 use Rattle.snapshot_codec.specs.declared.key_table.KeyTable.{KeyTable}

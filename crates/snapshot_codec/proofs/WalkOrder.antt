@@ -16,8 +16,8 @@ use Rattle.std.proofs.lemmas.Map.Views.{tells_apart}
 use Rattle.ephemerals.specs.Orders.{Bytes, path_cmp}
 use Rattle.ephemerals.proofs.Totals.{path_total}
 use Rattle.txn_codec.specs.Paths.{is_name, is_root, is_path, has_slash, before_last_slash, after_last_slash, or_root, parent_of, name_of, child_of}
-use Rattle.data_tree.specs.Nodes.{Nodes}
-use Rattle.data_tree.specs.Whole.{is_child_name}
+use Rattle.node_map.specs.Nodes.{Nodes}
+use Rattle.node_map.specs.Agreement.{is_child_name}
 use Rattle.snapshot_codec.specs.Parts.{root_path}
 use Rattle.snapshot_codec.specs.Written.{byte_rank, walk_cmp, walk_of}
 use Rattle.snapshot_codec.proofs.Formats.{root_is}

@@ -10,8 +10,8 @@ use Rattle.std.specs.List.Sorted.{IsStrictlySortedBy}
 use Rattle.std.specs.Ordering.{is_lt, nat_cmp, on, ordering_reverse, ordering_then}
 use Rattle.std.proofs.lemmas.Bool.{eqb-true}
 use Rattle.ephemerals.specs.Orders.{Bytes}
-use Rattle.data_tree.specs.Nodes.{Nodes}
-use Rattle.data_tree.specs.declared.node.Node.{Node}
+use Rattle.node_map.specs.Nodes.{Nodes}
+use Rattle.node_map.specs.declared.node.Node.{Node}
 use Rattle.snapshot_codec.specs.Walks.{IsBelow, IsWalk}
 use Rattle.snapshot_codec.specs.Written.{byte_rank, walk_cmp, walk_of}
 use Rattle.snapshot_codec.proofs.WalkOrder.{first, second, less, less_at, rank_exact, rank_exact_cmp, rank_total, walk_total, walk_find, walk_sorted}

@@ -20,10 +20,11 @@ use Rattle.jute.specs.Loading.{EndsAt, EndsOnce}
 use Rattle.jute.specs.Relation.{SpellsItems}
 use Rattle.jute.proofs.Public.{bind_ok, ok_is, guard_ended}
 use Rattle.txn_codec.specs.Paths.{are_names, is_root, is_path, is_child_path, checked_path, has_slash, before_last_slash, after_last_slash, or_root, parent_of, name_of, child_of}
+use Rattle.node_map.specs.Agreement.{has_node, is_listed_at, is_listed, has_parent, is_child_name, AreNamed}
+use Rattle.node_map.specs.declared.node.Node.{Node}
 use Rattle.data_tree.specs.State.{State}
 use Rattle.data_tree.specs.Naming.{PathsEndInNames}
-use Rattle.data_tree.specs.Whole.{has_node, is_listed_at, is_listed, has_parent, is_child_name, AreNamed, IsWhole}
-use Rattle.data_tree.specs.declared.node.Node.{Node}
+use Rattle.data_tree.specs.Whole.{IsWhole}
 use Rattle.snapshot_codec.specs.Image.{SessionEntries, Lists, Rows, parts_in, rows_in, HasPlace, IsAllowedAfter, AreAllowedAfter, is_child, AreAt, IsMadeOf, SpellsImage}
 use Rattle.snapshot_codec.specs.Made.{image_load}
 use Rattle.snapshot_codec.specs.Parts.{Value, Count, Path, Close, Part, root_path, count_value, session_value, acl_value, root_value, next_value, node_value, path_value, signature_text, signature_value, sessions_from, acls_from, part_stream, part_format, part_after, is_end}

@@ -23,10 +23,11 @@ use Rattle.jute.specs.Laws.{WritesSpellings}
 use Rattle.jute.specs.Loading.{EndsAt, EndsOnce}
 use Rattle.jute.specs.declared.owned.Acl.{Acl}
 use Rattle.txn_codec.specs.Paths.{is_root, is_path, parent_of, name_of, child_of}
-use Rattle.data_tree.specs.Nodes.{Nodes}
+use Rattle.node_map.specs.Nodes.{Nodes}
+use Rattle.node_map.specs.Agreement.{has_node, is_listed_at, is_listed}
+use Rattle.node_map.specs.declared.node.Node.{Node}
 use Rattle.data_tree.specs.State.{State}
-use Rattle.data_tree.specs.Whole.{has_node, is_listed_at, is_listed, IsWhole}
-use Rattle.data_tree.specs.declared.node.Node.{Node}
+use Rattle.data_tree.specs.Whole.{IsWhole}
 use Rattle.snapshot_codec.specs.Image.{SessionEntries, Rows, parts_in, sessions_in, lists_in, rows_in, list_named, HasPlace, IsAllowedAfter, AreAllowedAfter, is_child, AreAt, IsMadeOf, IsMadeOfParts, image_format}
 use Rattle.snapshot_codec.specs.Made.{image_load}
 use Rattle.snapshot_codec.specs.Parts.{Value, Part, is_end}

@@ -15,9 +15,9 @@ use Rattle.jute.specs.Relation.{SpellsItems}
 use Rattle.jute.specs.declared.owned.Acl.{Acl}
 use Rattle.txn_codec.specs.Paths.{is_root, parent_of, name_of}
 use Rattle.txn_codec.specs.Acls.{acl_or_open}
+use Rattle.node_map.specs.Agreement.{AreOwned}
+use Rattle.node_map.specs.declared.node.Node.{Node}
 use Rattle.data_tree.specs.State.{State}
-use Rattle.data_tree.specs.Whole.{AreOwned}
-use Rattle.data_tree.specs.declared.node.Node.{Node}
 use Rattle.snapshot_codec.specs.Made.{no_loaded_parts, image_load}
 use Rattle.snapshot_codec.specs.Parts.{Value, Part, part_stream, part_format}
 pub use Rattle.snapshot_codec.specs.Written.{Lists}

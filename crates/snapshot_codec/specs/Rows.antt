@@ -6,10 +6,11 @@ use Rattle.values.specs.Hex.{hex_bytes}
 use Rattle.ephemerals.specs.Orders.{Bytes}
 use Rattle.jute.specs.Codes.{open_acl}
 use Rattle.jute.specs.declared.owned.Acl.{Acl}
+use Rattle.node_map.specs.Updates.{preset_node}
+use Rattle.node_map.specs.Nodes.{Nodes}
+use Rattle.node_map.specs.declared.node.Node.{Node}
 use Rattle.data_tree.specs.Making.{with_session}
-use Rattle.data_tree.specs.Meaning.{fresh_state, preset_node}
-use Rattle.data_tree.specs.Nodes.{Nodes}
-use Rattle.data_tree.specs.declared.node.Node.{Node}
+use Rattle.data_tree.specs.Meaning.{fresh_state}
 use Rattle.snapshot_codec.specs.Image.{image_format}
 use Rattle.snapshot_codec.specs.Written.{walk_of, lists_of, key_of}
 

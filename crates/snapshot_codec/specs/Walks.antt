@@ -4,8 +4,8 @@ use Rattle.std.specs.FinMap as finmap
 use Rattle.std.specs.FinMap.{find}
 use Rattle.std.specs.List.Sorted.{IsStrictlySortedBy}
 use Rattle.ephemerals.specs.Orders.{Bytes, path_cmp}
-use Rattle.data_tree.specs.Nodes.{Nodes}
-use Rattle.data_tree.specs.declared.node.Node.{Node}
+use Rattle.node_map.specs.Nodes.{Nodes}
+use Rattle.node_map.specs.declared.node.Node.{Node}
 use Rattle.snapshot_codec.specs.Written.{walk_cmp}
 
 -- every other node is below "/" besides

@@ -13,7 +13,7 @@ use Rattle.jute.specs.Format.{int, long, count_format, count_limit, text_format,
 use Rattle.jute.specs.Owned.{acl_format}
 use Rattle.jute.specs.declared.owned.Acl.{Acl}
 use Rattle.txn_codec.specs.Paths.{is_root}
-use Rattle.data_tree.specs.declared.node.Node.{Node}
+use Rattle.node_map.specs.declared.node.Node.{Node}
 use Rattle.snapshot_codec.specs.Parts.{node_body}
 use Rattle.snapshot_codec.specs.Written.{Lists, key_in, with_list, key_of}
 use Rattle.snapshot_codec.specs.declared.depth_first.WalkPath.{WalkPath}

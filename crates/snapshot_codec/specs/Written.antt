@@ -13,9 +13,9 @@ use Rattle.jute.specs.Codes.{open_acl}
 use Rattle.jute.specs.Format.{int, long, count_format, count_limit, text_format, vector_of, pair_of}
 use Rattle.jute.specs.Owned.{acl_format}
 use Rattle.jute.specs.declared.owned.Acl.{Acl}
+use Rattle.node_map.specs.declared.node.Node.{Node}
 use Rattle.data_tree.specs.State.{State, Nodes}
 use Rattle.data_tree.specs.Whole.{IsWhole}
-use Rattle.data_tree.specs.declared.node.Node.{Node}
 use Rattle.snapshot_codec.specs.Parts.{Value, Count, Path, Close, Part, node_body, part_format, part_after}
 use Rattle.snapshot_codec.specs.declared.part.ImageNode.{ImageNode}
 use Rattle.snapshot_codec.specs.declared.part.ImagePart.{ImagePart}

@@ -22,7 +22,7 @@ pub struct Image {
 
 impl Model for Image {
     ghost use Rattle.data_tree.specs.State.{State, state_code};
-    ghost use Rattle.data_tree.specs.contracts.node.Node as node;
+    ghost use Rattle.node_map.specs.contracts.node.Node as node;
 
     ghost Value = { State };
 

@@ -23,7 +23,7 @@ pub struct Loader {
 }
 
 impl Model for Loader {
-    ghost use Rattle.data_tree.specs.contracts.node.Node as node;
+    ghost use Rattle.node_map.specs.contracts.node.Node as node;
     ghost use Rattle.jute.specs.contracts.owned.Acl as acl;
     ghost use Rattle.snapshot_codec.specs.Made.{Loading, loading_code};
 

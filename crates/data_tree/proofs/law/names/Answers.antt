@@ -1,6 +1,6 @@
+use Rattle.node_map.proofs.Naming.{name_is, each_of_named, named_of_each}
 use Rattle.data_tree.specs.Meaning.{effect_of_txn, fresh_state}
 use Rattle.data_tree.specs.Making.{with_node_in_place}
-use Rattle.data_tree.proofs.Naming.{name_is, each_of_named, named_of_each}
 use Rattle.data_tree.proofs.KeepingNames.{body_keeps, node_keeps, fresh_named}
 use Rattle.data_tree.proofs.law.names.Goals as goal
 

@@ -2,8 +2,8 @@ use Rattle.std.proofs.Common.{◌≡◌, ◌++◌, List, ℕ, Some, ap, sym, ◌
 use Rattle.std.proofs.lemmas.List.{length-append}
 use Rattle.jute.specs.Records.{stat_format}
 use Rattle.ephemerals.specs.Orders.{sorted_names}
-use Rattle.data_tree.specs.Stats.{stat_of}
-use Rattle.data_tree.specs.declared.node.Node.{Node}
+use Rattle.node_map.specs.Stats.{stat_of}
+use Rattle.node_map.specs.declared.node.Node.{Node}
 use Rattle.client_records.specs.Fields.{names_format}
 use Rattle.client_records.specs.Responses.{get_children2_response}
 use Rattle.read_processor.proofs.Filling.{fits, too_long}

@@ -1,5 +1,5 @@
 use Rattle.std.proofs.Common.{arith, sym}
-use Rattle.data_tree.specs.Stats.{stat_of}
+use Rattle.node_map.specs.Stats.{stat_of}
 use Rattle.client_records.specs.declared.response.GetDataResponse.{GetDataResponse}
 use Rattle.read_processor.specs.Look.{get_data_body}
 use Rattle.read_processor.proofs.Filling.{too_long}

@@ -1,7 +1,7 @@
 use Rattle.std.proofs.Common.{◌≡◌, List, map, string_bytes, sym, ap, subst, ◌∙◌}
 use Rattle.std.specs.FinMap as finmap
 use Rattle.ephemerals.specs.Orders.{Bytes}
-use Rattle.data_tree.specs.declared.node.Node.{Node}
+use Rattle.node_map.specs.declared.node.Node.{Node}
 use Rattle.snapshot_codec.specs.Written.{walk_cmp}
 use Rattle.snapshot_codec.specs.Writes.{shown_rows}
 use Rattle.snapshot_codec.proofs.DepthFirst.{SoFar, begins, takes}

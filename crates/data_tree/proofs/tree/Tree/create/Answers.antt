@@ -8,8 +8,8 @@ use Rattle.data_tree.specs.Inner.Doing.{IsEffectDone}
 use Rattle.txn_codec.specs.Paths.{parent_of, name_of}
 use Rattle.data_tree.specs.State.{State}
 use Rattle.data_tree.specs.Meaning.{of_operation}
-use Rattle.data_tree.specs.Making.{update_node}
-use Rattle.data_tree.specs.Inner.Children.{with_added_child, added_child, without_added_child}
+use Rattle.node_map.specs.Updates.{update_node}
+use Rattle.node_map.specs.Children.{with_added_child, added_child, without_added_child}
 use Rattle.data_tree.proofs.Creates.{taken-done, undone_child}
 use Rattle.data_tree.proofs.tree.Tree.create.Goals as goal
 

@@ -11,8 +11,8 @@ use Rattle.ephemerals.specs.Pairs.{without_pair}
 use Rattle.txn_codec.specs.Paths.{parent_of}
 use Rattle.data_tree.specs.State.{State}
 use Rattle.data_tree.specs.Meaning.{Effect, after_changes, delete_at, of_operation}
-use Rattle.data_tree.specs.Making.{update_node}
-use Rattle.data_tree.specs.Inner.Children.{without_child}
+use Rattle.node_map.specs.Updates.{update_node}
+use Rattle.node_map.specs.Children.{without_child}
 use Rattle.data_tree.specs.declared.outcome.Trigger.{Trigger}
 use Rattle.data_tree.proofs.Deletes.{missing-done, orphan-effect, deleted-is}
 use Rattle.data_tree.proofs.Lists.{nothing_more}

@@ -1,6 +1,7 @@
 use Rattle.std.proofs.Common.{rules, ◌≡◌, ◌↔◌, Bool, true, IsTrue, subst, codes}
+use Rattle.node_map.specs.Agreement.{has_node, AreNamed, AreLinked, AreOwned}
 use Rattle.data_tree.specs.State.{State}
-use Rattle.data_tree.specs.Whole.{has_node, AreNamed, AreLinked, AreOwned, IsWhole}
+use Rattle.data_tree.specs.Whole.{IsWhole}
 use Rattle.data_tree.proofs.Placing.{each_ok}
 use Rattle.data_tree.proofs.tree.Tree.is_whole.Goals as goal
 

@@ -1,12 +1,14 @@
 use Rattle.std.proofs.Common.{rules, ◌≡◌, true, false, not, sym, ap, ◌∙◌, string_bytes}
 use Rattle.std.specs.FinMap as finmap
 use Rattle.txn_codec.specs.Paths.{is_root, parent_of, name_of}
+use Rattle.node_map.specs.Agreement.{has_node}
+use Rattle.node_map.specs.Updates.{update_node, with_name}
+use Rattle.node_map.specs.Children.{added_child, without_name}
+use Rattle.node_map.specs.declared.added_child.AddedChild.TheVariants.{Taken, Added}
+use Rattle.node_map.proofs.NodeUpdates.{undone_name, kept_name}
 use Rattle.data_tree.specs.State.{State}
-use Rattle.data_tree.specs.Whole.{has_node}
-use Rattle.data_tree.specs.Making.{update_node, with_name, with_node_in_place, has_place}
-use Rattle.data_tree.specs.Inner.Children.{added_child, without_name, with_new_node_placed}
-use Rattle.data_tree.specs.declared.added_child.AddedChild.TheVariants.{Taken, Added}
-use Rattle.data_tree.proofs.NodeUpdates.{undone_name, kept_name}
+use Rattle.data_tree.specs.Making.{with_node_in_place, has_place}
+use Rattle.data_tree.specs.Inner.Placing.{with_new_node_placed}
 use Rattle.data_tree.proofs.Placing.{listing, taken_place, taken_placed, added_place, added_placed, refused, old_node_kept, each_ok, where_ok, where_err}
 use Rattle.data_tree.proofs.tree.Tree.put_node.Goals as goal
 

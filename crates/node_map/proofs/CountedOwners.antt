@@ -1,0 +1,154 @@
+-- The nodes that a loop went over, each with its pair, and how many of them are owned.
+use Rattle.std.proofs.Common.{◌≡◌, ℕ, ℤ, pos, ◌+◌, ◌<◌, ◌^◌, List, [], ◌∷◌, ◌++◌, true, false, not, ◌&&◌, Some, IsTrue, refl, sym, ap, subst, ◌∙◌, ◌↔◌, length, string_bytes, append-nil, length-append, ◌≤◌, arith, if◌then◌else◌}
+use mathlib.Core.Bool.{true≢false}
+use Rattle.std.specs.Map.{lookup, keys_of}
+use Rattle.std.specs.List.Sorted.{IsStrictlySortedBy}
+use Rattle.std.specs.Ordering.{is_eq, int_eq}
+use Rattle.std.specs.Cmp.{tied_itself, int_cmp_total}
+use Rattle.std.specs.String.{string_cmp}
+use Rattle.std.specs.declared.string.String.{String}
+use Rattle.std.specs.FinMap as finmap
+use Rattle.std.specs.FinSet as set
+use Rattle.ephemerals.specs.Orders.{Bytes, OwnerPairs, pair_cmp}
+use Rattle.node_map.specs.Nodes.{Nodes}
+use Rattle.node_map.specs.Inner.NodesView.{nodes_of}
+use Rattle.node_map.specs.Agreement.{is_owner, AreOwned}
+use Rattle.node_map.specs.declared.node.Node.{Node}
+use Rattle.ephemerals.proofs.Totals.{pair_total, pair_exact}
+use Rattle.node_map.proofs.TextMaps.{get-seen}
+use Rattle.ephemerals.proofs.TextKeys.{query}
+use Rattle.node_map.proofs.Counting.{AreDistinct, AreIn, as_many, all_counted}
+use Rattle.ephemerals.proofs.Ties.{same_session}
+use Rattle.node_map.proofs.OwnersOfNodes.{with_owner, owners, owners-any, owners-distinct, owners-push, found-at}
+
+both_in : (s : OwnerPairs) (xs ys : List (ℤ × Bytes)) → AreIn {R = pair_cmp} s xs → AreIn {R = pair_cmp} s ys
+    → AreIn {R = pair_cmp} s (xs ++ ys)
+both_in s [] ys a b = b
+both_in s (x ∷ xs) ys a b = (a.0, both_in s xs ys a.1 b)
+
+length-push : {A : Type 0} (xs : List A) (x : A) → length (xs ++ x ∷ []) ≡ length xs + 1
+length-push [] x = refl
+length-push (y ∷ xs) x = let rest : length (xs ++ x ∷ []) ≡ length xs + 1 = length-push xs x in omega arith
+
+module _ {Z : Type 0} where
+  -- the nodes that were gone over, each with its pair, and how many of them are owned
+  pub record AreCounted (nodes : Nodes) (pairs : OwnerPairs) (rest : List (String Z × Node)) (owned : ℕ) : Type 0 where
+    pub before : List (String Z × Node)
+    pub all : nodes ≡ nodes_of (before ++ rest)
+    pub sorted : IsStrictlySortedBy string_cmp (keys_of (before ++ rest))
+    pub fits : length (before ++ rest) < 2 ^ 63
+    pub listed : AreIn {R = pair_cmp} pairs (owners before)
+    pub counted : owned ≡ length (owners before)
+    pub few : owned ≤ length before
+
+  pub counted-first : (es : List (String Z × Node)) → IsStrictlySortedBy string_cmp (keys_of es) → length es < 2 ^ 63
+      → (rest : List (String Z × Node)) → rest ≡ es
+      → (nodes : Nodes) → nodes_of es ≡ nodes → (pairs : OwnerPairs) → AreCounted nodes pairs rest 0
+  counted-first es sorted fits rest is nodes view pairs = record {
+    before = [];
+    all = sym view ∙ ap nodes_of (sym is);
+    sorted = subst (λ xs. IsStrictlySortedBy string_cmp (keys_of xs)) (sym is) sorted;
+    fits = subst (λ xs. length xs < 2 ^ 63) (sym is) fits;
+    listed = tt;
+    counted = refl;
+    few = omega arith;
+  }
+
+  moved : (before : List (String Z × Node)) (e : String Z × Node) (rest : List (String Z × Node))
+      → before ++ e ∷ rest ≡ (before ++ e ∷ []) ++ rest
+  moved [] e rest = refl
+  moved (x ∷ before) e rest = ap (λ xs. x ∷ xs) (moved before e rest)
+
+  module _ (nodes : Nodes) (pairs : OwnerPairs) (e : String Z × Node) (rest : List (String Z × Node)) (n : ℕ)
+      (c : AreCounted nodes pairs (e ∷ rest) n) where
+    -- one more entry, of which the pair, if any, is listed
+    further : (ps : List (ℤ × Bytes)) → with_owner e [] ≡ ps → AreIn {R = pair_cmp} pairs ps → length ps ≤ 1
+        → AreCounted nodes pairs rest (n + length ps)
+    further ps is here most =
+        let all_owners : owners (c.before ++ e ∷ []) ≡ owners c.before ++ ps =
+        owners-push c.before e
+        ∙ ap (λ xs. owners c.before ++ xs) is in
+        let counted : n ≡ length (owners c.before) = c.counted in
+        let few : n ≤ length c.before = c.few in
+        let joined : length (owners c.before ++ ps) ≡ length (owners c.before) + length ps =
+        length-append (owners c.before) ps in
+        let sum : n + length ps ≡ length (owners c.before ++ ps) = omega arith in
+        let pushed : length (c.before ++ e ∷ []) ≡ length c.before + 1 = length-push c.before e in
+        record {
+          before = c.before ++ e ∷ [];
+          all = c.all ∙ ap nodes_of (moved c.before e rest);
+          sorted = subst (λ xs. IsStrictlySortedBy string_cmp (keys_of xs)) (moved c.before e rest) c.sorted;
+          fits = subst (λ (xs : List (String Z × Node)). length xs < 2 ^ 63) (moved c.before e rest) c.fits;
+          listed =
+              subst (AreIn {R = pair_cmp} pairs) (sym all_owners) (both_in pairs (owners c.before) ps c.listed here);
+          counted = sum ∙ ap length (sym all_owners);
+          few = omega arith;
+        }
+
+    pub unowned : int_eq e.1.stat.ephemeral_owner (pos 0) ≡ true → AreCounted nodes pairs rest n
+    unowned zero =
+        let same : n + 0 ≡ n = omega arith in
+        subst (AreCounted nodes pairs rest) same
+        (further [] (ap (λ b. if b then [] else (e.1.stat.ephemeral_owner, string_bytes e.0) ∷ []) zero) tt
+        (omega arith))
+
+    pub one_more : int_eq e.1.stat.ephemeral_owner (pos 0) ≡ false
+        → set.contains pairs (e.1.stat.ephemeral_owner, string_bytes e.0) ≡ true → AreCounted nodes pairs rest (n + 1)
+    one_more some here =
+        further ((e.1.stat.ephemeral_owner, string_bytes e.0) ∷ [])
+        (ap (λ b. if b then [] else (e.1.stat.ephemeral_owner, string_bytes e.0) ∷ []) some) (here, tt) (omega arith)
+
+    pub has_room : n + 1 < 2 ^ 63
+    has_room =
+        let few : n ≤ length c.before = c.few in
+        let fits : length (c.before ++ e ∷ rest) < 2 ^ 63 = c.fits in
+        let sum : length (c.before ++ e ∷ rest) ≡ length c.before + length (e ∷ rest) =
+        length-append c.before (e ∷ rest) in
+        omega arith
+
+    pub not_owned : int_eq e.1.stat.ephemeral_owner (pos 0) ≡ false
+        → set.contains pairs (e.1.stat.ephemeral_owner, string_bytes e.0) ≡ false → IsTrue false ↔ AreOwned nodes pairs
+    not_owned some missing = (
+      (λ t. absurd (true≢false (sym t))),
+      (λ owned. absurd (true≢false
+          (sym (ap (is_owner e.1.stat.ephemeral_owner) here ∙ (λ i. not (some i) && itself i))
+          ∙ sym (owned e.1.stat.ephemeral_owner (string_bytes e.0))
+          ∙ missing))),
+    )
+      where
+        here : finmap.get nodes (string_bytes e.0) ≡ Some e.1
+        here = ap (λ ns. finmap.get ns (string_bytes e.0)) c.all
+            ∙ get-seen (c.before ++ e ∷ rest) (string_bytes e.0)
+            ∙ found-at c.before e rest c.sorted
+
+        itself : int_eq e.1.stat.ephemeral_owner e.1.stat.ephemeral_owner ≡ true
+        itself =
+            same_session e.1.stat.ephemeral_owner e.1.stat.ephemeral_owner
+            ∙ ap is_eq (tied_itself int_cmp_total e.1.stat.ephemeral_owner)
+
+  pub all_owned : (nodes : Nodes) (pairs : OwnerPairs) (n : ℕ) → AreCounted nodes pairs [] n
+      → (n ≡ set.len pairs) ↔ AreOwned nodes pairs
+  all_owned nodes pairs n c = (
+    (λ same session path.
+        as_many pair_total pair_exact pairs (owners c.before) distinct c.listed (sym c.counted ∙ same) (session, path)
+        ∙ owners-any c.before sorted session path ∙ ap (is_owner session) (found path)),
+    (λ owned.
+        c.counted
+        ∙ all_counted pair_total pair_exact pairs (owners c.before) distinct
+        (λ q. owned q.0 q.1 ∙ sym (owners-any c.before sorted q.0 q.1 ∙ ap (is_owner q.0) (found q.1)))),
+  )
+    where
+      whole : c.before ++ [] ≡ c.before
+      whole = append-nil c.before
+
+      sorted : IsStrictlySortedBy string_cmp (keys_of c.before)
+      sorted = subst (λ (es : List (String Z × Node)). IsStrictlySortedBy string_cmp (keys_of es)) whole c.sorted
+
+      distinct : AreDistinct pair_cmp (owners c.before)
+      distinct = owners-distinct c.before sorted
+
+      found : (path : Bytes) → lookup (query path) c.before ≡ finmap.get nodes path
+      found path =
+          sym (get-seen c.before path)
+          ∙ ap (λ es. finmap.get (nodes_of es) path) (sym whole)
+          ∙ ap (λ ns. finmap.get ns path) (sym c.all)

@@ -1,0 +1,147 @@
+-- The entries of a map are its nodes, and what links them.
+use Rattle.std.proofs.Common.{◌≡◌, suc, ◌<◌, List, [], ◌∷◌, Bool, true, false, cond, Option, Some, None, refl, sym, ap, subst, ◌∙◌, ◌||◌, ◌↔◌, map, length, string_bytes, is_some, arith}
+use mathlib.Core.Bool.{true≢false}
+use Rattle.std.specs.BTreeMap as tree
+use Rattle.std.specs.BTreeMap.{BTreeMap}
+use Rattle.std.specs.Map.{lookup}
+use Rattle.std.specs.List.{list_any, All, AllByRecursion}
+use Rattle.std.specs.Ordering.{eq_by_cmp, is_eq}
+use Rattle.std.specs.Cmp.{tied_itself}
+use Rattle.std.specs.String.{string_cmp}
+use Rattle.std.specs.declared.string.String.{String}
+use Rattle.std.proofs.lemmas.Map.Lookups.{exact_bytes}
+use Rattle.std.proofs.lemmas.Map.Views.{tells_apart}
+use Rattle.std.specs.FinMap as finmap
+use Rattle.std.specs.FinSet as set
+use Rattle.ephemerals.specs.Orders.{Bytes, Names, path_cmp}
+use Rattle.txn_codec.specs.Paths.{child_of}
+use Rattle.node_map.specs.Nodes.{Nodes}
+use Rattle.node_map.specs.Inner.NodesView.{nodes_of}
+use Rattle.node_map.specs.Agreement.{has_node, has_parent, is_listed, AreLinked}
+use Rattle.node_map.specs.Children.{HasItsChildren}
+use Rattle.node_map.specs.declared.node.Node.{Node}
+use Rattle.ephemerals.proofs.Totals.{path_total}
+use Rattle.node_map.proofs.Deciding.{Decides}
+use Rattle.node_map.proofs.TextMaps.{get-seen}
+use Rattle.ephemerals.proofs.TextKeys.{query}
+
+pub each_of_all : {A : Type 0} (P : A → Type 0) (xs : List A) → All P xs → AllByRecursion P xs
+each_of_all P [] h = tt
+each_of_all P (x ∷ xs) h = (
+  h 0 x (omega arith),
+  each_of_all P xs
+      (λ k d lt. let next : suc k < length (x ∷ xs) = omega arith in h (suc k) d next),
+)
+
+all_map : {A : Type 0} (P Q : A → Type 0) → ((x : A) → P x → Q x) → (xs : List A) → AllByRecursion P xs
+    → AllByRecursion Q xs
+all_map P Q f [] h = tt
+all_map P Q f (x ∷ xs) h = (f x h.0, all_map P Q f xs h.1)
+
+-- the texts that were gone over are a set's
+module _ {Z : Type 0} (P : Bytes → Type 0) where
+  each_text : (q : Bytes) (keys : List (String Z)) → AllByRecursion (λ (k : String Z). P (string_bytes k)) keys
+      → list_any (eq_by_cmp path_cmp q) (map string_bytes keys) ≡ true → P q
+  each_text q [] all one = absurd (true≢false (sym one))
+  each_text q (k ∷ ks) all one = by (each_text q ks all.1) (eq_by_cmp path_cmp q (string_bytes k)) refl one
+    where
+      by : (list_any (eq_by_cmp path_cmp q) (map string_bytes ks) ≡ true → P q)
+          → (b : Bool) → eq_by_cmp path_cmp q (string_bytes k) ≡ b
+          → (b || list_any (eq_by_cmp path_cmp q) (map string_bytes ks)) ≡ true → P q
+      by rest true e one = subst P (sym (tells_apart exact_bytes q (string_bytes k) e)) all.0
+      by rest false e one = rest one
+
+  of_each_text : (keys : List (String Z))
+      → ((q : Bytes) → list_any (eq_by_cmp path_cmp q) (map string_bytes keys) ≡ true → P q)
+      → AllByRecursion (λ (k : String Z). P (string_bytes k)) keys
+  of_each_text [] each = tt
+  of_each_text (k ∷ ks) each = (
+    each (string_bytes k)
+        (ap (λ r. is_eq r || list_any (eq_by_cmp path_cmp (string_bytes k)) (map string_bytes ks))
+        (tied_itself path_total (string_bytes k))),
+    of_each_text ks
+        (λ q one. each q
+        (ap (λ b. eq_by_cmp path_cmp q (string_bytes k) || b) one ∙ or-true (eq_by_cmp path_cmp q (string_bytes k)))),
+  )
+    where
+      or-true : (b : Bool) → (b || true) ≡ true
+      or-true true = refl
+      or-true false = refl
+
+  pub all_texts : (names : Names) (keys : List (String Z))
+      → ((q : Bytes) → set.contains names q ≡ list_any (eq_by_cmp path_cmp q) (map string_bytes keys))
+      → AllByRecursion (λ (k : String Z). P (string_bytes k)) keys ↔ ((q : Bytes) → set.contains names q ≡ true → P q)
+  all_texts names keys members = (
+    (λ all q one. each_text q keys all (sym (members q) ∙ one)),
+    (λ each. of_each_text keys (λ q one. each q (members q ∙ one))),
+  )
+
+-- the entries that were gone over are a map's nodes
+module _ {Z : Type 0} (P : Bytes → Node → Type 0) where
+  each_entry : (q : Bytes) (node : Node) (es : List (String Z × Node))
+      → AllByRecursion (λ (e : String Z × Node). P (string_bytes e.0) e.1) es → lookup (query q) es ≡ Some node
+      → P q node
+  each_entry q node [] all found = cc
+  each_entry q node (e ∷ es) all found =
+      by (each_entry q node es all.1) (eq_by_cmp path_cmp q (string_bytes e.0)) refl found
+    where
+      by : (lookup (query q) es ≡ Some node → P q node) → (b : Bool) → eq_by_cmp path_cmp q (string_bytes e.0) ≡ b
+          → cond b (Some e.1) (lookup (query q) es) ≡ Some node → P q node
+      by rest true t found = let same : e.1 ≡ node =
+          cc in subst (λ n. P q n) same
+          (subst (λ p. P p e.1) (sym (tells_apart exact_bytes q (string_bytes e.0) t)) all.0)
+      by rest false t found = rest found
+
+  pub all_nodes : (m : BTreeMap (String Z) Node)
+      → All (λ (e : String Z × Node). tree.get string_cmp m e.0 ≡ Some e.1) m.entries
+      → AllByRecursion (λ (e : String Z × Node). P (string_bytes e.0) e.1) m.entries
+      ↔ ((path : Bytes) (node : Node) → finmap.get (nodes_of m.entries) path ≡ Some node → P path node)
+  all_nodes m found = (
+    (λ all path node is. each_entry path node m.entries all (sym (get-seen m.entries path) ∙ is)),
+    (λ each. all_map (λ (e : String Z × Node). tree.get string_cmp m e.0 ≡ Some e.1)
+        (λ (e : String Z × Node). P (string_bytes e.0) e.1)
+        (λ e is. each (string_bytes e.0) e.1 (get-seen m.entries (string_bytes e.0) ∙ is))
+        m.entries (each_of_all (λ (e : String Z × Node). tree.get string_cmp m e.0 ≡ Some e.1) m.entries found)),
+  )
+
+-- what a node owes, that nodes and names agree
+abbrev pub IsLinked : Nodes → Bytes → Node → Type 0
+IsLinked nodes path node = (has_parent nodes path ≡ true) × HasItsChildren nodes path node.children
+
+pub linked-is : (nodes : Nodes)
+    → ((path : Bytes) (node : Node) → finmap.get nodes path ≡ Some node → IsLinked nodes path node) ↔ AreLinked nodes
+linked-is nodes = (
+  (λ each.
+      record {
+        parents = λ path. parents each path (finmap.get nodes path) refl;
+        children =
+            λ path name. children each path name (finmap.get nodes path) refl;
+      }),
+  (λ linked path node is.
+      (linked.parents path (ap is_some is), λ name one. linked.children path name (ap (is_listed name) is ∙ one))),
+)
+  where
+    Each : Type 0
+    Each = (path : Bytes) (node : Node) → finmap.get nodes path ≡ Some node → IsLinked nodes path node
+
+    parents : Each → (path : Bytes) (o : Option Node) → finmap.get nodes path ≡ o → is_some o ≡ true
+        → has_parent nodes path ≡ true
+    parents each path None is one = absurd (true≢false (sym one))
+    parents each path (Some node) is one = (each path node is).0
+
+    children : Each → (path name : Bytes) (o : Option Node) → finmap.get nodes path ≡ o → is_listed name o ≡ true
+        → has_node nodes (child_of path name) ≡ true
+    children each path name None is one = absurd (true≢false (sym one))
+    children each path name (Some node) is one = (each path node is).1 name one
+
+pub linked-entries : {Z : Type 0} (m : BTreeMap (String Z) Node)
+    → All (λ (e : String Z × Node). tree.get string_cmp m e.0 ≡ Some e.1) m.entries
+    → (rest : List (String Z × Node)) → rest ≡ m.entries → (nodes : Nodes) → nodes_of m.entries ≡ nodes
+    → Decides (λ (e : String Z × Node). IsLinked nodes (string_bytes e.0) e.1) (AreLinked nodes) rest
+linked-entries {Z} m found rest all nodes is =
+    subst (λ ns. Decides (λ (e : String Z × Node). IsLinked ns (string_bytes e.0) e.1) (AreLinked ns) rest) is
+    (subst (λ es. Decides (λ (e : String Z × Node). IsLinked (nodes_of m.entries) (string_bytes e.0) e.1)
+    (AreLinked (nodes_of m.entries)) es) (sym all) (
+      (λ each. (linked-is (nodes_of m.entries)).0 ((all_nodes (IsLinked (nodes_of m.entries)) m found).0 each)),
+      (λ linked. (all_nodes (IsLinked (nodes_of m.entries)) m found).1 ((linked-is (nodes_of m.entries)).1 linked)),
+    ))

@@ -1,0 +1,141 @@
+-- The owners of a map's nodes with their paths, as a list of pairs.
+use Rattle.std.proofs.Common.{◌≡◌, ℤ, pos, List, [], ◌∷◌, ◌++◌, Bool, true, false, cond, not, ◌&&◌, ◌||◌, Some, None, refl, sym, ap, ◌∙◌, string_bytes, if◌then◌else◌}
+use Rattle.std.specs.Map.{lookup, keys_of}
+use Rattle.std.specs.List.{list_any}
+use Rattle.std.specs.List.Sorted.{IsStrictlySortedBy}
+use Rattle.std.specs.Ordering.{eq_by_cmp, is_eq, int_eq, int_cmp}
+use Rattle.std.specs.Cmp.{tied_itself}
+use Rattle.std.specs.String.{string_cmp}
+use Rattle.std.specs.declared.string.String.{String}
+use Rattle.std.proofs.lemmas.Map.Keys.{sorted_head, sorted_tail}
+use Rattle.std.proofs.lemmas.Map.Lookups.{exact_bytes, exact_signed}
+use Rattle.std.proofs.lemmas.Map.Views.{tells_apart}
+use Rattle.ephemerals.specs.Orders.{Bytes, path_cmp, pair_cmp}
+use Rattle.node_map.specs.Agreement.{is_owner}
+use Rattle.node_map.specs.declared.node.Node.{Node}
+use Rattle.ephemerals.proofs.Totals.{path_total}
+use Rattle.node_map.proofs.TextMaps.{none_ahead}
+use Rattle.ephemerals.proofs.TextKeys.{query}
+use Rattle.node_map.proofs.Counting.{AreDistinct}
+use Rattle.std.proofs.Math.Bool.{and-false, and-true, or-false}
+use Rattle.ephemerals.proofs.Ties.{tied_then, same_session}
+
+module _ {Z : Type 0} where
+  -- the pair of an entry, in front of others
+  abbrev pub with_owner : String Z × Node → List (ℤ × Bytes) → List (ℤ × Bytes)
+  with_owner e ps =
+      if int_eq e.1.stat.ephemeral_owner (pos 0) then ps else (e.1.stat.ephemeral_owner, string_bytes e.0) ∷ ps
+
+  -- the owners of the nodes with their paths
+  abbrev pub owners : List (String Z × Node) → List (ℤ × Bytes)
+  owners [] = []
+  owners (e ∷ es) = with_owner e (owners es)
+
+  pub owners-any : (es : List (String Z × Node)) → IsStrictlySortedBy string_cmp (keys_of es) → (s : ℤ) (p : Bytes)
+      → list_any (eq_by_cmp pair_cmp (s, p)) (owners es) ≡ is_owner s (lookup (query p) es)
+  owners-any [] sorted s p = refl
+  owners-any (e ∷ es) sorted s p =
+      by (owners-any es (sorted_tail string_cmp e.0 (keys_of es) sorted) s p) (int_eq e.1.stat.ephemeral_owner (pos 0))
+      refl (eq_by_cmp path_cmp p (string_bytes e.0)) refl
+    where
+      owner : ℤ
+      owner = e.1.stat.ephemeral_owner
+
+      -- the path stands once
+      none_left : eq_by_cmp path_cmp p (string_bytes e.0) ≡ true → lookup (query p) es ≡ None
+      none_left t =
+          ap (λ q. lookup (query q) es) (tells_apart exact_bytes p (string_bytes e.0) t)
+          ∙ none_ahead (string_bytes e.0) es (sorted_head string_cmp e.0 (keys_of es) sorted)
+
+      zero_owns : (o : ℤ) → int_eq o (pos 0) ≡ true → (not (int_eq s (pos 0)) && int_eq o s) ≡ false
+      zero_owns o z = apart (int_eq o s) refl
+        where
+          apart : (b : Bool) → int_eq o s ≡ b → (not (int_eq s (pos 0)) && b) ≡ false
+          apart true t =
+              let same : o ≡ s = sym (tells_apart exact_signed s o (sym (same_session o s) ∙ t)) in
+              ap (λ b. not b && true) (ap (λ x. int_eq x (pos 0)) (sym same) ∙ z)
+          apart false t = and-false (not (int_eq s (pos 0)))
+
+      -- an owner that isn't 0 is the session exactly where the session isn't 0 and is the owner
+      owner_is : int_eq owner (pos 0) ≡ false → int_eq owner s ≡ (not (int_eq s (pos 0)) && int_eq owner s)
+      owner_is z = split (int_eq owner s) refl
+        where
+          split : (b : Bool) → int_eq owner s ≡ b → b ≡ (not (int_eq s (pos 0)) && b)
+          split true t =
+              let same : owner ≡ s = sym (tells_apart exact_signed s owner (sym (same_session owner s) ∙ t)) in
+              ap (λ b. not b && true) (sym z ∙ ap (λ x. int_eq x (pos 0)) same)
+          split false t = sym (and-false (not (int_eq s (pos 0))))
+
+      pair_is : eq_by_cmp pair_cmp (s, p) (owner, string_bytes e.0)
+          ≡ (int_eq owner s && eq_by_cmp path_cmp p (string_bytes e.0))
+      pair_is =
+          tied_then (int_cmp s owner) (path_cmp p (string_bytes e.0))
+          ∙ ap (λ b. b && eq_by_cmp path_cmp p (string_bytes e.0)) (sym (same_session owner s))
+
+      by : list_any (eq_by_cmp pair_cmp (s, p)) (owners es) ≡ is_owner s (lookup (query p) es)
+          → (z : Bool) → int_eq owner (pos 0) ≡ z → (t : Bool) → eq_by_cmp path_cmp p (string_bytes e.0) ≡ t
+          → list_any (eq_by_cmp pair_cmp (s, p)) (if z then owners es else (owner, string_bytes e.0) ∷ owners es)
+          ≡ is_owner s (cond t (Some e.1) (lookup (query p) es))
+      by rest true z true t = rest ∙ ap (is_owner s) (none_left t) ∙ sym (zero_owns owner z)
+      by rest true z false t = rest
+      by rest false z true t =
+          (λ i. (pair_is ∙ ap (λ b. int_eq owner s && b) t ∙ and-true (int_eq owner s)) i
+          || (rest ∙ ap (is_owner s) (none_left t)) i)
+          ∙ or-false (int_eq owner s)
+          ∙ owner_is z
+      by rest false z false t =
+          (λ i. (pair_is ∙ ap (λ b. int_eq owner s && b) t ∙ and-false (int_eq owner s)) i || rest i)
+
+  pub owners-distinct : (es : List (String Z × Node)) → IsStrictlySortedBy string_cmp (keys_of es)
+      → AreDistinct pair_cmp (owners es)
+  owners-distinct [] sorted = tt
+  owners-distinct (e ∷ es) sorted =
+      by (owners-distinct es (sorted_tail string_cmp e.0 (keys_of es) sorted)) (int_eq e.1.stat.ephemeral_owner (pos 0))
+    where
+      by : AreDistinct pair_cmp (owners es) → (z : Bool)
+          → AreDistinct pair_cmp (if z then owners es else (e.1.stat.ephemeral_owner, string_bytes e.0) ∷ owners es)
+      by rest true = rest
+      by rest false = (
+        owners-any es (sorted_tail string_cmp e.0 (keys_of es) sorted) e.1.stat.ephemeral_owner (string_bytes e.0)
+            ∙ ap (is_owner e.1.stat.ephemeral_owner)
+            (none_ahead (string_bytes e.0) es (sorted_head string_cmp e.0 (keys_of es) sorted)),
+        rest,
+      )
+
+  pub owners-push : (es : List (String Z × Node)) (e : String Z × Node)
+      → owners (es ++ e ∷ []) ≡ owners es ++ with_owner e []
+  owners-push [] e = refl
+  owners-push (x ∷ es) e = by (owners-push es e) (int_eq x.1.stat.ephemeral_owner (pos 0))
+    where
+      by : owners (es ++ e ∷ []) ≡ owners es ++ with_owner e []
+          → (z : Bool)
+          → (if z then owners (es ++ e ∷ []) else (x.1.stat.ephemeral_owner, string_bytes x.0) ∷ owners (es ++ e ∷ []))
+          ≡ (if z then owners es else (x.1.stat.ephemeral_owner, string_bytes x.0) ∷ owners es) ++ with_owner e []
+      by rest true = rest
+      by rest false = ap (λ ps. (x.1.stat.ephemeral_owner, string_bytes x.0) ∷ ps) rest
+
+  -- what stands in the middle is found
+  pub found-at : (before : List (String Z × Node)) (e : String Z × Node) (rest : List (String Z × Node))
+      → IsStrictlySortedBy string_cmp (keys_of (before ++ e ∷ rest))
+      → lookup (query (string_bytes e.0)) (before ++ e ∷ rest) ≡ Some e.1
+  found-at [] e rest sorted =
+      ap (λ r. cond (is_eq r) (Some e.1) (lookup (query (string_bytes e.0)) rest))
+      (tied_itself path_total (string_bytes e.0))
+  found-at (x ∷ before) e rest sorted =
+      by (found-at before e rest (sorted_tail string_cmp x.0 (keys_of (before ++ e ∷ rest)) sorted))
+      (eq_by_cmp path_cmp (string_bytes e.0) (string_bytes x.0)) refl
+    where
+      by : lookup (query (string_bytes e.0)) (before ++ e ∷ rest) ≡ Some e.1
+          → (t : Bool) → eq_by_cmp path_cmp (string_bytes e.0) (string_bytes x.0) ≡ t
+          → cond t (Some x.1) (lookup (query (string_bytes e.0)) (before ++ e ∷ rest)) ≡ Some e.1
+      by found true t =
+          let none : lookup (query (string_bytes x.0)) (before ++ e ∷ rest) ≡ None =
+          none_ahead (string_bytes x.0) (before ++ e ∷ rest)
+          (sorted_head string_cmp x.0 (keys_of (before ++ e ∷ rest)) sorted) in
+          let clash : None ≡ Some e.1 =
+          sym none
+          ∙ ap (λ q. lookup (query q) (before ++ e ∷ rest))
+          (sym (tells_apart exact_bytes (string_bytes e.0) (string_bytes x.0) t))
+          ∙ found in
+          cc
+      by found false t = found

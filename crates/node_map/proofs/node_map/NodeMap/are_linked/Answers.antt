@@ -1,0 +1,12 @@
+use Rattle.std.proofs.Common.{◌∙◌}
+use Rattle.node_map.proofs.Links.{linked-entries}
+use Rattle.node_map.proofs.node_map.NodeMap.are_linked.Goals as goal
+
+pub loop-path-init : goal.loop-path-init
+loop-path-init c = (
+  tt,
+  tt,
+  linked-entries c.self.inside.map c.iter-path-items.ensures.found c.into_iter-path-iterator.result
+      (c.into_iter-path-iterator.ensures.into_iter_gives ∙ c.iter-path-items.ensures.rest) c.args.self.now
+      c.self.view_is,
+)

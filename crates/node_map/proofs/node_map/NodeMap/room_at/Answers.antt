@@ -1,0 +1,46 @@
+use Rattle.std.proofs.Common.{sym, ap, ◌∙◌, subst, map, string_bytes}
+use Rattle.node_map.specs.Agreement.{has_node}
+use Rattle.std.specs.FinMap as finmap
+use Rattle.node_map.proofs.MovedNodes.{HasRoomFor, no_room_yet, room_made, no_room_needed, room_for_all}
+use Rattle.node_map.proofs.node_map.NodeMap.room_at.Goals as goal
+
+pub loop-path-init : goal.loop-path-init
+loop-path-init c = (
+  tt,
+  tt,
+  no_room_yet c.args.paths.now c.args.self.now c.new-room.result (map string_bytes c.into_iter-path-iterator.result)
+      c.new-room.ensures
+      (ap (map string_bytes) c.into_iter-path-iterator.ensures.into_iter_gives ∙ c.iter-path-items.ensures.texts),
+)
+
+pub loop-path-preserved-in_ok-insert : goal.loop-path-preserved-in_ok-insert
+loop-path-preserved-in_ok-insert c =
+    let p = string_bytes c.in-Some.path.now in (
+      tt,
+      tt,
+      room_made c.args.paths.now c.args.self.now c.loop-path.room c.insert.new.self p (map string_bytes c.next.new.self)
+          c.placeholder.result
+          (subst (λ es. HasRoomFor c.args.paths.now c.args.self.now (map string_bytes es) c.loop-path.room)
+          c.in-Some.ensures.steps c.loop-path.invariant.2)
+          (ap (has_node c.args.self.now) (sym c.as_str.ensures.value) ∙ sym c.has.ensures ∙ c.if-has.true)
+          (c.in_ok-insert.ensures.ok
+          ∙ ap (λ q. finmap.insert c.loop-path.room q c.placeholder.result)
+          (c.in_ok-from_str.ensures.ok ∙ c.as_str-then-has.ensures.value)),
+    )
+
+pub loop-path-preserved : goal.loop-path-preserved
+loop-path-preserved c =
+    let p = string_bytes c.in-Some.path.now in (
+      tt,
+      tt,
+      no_room_needed c.args.paths.now c.args.self.now c.loop-path.room p (map string_bytes c.next.new.self)
+          (subst (λ es. HasRoomFor c.args.paths.now c.args.self.now (map string_bytes es) c.loop-path.room)
+          c.in-Some.ensures.steps c.loop-path.invariant.2)
+          (ap (has_node c.args.self.now) (sym c.as_str.ensures.value) ∙ sym c.has.ensures ∙ c.if-has.false),
+    )
+
+pub returns : goal.returns
+returns c =
+    room_for_all c.args.paths.now c.args.self.now c.loop-path.room
+    (subst (λ es. HasRoomFor c.args.paths.now c.args.self.now (map string_bytes es) c.loop-path.room)
+    c.in-None.ensures.steps.0 c.loop-path.invariant.2)

@@ -1,0 +1,85 @@
+-- What a transaction makes of a node, and what becomes of the nodes when the one at a path changes.
+use Rattle.std.specs.Prelude.{ℤ, pos, negsuc, ◌+ℤ◌, [], if◌then◌else◌, Bool, Some, Option, None, List, ◌∷◌}
+use Rattle.std.specs.Int.{int_wrap, w32}
+use Rattle.std.specs.Ordering.{int_eq}
+use Rattle.std.specs.FinSet as set
+use Rattle.ephemerals.specs.Orders.{Names, Bytes}
+use Rattle.jute.specs.Codes.{open_acl}
+use Rattle.txn_codec.specs.Acls.{acl_or_open}
+use Rattle.txn_codec.specs.declared.txn.TxnHeader.{TxnHeader}
+use Rattle.txn_codec.specs.declared.txn.Create.{Create}
+use Rattle.txn_codec.specs.declared.txn.SetData.{SetData}
+use Rattle.txn_codec.specs.declared.txn.SetAcl.{SetAcl}
+use Rattle.std.specs.FinMap as finmap
+use Rattle.node_map.specs.declared.node.Node.{Node}
+use Rattle.node_map.specs.Nodes.{Nodes}
+
+-- the stored cversion of the parent after a create: -1 counts it up by one, and Java's 32-bit numbers wrap
+abbrev pub next_cversion : ℤ → ℤ → ℤ
+next_cversion stored wanted = if int_eq wanted (negsuc 0) then int_wrap w32 (stored +ℤ pos 1) else wanted
+
+-- the session that an ephemeral node belongs to, and 0 for any other node
+abbrev pub owner_of : TxnHeader → Bool → ℤ
+owner_of header ephemeral = if ephemeral then header.client_id else pos 0
+
+abbrev pub new_node : TxnHeader → Create → Node
+new_node header create = record {
+  bytes = create.bytes;
+  acl = acl_or_open create.acl;
+  stat = record {
+    czxid = header.zxid;
+    mzxid = header.zxid;
+    ctime = header.time;
+    mtime = header.time;
+    version = pos 0;
+    cversion = pos 0;
+    aversion = pos 0;
+    ephemeral_owner = owner_of header create.ephemeral;
+    pzxid = header.zxid;
+  };
+  children = set.empty;
+}
+
+abbrev pub with_data : TxnHeader → SetData → Node → Node
+with_data header body node =
+    record node
+    { bytes = body.bytes; stat = record node.stat { version = body.version; mzxid = header.zxid; mtime = header.time } }
+
+abbrev pub with_acl : SetAcl → Node → Node
+with_acl body node = record node { acl = acl_or_open body.acl; stat = record node.stat { aversion = body.version } }
+
+-- a node that nobody made: empty data, the open list, all numbers 0
+abbrev pub preset_node : Names → Node
+preset_node children = record {
+  bytes = Some [];
+  acl = open_acl;
+  stat = record {
+    czxid = pos 0;
+    mzxid = pos 0;
+    ctime = pos 0;
+    mtime = pos 0;
+    version = pos 0;
+    cversion = pos 0;
+    aversion = pos 0;
+    ephemeral_owner = pos 0;
+    pzxid = pos 0;
+  };
+  children = children;
+}
+
+-- a node that lists the name too
+abbrev pub with_name : Bytes → Node → Node
+with_name name parent = record parent { children = set.insert parent.children name }
+
+abbrev pub update_found : Nodes → Bytes → (Node → Node) → Option Node → Nodes
+update_found nodes path f None = nodes
+update_found nodes path f (Some node) = finmap.insert nodes path (f node)
+
+-- f of the node at the path, if any
+abbrev pub update_node : Nodes → Bytes → (Node → Node) → Nodes
+update_node nodes path f = update_found nodes path f (finmap.get nodes path)
+
+-- the nodes, and in their place those of the entries
+abbrev pub with_entries : Nodes → List (Bytes × Node) → Nodes
+with_entries nodes [] = nodes
+with_entries nodes (e ∷ es) = finmap.insert (with_entries nodes es) e.0 e.1

@@ -1,0 +1,303 @@
+//! A node of the tree.
+
+ghost use Rattle.std.specs.Prelude.{◌≡◌, OnOk, OnErr, IfOk, not, int_lt, if◌then◌else◌, string_bytes};
+ghost use Rattle.std.specs.FinSet as set;
+ghost use Rattle.node_map.specs.Children.{with_added_child, stat_after_create};
+ghost use Rattle.node_map.specs.Updates.{new_node, owner_of, next_cversion, with_data, with_acl, preset_node};
+ghost use Rattle.node_map.specs.Stats.{stat_of, shown_stat, java_int, length_or_zero, shown_cversion};
+
+use ephemerals::TextSet;
+use jute::{Stat, StatPersisted};
+use std::alloc::{AllocError, Global};
+use txn_codec::{AclList, Create, SetAcl, SetData, TxnHeader};
+use values::{Blob, NoMemory};
+
+/// A node: its bytes, or null; who may do what; its numbers; the names of its children.
+#[derive(Drop)]
+pub struct Node {
+    pub bytes: Option<Blob>,
+    pub acl: AclList,
+    pub stat: StatPersisted,
+    pub children: TextSet,
+}
+
+impl Clone for Node {
+    ghost is_clone = { λ x y. y ≡ x };
+
+    fn clone(&self) -> Result<Node, AllocError> {
+        Ok(Node {
+            bytes: self.bytes.clone()?,
+            acl: self.acl.clone()?,
+            stat: self.stat,
+            children: self.children.clone()?,
+        })
+    }
+}
+
+// The stored cversion of a parent after a create.
+fn next_version(stored: i32, wanted: i32) -> i32
+    ensures { result ≡ next_cversion stored wanted }
+{
+    if wanted == -1 {
+        stored.wrapping_add(1)
+    } else {
+        wanted
+    }
+}
+
+// A parent's numbers after a create.
+fn stat_after_create(before: StatPersisted, header: &TxnHeader, create: &Create) -> StatPersisted
+    ensures { result ≡ stat_after_create header.now create.now before }
+{
+    let mut after = before;
+    after.cversion = next_version(before.cversion, create.parent_cversion);
+    after.pzxid = header.zxid;
+    after
+}
+
+// The numbers with the greater cversion; the first ones where it is the same.
+fn higher_stat(before: StatPersisted, after: StatPersisted) -> StatPersisted
+    ensures { result ≡ (if int_lt before.cversion after.cversion then after else before) }
+{
+    if before.cversion < after.cversion {
+        return after;
+    }
+    before
+}
+
+/// A parent's numbers after a child was deleted.
+pub(crate) fn stat_after_delete(before: StatPersisted, header: &TxnHeader) -> StatPersisted
+    ensures { result ≡ record before { pzxid = header.now.zxid } }
+{
+    let mut numbers = before;
+    numbers.pzxid = header.zxid;
+    numbers
+}
+
+/// The session that a created node belongs to, and 0 where it isn't ephemeral.
+pub(crate) fn owner(header: &TxnHeader, ephemeral: bool) -> i64
+    ensures { result ≡ owner_of header.now ephemeral }
+{
+    if ephemeral { header.client_id } else { 0 }
+}
+
+// The numbers of a new node.
+fn first_stat(header: &TxnHeader, create: &Create) -> StatPersisted
+    ensures { result ≡ (new_node header.now create.now).stat }
+{
+    StatPersisted {
+        czxid: header.zxid,
+        mzxid: header.zxid,
+        ctime: header.time,
+        mtime: header.time,
+        version: 0,
+        cversion: 0,
+        aversion: 0,
+        ephemeral_owner: owner(header, create.ephemeral),
+        pzxid: header.zxid,
+    }
+}
+
+// Makes bytes a copy of others.
+fn copy_bytes(bytes: &mut Option<Blob>, others: &Option<Blob>) -> Result<(), NoMemory>
+    ensures ok { OnOk result (bytes.new ≡ others.now) }
+    ensures err { OnErr result (bytes.new ≡ bytes.old) }
+{
+    if let Some(bytes) = bytes {
+        if let Some(others) = others {
+            return bytes.copy_from(others);
+        }
+    }
+    *bytes = others.clone()?;
+    Ok(())
+}
+
+// A node's numbers after its bytes were written.
+fn stat_with_data(before: StatPersisted, header: &TxnHeader, body: &SetData) -> StatPersisted
+    ensures { result ≡
+        record before {
+          version = body.now.version;
+          mzxid = header.now.zxid;
+          mtime = header.now.time;
+        } }
+{
+    let mut after = before;
+    after.version = body.version;
+    after.mzxid = header.zxid;
+    after.mtime = header.time;
+    after
+}
+
+// A set of one text.
+fn one_text(alloc: Global, text: &str) -> Result<TextSet, NoMemory>
+    ensures { IfOk result (λ texts. texts ≡ set.insert set.empty text.now) }
+{
+    let mut texts = TextSet::new(alloc);
+    texts.insert(String::from_str(alloc, text)?)?;
+    Ok(texts)
+}
+
+// The numbers of a node that nobody made.
+fn preset_stat() -> StatPersisted
+    ensures { result ≡ (preset_node set.empty).stat }
+{
+    StatPersisted {
+        czxid: 0,
+        mzxid: 0,
+        ctime: 0,
+        mtime: 0,
+        version: 0,
+        cversion: 0,
+        aversion: 0,
+        ephemeral_owner: 0,
+        pzxid: 0,
+    }
+}
+
+// A node that nobody made.
+fn make_preset_node(alloc: Global, children: TextSet) -> Result<Node, NoMemory>
+    ensures { IfOk result (λ node. node ≡ preset_node children) }
+{
+    Ok(Node {
+        bytes: Some(Blob::new(alloc, &[])?),
+        acl: AclList::open(),
+        stat: preset_stat(),
+        children,
+    })
+}
+
+impl Node {
+    /// A node that nobody made, without a child.
+    pub fn childless(alloc: Global) -> Result<Node, NoMemory>
+        ensures { IfOk result (λ node. node ≡ preset_node set.empty) }
+    {
+        make_preset_node(alloc, TextSet::new(alloc))
+    }
+
+    /// A node that stands where another one comes, which takes no memory.
+    pub(crate) fn placeholder(alloc: Global) -> Node {
+        Node {
+            bytes: None,
+            acl: AclList::open(),
+            stat: preset_stat(),
+            children: TextSet::new(alloc),
+        }
+    }
+
+    /// A node that nobody made, with one child.
+    pub fn with_child(alloc: Global, child: &str) -> Result<Node, NoMemory>
+        ensures { IfOk result (λ node. node ≡ preset_node (set.insert set.empty child.now)) }
+    {
+        make_preset_node(alloc, one_text(alloc, child)?)
+    }
+
+    /// The node that a create makes.
+    pub fn created(alloc: Global, header: &TxnHeader, create: &Create) -> Result<Node, NoMemory>
+        ensures { IfOk result (λ node. node ≡ new_node header.now create.now) }
+    {
+        Ok(Node {
+            bytes: create.bytes.clone()?,
+            acl: AclList::of(&create.acl)?,
+            stat: first_stat(header, create),
+            children: TextSet::new(alloc),
+        })
+    }
+
+    /// Adds a child's name, or raises the numbers where it is taken, and says whether the name is new.
+    pub(crate) fn add_child(
+        &mut self,
+        name: String,
+        header: &TxnHeader,
+        create: &Create,
+    ) -> Result<bool, NoMemory>
+        ensures state { OnOk result
+            (self.new ≡ with_added_child header.now create.now (string_bytes name) self.old) }
+        ensures added { IfOk result
+            (λ added. added ≡ not (set.contains self.old.children (string_bytes name))) }
+        ensures err { OnErr result (self.new ≡ self.old) }
+    {
+        let after = stat_after_create(self.stat, header, create);
+        let added = self.children.insert(name)?;
+        if added {
+            self.stat = after;
+            return Ok(true);
+        }
+        self.stat = higher_stat(self.stat, after);
+        Ok(false)
+    }
+
+    /// Replaces the bytes.
+    pub(crate) fn set_data(&mut self, header: &TxnHeader, body: &SetData) -> Result<(), NoMemory>
+        ensures ok { OnOk result (self.new ≡ with_data header.now body.now self.old) }
+        ensures err { OnErr result (self.new ≡ self.old) }
+    {
+        copy_bytes(&mut self.bytes, &body.bytes)?;
+        self.stat = stat_with_data(self.stat, header, body);
+        Ok(())
+    }
+
+    /// Replaces the access control list.
+    pub(crate) fn set_acl(&mut self, body: &SetAcl) -> Result<(), NoMemory>
+        ensures ok { OnOk result (self.new ≡ with_acl body.now self.old) }
+        ensures err { OnErr result (self.new ≡ self.old) }
+    {
+        let acl = AclList::of(&body.acl)?;
+        self.acl = acl;
+        self.stat.aversion = body.version;
+        Ok(())
+    }
+
+    /// What the node shows of itself.
+    pub fn shown(&self) -> Stat
+        ensures { result ≡ stat_of self.now }
+    {
+        show(
+            self.stat,
+            java_int(self.children.len()),
+            java_int(length(&self.bytes)),
+        )
+    }
+}
+
+// What the kept numbers show, with how many children there are and how many bytes.
+fn show(stat: StatPersisted, children: i32, bytes: i32) -> Stat
+    ensures { result ≡ shown_stat stat children bytes }
+{
+    Stat {
+        czxid: stat.czxid,
+        mzxid: stat.mzxid,
+        ctime: stat.ctime,
+        mtime: stat.mtime,
+        version: stat.version,
+        cversion: shown_cversion(stat.cversion, children),
+        aversion: stat.aversion,
+        ephemeral_owner: stat.ephemeral_owner,
+        data_length: bytes,
+        num_children: children,
+        pzxid: stat.pzxid,
+    }
+}
+
+// A count as a Java int, which wraps.
+fn java_int(count: usize) -> i32
+    ensures { result ≡ java_int count }
+{
+    ((count % (1 << 32)) as u32).cast_signed()
+}
+
+// How many bytes there are; null has none.
+fn length(bytes: &Option<Blob>) -> usize
+    ensures { result ≡ length_or_zero bytes.now }
+{
+    match bytes {
+        None => 0,
+        Some(bytes) => bytes.as_slice().len(),
+    }
+}
+
+// The number of creates and deletes of children, from that of creates.
+fn shown_cversion(stored: i32, children: i32) -> i32
+    ensures { result ≡ shown_cversion stored children }
+{
+    stored.wrapping_mul(2).wrapping_sub(children)
+}

@@ -1,0 +1,367 @@
+//! The nodes by path, seen as a finite map.
+
+ghost use Rattle.std.specs.Prelude.{◌≡◌, ◌↔◌, ℤ, OnOk, OnErr, IfOk, IsTrue, Option, None, Some, is_some, not, true, map, String, string_bytes};
+ghost use Rattle.std.specs.Option.{option_copied, option_copied_mut};
+ghost use Rattle.std.specs.Borrow.{sem};
+ghost use Rattle.std.specs.FinMap as finmap;
+ghost use Rattle.std.specs.Map.Iter.{ShowsInOrder, deref_pair};
+ghost use Rattle.node_map.specs.declared.node.Node.{Node as TheNode};
+ghost use Rattle.node_map.specs.Inner.NodeMapLends.{LendsNode};
+ghost use Rattle.node_map.specs.Updates.{with_entries, update_node, with_data, with_acl, with_name};
+ghost use Rattle.node_map.specs.Children.{with_added_child, added_child, without_added_child, without_child, without_name, with_new_node, HasItsChildren};
+ghost use Rattle.node_map.specs.Agreement.{has_node, has_parent, AreLinked, AreNamed, AreChildNames, AreOwned, is_child_name, is_listed_at};
+
+use crate::added_child::AddedChild;
+use crate::node::{Node, stat_after_delete};
+use ephemerals::{Ephemerals, TextSet};
+use jute::StatPersisted;
+use std::alloc::{AllocError, Global};
+use std::collections::BTreeMap;
+use std::collections::btree_map::Iter;
+use std::marker::Model;
+use txn_codec::{Create, SetAcl, SetData, TxnHeader, child_of, is_path, name_of, parent_of};
+use values::NoMemory;
+
+/// Nodes by path.
+#[derive(Drop)]
+pub struct NodeMap {
+    map: BTreeMap<String, Node>,
+}
+
+impl Model for NodeMap {
+    ghost use Rattle.node_map.specs.Nodes.{Nodes};
+    ghost use Rattle.node_map.specs.Inner.NodesView.{nodes_of};
+
+    ghost Value = { Nodes };
+
+    ghost use Rattle.std.specs.Coded.{coded_ℕ, coded_list};
+    ghost use Rattle.std.specs.FinMap as finmap;
+    ghost use Rattle.node_map.specs.contracts.node.Node as node;
+
+    ghost coded = { finmap.code (coded_list coded_ℕ) node.the_row.coded };
+
+    ghost view = { λ m. nodes_of m.map.entries };
+}
+
+impl Clone for NodeMap {
+    ghost is_clone = { λ x y. y ≡ x };
+
+    fn clone(&self) -> Result<NodeMap, AllocError> {
+        Ok(NodeMap {
+            map: self.map.clone()?,
+        })
+    }
+}
+
+// Whether a text may stand behind a path's last slash.
+fn is_child_name(name: &[u8]) -> bool
+    ensures { result ≡ is_child_name name.now }
+{
+    !name.is_empty() && !name.contains(&0) && !name.contains(&b'/')
+}
+
+// Whether each of the names may stand there.
+fn are_child_names(names: &TextSet) -> bool
+    ensures { IsTrue result ↔ AreChildNames names.now }
+{
+    for name in names.iter() {
+        if !is_child_name(name.as_str().as_bytes()) {
+            return false;
+        }
+    }
+    true
+}
+
+impl NodeMap {
+    /// No node, which takes no memory.
+    pub fn new(alloc: Global) -> NodeMap
+        ensures { result ≡ finmap.empty }
+    {
+        NodeMap {
+            map: BTreeMap::new(alloc),
+        }
+    }
+
+    /// The node at the path.
+    pub fn get(&self, path: &str) -> Option<&Node>
+        ensures { option_copied result ≡ finmap.get self.now path.now }
+    {
+        self.map.get(path)
+    }
+
+    /// How many nodes there are.
+    pub fn len(&self) -> usize
+        ensures { result ≡ finmap.len self.now }
+    {
+        self.map.len()
+    }
+
+    /// The nodes with their paths, in ascending bytes.
+    pub fn iter(&self) -> Iter<'_, String, Node>
+        ensures entries { map (λ e. (string_bytes e.0, e.1)) result ≡ finmap.entries self.now }
+        ensures runs { ShowsInOrder (deref_pair {K = String Global} {X = TheNode}) }
+    {
+        self.map.iter()
+    }
+
+    /// Puts a node at the path, in place of another one.
+    pub fn insert(&mut self, path: String, node: Node) -> Result<(), NoMemory>
+        ensures ok { OnOk result (self.new ≡ finmap.insert self.old (string_bytes path) node) }
+        ensures err { OnErr result (self.new ≡ self.old) }
+    {
+        self.map.insert(path, node)?;
+        Ok(())
+    }
+
+    /// Puts all of the others' nodes, in place of those that stand there. Refused, it may have put some.
+    pub fn append(&mut self, others: NodeMap) -> Result<(), NoMemory>
+        ensures { OnOk result (self.new ≡ with_entries self.old (finmap.entries others)) }
+    {
+        for (path, node) in others.map {
+            self.insert(path, node)?;
+        }
+        Ok(())
+    }
+
+    /// Takes out the node at the path.
+    pub fn remove(&mut self, path: &str) -> Option<Node>
+        ensures value { result ≡ finmap.get self.old path.now }
+        ensures removed { self.new ≡ finmap.remove self.old path.now }
+    {
+        self.map.remove(path)
+    }
+
+    pub(crate) fn get_mut(&mut self, path: &str) -> Option<&mut Node>
+        ensures* writes_back { sem 𝓛 (LendsNode self.entry path.now result) }
+        ensures value { option_copied_mut result ≡ finmap.get self.old path.now }
+    {
+        self.map.get_mut(path)
+    }
+
+    // Puts another node at the path, if one is there.
+    fn replace(&mut self, path: &str, node: Node)
+        ensures { self.new ≡ update_node self.old path.now (λ _. node) }
+    {
+        match self.get_mut(path) {
+            None => return,
+            Some(place) => *place = node,
+        }
+    }
+
+    /// Puts a node at the path where there is none yet, and says whether there was none.
+    pub fn insert_new(&mut self, alloc: Global, path: &str, node: Node) -> Result<bool, NoMemory>
+        ensures new { IfOk result (λ new. new ≡ not (has_node self.old path.now)) }
+        ensures state { OnOk result (self.new ≡ with_new_node self.old path.now node) }
+        ensures err { OnErr result (self.new ≡ self.old) }
+    {
+        let key = String::from_str(alloc, path)?;
+        match self.map.insert(key, node)? {
+            None => Ok(true),
+            Some(old) => {
+                self.replace(path, old);
+                Ok(false)
+            }
+        }
+    }
+
+    /// Makes the node at the path, if any, list the name.
+    pub fn add_name(&mut self, path: &str, name: String) -> Result<AddedChild, NoMemory>
+        ensures state { OnOk result
+            (self.new ≡ update_node self.old path.now (with_name (string_bytes name))) }
+        ensures outcome { IfOk result
+            (λ is. is ≡ added_child (finmap.get self.old path.now) (string_bytes name)) }
+        ensures err { OnErr result (self.new ≡ self.old) }
+    {
+        match self.get_mut(path) {
+            None => return Ok(AddedChild::NoParent),
+            Some(node) => {
+                if node.children.insert(name)? {
+                    return Ok(AddedChild::Added(node.stat));
+                }
+                Ok(AddedChild::Taken)
+            }
+        }
+    }
+
+    /// Makes the node at the path, if any, list the name no more.
+    pub fn remove_name(&mut self, path: &str, name: &str)
+        ensures { self.new ≡ update_node self.old path.now (without_name name.now) }
+    {
+        match self.get_mut(path) {
+            None => return,
+            Some(node) => {
+                node.children.remove(name);
+            }
+        }
+    }
+
+    /// Adds a child's name to the node at the path, or raises that node's numbers where it has the name.
+    pub fn add_child(
+        &mut self,
+        path: &str,
+        name: String,
+        header: &TxnHeader,
+        create: &Create,
+    ) -> Result<AddedChild, NoMemory>
+        ensures state { OnOk result
+            (self.new ≡ update_node self.old path.now
+            (with_added_child header.now create.now (string_bytes name))) }
+        ensures outcome { IfOk result
+            (λ is. is ≡ added_child (finmap.get self.old path.now) (string_bytes name)) }
+        ensures err { OnErr result (self.new ≡ self.old) }
+    {
+        match self.get_mut(path) {
+            None => return Ok(AddedChild::NoParent),
+            Some(node) => {
+                let before = node.stat;
+                if node.add_child(name, header, create)? {
+                    return Ok(AddedChild::Added(before));
+                }
+                Ok(AddedChild::Taken)
+            }
+        }
+    }
+
+    /// Takes a child's name from the node at the path, if any, and gives it back its numbers.
+    pub fn undo_add_child(&mut self, path: &str, name: &str, before: StatPersisted)
+        ensures { self.new ≡ update_node self.old path.now (without_added_child name.now before) }
+    {
+        match self.get_mut(path) {
+            None => return,
+            Some(node) => {
+                node.children.remove(name);
+                node.stat = before;
+            }
+        }
+    }
+
+    /// Takes the name of a deleted child from the node at the path, and says whether there is such a node.
+    pub fn remove_child(&mut self, path: &str, name: &str, header: &TxnHeader) -> bool
+        ensures state { self.new ≡
+            update_node self.old path.now (without_child name.now header.now.zxid) }
+        ensures found { result ≡ is_some (finmap.get self.old path.now) }
+    {
+        match self.get_mut(path) {
+            None => return false,
+            Some(node) => {
+                node.children.remove(name);
+                node.stat = stat_after_delete(node.stat, header);
+                true
+            }
+        }
+    }
+
+    /// Replaces the bytes of the node at the path, and says whether there is such a node.
+    pub fn set_data(
+        &mut self,
+        path: &str,
+        header: &TxnHeader,
+        body: &SetData,
+    ) -> Result<bool, NoMemory>
+        ensures state { OnOk result
+            (self.new ≡ update_node self.old path.now (with_data header.now body.now)) }
+        ensures found { IfOk result (λ found. found ≡ is_some (finmap.get self.old path.now)) }
+        ensures err { OnErr result (self.new ≡ self.old) }
+    {
+        match self.get_mut(path) {
+            None => return Ok(false),
+            Some(node) => {
+                node.set_data(header, body)?;
+                Ok(true)
+            }
+        }
+    }
+
+    /// Replaces the access control list of the node at the path, and says whether there is such a node.
+    pub fn set_acl(&mut self, path: &str, body: &SetAcl) -> Result<bool, NoMemory>
+        ensures state { OnOk result (self.new ≡ update_node self.old path.now (with_acl body.now)) }
+        ensures found { IfOk result (λ found. found ≡ is_some (finmap.get self.old path.now)) }
+        ensures err { OnErr result (self.new ≡ self.old) }
+    {
+        match self.get_mut(path) {
+            None => return Ok(false),
+            Some(node) => {
+                node.set_acl(body)?;
+                Ok(true)
+            }
+        }
+    }
+
+    // Whether the node at the path lists the name.
+    fn lists(&self, path: &str, name: &str) -> bool
+        ensures { result ≡ is_listed_at self.now path.now name.now }
+    {
+        match self.get(path) {
+            None => false,
+            Some(node) => node.children.contains(name),
+        }
+    }
+
+    // Whether the path is "/", or has a parent that lists its name.
+    fn has_parent(&self, path: &str) -> bool
+        ensures { result ≡ has_parent self.now path.now }
+    {
+        path == "/" || self.lists(parent_of(path), name_of(path))
+    }
+
+    // Whether each of the names at the path has a node.
+    fn has_all(&self, alloc: Global, path: &str, names: &TextSet) -> Result<bool, NoMemory>
+        ensures { IfOk result (λ has. IsTrue has ↔ HasItsChildren self.now path.now names.now) }
+    {
+        for name in names.iter() {
+            let path = child_of(alloc, path, name.as_str())?;
+            if self.get(path.as_str()).is_none() {
+                return Ok(false);
+            }
+        }
+        Ok(true)
+    }
+
+    /// Whether each node stands at a path, and lists names that may stand behind a path's last slash.
+    pub fn are_named(&self) -> bool
+        ensures { IsTrue result ↔ AreNamed self.now }
+    {
+        for (path, node) in self.map.iter() {
+            if !is_path(path.as_str().as_bytes()) {
+                return false;
+            }
+            if !are_child_names(&node.children) {
+                return false;
+            }
+        }
+        true
+    }
+
+    /// Whether each node but the root has a parent that lists its name, and each name that a node lists has a node.
+    pub fn are_linked(&self, alloc: Global) -> Result<bool, NoMemory>
+        ensures { IfOk result (λ linked. IsTrue linked ↔ AreLinked self.now) }
+    {
+        for (path, node) in self.map.iter() {
+            let path = path.as_str();
+            if !self.has_parent(path) {
+                return Ok(false);
+            }
+            if !self.has_all(alloc, path, &node.children)? {
+                return Ok(false);
+            }
+        }
+        Ok(true)
+    }
+
+    /// Whether the pairs are the owned nodes' owners and paths. Where each of these is a pair, and they are as many
+    /// as the pairs, there is no other pair.
+    pub fn are_owned(&self, pairs: &Ephemerals) -> bool
+        ensures { IsTrue result ↔ AreOwned self.now pairs.now }
+    {
+        let mut owned = 0;
+        for (path, node) in self.map.iter() {
+            if node.stat.ephemeral_owner != 0 {
+                if !pairs.contains(node.stat.ephemeral_owner, path.as_str()) {
+                    return false;
+                }
+                owned += 1;
+            }
+        }
+        owned == pairs.count()
+    }
+}
