@@ -6,3 +6,4 @@ pub mod Packet
 pub mod Steps
 pub mod Unseen
 pub mod WholeItems
+pub mod GroupedItems

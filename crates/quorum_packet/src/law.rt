@@ -4,6 +4,7 @@ ghost use Rattle.std.specs.Prelude.{◌≡◌, Bool, ℕ, List};
 ghost use Rattle.jute.specs.Laws.{IsBytes, IsSound};
 ghost use Rattle.jute.specs.Relation.{AreItems};
 ghost use Rattle.jute.specs.Stream.{ComesInPieces, Items, Place, with_more_bytes, items_in, joined_items, place_at};
+ghost use Rattle.quorum_packet.specs.GroupedItems.{ItemsAreInOrder, PacketsAreGrouped, PiecesAreGrouped};
 ghost use Rattle.quorum_packet.specs.Items.{FoundValue, stream_of_leader, items_shown_at};
 ghost use Rattle.quorum_packet.specs.Packet.{packet_format};
 ghost use Rattle.quorum_packet.specs.WholeItems.{WholeItem, whole_items};
@@ -32,4 +33,14 @@ pub fn whole_items()
         → AreItems whole_items owed bytes (items_in whole_items (place_at owed bytes)) }
     ensures alone { (owed : Bool) (bytes : List ℕ) (i : Items Bool WholeItem)
         → AreItems whole_items owed bytes i → items_in whole_items (place_at owed bytes) ≡ i }
+{}
+
+/// The packets and parts of a stream, grouped, are its packets and whole images: the parts are loaded one after another
+/// from the empty loading on, and the end of an image gives out the state that they made. The same is left after them,
+/// or the same fault; a part that is refused has the fault of its image. It is so where a packet is next, and at any
+/// place of the stream as more comes. Parts come exactly where an image is owed.
+pub fn grouped_items()
+    ensures packets { PacketsAreGrouped }
+    ensures pieces { PiecesAreGrouped }
+    ensures order { ItemsAreInOrder }
 {}

@@ -24,6 +24,6 @@ mod unseen;
 pub use feed::PacketFeed;
 pub use item::Item;
 pub use kind::PacketKind;
-pub use law::{leader_stream, whole_items};
+pub use law::{grouped_items, leader_stream, whole_items};
 pub use packet::{QuorumPacket, write_packet};
 pub use phase::Phase;

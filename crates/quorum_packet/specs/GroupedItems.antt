@@ -1,0 +1,103 @@
+-- Packets and parts as packets and whole images: the parts of an image are loaded one after another, and its end gives
+-- out what was loaded.
+use Rattle.std.specs.Prelude.{◌≡◌, ℕ, Bool, true, false, not, List, [], ◌∷◌, ◌++◌, Result, Ok, Err, if◌then◌else◌}
+use Rattle.values.specs.declared.fault.Fault.{Fault}
+use Rattle.jute.specs.Format.{◌>>=◌}
+use Rattle.jute.specs.Loading.{load_from}
+use Rattle.jute.specs.Stream.{Unread, Place, Items, items_in, place_at, with_more_bytes}
+use Rattle.data_tree.specs.State.{State}
+use Rattle.snapshot_codec.specs.Image.{image_read}
+use Rattle.snapshot_codec.specs.Made.{LoadedParts, Loading, no_loaded_parts, with_loaded, image_load}
+use Rattle.snapshot_codec.specs.Parts.{Part, is_end}
+use Rattle.snapshot_codec.specs.declared.part.PartPhase.{PartPhase}
+use Rattle.quorum_packet.specs.declared.item.Item.{Item}
+use Rattle.quorum_packet.specs.declared.item.Item.TheVariants as item
+use Rattle.quorum_packet.specs.declared.phase.Phase.{Phase}
+use Rattle.quorum_packet.specs.declared.phase.Phase.TheVariants.{Packets, Image}
+use Rattle.quorum_packet.specs.Items.{phase_after_kind, items_shown_at}
+use Rattle.quorum_packet.specs.Kinds.{kind_of}
+use Rattle.quorum_packet.specs.WholeItems.{WholeItem, OnePacket, OneImage, is_owed, whole_items}
+
+-- ---- packets and parts, grouped
+
+-- the packets and images that are whole; and what is loaded after them, or the fault of the part that was refused
+pub record GroupedItems : Type 0 where
+  pub found : List WholeItem
+  pub loaded : Result Loading Fault
+
+abbrev pub empty_loading : Loading
+empty_loading = record { made = no_loaded_parts; ended = false }
+
+abbrev pub item_before : WholeItem → GroupedItems → GroupedItems
+item_before i others = record others { found = i ∷ others.found }
+
+-- a part that is refused ends the list; with its end an image is whole, and nothing is loaded
+abbrev pub grouped_part : Result Loading Fault → (Loading → GroupedItems) → GroupedItems
+grouped_part (Err e) others = record { found = []; loaded = Err e }
+grouped_part (Ok l) others =
+    if l.ended then item_before (OneImage l.made.state) (others empty_loading) else others l
+
+abbrev pub grouped_items : Loading → List Item → GroupedItems
+grouped_items l [] = record { found = []; loaded = Ok l }
+grouped_items l (item.Packet p ∷ others) = item_before (OnePacket p) (grouped_items l others)
+grouped_items l (item.Part p ∷ others) = grouped_part (with_loaded l p) (λ next. grouped_items next others)
+
+-- ---- a place of the stream, as it is read in parts and by whole images
+
+-- the state that the rest of an image makes of what was made so far, and the bytes after the image
+abbrev pub rest_of_image : PartPhase → LoadedParts → List ℕ → Result (State × List ℕ) Fault
+rest_of_image phase made bytes = load_from image_load phase made bytes >>= λ x. Ok (x.0.state, x.1)
+
+-- Where a packet is next, nothing is loaded, and both have the same bytes left. Within an image the one side has left
+-- what isn't loaded yet, and the other all that came of the image: whatever follows, both make the same state.
+abbrev pub SameBytes : Loading → Phase → List ℕ → List ℕ → Type 0
+SameBytes l Packets bytes all = (l ≡ empty_loading) × (bytes ≡ all)
+SameBytes l (Image phase) bytes all =
+    (more : List ℕ) → rest_of_image phase l.made (bytes ++ more) ≡ image_read (all ++ more)
+
+abbrev pub SameUnread : Loading → Phase → Unread → Unread → Type 0
+SameUnread l phase (Ok bytes) (Ok all) = SameBytes l phase bytes all
+SameUnread l phase (Err d) (Err e) = d ≡ e
+SameUnread l phase unread all = ⊥
+
+abbrev pub SamePlace : Loading → Place Phase → Place Bool → Type 0
+SamePlace l place whole =
+    (whole.phase ≡ is_owed place.phase) × SameUnread l place.phase place.unread whole.unread
+
+-- the fault of a part that was refused is that of its image
+abbrev pub SameRest : Result Loading Fault → Place Phase → Place Bool → Type 0
+SameRest (Ok l) place whole = SamePlace l place whole
+SameRest (Err e) place whole = whole.unread ≡ Err e
+
+-- ---- the law
+
+-- the packets and parts, grouped, are those packets and images, and the same is left after them
+pub record AreWholeItems (l : Loading) (shown : Items Phase Item) (whole : Items Bool WholeItem) : Type 0 where
+  pub found : (grouped_items l shown.found).found ≡ whole.found
+  pub rest : SameRest (grouped_items l shown.found).loaded shown.left whole.left
+
+-- where a packet is next and nothing is loaded
+abbrev pub PacketsAreGrouped : Type 0
+PacketsAreGrouped =
+    (bytes : List ℕ)
+    → AreWholeItems empty_loading (items_shown_at (place_at Packets bytes))
+    (items_in whole_items (place_at false bytes))
+
+-- at any place, also within an image, when more comes
+abbrev pub PiecesAreGrouped : Type 0
+PiecesAreGrouped =
+    (l : Loading) (place : Place Phase) (whole : Place Bool) (more : List ℕ) → SamePlace l place whole
+    → AreWholeItems l (items_shown_at (with_more_bytes place more)) (items_in whole_items (with_more_bytes whole more))
+
+-- A packet comes only where no image is owed, and a part only where one is, up to its end. After the last item an image
+-- is owed or not.
+abbrev pub AreInOrder : Bool → List Item → Bool → Type 0
+AreInOrder owed [] last = owed ≡ last
+AreInOrder owed (item.Packet p ∷ others) last =
+    (owed ≡ false) × AreInOrder (is_owed (phase_after_kind (kind_of p.kind))) others last
+AreInOrder owed (item.Part p ∷ others) last = (owed ≡ true) × AreInOrder (not (is_end (Part p))) others last
+
+abbrev pub ItemsAreInOrder : Type 0
+ItemsAreInOrder =
+    (place : Place Phase) → AreInOrder (is_owed place.phase) (items_shown_at place).found
+    (is_owed (items_shown_at place).left.phase)
