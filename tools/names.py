@@ -12,7 +12,7 @@ What it refuses:
 - an entry of these two lists that no definition has;
 - a crate of more than 100 functions, and a source file of more than 800 lines.
 
-Each definition, entry, crate and file counts as one. The last line is `N passed, M failed`; the exit status is 0 where
+Each crate counts as one, and so does the glossary. The last line is `N passed, M failed`; the exit status is 0 where
 nothing failed.
 """
 import collections
@@ -84,48 +84,48 @@ def listed_under(heading):
 
 
 def wrong_names(found):
-    """Yields what is wrong with the names of definitions, and with the glossary's two lists of them."""
+    """Yields what is wrong with the names of definitions: of which crate (or the glossary), and what."""
     one_word, several = listed_under(NAMES_OF_ONE_WORD), listed_under(NAMES_IN_SEVERAL_CRATES)
     crates_of = collections.defaultdict(set)
     for crate, file, name in found:
         crates_of[name].add(crate)
         if ONE_WORD.fullmatch(name) and name not in one_word:
-            yield f"{file}: `{name}` is a single word: say of what, or list it under `{NAMES_OF_ONE_WORD}`"
+            yield crate, f"{file}: `{name}` is a single word: say of what, or list it under `{NAMES_OF_ONE_WORD}`"
     for name, crates in sorted(crates_of.items()):
         if len(crates) > 1 and name not in several:
-            yield f"`{name}` is defined in {', '.join(sorted(crates))}: rename it, or list it under `{NAMES_IN_SEVERAL_CRATES}`"
+            for crate in sorted(crates):
+                others = ", ".join(sorted(crates - {crate}))
+                yield crate, f"{crate}: `{name}` is a definition of {others} too: rename it, or list it under `{NAMES_IN_SEVERAL_CRATES}`"
     for name in sorted(one_word - set(crates_of)):
-        yield f"docs/GLOSSARY.md lists `{name}` under `{NAMES_OF_ONE_WORD}`, and no definition has this name"
+        yield GLOSSARY, f"docs/GLOSSARY.md: no definition is named `{name}`, which is under `{NAMES_OF_ONE_WORD}`"
     for name in sorted(several):
         if len(crates_of[name]) < 2:
-            yield f"docs/GLOSSARY.md lists `{name}` under `{NAMES_IN_SEVERAL_CRATES}`, and no two crates have it"
+            yield GLOSSARY, f"docs/GLOSSARY.md: no two crates have `{name}`, which is under `{NAMES_IN_SEVERAL_CRATES}`"
 
 
-def wrong_sizes(crates, files):
-    """Yields the crates of too many functions, and the files of too many lines."""
+def wrong_sizes(crates):
+    """Yields the crates of too many functions or with files of too many lines, and what is too much."""
     for crate in crates:
         count = sum(len(FUNCTION.findall(text_of(file))) for file in files_in(crate, ["src"], ".rt"))
         if count > MOST_FUNCTIONS:
-            yield f"{crate} has {count} functions, and a crate has at most {MOST_FUNCTIONS}"
-    for file in files:
-        count = text_of(file).count("\n")
-        if count > MOST_LINES:
-            yield f"{os.path.relpath(file, TOP)} has {count} lines, and a file has at most {MOST_LINES}"
+            yield crate, f"{crate}: {count} functions, and a crate has at most {MOST_FUNCTIONS}"
+        for file in files_in(crate, ["src", "specs", "proofs"], (".rt", ".antt")):
+            count = text_of(file).count("\n")
+            if count > MOST_LINES:
+                yield crate, f"{os.path.relpath(file, CRATES)}: {count} lines, and a file has at most {MOST_LINES}"
 
 
 def main():
-    found = definitions()
     crates = sorted(it for it in os.listdir(CRATES) if os.path.isdir(os.path.join(CRATES, it, "src")))
-    files = [it for crate in crates for it in files_in(crate, ["src", "specs", "proofs"], (".rt", ".antt"))]
     try:
-        wrong = [*wrong_names(found), *wrong_sizes(crates, files)]
-        entries = len(listed_under(NAMES_OF_ONE_WORD)) + len(listed_under(NAMES_IN_SEVERAL_CRATES))
+        wrong = [*wrong_names(definitions()), *wrong_sizes(crates)]
     except (OSError, ValueError) as why:
-        wrong, entries = [str(why)], 0
-    for it in wrong:
-        print(it)
-    print(f"{max(0, len(found) + entries + len(crates) + len(files) - len(wrong))} passed, {len(wrong)} failed")
-    return 1 if wrong else 0
+        wrong = [(GLOSSARY, str(why))]
+    for _, why in wrong:
+        print(why)
+    failed = len({subject for subject, _ in wrong})
+    print(f"{len(crates) + 1 - failed} passed, {failed} failed")
+    return 1 if failed else 0
 
 
 if __name__ == "__main__":
