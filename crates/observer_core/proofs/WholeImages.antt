@@ -7,9 +7,11 @@ use Rattle.learner_sync.specs.Learner.{Learner}
 use Rattle.learner_sync.specs.Learn.{checkpoint_in}
 use Rattle.learner_sync.specs.declared.phase.Phase.{Phase as LearnerPhase}
 use Rattle.learner_sync.specs.declared.phase.Phase.TheVariants as phase
+use Rattle.snapshot_codec.specs.Made.{Loading}
 use Rattle.quorum_packet.specs.Feed.{stream_end}
+use Rattle.quorum_packet.specs.GroupedItems.{SameUnread, SamePlace, PiecesAreGrouped, ItemsAreInOrder}
 use Rattle.quorum_packet.specs.Items.{items_shown_at}
-use Rattle.quorum_packet.specs.WholeItems.{whole_items}
+use Rattle.quorum_packet.specs.WholeItems.{is_owed, whole_items}
 use Rattle.quorum_packet.specs.declared.phase.Phase.{Phase}
 use Rattle.quorum_packet.specs.declared.phase.Phase.TheVariants.{Packets, Image}
 use Rattle.replica.specs.Replica.{Replica}
@@ -30,7 +32,7 @@ use Rattle.observer_core.proofs.Unmoved.{client_same, open_same, end_same, expir
 
 abbrev OpenAlike : Bool → Option Leader → Option (Place Bool) → Type 0
 OpenAlike waits None None = Unit {0}
-OpenAlike waits (Some l) (Some p) = Alike l.loading waits l.place.phase l.place.unread p.phase p.unread
+OpenAlike waits (Some l) (Some p) = Alike l.loading waits l.place p
 OpenAlike waits l p = ⊥
 
 record MachinesAlike (m : Machine) (n : MachineBy (Place Bool)) : Type 0 where
@@ -70,20 +72,23 @@ stood_same a b s = by a.after.place b.after.place s.leader
 
 -- ---- the end of a stream
 
-ends_same : (waits : Bool) (l : Leader) (phase : Phase) (u : Unread) (owed : Bool) (v : Unread)
-    → Alike l.loading waits phase u owed v → stream_end phase u ≡ whole_end owed v
-ends_same waits l Packets (Ok u) false (Ok v) a = ap (λ (x : List ℕ). stream_end Packets (Ok x)) a.1 ∙ by v
+ends_at : (l : Loading) (phase : Phase) (u v : Unread) → SameUnread l phase u v
+    → stream_end phase u ≡ whole_end (is_owed phase) v
+ends_at l Packets (Ok u) (Ok v) s = ap (λ (x : List ℕ). stream_end Packets (Ok x)) s.1 ∙ by v
   where
     by : (x : List ℕ) → stream_end Packets (Ok x) ≡ whole_end false (Ok x)
     by [] = refl
     by (b ∷ bytes) = refl
-ends_same waits l (Image phase) (Ok u) true (Ok v) a = refl
-ends_same waits l Packets (Err e) owed v a = absurd a
-ends_same waits l Packets (Ok u) false (Err e) a = absurd a
-ends_same waits l Packets (Ok u) true v a = absurd a
-ends_same waits l (Image phase) (Err e) owed v a = absurd a
-ends_same waits l (Image phase) (Ok u) true (Err e) a = absurd a
-ends_same waits l (Image phase) (Ok u) false v a = absurd a
+ends_at l (Image phase) (Ok u) (Ok v) s = refl
+ends_at l phase (Err d) (Err e) s = ap (λ x. Err x) s
+ends_at l phase (Ok u) (Err e) s = absurd s
+ends_at l phase (Err d) (Ok v) s = absurd s
+
+ends_same : (l : Loading) (place : Place Phase) (whole : Place Bool) → SamePlace l place whole
+    → stream_end place.phase place.unread ≡ whole_end whole.phase whole.unread
+ends_same l place whole s =
+    ends_at l place.phase place.unread whole.unread s.1
+    ∙ ap (λ (owed : Bool). whole_end owed whole.unread) (sym s.0)
 
 ended_same : (w : World) (r : Result (Unit {0}) Fault) → SameStep (on_stream_end r w) (on_stream_end r w)
 ended_same w (Ok u) = record { outputs = refl; machine = record { world = refl; leader = tt } }
@@ -110,7 +115,11 @@ beside_same w l p h same a = record {
   machine = record { world = refl; leader = subst (λ (waits : Bool). OpenAlike waits l p) (sym same) a };
 }
 
-module _ (law : ImagesComeInParts) where
+-- where a stream begins
+opened_alike : (waits : Bool) → Alike part_reader.opened.loading waits part_reader.opened.place image_reader.opened
+opened_alike waits = record { same = (refl, (refl, refl)); awaited = λ owes. absurd cc }
+
+module _ (law : ImagesComeInParts) (pieces : PiecesAreGrouped) (order : ItemsAreInOrder) where
   -- on the same world
   abbrev SameOn : World → Option Leader → Option (Place Bool) → Event → Type 0
   SameOn w l p e =
@@ -133,7 +142,7 @@ module _ (law : ImagesComeInParts) where
       beside_same w l p (no_output (with_checkpoint w))
       (ap awaits_image_in (rebased_phase (is_serving w.replica) w.replica)) a
   step_on w None None event.LeaderUp a =
-      record { outputs = refl; machine = record { world = refl; leader = (refl, refl) } }
+      record { outputs = refl; machine = record { world = refl; leader = opened_alike _ } }
   step_on w None None (event.LeaderBytes bytes) a =
       record { outputs = refl; machine = record { world = refl; leader = tt } }
   step_on w None None event.LeaderEnd a = record { outputs = refl; machine = record { world = refl; leader = tt } }
@@ -143,9 +152,9 @@ module _ (law : ImagesComeInParts) where
       stood_same (take_items item_step (record { loading = l.loading; world = w })
       (items_shown_at (with_more_bytes l.place bytes)))
       (take_items whole_item_step w (items_in whole_items (with_more_bytes p bytes)))
-      (arrives_same law l.loading l.place.phase l.place.unread p.phase p.unread w bytes a)
+      (arrives_same law pieces order l.loading l.place p w bytes a)
   step_on w (Some l) (Some p) event.LeaderEnd a =
-      let same = ends_same (awaits_image w.replica) l l.place.phase l.place.unread p.phase p.unread a in
+      let same = ends_same l.loading l.place p a.same in
       let stops = stream_end l.place.phase l.place.unread in
       subst (λ (r : Result (Unit {0}) Fault). SameStep (on_stream_end stops w) (on_stream_end r w)) same
       (ended_same w stops)
@@ -178,5 +187,5 @@ module _ (law : ImagesComeInParts) where
     made = λ settings events. seen_same (new_machine settings) (new_by image_reader settings) events
         (record { world = refl; leader = tt });
     primed = λ settings events. seen_same (primed_machine settings) (primed_by image_reader settings) events
-        (record { world = refl; leader = (refl, refl) });
+        (record { world = refl; leader = opened_alike _ });
   }

@@ -41,6 +41,7 @@ pub fn logs_are_followed()
 pub fn parts_are_whole_images()
     ensures { PartsAreWholeImages }
 {
+    quorum_packet::grouped_items();
     replica::law::images();
 }
 
