@@ -26,15 +26,15 @@ at_top : finmap.get fresh_state.nodes (codes "/") ≡ Some top
 at_top = got (codes "/")
 
 abbrev grown : TxnHeader → Node
-grown h = with_children top (set.insert top.children (codes "path_a")) (int_wrap w32 (pos 0 +ℤ pos 1)) h.zxid
+grown h = with_children top (set.insert top.children (codes "a")) (int_wrap w32 (pos 0 +ℤ pos 1)) h.zxid
 
 abbrev nodes_with : TxnHeader → Nodes
 nodes_with h = finmap.insert (finmap.insert fresh_state.nodes (codes "/") (grown h)) path_a (new_node h create_of_a)
 
-new_name : set.contains top.children (codes "path_a") ≡ false
+new_name : set.contains top.children (codes "a") ≡ false
 new_name =
-    set.contains-insert path_total set.empty (codes "zookeeper") (codes "path_a")
-    ∙ set.contains-empty path_cmp (codes "path_a")
+    set.contains-insert path_total set.empty (codes "zookeeper") (codes "a")
+    ∙ set.contains-empty path_cmp (codes "a")
 
 effect_is : (h : TxnHeader) → create_under h create_of_a (finmap.get fresh_state.nodes (codes "/"))
     ≡ create_new h create_of_a top
@@ -86,8 +86,8 @@ at_path h path o at counted is = record {
 wrapped : pos 0 ≡ int_wrap w32 (negsuc 0 +ℤ pos 1)
 wrapped = let fits : FitsSigned w32 (pos 0) = search rules in sym (int_wrap_fits w32 (pos 0) fits)
 
-taken : (h : TxnHeader) → set.contains (grown h).children (codes "path_a") ≡ true
-taken h = set.contains-insert path_total top.children (codes "path_a") (codes "path_a")
+taken : (h : TxnHeader) → set.contains (grown h).children (codes "a") ≡ true
+taken h = set.contains-insert path_total top.children (codes "a") (codes "a")
 
 second_effect : (h : TxnHeader) → create_under h create_of_a (finmap.get (nodes_with h) (codes "/"))
     ≡ create_taken h create_of_a (grown h)

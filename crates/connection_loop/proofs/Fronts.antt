@@ -5,7 +5,7 @@ use Rattle.values.specs.declared.fault.Fault.TheVariants.{Short}
 use Rattle.jute.specs.Frame.{frame_format}
 use Rattle.jute.specs.Stream.{Unread, items_within, items_after_read, place_after_fault}
 use Rattle.jute.proofs.Public.{refused_other}
-use Rattle.observer_core.specs.Serve.{frames_of_client, client_frame_limit}
+use Rattle.client_service.specs.Serve.{frames_of_client, client_frame_limit}
 use Rattle.connection_loop.specs.Frames.{bytes_read, whole_frames_length}
 
 -- what is left after so many frames

@@ -1,7 +1,7 @@
 -- Where the frames of a client end.
 use Rattle.std.specs.Prelude.{ℕ, List, length, ◌-◌, Ok, Err}
 use Rattle.jute.specs.Stream.{Unread, items_within}
-use Rattle.observer_core.specs.Serve.{frames_of_client}
+use Rattle.client_service.specs.Serve.{frames_of_client}
 
 -- how many of the bytes are read; where a length is out of its bounds, all of them
 abbrev pub bytes_read : List ℕ → Unread → ℕ

@@ -4,7 +4,7 @@ use Rattle.std.specs.Prelude.{filter}
 use Rattle.std.proofs.lemmas.List.{append-nil, map-append}
 use Rattle.std.proofs.lemmas.List.Elements.{filter-append}
 use Rattle.std.proofs.lemmas.Bool.Decides.{nat_tests}
-use Rattle.observer_core.specs.declared.event.Output.{Output}
+use Rattle.client_service.specs.declared.output.Output.{Output}
 use Rattle.intake.specs.declared.message.Message.{Message}
 use Rattle.intake.specs.Messages.{PortMessage, event_of_message, events_of, part_of_port, port_of, share_of_port}
 

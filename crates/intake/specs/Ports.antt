@@ -1,7 +1,7 @@
 -- What went through a port, by the end that its thread has.
 use Rattle.std.specs.Prelude.{◌≡◌, List}
 use Rattle.rtrb.specs.Ring.{sent, received, known_free, known_items, SameProducer, SameConsumer}
-use Rattle.observer_core.specs.declared.event.Output.{Output}
+use Rattle.client_service.specs.declared.output.Output.{Output}
 use Rattle.intake.specs.declared.message.Message.{Message}
 use Rattle.intake.specs.declared.port.PortEnd.{PortEnd}
 

@@ -39,17 +39,18 @@ use Rattle.read_processor.specs.Renewal.{renew_watches}
 use Rattle.read_processor.specs.Reply.{reply_frame}
 use Rattle.four_letter.specs.Texts.{reply_text}
 use Rattle.four_letter.specs.declared.word.Word.{Word}
-use Rattle.observer_core.specs.declared.config.Settings.{Settings}
+use Rattle.client_service.specs.declared.world.Settings.{Settings}
 use Rattle.observer_core.specs.declared.event.Event.{Event}
 use Rattle.observer_core.specs.declared.event.Event.TheVariants as event
-use Rattle.observer_core.specs.Machine.{OpenConnection, Clients, World, Leader, Machine}
-use Rattle.observer_core.specs.Steps.{StepResult, fold_steps}
-use Rattle.observer_core.specs.Clients.{idle_connection, is_open, with_connection, without_client, without_clients}
+use Rattle.client_service.specs.World.{OpenConnection, Clients, World}
+use Rattle.observer_core.specs.Machine.{Leader, Machine}
+use Rattle.client_service.specs.Steps.{StepResult, fold_steps}
+use Rattle.client_service.specs.Clients.{idle_connection, is_open, with_connection, without_client, without_clients, no_clients}
 use Rattle.observer_core.specs.Leader.{WorldAndLoading, step_with_loading, send_effect, item_step, Delivery, delivery_of, deliver_item, is_refused, deliver_all, place_after, part_reader, leader_at as kept_leader, meet_leader, disconnect_all, with_leader_or_fault, take_leader_bytes, on_stream_end, end_leader}
-use Rattle.observer_core.specs.Serve.{close_client, send_or_close, send_last, with_watching, with_watch_if, with_each_watch, answer_set_watches, with_sessions, send_auth_result, with_session_expired, end_session, close_client_if_some, send_connect_response, finish_connect, may_connect, handle_connect, handle_call, serve_as, serve_by, serve_frame, figures_of, word_at, is_closed, with_waiting_bytes, wait_if_open, frames_of_client, tell_or_serve, take_client_bytes}
-use Rattle.observer_core.specs.Play.{is_serving_clients, play_event, no_clients, first_request, new_machine, primed_machine}
+use Rattle.client_service.specs.Serve.{close_client, send_or_close, send_last, with_watching, with_watch_if, with_each_watch, answer_set_watches, with_sessions, send_auth_result, with_session_expired, end_session, close_client_if_some, send_connect_response, finish_connect, may_connect, handle_connect, handle_call, serve_as, serve_by, serve_frame, figures_of, word_at, is_closed, with_waiting_bytes, wait_if_open, frames_of_client, tell_or_serve, take_client_bytes}
+use Rattle.observer_core.specs.Play.{is_serving_clients, play_event, first_request, new_machine, primed_machine}
 use Rattle.observer_core.specs.Agreement.{ClientsAgree, OneSessionEach, ConnectionsAgree}
-use Rattle.observer_core.proofs.NatMaps.{get-inserted}
+use Rattle.client_service.proofs.NatMaps.{get-inserted}
 use Rattle.observer_core.proofs.Keeping.{happening_keeps}
 use Rattle.observer_core.proofs.Passing.{KeysPass, closed_passes, expired_passes, auth_passes, connected_passes, watchers_pass, watched_if_passes, watched_each_passes}
 

@@ -11,17 +11,18 @@ use Rattle.data_tree.specs.Meaning.{fresh_state}
 use Rattle.sessions.specs.Sessions.{session_in}
 use Rattle.four_letter.specs.Words.{word_of}
 use Rattle.watch_manager.specs.Rows.{WorkedRows as FiringRows}
-use Rattle.observer_core.specs.declared.config.Settings.{Settings}
+use Rattle.client_service.specs.declared.world.Settings.{Settings}
 use Rattle.observer_core.specs.declared.event.Event.TheVariants.{ClientUp, ClientBytes}
-use Rattle.observer_core.specs.declared.event.Output.{Output}
-use Rattle.observer_core.specs.declared.event.Output.TheVariants.{ToClient, CloseClient}
-use Rattle.observer_core.specs.Machine.{OpenConnection, World, Machine}
-use Rattle.observer_core.specs.Steps.{StepResult, prepend_outputs}
-use Rattle.observer_core.specs.Clients.{idle_connection, with_connection}
-use Rattle.observer_core.specs.Serve.{word_without_session, with_waiting_bytes, wait_if_open, frames_of_client, tell_or_serve, take_client_bytes}
+use Rattle.client_service.specs.declared.output.Output.{Output}
+use Rattle.client_service.specs.declared.output.Output.TheVariants.{ToClient, CloseClient}
+use Rattle.client_service.specs.World.{OpenConnection, World}
+use Rattle.observer_core.specs.Machine.{Machine}
+use Rattle.client_service.specs.Steps.{StepResult, prepend_outputs}
+use Rattle.client_service.specs.Clients.{idle_connection, with_connection}
+use Rattle.client_service.specs.Serve.{word_without_session, with_waiting_bytes, wait_if_open, frames_of_client, tell_or_serve, take_client_bytes}
 use Rattle.observer_core.specs.Play.{is_serving_clients, play, new_machine, primed_machine}
 use Rattle.observer_core.specs.Rows.{reply_of_create, set_data_inform_event, get_data_event, WorkedRows}
-use Rattle.observer_core.proofs.NatMaps.{get-inserted}
+use Rattle.client_service.proofs.NatMaps.{get-inserted}
 use Rattle.observer_core.proofs.Rows.{ReadAgain, NobodyTold, world_at, at_frames, in_hand, create_get, set_get, cut_get, create_twice, closed_passes, watch_told, idle_is}
 
 -- ---- connection 2 begins with a word, where no leader was followed

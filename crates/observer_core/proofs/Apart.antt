@@ -35,14 +35,14 @@ use Rattle.client_frames.specs.Call.{call_in}
 use Rattle.client_frames.specs.Connect.{connecting_in, session_request, answer_to_connect}
 use Rattle.four_letter.specs.Texts.{reply_text}
 use Rattle.four_letter.specs.declared.word.Word.{Word}
-use Rattle.observer_core.specs.declared.event.Output.{Output}
-use Rattle.observer_core.specs.declared.event.Output.TheVariants.{ToLeader, ToClient, CloseLeader, CloseClient}
-use Rattle.observer_core.specs.Machine.{OpenConnection, Clients, World}
-use Rattle.observer_core.specs.Steps.{StepResult, no_output, and_then, fold_steps}
-use Rattle.observer_core.specs.Clients.{idle_connection, is_open, with_connection, without_client, sent_to, notice_to, notices_to}
-use Rattle.observer_core.specs.Serve.{close_client, send_or_close, send_last, send_reply_last, with_watch, with_each_watch, with_watch_if, with_watching, answer_set_watches, with_sessions, send_auth_result, with_session_expired, end_session, close_client_if_some, send_connect_response, finish_connect, may_connect, handle_connect, handle_call, serve_as, serve_by, serve_frame, figures_of, word_at, is_closed, with_waiting_bytes, wait_if_open, wait_at, frames_of_client, tell_or_serve, take_client_bytes, open_client, end_client}
+use Rattle.client_service.specs.declared.output.Output.{Output}
+use Rattle.client_service.specs.declared.output.Output.TheVariants.{ToLeader, ToClient, CloseLeader, CloseClient}
+use Rattle.client_service.specs.World.{OpenConnection, Clients, World}
+use Rattle.client_service.specs.Steps.{StepResult, no_output, and_then, fold_steps}
+use Rattle.client_service.specs.Clients.{idle_connection, is_open, with_connection, without_client, sent_to, notice_to, notices_to}
+use Rattle.client_service.specs.Serve.{close_client, send_or_close, send_last, send_reply_last, with_watch, with_each_watch, with_watch_if, with_watching, answer_set_watches, with_sessions, send_auth_result, with_session_expired, end_session, close_client_if_some, send_connect_response, finish_connect, may_connect, handle_connect, handle_call, serve_as, serve_by, serve_frame, figures_of, word_at, is_closed, with_waiting_bytes, wait_if_open, wait_at, frames_of_client, tell_or_serve, take_client_bytes, open_client, end_client}
 use Rattle.observer_core.specs.Apart.{ConcernsOnly, IsUntouched, IsTakenUp, IsApart}
-use Rattle.observer_core.proofs.NatMaps.{get-kept, get-beside}
+use Rattle.client_service.proofs.NatMaps.{get-kept, get-beside}
 use Rattle.observer_core.proofs.Taking.{none_or_some, HasIfOpen, closed_has, call_in_has, wait_has, connected_joins}
 
 -- ---- lists

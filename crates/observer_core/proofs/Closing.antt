@@ -16,12 +16,12 @@ use Rattle.client_frames.specs.declared.call.Call.{Call}
 use Rattle.client_frames.specs.declared.call.CallBody.{CallBody}
 use Rattle.client_frames.specs.declared.call.CallBody.TheVariants as bodies
 use Rattle.client_frames.specs.declared.connecting.Connecting.{Connecting}
-use Rattle.observer_core.specs.Machine.{OpenConnection, World}
+use Rattle.client_service.specs.World.{OpenConnection, World}
 use Rattle.client_frames.specs.Call.{call_in}
 use Rattle.client_frames.specs.Connect.{connecting_in, session_request, answer_to_connect}
-use Rattle.observer_core.specs.Steps.{StepResult}
-use Rattle.observer_core.specs.Serve.{close_client, send_or_close, send_last, send_reply_last, with_watching, with_watch_if, with_each_watch, answer_set_watches, with_sessions, send_auth_result, with_session_expired, end_session, close_client_if_some, send_connect_response, finish_connect, may_connect, handle_connect, handle_call, serve_as, serve_by, serve_frame}
-use Rattle.observer_core.proofs.NatMaps.{still_there}
+use Rattle.client_service.specs.Steps.{StepResult}
+use Rattle.client_service.specs.Serve.{close_client, send_or_close, send_last, send_reply_last, with_watching, with_watch_if, with_each_watch, answer_set_watches, with_sessions, send_auth_result, with_session_expired, end_session, close_client_if_some, send_connect_response, finish_connect, may_connect, handle_connect, handle_call, serve_as, serve_by, serve_frame}
+use Rattle.client_service.proofs.NatMaps.{still_there}
 
 -- each connection that is open then was open before, with the same bytes waiting
 abbrev pub OnlyCloses : World → World → Type 0

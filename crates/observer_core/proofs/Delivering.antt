@@ -15,13 +15,15 @@ use Rattle.jute.specs.Stream.{Place, Items, Unread, with_first, no_items, with_m
 use Rattle.quorum_packet.specs.declared.item.Item.{Item}
 use Rattle.quorum_packet.specs.declared.phase.Phase.{Phase}
 use Rattle.quorum_packet.specs.Items.{items_shown_at}
-use Rattle.observer_core.specs.declared.event.Output.{Output}
-use Rattle.observer_core.specs.declared.event.Output.TheVariants.{CloseLeader, CloseClient}
-use Rattle.observer_core.specs.Machine.{OpenConnection, OpenConnections, Clients, World, Leader, Machine}
-use Rattle.observer_core.specs.Steps.{StepResult, prepend_outputs, no_output, and_then, fold_steps}
-use Rattle.observer_core.specs.Clients.{without_client, close_clients, close_all_clients, notices_of}
+use Rattle.client_service.specs.declared.output.Output.{Output}
+use Rattle.client_service.specs.declared.output.Output.TheVariants.{CloseLeader, CloseClient}
+use Rattle.client_service.specs.World.{OpenConnection, OpenConnections, Clients, World}
+use Rattle.observer_core.specs.Machine.{Leader, Machine}
+use Rattle.client_service.specs.Steps.{StepResult, prepend_outputs, no_output, and_then, fold_steps}
+use Rattle.client_service.specs.Clients.{without_client, close_clients, close_all_clients, notices_of}
 use Rattle.observer_core.specs.Leader.{to_leader, WorldAndLoading, step_with_loading, send_effect, item_step, Delivery, delivery_of, deliver_item, is_refused, place_or_fault, place_after, StreamProgress, take_items, WorldAndLeader, leader_at, part_reader, with_leader, disconnect_all, with_leader_or_fault, take_leader_bytes}
-use Rattle.observer_core.specs.Inner.{send_outcome, MeetsStep, ReceivesItem, DeliversItems, FollowsStream}
+use Rattle.observer_core.specs.Inner.{send_outcome, ReceivesItem, DeliversItems, FollowsStream}
+use Rattle.client_service.specs.Results.{MeetsStep}
 use Rattle.jute.specs.Format.{◌>>=◌}
 use Rattle.snapshot_codec.specs.Made.{Loading}
 use Rattle.replica.specs.Replica.{Replica}
@@ -31,8 +33,8 @@ use Rattle.watch_manager.specs.declared.event.Event.{Event}
 use Rattle.watch_manager.specs.Watching.{WatchTables}
 use Rattle.watch_manager.specs.Watches.{fire}
 use Rattle.values.specs.declared.fault.ReadError.{ReadError}
-use Rattle.observer_core.proofs.Steps.{SoFar, steps, ends, stops, stops_in_step, passed_over, behind_behind, then_meets}
-use Rattle.observer_core.proofs.NatMaps.{keys-empty}
+use Rattle.client_service.proofs.Steps.{SoFar, steps, ends, stops, stops_in_step, passed_over, behind_behind, then_meets}
+use Rattle.client_service.proofs.NatMaps.{keys-empty}
 
 abbrev came_to : Items Phase Item → StepResult (Delivery WorldAndLoading)
     → StepResult (StreamProgress Phase WorldAndLoading)

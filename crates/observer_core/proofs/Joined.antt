@@ -14,11 +14,11 @@ use Rattle.sessions.specs.declared.request.SessionRequest.{SessionRequest}
 use Rattle.client_frames.specs.declared.connecting.Connecting.{Connecting}
 use Rattle.client_frames.specs.Call.{call_in}
 use Rattle.client_frames.specs.Connect.{connecting_in, session_request}
-use Rattle.observer_core.specs.Machine.{Clients, World}
-use Rattle.observer_core.specs.Steps.{StepResult, fold_steps}
-use Rattle.observer_core.specs.Clients.{is_open, without_client}
-use Rattle.observer_core.specs.Serve.{with_sessions, close_client_if_some, finish_connect, may_connect, handle_connect, serve_as, serve_by, serve_frame, is_closed}
-use Rattle.observer_core.proofs.NatMaps.{get-inserted}
+use Rattle.client_service.specs.World.{Clients, World}
+use Rattle.client_service.specs.Steps.{StepResult, fold_steps}
+use Rattle.client_service.specs.Clients.{is_open, without_client}
+use Rattle.client_service.specs.Serve.{with_sessions, close_client_if_some, finish_connect, may_connect, handle_connect, serve_as, serve_by, serve_frame, is_closed}
+use Rattle.client_service.proofs.NatMaps.{get-inserted}
 use Rattle.observer_core.proofs.Keeping.{happening_keeps}
 use Rattle.observer_core.proofs.Taking.{HasIfOpen, closed_has, greet_has, call_in_has}
 

@@ -1,7 +1,7 @@
 -- What each step keeps is kept by all.
 use Rattle.std.proofs.Common.{◌≡◌, Bool, false, List, [], ◌∷◌}
 use Rattle.std.proofs.lemmas.Bool.{cond_both}
-use Rattle.observer_core.specs.Steps.{StepResult, no_output, and_then, fold_steps}
+use Rattle.client_service.specs.Steps.{StepResult, no_output, and_then, fold_steps}
 
 -- where a state is at its end no step is made
 module _ {S A : Type 0} (P : S → Type 0) (is_end : S → Bool) (step : S → A → StepResult S)

@@ -1,8 +1,4 @@
-pub mod NatMaps
-pub mod Streams
-pub mod Steps
 pub mod Delivering
-pub mod Serving
 pub mod Playing
 pub mod Keeping
 pub mod Unmoved

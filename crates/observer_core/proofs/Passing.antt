@@ -22,7 +22,7 @@ use Rattle.watch_manager.specs.Laws.{AllPass, WatchersPass}
 use Rattle.watch_manager.proofs.Totals.{watch_total, watch_exact}
 use Rattle.read_processor.specs.declared.watch.Watch.{Watch}
 use Rattle.read_processor.specs.declared.watch.Watch.TheVariants as tables
-use Rattle.observer_core.specs.Serve.{with_watch, with_watch_if, with_each_watch}
+use Rattle.client_service.specs.Serve.{with_watch, with_watch_if, with_each_watch}
 
 or_first : (a b : Bool) → b ≡ false → (a || b) ≡ true → a ≡ true
 or_first a b none h = sym (or-false a) ∙ ap (λ x. a || x) (sym none) ∙ h

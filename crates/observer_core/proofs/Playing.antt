@@ -18,18 +18,19 @@ use Rattle.four_letter.specs.Words.{word_of}
 use Rattle.four_letter.specs.declared.word.Word.{Word}
 use Rattle.observer_core.specs.declared.event.Event.{Event}
 use Rattle.observer_core.specs.declared.event.Event.TheVariants.{LeaderBytes, ClientBytes}
-use Rattle.observer_core.specs.declared.event.Output.{Output}
-use Rattle.observer_core.specs.declared.event.Output.TheVariants.{CloseClient}
-use Rattle.observer_core.specs.Machine.{OpenConnection, OpenConnections, World, Leader, Machine}
-use Rattle.observer_core.specs.Steps.{StepResult, prepend_outputs, no_output, and_then, fold_steps}
-use Rattle.observer_core.specs.Clients.{idle_connection, is_open}
+use Rattle.client_service.specs.declared.output.Output.{Output}
+use Rattle.client_service.specs.declared.output.Output.TheVariants.{CloseClient}
+use Rattle.client_service.specs.World.{OpenConnection, OpenConnections, World}
+use Rattle.observer_core.specs.Machine.{Leader, Machine}
+use Rattle.client_service.specs.Steps.{StepResult, prepend_outputs, no_output, and_then, fold_steps}
+use Rattle.client_service.specs.Clients.{idle_connection, is_open}
 use Rattle.observer_core.specs.Leader.{WorldAndLoading, item_step, Delivery, deliver_item, is_refused, place_after, deliver_all, part_reader, leader_at, with_leader, with_leader_or_fault, take_leader_bytes}
-use Rattle.observer_core.specs.Serve.{close_client, serve_frame, tell_word, word_without_session, word_at, is_closed, with_waiting_bytes, wait_or_close, wait_if_open, wait_at, client_frame_limit, frames_of_client, serve_all, tell_or_serve, take_client_bytes}
+use Rattle.client_service.specs.Serve.{close_client, serve_frame, tell_word, word_without_session, word_at, is_closed, with_waiting_bytes, wait_or_close, wait_if_open, wait_at, client_frame_limit, frames_of_client, serve_all, tell_or_serve, take_client_bytes}
 use Rattle.observer_core.specs.Play.{is_serving_clients, play_event, play}
 use Rattle.observer_core.proofs.Closing.{serve_closes}
-use Rattle.observer_core.proofs.Steps.{behind_behind, passed_over, happening_on}
-use Rattle.observer_core.proofs.NatMaps.{get-inserted, get-removed, insert-insert, insert-same}
-use Rattle.observer_core.proofs.Streams.{frames_streamed}
+use Rattle.client_service.proofs.Steps.{behind_behind, passed_over, happening_on}
+use Rattle.client_service.proofs.NatMaps.{get-inserted, get-removed, insert-insert, insert-same}
+use Rattle.client_service.proofs.Streams.{frames_streamed}
 use Rattle.observer_core.proofs.Unmoved.{client_same}
 use Rattle.observer_core.proofs.Words.{same_front, still_says, has_said, still_waits, short_frame}
 use Rattle.observer_core.proofs.Joined.{frames_one}
@@ -125,20 +126,20 @@ abbrev IsTaken : ℕ → World → Type 0
 IsTaken n w = (k : OpenConnection) → finmap.get w.clients.connections n ≡ Some k → k ≡ idle_connection
 
 module _ (serving : Bool) (n : ℕ) where
-  served_taken : (w : World) (frame : List ℕ) → IsTaken n w → IsTaken n (serve_frame is_serving_clients n w frame).after
-  served_taken w frame t k e = t k (serve_closes is_serving_clients n w frame n k e)
+  served_taken : (w : World) (frame : List ℕ) → IsTaken n w → IsTaken n (serve_frame serving n w frame).after
+  served_taken w frame t k e = t k (serve_closes serving n w frame n k e)
 
   all_taken : (w : World) (fs : List (List ℕ)) → IsTaken n w
-      → IsTaken n (fold_steps (is_closed n) (serve_frame is_serving_clients n) w fs).after
+      → IsTaken n (fold_steps (is_closed n) (serve_frame serving n) w fs).after
   all_taken w [] t = t
   all_taken w (f ∷ fs) t = by (is_closed n w)
-      (all_taken (serve_frame is_serving_clients n w f).after fs (served_taken w f t))
+      (all_taken (serve_frame serving n w f).after fs (served_taken w f t))
     where
-      by : (b : Bool) → IsTaken n (fold_steps (is_closed n) (serve_frame is_serving_clients n)
-          (serve_frame is_serving_clients n w f).after fs).after
+      by : (b : Bool) → IsTaken n (fold_steps (is_closed n) (serve_frame serving n)
+          (serve_frame serving n w f).after fs).after
           → IsTaken n (cond b (no_output w)
-          (prepend_outputs (serve_frame is_serving_clients n w f).outputs
-          (fold_steps (is_closed n) (serve_frame is_serving_clients n) (serve_frame is_serving_clients n w f).after
+          (prepend_outputs (serve_frame serving n w f).outputs
+          (fold_steps (is_closed n) (serve_frame serving n) (serve_frame serving n w f).after
           fs))).after
       by true others = t
       by false others = others
@@ -150,7 +151,7 @@ module _ (serving : Bool) (n : ℕ) where
   -- what further bytes of the client bring
   abbrev then_client : StepResult World → List ℕ → StepResult World
   then_client h more = and_then h
-      (λ w. take_client_bytes is_serving_clients n w (finmap.get w.clients.connections n) more)
+      (λ w. take_client_bytes serving n w (finmap.get w.clients.connections n) more)
 
   -- bytes are taken to hand again
   kept_again : (w : World) (rest : List ℕ) → finmap.get w.clients.connections n ≡ Some idle_connection
@@ -162,12 +163,12 @@ module _ (serving : Bool) (n : ℕ) where
 
   -- bytes that wait are taken up with those that come
   taken_up : (w : World) (rest more : List ℕ) → finmap.get w.clients.connections n ≡ Some idle_connection
-      → tell_or_serve is_serving_clients n w (rest ++ more) (word_at n w (rest ++ more))
+      → tell_or_serve serving n w (rest ++ more) (word_at n w (rest ++ more))
       ≡ then_client (no_output (with_waiting_bytes n w idle_connection rest)) more
   taken_up w rest more there =
-      sym (ap (λ (x : World). tell_or_serve is_serving_clients n x (rest ++ more) (word_at n w (rest ++ more)))
+      sym (ap (λ (x : World). tell_or_serve serving n x (rest ++ more) (word_at n w (rest ++ more)))
       (kept_again w rest there))
-      ∙ sym (ap (λ (o : Option OpenConnection). take_client_bytes is_serving_clients n
+      ∙ sym (ap (λ (o : Option OpenConnection). take_client_bytes serving n
       (with_waiting_bytes n w idle_connection rest) o more)
       (get-inserted w.clients.connections n (record { rest = rest })))
 
@@ -179,28 +180,28 @@ module _ (serving : Bool) (n : ℕ) where
   waited_on : (w : World) (k : OpenConnection) (unread : Unread) (more : List ℕ) → finmap.get w.clients.connections n
       ≡ Some k → k ≡ idle_connection → SaysNone w unread more →
       let left : Place (Unit {0}) = record { phase = tt; unread = unread } in
-      serve_all is_serving_clients n w (items_in frames_of_client (with_more_bytes left more))
+      serve_all serving n w (items_in frames_of_client (with_more_bytes left more))
       ≡ then_client (wait_or_close n w k unread) more
   waited_on w k (Ok rest) more there fresh says =
-      sym (ap (tell_or_serve is_serving_clients n w (rest ++ more)) (says rest refl (ap is_some there)))
+      sym (ap (tell_or_serve serving n w (rest ++ more)) (says rest refl (ap is_some there)))
       ∙ taken_up w rest more (there ∙ ap Some fresh)
       ∙ sym (ap (λ (c : OpenConnection). then_client (wait_or_close n w c (Ok rest)) more) fresh)
   waited_on w k (Err e) more there fresh says =
       ap (λ (o : Option OpenConnection). wait_if_open n w o (Err e)) there
       ∙ sym (ap (λ (o : Option OpenConnection). prepend_outputs (CloseClient n ∷ [])
-      (take_client_bytes is_serving_clients n (close_client n w).after o more)) (get-removed w.clients.connections n))
+      (take_client_bytes serving n (close_client n w).after o more)) (get-removed w.clients.connections n))
 
   served_on : (w : World) (o : Option OpenConnection) (left : Place (Unit {0})) (more : List ℕ)
       → finmap.get w.clients.connections n ≡ o → IsTaken n w → SaysNone w left.unread more
-      → serve_all is_serving_clients n w (items_in frames_of_client (with_more_bytes left more))
+      → serve_all serving n w (items_in frames_of_client (with_more_bytes left more))
       ≡ then_client (wait_if_open n w o left.unread) more
   served_on w None left more there t says =
       let j = items_in frames_of_client (with_more_bytes left more) in
       ap (λ (h : StepResult World). left_at h j.left.unread)
-      (passed_over (is_closed n) (serve_frame is_serving_clients n) w j.found
+      (passed_over (is_closed n) (serve_frame serving n) w j.found
       (ap (λ (x : Option OpenConnection). not (is_some x)) there))
       ∙ ap (λ (x : Option OpenConnection). wait_if_open n w x j.left.unread) there
-      ∙ sym (ap (λ (x : Option OpenConnection). take_client_bytes is_serving_clients n w x more) there)
+      ∙ sym (ap (λ (x : Option OpenConnection). take_client_bytes serving n w x more) there)
   served_on w (Some k) left more there t says = waited_on w k left.unread more there (t k there) says
 
   -- ---- frames, of which the first piece has all, or a front
@@ -211,79 +212,79 @@ module _ (serving : Bool) (n : ℕ) where
 
     -- where a frame was found, its client has a session then, or is closed
     abbrev AllSayNone : Items (Unit {0}) (List ℕ) → Type 0
-    AllSayNone found = SaysNone (fold_steps (is_closed n) (serve_frame is_serving_clients n) w found.found).after
+    AllSayNone found = SaysNone (fold_steps (is_closed n) (serve_frame serving n) w found.found).after
         found.left.unread b
 
     all_say_none : word_at n w (a ++ b) ≡ None → (r : Result (List ℕ × List ℕ) Fault)
         → (frame_format client_frame_limit).read a ≡ r → AllSayNone i
     all_say_none none (Ok f) read =
         let others = items_in frames_of_client (place_at tt f.1) in
-        let v = (fold_steps (is_closed n) (serve_frame is_serving_clients n) w (f.0 ∷ others.found)).after in
+        let v = (fold_steps (is_closed n) (serve_frame serving n) w (f.0 ∷ others.found)).after in
         subst AllSayNone (sym (items_whole frames_of_client frames_streamed tt a f.1 f.0 read))
         (λ rest is here. has_said (session_of_connection v.clients.sessions n) (word_of (take 4 (rest ++ b)))
-        (frames_one is_serving_clients n w f.0 others.found here))
+        (frames_one serving n w f.0 others.found here))
     all_say_none none (Err e) read =
         subst AllSayNone (sym (items_refused frames_of_client frames_streamed tt a e read))
         (λ rest is here. ap (λ (x : List ℕ). word_at n w (x ++ b)) (sym (still_waits e a rest is)) ∙ none)
 
     -- a word that isn't said in the first piece isn't said at all
     both_served : word_at n w (a ++ b) ≡ None
-        → serve_all is_serving_clients n w (items_in frames_of_client (place_at tt (a ++ b)))
-        ≡ then_client (serve_all is_serving_clients n w i) b
+        → serve_all serving n w (items_in frames_of_client (place_at tt (a ++ b)))
+        ≡ then_client (serve_all serving n w i) b
     both_served none =
         let j = items_in frames_of_client (with_more_bytes i.left b) in
-        let h = fold_steps (is_closed n) (serve_frame is_serving_clients n) w i.found in
-        let g = fold_steps (is_closed n) (serve_frame is_serving_clients n) h.after j.found in
+        let h = fold_steps (is_closed n) (serve_frame serving n) w i.found in
+        let g = fold_steps (is_closed n) (serve_frame serving n) h.after j.found in
         let waits = wait_at n i.left.unread h.after in
         let t : IsTaken n w = λ (c : OpenConnection) is. some_is c idle_connection (sym is ∙ there) in
-        ap (serve_all is_serving_clients n w) (comes_in_pieces frames_of_client frames_streamed (place_at tt a) b)
+        ap (serve_all serving n w) (comes_in_pieces frames_of_client frames_streamed (place_at tt a) b)
         ∙ ap (λ (x : StepResult World). left_at x j.left.unread)
-        (happening_on (is_closed n) (serve_frame is_serving_clients n) w i.found j.found)
+        (happening_on (is_closed n) (serve_frame serving n) w i.found j.found)
         ∙ sym (behind_behind h.outputs g.outputs (wait_at n j.left.unread g.after))
         ∙ ap (prepend_outputs h.outputs) (served_on h.after (finmap.get h.after.clients.connections n) i.left b refl
         (all_taken w i.found t) (all_say_none none ((frame_format client_frame_limit).read a) refl))
         ∙ behind_behind h.outputs waits.outputs
-        (take_client_bytes is_serving_clients n waits.after (finmap.get waits.after.clients.connections n) b)
+        (take_client_bytes serving n waits.after (finmap.get waits.after.clients.connections n) b)
 
     -- fewer bytes than a length has all wait
-    all_wait : length a < 4 → serve_all is_serving_clients n w i ≡ no_output (with_waiting_bytes n w idle_connection a)
+    all_wait : length a < 4 → serve_all serving n w i ≡ no_output (with_waiting_bytes n w idle_connection a)
     all_wait short =
-        ap (serve_all is_serving_clients n w) (items_short frames_of_client frames_streamed tt a (short_frame a short))
+        ap (serve_all serving n w) (items_short frames_of_client frames_streamed tt a (short_frame a short))
         ∙ ap (λ (o : Option OpenConnection). wait_if_open n w o (Ok a)) there
 
     -- a word is answered, and what comes then is passed over
-    told_then : (word : Word) → tell_word is_serving_clients n w word
-        ≡ then_client (tell_word is_serving_clients n w word) b
+    told_then : (word : Word) → tell_word serving n w word
+        ≡ then_client (tell_word serving n w word) b
     told_then word =
-        let h = tell_word is_serving_clients n w word in
+        let h = tell_word serving n w word in
         sym (ap (λ (o : Option OpenConnection). prepend_outputs h.outputs
-        (take_client_bytes is_serving_clients n h.after o b))
+        (take_client_bytes serving n h.after o b))
         (get-removed w.clients.connections n))
 
     said_or_served : (o : Option Word) → word_at n w a ≡ o
-        → tell_or_serve is_serving_clients n w (a ++ b) (word_at n w (a ++ b))
-        ≡ then_client (tell_or_serve is_serving_clients n w a o) b
+        → tell_or_serve serving n w (a ++ b) (word_at n w (a ++ b))
+        ≡ then_client (tell_or_serve serving n w a o) b
     said_or_served (Some word) says =
-        ap (tell_or_serve is_serving_clients n w (a ++ b))
+        ap (tell_or_serve serving n w (a ++ b))
         (still_says (session_of_connection w.clients.sessions n) word a b says)
         ∙ told_then word
     said_or_served None none = by (cases_lt (length a) 4)
       where
-        by : (length a < 4) ⊎ (4 ≤ length a) → tell_or_serve is_serving_clients n w (a ++ b) (word_at n w (a ++ b))
-            ≡ then_client (serve_all is_serving_clients n w i) b
+        by : (length a < 4) ⊎ (4 ≤ length a) → tell_or_serve serving n w (a ++ b) (word_at n w (a ++ b))
+            ≡ then_client (serve_all serving n w i) b
         by (inl short) = taken_up w a b there ∙ sym (ap (λ (h : StepResult World). then_client h b) (all_wait short))
         by (inr enough) =
             let none_yet = ap (word_without_session (session_of_connection w.clients.sessions n))
             (same_front a b enough) ∙ none in
-            ap (tell_or_serve is_serving_clients n w (a ++ b)) none_yet ∙ both_served none_yet
+            ap (tell_or_serve serving n w (a ++ b)) none_yet ∙ both_served none_yet
 
   client_cut : (w : World) (o : Option OpenConnection) (a b : List ℕ) → finmap.get w.clients.connections n ≡ o
-      → take_client_bytes is_serving_clients n w o (a ++ b)
-      ≡ then_client (take_client_bytes is_serving_clients n w o a) b
+      → take_client_bytes serving n w o (a ++ b)
+      ≡ then_client (take_client_bytes serving n w o a) b
   client_cut w None a b there = sym
-      (ap (λ (x : Option OpenConnection). take_client_bytes is_serving_clients n w x b) there)
+      (ap (λ (x : Option OpenConnection). take_client_bytes serving n w x b) there)
   client_cut w (Some k) a b there =
-      ap (λ (x : List ℕ). tell_or_serve is_serving_clients n v x (word_at n v x)) (sym (append_assoc k.rest a b))
+      ap (λ (x : List ℕ). tell_or_serve serving n v x (word_at n v x)) (sym (append_assoc k.rest a b))
       ∙ said_or_served v (k.rest ++ a) b (get-inserted w.clients.connections n idle_connection)
       (word_at n v (k.rest ++ a)) refl
     where

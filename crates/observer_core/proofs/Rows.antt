@@ -5,7 +5,7 @@ use Rattle.std.specs.Prelude.{ℤ, pos, negsuc, codes, is_some}
 use Rattle.std.specs.List.{AllByRecursion}
 use Rattle.std.specs.Cmp.{nat_cmp_total}
 use mathlib.Core.Bool.{true≢false}
-use Rattle.observer_core.proofs.Steps.{goes_on}
+use Rattle.client_service.proofs.Steps.{goes_on}
 use Rattle.std.specs.FinMap as finmap
 use Rattle.std.specs.FinSet as set
 use Rattle.std.specs.Cmp.Lexicographic.{slice_cmp, nat_list_cmp_total}
@@ -61,13 +61,13 @@ use Rattle.watch_manager.specs.Rows.{watches_on, WorkedRows as FiringRows}
 use Rattle.watch_manager.specs.Watches.{FireResult, fire}
 use Rattle.watch_manager.specs.Laws.{AllPass, OnlyWatchersAreTold, NoEventKeepsWatches}
 use Rattle.read_processor.specs.Watch.{watch_of}
-use Rattle.observer_core.specs.declared.config.Settings.{Settings}
+use Rattle.client_service.specs.declared.world.Settings.{Settings}
 use Rattle.client_frames.specs.declared.call.Call.{Call}
 use Rattle.client_frames.specs.declared.call.CallBody.TheVariants.{Read}
 use Rattle.read_processor.specs.declared.request.Request.TheVariants.{Exists, GetData}
 use Rattle.observer_core.specs.declared.event.Event.{Event}
 use Rattle.observer_core.specs.declared.event.Event.TheVariants.{ClientBytes}
-use Rattle.observer_core.specs.declared.event.Output.TheVariants.{ToClient, CloseLeader, CloseClient}
+use Rattle.client_service.specs.declared.output.Output.TheVariants.{ToClient, CloseLeader, CloseClient}
 use Rattle.read_processor.specs.declared.shown.Look.{Look}
 use Rattle.read_processor.specs.declared.request.Request.{Request}
 use Rattle.read_processor.specs.Events.{look_of_event}
@@ -75,19 +75,20 @@ use Rattle.read_processor.specs.Look.{look_at_state, without_body, look_at_node,
 use Rattle.read_processor.specs.Reply.{reply_frame}
 use Rattle.values.specs.Hex.{hex_bytes}
 use Rattle.observer_core.specs.Rows.{inform_of_create, inform_of_set_data, get_data_frame_start, get_data_frame_end, reply_of_create, reply_of_set_data, exists_watch_frame, reply_of_missing, event_of_create, create_inform_event, set_data_inform_event, get_data_event, exists_watch_event}
-use Rattle.observer_core.specs.Machine.{OpenConnection, OpenConnections, Clients, World, Leader, Machine}
+use Rattle.client_service.specs.World.{OpenConnection, OpenConnections, Clients, World}
+use Rattle.observer_core.specs.Machine.{Leader, Machine}
 use Rattle.client_frames.specs.Call.{call_in, call_after_header, call_body, read_as, value_if_read}
-use Rattle.observer_core.specs.Steps.{StepResult, prepend_outputs, no_output, fold_steps}
-use Rattle.observer_core.specs.Clients.{without_client, close_clients, sent_to, notices_of}
+use Rattle.client_service.specs.Steps.{StepResult, prepend_outputs, no_output, fold_steps}
+use Rattle.client_service.specs.Clients.{without_client, close_clients, sent_to, notices_of}
 use Rattle.replica.specs.Replica.{Replica}
 use Rattle.replica.specs.Taking.{nothing_loaded, no_effect as unled, with_learner, carry_out_all, without_leader}
 use Rattle.learner_sync.specs.Learn.{LearnerStep, apply_txn}
 use Rattle.learner_sync.specs.declared.phase.Phase.TheVariants.{Serving}
 use Rattle.observer_core.specs.Leader.{WorldAndLoading, step_with_loading, send_effect, item_step, delivery_of, deliver_item, is_refused, part_reader, leader_at, with_leader_or_fault, place_after, with_leader, take_leader_bytes}
 use Rattle.four_letter.specs.Words.{word_of}
-use Rattle.observer_core.specs.Serve.{send_or_close, send_reply, with_watch_if, with_watching, serve_as, serve_by, serve_frame, word_without_session, is_closed, with_waiting_bytes, wait_if_open, frames_of_client, serve_all, tell_or_serve, take_client_bytes}
+use Rattle.client_service.specs.Serve.{send_or_close, send_reply, with_watch_if, with_watching, serve_as, serve_by, serve_frame, word_without_session, is_closed, with_waiting_bytes, wait_if_open, frames_of_client, serve_all, tell_or_serve, take_client_bytes}
 use Rattle.observer_core.specs.Play.{play_event, play, first_client, new_machine, primed_machine}
-use Rattle.observer_core.proofs.NatMaps.{get-inserted, get-removed, insert-insert, entries-empty}
+use Rattle.client_service.proofs.NatMaps.{get-inserted, get-removed, insert-insert, entries-empty}
 
 -- ---- texts
 

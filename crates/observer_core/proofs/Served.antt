@@ -27,11 +27,12 @@ use Rattle.watch_manager.specs.Pairs.{same_connection}
 use Rattle.four_letter.specs.declared.word.Word.{Word}
 use Rattle.observer_core.specs.declared.event.Event.{Event}
 use Rattle.observer_core.specs.declared.event.Event.TheVariants as event
-use Rattle.observer_core.specs.Machine.{OpenConnection, Clients, World, Leader, Machine}
-use Rattle.observer_core.specs.Steps.{fold_steps}
-use Rattle.observer_core.specs.Clients.{is_open, without_client, without_clients}
+use Rattle.client_service.specs.World.{OpenConnection, Clients, World}
+use Rattle.observer_core.specs.Machine.{Leader, Machine}
+use Rattle.client_service.specs.Steps.{fold_steps}
+use Rattle.client_service.specs.Clients.{is_open, without_client, without_clients}
 use Rattle.observer_core.specs.Leader.{WorldAndLoading, step_with_loading, send_effect, item_step, Delivery, delivery_of, deliver_item, is_refused, deliver_all, place_after, part_reader, leader_at, meet_leader, disconnect_all, with_leader_or_fault, take_leader_bytes, on_stream_end, end_leader}
-use Rattle.observer_core.specs.Serve.{with_sessions, close_client_if_some, handle_connect, serve_by, serve_frame, word_at, is_closed, with_waiting_bytes, wait_if_open, frames_of_client, tell_or_serve, take_client_bytes, open_client, end_client, expire_session}
+use Rattle.client_service.specs.Serve.{with_sessions, close_client_if_some, handle_connect, serve_by, serve_frame, word_at, is_closed, with_waiting_bytes, wait_if_open, frames_of_client, tell_or_serve, take_client_bytes, open_client, end_client, expire_session}
 use Rattle.observer_core.specs.Play.{is_serving_clients, play_event}
 use Rattle.observer_core.specs.Agreement.{ClientsAgree, ConnectionsAgree, SessionsAreServed}
 use Rattle.observer_core.proofs.Keeping.{happening_keeps}

@@ -26,11 +26,11 @@ use Rattle.client_frames.specs.declared.call.Call.{Call}
 use Rattle.client_frames.specs.declared.call.CallBody.{CallBody}
 use Rattle.client_frames.specs.declared.call.CallBody.TheVariants as bodies
 use Rattle.client_frames.specs.Connect.{answer_to_connect}
-use Rattle.observer_core.specs.Machine.{OpenConnection, Clients, World}
-use Rattle.observer_core.specs.Steps.{StepResult, and_then}
-use Rattle.observer_core.specs.Clients.{is_open, without_client}
-use Rattle.observer_core.specs.Serve.{send_or_close, send_last, with_watching, with_watch_if, with_each_watch, answer_set_watches, with_sessions, send_auth_result, end_session, close_client_if_some, send_connect_response, finish_connect, handle_call, serve_as, wait_if_open}
-use Rattle.observer_core.proofs.NatMaps.{get-inserted, get-removed}
+use Rattle.client_service.specs.World.{OpenConnection, Clients, World}
+use Rattle.client_service.specs.Steps.{StepResult, and_then}
+use Rattle.client_service.specs.Clients.{is_open, without_client}
+use Rattle.client_service.specs.Serve.{send_or_close, send_last, with_watching, with_watch_if, with_each_watch, answer_set_watches, with_sessions, send_auth_result, end_session, close_client_if_some, send_connect_response, finish_connect, handle_call, serve_as, wait_if_open}
+use Rattle.client_service.proofs.NatMaps.{get-inserted, get-removed}
 
 pub none_or_some : {A : Type 0} (a : A) → None ≢ Some a
 none_or_some a e = true≢false (sym (ap is_some e))

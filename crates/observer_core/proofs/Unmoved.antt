@@ -22,10 +22,10 @@ use Rattle.read_processor.specs.Renewal.{renew_watches}
 use Rattle.read_processor.specs.Reply.{reply_frame}
 use Rattle.four_letter.specs.Texts.{reply_text}
 use Rattle.four_letter.specs.declared.word.Word.{Word}
-use Rattle.observer_core.specs.Machine.{OpenConnection, World}
-use Rattle.observer_core.specs.Steps.{StepResult, fold_steps}
-use Rattle.observer_core.specs.Clients.{idle_connection, is_open, with_connection, without_client}
-use Rattle.observer_core.specs.Serve.{close_client, send_or_close, send_last, send_reply_last, with_watching, with_watch_if, with_each_watch, answer_set_watches, with_sessions, send_auth_result, with_session_expired, end_session, close_client_if_some, send_connect_response, finish_connect, may_connect, handle_connect, handle_call, serve_as, serve_by, serve_frame, figures_of, word_at, is_closed, with_waiting_bytes, wait_if_open, frames_of_client, tell_or_serve, take_client_bytes, open_client, end_client, expire_session}
+use Rattle.client_service.specs.World.{OpenConnection, World}
+use Rattle.client_service.specs.Steps.{StepResult, fold_steps}
+use Rattle.client_service.specs.Clients.{idle_connection, is_open, with_connection, without_client}
+use Rattle.client_service.specs.Serve.{close_client, send_or_close, send_last, send_reply_last, with_watching, with_watch_if, with_each_watch, answer_set_watches, with_sessions, send_auth_result, with_session_expired, end_session, close_client_if_some, send_connect_response, finish_connect, may_connect, handle_connect, handle_call, serve_as, serve_by, serve_frame, figures_of, word_at, is_closed, with_waiting_bytes, wait_if_open, frames_of_client, tell_or_serve, take_client_bytes, open_client, end_client, expire_session}
 use Rattle.observer_core.proofs.Keeping.{happening_keeps}
 
 abbrev SameReplica : World → World → Type 0

@@ -18,7 +18,7 @@ use Rattle.four_letter.specs.declared.figures.Figures.{Figures}
 use Rattle.four_letter.specs.declared.figures.WatchRow.{WatchRow}
 use Rattle.four_letter.specs.declared.word.Word.{Word}
 use Rattle.four_letter.specs.declared.word.Word.TheVariants.{Ruok, Isro, Srvr, Mntr, Wchs, Wchp}
-use Rattle.observer_core.specs.Serve.{word_without_session, client_frame_limit}
+use Rattle.client_service.specs.Serve.{word_without_session, client_frame_limit}
 
 -- ---- words and bytes
 

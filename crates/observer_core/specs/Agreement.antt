@@ -5,10 +5,11 @@ use Rattle.settings.specs.Settings.{is_server_id}
 use Rattle.sessions.specs.Sessions.{session_of_connection}
 use Rattle.sessions.specs.Agreement.{SessionsAgree}
 use Rattle.watch_manager.specs.Laws.{WatchersPass}
-use Rattle.observer_core.specs.declared.config.Settings.{Settings}
+use Rattle.client_service.specs.declared.world.Settings.{Settings}
 use Rattle.observer_core.specs.declared.event.Event.{Event}
-use Rattle.observer_core.specs.Machine.{Clients, World, Machine}
-use Rattle.observer_core.specs.Clients.{is_open}
+use Rattle.client_service.specs.World.{Clients, World}
+use Rattle.observer_core.specs.Machine.{Machine}
+use Rattle.client_service.specs.Clients.{is_open}
 use Rattle.observer_core.specs.Play.{is_serving_clients, play, new_machine, primed_machine}
 
 -- Sessions and watches name open connections.

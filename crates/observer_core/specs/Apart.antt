@@ -4,12 +4,13 @@ use Rattle.std.specs.List.{AllByRecursion}
 use Rattle.std.specs.FinMap as finmap
 use Rattle.std.specs.FinSet as set
 use Rattle.observer_core.specs.declared.event.Event.TheVariants.{ClientUp, ClientBytes, ClientEnd}
-use Rattle.observer_core.specs.declared.event.Output.{Output}
-use Rattle.observer_core.specs.declared.event.Output.TheVariants.{ToLeader, ToClient, CloseLeader, CloseClient}
-use Rattle.observer_core.specs.Machine.{Clients, World, Machine}
+use Rattle.client_service.specs.declared.output.Output.{Output}
+use Rattle.client_service.specs.declared.output.Output.TheVariants.{ToLeader, ToClient, CloseLeader, CloseClient}
+use Rattle.client_service.specs.World.{Clients, World}
+use Rattle.observer_core.specs.Machine.{Machine}
 use Rattle.sessions.specs.Sessions.{session_of_connection}
-use Rattle.observer_core.specs.Steps.{StepResult}
-use Rattle.observer_core.specs.Clients.{is_open}
+use Rattle.client_service.specs.Steps.{StepResult}
+use Rattle.client_service.specs.Clients.{is_open}
 use Rattle.observer_core.specs.Agreement.{ClientsAgree}
 use Rattle.observer_core.specs.Play.{play_event}
 

@@ -15,11 +15,12 @@ use Rattle.quorum_packet.specs.Packet.{packet_format}
 use Rattle.quorum_packet.specs.WholeItems.{WholeItem, whole_items}
 use Rattle.replica.specs.Taking.{ItemEffect, nothing_loaded, take_item, take_whole, follow_leader, without_leader}
 use Rattle.watch_manager.specs.Watches.{fire}
-use Rattle.observer_core.specs.declared.event.Output.{Output}
-use Rattle.observer_core.specs.declared.event.Output.TheVariants.{ToLeader, CloseLeader}
-use Rattle.observer_core.specs.Machine.{World, Leader, MachineBy}
-use Rattle.observer_core.specs.Steps.{StepResult, prepend_outputs, no_output, and_then, fold_steps}
-use Rattle.observer_core.specs.Clients.{notices_of, close_all_clients}
+use Rattle.client_service.specs.declared.output.Output.{Output}
+use Rattle.client_service.specs.declared.output.Output.TheVariants.{ToLeader, CloseLeader}
+use Rattle.client_service.specs.World.{World}
+use Rattle.observer_core.specs.Machine.{Leader, MachineBy}
+use Rattle.client_service.specs.Steps.{StepResult, prepend_outputs, no_output, and_then, fold_steps}
+use Rattle.client_service.specs.Clients.{notices_of, close_all_clients}
 
 -- ---- one packet, part or image
 

@@ -1,8 +1,5 @@
 pub mod Machine
-pub mod Steps
-pub mod Clients
 pub mod Leader
-pub mod Serve
 pub mod Play
 pub mod Plays
 pub mod Inner

@@ -3,18 +3,17 @@ use Rattle.std.specs.Prelude.{pos, List, Option, Some, None, Bool, false}
 use Rattle.std.specs.FinMap as finmap
 use Rattle.replica.specs.Replica.{Replica, new_replica, primed_replica}
 use Rattle.replica.specs.Taking.{is_serving, checkpoint_replica}
-use Rattle.sessions.specs.State.{session_settings_of}
-use Rattle.sessions.specs.Sessions.{no_sessions, connect_session}
+use Rattle.sessions.specs.Sessions.{connect_session}
 use Rattle.sessions.specs.declared.request.SessionRequest.{SessionRequest}
-use Rattle.watch_manager.specs.Watching.{no_watch}
-use Rattle.observer_core.specs.declared.config.Settings.{Settings}
+use Rattle.client_service.specs.declared.world.Settings.{Settings}
 use Rattle.observer_core.specs.declared.event.Event.{Event}
 use Rattle.observer_core.specs.declared.event.Event.TheVariants.{LeaderUp, LeaderBytes, LeaderEnd, ClientUp, ClientBytes, ClientEnd, Expire, Checkpoint}
-use Rattle.observer_core.specs.Machine.{Clients, World, MachineBy, Machine}
-use Rattle.observer_core.specs.Steps.{StepResult, no_output, fold_steps}
-use Rattle.observer_core.specs.Clients.{idle_connection, with_connection}
+use Rattle.client_service.specs.World.{Clients, World}
+use Rattle.observer_core.specs.Machine.{MachineBy, Machine}
+use Rattle.client_service.specs.Steps.{StepResult, no_output, fold_steps}
+use Rattle.client_service.specs.Clients.{idle_connection, with_connection, no_clients}
 use Rattle.observer_core.specs.Leader.{StreamReader, part_reader, with_leader, meet_leader, take_leader_bytes, end_leader}
-use Rattle.observer_core.specs.Serve.{take_client_bytes, open_client, end_client, expire_session}
+use Rattle.client_service.specs.Serve.{take_client_bytes, open_client, end_client, expire_session}
 
 -- clients are served once the leader has brought the replica up to date
 abbrev pub is_serving_clients : World → Bool
@@ -55,14 +54,6 @@ play m events = play_by part_reader m events
 abbrev pub initial_machine : {L : Type 0} → Settings → Replica → Option L → Clients → MachineBy L
 initial_machine settings replica leader clients =
     record { leader = leader; world = record { settings = settings; replica = replica; clients = clients } }
-
--- nobody, and no session yet
-abbrev pub no_clients : Settings → Clients
-no_clients settings = record {
-  connections = finmap.empty;
-  sessions = no_sessions (session_settings_of settings.server_id settings.timeouts settings.secret);
-  watches = no_watch;
-}
 
 -- the configured epochs, without a leader and without a client
 abbrev pub new_by : {L : Type 0} → StreamReader L → Settings → MachineBy L

@@ -6,18 +6,10 @@ ghost use Rattle.settings.specs.Settings.{epoch_pair, timeout_pair};
 ghost use Rattle.settings.specs.Settings.{is_server_id, are_epochs, are_timeouts, is_secret};
 
 use batcher::Limits;
+use client_service::Settings;
 use settings::{Epochs, Secret, ServerId, TimeoutBounds};
 use thiserror::Error;
 use values::Blob;
-
-/// The settings of an observer: all of its set-up that shows in what it answers.
-#[derive(Debug, Drop)]
-pub struct Settings {
-    pub server_id: ServerId,
-    pub epochs: Epochs,
-    pub timeouts: TimeoutBounds,
-    pub secret: Secret,
-}
 
 /// The settings of an observer, and how much it does at once.
 #[derive(Drop)]

@@ -1,30 +1,28 @@
 //! The engine: a machine that is closed by want of memory.
 
 ghost use Rattle.std.specs.Prelude.{◌≡◌, Some, IfOk};
-ghost use Rattle.observer_core.specs.Play.{initial_machine, no_clients, first_client, new_machine, primed_machine};
+ghost use Rattle.observer_core.specs.Play.{initial_machine, first_client, new_machine, primed_machine};
 ghost use Rattle.observer_core.specs.Machine.{Machine as TheMachine};
 ghost use Rattle.observer_core.specs.Plays.{PlaysEvents};
 
-use crate::clients::Clients;
-use crate::config::{Config, Settings};
-use crate::connections::Connections;
-use crate::event::{Event, Output};
-use crate::machine::{Leader, Machine, World};
+use crate::config::Config;
+use crate::event::Event;
+use crate::machine::{Leader, Machine};
 use crate::run::run;
 use apply_workers::Gate;
 use batcher::Limits;
+use client_service::{Clients, Output, Settings, World};
 use data_tree::Tree;
 use learner_sync::Learner;
 use quorum_packet::PacketFeed;
 use replica::Replica;
-use sessions::{SessionRequest, Sessions};
+use sessions::SessionRequest;
 use snapshot_codec::Loader;
 use std::alloc::Global;
 use std::marker::Model;
 use std::thread::Threads;
 use thiserror::Error;
 use values::NoMemory;
-use watch_manager::Watches;
 
 // The connection that is open from the start where a leader is followed from the start.
 const FIRST: u64 = 1;
@@ -61,23 +59,11 @@ impl Model for Engine {
     ghost view = { λ e. if e.closed then None else Some e.machine };
 }
 
-// Nobody, and no session yet.
-fn no_clients(alloc: Global, settings: &Settings) -> Result<Clients, NoMemory>
-    ensures { IfOk result (λ clients. clients ≡ no_clients settings.now) }
-{
-    let secret = settings.secret.clone()?;
-    Ok(Clients {
-        connections: Connections::new(alloc),
-        sessions: Sessions::new(alloc, settings.server_id, settings.timeouts, secret),
-        watches: Watches::new(alloc),
-    })
-}
-
 // One connection that is open, and has the first session.
 fn first_client(alloc: Global, settings: &Settings) -> Result<Clients, NoMemory>
     ensures { IfOk result (λ clients. clients ≡ first_client settings.now) }
 {
-    let mut clients = no_clients(alloc, settings)?;
+    let mut clients = Clients::new(alloc, settings)?;
     let request = SessionRequest {
         time_out: 0,
         session_id: 0,
@@ -96,7 +82,7 @@ impl Engine {
     {
         let Config { settings, limits } = config;
         let replica = Replica::new(alloc, settings.epochs)?;
-        let clients = no_clients(alloc, &settings)?;
+        let clients = Clients::new(alloc, &settings)?;
         Ok(Engine::started(limits, settings, replica, None, clients))
     }
 

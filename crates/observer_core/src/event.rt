@@ -1,6 +1,6 @@
-//! What comes to an observer, and what goes out.
+//! What comes to an observer.
 
-use values::{Blob, Bytes, Fault};
+use values::Bytes;
 
 /// What comes. A connection is named by its number.
 #[derive(Drop)]
@@ -17,15 +17,4 @@ pub enum Event<'a> {
     Expire(i64),
     /// While clients are served, the tree becomes the base, and the log is emptied.
     Checkpoint,
-}
-
-/// What goes.
-#[derive(Debug, Drop, PartialEq, Eq)]
-pub enum Output {
-    /// One packet.
-    ToLeader(Blob),
-    /// One frame, or a word's answer.
-    ToClient(u64, Blob),
-    CloseLeader(Fault),
-    CloseClient(u64),
 }

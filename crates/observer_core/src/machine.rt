@@ -1,32 +1,9 @@
 //! The machine of the definitions, as it is held.
 
-use crate::clients::Clients;
-use crate::config::Settings;
+use client_service::World;
 use quorum_packet::PacketFeed;
-use replica::Replica;
 use snapshot_codec::Loader;
 use std::marker::Model;
-
-/// All but the leader's bytes.
-#[derive(Drop)]
-pub struct World {
-    pub settings: Settings,
-    /// What a read shows, and how far the leader was followed.
-    pub replica: Replica,
-    pub clients: Clients,
-}
-
-impl Model for World {
-    ghost use Rattle.observer_core.specs.contracts.config.Settings as of_settings;
-    ghost use Rattle.replica.specs.contracts.replica.Replica as of_replica;
-    ghost use Rattle.observer_core.specs.Machine.{World as TheWorld, world_code};
-
-    ghost Value = { TheWorld };
-
-    ghost coded = { world_code of_settings.the_row.coded of_replica.the_row.coded };
-
-    ghost view = { λ w. record { settings = w.settings; replica = w.replica; clients = w.clients } };
-}
 
 /// A leader's stream.
 #[derive(Drop)]
@@ -58,7 +35,7 @@ pub struct Machine {
 
 impl Model for Machine {
     ghost use Rattle.observer_core.specs.contracts.machine.Leader as of_leader;
-    ghost use Rattle.observer_core.specs.contracts.machine.World as of_world;
+    ghost use Rattle.client_service.specs.contracts.world.World as of_world;
     ghost use Rattle.observer_core.specs.Machine.{Machine as TheMachine, machine_code};
 
     ghost Value = { TheMachine };

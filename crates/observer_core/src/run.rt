@@ -1,13 +1,12 @@
 //! The machine at work.
 
 ghost use Rattle.observer_core.specs.Play.{play_event, play};
-ghost use Rattle.observer_core.specs.Inner.{MeetsStep};
+ghost use Rattle.client_service.specs.Results.{MeetsStep};
 
-use crate::client::{end_client, open_client, take_client_bytes};
-use crate::event::{Event, Output};
+use crate::event::Event;
 use crate::leader::{end_leader, meet_leader, take_leader_bytes};
 use crate::machine::Machine;
-use crate::session::expire_session;
+use client_service::{Output, end_client, expire_session, open_client, take_client_bytes};
 use std::alloc::Global;
 use values::NoMemory;
 

@@ -25,7 +25,7 @@ use Rattle.quorum_packet.specs.declared.kind.PacketKind.TheVariants as kinds
 use Rattle.quorum_packet.specs.declared.packet.QuorumPacket.{QuorumPacket}
 use Rattle.quorum_packet.specs.declared.phase.Phase.{Phase}
 use Rattle.quorum_packet.specs.declared.phase.Phase.TheVariants.{Packets, Image}
-use Rattle.quorum_packet.specs.GroupedItems.{GroupedItems, empty_loading, grouped_items, rest_of_image, SameUnread, SameRest, AreWholeItems, PacketsAreGrouped, PiecesAreGrouped}
+use Rattle.quorum_packet.specs.GroupedItems.{GroupedItems, empty_loading, grouped_items, image_from, IsRestOfImage, SameUnread, SameRest, AreWholeItems, PacketsAreGrouped, PiecesAreGrouped}
 use Rattle.quorum_packet.specs.Items.{FoundValue, OfPacket, OfImage, packet_back, value_back, found_format, phase_after_kind, phase_after_value, stream_of_leader, shown_items, items_shown_at}
 use Rattle.quorum_packet.specs.Kinds.{kind_of}
 use Rattle.quorum_packet.specs.Packet.{packet_format}
@@ -53,25 +53,21 @@ parts_streamed = sound_streamed part_stream parts_sound
 abbrev image_of : Result (LoadedParts × List ℕ) Fault → Result (State × List ℕ) Fault
 image_of r = r >>= λ x. Ok (x.0.state, x.1)
 
--- these bytes are left of an image, and those are all that came of it
-abbrev LeftOf : PartPhase → LoadedParts → List ℕ → List ℕ → Type 0
-LeftOf phase made left all = (more : List ℕ) → rest_of_image phase made (left ++ more) ≡ image_read (all ++ more)
-
-left_at_start : (u : List ℕ) → LeftOf SessionCount made.no_loaded_parts u u
+rest_at_start : (u : List ℕ) → IsRestOfImage SessionCount made.no_loaded_parts u u
 unfolding image_read
-left_at_start u more = refl
+rest_at_start u more = refl
 
 -- without more
-left_now : (phase : PartPhase) (made : LoadedParts) (u v : List ℕ) → LeftOf phase made u v
-    → rest_of_image phase made u ≡ image_read v
-left_now phase made u v agrees =
-    ap (rest_of_image phase made) (sym (append-nil u)) ∙ agrees [] ∙ ap image_read (append-nil v)
+rest_now : (phase : PartPhase) (made : LoadedParts) (u v : List ℕ) → IsRestOfImage phase made u v
+    → image_from phase made u ≡ image_read v
+rest_now phase made u v left =
+    ap (image_from phase made) (sym (append-nil u)) ∙ left [] ∙ ap image_read (append-nil v)
 
 -- to both comes the same
-left_with : (phase : PartPhase) (made : LoadedParts) (u v bytes : List ℕ) → LeftOf phase made u v
-    → LeftOf phase made (u ++ bytes) (v ++ bytes)
-left_with phase made u v bytes agrees more =
-    ap (rest_of_image phase made) (append_assoc u bytes more) ∙ agrees (bytes ++ more)
+rest_with : (phase : PartPhase) (made : LoadedParts) (u v bytes : List ℕ) → IsRestOfImage phase made u v
+    → IsRestOfImage phase made (u ++ bytes) (v ++ bytes)
+rest_with phase made u v bytes left more =
+    ap (image_from phase made) (append_assoc u bytes more) ∙ left (bytes ++ more)
     ∙ ap image_read (sym (append_assoc v bytes more))
 
 -- ---- one item before others
@@ -125,7 +121,7 @@ stopped_packet : (e : Fault) (u : List ℕ)
 stopped_packet Short u = record { found = refl; rest = (refl, (refl, refl)) }
 stopped_packet e u = record { found = refl; rest = (refl, refl) }
 
-stopped_image : (e : Fault) (phase : PartPhase) (l : Loading) (u v : List ℕ) → LeftOf phase l.made u v
+stopped_image : (e : Fault) (phase : PartPhase) (l : Loading) (u v : List ℕ) → IsRestOfImage phase l.made u v
     → AreWholeItems l (shown_items (no_items
     (place_after_fault (values (found_format (Image phase))) (Image phase) u e)))
     (no_items (place_after_fault (values (whole_format true)) true v e))
@@ -156,7 +152,7 @@ SameInImage u phase l v = AreWholeItems l (items_shown_at (place_at (Image phase
     (items_in whole_items (place_at true v))
 
 abbrev InImage : List ℕ → Type 0
-InImage u = (phase : PartPhase) (l : Loading) (v : List ℕ) → LeftOf phase l.made u v → SameInImage u phase l v
+InImage u = (phase : PartPhase) (l : Loading) (v : List ℕ) → IsRestOfImage phase l.made u v → SameInImage u phase l v
 
 abbrev Both : List ℕ → Type 0
 Both u = AtPacket u × InImage u
@@ -167,7 +163,7 @@ Both u = AtPacket u × InImage u
 after_kind : (kind : Option PacketKind) (rest : List ℕ) → Both rest
     → AreWholeItems empty_loading (items_shown_at (place_at (phase_after_kind kind) rest))
     (items_in whole_items (place_at (is_owed (phase_after_kind kind)) rest))
-after_kind (Some kinds.Snap) rest both = both.1 SessionCount empty_loading rest (left_at_start rest)
+after_kind (Some kinds.Snap) rest both = both.1 SessionCount empty_loading rest (rest_at_start rest)
 after_kind kind rest both = both.0
 
 at_packet : (u : List ℕ) → ((b : List ℕ) → length b < length u → Both b) → AtPacket u
@@ -200,7 +196,7 @@ at_packet u shorter = by (packet_format.read u) refl
 
 -- one value of an image was read
 module _ (u rest : List ℕ) (x : Value) (phase : PartPhase) (made : LoadedParts) (v : List ℕ)
-    (read : (part_format phase).read u ≡ Ok (x, rest)) (left : LeftOf phase made u v) where
+    (read : (part_format phase).read u ≡ Ok (x, rest)) (left : IsRestOfImage phase made u v) where
   parts_there : items_shown_at (place_at (Image phase) u)
       ≡ shown_items (with_first (OfImage x) (items_in stream_of_leader (place_at (phase_after_value phase x) rest)))
   parts_there =
@@ -209,9 +205,9 @@ module _ (u rest : List ℕ) (x : Value) (phase : PartPhase) (made : LoadedParts
       (read_case (part_format phase) (λ v. OfImage v) value_back u rest x read))
 
   -- the image goes on after it
-  left_after : (next : LoadedParts) → with_value made x ≡ Ok next → is_end x ≡ false
-      → LeftOf (part_after phase x) next rest v
-  left_after next p l more =
+  rest_after : (next : LoadedParts) → with_value made x ≡ Ok next → is_end x ≡ false
+      → IsRestOfImage (part_after phase x) next rest v
+  rest_after next p l more =
       let goes_on : load_from image_load phase made (u ++ more)
       ≡ load_from image_load (part_after phase x) next (rest ++ more) =
       load_read_on image_load parts_streamed phase made u rest more x read ∙ rw (p, l) refl in
@@ -224,7 +220,7 @@ module _ (u rest : List ℕ) (x : Value) (phase : PartPhase) (made : LoadedParts
   whole_there next p l =
       let loads : load_from image_load phase made u ≡ Ok (next, rest) =
       load_read image_load parts_streamed phase made u rest x read ∙ rw (p, l) refl in
-      let reads : image_read v ≡ Ok (next.state, rest) = sym (left_now phase made u v left) ∙ ap image_of loads in
+      let reads : image_read v ≡ Ok (next.state, rest) = sym (rest_now phase made u v left) ∙ ap image_of loads in
       items_whole whole_items whole_streamed true v rest (OneImage next.state)
       (read_case image_format (λ s. OneImage s) one_image_back v rest next.state reads)
 
@@ -234,11 +230,11 @@ module _ (u rest : List ℕ) (x : Value) (phase : PartPhase) (made : LoadedParts
   whole_refused e p =
       let loads : load_from image_load phase made u ≡ Err e =
       load_read image_load parts_streamed phase made u rest x read ∙ rw p refl in
-      let refuses : image_read v ≡ Err e = sym (left_now phase made u v left) ∙ ap image_of loads in
+      let refuses : image_read v ≡ Err e = sym (rest_now phase made u v left) ∙ ap image_of loads in
       items_refused whole_items whole_streamed true v e
       (refused_case image_format (λ s. OneImage s) one_image_back v e refuses)
 
-module _ (u rest : List ℕ) (phase : PartPhase) (l : Loading) (v : List ℕ) (left : LeftOf phase l.made u v)
+module _ (u rest : List ℕ) (phase : PartPhase) (l : Loading) (v : List ℕ) (left : IsRestOfImage phase l.made u v)
     (both : Both rest) where
   -- a count or a path: it isn't shown, and makes nothing
   hidden : (x : Value) → (part_format phase).read u ≡ Ok (x, rest) → with_value l.made x ≡ Ok l.made
@@ -248,7 +244,7 @@ module _ (u rest : List ℕ) (phase : PartPhase) (l : Loading) (v : List ℕ) (l
       → SameInImage u phase l v
   hidden x read p inner unseen =
       same_by l _ _ _ _ (parts_there u rest x phase l.made v read left ∙ unseen) refl
-      (both.1 (part_after phase x) l v (left_after u rest x phase l.made v read left l.made p inner))
+      (both.1 (part_after phase x) l v (rest_after u rest x phase l.made v read left l.made p inner))
 
   -- a part that isn't the last
   module _ (p : ImagePart) (read : (part_format phase).read u ≡ Ok (Part p, rest))
@@ -261,7 +257,7 @@ module _ (u rest : List ℕ) (phase : PartPhase) (l : Loading) (v : List ℕ) (l
     part_by (Ok next) makes =
         inner_first l p next others (items_in whole_items (place_at true v)) makes inner
         (both.1 (part_after phase (Part p)) (loading_of next) v
-        (left_after u rest (Part p) phase l.made v read left next makes inner))
+        (rest_after u rest (Part p) phase l.made v read left next makes inner))
     part_by (Err e) refuses =
         same_by l _ _ _ _ refl (whole_refused u rest (Part p) phase l.made v read left e refuses)
         (refused_first l p e others v refuses
@@ -300,7 +296,7 @@ in_image u shorter phase l v left = by ((part_format phase).read u) refl
         one_value u x.1 phase l v left (shorter x.1 (shorter_rest part_stream parts_streamed phase u x.1 x.0 h)) x.0 h
     by (Err e) h =
         let refuses : image_read v ≡ Err e =
-        sym (left_now phase l.made u v left)
+        sym (rest_now phase l.made u v left)
         ∙ ap image_of (load_refused image_load parts_streamed phase l.made u e h) in
         same_by l _ _ _ _
         (ap (λ (i : Items Phase FoundValue). shown_items i)
@@ -334,7 +330,7 @@ with_more l Packets (Ok u) (Ok v) more s =
     (subst (λ (b : List ℕ). AreWholeItems empty_loading (items_shown_at (place_at Packets (u ++ more)))
     (items_in whole_items (place_at false (b ++ more)))) s.1 (both (u ++ more)).0)
 with_more l (Image phase) (Ok u) (Ok v) more s =
-    (both (u ++ more)).1 phase l (v ++ more) (left_with phase l.made u v more s)
+    (both (u ++ more)).1 phase l (v ++ more) (rest_with phase l.made u v more s)
 with_more l phase (Err d) (Err e) more s = record { found = refl; rest = (refl, s) }
 with_more l phase (Ok u) (Err e) more s = absurd s
 with_more l phase (Err d) (Ok v) more s = absurd s

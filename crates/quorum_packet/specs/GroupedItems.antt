@@ -45,18 +45,21 @@ grouped_items l (item.Part p ∷ others) = grouped_part (with_loaded l p) (λ ne
 -- ---- a place of the stream, as it is read in parts and by whole images
 
 -- the state that the rest of an image makes of what was made so far, and the bytes after the image
-abbrev pub rest_of_image : PartPhase → LoadedParts → List ℕ → Result (State × List ℕ) Fault
-rest_of_image phase made bytes = load_from image_load phase made bytes >>= λ x. Ok (x.0.state, x.1)
+abbrev pub image_from : PartPhase → LoadedParts → List ℕ → Result (State × List ℕ) Fault
+image_from phase made bytes = load_from image_load phase made bytes >>= λ x. Ok (x.0.state, x.1)
+
+-- some bytes are the rest of an image, and others all that came of it: whatever follows, both make the same state
+abbrev pub IsRestOfImage : PartPhase → LoadedParts → List ℕ → List ℕ → Type 0
+IsRestOfImage phase made rest all = (more : List ℕ) → image_from phase made (rest ++ more) ≡ image_read (all ++ more)
 
 -- Where a packet is next, nothing is loaded, and both have the same bytes left. Within an image the one side has left
--- what isn't loaded yet, and the other all that came of the image: whatever follows, both make the same state.
+-- what isn't loaded yet, and the other all of the image that came.
 abbrev pub SameBytes : Loading → Phase → List ℕ → List ℕ → Type 0
-SameBytes l Packets bytes all = (l ≡ empty_loading) × (bytes ≡ all)
-SameBytes l (Image phase) bytes all =
-    (more : List ℕ) → rest_of_image phase l.made (bytes ++ more) ≡ image_read (all ++ more)
+SameBytes l Packets rest all = (l ≡ empty_loading) × (rest ≡ all)
+SameBytes l (Image phase) rest all = IsRestOfImage phase l.made rest all
 
 abbrev pub SameUnread : Loading → Phase → Unread → Unread → Type 0
-SameUnread l phase (Ok bytes) (Ok all) = SameBytes l phase bytes all
+SameUnread l phase (Ok rest) (Ok all) = SameBytes l phase rest all
 SameUnread l phase (Err d) (Err e) = d ≡ e
 SameUnread l phase unread all = ⊥
 

@@ -6,7 +6,7 @@ use Rattle.apply_workers.proofs.home.all_done.Given as goal
 abbrev pub invariant-loop-group : goal.invariant-loop-group
 invariant-loop-group l =
     record {
-      homes : homes l.cells.items l.outcomes.items ++ into_iter_items l.group-iterator ≡ l.fn.groups.items;
+      homes : finished_groups l.cells.items l.outcomes.items ++ into_iter_items l.group-iterator ≡ l.fn.groups.items;
       count : length l.cells.items ≡ length l.outcomes.items;
       len : into_iter_len l.group-iterator ≡ length (into_iter_items l.group-iterator);
     }

@@ -1,7 +1,7 @@
 use Rattle.std.proofs.Common.{ap, ◌∙◌}
 use Rattle.std.specs.Ordering.{nat_cmp}
 use Rattle.std.specs.FinMap as finmap
-use Rattle.observer_core.specs.Machine.{Clients}
+use Rattle.client_service.specs.World.{Clients}
 use Rattle.observer_core.proofs.engine.first_client.Goals as goal
 
 pub connect-requires : goal.connect-requires

@@ -1,9 +1,9 @@
 use Rattle.std.proofs.Common.{refl, []}
 use Rattle.std.specs.FinMap as finmap
-use Rattle.observer_core.specs.Machine.{World}
+use Rattle.client_service.specs.World.{World}
 use Rattle.observer_core.specs.Agreement.{ClientsAgree}
 use Rattle.observer_core.specs.Play.{is_serving_clients}
-use Rattle.observer_core.specs.Serve.{open_client, end_client}
+use Rattle.client_service.specs.Serve.{open_client, end_client}
 use Rattle.observer_core.specs.Apart.{IsTakenUp}
 use Rattle.observer_core.proofs.Agreeing.{opened_agrees, serve_agrees}
 use Rattle.observer_core.proofs.Apart.{open_apart, bytes_apart, end_apart}

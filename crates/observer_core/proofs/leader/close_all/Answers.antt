@@ -1,8 +1,8 @@
 use Rattle.std.proofs.Common.{◌∙◌, ap, sym}
-use Rattle.observer_core.specs.Machine.{Clients}
-use Rattle.observer_core.specs.Steps.{no_output}
-use Rattle.observer_core.specs.Clients.{close_all_clients}
-use Rattle.observer_core.proofs.Steps.{ends}
+use Rattle.client_service.specs.World.{Clients}
+use Rattle.client_service.specs.Steps.{no_output}
+use Rattle.client_service.specs.Clients.{close_all_clients}
+use Rattle.client_service.proofs.Steps.{ends}
 use Rattle.observer_core.proofs.Delivering.{none_open}
 use Rattle.observer_core.proofs.leader.close_all.Goals as goal
 

@@ -1,6 +1,6 @@
 use Rattle.std.proofs.Common.{sym, ◌∙◌, Err}
 use Rattle.quorum_packet.specs.Items.{items_shown_at}
-use Rattle.observer_core.specs.Machine.{World}
+use Rattle.client_service.specs.World.{World}
 use Rattle.snapshot_codec.specs.Made.{Loading}
 use Rattle.observer_core.specs.Leader.{WorldAndLoading, item_step, take_items}
 use Rattle.observer_core.proofs.Delivering.{packet_taken, packet_stops, packet_refused}

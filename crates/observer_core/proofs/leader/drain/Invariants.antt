@@ -1,7 +1,7 @@
 use Rattle.quorum_packet.specs.Items.{items_shown_at}
 use Rattle.quorum_packet.specs.Feed.{unread_len}
 use Rattle.observer_core.specs.Leader.{item_step, take_items}
-use Rattle.observer_core.proofs.Steps.{SoFar}
+use Rattle.client_service.proofs.Steps.{SoFar}
 use Rattle.observer_core.proofs.leader.drain.Given as goal
 
 -- what is left to deliver leads to what was to be delivered

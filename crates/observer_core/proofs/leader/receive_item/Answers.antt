@@ -1,5 +1,5 @@
 use Rattle.std.proofs.Common.{subst, Err}
-use Rattle.observer_core.specs.Machine.{World}
+use Rattle.client_service.specs.World.{World}
 use Rattle.observer_core.specs.Leader.{item_step}
 use Rattle.observer_core.specs.Inner.{ReceivesItem}
 use Rattle.observer_core.proofs.Delivering.{not_taken}

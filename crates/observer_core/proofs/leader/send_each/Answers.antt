@@ -3,7 +3,7 @@ use Rattle.std.proofs.lemmas.Result.{err_from_is_err_and}
 use Rattle.std.proofs.Math.Seq.{drop-cons}
 use Rattle.quorum_packet.specs.declared.packet.QuorumPacket.{QuorumPacket}
 use Rattle.observer_core.specs.Leader.{to_leader}
-use Rattle.observer_core.proofs.Steps.{putting, stops_in_step}
+use Rattle.client_service.proofs.Steps.{putting, stops_in_step}
 use Rattle.observer_core.proofs.leader.send_each.Goals as goal
 
 pub returns-in_err-send : goal.returns-in_err-send

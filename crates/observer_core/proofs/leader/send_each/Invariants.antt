@@ -1,6 +1,6 @@
 use Rattle.std.proofs.Common.{drop, map}
 use Rattle.observer_core.specs.Leader.{to_leader}
-use Rattle.observer_core.proofs.Steps.{SoFar, putting}
+use Rattle.client_service.proofs.Steps.{SoFar, putting}
 use Rattle.observer_core.proofs.leader.send_each.Given as goal
 
 -- what is left to send leads to what was to be sent

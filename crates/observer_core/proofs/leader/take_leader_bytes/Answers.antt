@@ -1,7 +1,7 @@
 use Rattle.std.proofs.Common.{Option, Some, sym, subst, ◌∙◌, ◌≡◌}
 use Rattle.observer_core.specs.Machine.{Leader, Machine}
 use Rattle.observer_core.specs.Leader.{part_reader, take_leader_bytes}
-use Rattle.observer_core.specs.Inner.{MeetsStep}
+use Rattle.client_service.specs.Results.{MeetsStep}
 use Rattle.observer_core.proofs.Delivering.{loses_in_piece}
 use Rattle.observer_core.proofs.leader.take_leader_bytes.Goals as goal
 

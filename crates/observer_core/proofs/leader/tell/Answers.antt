@@ -1,6 +1,7 @@
 use Rattle.std.proofs.Common.{subst}
-use Rattle.observer_core.specs.Machine.{Clients}
-use Rattle.observer_core.specs.Inner.{send_outcome, MeetsStep}
+use Rattle.client_service.specs.World.{Clients}
+use Rattle.observer_core.specs.Inner.{send_outcome}
+use Rattle.client_service.specs.Results.{MeetsStep}
 use Rattle.observer_core.proofs.Delivering.{told_meets}
 use Rattle.observer_core.proofs.leader.tell.Goals as goal
 

@@ -4,7 +4,7 @@ use Rattle.std.proofs.Math.Seq.{drop-cons}
 use Rattle.observer_core.specs.declared.event.Event.{Event}
 use Rattle.observer_core.specs.Machine.{Machine}
 use Rattle.observer_core.specs.Play.{play_event, play}
-use Rattle.observer_core.proofs.Steps.{stops_in_step}
+use Rattle.client_service.proofs.Steps.{stops_in_step}
 use Rattle.observer_core.proofs.run.run.Goals as goal
 
 pub returns-in_err-happen : goal.returns-in_err-happen

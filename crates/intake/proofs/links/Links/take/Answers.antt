@@ -1,6 +1,6 @@
 use Rattle.std.proofs.Common.{subst, refl}
 use Rattle.std.specs.Prelude.{IsSome}
-use Rattle.observer_core.proofs.NatMaps.{seen}
+use Rattle.client_service.proofs.NatMaps.{seen}
 use Rattle.intake.proofs.Keeping.{written_over, takes_ok, stays_took, same_owed_ends}
 use Rattle.intake.proofs.links.Links.take.Goals as goal
 

@@ -1,0 +1,4 @@
+pub mod NatMaps
+pub mod Streams
+pub mod Steps
+pub mod Serving

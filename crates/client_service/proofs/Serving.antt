@@ -1,0 +1,163 @@
+-- What the loop over a client's frames does at each turn.
+use Rattle.std.proofs.Common.{◌≡◌, ℕ, ◌-◌, ◌<◌, ◌≤◌, Bool, true, false, not, List, [], ◌++◌, length, drop, Option, Some, None, Ok, Err, refl, sym, ap, ◌∙◌, arith}
+use Rattle.std.specs.Prelude.{is_some}
+use Rattle.std.specs.Option.{unwrap_or}
+use Rattle.std.specs.FinMap as finmap
+use Rattle.std.proofs.lemmas.List.{length-append, drop_at}
+use mathlib.Core.Bool.{true≢false}
+use Rattle.values.specs.declared.fault.Fault.{Fault}
+use Rattle.values.specs.declared.fault.Fault.TheVariants.{Short}
+use Rattle.jute.specs.Frame.{frame_format}
+use Rattle.jute.specs.Laws.{IsBytes}
+use Rattle.jute.specs.Stream.{items_in, place_at, with_first, no_items, Items, Unread}
+use Rattle.jute.proofs.Public.{items_whole, items_short, items_refused, shorter_rest, refused_other}
+use Rattle.four_letter.specs.declared.word.Word.{Word}
+use Rattle.client_service.specs.World.{OpenConnection, OpenConnections, World}
+use Rattle.client_service.specs.Steps.{StepResult, prepend_outputs, no_output, and_then, fold_steps}
+use Rattle.client_service.specs.Serve.{close_client, serve_frame, serve_all, word_at, is_closed, wait_if_open, wait_at, tell_or_serve, take_client_bytes, frames_of_client, client_frame_limit}
+use Rattle.client_service.specs.Inner.{rest_at, with_rest}
+use Rattle.client_service.proofs.Steps.{behind_behind, passed_over, goes_on}
+use Rattle.client_service.proofs.Streams.{client_frame_sound, frames_streamed}
+
+-- ---- frames
+
+pub shorter : (bytes rest f : List ℕ) → (frame_format client_frame_limit).read bytes ≡ Ok (f, rest)
+    → length rest < length bytes
+shorter bytes rest f e = shorter_rest frames_of_client frames_streamed tt bytes rest f e
+
+behind_text : (bytes text rest : List ℕ) → bytes ≡ text ++ rest → drop (length bytes - length rest) bytes ≡ rest
+behind_text bytes text rest e =
+    let n : length (text ++ rest) - length rest ≡ length text = omega (arith, length-append text rest) in
+    rw (e, n) (drop_at text rest (length text) refl)
+
+pub frame_whole : (bytes rest f : List ℕ) → IsBytes bytes → (frame_format client_frame_limit).read bytes ≡ Ok (f, rest)
+    → (items_in frames_of_client (place_at tt bytes) ≡ with_first f
+    (items_in frames_of_client (place_at tt (drop (length bytes - length rest) bytes))))
+    × (0 < length bytes - length rest)
+    × (length bytes - length rest ≤ length bytes)
+frame_whole bytes rest f fits e =
+    let t = client_frame_sound.lawful.takes bytes f rest fits e in (
+      items_whole frames_of_client frames_streamed tt bytes rest f e
+          ∙ ap (λ (b : List ℕ). with_first f (items_in frames_of_client (place_at tt b)))
+          (sym (behind_text bytes t.text rest t.parts)),
+      omega (arith, shorter bytes rest f e),
+      omega arith,
+    )
+
+pub frame_short : (bytes : List ℕ) → (frame_format client_frame_limit).read bytes ≡ Err Short
+    → items_in frames_of_client (place_at tt bytes) ≡ no_items (place_at tt bytes)
+frame_short bytes e = items_short frames_of_client frames_streamed tt bytes e
+
+pub frame_refused : (bytes : List ℕ) (e : Fault) → (e ≡ Short → ⊥)
+    → (frame_format client_frame_limit).read bytes ≡ Err e
+    → items_in frames_of_client (place_at tt bytes) ≡ no_items (record { phase = tt; unread = Err e })
+frame_refused bytes e other h = items_refused frames_of_client frames_streamed tt bytes e h
+    ∙ ap (λ u. no_items (record { phase = tt; unread = u })) (refused_other e bytes other)
+
+-- ---- turns
+
+pub closed_is : (n : ℕ) (w : World) → finmap.contains_key w.clients.connections n ≡ false → is_closed n w ≡ true
+closed_is n w e = ap not e
+
+pub open_is : (n : ℕ) (w : World) → finmap.contains_key w.clients.connections n ≡ true → is_closed n w ≡ false
+open_is n w e = ap not e
+
+none_of : {A : Type 0} (o : Option A) → is_some o ≡ false → o ≡ None
+none_of None e = refl
+none_of (Some x) e = absurd (true≢false e)
+
+-- the end of an event whose frames were served
+abbrev left_at : ℕ → Unread → StepResult World → StepResult World
+left_at n left h = and_then h (wait_at n left)
+
+module _ (serving : Bool) (n : ℕ) (w : World) (found : Items (Unit {0}) (List ℕ)) where
+  pub served_first : (f : List ℕ) (others : Items (Unit {0}) (List ℕ)) → found ≡ with_first f others
+      → finmap.contains_key w.clients.connections n ≡ true
+      → serve_all serving n w found ≡ prepend_outputs (serve_frame serving n w f).outputs
+      (serve_all serving n (serve_frame serving n w f).after others)
+  served_first f others is open_ =
+      ap (serve_all serving n w) is
+      ∙ ap (left_at n others.left.unread)
+      (goes_on (is_closed n) (serve_frame serving n) w f others.found (open_is n w open_))
+      ∙ sym (behind_behind (serve_frame serving n w f).outputs
+      (fold_steps (is_closed n) (serve_frame serving n) (serve_frame serving n w f).after others.found).outputs
+      (wait_at n others.left.unread
+      (fold_steps (is_closed n) (serve_frame serving n) (serve_frame serving n w f).after others.found).after))
+
+  pub all_passed_over : finmap.contains_key w.clients.connections n ≡ false → serve_all serving n w found ≡ no_output w
+  all_passed_over closed =
+      ap (left_at n found.left.unread)
+      (passed_over (is_closed n) (serve_frame serving n) w found.found (closed_is n w closed))
+      ∙ ap (λ (o : Option OpenConnection). wait_if_open n w o found.left.unread)
+      (none_of (finmap.get w.clients.connections n) closed)
+
+  pub none_whole : (bytes : List ℕ) → found ≡ no_items (place_at tt bytes)
+      → serve_all serving n w found ≡ no_output
+      (record w {
+        clients = record
+            w.clients { connections = with_rest w.clients.connections n (finmap.get w.clients.connections n) bytes };
+      })
+  none_whole bytes is = ap (serve_all serving n w) is ∙ by (finmap.get w.clients.connections n)
+    where
+      by : (o : Option OpenConnection) → wait_if_open n w o (Ok bytes) ≡ no_output
+          (record w { clients = record w.clients { connections = with_rest w.clients.connections n o bytes } })
+      by None = refl
+      by (Some k) = refl
+
+  pub bad_length : (e : Fault) → found ≡ no_items (record { phase = tt; unread = Err e })
+      → finmap.contains_key w.clients.connections n ≡ true → serve_all serving n w found ≡ close_client n w
+  bad_length e is open_ = ap (serve_all serving n w) is ∙ by (finmap.get w.clients.connections n) open_
+    where
+      by : (o : Option OpenConnection) → is_some o ≡ true → wait_if_open n w o (Err e) ≡ close_client n w
+      by None h = absurd (true≢false (sym h))
+      by (Some k) h = refl
+
+-- ---- bytes
+
+module _ (serving : Bool) (n : ℕ) (w : World) (o : Option OpenConnection) (bytes : List ℕ) where
+  pub not_open : rest_at o ≡ None → take_client_bytes serving n w o bytes ≡ no_output
+      (record w { clients = record w.clients { connections = with_rest w.clients.connections n o [] } })
+  not_open e = by o e
+    where
+      by : (o : Option OpenConnection) → rest_at o ≡ None → take_client_bytes serving n w o bytes ≡ no_output
+          (record w { clients = record w.clients { connections = with_rest w.clients.connections n o [] } })
+      by None e = refl
+      by (Some k) e = absurd (true≢false (ap is_some e))
+
+  pub at_open : (rest : List ℕ) → rest_at o ≡ Some rest
+      → take_client_bytes serving n w o bytes ≡ tell_or_serve serving n
+      (record w { clients = record w.clients { connections = with_rest w.clients.connections n o [] } })
+      (rest ++ bytes) (word_at n w (rest ++ bytes))
+  at_open rest e = by o e
+    where
+      by : (o : Option OpenConnection) → rest_at o ≡ Some rest
+          → take_client_bytes serving n w o bytes ≡ tell_or_serve serving n
+          (record w { clients = record w.clients { connections = with_rest w.clients.connections n o [] } })
+          (rest ++ bytes) (word_at n w (rest ++ bytes))
+      by None e = absurd (true≢false (sym (ap is_some e)))
+      by (Some k) e = ap (λ (x : Option (List ℕ)). tell_or_serve serving n
+          (record w { clients = record w.clients { connections = with_rest w.clients.connections n (Some k) [] } })
+          (unwrap_or x [] ++ bytes) (word_at n w (unwrap_or x [] ++ bytes))) e
+
+-- bytes are taken to hand with those that wait
+pub taken_to_hand : (serving : Bool) (n : ℕ) (u w : World) → u ≡ w → (waiting came seen bytes none : List ℕ)
+    (left : OpenConnections) (o : Option Word) →
+    let open_ = u.clients.connections in
+    let v : World = record u { clients = record u.clients { connections = left } } in
+    Some waiting ≡ rest_at (finmap.get open_ n) → left ≡ with_rest open_ n (finmap.get open_ n) none → none ≡ []
+    → came ≡ waiting ++ bytes → seen ≡ came → o ≡ word_at n v seen
+    → take_client_bytes serving n w (finmap.get w.clients.connections n) bytes ≡ tell_or_serve serving n v came o
+taken_to_hand serving n u w is waiting came seen bytes none left o was now empty joined all says =
+    ap (λ (x : World). take_client_bytes serving n x (finmap.get x.clients.connections n) bytes) (sym is)
+    ∙ at_open serving n u (finmap.get open_ n) bytes waiting (sym was)
+    ∙ ap (λ (k : OpenConnections). tell_or_serve serving n (with_open k) (waiting ++ bytes)
+    (word_at n u (waiting ++ bytes)))
+    (sym (now ∙ ap (with_rest open_ n (finmap.get open_ n)) empty))
+    ∙ ap (λ (b : List ℕ). tell_or_serve serving n (with_open left) b (word_at n (with_open left) b)) (sym joined)
+    ∙ ap (tell_or_serve serving n (with_open left) came) (sym (says ∙ ap (word_at n (with_open left)) all))
+  where
+    open_ : OpenConnections
+    open_ = u.clients.connections
+
+    with_open : OpenConnections → World
+    with_open k = record u { clients = record u.clients { connections = k } }

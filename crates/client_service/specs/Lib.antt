@@ -1,0 +1,6 @@
+pub mod World
+pub mod Steps
+pub mod Clients
+pub mod Serve
+pub mod Results
+pub mod Inner

@@ -1,0 +1,277 @@
+-- What the bytes of a client do.
+use Rattle.std.specs.Prelude.{ℕ, ℤ, pos, List, [], ◌∷◌, ◌++◌, map, take, Option, Some, None, Result, Ok, Err, Bool, not, int_lt, ◌&&◌, if◌then◌else◌}
+use Rattle.std.specs.Option.{unwrap_or}
+use Rattle.std.specs.Ordering.{int_eq}
+use Rattle.std.specs.FinMap as finmap
+use Rattle.std.specs.FinSet as set
+use Rattle.values.specs.declared.fault.Fault.{Fault}
+use Rattle.jute.specs.Frame.{frame_format}
+use Rattle.jute.specs.Stream.{PhasedStream, Items, Unread, stream_of, place_at, items_in}
+use Rattle.jute.specs.declared.codes.TheConstants.{BAD_ARGUMENTS}
+use Rattle.client_records.specs.declared.codes.TheConstants.{OK, UNIMPLEMENTED, AUTH_FAILED, NOT_READ_ONLY, PING_XID}
+use Rattle.client_records.specs.declared.connect.ConnectRequest.{ConnectRequest}
+use Rattle.client_records.specs.declared.request.AuthPacket.{AuthPacket}
+use Rattle.sessions.specs.State.{SessionTable as Sessions}
+use Rattle.sessions.specs.Sessions.{session_of_connection, ids_of, ConnectResult, connect_session, AuthResult, add_auth, expire_guest}
+use Rattle.sessions.specs.declared.request.SessionResponse.{SessionResponse}
+use Rattle.watch_manager.specs.Watching.{WatchTables}
+use Rattle.watch_manager.specs.Summary.{summary}
+use Rattle.watch_manager.specs.declared.watched.Watched.{Watched}
+use Rattle.four_letter.specs.Words.{word_of}
+use Rattle.four_letter.specs.Texts.{reply_text}
+use Rattle.four_letter.specs.declared.figures.Figures.{Figures}
+use Rattle.four_letter.specs.declared.figures.WatchRow.{WatchRow}
+use Rattle.four_letter.specs.declared.word.Word.{Word}
+use Rattle.read_processor.specs.declared.request.Request.{Request}
+use Rattle.read_processor.specs.declared.watch.Watch.{Watch}
+use Rattle.read_processor.specs.declared.watch.Watch.TheVariants as tables
+use Rattle.read_processor.specs.declared.renewal.Renewal.{Renewal}
+use Rattle.read_processor.specs.declared.shown.Look.{Look}
+use Rattle.read_processor.specs.Look.{look_at_state, without_body}
+use Rattle.read_processor.specs.Watch.{watch_of}
+use Rattle.read_processor.specs.Renewal.{renew_watches}
+use Rattle.read_processor.specs.Reply.{reply_frame}
+use Rattle.client_service.specs.declared.output.Output.TheVariants.{ToClient, CloseClient}
+use Rattle.client_frames.specs.declared.call.Call.{Call}
+use Rattle.client_frames.specs.declared.call.CallBody.{CallBody}
+use Rattle.client_frames.specs.declared.call.CallBody.TheVariants as bodies
+use Rattle.client_frames.specs.declared.connecting.Connecting.{Connecting}
+use Rattle.client_service.specs.World.{OpenConnection, Clients, World}
+use Rattle.client_frames.specs.Call.{call_in}
+use Rattle.client_frames.specs.Connect.{connecting_in, session_request, answer_to_connect}
+use Rattle.client_service.specs.Steps.{StepResult, prepend_outputs, no_output, and_then, fold_steps}
+use Rattle.client_service.specs.Clients.{idle_connection, is_open, with_connection, without_client, notices_to}
+
+-- ---- what goes to a client
+
+abbrev pub close_client : ℕ → World → StepResult World
+close_client n w = record { outputs = CloseClient n ∷ []; after = record w { clients = without_client n w.clients } }
+
+-- a reply that has no frame isn't sent, and closes
+abbrev pub send_or_close : ℕ → World → Option (List ℕ) → StepResult World
+send_or_close n w None = close_client n w
+send_or_close n w (Some bytes) = record { outputs = ToClient n bytes ∷ []; after = w }
+
+-- and then the connection is closed
+abbrev pub send_last : ℕ → World → Option (List ℕ) → StepResult World
+send_last n w frame = and_then (send_or_close n w frame) (close_client n)
+
+-- the reply names the zxid of the tree that it shows
+abbrev pub send_reply : ℕ → World → ℤ → Look → StepResult World
+send_reply n w xid seen = send_or_close n w (reply_frame xid w.replica.learner.last_zxid seen)
+
+abbrev pub send_reply_last : ℕ → World → ℤ → Look → StepResult World
+send_reply_last n w xid seen = send_last n w (reply_frame xid w.replica.learner.last_zxid seen)
+
+-- ---- reads and watches
+
+abbrev pub with_watch : ℕ → WatchTables → Watch → WatchTables
+with_watch n w (tables.Data path) = record w { own = set.insert w.own (path, n) }
+with_watch n w (tables.Child path) = record w { child = set.insert w.child (path, n) }
+
+abbrev pub with_each_watch : ℕ → WatchTables → List Watch → WatchTables
+with_each_watch n w [] = w
+with_each_watch n w (watch ∷ others) = with_each_watch n (with_watch n w watch) others
+
+abbrev pub with_watch_if : ℕ → WatchTables → Option Watch → WatchTables
+with_watch_if n w None = w
+with_watch_if n w (Some watch) = with_watch n w watch
+
+abbrev pub with_watching : World → WatchTables → World
+with_watching w watches = record w { clients = record w.clients { watches = watches } }
+
+-- a read is answered at the state as it is, and leaves its watch
+abbrev pub answer_read : ℕ → World → ℤ → Request → StepResult World
+answer_read n w xid r =
+    let seen = look_at_state w.replica.tree (ids_of w.clients.sessions n) r in
+    send_reply n (with_watching w (with_watch_if n w.clients.watches (watch_of r seen.error))) xid seen
+
+-- what the client missed is told, then it is answered
+abbrev pub answer_set_watches : ℕ → World → ℤ → Option Renewal → StepResult World
+answer_set_watches n w xid None = send_reply n w xid (without_body BAD_ARGUMENTS)
+answer_set_watches n w xid (Some r) =
+    prepend_outputs (notices_to n r.events)
+    (send_reply n (with_watching w (with_each_watch n w.clients.watches r.watches)) xid (without_body OK))
+
+-- ---- sessions
+
+abbrev pub with_sessions : World → Sessions → World
+with_sessions w sessions = record w { clients = record w.clients { sessions = sessions } }
+
+-- an id is shown, which names no zxid; where it is refused, the connection is closed
+abbrev pub send_auth_result : ℕ → World → ℤ → AuthResult → StepResult World
+send_auth_result n w xid shows =
+    if shows.is_accepted
+    then send_or_close n (with_sessions w shows.after) (reply_frame xid (pos 0) (without_body OK))
+    else send_last n (with_sessions w shows.after) (reply_frame xid (pos 0) (without_body AUTH_FAILED))
+
+abbrev pub show_id : ℕ → World → ℤ → AuthPacket → StepResult World
+show_id n w xid packet = send_auth_result n w xid (add_auth w.clients.sessions n packet.scheme packet.auth)
+
+-- the session ends; its connection is still to be closed
+abbrev pub with_session_expired : World → Option ℤ → World
+with_session_expired w None = w
+with_session_expired w (Some session) = with_sessions w (expire_guest w.clients.sessions session).after
+
+abbrev pub end_session : ℕ → World → World
+end_session n w = with_session_expired w (session_of_connection w.clients.sessions n)
+
+-- a connection whose session another one has taken
+abbrev pub close_client_if_some : World → Option ℕ → StepResult World
+close_client_if_some w None = no_output w
+close_client_if_some w (Some n) = close_client n w
+
+-- the answer to a connect; behind a refusal the connection is closed
+abbrev pub send_connect_response : ℕ → Bool → SessionResponse → World → StepResult World
+send_connect_response n has_byte response w =
+    let frame = Some (answer_to_connect response has_byte) in
+    if int_eq response.session_id (pos 0) then send_last n w frame else send_or_close n w frame
+
+-- an older connection of the session is closed first
+abbrev pub finish_connect : ℕ → World → Bool → ConnectResult → StepResult World
+finish_connect n w has_byte c =
+    and_then (close_client_if_some (with_sessions w c.after) c.connected.older)
+    (send_connect_response n has_byte c.connected.response)
+
+-- a client may connect where clients are served, and if it has seen nothing that is still to come
+abbrev pub may_connect : Bool → World → ConnectRequest → Bool
+may_connect serving w request = serving && not (int_lt w.replica.learner.last_zxid request.last_zxid_seen)
+
+abbrev pub handle_connect : Bool → ℕ → World → Result Connecting Fault → StepResult World
+handle_connect serving n w (Err e) = close_client n w
+handle_connect serving n w (Ok c) =
+    if may_connect serving w c.request
+    then finish_connect n w c.has_byte (connect_session w.clients.sessions n (session_request c.request))
+    else close_client n w
+
+-- ---- calls
+
+abbrev pub handle_call : ℕ → World → ℤ → CallBody → StepResult World
+handle_call n w xid (bodies.Read r) = answer_read n w xid r
+handle_call n w xid (bodies.SetWatches r) = answer_set_watches n w xid (renew_watches w.replica.tree r)
+handle_call n w xid (bodies.Auth packet) = show_id n w xid packet
+handle_call n w xid bodies.CloseSession = send_reply_last n (end_session n w) xid (without_body OK)
+handle_call n w xid bodies.Unreadable = send_reply n w xid (without_body BAD_ARGUMENTS)
+handle_call n w xid bodies.Ping = send_reply n w PING_XID (without_body OK)
+handle_call n w xid bodies.Write = send_reply n w xid (without_body NOT_READ_ONLY)
+handle_call n w xid bodies.Unknown = send_reply_last n w xid (without_body UNIMPLEMENTED)
+
+-- a frame without a whole header closes
+abbrev pub serve_as : ℕ → World → Result Call Fault → StepResult World
+serve_as n w (Ok c) = handle_call n w c.xid c.body
+serve_as n w (Err e) = close_client n w
+
+-- until the connection has a session, a frame asks for one
+abbrev pub serve_by : Bool → ℕ → World → List ℕ → Option ℤ → StepResult World
+serve_by serving n w frame None = handle_connect serving n w (connecting_in frame)
+serve_by serving n w frame (Some session) = serve_as n w (call_in frame)
+
+-- a frame is answered at the state as it is
+abbrev pub serve_frame : Bool → ℕ → World → List ℕ → StepResult World
+serve_frame serving n w frame = serve_by serving n w frame (session_of_connection w.clients.sessions n)
+
+-- ---- words
+
+-- a watch with the session of its connection, where 0 is none's
+abbrev pub watch_row_of : Sessions → Watched → WatchRow
+watch_row_of sessions watched = record {
+  path = watched.path;
+  conn = watched.conn;
+  session = unwrap_or (session_of_connection sessions watched.conn) (pos 0);
+  table = watched.table;
+}
+
+-- all watches, in the order of paths
+abbrev pub watch_rows : Clients → List WatchRow
+watch_rows c = map (watch_row_of c.sessions) (summary c.watches)
+
+-- what words tell of, with these watches
+abbrev pub figures_with : Bool → World → List WatchRow → Figures
+figures_with serving w watches = record {
+  serving = serving;
+  last = w.replica.learner.last_zxid;
+  connections = finmap.len w.clients.sessions.connections;
+  paths = finmap.len w.replica.tree.nodes;
+  pairs = set.len w.replica.tree.pairs;
+  watches = watches;
+}
+
+abbrev pub figures_of : Bool → World → Figures
+figures_of serving w = figures_with serving w (watch_rows w.clients)
+
+-- a word is answered, and the connection is closed
+abbrev pub tell_word : Bool → ℕ → World → Word → StepResult World
+tell_word serving n w word = send_last n w (Some (reply_text word (figures_of serving w)))
+
+-- who has a session says no word
+abbrev pub word_without_session : Option ℤ → Option Word → Option Word
+word_without_session None word = word
+word_without_session (Some session) word = None
+
+-- the word of a connection's first four bytes; of fewer there is none
+abbrev pub word_at : ℕ → World → List ℕ → Option Word
+word_at n w bytes = word_without_session (session_of_connection w.clients.sessions n) (word_of (take 4 bytes))
+
+-- ---- bytes
+
+abbrev pub is_closed : ℕ → World → Bool
+is_closed n w = not (is_open n w.clients)
+
+-- the connection with these bytes waiting
+abbrev pub with_waiting_bytes : ℕ → World → OpenConnection → List ℕ → World
+with_waiting_bytes n w connection rest =
+    record w { clients = with_connection n (record connection { rest = rest }) w.clients }
+
+-- the bytes behind the frames wait for more; a length out of its bounds closes
+abbrev pub wait_or_close : ℕ → World → OpenConnection → Unread → StepResult World
+wait_or_close n w connection (Ok rest) = no_output (with_waiting_bytes n w connection rest)
+wait_or_close n w connection (Err e) = close_client n w
+
+abbrev pub wait_if_open : ℕ → World → Option OpenConnection → Unread → StepResult World
+wait_if_open n w None left = no_output w
+wait_if_open n w (Some connection) left = wait_or_close n w connection left
+
+-- the most bytes of a client's frame
+abbrev pub client_frame_limit : ℕ
+client_frame_limit = 1048575
+
+-- the frames of a client, one behind another
+abbrev pub frames_of_client : PhasedStream (Unit {0}) (List ℕ)
+frames_of_client = stream_of (frame_format client_frame_limit)
+
+-- what is left of a connection's bytes behind its frames, if it is open still
+abbrev pub wait_at : ℕ → Unread → World → StepResult World
+wait_at n left w = wait_if_open n w (finmap.get w.clients.connections n) left
+
+-- all frames that were found, as long as the connection is open, and then what is left of its bytes
+abbrev pub serve_all : Bool → ℕ → World → Items (Unit {0}) (List ℕ) → StepResult World
+serve_all serving n w found = and_then (fold_steps (is_closed n) (serve_frame serving n) w found.found)
+    (wait_at n found.left.unread)
+
+-- a word, or frames
+abbrev pub tell_or_serve : Bool → ℕ → World → List ℕ → Option Word → StepResult World
+tell_or_serve serving n w bytes None = serve_all serving n w (items_in frames_of_client (place_at tt bytes))
+tell_or_serve serving n w bytes (Some word) = tell_word serving n w word
+
+-- the bytes of a connection that isn't open are passed over
+abbrev pub take_client_bytes : Bool → ℕ → World → Option OpenConnection → List ℕ → StepResult World
+take_client_bytes serving n w None bytes = no_output w
+take_client_bytes serving n w (Some connection) bytes =
+    let came = connection.rest ++ bytes in
+    tell_or_serve serving n (with_waiting_bytes n w connection []) came (word_at n w came)
+
+-- ---- coming and going
+
+-- one that is open already stays as it is
+abbrev pub open_client : ℕ → World → World
+open_client n w = if is_open n w.clients then w else record w { clients = with_connection n idle_connection w.clients }
+
+-- the client has gone; nothing goes out to it
+abbrev pub end_client : ℕ → World → World
+end_client n w = if is_open n w.clients then record w { clients = without_client n w.clients } else w
+
+-- a session ends, and its connection closes; any other id is passed over
+abbrev pub expire_session : World → ℤ → StepResult World
+expire_session w session =
+    let e = expire_guest w.clients.sessions session in
+    close_client_if_some (with_sessions w e.after) e.closed

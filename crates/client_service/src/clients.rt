@@ -1,0 +1,84 @@
+//! What is known of clients.
+
+ghost use Rattle.std.specs.Prelude.{◌≡◌, ◌∷◌, OnOk, IfSome, IfNone, IfOk};
+ghost use Rattle.std.specs.FinMap as finmap;
+ghost use Rattle.client_service.specs.Clients.{idle_connection, is_open, with_connection, without_client, no_clients};
+
+use crate::connections::Connections;
+use crate::world::Settings;
+use sessions::Sessions;
+use std::alloc::Global;
+use std::marker::Model;
+use values::NoMemory;
+use watch_manager::Watches;
+
+/// The open connections, who is behind them, and what they watch.
+#[derive(Drop)]
+pub struct Clients {
+    pub connections: Connections,
+    pub sessions: Sessions,
+    pub watches: Watches,
+}
+
+impl Model for Clients {
+    ghost use Rattle.client_service.specs.World.{Clients as TheClients, clients_code};
+
+    ghost Value = { TheClients };
+
+    ghost coded = { clients_code };
+
+    ghost view = { λ c. record { connections = c.connections; sessions = c.sessions; watches = c.watches } };
+}
+
+impl Clients {
+    /// Nobody, and no session yet.
+    pub fn new(alloc: Global, settings: &Settings) -> Result<Clients, NoMemory>
+        ensures { IfOk result (λ clients. clients ≡ no_clients settings.now) }
+    {
+        let secret = settings.secret.clone()?;
+        Ok(Clients {
+            connections: Connections::new(alloc),
+            sessions: Sessions::new(alloc, settings.server_id, settings.timeouts, secret),
+            watches: Watches::new(alloc),
+        })
+    }
+
+    pub fn is_open(&self, number: u64) -> bool
+        ensures { result ≡ is_open number self.now }
+    {
+        self.connections.is_open(number)
+    }
+
+    /// Opens a connection.
+    pub fn open(&mut self, alloc: Global, number: u64) -> Result<(), NoMemory>
+        ensures { OnOk result (self.new ≡ with_connection number idle_connection self.old) }
+    {
+        self.connections.open(alloc, number)
+    }
+
+    /// Closes a connection, which takes no memory. Its session stays.
+    pub fn close(&mut self, number: u64)
+        ensures { self.new ≡ without_client number self.old }
+    {
+        self.connections.close(number);
+        self.sessions.close(number);
+        self.watches.drop_conn(number);
+    }
+
+    /// Closes the connection with the least number.
+    pub fn close_first(&mut self) -> Option<u64>
+        ensures first { IfSome result (λ n. finmap.keys self.old.connections
+            ≡ n ∷ finmap.keys self.new.connections) }
+        ensures closed { IfSome result (λ n. self.new ≡ without_client n self.old) }
+        ensures none { IfNone result ((self.old.connections ≡ finmap.empty) × (self.new ≡ self.old)) }
+    {
+        match self.connections.close_first() {
+            None => return None,
+            Some(number) => {
+                self.sessions.close(number);
+                self.watches.drop_conn(number);
+                Some(number)
+            }
+        }
+    }
+}

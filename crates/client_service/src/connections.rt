@@ -1,0 +1,103 @@
+//! The open connections of clients.
+
+ghost use Rattle.std.specs.Prelude.{◌≡◌, [], ◌∷◌, OnOk, IfSome, IfNone};
+ghost use Rattle.std.specs.FinMap as finmap;
+ghost use Rattle.client_service.specs.Inner.{rest_at, with_rest};
+
+use std::alloc::Global;
+use std::collections::BTreeMap;
+use std::marker::Model;
+use std::mem;
+use values::{ByteQueue, NoMemory};
+
+/// An open connection: its bytes that wait for more.
+#[derive(Drop)]
+pub struct Connection {
+    rest: ByteQueue,
+}
+
+impl Model for Connection {
+    ghost use Rattle.client_service.specs.World.{OpenConnection as TheConnection, open_connection_code};
+
+    ghost Value = { TheConnection };
+
+    ghost coded = { open_connection_code };
+
+    ghost view = { λ c. record { rest = c.rest } };
+}
+
+/// The open connections by their numbers.
+#[derive(Drop)]
+pub struct Connections {
+    map: BTreeMap<u64, Connection>,
+}
+
+impl Model for Connections {
+    ghost use Rattle.std.specs.Coded.{coded_ℕ};
+    ghost use Rattle.std.specs.FinMap as finmap;
+    ghost use Rattle.client_service.specs.World.{OpenConnections as TheConnections, open_connection_code};
+
+    ghost Value = { TheConnections };
+
+    ghost coded = { finmap.code coded_ℕ open_connection_code };
+
+    ghost view = { λ c. finmap.from_entries c.map.entries };
+}
+
+impl Connections {
+    /// No connection, which takes no memory.
+    pub fn new(alloc: Global) -> Connections
+        ensures { result ≡ finmap.empty }
+    {
+        Connections {
+            map: BTreeMap::new(alloc),
+        }
+    }
+
+    /// Opens a connection.
+    pub fn open(&mut self, alloc: Global, number: u64) -> Result<(), NoMemory>
+        ensures { OnOk result (self.new ≡ finmap.insert self.old number (record { rest = [] })) }
+    {
+        let connection = Connection {
+            rest: ByteQueue::new(alloc),
+        };
+        self.map.insert(number, connection)?;
+        Ok(())
+    }
+
+    pub fn is_open(&self, number: u64) -> bool
+        ensures { result ≡ finmap.contains_key self.now number }
+    {
+        self.map.contains_key(&number)
+    }
+
+    /// Lets other bytes wait at a connection, and answers those that waited; none where it isn't open.
+    pub fn replace_rest(&mut self, number: u64, rest: ByteQueue) -> Option<ByteQueue>
+        ensures old { result ≡ rest_at (finmap.get self.old number) }
+        ensures new { self.new ≡ with_rest self.old number (finmap.get self.old number) rest }
+    {
+        match self.map.get_mut(&number) {
+            None => return None,
+            Some(connection) => Some(mem::replace(&mut connection.rest, rest)),
+        }
+    }
+
+    /// Closes a connection.
+    pub fn close(&mut self, number: u64)
+        ensures { self.new ≡ finmap.remove self.old number }
+    {
+        self.map.remove(&number);
+    }
+
+    /// Closes the connection with the least number.
+    pub fn close_first(&mut self) -> Option<u64>
+        ensures first { IfSome result (λ n. finmap.keys self.old ≡ n ∷ finmap.keys self.new) }
+        ensures closed { IfSome result (λ n. self.new ≡ finmap.remove self.old n) }
+        ensures none { IfNone result ((self.old ≡ finmap.empty) × (self.new ≡ finmap.empty)) }
+    {
+        match self.map.pop_first() {
+            None => return None,
+            Some((number, _)) => Some(number),
+        }
+    }
+}

@@ -1,0 +1,59 @@
+//! What clients are told of what they watched.
+
+ghost use Rattle.values.specs.Gains.{Puts};
+ghost use Rattle.client_service.specs.Clients.{notice_to, notices_of, notices_to};
+
+use crate::output::Output;
+use client_records::codes::NOTIFICATION_XID;
+use read_processor::Look;
+use std::alloc::Global;
+use values::NoMemory;
+use watch_manager::Event;
+
+// An event's frame names no zxid.
+const NO_ZXID: i64 = -1;
+
+// Tells a connection of an event.
+fn notify(
+    alloc: Global,
+    number: u64,
+    event: &Event,
+    outputs: &mut Vec<Output>,
+) -> Result<(), NoMemory>
+    ensures { Puts result outputs.old.items (notice_to number event.now) outputs.new.items }
+{
+    let seen = Look::of_event(alloc, event)?;
+    if let Some(frame) = seen.into_frame(NOTIFICATION_XID, NO_ZXID) {
+        outputs.push(Output::ToClient(number, frame))?;
+    }
+    Ok(())
+}
+
+/// Tells each connection of its event.
+pub fn notify_each(
+    alloc: Global,
+    events: &[(u64, Event)],
+    outputs: &mut Vec<Output>,
+) -> Result<(), NoMemory>
+    ensures { Puts result outputs.old.items (notices_of events.now) outputs.new.items }
+{
+    for (number, event) in events {
+        notify(alloc, *number, event, outputs)?;
+    }
+    Ok(())
+}
+
+/// Tells one connection of all the events.
+pub fn notify_all(
+    alloc: Global,
+    number: u64,
+    events: &[Event],
+    outputs: &mut Vec<Output>,
+) -> Result<(), NoMemory>
+    ensures { Puts result outputs.old.items (notices_to number events.now) outputs.new.items }
+{
+    for event in events {
+        notify(alloc, number, event, outputs)?;
+    }
+    Ok(())
+}

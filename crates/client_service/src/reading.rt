@@ -1,0 +1,134 @@
+//! Answers to reads, and the watches that they leave.
+
+ghost use Rattle.std.specs.Prelude.{◌≡◌, OnOk, Some};
+ghost use Rattle.read_processor.specs.Renewal.{renew_watches};
+ghost use Rattle.client_service.specs.Serve.{with_watch, with_each_watch, with_watch_if, with_watching, answer_read, answer_set_watches};
+ghost use Rattle.client_service.specs.Results.{MeetsStep};
+
+use crate::notice::notify_all;
+use crate::output::Output;
+use crate::sending::{answer, answer_without_body};
+use crate::world::World;
+use client_records::SetWatches;
+use client_records::codes::OK;
+use jute::codes::BAD_ARGUMENTS;
+use read_processor::{Renewal, Request, Watch, look, renew, watch_of};
+use std::alloc::Global;
+use values::NoMemory;
+use watch_manager::Watches;
+
+// Sets a watch, which may be set already.
+fn set_watch(
+    alloc: Global,
+    number: u64,
+    watches: &mut Watches,
+    watch: &Watch<'_>,
+) -> Result<(), NoMemory>
+    ensures { OnOk result (watches.new ≡ with_watch number watches.old watch.now) }
+{
+    match watch {
+        Watch::Data(path) => watches.set_data(alloc, number, path.as_str()),
+        Watch::Child(path) => watches.set_child(alloc, number, path.as_str()),
+    }
+}
+
+// Sets a watch, if one is asked for.
+fn set_watch_if(
+    alloc: Global,
+    number: u64,
+    watches: &mut Watches,
+    watch: &Option<Watch<'_>>,
+) -> Result<(), NoMemory>
+    ensures { OnOk result (watches.new ≡ with_watch_if number watches.old watch.now) }
+{
+    match watch {
+        None => return Ok(()),
+        Some(watch) => set_watch(alloc, number, watches, watch),
+    }
+}
+
+// Sets watches.
+fn set_watches(
+    alloc: Global,
+    number: u64,
+    watches: &mut Watches,
+    asked: &[Watch<'_>],
+) -> Result<(), NoMemory>
+    ensures { OnOk result (watches.new ≡ with_each_watch number watches.old asked.now) }
+{
+    for watch in asked {
+        set_watch(alloc, number, watches, watch)?;
+    }
+    Ok(())
+}
+
+/// Answers a read, which leaves its watch.
+pub fn answer_request(
+    alloc: Global,
+    number: u64,
+    world: &mut World,
+    xid: i32,
+    asked: &Request<'_>,
+    outputs: &mut Vec<Output>,
+) -> Result<(), NoMemory>
+    ensures { MeetsStep result outputs.old.items
+        (answer_read number world.old xid asked.now)
+        outputs.new.items world.new }
+{
+    let ids = world.clients.sessions.ids(number);
+    let seen = look(alloc, world.replica.tree(), ids, asked)?;
+    let watch = watch_of(asked, seen.error);
+    set_watch_if(alloc, number, &mut world.clients.watches, &watch)?;
+    answer(number, world, xid, seen, outputs)
+}
+
+// Sets watches of a client.
+fn watch_each(
+    alloc: Global,
+    number: u64,
+    world: &mut World,
+    asked: &[Watch<'_>],
+) -> Result<(), NoMemory>
+    ensures { let watches = world.old.clients.watches in
+        OnOk result (world.new ≡ with_watching world.old (with_each_watch number watches asked.now)) }
+{
+    set_watches(alloc, number, &mut world.clients.watches, asked)
+}
+
+// Tells a client what it missed, and sets its watches again.
+#[tactic(auto, using(crate::proofs::Steps::behind_meets, values::proofs::Gaining::gains_first))]
+fn answer_missed(
+    alloc: Global,
+    number: u64,
+    world: &mut World,
+    xid: i32,
+    missed: &Renewal<'_>,
+    outputs: &mut Vec<Output>,
+) -> Result<(), NoMemory>
+    ensures { MeetsStep result outputs.old.items
+        (answer_set_watches number world.old xid (Some missed.now))
+        outputs.new.items world.new }
+{
+    watch_each(alloc, number, world, missed.watches.as_slice())?;
+    notify_all(alloc, number, missed.events.as_slice(), outputs)?;
+    answer_without_body(alloc, number, world, xid, OK, outputs)
+}
+
+/// Answers a client that has come back and names what it watched.
+pub fn answer_renewal(
+    alloc: Global,
+    number: u64,
+    world: &mut World,
+    xid: i32,
+    asked: &SetWatches<'_>,
+    outputs: &mut Vec<Output>,
+) -> Result<(), NoMemory>
+    ensures { MeetsStep result outputs.old.items
+        (answer_set_watches number world.old xid (renew_watches world.old.replica.tree asked.now))
+        outputs.new.items world.new }
+{
+    match renew(alloc, world.replica.tree(), asked)? {
+        None => answer_without_body(alloc, number, world, xid, BAD_ARGUMENTS, outputs),
+        Some(missed) => answer_missed(alloc, number, world, xid, &missed, outputs),
+    }
+}

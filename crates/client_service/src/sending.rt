@@ -1,0 +1,115 @@
+//! What goes to a client.
+
+ghost use Rattle.std.specs.Prelude.{◌≡◌, IfOk};
+ghost use Rattle.read_processor.specs.Look.{without_body};
+ghost use Rattle.read_processor.specs.Reply.{reply_frame};
+ghost use Rattle.client_service.specs.Serve.{close_client, send_or_close, send_last, send_reply, send_reply_last};
+ghost use Rattle.client_service.specs.Results.{MeetsStep};
+
+use crate::output::Output;
+use crate::world::World;
+use read_processor::Look;
+use std::alloc::Global;
+use values::{Blob, NoMemory};
+
+/// Closes a connection.
+pub fn close_client(
+    number: u64,
+    world: &mut World,
+    outputs: &mut Vec<Output>,
+) -> Result<(), NoMemory>
+    ensures { MeetsStep result outputs.old.items
+        (close_client number world.old)
+        outputs.new.items world.new }
+{
+    outputs.push(Output::CloseClient(number))?;
+    world.clients.close(number);
+    Ok(())
+}
+
+/// Sends a frame. What is too long for one isn't sent, and closes the connection.
+pub fn send(
+    number: u64,
+    world: &mut World,
+    frame: Option<Blob>,
+    outputs: &mut Vec<Output>,
+) -> Result<(), NoMemory>
+    ensures { MeetsStep result outputs.old.items
+        (send_or_close number world.old frame)
+        outputs.new.items world.new }
+{
+    match frame {
+        None => close_client(number, world, outputs),
+        Some(frame) => {
+            outputs.push(Output::ToClient(number, frame))?;
+            Ok(())
+        }
+    }
+}
+
+/// Sends a frame, and closes the connection.
+#[tactic(auto, using(crate::proofs::Steps::then_meets, crate::proofs::Steps::first_stops))]
+pub fn send_last(
+    number: u64,
+    world: &mut World,
+    frame: Option<Blob>,
+    outputs: &mut Vec<Output>,
+) -> Result<(), NoMemory>
+    ensures { MeetsStep result outputs.old.items
+        (send_last number world.old frame)
+        outputs.new.items world.new }
+{
+    send(number, world, frame, outputs)?;
+    close_client(number, world, outputs)
+}
+
+/// Sends what is shown, with the zxid of the tree that shows it.
+pub fn answer(
+    number: u64,
+    world: &mut World,
+    xid: i32,
+    seen: Look,
+    outputs: &mut Vec<Output>,
+) -> Result<(), NoMemory>
+    ensures { MeetsStep result outputs.old.items
+        (send_reply number world.old xid seen)
+        outputs.new.items world.new }
+{
+    let frame = seen.into_frame(xid, world.replica.learner().last_zxid());
+    send(number, world, frame, outputs)
+}
+
+/// Sends an error's number, or 0, without a body.
+pub fn answer_without_body(
+    alloc: Global,
+    number: u64,
+    world: &mut World,
+    xid: i32,
+    error: i32,
+    outputs: &mut Vec<Output>,
+) -> Result<(), NoMemory>
+    ensures { MeetsStep result outputs.old.items
+        (send_reply number world.old xid (without_body error))
+        outputs.new.items world.new }
+{
+    let seen = Look::without_body(alloc, error)?;
+    answer(number, world, xid, seen, outputs)
+}
+
+/// Sends an error's number, or 0, without a body, and closes the connection.
+pub fn answer_without_body_last(
+    alloc: Global,
+    number: u64,
+    world: &mut World,
+    xid: i32,
+    error: i32,
+    outputs: &mut Vec<Output>,
+) -> Result<(), NoMemory>
+    ensures { MeetsStep result outputs.old.items
+        (send_reply_last number world.old xid (without_body error))
+        outputs.new.items world.new }
+{
+    let seen = Look::without_body(alloc, error)?;
+    let frame = seen.into_frame(xid, world.replica.learner().last_zxid());
+    send_last(number, world, frame, outputs)
+}

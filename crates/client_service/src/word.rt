@@ -1,0 +1,122 @@
+//! Four-letter words, which a client says before it has a session.
+
+ghost use Rattle.std.specs.Prelude.{◌≡◌, ◌<◌, IfOk, IfSome, IfNone, true, map, take, length};
+ghost use Rattle.four_letter.specs.Words.{needs_watches};
+ghost use Rattle.four_letter.specs.Texts.{reply_text};
+ghost use Rattle.client_service.specs.Serve.{watch_row_of, watch_rows, figures_with, figures_of, tell_word, word_at};
+ghost use Rattle.client_service.specs.Results.{MeetsStep};
+
+use crate::clients::Clients;
+use crate::output::Output;
+use crate::sending::send_last;
+use crate::world::World;
+use four_letter::{Figures, WatchRow, Word, answer};
+use sessions::Sessions;
+use std::alloc::Global;
+use values::{Blob, Listed, NoMemory};
+use watch_manager::Watched;
+
+// The first four bytes, if there are so many.
+fn first_four(bytes: &[u8]) -> Option<[u8; 4]>
+    ensures some { IfSome result (λ four. four ≡ take 4 bytes.now) }
+    ensures none { IfNone result (length bytes.now < 4) }
+{
+    match bytes {
+        [a, b, c, d, ..] => Some([*a, *b, *c, *d]),
+        _ => None,
+    }
+}
+
+/// The word of a connection's first four bytes. Who has a session says none.
+pub fn word_at(number: u64, world: &World, bytes: &[u8]) -> Option<Word>
+    ensures { result ≡ word_at number world.now bytes.now }
+{
+    let Some(letters) = first_four(bytes) else {
+        return None;
+    };
+    let Some(word) = Word::from_bytes(letters) else {
+        return None;
+    };
+    match world.clients.sessions.session(number) {
+        None => Some(word),
+        Some(_) => None,
+    }
+}
+
+// A watch with the session of its connection, which each that watches has.
+fn row_of<'a>(sessions: &Sessions, watched: Watched<'a>) -> WatchRow<'a>
+    ensures { result ≡ watch_row_of sessions.now watched.entry }
+{
+    let Watched { path, conn, table } = watched;
+    WatchRow {
+        path,
+        conn,
+        session: sessions.session(conn).unwrap_or(0),
+        table,
+    }
+}
+
+// All watches, each with its session.
+fn watch_rows(alloc: Global, clients: &Clients) -> Result<Vec<WatchRow<'_>>, NoMemory>
+    ensures { IfOk result (λ rows. rows.items ≡ watch_rows clients.now) }
+{
+    let summary = clients.watches.summary(alloc)?;
+    let mut rows = Vec::with_capacity(alloc, summary.len())?;
+    for watched in summary {
+        rows.push(row_of(&clients.sessions, watched))?;
+    }
+    Ok(rows)
+}
+
+// The watches, where the word's answer tells of them.
+fn rows_for(alloc: Global, word: Word, clients: &Clients) -> Result<Vec<WatchRow<'_>>, NoMemory>
+    ensures { IfOk result (λ rows. needs_watches word ≡ true → rows.items ≡ watch_rows clients.now) }
+{
+    if !word.needs_watches() {
+        return Ok(Vec::new(alloc));
+    }
+    watch_rows(alloc, clients)
+}
+
+// What words tell of, with these watches.
+fn figures_with<'a>(serving: bool, world: &World, watches: Vec<WatchRow<'a>>) -> Figures<'a>
+    ensures { result ≡ figures_with serving world.now watches.entry.items }
+{
+    let tree = world.replica.tree();
+    Figures {
+        serving,
+        last: world.replica.learner().last_zxid(),
+        connections: world.clients.sessions.count(),
+        paths: tree.paths(),
+        pairs: tree.ephemerals().count(),
+        watches: Listed::from_vec(watches),
+    }
+}
+
+// What a word is answered.
+fn answer_of(alloc: Global, serving: bool, world: &World, word: Word) -> Result<Blob, NoMemory>
+    ensures { IfOk result (λ bytes. bytes ≡ reply_text word (figures_of serving world.now)) }
+{
+    let rows = rows_for(alloc, word, &world.clients)?;
+    let figures = figures_with(serving, world, rows);
+    let mut bytes = Vec::new(alloc);
+    answer(word.letters(), &figures, &mut bytes)?;
+    Ok(Blob::from_vec(bytes))
+}
+
+/// Answers a word, and closes the connection.
+pub fn tell_word(
+    alloc: Global,
+    serving: bool,
+    number: u64,
+    world: &mut World,
+    word: Word,
+    outputs: &mut Vec<Output>,
+) -> Result<(), NoMemory>
+    ensures { MeetsStep result outputs.old.items
+        (tell_word serving number world.old word)
+        outputs.new.items world.new }
+{
+    let bytes = answer_of(alloc, serving, world, word)?;
+    send_last(number, world, Some(bytes), outputs)
+}

@@ -1,0 +1,36 @@
+//! All that is known but the leader's bytes, as it is held.
+
+use crate::clients::Clients;
+use replica::Replica;
+use settings::{Epochs, Secret, ServerId, TimeoutBounds};
+use std::marker::Model;
+
+/// The settings of an observer: all of its set-up that shows in what it answers.
+#[derive(Debug, Drop)]
+pub struct Settings {
+    pub server_id: ServerId,
+    pub epochs: Epochs,
+    pub timeouts: TimeoutBounds,
+    pub secret: Secret,
+}
+
+/// All but the leader's bytes.
+#[derive(Drop)]
+pub struct World {
+    pub settings: Settings,
+    /// What a read shows, and how far the leader was followed.
+    pub replica: Replica,
+    pub clients: Clients,
+}
+
+impl Model for World {
+    ghost use Rattle.client_service.specs.contracts.world.Settings as of_settings;
+    ghost use Rattle.replica.specs.contracts.replica.Replica as of_replica;
+    ghost use Rattle.client_service.specs.World.{World as TheWorld, world_code};
+
+    ghost Value = { TheWorld };
+
+    ghost coded = { world_code of_settings.the_row.coded of_replica.the_row.coded };
+
+    ghost view = { λ w. record { settings = w.settings; replica = w.replica; clients = w.clients } };
+}

@@ -1,9 +1,0 @@
-use Rattle.std.proofs.Common.{drop}
-use Rattle.observer_core.specs.Clients.{notices_to}
-use Rattle.observer_core.proofs.Steps.{SoFar, putting}
-use Rattle.observer_core.proofs.notice.notify_all.Given as goal
-
--- what is left to tell leads to what was to be told
-abbrev pub invariant-loop-event : goal.invariant-loop-event
-invariant-loop-event l = SoFar l.fn.outputs.items (putting (notices_to l.number l.events)) l.outputs.items
-    (putting (notices_to l.number (drop l.event-index l.events)))

@@ -1,9 +1,0 @@
-use Rattle.std.proofs.Common.{drop}
-use Rattle.observer_core.specs.Clients.{notices_of}
-use Rattle.observer_core.proofs.Steps.{SoFar, putting}
-use Rattle.observer_core.proofs.notice.notify_each.Given as goal
-
--- what is left to tell leads to what was to be told
-abbrev pub invariant-loop-number : goal.invariant-loop-number
-invariant-loop-number l = SoFar l.fn.outputs.items (putting (notices_of l.events)) l.outputs.items
-    (putting (notices_of (drop l.number-index l.events)))
