@@ -9,7 +9,7 @@ What it refuses:
   "Names of one word": such a name seldom says of what it speaks;
 - a name that definitions of two or more crates have, unless docs/GLOSSARY.md lists it under "Names in several crates",
   with the one meaning that it has in all of them;
-- an entry of these two lists that no definition has;
+- an entry of these two lists whose crates are not those that define the name;
 - a crate of more than 100 functions, and a source file of more than 800 lines.
 
 Each crate counts as one, and so does the glossary. The last line is `N passed, M failed`; the exit status is 0 where
@@ -26,7 +26,7 @@ GLOSSARY = os.path.join(TOP, "docs", "GLOSSARY.md")
 MOST_FUNCTIONS = 100
 MOST_LINES = 800
 
-# A declaration begins its line: words like `abbrev pub`, the name, parameters, a colon. What is in a module is indented.
+# A declaration begins its line: words like `abbrev pub`, the name, parameters, a colon. In a module it is indented.
 PARAMETERS = r"(?:\{[^}]*\}|\((?:[^()]|\([^()]*\))*\))"
 DECLARATION = re.compile(
     rf"(?:(?:pub|abbrev|unfoldable|opaque|data|record)\s+)*([^\s:(){{}},]+)\s*(?:{PARAMETERS}\s*)*(?::(?=\s)|$)"
@@ -75,12 +75,13 @@ def definitions():
 
 
 def listed_under(heading):
-    """Returns the names in the first column of the glossary's table under this heading."""
+    """Returns the names of the glossary's table under this heading, each with the crates of its second column."""
     _, found, after = text_of(GLOSSARY).partition(f"\n## {heading}\n")
     if not found:
         raise ValueError(f"docs/GLOSSARY.md has no heading `{heading}`")
     section = after.partition("\n## ")[0]
-    return set(re.findall(r"^\| `([^`]+)` \|", section, re.M))
+    rows = re.findall(r"^\| `([^`]+)` \| ([^|]*) \|", section, re.M)
+    return {name: set(crates.split(", ")) for name, crates in rows}
 
 
 def wrong_names(found):
@@ -95,12 +96,16 @@ def wrong_names(found):
         if len(crates) > 1 and name not in several:
             for crate in sorted(crates):
                 others = ", ".join(sorted(crates - {crate}))
-                yield crate, f"{crate}: `{name}` is a definition of {others} too: rename it, or list it under `{NAMES_IN_SEVERAL_CRATES}`"
-    for name in sorted(one_word - set(crates_of)):
-        yield GLOSSARY, f"docs/GLOSSARY.md: no definition is named `{name}`, which is under `{NAMES_OF_ONE_WORD}`"
+                why = f"is a definition of {others} too: rename it, or list it under `{NAMES_IN_SEVERAL_CRATES}`"
+                yield crate, f"{crate}: `{name}` {why}"
+    for heading, listed in ((NAMES_OF_ONE_WORD, one_word), (NAMES_IN_SEVERAL_CRATES, several)):
+        for name, crates in sorted(listed.items()):
+            if crates != crates_of[name]:
+                found = ", ".join(sorted(crates_of[name])) or "no crate"
+                yield GLOSSARY, f"docs/GLOSSARY.md: `{name}` under `{heading}` is a definition of {found}"
     for name in sorted(several):
-        if len(crates_of[name]) < 2:
-            yield GLOSSARY, f"docs/GLOSSARY.md: no two crates have `{name}`, which is under `{NAMES_IN_SEVERAL_CRATES}`"
+        if len(crates_of[name]) == 1:
+            yield GLOSSARY, f"docs/GLOSSARY.md: only one crate has `{name}`, which is under `{NAMES_IN_SEVERAL_CRATES}`"
 
 
 def wrong_sizes(crates):

@@ -1,4 +1,4 @@
--- A claim keeps the board's history.
+-- A claim keeps the board's invariant.
 use Rattle.std.proofs.Common.{◌≡◌, ◌≢◌, ℕ, suc, ◌+◌, ◌%◌, ◌^◌, ◌<◌, ◌≤◌, eqb, Bool, true, false, cond, List, [], ◌∷◌, ◌++◌, length, get_or, set, sym, refl, ap, ◌∙◌, subst, inr, arith, Some, length-set, get_or-set_other, get_or-set_same, true≢false}
 use mathlib.Core.Logic.{dite}
 use mathlib.Core.Option.{none, some}
@@ -21,7 +21,7 @@ module _ {W F : Type 0} (gives : W → F → Type 0) (works : List W) where
   abbrev S : Type 0
   S = Shared W F
 
-  -- a claim that finds the number x to draw
+  -- A claim that draws the number x.
   claims_some : (s : S) (r : BoardHistory gives works s) (id : ℕ) (v : V) (x : ℕ) → get_elem? s.views id ≡ some v
       → v.seated ≡ true → v.claimed ≡ result_numbers v.given → draw_count s ≡ x → x < length works
       → BoardHistory gives works record {
@@ -83,7 +83,7 @@ module _ {W F : Type 0} (gives : W → F → Type 0) (works : List W) where
             (λ e. absurd (true≢false (sym seated ∙ e))) (λ j u _ a e. r.each_vacated j u a e);
       }
 
-  -- a claim that finds every number drawn
+  -- A claim that finds every number drawn.
   claims_none : (s : S) (r : BoardHistory gives works s) (id : ℕ) (v : V) (x : ℕ) → get_elem? s.views id ≡ some v
       → v.seated ≡ true → v.spent ≡ false → draw_count s ≡ x → length works ≤ x
       → BoardHistory gives works record {
@@ -139,7 +139,7 @@ module _ {W F : Type 0} (gives : W → F → Type 0) (works : List W) where
             (λ e. absurd (true≢false (sym seated ∙ e))) (λ j u _ a e. r.each_vacated j u a e);
       }
 
-  -- word 0 has room for one more
+  -- Word 0 can count one more.
   no_wrap : (s : S) (r : BoardHistory gives works s) → (draw_count s + 1) % 18446744073709551616 ≡ draw_count s + 1
   no_wrap s r = let few = marks_few gives works s r in let b = r.marks in let l = r.works_count in omega arith
 

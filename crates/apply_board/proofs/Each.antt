@@ -1,4 +1,4 @@
--- What holds of each element, when the list is reversed and taken from its end.
+-- A property of each element, when the list is reversed and taken from its end.
 use Rattle.std.proofs.Common.{suc, List, [], ◌∷◌, ◌++◌, arith, All}
 
 module _ {A : Type 0} (P : A → Type 0) where

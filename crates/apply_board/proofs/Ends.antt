@@ -1,4 +1,4 @@
--- How a board begins and ends.
+-- The start and the end of a board.
 use Rattle.std.proofs.Common.{◌≡◌, ℕ, zero, suc, ◌+◌, ◌-◌, ◌<◌, ◌≤◌, ◌^◌, Bool, true, false, cond, ◌||◌, List, [], ◌∷◌, ◌++◌, map, length, get_or, replicate, sym, refl, ap, ◌∙◌, subst, inl, arith, Option, Some, append_assoc, true≢false, All, remove}
 use Rattle.std.proofs.lemmas.List.{append-nil}
 use mathlib.Core.Logic.{dite}
@@ -27,7 +27,7 @@ zeros zero i = refl
 zeros (suc n) zero = refl
 zeros (suc n) (suc i) = zeros n i
 
--- what lies in the slots in the end, where gs was given
+-- The contents of the slots at the end, where gs was given.
 pub record Lies {W F : Type 0} (gives : W → F → Type 0) (works : List W) (gs : List (ℕ × F)) (spent : Bool)
     (xs : List (Option (Group W F))) : Type 0 where
   pub count : length xs ≡ length works
@@ -77,7 +77,7 @@ module _ {W F : Type 0} (gives : W → F → Type 0) (works : List W) where
         each_vacated = λ j d e l. absurd (true≢false (ap (λ (x : View W F). x.seated) (one j d e).1 ∙ l));
       }
 
-  -- the board that is opened is a moment of the seat that it is opened with
+  -- A board at its opening is a moment of the opener's seat.
   pub opening_moment : (ws : List ℕ) (xs : List (Option (Group W F)))
       → BoardHistory gives works (opening ws xs (opener_view works)) → Moment gives (opener_view works)
   opening_moment ws xs history = record {
@@ -87,7 +87,7 @@ module _ {W F : Type 0} (gives : W → F → Type 0) (works : List W) where
     has = refl;
   }
 
-  -- where all other seats were taken into the seat v, which has no claim
+  -- All other seats were joined into seat v, which has no open claim.
   lies : (ws : List ℕ) (xs : List (Option (Group W F))) (id : ℕ) (v : View W F) (spent : Bool)
       → Final (Seen (BoardHistory gives works) id v) ws xs → v.seated ≡ true → 0 < v.made → v.unjoined ≡ 1
       → v.claimed ≡ result_numbers v.given → (spent ≡ true → 0 < marks_of v)
@@ -120,7 +120,7 @@ module _ {W F : Type 0} (gives : W → F → Type 0) (works : List W) where
       }
 
 module _ {W F : Type 0} where
-  -- how many of these seats are spent
+  -- The number of spent seats among these.
   abbrev marks_in : List (Sitting W F) → ℕ
   marks_in seats = sum_of (λ seat. cond seat.view.spent 1 0) seats
 
@@ -130,7 +130,7 @@ module _ {W F : Type 0} where
   any_mark false [] e = absurd (true≢false (sym e))
   any_mark false (seat ∷ seats) e = let more = any_mark seat.view.spent seats e in omega arith
 
-  -- what the opener's seat knows once all others were taken in
+  -- The opener's view once all others were joined into it.
   record Gathered (v : View W F) (seats : List (Sitting W F)) (u : View W F) : Type 0 where
     works : u.works ≡ v.works
     claimed : u.claimed ≡ v.claimed
@@ -163,7 +163,7 @@ module _ {W F : Type 0} where
     unjoined = λ n e. g.unjoined n (omega arith);
   }
 
-  -- each slot holds a group
+  -- Each slot holds a group.
   pub are_full : (gives : W → F → Type 0) (works : List W) (gs : List (ℕ × F)) (b : Bool)
       (xs : List (Option (Group W F))) → Lies gives works gs b xs → AreFull xs
   are_full gives works gs b xs s k l = let n = s.count in let w = there works k (omega arith) in
@@ -211,7 +211,7 @@ module _ {W F : Type 0} where
             (q.0.1, at k (Home q.0.1) (s.home p.0 k q.0.1 there), s.fits p.0 k q.0.1 w there a);
       }
 
-  -- taking a seat in is what is said of it, where it took in none itself
+  -- Joining a seat into which none was joined.
   pub takes_in : (v : View W F) (seat : Sitting W F) → seat.view.gathered ≡ [] → seat.view.gathered_marks ≡ 0
       → with_seat_joined v seat.view ≡ with_sitting v seat
   takes_in v seat none unmarked = λ i. record v {
@@ -221,7 +221,7 @@ module _ {W F : Type 0} where
     unjoined = v.unjoined - 1;
   }
 
-  -- all seats of a board, the first apart from the others
+  -- All seats of a board, the first separate from the others.
   pub record IsCrew (board : TableId) (first : Sitting W F) (others : List (Sitting W F)) : Type 0 where
     pub made : 0 < first.view.made
     pub unjoined : first.view.unjoined ≡ length others + 1

@@ -1,4 +1,4 @@
--- For the loops that lay works into slots, and take groups out of them.
+-- The loops that put works into slots, and take groups out of them.
 use Rattle.std.proofs.Common.{◌≡◌, ℕ, zero, suc, ◌+◌, Bool, false, List, [], ◌∷◌, ◌++◌, map, take, get_or, set, sym, refl, ap, ◌∙◌, subst, arith, get_or-set_other}
 use mathlib.Core.Logic.{dite}
 use mathlib.Core.Option.{some, some-injective, some-ne-none}

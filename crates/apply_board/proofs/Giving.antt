@@ -1,4 +1,4 @@
--- What is given back keeps the board's history.
+-- Giving a result keeps the board's invariant.
 use Rattle.std.proofs.Common.{◌≡◌, ◌≢◌, ℕ, ◌+◌, ◌≤◌, eqb, true, false, cond, List, [], ◌∷◌, ◌++◌, set, sym, refl, ap, ◌∙◌, subst, ⊎_elim, inl, arith, Option, Some, None, length-set, get_or-set_other, get_or-set_same, true≢false}
 use mathlib.Core.Logic.{dite}
 use mathlib.Core.Option.{none, some, some-injective}
@@ -24,7 +24,7 @@ module _ {W F : Type 0} where
   found d k None = d
   found d k (Some g) = homed d k g
 
-  -- the result that lies in the slot held
+  -- The result in the slot held.
   abbrev held_of : ℕ × F → List (ℕ × Option (Group W F)) → ℕ × F
   held_of d [] = d
   held_of d (x ∷ xs) = found d x.0 x.1
@@ -36,7 +36,7 @@ module _ {W F : Type 0} (yields : W → F → Type 0) (works : List W) where
   abbrev S : Type 0
   S = Shared W F
 
-  -- the seat v claimed q last, and gives it
+  -- Seat v claimed q last, and gives it.
   gives_one : (s : S) (r : BoardHistory yields works s) (id : ℕ) (v : V) (q : ℕ) (f : F) (w : W)
       → get_elem? s.views id ≡ some v → v.seated ≡ true → v.claimed ≡ result_numbers v.given ++ q ∷ []
       → get_elem? works q ≡ some w → yields w f

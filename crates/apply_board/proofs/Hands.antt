@@ -1,4 +1,4 @@
--- Which slot a seat holds.
+-- The slots that a seat holds.
 use Rattle.std.proofs.Common.{◌≡◌, ℕ, ◌+◌, ◌<◌, false, List, [], ◌∷◌, ◌++◌, map, drop, length, get_or, sym, refl, ap, ◌∙◌, arith, Option, None, Bool}
 use Rattle.std.proofs.lemmas.List.{append-nil}
 use Rattle.apply_board.specs.declared.view.View.{View}
@@ -30,7 +30,7 @@ module _ {W F : Type 0} where
   one_hand v k holds = ap (λ l. map (λ k. (k, None)) (drop (length v.given) l)) holds
       ∙ ap (λ l. map (λ k. (k, None)) l) (drop_numbers v.given (k ∷ []))
 
-  -- a number that is held is a slot's
+  -- A number that is held is a slot's.
   pub held_within : (slots : ℕ) (v : View W F) (k : ℕ)
       → ((i : ℕ) → i < length v.claimed → get_or v.claimed i 0 < slots) → v.claimed ≡ result_numbers v.given ++ k ∷ []
       → k < slots
@@ -43,7 +43,7 @@ module _ {W F : Type 0} where
       → v.claimed ≡ result_numbers (v.given ++ (k, f) ∷ [])
   gives_all v k f holds = holds ∙ sym (numbers-append v.given ((k, f) ∷ []))
 
-  -- a seat that has given k
+  -- A seat that has given k.
   pub sits_given : (gives : W → F → Type 0) (slots : ℕ) (v : View W F) (hand : List (ℕ × Option (Group W F)))
       (spent : Bool) (made k : ℕ) (f : F) → IsSitting gives slots v hand spent made
       → v.claimed ≡ result_numbers v.given ++ k ∷ [] → Moment gives (with_result v k f)
@@ -60,7 +60,7 @@ module _ {W F : Type 0} where
   }
 
 module _ {W F : Type 0} (gives : W → F → Type 0) (slots : ℕ) where
-  -- the seat that a board is opened with
+  -- The seat that a board is opened with.
   pub sits_opening : (works : List W) → Moment gives (opener_view works)
       → IsSitting gives slots (opener_view works) [] false 1
   sits_opening works moment = record {
@@ -74,7 +74,7 @@ module _ {W F : Type 0} (gives : W → F → Type 0) (slots : ℕ) where
     history = moment;
   }
 
-  -- a seat that was made
+  -- A seat that was made.
   pub sits_new : (v : View W F) → Moment gives (new_seat_view v) → IsSitting gives slots (new_seat_view v) [] false 0
   sits_new v moment = record {
     seated = refl;
@@ -87,7 +87,7 @@ module _ {W F : Type 0} (gives : W → F → Type 0) (slots : ℕ) where
     history = moment;
   }
 
-  -- the opener's seat that made it
+  -- The opener's seat that made it.
   pub sits_seating : (v : View W F) (hand : List (ℕ × Option (Group W F))) (spent : Bool) (made : ℕ)
       → IsSitting gives slots v hand spent made → Moment gives (with_seat_made v)
       → IsSitting gives slots (with_seat_made v) hand spent (made + 1)

@@ -1,4 +1,4 @@
--- What follows from a board's history, and what stays of it in each step.
+-- Consequences of a board's invariant, and the parts of it that each step keeps.
 use Rattle.std.proofs.Common.{◌≡◌, ◌≢◌, ℕ, zero, suc, ◌+◌, ◌<◌, ◌≤◌, min, Bool, true, false, cond, List, [], ◌∷◌, ◌++◌, length, set, sym, refl, ap, ◌∙◌, subst, ⊎_elim, arith, length-set}
 use mathlib.Core.Logic.{dite}
 use mathlib.Core.Option.{some, some-injective}
@@ -21,7 +21,7 @@ module _ {W F : Type 0} (gives : W → F → Type 0) (works : List W) where
   abbrev S : Type 0
   S = Shared W F
 
-  -- what a seat gave it had claimed
+  -- A seat has claimed what it gave.
   given_le : (s : S) (v : V) (k : ℕ) → IsSeat gives works s v
       → occurrences_of k (result_numbers v.given) ≤ occurrences_of k v.claimed
   given_le s v k o = ⊎_elim (λ (e : v.claimed ≡ result_numbers v.given). let t = ap (occurrences_of k) e in omega arith)
@@ -47,7 +47,7 @@ module _ {W F : Type 0} (gives : W → F → Type 0) (works : List W) where
   at_most_one s r k = dite (dec_le (suc k) (min (draw_count s) (length works)))
       (λ below. omega (arith, r.claimed k (omega arith))) (λ past. omega (arith, r.unclaimed k (omega arith)))
 
-  -- what is claimed is below word 0, and a work
+  -- A claimed number is below word 0, and a work's.
   pub claimed_below : (s : S) → BoardHistory gives works s → (j : ℕ) (v : V) → get_elem? s.views j ≡ some v → (k : ℕ)
       → 1 ≤ claims_of k v → (k < draw_count s) × (k < length works)
   claimed_below s r j v at k d = let t = term_le (claims_of k) s.views j v at in
@@ -55,7 +55,7 @@ module _ {W F : Type 0} (gives : W → F → Type 0) (works : List W) where
       (λ below. (omega arith, omega arith))
       (λ past. let z = r.unclaimed k (omega arith) in absurd (omega arith))
 
-  -- what is marked is a seat, or one that was taken in
+  -- A marked seat is a seat or was joined into one.
   marks_le : (s : S) → BoardHistory gives works s → (j : ℕ) (v : V) → get_elem? s.views j ≡ some v
       → marks_of v ≤ v.gathered_marks + seats_of v
   marks_le s r j v at = let by : (b : Bool) → v.seated ≡ b
@@ -73,13 +73,13 @@ module _ {W F : Type 0} (gives : W → F → Type 0) (works : List W) where
     total-both (λ v. v.gathered_marks) seats_of s.views,
   )
 
-  -- a number that the seat v claimed and didn't give was given by nobody
+  -- A number that seat v claimed and didn't give was given by no seat.
   pub none_given : (s : S) → BoardHistory gives works s → (j : ℕ) (v : V) → get_elem? s.views j ≡ some v → (k : ℕ)
       → 1 ≤ claims_of k v → gifts_of k v ≡ 0 → sum_of (gifts_of k) s.views ≡ 0
   none_given s r j v at k held ungiven = let t = total_le_at (gifts_of k) (claims_of k) s.views j v at
       (gifts_le s r k) in let m = at_most_one s r k in omega arith
 
-  -- a seat is as it was where a step leaves the slots of what it claimed
+  -- A seat is as it was if a step leaves the slots of its claims.
   pub stays : (s s' : S) (v : V) → draw_count s ≤ draw_count s'
       → ((k : ℕ) → 1 ≤ claims_of k v → get_elem? s'.homes k ≡ get_elem? s.homes k) → IsSeat gives works s v
       → IsSeat gives works s' v
@@ -92,7 +92,7 @@ module _ {W F : Type 0} (gives : W → F → Type 0) (works : List W) where
     spent_late = λ e. let h = o.spent_late e in omega arith;
   }
 
-  -- what holds of the view that a step changes, and of the others, holds of all
+  -- A property of the view that a step changes, and of the others, holds for all.
   pub seats_stay : (K : ℕ → V → Type 0) (vs : List V) (me : ℕ) (w : V) → K me w
       → ((j : ℕ) (d : V) → j ≢ me → get_elem? vs j ≡ some d → K j d) → (j : ℕ) (d : V)
       → get_elem? (set vs me w) j ≡ some d → K j d
@@ -100,7 +100,7 @@ module _ {W F : Type 0} (gives : W → F → Type 0) (works : List W) where
       (λ i. (sym t.0 i, t.1 i)) mine)
       (λ (t : (j ≢ me) × (get_elem? vs j ≡ some d)). others j d t.0 t.1) (at_set vs me j w d e)
 
-  -- a step of one seat leaves the opener's the first
+  -- A step of one seat leaves the opener's the first.
   pub opener_stays : (vs : List V) (id : ℕ) (v w : V) → get_elem? vs id ≡ some v → (0 < v.made → 0 < w.made)
       → w.seated ≡ true → OpenerIsFirst vs → OpenerIsFirst (set vs id w)
   opener_stays [] id v w at made seated first = first
@@ -111,7 +111,7 @@ module _ {W F : Type 0} (gives : W → F → Type 0) (works : List W) where
   )
   opener_stays (x ∷ xs) (suc id) v w at made seated first = first
 
-  -- and so does what happens to another
+  -- So does a change of another seat.
   pub opener_beside : (vs : List V) (other : ℕ) (w : V) → other ≢ 0 → OpenerIsFirst vs
       → OpenerIsFirst (set vs other w)
   opener_beside [] other w apart first = first
@@ -125,7 +125,7 @@ module _ {W F : Type 0} (gives : W → F → Type 0) (works : List W) where
   abbrev pub Counts : List V → ℕ → V → Type 0
   Counts vs j v = 0 < v.made → (j ≡ 0) × (v.made ≡ length vs) × (v.unjoined ≡ sum_of seats_of vs)
 
-  -- a step that makes no seat and takes none in leaves the counts
+  -- A step that makes no seat and joins none leaves the counts.
   pub counts_stay : (s : S) → BoardHistory gives works s → (id : ℕ) (v w : V) → get_elem? s.views id ≡ some v
       → w.made ≡ v.made → w.unjoined ≡ v.unjoined → w.seated ≡ v.seated
       → (j : ℕ) (d : V) → get_elem? (set s.views id w) j ≡ some d → Counts (set s.views id w) j d

@@ -1,4 +1,4 @@
--- A new seat, and one that is taken in, keep the board's history.
+-- Making a seat and joining one keep the board's invariant.
 use Rattle.std.proofs.Common.{◌≡◌, ◌≢◌, ◌⊎◌, ℕ, ◌+◌, ◌<◌, ◌≤◌, Bool, true, false, cond, List, [], ◌∷◌, ◌++◌, length, set, sym, refl, ap, ◌∙◌, subst, ⊎_elim, inl, inr, arith, length-set, true≢false}
 use mathlib.Core.Logic.{dite}
 use mathlib.Core.Option.{some, some-ne-none}
@@ -23,7 +23,7 @@ module _ {W F : Type 0} (gives : W → F → Type 0) (works : List W) where
   snoc_length [] v = refl
   snoc_length (x ∷ xs) v = omega (arith, snoc_length xs v)
 
-  -- a seat knows no less where slots and words are as they were
+  -- A seat's view stays valid if slots and words are as they were.
   pub same_slots : (s s' : S) (v : V) → s'.words ≡ s.words → s'.homes ≡ s.homes → IsSeat gives works s v
       → IsSeat gives works s' v
   same_slots s s' v words homes o = record {
@@ -36,7 +36,7 @@ module _ {W F : Type 0} (gives : W → F → Type 0) (works : List W) where
         let n = ap (λ (l : List ℕ). Rattle.std.proofs.Common.get_or l 0 0) words in omega arith;
   }
 
-  -- a seat that has done nothing
+  -- A seat that has done nothing.
   fresh : (s : S) (v : V) → v.works ≡ works → IsSeat gives works s (new_seat_view v)
   fresh s v same = record {
     keeps = same;
@@ -110,7 +110,7 @@ module _ {W F : Type 0} (gives : W → F → Type 0) (works : List W) where
             (at_snoc vs u' d j e);
       }
 
-  -- what holds of a result that either seat gave, or gathered, holds of what the one knows behind it
+  -- A property of each result of either seat holds for the results after joining them.
   either_gave : (v w : V) (i k : ℕ) (f : F) {X : Type 0}
       → get_elem? (v.given ++ (with_seat_joined v w).gathered) i ≡ some (k, f)
       → ((j : ℕ) → get_elem? (v.given ++ v.gathered) j ≡ some (k, f) → X)
@@ -202,7 +202,7 @@ module _ {W F : Type 0} (gives : W → F → Type 0) (works : List W) where
             (λ e. absurd (true≢false (sym seated ∙ e))) (λ j d _ _ a e. r.each_vacated j d a e);
       }
 
--- the opener's seat, which had the view v at a moment, has made another, and each has its view at a moment
+-- The opener's seat, which had the view v at a moment, has made another, and each has its view at a moment.
 pub make_moment : {W F : Type 0} (gives : W → F → Type 0) (v : View W F) → 0 < v.made → v.made < 64 → v.seated ≡ true
     → Moment gives v → Moment gives (with_seat_made v) × Moment gives (new_seat_view v)
 make_moment {W} {F} gives v opens room seated moment =

@@ -1,4 +1,4 @@
--- Sums over lists that change at one place, and how often a number stands in a list.
+-- Sums over lists that change at one place, and the number of occurrences in a list.
 use Rattle.std.proofs.Common.{◌≡◌, ℕ, zero, suc, ◌+◌, ◌<◌, ◌≤◌, ◌≢◌, ◌⊎◌, List, [], ◌∷◌, ◌++◌, map, length, set, get_or, sym, refl, ap, inl, inr, ⊎_elim, arith, cond, eqb, eq-eqb, ne_eqb, Bool, true, false}
 use mathlib.Core.Logic.{dite}
 use native.Mathlib.Decide.{ℕ_discrete}
@@ -50,7 +50,7 @@ module _ {A : Type 0} where
     total_none h (x ∷ xs) z e = let a : g x ≡ 0 = omega arith in
         omega (arith, z 0 x refl a, total_none h xs (λ j. z (suc j)) (omega arith))
 
-    -- where only v weighs anything under g, and h is 0 where g is, only v weighs anything under h
+    -- If only v has a positive value under g, and h is 0 where g is, only v has one under h.
     pub total_only : (h : A → ℕ) (l : List A) (j : ℕ) (v : A) → ((j : ℕ) (x : A) → get_elem? l j ≡ some x → g x ≡ 0
         → h x ≡ 0) → get_elem? l j ≡ some v → sum_of g l ≡ g v → sum_of h l ≡ h v
     total_only h [] j v z e t = absurd (some-ne-none v (sym e))
@@ -64,12 +64,12 @@ module _ {A : Type 0} (g h : A → ℕ) where
   total-both [] = refl
   total-both (x ∷ xs) = omega (arith, total-both xs)
 
-  -- where g is at most h everywhere
+  -- If g is at most h everywhere, so is the sum.
   pub total_le : (l : List A) → ((i : ℕ) (x : A) → get_elem? l i ≡ some x → g x ≤ h x) → sum_of g l ≤ sum_of h l
   total_le [] below = omega arith
   total_le (x ∷ xs) below = let a = below 0 x refl in let b = total_le xs (λ i. below (suc i)) in omega arith
 
-  -- the sums are at least as far apart as the terms of v
+  -- The sums differ by at least as much as the terms of v.
   pub total_le_at : (l : List A) (j : ℕ) (v : A) → get_elem? l j ≡ some v
       → ((i : ℕ) (x : A) → get_elem? l i ≡ some x → g x ≤ h x) → sum_of g l + h v ≤ sum_of h l + g v
   total_le_at [] j v e below = absurd (some-ne-none v (sym e))
@@ -101,7 +101,7 @@ at_of [] i h = absurd (omega arith)
 at_of (x ∷ xs) zero h = refl
 at_of (x ∷ xs) (suc i) h = at_of xs i (omega arith)
 
--- a number that stands in the list has a place there
+-- A number that occurs in the list has a place there.
 pub place_of : (k : ℕ) (xs : List ℕ) → 1 ≤ occurrences_of k xs → (i : ℕ) × (get_elem? xs i ≡ some k)
 place_of k [] h = absurd (omega arith)
 place_of k (x ∷ xs) h = dite (ℕ_discrete x k) (λ e. (0, ap some e)) (λ n. let b = other_bit k x n in

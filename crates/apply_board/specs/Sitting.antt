@@ -1,12 +1,12 @@
--- What a seat is seen as.
+-- The model of a seat.
 use Rattle.atomic_table.specs.Seated.{TableId}
 use Rattle.apply_board.specs.declared.view.View.{View}
 
--- which board it is: what no other has in common with it
+-- The identity of a board, which no other board has.
 abbrev pub BoardId : Type 0
 BoardId = TableId
 
--- which board the seat is of, and what it knows
+-- The board of the seat, and its view.
 pub record Sitting (W F : Type 0) : Type 0 where
   pub board : BoardId
   pub view : View W F

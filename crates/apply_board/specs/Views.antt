@@ -1,13 +1,12 @@
--- What a seat knows, and how that changes.
+-- The view of a seat, and how it changes.
 use Rattle.std.specs.Prelude.{ℕ, ◌+◌, ◌-◌, true, false, cond, List, [], ◌∷◌, ◌++◌, map}
 use Rattle.apply_board.specs.declared.view.View.{View}
 
--- the numbers under which these results were given
+-- The numbers under which these results were given.
 abbrev pub result_numbers : {F : Type 0} → List (ℕ × F) → List ℕ
 result_numbers given = map (λ one. one.0) given
 
 module _ {W F : Type 0} where
-  -- the first seat of a board
   abbrev pub opener_view : List W → View W F
   opener_view works = record {
     marker = record {};
@@ -22,7 +21,7 @@ module _ {W F : Type 0} where
     unjoined = 1;
   }
 
-  -- a seat that this one makes
+  -- A seat that this one makes.
   abbrev pub new_seat_view : View W F → View W F
   new_seat_view v = record {
     marker = record {};
@@ -37,27 +36,25 @@ module _ {W F : Type 0} where
     unjoined = 0;
   }
 
-  -- the opener's seat has made another
+  -- The opener's seat has made another.
   abbrev pub with_seat_made : View W F → View W F
   with_seat_made v = record v { made = v.made + 1; unjoined = v.unjoined + 1 }
 
-  -- the seat has claimed k
   abbrev pub with_claim : View W F → ℕ → View W F
   with_claim v k = record v { claimed = v.claimed ++ k ∷ [] }
 
-  -- the seat has found every number claimed
+  -- The seat has found every number claimed.
   abbrev pub with_spent : View W F → View W F
   with_spent v = record v { spent = true }
 
-  -- the seat has given a result under k
   abbrev pub with_result : View W F → ℕ → F → View W F
   with_result v k finished = record v { given = v.given ++ (k, finished) ∷ [] }
 
-  -- how many of this seat and those that it took in were marked as spent
+  -- The number of spent seats among this one and those joined into it.
   abbrev pub marks_of : View W F → ℕ
   marks_of v = cond v.spent 1 0 + v.gathered_marks
 
-  -- the opener's seat v has taken in the seat w, whose results and mark it keeps apart from its own
+  -- Seat w was joined into the opener's seat v, which keeps the results and marks of w separate from its own.
   abbrev pub with_seat_joined : View W F → View W F → View W F
   with_seat_joined v w = record v {
     gathered = v.gathered ++ (w.given ++ w.gathered);
@@ -65,7 +62,7 @@ module _ {W F : Type 0} where
     unjoined = v.unjoined - 1;
   }
 
-  -- what is left of a seat that was taken in
+  -- The view left of a seat that was joined into another.
   abbrev pub vacated_view : View W F
   vacated_view = record {
     marker = record {};

@@ -1,4 +1,4 @@
-//! What a worker does at a board.
+//! The calls of a worker: claim, give, and make a seat.
 ghost use Rattle.std.specs.Prelude.{◌≡◌, ◌↔◌, ◌<◌, ◌≤◌, true, false, IfSome, IfNone, IsNone, All};
 ghost use mathlib.Core.Option.{some};
 ghost use lib.ListN.{get_elem?};
@@ -12,15 +12,15 @@ use crate::seat::{Board, Seat};
 
 const MOST_SEATS: u64 = 64;
 
-/// A number that a seat has claimed, to be given back with the result of its work.
+/// A number that a seat has claimed. It is given back with the result of its work.
 #[derive(Drop)]
 pub struct Claim {
     pub number: usize,
 }
 
 impl<W: Yields<F> + Drop, F: Drop> Board<W, F> {
-    /// The next number, with its work. `None` where every number was claimed; the seat is spent then, and is answered
-    /// `None` from then on.
+    /// Claims the next number and returns it with its work. Returns `None` if every number was claimed; the seat is
+    /// spent then, and gets `None` from then on.
     pub fn claim(&self, seat: &mut Seat<W, F>) -> Option<(Claim, W)>
         requires own { seat.old.board ≡ self.now }
         requires idle { IsIdle seat.old }
@@ -49,7 +49,7 @@ impl<W: Yields<F> + Drop, F: Drop> Board<W, F> {
         Some((Claim { number }, work))
     }
 
-    /// Brings the result of a claim home. The result is of the claim's work.
+    /// Stores the result of a claim's work under its number.
     pub fn give(&self, seat: &mut Seat<W, F>, claim: Claim, finished: F)
         requires own { seat.old.board ≡ self.now }
         requires holds { HoldsClaim seat.old claim.number }
@@ -67,7 +67,7 @@ impl<W: Yields<F> + Drop, F: Drop> Board<W, F> {
         shared.store::<Give>(&mut seat.place, number + 1, 1);
     }
 
-    /// One more seat, from the opener's, which counts it. `None` only where 64 were made.
+    /// Makes one more seat; the opener's seat counts it. Returns `None` only if 64 were made.
     pub fn seat(&self, opener: &mut Seat<W, F>) -> Option<Seat<W, F>>
         requires own { opener.old.board ≡ self.now }
         requires opener { IsOpener opener.old }

@@ -1,16 +1,16 @@
-//! Works, results, and what comes back of them.
+//! Works, results, and the groups that a closed board returns.
 
-/// A work that yields an `F`.
+/// A work whose result is an `F`.
 pub trait Yields<F> {
-    // whether a result is of this work
+    // Whether a result is of this work.
     ghost gives: { Self → F → Type 0 };
 }
 
-/// What comes back for a number when a board is closed.
+/// The state of a number when its board is closed.
 #[derive(Drop)]
 pub enum Group<W, F> {
     /// The result that was given.
     Home(F),
-    /// The work as it was opened: nobody claimed it.
+    /// The work as it was when the board was opened: no worker claimed it.
     Unclaimed(W),
 }

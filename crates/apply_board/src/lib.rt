@@ -1,10 +1,10 @@
-//! Works in numbered places, for workers on threads: each claims the next number by one atomic addition, and
-//! gives the result back by one atomic store. No call takes a lock or waits for another.
+//! Works in numbered places, for workers on threads: each claims the next number by one atomic addition, and gives the
+//! result back by one atomic store. No call takes a lock or waits for another.
 //!
-//! A worker has a seat. What the seat has claimed and given, and whether it has found every number claimed,
-//! stands in its view (`specs/Views.antt`); no code holds it. `specs/Board.antt` says what holds of the words, the
-//! slots and all seats' views of a board between any two steps: that no number is claimed twice, for one.
-//! `specs/Closing.antt` says what comes back in the end.
+//! A worker has a seat. Its ghost view (`specs/Views.antt`) has the numbers that it claimed and gave, and whether it
+//! found every number claimed; no code holds the view. `specs/Board.antt` has the invariant of the words, the slots and
+//! all seats' views of a board between any two steps; for example no number is claimed twice. `specs/Closing.antt` says
+//! what a board returns in the end.
 //!
 //! ```text
 //! let (board, mut opener) = Board::open(alloc, works)?;

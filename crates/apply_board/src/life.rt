@@ -1,4 +1,4 @@
-//! How a board is opened and closed.
+//! Opening and closing a board.
 ghost use Rattle.std.specs.Prelude.{◌≡◌, ◌<◌, ◌≤◌, [], true, map, length, IfOk, All, Some};
 ghost use Rattle.std.specs.Vec.{vec_capacity};
 ghost use Rattle.std.specs.Mem.Slots.{slots_items, slots_len, IsFull};
@@ -19,7 +19,7 @@ use std::alloc::Global;
 use std::snapshot::Snapshot;
 use values::NoMemory;
 
-// What lies in the slots at first.
+// The slots of a new board: each has its work.
 fn initial_slots<W: Drop, F: Drop>(
     alloc: Global,
     mut works: Vec<W>,
@@ -34,7 +34,7 @@ fn initial_slots<W: Drop, F: Drop>(
     Ok(slots)
 }
 
-// What lies in the slots, in order.
+// The contents of the slots, in order.
 fn drain_slots<W: Drop, F: Drop>(
     mut closed: Closed<Option<Group<W, F>>, Global>,
     mut groups: Vec<Group<W, F>>,
@@ -59,8 +59,8 @@ fn drain_slots<W: Drop, F: Drop>(
 }
 
 impl<W: Yields<F> + Drop, F: Drop> Board<W, F> {
-    /// A board with these works, each under its place in the list, and the opener's seat. It makes the room for all
-    /// that the other calls need; `NoMemory` where that isn't to be had, and the works are dropped.
+    /// A board with these works, each under its place in the list, and the opener's seat. It allocates everything that
+    /// the other calls need. Fails with `NoMemory` if an allocation is refused, and drops the works.
     pub fn open(alloc: Global, works: Vec<W>) -> Result<(Board<W, F>, Seat<W, F>), NoMemory>
         ensures own { IfOk result (λ b. b.1.board ≡ b.0) }
         ensures opener { IfOk result (λ b. b.1.view ≡ opener_view works.items) }
@@ -84,7 +84,7 @@ impl<W: Yields<F> + Drop, F: Drop> Board<W, F> {
         }
     }
 
-    // Takes the others into the opener's seat.
+    // Joins the other seats into the opener's seat.
     fn gather(
         &self,
         place: &mut atomic_table::Seat<Option<Group<W, F>>, View<W, F>>,
@@ -107,7 +107,7 @@ impl<W: Yields<F> + Drop, F: Drop> Board<W, F> {
         }
     }
 
-    /// Each group once, by number: the result where one was given, and else the work as it was opened.
+    /// Each group once, by number: the result if one was given, or else the work as it was when the board was opened.
     pub fn close(self, mut seats: Vec<Seat<W, F>>) -> Vec<Group<W, F>>
         requires { AreAllSeats self seats.items }
         ensures { IsSettled W.gives (works_of seats.items) (all_given seats.items) (any_spent seats.items)

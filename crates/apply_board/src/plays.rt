@@ -1,4 +1,4 @@
-//! The rule of a board's table, and what each step tells.
+//! The rule of a board's table, and what a seat learns from each step.
 ghost use Rattle.apply_board.specs.Views.{opener_view, new_seat_view, with_seat_made, with_seat_joined, vacated_view};
 ghost use Rattle.apply_board.specs.Board.{BoardHistory};
 ghost use Rattle.apply_board.specs.Inner.Steps.{DrawsNumber, GivesResult};

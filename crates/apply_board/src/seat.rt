@@ -1,4 +1,4 @@
-//! A board, and the seats at it.
+//! A board, and its seats.
 
 use crate::group::{Group, Yields};
 use crate::plays::Order;
@@ -8,11 +8,11 @@ use std::alloc::Global;
 use std::marker::Model;
 use std::snapshot::Snapshot;
 
-/// Works in numbered places. It is seen as its identity, which no other board has.
+/// Works in numbered places. Its model is an identity that no other board has.
 #[derive(Drop)]
 pub struct Board<W: Yields<F>, F> {
     pub(crate) table: Table<Option<Group<W, F>>, View<W, F>, Snapshot<Vec<W>>, Order, Global>,
-    // Room for what `close` answers.
+    // Capacity for the result of `close`.
     pub(crate) groups: Vec<Group<W, F>>,
 }
 
@@ -30,13 +30,13 @@ impl<W: Yields<F>, F> Model for Board<W, F> {
     ghost invariant = { λ b. IsRoomy b.table.shared.table_id b.groups.items (vec_capacity b.groups) };
 }
 
-/// A worker's place at a board. It is seen as which board that is, and what the seat knows.
+/// A worker's place at a board. Its model is the board's identity and the seat's view.
 #[derive(Drop)]
 pub struct Seat<W: Yields<F>, F> {
     pub(crate) place: atomic_table::Seat<Option<Group<W, F>>, View<W, F>>,
     // The seat found every number claimed.
     pub(crate) spent: bool,
-    // Of the opener's seat: how many seats were made, itself among them. Of others 0.
+    // In the opener's seat the number of seats made, itself included; 0 in any other seat.
     pub(crate) made: u64,
 }
 

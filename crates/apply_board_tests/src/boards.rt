@@ -1,4 +1,4 @@
-//! Boards whose seats take turns, in one thread.
+//! Boards whose seats take turns, on one thread.
 
 ghost use Rattle.std.specs.Prelude.{◌≡◌, ◌<◌};
 ghost use Rattle.apply_board.specs.Seats.{IsOpener};
@@ -86,7 +86,7 @@ fn a_worker_claims_what_is_left(rt: HostRuntime) -> Result<(), Fail> {
     Ok(())
 }
 
-// How many seats the board makes beside the opener's, of a hundred that are asked for.
+// The number of seats that the board makes besides the opener's, when a hundred are asked for.
 fn seats_beside(board: &Board<Number, Doubled>, opener: &mut Seat<Number, Doubled>) -> u64
     requires own { opener.old.board ≡ board.now }
     requires opener { IsOpener opener.old }

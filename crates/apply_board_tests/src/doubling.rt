@@ -1,4 +1,4 @@
-//! A small work: a number, to be doubled.
+//! A small work: a number to be doubled.
 use apply_board::{Group, Yields};
 use apply_workers::Job;
 use std::alloc::Global;
@@ -28,7 +28,7 @@ impl Job<Doubled> for Number {
     }
 }
 
-/// The numbers from 10 on, so many.
+/// This many numbers, from 10 on.
 pub fn numbers(alloc: Global, count: u64) -> Result<Vec<Number>, NoMemory> {
     let mut works = Vec::new(alloc);
     for k in 0..count {
@@ -39,7 +39,7 @@ pub fn numbers(alloc: Global, count: u64) -> Result<Vec<Number>, NoMemory> {
     Ok(works)
 }
 
-/// What came back: "=20" for a result, "?10" for a work that nobody claimed.
+/// The groups returned: "=20" for a result, "?10" for a work that no worker claimed.
 pub fn shown(alloc: Global, groups: &[Group<Number, Doubled>]) -> Result<String, NoMemory> {
     let mut text = String::new(alloc);
     for group in groups {

@@ -1,5 +1,5 @@
-//! Tests of boards and of workers at them, over public calls alone. They stand in a crate of their own, since a crate
-//! that has tests is proved twice.
+//! Tests of boards and their workers, over public calls alone. They are a crate of their own, since a crate with tests
+//! is proved twice.
 #![tactic(auto)]
 
 #[cfg(test)]

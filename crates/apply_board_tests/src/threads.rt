@@ -11,7 +11,7 @@ use std::thread::Threads;
 
 const MOST_TURNS: u64 = 1_000_000_000;
 
-// Holds a work until both others of three were passed, or marks that they were not.
+// Holds a work until both others of three were passed, or notes that they weren't.
 #[derive(Drop)]
 struct Holding {
     held: usize,
@@ -55,7 +55,7 @@ fn a_held_work_holds_no_other(rt: HostRuntime) -> Result<(), Fail> {
     Ok(())
 }
 
-// The sum of all results of so many works, done by so many workers.
+// The sum of all results of this many works, done by this many workers.
 fn sum_of<R: Threads + Sync>(rt: &R, alloc: Global, works: u64, workers: usize) -> Result<u64, Fail>
     requires { 0 < workers }
 {

@@ -1,4 +1,4 @@
--- Transactions that came into groups, and their paths.
+-- Transactions that got groups, and their paths.
 use Rattle.std.proofs.Common.{◌≡◌, ℕ, ◌<◌, ◌≤◌, nat_eq, List, [], ◌∷◌, ◌++◌, Bool, true, false, cond, ◌||◌, refl, sym, ap, ◌∙◌, subst, arith}
 use Rattle.std.specs.List.{flat_map, AllByRecursion}
 use Rattle.std.specs.Ordering.{eq_by_cmp}
@@ -38,7 +38,7 @@ pub keeps_to : (paths : ℕ → List Bytes) (batch : List GroupedTxn) → AllByR
 keeps_to paths [] free among = tt
 keeps_to paths (t ∷ ts) free among = ((free.0, among.0), keeps_to paths ts free.1 among.1)
 
--- ---- whose a path is
+-- ---- the group of a path
 
 in_front : (p : Bytes) (xs ys : List Bytes) → has_path xs p ≡ true → has_path (xs ++ ys) p ≡ true
 in_front p xs ys h = list_any-append (eq_by_cmp path_cmp p) xs ys ∙ ap (λ b. b || has_path ys p) h
@@ -51,7 +51,7 @@ in_rest : (p : Bytes) (xs ys : List Bytes) → has_path ys p ≡ true → has_pa
 in_rest p xs ys h =
     list_any-append (eq_by_cmp path_cmp p) xs ys ∙ ap (λ b. has_path xs p || b) h ∙ or_true (has_path xs p)
 
--- a group below the number that has the path
+-- A group below the number that has the path.
 pub record HasGroup (n : ℕ) (paths : ℕ → List Bytes) (p : Bytes) : Type 0 where
   pub number : ℕ
   pub below : number < n
@@ -72,7 +72,7 @@ group_of n paths (t ∷ ts) p among below h =
     by true e rest h = record { number = t.0; below = below.0; there = among.0 p e }
     by false e rest h = rest (ap (λ b. b || has_path (flat_map footprint (batch_of ts)) p) (sym e) ∙ h)
 
--- a group's path is the batch's
+-- A group's path is the batch's.
 pub in_batch : (k : ℕ) (batch : List GroupedTxn) (p : Bytes) → has_path (paths_in k batch) p ≡ true
     → has_path (flat_map footprint (batch_of batch)) p ≡ true
 in_batch k [] p h = h
@@ -95,7 +95,7 @@ in_batch k (t ∷ ts) p h = by (nat_eq t.0 k) (in_batch k ts p) h
         (sym (list_any-append (eq_by_cmp path_cmp p) (footprint t.1) (paths_in k ts)) ∙ h)
     by false rest h = in_rest p (footprint t.1) (flat_map footprint (batch_of ts)) (rest h)
 
--- and a group that has a path was opened
+-- A group that has a path was opened.
 pub is_below : (n k : ℕ) (batch : List GroupedTxn) (p : Bytes) → AllByRecursion (λ (t : GroupedTxn). t.0 < n) batch
     → has_path (paths_in k batch) p ≡ true → k < n
 is_below n k [] p below h = absurd (true≢false (sym h))
@@ -106,7 +106,7 @@ is_below n k (t ∷ ts) p below h = by (nat_eq t.0 k) refl (is_below n k ts p be
     by true e rest h = subst (λ j. j < n) (eqb-true t.0 k e) below.0
     by false e rest h = rest h
 
--- nothing stands at the places of a group that wasn't opened
+-- A group that wasn't opened has no places.
 pub nothing_at : {A : Type 0} (n k : ℕ) (batch : List GroupedTxn) (xs : List A)
     → AllByRecursion (λ (t : GroupedTxn). t.0 < n) batch → n ≤ k → entries_of_group k batch xs ≡ []
 nothing_at n k [] xs below above = refl

@@ -1,4 +1,4 @@
--- What all groups left and answered, and the places of their outcomes.
+-- The cells and outcomes of all groups, and the places of their outcomes.
 use Rattle.std.proofs.Common.{◌≡◌, ℕ, suc, ◌+◌, ◌<◌, ◌≤◌, List, [], ◌∷◌, ◌++◌, true, false, Option, Some, None, Result, Ok, Err, IfOk, map, length, get_or, set, All, refl, sym, ap, ◌∙◌, subst, subst₂, arith, append_assoc, length-set}
 use Rattle.std.proofs.lemmas.Option.{none-some}
 use mathlib.Core.Option.{some}
@@ -29,7 +29,7 @@ pub if_ok : {A E : Type 0} {P Q : A → Type 0} (r : Result A E) → ((a : A) �
 if_ok (Ok a) f h = f a h
 if_ok (Err e) f h = tt
 
--- ---- groups that came home
+-- ---- groups that were given back
 
 homes_behind : (cs : List State) (os : List (List Outcome)) (c : State) (o : List Outcome) → length cs ≡ length os
     → finished_groups (cs ++ c ∷ []) (os ++ o ∷ []) ≡ finished_groups cs os ++ Home (Done c o) ∷ []
@@ -63,7 +63,7 @@ same_home : (c : State) (o : List Outcome) (finished : Finished) → some (home_
     → Done c o ≡ finished
 same_home c o finished e = cc
 
--- what each work leaves and answers
+-- What each work leaves, and its outcomes.
 record AreDone (works : List Work) (cs : List State) (os : List (List Outcome)) : Type 0 where
   left : cs ≡ after_each (map cells_of works) (map txns_of works)
   answered : os ≡ outcomes_of_each (map cells_of works) (map txns_of works)
@@ -81,7 +81,7 @@ all_done (w ∷ ws) (c ∷ cs) (o ∷ os) l m h =
     let rest = all_done ws cs os (omega arith) (omega arith) (λ k v e. h (suc k) v e) in
     record { left = λ i. done.state i ∷ rest.left i; answered = λ i. done.outcomes i ∷ rest.answered i }
 
--- all groups are home, with what they leave of these cells and answer
+-- All groups were given back, with their cells after their transactions and their outcomes.
 pub record CameHome (taken : List State) (todo : List (List Txn)) (cs : List State) (os : List (List Outcome)) : Type 0
   where
     pub left : cs ≡ after_each taken todo
@@ -130,7 +130,7 @@ below : (ts : List GroupedTxn) (n : ℕ) → group_count ts ≤ n → AllByRecur
 below [] n h = tt
 below (t ∷ ts) n h = (omega arith, below ts n (omega arith))
 
--- a group's places are places of the batch
+-- A group's places are places of the batch.
 pub members_within : (txns : List Txn) (i : ℕ) (d : TxnGroup) → i < length (groups_of txns)
     → All (λ p. p < length txns) (get_or (groups_of txns) i d).members
 members_within txns i d l = by (tagged_txns txns) refl l
@@ -164,7 +164,7 @@ module _ {A : Type 0} where
       ap (λ l. put_each_at l cs' shares') put
       ∙ subst₂ (λ ds ss. put_each_at all ds ss ≡ whole) next share before
 
-  -- shares at their places are the whole list
+  -- The shares at their places are the whole list.
   pub all_placed : (txns : List Txn) → is_batch txns ≡ true → is_barrier_alone txns ≡ false → (whole xs : List A)
       (shares : List (List A)) → length xs ≡ length txns → IsSplitByGroup txns whole shares
       → put_each_at xs (groups_of txns) shares ≡ whole

@@ -8,14 +8,14 @@ use Rattle.apply_workers.specs.Working.{IsWorked}
 use Rattle.apply_workers.specs.Inner.{AreReady, AreWorked}
 
 module _ {W F : Type 0} where
-  -- a seat of the board without a claim
+  -- A seat of the board without an open claim.
   abbrev pub Fits : BoardId → Sitting W F → Type 0
   Fits board seat = (seat.board ≡ board) × IsIdle seat
 
   abbrev pub seats_of : List (Worker W F) → List (Sitting W F)
   seats_of crew = map (λ w. w.seat) crew
 
-  -- each of these workers' seats fits
+  -- Each of these workers' seats is such a seat.
   abbrev pub EachFits : BoardId → List (Worker W F) → Type 0
   EachFits board [] = Unit {0}
   EachFits board (w ∷ ws) = Fits board w.seat × EachFits board ws
@@ -45,7 +45,7 @@ module _ {W F : Type 0} where
   seats_length [] = refl
   seats_length (w ∷ ws) = omega (arith, seats_length ws)
 
-  -- the opener's worker o, and the others, whom it is put before
+  -- The opener's worker o is put before the others.
   pub ready : (board : BoardId) (works : List W) (others crew all : List (Worker W F)) (o : Worker W F)
       → crew ≡ others ++ o ∷ [] → all ≡ reverse crew → EachFits board others → Fits board o.seat → IsOpener o.seat
       → o.seat.view.unjoined ≡ length others + 1 → o.seat.view.works ≡ works → AreReady board works (seats_of all)
@@ -88,7 +88,7 @@ module _ {W F : Type 0} where
   worked_fit board (s ∷ ss) (t ∷ ts) h fit (suc k) d l = worked_fit board ss ts h.1
       (λ i e n. fit (suc i) e (omega arith)) k d (omega arith)
 
-  -- all seats are back, and spent
+  -- All seats are back, and spent.
   pub back : (board : BoardId) (works : List W) (ss ts : List (Sitting W F)) → AreReady board works ss
       → AreWorked ss ts → AreReady board works ts × (any_spent ts ≡ true)
   back board works [] ts ready h = absurd ready.0

@@ -9,7 +9,7 @@ use Rattle.apply_board.specs.Views.{with_claim, with_result, with_spent}
 use Rattle.apply_board.specs.Seats.{IsIdle}
 use Rattle.apply_workers.specs.Working.{IsWorked}
 
--- one more than the greatest number of the list
+-- One more than the greatest number of the list.
 abbrev pub reach : List ℕ → ℕ
 reach [] = 0
 reach (x ∷ xs) = max (x + 1) (reach xs)
@@ -29,7 +29,7 @@ at_inside (x ∷ xs) zero a e = omega arith
 at_inside (x ∷ xs) (suc i) a e = omega (arith, at_inside xs i a e)
 
 module _ {W F : Type 0} where
-  -- the seat s is t so far
+  -- Seat s is t so far.
   pub record Going (s t : Sitting W F) : Type 0 where
     pub own : t.board ≡ s.board
     pub idle : IsIdle t
@@ -48,7 +48,7 @@ module _ {W F : Type 0} where
     begins = ([], sym (append-nil s.view.given));
   }
 
-  -- the seat t claims k, as m, and gives it, as u
+  -- Seat t claims k and becomes m, then gives it and becomes u.
   pub goes_on : (s t m u : Sitting W F) (k : ℕ) (f : F) → Going s t → m.board ≡ t.board → m.view ≡ with_claim t.view k
       → u.board ≡ m.board → u.view ≡ with_result m.view k f → IsIdle u → Going s u
   goes_on s t m u k f h own claimed own' given idle = let e : u.view ≡ with_result (with_claim t.view k) k f = given
@@ -66,7 +66,7 @@ module _ {W F : Type 0} where
         );
       }
 
-  -- fewer numbers are above those that the seat claimed
+  -- Fewer numbers are above those that the seat claimed.
   pub gets_near : (t m u : Sitting W F) (k : ℕ) (f : F) (w : W) → m.view ≡ with_claim t.view k
       → u.view ≡ with_result m.view k f → All (λ x. x < k) t.view.claimed → get_elem? t.view.works k ≡ some w
       → length u.view.works - reach u.view.claimed < length t.view.works - reach t.view.claimed

@@ -1,14 +1,14 @@
 pub mod Going
 pub mod Crews
--- What a group's paths are among a batch's
+-- A group's paths among those of its batch.
 pub mod BatchPaths
--- What no step of a schedule changes
+-- What no step of a schedule changes.
 pub mod Stepping
--- Groups that are numbered from a place on
+-- Groups that are numbered from a place on.
 pub mod Numbered
--- Every schedule leaves what the batch leaves
+-- Every schedule has the result of the batch.
 pub mod Schedules
--- Schedules that were worked out by hand
+-- Schedules that were worked out by hand.
 pub mod WorkedSchedules
 pub mod Places
 pub mod Returning
@@ -17,5 +17,5 @@ pub mod CameHome
 pub mod Taken
 pub mod Shown
 pub mod Sharing
--- Groups that are stopped
+-- Groups that are stopped.
 pub mod Stopping

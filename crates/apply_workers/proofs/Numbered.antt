@@ -1,4 +1,4 @@
--- Groups that are numbered from a place on, one of which has what is looked for.
+-- Groups that are numbered from a place on, one of which is the one looked for.
 use Rattle.std.proofs.Common.{◌≡◌, ◌≢◌, ℕ, zero, suc, ◌+◌, ◌<◌, ◌≤◌, nat_eq, List, [], ◌∷◌, Bool, true, false, cond, map, refl, sym, ap, ◌∙◌, subst, arith}
 use Rattle.std.specs.List.{AllByRecursion, count_by, range_with_len}
 use Rattle.std.proofs.lemmas.List.Sums.{sum_by-cons}
@@ -19,7 +19,7 @@ all_numbered P group a zero each = tt
 all_numbered P group a (suc n) each =
     (each a (omega arith), all_numbered P group (a + 1) n (λ j above. each j (omega arith)))
 
--- ---- how many pass a test
+-- ---- the number of groups that pass a test
 
 none_passes : (test : GroupState → Bool) (group : ℕ → GroupState) (a n : ℕ)
     → ((j : ℕ) → a ≤ j → test (group j) ≡ false) → count_by test (map group (range_with_len a n)) ≡ 0

@@ -1,4 +1,4 @@
--- What stands at groups' places, and a list that is made of the groups' shares.
+-- The elements at groups' places, and a list made from the groups' shares.
 use Rattle.std.proofs.Common.{◌≡◌, ℕ, zero, suc, ◌+◌, ◌<◌, ◌≤◌, ◌==◌, List, [], ◌∷◌, ◌++◌, Bool, true, false, cond, Some, map, length, get_or, set, All, inl, inr, ◌⊎◌, refl, sym, ap, ◌∙◌, subst, arith, append_assoc, length-append, eq-or-lt_of_le}
 use Rattle.std.proofs.lemmas.Bool.{eq-eqb}
 use Rattle.std.specs.List.{cons_option, slice_get, range_with_len, AllByRecursion}
@@ -9,7 +9,7 @@ use Rattle.apply_workers.specs.Places.{at_places}
 use Rattle.apply_workers.specs.Homing.{split_by_group}
 use Rattle.apply_workers.specs.Inner.{put_at, put_each_at}
 
--- ---- what stands at a group's places
+-- ---- the elements at a group's places
 
 get_behind : {A : Type 0} (front : List A) (x : A) (xs : List A) → slice_get (front ++ x ∷ xs) (length front) ≡ Some x
 get_behind [] x xs = refl
@@ -58,7 +58,7 @@ txns_at_places k ts = at_its_places k ts (batch_of ts) (batch_length ts) ∙ own
 
 -- ---- a group's places are within the batch
 
--- one more in front
+-- One more at the front.
 begins : (m n : ℕ) (ps : List ℕ) → n < m → All (λ p. p < m) ps → All (λ p. p < m) (n ∷ ps)
 begins m n ps l h zero d i = l
 begins m n ps l h (suc j) d i = h j d (omega arith)
@@ -83,7 +83,7 @@ class_below ts j (suc m) (suc i) d l = class_below ts (j + 1) m i d (omega arith
 -- ---- shares that are put at their places
 
 module _ {A : Type 0} where
-  -- the group's items of ws in place of those of xs
+  -- The group's elements of ws in place of those of xs.
   abbrev filled : ℕ → List GroupedTxn → List A → List A → List A
   filled k [] ws xs = xs
   filled k (t ∷ ts) [] xs = xs
@@ -125,7 +125,7 @@ module _ {A : Type 0} where
           ∙ rest w
       by false rest = rest x
 
-  -- of so many groups, from the group j on
+  -- The same for this many groups, from group j on.
   abbrev filled_from : ℕ → ℕ → List GroupedTxn → List A → List A → List A
   filled_from j zero ts ws xs = xs
   filled_from j (suc m) ts ws xs = filled_from (j + 1) m ts ws (filled j ts ws xs)
@@ -142,7 +142,7 @@ module _ {A : Type 0} where
       (split_by_group ws (map (txn_group_at ts) (range_with_len (j + 1) m)))) (put_behind j 0 ts [] ws xs refl l n)
       ∙ put_all (j + 1) m ts ws (filled j ts ws xs) l (filled_length j ts ws xs ∙ n)
 
-  -- the item of a transaction of the group i
+  -- The element of a transaction of group i.
   abbrev item_from : ℕ → ℕ → ℕ → A → A → A
   item_from j zero i w x = x
   item_from j (suc m) i w x = item_from (j + 1) m i w (cond (i == j) w x)

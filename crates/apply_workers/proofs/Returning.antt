@@ -1,4 +1,4 @@
--- Groups that are done apart and come home leave what the batch leaves.
+-- Groups that are applied separately and put back leave what the batch leaves.
 use Rattle.std.proofs.Common.{◌≡◌, ◌⊎◌, ℕ, zero, suc, ◌+◌, ◌<◌, ◌≤◌, List, [], ◌∷◌, Bool, true, false, true≢false, cond, ◌==◌, ◌||◌, Option, Some, None, is_some, map, length, inl, inr, refl, sym, ap, ◌∙◌, subst, subst₂, arith, eq-or-lt_of_le}
 use Rattle.std.proofs.lemmas.Bool.{eqb-true}
 use Rattle.std.specs.List.{range_with_len, flat_map, AllByRecursion}
@@ -21,7 +21,7 @@ use Rattle.apply_workers.specs.Homing.{split_by_group, after_each, outcomes_of_e
 use Rattle.apply_workers.proofs.BatchPaths.{all_free, keeps_to}
 use Rattle.apply_workers.proofs.Places.{at_its_places, txns_at_places, batch_length}
 
--- what is known of cells and of groups
+-- The laws of cells and of groups.
 pub record Laws : Type 0 where
   pub cells : GroupsAreTheBatch
   pub state : CellsPutBackAreTheBatch
@@ -32,7 +32,7 @@ pub record Laws : Type 0 where
   pub barriers : NoneIsABarrier
   pub cover : GroupsCoverTheirPaths
 
--- what holds of tagged transactions that are a batch
+-- The properties of tagged transactions that are a batch.
 pub record AreGroups (ts : List GroupedTxn) : Type 0 where
   pub apart : AreDisjoint (λ k. paths_in k ts)
   pub keeps : KeepsToGroupPaths (λ k. paths_in k ts) ts
@@ -53,7 +53,7 @@ in_class : (ts : List GroupedTxn) (k : ℕ) (p : Bytes) (b : Bool) → has_path 
     → set.contains (txn_group_at ts k).paths p ≡ b
 in_class ts k p b h = set.contains-from_list path_total (paths_in k ts) p ∙ h
 
--- a path of one group is in no other
+-- A path of one group is in no other.
 elsewhere : (ts : List GroupedTxn) → AreDisjoint (λ k. paths_in k ts) → (j k : ℕ) (p : Bytes) → j < k
     → has_path (paths_in j ts) p ≡ true → has_path (paths_in k ts) p ≡ false
 elsewhere ts apart j k p l at = apart j k (λ e. absurd (omega arith)) p at
@@ -62,7 +62,7 @@ before : (ts : List GroupedTxn) → AreDisjoint (λ k. paths_in k ts) → (j k :
     → has_path (paths_in k ts) p ≡ true → has_path (paths_in j ts) p ≡ false
 before ts apart j k p l at = apart k j (λ e. absurd (omega arith)) p at
 
--- ---- what is left of the state
+-- ---- the rest of the state
 
 pub left_elsewhere : Laws → (ts : List GroupedTxn) (j m : ℕ) (s : State) (p : Bytes)
     → ((k : ℕ) → j ≤ k → has_path (paths_in k ts) p ≡ false)
@@ -94,9 +94,9 @@ left_empty laws ts apart j (suc m) s k p l n at = by (eq-or-lt_of_le l)
         (left_elsewhere laws ts (j + 1) m u p (λ i o. elsewhere ts apart j i p (omega arith) here))
     by (inr o) rest = rest o
 
--- ---- what comes back
+-- ---- putting back
 
--- the cells are as the batch leaves them, and nothing stands elsewhere
+-- The cells are as the batch leaves them, and there is nothing elsewhere.
 record Returned (ts : List GroupedTxn) (whole : State) (k : ℕ) (c : State) : Type 0 where
   own : AreSameAt (paths_in k ts) c whole
   nothing : (p : Bytes) → has_path (paths_in k ts) p ≡ false → IsEmptyCell c p
@@ -132,12 +132,12 @@ put_home laws ts apart whole j (c ∷ cs) h t k p l n at empty = by (eq-or-lt_of
         (same_trans (with_cells c t) c whole p ((laws.put c t).put p empty) (h.0.own p here))
     by (inr o) rest = rest o
 
--- ---- groups that are done
+-- ---- groups that are applied
 
 abbrev pub classes_from : List GroupedTxn → ℕ → ℕ → List TxnGroup
 classes_from ts j m = map (txn_group_at ts) (range_with_len j m)
 
--- the state u has the old cells of the group j and of those behind
+-- The state u has the old cells of group j and of those after it.
 abbrev pub IsNear : List GroupedTxn → State → ℕ → State → Type 0
 IsNear ts s j u = (k : ℕ) (p : Bytes) → j ≤ k → has_path (paths_in k ts) p ≡ true → IsSameCell u s p
 
@@ -212,9 +212,9 @@ pub left_sessions : (cs : List TxnGroup) (s : State) → (without_group_cells cs
 left_sessions [] s = refl
 left_sessions (c ∷ cs) s = left_sessions cs (without_cells c.paths s)
 
--- ---- whose a path is
+-- ---- the group of a path
 
--- only groups that were opened have a path
+-- Only groups that were opened have a path.
 within : (ts : List GroupedTxn) (n : ℕ) → AllByRecursion (λ (t : GroupedTxn). t.0 < n) ts → (k : ℕ) (p : Bytes)
     → has_path (paths_in k ts) p ≡ true → k < n
 within [] n below k p at = absurd (true≢false (sym at))
@@ -242,7 +242,7 @@ find_below ts p (suc n) = by (has_path (paths_in n ts) p) refl (find_below ts p 
     by false e (inl found) = inl found
     by false e (inr out) = inr (λ k l. last e out k (eq-or-lt_of_le (omega arith)))
 
--- each path is of a group or of none
+-- Each path is of one group or of none.
 pub find_group : (ts : List GroupedTxn) → AllByRecursion (λ (t : GroupedTxn). t.0 < group_count ts) ts → (p : Bytes)
     → ((k : ℕ) × (has_path (paths_in k ts) p ≡ true)) ⊎ ((k : ℕ) → has_path (paths_in k ts) p ≡ false)
 find_group ts below p = by (find_below ts p (group_count ts))
@@ -258,7 +258,7 @@ find_group ts below p = by (find_below ts p (group_count ts))
     by (inl found) = inl found
     by (inr out) = inr (λ k. sure out k (has_path (paths_in k ts) p) refl)
 
--- ---- what is known of a batch
+-- ---- the properties of a batch
 
 pub are_groups : Laws → (txns : List Txn) (ts : List GroupedTxn) → tagged_txns txns ≡ Some ts → AreGroups ts
 are_groups laws txns ts is = record {
@@ -325,7 +325,7 @@ grouped_home laws s txns ts is =
       };
     }
 
--- a batch that is no barrier has groups
+-- A batch that isn't a barrier has groups.
 pub has_groups : (txns : List Txn) → is_batch txns ≡ true → is_barrier_alone txns ≡ false
     → (ts : List GroupedTxn) × (tagged_txns txns ≡ Some ts)
 has_groups txns batch alone =

@@ -1,4 +1,4 @@
--- Every schedule leaves what the batch leaves.
+-- Every schedule has the result of the batch.
 use Rattle.std.proofs.Common.{◌≡◌, ◌≢◌, ◌⊎◌, ℕ, ◌<◌, ◌≤◌, nat_eq, nat_lt, List, [], ◌∷◌, ◌++◌, Bool, true, false, cond, map, take, drop, Option, Some, None, refl, sym, ap, ◌∙◌, subst, arith, inl, inr}
 use Rattle.std.specs.List.{flat_map, AllByRecursion, count_by, range_with_len}
 use Rattle.std.specs.FinSet as set
@@ -24,9 +24,9 @@ use Rattle.apply_workers.proofs.BatchPaths.{all_free, keeps_to, HasGroup, group_
 use Rattle.apply_workers.proofs.Stepping.{run_same, count_finished, IsLeft, IsApart, same_empty, run_apart}
 use Rattle.apply_workers.proofs.Numbered.{same_cell_trans, all_numbered, one_passes, put_back_sessions, nothing_put, one_put, no_outcomes, own_outcomes}
 
--- ---- a batch, and what holds of its groups
+-- ---- a batch, and the properties of its groups
 
--- the laws of trees and batches
+-- The laws of trees and batches.
 pub record Laws : Type 0 where
   pub keep : TransactionsKeepToTheirFootprints
   pub groups : GroupsAreTheBatch
@@ -57,7 +57,7 @@ of_batch laws txns batch is =
 keeps : (batch : List GroupedTxn) → OfBatch batch → KeepsToGroupPaths (λ k. paths_in k batch) batch
 keeps batch of = keeps_to (λ k. paths_in k batch) batch of.free of.among
 
--- the paths of the group k, and of all of them
+-- The paths of group k, and of all groups.
 abbrev names_in : ℕ → List GroupedTxn → Names
 names_in k batch = set.from_list (paths_in k batch)
 
@@ -68,9 +68,9 @@ named : (paths : List Bytes) (p : Bytes) (b : Bool) → has_path paths p ≡ b
     → set.contains (set.from_list {R = path_cmp} paths) p ≡ b
 named paths p b is = set.contains-from_list path_total paths p ∙ is
 
--- ---- a group that is done
+-- ---- a group with all transactions applied
 
--- the group k when it is done
+-- Group k with all transactions applied.
 abbrev whole : State → List GroupedTxn → ℕ → GroupState
 whole s batch k = with_rest_done (opened_group s batch k)
 
@@ -86,7 +86,7 @@ empty_elsewhere laws s batch of k p out =
     same_empty ((of_the_batch laws s batch of k).others p out)
     ((laws.moved (names_in k batch) s).nothing p (named (paths_in k batch) p false out))
 
--- another group hasn't the path
+-- Another group doesn't have the path.
 not_there : (batch : List GroupedTxn) → OfBatch batch → (k : ℕ) (p : Bytes) → has_path (paths_in k batch) p ≡ true
     → (j : ℕ) → j ≢ k → has_path (paths_in j batch) p ≡ false
 not_there batch of k p at j other = of.disjoint k j (λ e. other (sym e)) p at
@@ -124,7 +124,7 @@ put_elsewhere laws s batch of p out =
     ((laws.moved (all_names batch) s).left p
     (named (flat_map footprint (batch_of batch)) p false (in_no_group batch of p out _ refl)))
 
--- which group has a path, if one has
+-- The group that has a path, if one has it.
 find : (batch : List GroupedTxn) → OfBatch batch → (p : Bytes)
     → ((k : ℕ) × (has_path (paths_in k batch) p ≡ true)) ⊎ ((k : ℕ) → has_path (paths_in k batch) p ≡ false)
 find batch of p = by (has_path (flat_map footprint (batch_of batch)) p) refl
@@ -158,7 +158,7 @@ state_is laws s batch of =
 
 -- ---- the outcomes
 
--- what stands at each group's places, in the order of the batch
+-- The elements at each group's places, in the order of the batch.
 in_order_is : (s : State) (batch : List GroupedTxn)
     → in_batch_order batch (λ k. entries_of_group k batch (meaning.outcomes_of_txns s (batch_of batch)))
     ≡ meaning.outcomes_of_txns s (batch_of batch)
@@ -220,7 +220,8 @@ outcomes_are laws s batch of =
 
 -- ---- the laws
 
--- whatever was done, and in whatever order: when the rest is done each group is as if it had been done alone
+-- Whatever steps were taken, and in whatever order: when the rest is applied each group is as if it had been applied
+-- separately.
 finished_are : (s : State) (batch : List GroupedTxn) (steps : List Step)
     → map with_rest_done (run_steps (at_start s batch) steps).groups
     ≡ map (whole s batch) (range_with_len 0 (group_count batch))

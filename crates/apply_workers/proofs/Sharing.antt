@@ -1,4 +1,4 @@
--- Groups that come home from steps: what is put together of them.
+-- Groups that were advanced by steps, put together.
 use Rattle.std.proofs.Common.{◌≡◌, ℕ, zero, suc, ◌+◌, ◌<◌, ◌≤◌, ◌==◌, List, [], ◌∷◌, ◌++◌, Bool, true, false, true≢false, cond, Option, Some, None, map, length, take, drop, All, refl, sym, ap, ◌∙◌, subst, arith, inl, inr, ◌⊎◌, length-append, length-drop}
 use Rattle.std.specs.List.{AllByRecursion}
 use Rattle.std.specs.Option.{option_and_then}
@@ -23,13 +23,13 @@ use Rattle.apply_workers.proofs.Loops.{nothing_left, places_length}
 use Rattle.apply_workers.proofs.Places.{at_its_places, txns_at_places, own_txns, places_below, batch_length}
 use Rattle.apply_workers.proofs.Returning.{classes_from, has_groups}
 
--- ---- a list in the batch's order, of what each group has
+-- ---- a list in the batch's order, made from what each group has
 
--- each group has one for each of its transactions
+-- Each group has one for each of its transactions.
 abbrev Fits : List GroupedTxn → (ℕ → List Outcome) → Type 0
 Fits ts of = (k : ℕ) → length (of k) ≡ length (txns_of_group k ts)
 
--- what is left of it behind the first transaction
+-- The rest of it after the first transaction.
 abbrev behind : GroupedTxn → (ℕ → List Outcome) → ℕ → List Outcome
 behind t of k = cond (t.0 == k) (drop 1 (of k)) (of k)
 
@@ -92,7 +92,7 @@ own_in_order k (t ∷ ts) of fits =
         ∙ whole_again (of k)
     by false e own = own
 
--- ---- what each group answers
+-- ---- each group's outcomes
 
 outcomes_length : (cells : State) (txns : List Txn) → length (outcomes_in_cells cells txns) ≡ length txns
 outcomes_length cells [] = refl
@@ -109,7 +109,7 @@ places_count k ts =
     (subst (λ n. All (λ p. p < n) (places_from 0 k ts)) (sym (batch_length ts)) (places_within k ts)))
     ∙ ap (λ us. length us) (txns_at_places k ts)
 
--- a group that is finished has answered each of its transactions
+-- A finished group has an outcome for each of its transactions.
 finished_length : (txns : List Txn) (ts : List GroupedTxn) → batch_of ts ≡ txns → (k : ℕ) (h : GroupProgress)
     → length h.outcomes ≤ length (places_from 0 k ts)
     → length (with_rest_done (group_state_of txns k (txn_group_at ts k) h)).outcomes ≡ length (txns_of_group k ts)
@@ -172,7 +172,7 @@ all_fit txns ts is below hs held k = by (cases_lt k (group_count ts))
         ap (λ os. length os) (nothing_above txns ts 0 (group_count ts) hs k (omega arith))
         ∙ sym (ap (λ us. length us) (sym (own_txns k ts) ∙ nothing_at (group_count ts) k ts (batch_of ts) below l))
 
--- from the group j on, where each has its own answers
+-- From group j on, where each has its own outcomes.
 shares_from : (txns : List Txn) (ts : List GroupedTxn) (whole : List Outcome) → length whole ≡ length ts
     → (of : ℕ → List Outcome) → ((k : ℕ) → entries_of_group k ts whole ≡ of k) → (j m : ℕ) (hs : List GroupProgress)
     → AreWithinGroups (classes_from ts j m) hs
@@ -251,7 +251,7 @@ are_brought each tree txns batch alone hs held =
         ) in
         record { state = all.0; shares = record { count = all.1.0; each = all.1.1 } }
 
--- a barrier alone has no groups
+-- A single barrier has no groups.
 no_groups : (txns : List Txn) → is_barrier_alone txns ≡ true → tagged_txns txns ≡ None
 no_groups [] e = absurd (true≢false (sym e))
 no_groups (t ∷ []) e =

@@ -1,4 +1,4 @@
--- Groups as they are held, and what a step makes of them.
+-- Groups as they are stored, and the effect of a step on them.
 use Rattle.std.proofs.Common.{◌≡◌, ℕ, zero, suc, ◌+◌, ◌<◌, ◌≤◌, ◌==◌, ◌||◌, List, [], ◌∷◌, ◌++◌, Bool, true, false, true≢false, cond, Option, Some, None, map, length, get_or, set, take, drop, All, not, ◌&&◌, nat_lt, refl, sym, ap, ◌∙◌, subst, subst₂, arith, append_assoc, length-append}
 use Rattle.std.specs.List.{list_any, range_with_len}
 use Rattle.std.proofs.lemmas.Bool.{eq-eqb, eqb-true}
@@ -39,7 +39,7 @@ all_untouched ts s j (suc m) = λ i.
 abbrev progress_of : List Txn → List TxnGroup → List GroupProgress → Progress
 progress_of txns cs hands = record { next = 0; groups = group_states_from txns 0 cs hands }
 
--- groups of which none is claimed
+-- Groups of which none is claimed.
 abbrev pub opened_with : List Txn → List GroupProgress → BatchProgress
 opened_with txns hands = record { batch = txns; progress = progress_of txns (groups_of txns) hands }
 
@@ -126,7 +126,7 @@ shown_set txns k n zero (d ∷ cs) (x ∷ hs) c h held l e = let same : k ≡ n 
 shown_set txns k n (suc i) (d ∷ cs) (x ∷ hs) c h held l e = λ j.
     group_state_of txns k d x ∷ shown_set txns (k + 1) n i cs hs c h held.1 (omega arith) (omega arith) j
 
--- one of the groups changed, and has answered no more than it has members
+-- One of the groups changed, and has no more outcomes than members.
 pub still_held : (cs : List TxnGroup) (hs : List GroupProgress) (i : ℕ) (c : TxnGroup) (d new : GroupProgress)
     → AreWithinGroups cs hs
     → i < length hs → c ≡ get_or cs i c
@@ -138,7 +138,7 @@ still_held cs hs i c d new held l is stays =
     (stays (subst (λ (e : TxnGroup). length (get_or hs i d).outcomes ≤ length e.members) (sym is)
     (held_at cs hs i c d held l))))
 
--- a group's places are within its batch
+-- A group's places are within its batch.
 pub within_batch : (batch txns : List Txn) (cs : List TxnGroup) (i : ℕ) (c : TxnGroup) → txns ≡ batch
     → cs ≡ groups_of batch
     → c ≡ get_or cs i c → i < length cs → All (λ p. p < length txns) c.members
@@ -147,7 +147,7 @@ within_batch batch txns cs i c same are is l =
     (sym (is ∙ ap (λ ds. get_or ds i c) are))
     (members_within batch i c (subst (λ ds. i < length ds) are l))
 
--- ---- a transaction more
+-- ---- one more transaction
 
 pub took_next : (txns : List Txn) (k worker : ℕ) (c : TxnGroup) (holder : Holder) (cells new : State)
     (outcomes more : List Outcome) (t : Txn) (o : Outcome) → is_held_by worker holder ≡ true
@@ -183,7 +183,7 @@ took_next txns k worker c holder cells new outcomes more t o mine l within is le
     answers : more ≡ outcomes ++ answer_of (effect_in_cells cells t) ∷ []
     answers = all ∙ ap (λ x. outcomes ++ x ∷ []) answered
 
--- what is not all done can't be given back
+-- A group with transactions left can't be given back.
 pub not_finished : (txns : List Txn) (k worker : ℕ) (c : TxnGroup) (h : GroupProgress)
     → length h.outcomes < length c.members
     → All (λ p. p < length txns) c.members → is_finished_by worker (group_state_of txns k c h) ≡ false
@@ -209,9 +209,9 @@ not_finished txns k worker c h l within =
     never true = refl
     never false = refl
 
--- ---- what is done to each group in turn
+-- ---- the same change for each group in turn
 
--- the groups before the place are done, the others are as they were
+-- The groups before the place are changed, the others are as they were.
 abbrev pub done_to : (GroupState → GroupState) → ℕ → List GroupState → List GroupState
 done_to f i gs = take i gs ++ map f (drop i gs)
 
@@ -231,7 +231,7 @@ or_assoc : (a b c : Bool) → ((a || b) || c) ≡ (a || (b || c))
 or_assoc true b c = refl
 or_assoc false b c = refl
 
--- what holds while the groups before the place are done
+-- The invariant while the groups before the place are changed.
 pub record DoneTo (txns : List Txn) (cs : List TxnGroup) (test : GroupState → Bool) (f : GroupState → GroupState)
     (first : List GroupProgress) (i : ℕ) (hs : List GroupProgress) (taken : Bool) : Type 0 where
   pub held : AreWithinGroups cs hs
@@ -292,7 +292,7 @@ or_false : (b : Bool) → (b || false) ≡ b
 or_false true = refl
 or_false false = refl
 
--- all are done
+-- All are changed.
 pub record AllDone (txns : List Txn) (cs : List TxnGroup) (test : GroupState → Bool) (f : GroupState → GroupState)
     (first hs : List GroupProgress) (taken : Bool) : Type 0 where
   pub held : AreWithinGroups cs hs
@@ -318,7 +318,7 @@ done_ends txns cs test f first hs i taken done l = record {
     past : length groups ≤ i
     past = let count = shown_length txns 0 cs hs done.held in omega arith
 
--- where no group passes the test, none changes
+-- If no group passes the test, none changes.
 pub nothing_changes : (test : GroupState → Bool) (f : GroupState → GroupState) (gs : List GroupState)
     → list_any test gs ≡ false → map (λ g. cond (test g) (f g) g) gs ≡ gs
 nothing_changes test f [] e = refl
@@ -383,11 +383,11 @@ claims_next txns worker next k (suc i) (c ∷ cs) (x ∷ hs) h l e is =
     ∙ ap (λ b. cond b (record (group_state_of txns k c x) { holder = Held worker }) (group_state_of txns k c x)
     ∷ map (claimed_by worker next) (group_states_from txns (k + 1) cs hs)) (sym (not_equal_above k next (omega arith)))
 
--- the groups, the next of which has this number
+-- The groups, with the number of the group that is claimed next.
 abbrev pub progress_at : List Txn → ℕ → List TxnGroup → List GroupProgress → Progress
 progress_at txns next cs hs = record { next = next; groups = group_states_from txns 0 cs hs }
 
--- a claim that is passed over
+-- A claim that is skipped.
 pub passed_over : (p : Progress) (worker : ℕ) → can_be_taken p (Claim worker) ≡ false
     → (false ≡ can_be_taken p (Claim worker)) × (p ≡ try_step p (Claim worker))
 passed_over p worker e =
@@ -414,7 +414,7 @@ has_one txns next worker cs hs held e =
     ap (λ b. not b && nat_lt next (length (group_states_from txns 0 cs hs)))
     (sym (any_held txns 0 worker cs hs held) ∙ e)
 
--- a claim that is taken
+-- A claim that is taken.
 pub claim_is_taken : (txns : List Txn) (next worker : ℕ) (cs : List TxnGroup) (hs : List GroupProgress)
     (old new : GroupProgress)
     → AreWithinGroups cs hs → list_any (λ (h : GroupProgress). is_held_by worker h.holder) hs ≡ false → next < length hs
@@ -486,7 +486,7 @@ given_step p worker = by (list_any (is_finished_by worker) p.groups) refl
         ap (λ (gs : List GroupState). record p { groups = gs })
         (nothing_changes (is_finished_by worker) (λ g. record g { holder = Home }) p.groups e)
 
--- ---- what is left is done
+-- ---- the rest is applied
 
 shown_none : (txns : List Txn) (k : ℕ) (cs : List TxnGroup) → group_states_from txns k cs [] ≡ []
 shown_none txns k [] = refl
@@ -498,7 +498,7 @@ cells_left groups = map (λ (g : GroupState). g.cells) (map with_rest_done group
 abbrev pub all_answers : List GroupState → List (List Outcome)
 all_answers groups = map (λ (g : GroupState). g.outcomes) (map with_rest_done groups)
 
--- what holds while the first n groups are finished
+-- The invariant while the first n groups are finished.
 pub record FinishedTo (txns : List Txn) (cs : List TxnGroup) (first : List GroupProgress) (n : ℕ)
     (left : List GroupProgress)
     (cells : List State) (answers : List (List Outcome)) : Type 0 where
@@ -512,7 +512,7 @@ pub finish_begins : (txns : List Txn) (cs : List TxnGroup) (first : List GroupPr
     → FinishedTo txns cs first 0 first [] []
 finish_begins txns cs first held = record { held = held; cells_are = refl; answers_are = refl }
 
--- a group that is left is one of them
+-- A group that is left is one of them.
 pub one_left : (n : ℕ) (cs : List TxnGroup) (left : List GroupProgress) (h : GroupProgress) (more : List GroupProgress)
     → AreWithinGroups (drop n cs) left → left ≡ h ∷ more → n < length cs
 one_left n [] left h more held e = none n (subst (AreWithinGroups (drop n [])) e held)

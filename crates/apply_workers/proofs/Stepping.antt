@@ -1,5 +1,5 @@
--- What no step changes: what is made of the groups when what is left of them is done, and that a group's cells stand at
--- its own paths alone.
+-- The invariants of a step: the result of the groups when their rest is applied, and that a group has cells at its own
+-- paths alone.
 use Rattle.std.proofs.Common.{◌≡◌, ℕ, ◌+◌, nat_eq, List, [], ◌∷◌, Bool, true, false, cond, map, refl, sym, ap, ◌∙◌, append_assoc}
 use Rattle.std.specs.List.{AllByRecursion, count_by}
 use Rattle.std.specs.FinSet as set
@@ -17,7 +17,7 @@ use Rattle.apply_workers.specs.declared.step.Step.TheVariants.{Claim, Do, Give}
 use Rattle.apply_workers.specs.declared.holder.Holder.TheVariants.{Held, Home}
 use Rattle.apply_workers.specs.Schedule.{GroupState, Progress, can_be_taken, has_work, is_finished_by, claimed_by, with_next_done, done_by, given_by, progress_after, try_step, run_steps, with_rest_done}
 
--- ---- what is made of a group
+-- ---- the result of a group
 
 claimed_same : (worker next : ℕ) (g : GroupState) → with_rest_done (claimed_by worker next g) ≡ with_rest_done g
 claimed_same worker next g = by (nat_eq g.number next)
@@ -73,7 +73,7 @@ pub run_same : (p : Progress) (steps : List Step)
 run_same p [] = refl
 run_same p (s ∷ ss) = run_same (try_step p s) ss ∙ step_same p s
 
--- 1 for a group that has the path
+-- 1 for a group that has the path.
 abbrev share : Bytes → GroupState → ℕ
 share path g = cond (set.contains g.paths path) 1 0
 
@@ -86,9 +86,9 @@ count_finished path (g ∷ gs) =
     ∙ ap (λ n. share path g + n) (count_finished path gs)
     ∙ sym (sum_by-cons (share path) g gs)
 
--- ---- what a group has
+-- ---- the cells of a group
 
--- what is left touches the group's own paths alone
+-- The transactions left touch the group's own paths alone.
 abbrev pub IsLeft : Names → Txn → Type 0
 IsLeft paths t = KeepsToCells t × ((q : Bytes) → has_path (footprint t) q ≡ true → set.contains paths q ≡ true)
 

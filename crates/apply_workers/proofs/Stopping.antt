@@ -11,14 +11,14 @@ use Rattle.data_tree.specs.Cells.{effect_in_cells, after_in_cells}
 use Rattle.apply_workers.specs.Works.{IsLeftByFirst, IsStopped}
 use Rattle.apply_workers.proofs.Loops.{moved_on}
 
--- a front of the transactions is done, so many, and this is the rest
+-- The first n of the transactions are applied, and this is the rest.
 pub record DoneFirst (cells : State) (txns : List Txn) (now : State) (rest : List Txn) (n : ℕ) : Type 0 where
   pub front : List Txn
   pub all : front ++ rest ≡ txns
   pub count : length front ≡ n
   pub state : after_in_cells cells front ≡ now
 
--- a transaction that is refused at once may leave all as it was
+-- A transaction that is refused at once may leave everything as it was.
 left_alone : (h : TxnHeader) (b : Body) (s : State) → IsLeftByRefused h b s s
 left_alone h (body.Single o) s = refl
 left_alone h (body.SetAcl b) s = refl
@@ -34,7 +34,7 @@ first_alone : (txns : List Txn) (s : State) → IsLeftByFirst txns s s
 first_alone [] s = refl
 first_alone (t ∷ ts) s = left_alone t.header t.body s
 
--- nothing was done
+-- Nothing was applied.
 pub stopped_at_once : (cells : State) (txns : List Txn) → IsStopped cells txns cells 0
 stopped_at_once cells txns = record {
   front = [];
@@ -49,7 +49,7 @@ after_snoc : (cells : State) (front : List Txn) (t : Txn)
 after_snoc cells [] t = refl
 after_snoc cells (u ∷ us) t = after_snoc (effect_in_cells cells u).state us t
 
--- one more is done
+-- One more is applied.
 pub one_more : (cells : State) (txns : List Txn) (now new : State) (rest rest' : List Txn) (t : Txn) (n : ℕ)
     → DoneFirst cells txns now rest n → rest ≡ t ∷ rest' → new ≡ (effect_in_cells now t).state
     → DoneFirst cells txns new rest' (n + 1)
@@ -60,7 +60,7 @@ one_more cells txns now new rest rest' t n d next is = record {
   state = after_snoc cells d.front t ∙ ap (λ s. (effect_in_cells s t).state) d.state ∙ sym is;
 }
 
--- the next one is refused
+-- An allocation is refused in the next one.
 pub stopped_there : (cells : State) (txns : List Txn) (now new : State) (rest rest' : List Txn) (t : Txn) (n done : ℕ)
     → DoneFirst cells txns now rest n → rest ≡ t ∷ rest' → IsLeftByRefused t.header t.body now new → done ≡ n
     → IsStopped cells txns new done
@@ -72,7 +72,7 @@ stopped_there cells txns now new rest rest' t n done d next left e = record {
   state = subst (λ s. IsLeftByRefused t.header t.body s new) (sym d.state) left;
 }
 
--- a group that was stopped behind its first transaction has what that one left, and what the next one left of it
+-- A group that was stopped after its first transaction has that one's effect, and what the next one left of it.
 pub stopped_behind_one : (cells new : State) (t : Txn) (ts : List Txn) → IsStopped cells (t ∷ ts) new 1
     → IsLeftByFirst ts (effect_in_cells cells t).state new
 stopped_behind_one cells new t ts stopped = behind stopped.front stopped.all stopped.count stopped.state

@@ -1,4 +1,4 @@
--- What is taken from a state one group after the other is each group's cells of that state.
+-- The cells taken from a state one group after the other are each group's cells of that state.
 use Rattle.std.proofs.Common.{◌≡◌, ◌⊎◌, ℕ, zero, suc, ◌+◌, List, [], ◌∷◌, Bool, true, false, true≢false, Option, Some, None, map, inl, inr, refl, sym, ◌∙◌, arith}
 use Rattle.std.specs.List.{flat_map}
 use Rattle.std.specs.FinSet as set
@@ -17,7 +17,7 @@ use Rattle.apply_workers.specs.Schedules.{GroupsAreTaken}
 use Rattle.apply_workers.proofs.BatchPaths.{group_of, in_batch, is_below}
 use Rattle.apply_workers.proofs.Returning.{Laws, AreGroups, same_sym, same_trans, left_elsewhere, left_empty, left_sessions, IsNear, near_next, classes_from, find_group, are_groups}
 
--- a state that has the cells and the sessions of another is that state: it is the one behind no transaction
+-- A state that has the cells and the sessions of another is that state: it is the one after no transaction.
 is_same : CellsPutBackAreTheBatch → (s t : State) → ((p : Bytes) → IsSameCell t s p) → t.sessions ≡ s.sessions → t ≡ s
 is_same law s t cells sessions =
     law (λ k. []) [] (λ j k other p at. refl) tt s t (λ k. s) (λ k p at. absurd (true≢false (sym at)))
@@ -28,7 +28,7 @@ both_empty s t p e f = record { node = e.node ∙ sym f.node; owners = λ o. e.o
 
 -- ---- the cells
 
--- from a state that has the old cells of the group the same is taken
+-- From a state that has the old cells of the group the same is taken.
 same_taken : Laws → (ts : List GroupedTxn) (s : State) (j : ℕ) (u : State) → IsNear ts s j u
     → cells_at (txn_group_at ts j).paths u ≡ cells_at (txn_group_at ts j).paths s
 same_taken laws ts s j u near =
@@ -56,7 +56,7 @@ all_taken laws ts apart s j (suc m) u near = λ i.
     ∷ all_taken laws ts apart s (j + 1) m (without_cells (txn_group_at ts j).paths u)
     (near_next laws ts apart s j u near) i
 
--- ---- what is left
+-- ---- the state that is left
 
 rest_is : Laws → (ts : List GroupedTxn) → AreGroups ts → (s : State)
     → without_group_cells (txn_groups_of ts) s ≡ without_batch_cells s ts

@@ -43,7 +43,7 @@ timeouts_are law set_in_order h s steps =
 abbrev body_of : Bytes → Create
 body_of path = record { path = path; bytes = None; acl = None; ephemeral = false; parent_cversion = negsuc 0 }
 
--- what a create does that finds its parent without the child
+-- The effect of a create whose parent doesn't have the child.
 abbrev made : TxnHeader → Bytes → Node → State → TxnEffect
 made h path parent s = of_effect (create_new h (body_of path) parent) s
 
@@ -55,7 +55,7 @@ is_made h s path parent is new =
     ∙ ap
     (λ b. of_effect (cond b (create_taken h (body_of path) parent) (create_new h (body_of path) parent)) s) new
 
--- the parent with a child more
+-- The parent with one more child.
 abbrev with_child : TxnHeader → Node → Bytes → Node
 with_child h parent name =
     with_children parent (set.insert parent.children name) (next_cversion parent.stat.cversion (negsuc 0)) h.zxid

@@ -13,11 +13,11 @@ use Rattle.apply_workers.specs.declared.group_work.Finished.{Finished}
 use Rattle.apply_workers.specs.declared.group_work.Finished.TheVariants.{Done}
 
 module _ {W F : Type 0} where
-  -- all seats of a board with these works
+  -- All seats of a board with these works.
   abbrev pub AreReady : BoardId → List W → List (Sitting W F) → Type 0
   AreReady board works seats = AreAllSeats board seats × (works_of seats ≡ works)
 
-  -- each seat as its worker left it
+  -- Each seat as its worker left it.
   abbrev pub AreWorked : List (Sitting W F) → List (Sitting W F) → Type 0
   AreWorked [] [] = Unit {0}
   AreWorked (s ∷ ss) (t ∷ ts) = IsWorked s t × AreWorked ss ts
@@ -25,19 +25,19 @@ module _ {W F : Type 0} where
   AreWorked (s ∷ ss) [] = ⊥
 
 module _ {A : Type 0} where
-  -- these are put at the places, one after the other
+  -- These are put at the places, one after the other.
   abbrev pub put_at : List A → List ℕ → List A → List A
   put_at all [] xs = all
   put_at all (p ∷ ps) [] = all
   put_at all (p ∷ ps) (x ∷ xs) = put_at (slice_set all p x) ps xs
 
-  -- each group's share at its places
+  -- Each group's share at its places.
   abbrev pub put_each_at : List A → List TxnGroup → List (List A) → List A
   put_each_at all [] shares = all
   put_each_at all (c ∷ cs) [] = all
   put_each_at all (c ∷ cs) (xs ∷ shares) = put_each_at (put_at all c.members xs) cs shares
 
--- the groups that came home with these cells and these outcomes
+-- The groups that were given back with these cells and these outcomes.
 abbrev pub finished_groups : List State → List (List Outcome) → List (Group Work Finished)
 finished_groups [] answers = []
 finished_groups (c ∷ cs) [] = []

@@ -1,4 +1,4 @@
--- What stands at some places of a list.
+-- The elements at some places of a list.
 use Rattle.std.specs.Prelude.{ℕ, List, slice_get}
 use Rattle.std.specs.List.{filter_map}
 

@@ -1,4 +1,4 @@
--- What workers do with a batch's groups, step by step, and what is made of the groups at the end.
+-- The steps of workers on a batch's groups, and the result of the groups at the end.
 use Rattle.std.specs.Prelude.{ℕ, ◌==◌, ◌+◌, Bool, true, false, not, ◌&&◌, nat_lt, List, [], ◌∷◌, ◌++◌, Option, Some, None, map, length, take, drop, if◌then◌else◌}
 use Rattle.std.specs.List.{flat_map, list_any, range_with_len}
 use Rattle.std.specs.FinSet as set
@@ -17,8 +17,8 @@ use Rattle.apply_workers.specs.declared.holder.Holder.TheVariants.{Waiting, Held
 use Rattle.apply_workers.specs.declared.step.Step.{Step}
 use Rattle.apply_workers.specs.declared.step.Step.TheVariants.{Claim, Do, Give}
 
--- a group by its number: its paths and the cells there, the transactions that aren't done yet, and what those that are
--- done answered
+-- A group by its number: its paths and the cells there, the transactions that aren't applied yet, and the outcomes of
+-- those that are.
 pub record GroupState : Type 0 where
   pub number : ℕ
   pub holder : Holder
@@ -27,14 +27,14 @@ pub record GroupState : Type 0 where
   pub left : List Txn
   pub outcomes : List Outcome
 
--- the number of the group that is claimed next, and all groups
+-- The number of the group that is claimed next, and all groups.
 pub record Progress : Type 0 where
   pub next : ℕ
   pub groups : List GroupState
 
 -- ---- the first state
 
--- no transaction of the group k is done
+-- No transaction of group k is applied.
 abbrev pub opened_group : State → List GroupedTxn → ℕ → GroupState
 opened_group s batch k =
     let paths = set.from_list (paths_in k batch) in
@@ -47,14 +47,14 @@ opened_group s batch k =
       outcomes = [];
     }
 
--- each group has its cells of the state
+-- Each group has its cells of the state.
 abbrev pub opened_groups : State → List GroupedTxn → List GroupState
 opened_groups s batch = map (opened_group s batch) (range_with_len 0 (group_count batch))
 
 abbrev pub at_start : State → List GroupedTxn → Progress
 at_start s batch = record { next = 0; groups = opened_groups s batch }
 
--- the state without the cells that the groups have
+-- The state without the cells that the groups have.
 abbrev pub without_batch_cells : State → List GroupedTxn → State
 without_batch_cells s batch = without_cells (set.from_list (flat_map footprint (batch_of batch))) s
 
@@ -65,7 +65,6 @@ is_held_by worker Waiting = false
 is_held_by worker (Held holder) = holder == worker
 is_held_by worker Home = false
 
--- whether no transaction is left
 abbrev pub none_left : List Txn → Bool
 none_left [] = true
 none_left (t ∷ ts) = false
@@ -76,8 +75,8 @@ has_work worker g = is_held_by worker g.holder && not (none_left g.left)
 abbrev pub is_finished_by : ℕ → GroupState → Bool
 is_finished_by worker g = is_held_by worker g.holder && none_left g.left
 
--- A worker that has no group claims one, where one is left; one that has a group does its next transaction, where one
--- is left, and gives the group back where none is.
+-- A worker without a group claims one, if one is left. A worker with a group applies the group's next transaction, if
+-- one is left, and gives the group back if none is.
 abbrev pub can_be_taken : Progress → Step → Bool
 can_be_taken p (Claim worker) =
     not (list_any (λ (g : GroupState). is_held_by worker g.holder) p.groups) && nat_lt p.next (length p.groups)
@@ -87,7 +86,7 @@ can_be_taken p (Give worker) = list_any (is_finished_by worker) p.groups
 abbrev pub claimed_by : ℕ → ℕ → GroupState → GroupState
 claimed_by worker next g = if g.number == next then record g { holder = Held worker } else g
 
--- with its next transaction done on its cells
+-- The group with its next transaction applied to its cells.
 abbrev pub with_next_done : GroupState → List Txn → GroupState
 with_next_done g [] = g
 with_next_done g (t ∷ ts) =
@@ -105,7 +104,7 @@ progress_after p (Claim worker) = record { next = p.next + 1; groups = map (clai
 progress_after p (Do worker) = record p { groups = map (done_by worker) p.groups }
 progress_after p (Give worker) = record p { groups = map (given_by worker) p.groups }
 
--- a step that can't be taken is passed over
+-- A step that can't be taken is skipped.
 abbrev pub try_step : Progress → Step → Progress
 try_step p s = if can_be_taken p s then progress_after p s else p
 
@@ -115,7 +114,7 @@ run_steps p (s ∷ ss) = run_steps (try_step p s) ss
 
 -- ---- the end
 
--- what is left of it is done
+-- The group with all its transactions applied.
 abbrev pub with_rest_done : GroupState → GroupState
 with_rest_done g =
     record g {
@@ -125,7 +124,7 @@ with_rest_done g =
       outcomes = g.outcomes ++ outcomes_in_cells g.cells g.left;
     }
 
--- the groups' cells go back, in the order of the groups
+-- The groups' cells are put back, in the order of the groups.
 abbrev pub put_back : State → List GroupState → State
 put_back s groups = with_all_cells (map (λ (g : GroupState). g.cells) groups) s
 
@@ -133,32 +132,32 @@ abbrev pub outcomes_of : ℕ → List GroupState → List Outcome
 outcomes_of k [] = []
 outcomes_of k (g ∷ gs) = if g.number == k then g.outcomes else outcomes_of k gs
 
--- for each transaction the next outcome of its group
+-- For each transaction the next outcome of its group.
 abbrev pub in_batch_order : List GroupedTxn → (ℕ → List Outcome) → List Outcome
 in_batch_order [] of = []
 in_batch_order (t ∷ ts) of =
     take 1 (of t.0) ++ in_batch_order ts (λ k. if t.0 == k then drop 1 (of k) else of k)
 
--- what a batch leaves and answers
+-- The state and the outcomes of a batch.
 pub record BatchResult : Type 0 where
   pub state : State
   pub outcomes : List Outcome
 
--- groups that are done, put together: the cells go back, and the timeouts are set in the order of the batch, in which
--- the outcomes stand too
+-- The groups, all of whose transactions are applied, are put together: the cells are put back, the timeouts are set in
+-- the order of the batch, and the outcomes are in that order, too.
 abbrev pub put_together : State → List GroupedTxn → List GroupState → BatchResult
 put_together tree batch done = record {
   state = with_timeouts_set (batch_of batch) (put_back tree done);
   outcomes = in_batch_order batch (λ k. outcomes_of k done);
 }
 
--- what the steps left undone is done first
+-- The transactions that the steps left are applied first.
 abbrev pub finish_batch : State → List GroupedTxn → List GroupState → BatchResult
 finish_batch tree batch groups = put_together tree batch (map with_rest_done groups)
 
--- ---- a batch with its groups, or one that has none, as a barrier alone
+-- ---- a batch with its groups, or one without groups, such as a single barrier
 
--- where there are no groups there is nothing to claim
+-- Without groups there is nothing to claim.
 abbrev pub initial_progress_with : State → Option (List GroupedTxn) → Progress
 initial_progress_with s None = record { next = 0; groups = [] }
 initial_progress_with s (Some batch) = at_start s batch
@@ -166,7 +165,7 @@ initial_progress_with s (Some batch) = at_start s batch
 abbrev pub initial_progress : State → List Txn → Progress
 initial_progress s txns = initial_progress_with s (tagged_txns txns)
 
--- what is left of the state while the groups have their cells
+-- The rest of the state while the groups have their cells.
 abbrev pub left_with : State → Option (List GroupedTxn) → State
 left_with s None = s
 left_with s (Some batch) = without_batch_cells s batch
@@ -174,7 +173,7 @@ left_with s (Some batch) = without_batch_cells s batch
 abbrev pub left_by : State → List Txn → State
 left_by s txns = left_with s (tagged_txns txns)
 
--- a batch without groups is done on the tree itself
+-- A batch without groups is applied to the tree itself.
 abbrev pub batch_result_with : State → List Txn → Option (List GroupedTxn) → List GroupState → BatchResult
 batch_result_with tree txns None groups =
     record { state = state_after tree txns; outcomes = outcomes_of_txns tree txns }
@@ -183,6 +182,6 @@ batch_result_with tree txns (Some batch) groups = finish_batch tree batch groups
 abbrev pub batch_result : State → List Txn → List GroupState → BatchResult
 batch_result tree txns groups = batch_result_with tree txns (tagged_txns txns) groups
 
--- the batch, done by these steps and then what they leave undone
+-- The batch, applied by these steps and then as far as they left it.
 abbrev pub schedule_result : State → List Txn → List Step → BatchResult
 schedule_result s txns steps = batch_result (left_by s txns) txns (run_steps (initial_progress s txns) steps).groups

@@ -22,12 +22,11 @@ use Rattle.apply_workers.specs.Works.{IsStopped}
 abbrev pub new_session_with : TxnHeader → ℕ → Txn
 new_session_with h timeout = txn_with h (body.CreateSession (pos timeout))
 
--- which of the steps are taken
 abbrev pub are_taken : Progress → List Step → List Bool
 are_taken p [] = []
 are_taken p (s ∷ ss) = can_be_taken p s ∷ are_taken (try_step p s) ss
 
--- two workers, of which one gives its group back while the other has done nothing yet
+-- Two workers: one gives its group back before the other has applied anything.
 abbrev pub two_workers : List Step
 two_workers = Claim 0 ∷ Claim 1 ∷ Do 1 ∷ Give 1 ∷ Do 0 ∷ Give 0 ∷ Do 0 ∷ Give 0 ∷ []
 
@@ -42,11 +41,11 @@ in_two_groups h = (0, create_txn_of h path_a_x) ∷ (0, create_txn_of h path_a_y
 
 pub record WorkedSchedule (h : TxnHeader) : Type 0 where
   pub groups : tagged_txns (three_creates h) ≡ Some (in_two_groups h)
-  -- the worker 0 can't give its group back before both creates are done
+  -- Worker 0 can't give its group back before both creates are applied.
   pub steps :
       (s : State) → are_taken (at_start s (in_two_groups h)) two_workers
       ≡ true ∷ true ∷ true ∷ true ∷ true ∷ false ∷ true ∷ true ∷ []
-  -- where both parents stand without such children
+  -- Both parents exist and don't have these children.
   pub outcomes :
       (s : State) (parent other : Node) → finmap.get s.nodes path_a ≡ Some parent
       → finmap.get s.nodes path_b ≡ Some other
@@ -54,14 +53,14 @@ pub record WorkedSchedule (h : TxnHeader) : Type 0 where
       → set.contains other.children (codes "z") ≡ false
       → (schedule_result s (three_creates h) two_workers).outcomes
       ≡ create_outcome path_a_x path_a ∷ create_outcome path_a_y path_a ∷ create_outcome path_b_z path_b ∷ []
-  -- two timeouts of one session come in two groups; they are set in the order of the batch
+  -- Two timeouts of one session are in two groups; they are set in the order of the batch.
   pub timeouts :
       (s : State) (steps : List Step)
       → finmap.get (schedule_result s
       (new_session_with h 5000 ∷ create_txn_of h path_a_x ∷ new_session_with h 6000 ∷ []) steps).state.sessions
       h.client_id
       ≡ Some (pos 6000)
-  -- a group that was stopped behind the first of two creates has what that one left, and nothing of the other
+  -- A group that was stopped after the first of two creates has the first one's effect, and none of the other's.
   pub stopped :
       (s new : State) → IsStopped s (create_txn_of h path_a_x ∷ create_txn_of h path_a_y ∷ []) new 1
       → new ≡ (effect_in_cells s (create_txn_of h path_a_x)).state

@@ -1,4 +1,4 @@
--- A batch that is on its way, one step at a time.
+-- A batch that is being applied, one step at a time.
 use Rattle.std.specs.Prelude.{ℕ, List, refl}
 use Rattle.std.specs.Coded.{Coded, code_by, coded×, coded_ℕ, coded_list}
 use Rattle.std.specs.FinSet as set
@@ -9,16 +9,16 @@ use Rattle.data_tree.specs.declared.outcome.Outcome.{Outcome}
 use Rattle.apply_workers.specs.declared.holder.Holder.{Holder}
 use Rattle.apply_workers.specs.Schedule.{GroupState, Progress, initial_progress}
 
--- its transactions, and how far its groups are
+-- Its transactions, and the progress of its groups.
 pub record BatchProgress : Type 0 where
   pub batch : List Txn
   pub progress : Progress
 
--- no step was taken yet
+-- No step was taken yet.
 abbrev pub unstarted_batch : State → List Txn → BatchProgress
 unstarted_batch s txns = record { batch = txns; progress = initial_progress s txns }
 
--- ---- codes, by which values are told apart
+-- ---- codes, by which values are compared
 
 abbrev pub group_code : Coded Holder → Coded State → Coded Txn → Coded Outcome → Coded GroupState
 group_code holder state txn outcome =

@@ -3,8 +3,8 @@ use Rattle.std.specs.Prelude.{◌≡◌, ℕ, true, List, ◌++◌}
 use Rattle.apply_board.specs.Sitting.{Sitting}
 use Rattle.apply_board.specs.Seats.{IsIdle}
 
--- a worker's seat s is t when all numbers are claimed: it has given all that it claimed, behind what it had given
--- before
+-- A worker's seat s is t when all numbers are claimed: after what it had given before, it has given everything that it
+-- claimed.
 pub record IsWorked {W F : Type 0} (s t : Sitting W F) : Type 0 where
   pub own : t.board ≡ s.board
   pub idle : IsIdle t

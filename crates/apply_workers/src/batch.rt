@@ -1,4 +1,4 @@
-//! A batch that is done on threads, or on the tree itself.
+//! A batch that is applied on threads, or to the tree itself.
 ghost use Rattle.std.specs.Prelude.{◌≡◌, ◌↔◌, ◌<◌, ◌≤◌, IfOk, OnOk, IsTrue, Some, slice_get};
 ghost use Rattle.data_tree.specs.Meaning.{state_after, outcomes_of_txns};
 
@@ -14,7 +14,7 @@ use std::thread::Threads;
 use txn_codec::Txn;
 use values::NoMemory;
 
-/// Does the transactions on the tree itself, one after the other.
+/// Applies the transactions to the tree, one after the other.
 pub fn apply_each(alloc: Global, tree: &mut Tree, txns: &[Txn]) -> Result<Vec<Outcome>, NoMemory>
     ensures tree { OnOk result (tree.new ≡ state_after tree.old txns.now) }
     ensures outcomes { IfOk result (λ v. v.items ≡ outcomes_of_txns tree.old txns.now) }
@@ -26,7 +26,7 @@ pub fn apply_each(alloc: Global, tree: &mut Tree, txns: &[Txn]) -> Result<Vec<Ou
     Ok(outcomes)
 }
 
-// Whether the group's first transaction stands at the place.
+// Whether the group's first transaction is at the place.
 fn begins_at(group: &Group, place: usize) -> bool
     ensures { IsTrue result ↔ (slice_get group.now.members 0 ≡ Some place) }
 {
@@ -36,8 +36,8 @@ fn begins_at(group: &Group, place: usize) -> bool
     }
 }
 
-// Does a batch on the tree itself. The only worker passes the gate for each group where its first transaction comes, so
-// in the order of the groups.
+// Applies a batch to the tree itself. The only worker passes the gate for each group at the group's first transaction,
+// so in the order of the groups.
 fn apply_alone<G: Gate>(
     alloc: Global,
     tree: &mut Tree,
@@ -63,10 +63,11 @@ fn apply_alone<G: Gate>(
     Ok(outcomes)
 }
 
-/// Does a batch by up to so many workers (1 to 64), each group on its own cells, and answers what its transactions
-/// answer, in order: the tree and the answers are those of the transactions done one after the other, however many
-/// workers there are. It waits for the workers, of which the first is the calling thread. By one worker, and where
-/// there is one group, it is done on the tree itself. Refused memory, it leaves a tree that is only to be dropped.
+/// Applies a batch by up to `workers` workers (1 to 64), each group on its own cells, and returns the outcomes in the
+/// order of the transactions. Tree and outcomes are those of applying the transactions one after the other, however
+/// many workers there are. It waits for the workers; the first one is the calling thread. With one worker, or one
+/// group, the batch is applied to the tree itself. A refused allocation leaves the tree unspecified, and the caller
+/// drops it.
 pub fn apply_batch<G: Gate + Sync, R: Threads + Sync>(
     rt: &R,
     alloc: Global,
@@ -79,7 +80,7 @@ pub fn apply_batch<G: Gate + Sync, R: Threads + Sync>(
     ensures tree { OnOk result (tree.new ≡ state_after tree.old batch) }
     ensures outcomes { IfOk result (λ v. v.items ≡ outcomes_of_txns tree.old batch) }
 {
-    // More workers than groups would only be started in vain.
+    // More workers than groups would have nothing to do.
     let most = workers.min(batch.groups().len());
     if most <= 1 || batch.is_barrier() {
         return apply_alone(alloc, tree, &batch, gate);

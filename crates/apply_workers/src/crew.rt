@@ -20,8 +20,8 @@ struct Worker<W: Yields<F>, F> {
     seat: Seat<W, F>,
 }
 
-// Up to so many workers, one a seat: the opener's first. They are numbered from the last one on, which has number 0:
-// `map_vec` calls on the thread that is there already what comes last.
+// Up to this many workers, one for each seat, the opener's first. They are numbered backwards, so that the last one has
+// number 0: `map_vec` runs the last one on the calling thread.
 fn make_workers<W: Yields<F> + Drop, F: Drop>(
     alloc: Global,
     board: &Board<W, F>,
@@ -50,7 +50,7 @@ fn make_workers<W: Yields<F> + Drop, F: Drop>(
     Ok(crew)
 }
 
-// Each worker's seat, when all works are claimed.
+// The workers' seats once all works are claimed.
 fn run_workers<
     W: Job<F> + Drop + Send + Sync,
     F: Drop + Send + Sync,
@@ -76,8 +76,8 @@ fn run_workers<
     Ok(seats)
 }
 
-/// The results of the works, in order, each done once by one of up to so many workers. Worker 0 is the calling thread;
-/// where a thread can't be started, fewer work.
+/// Does the works with up to that many workers, each work once, and returns the results in the order of the works.
+/// Worker 0 is the calling thread. If a thread can't be started, fewer work.
 pub fn run<
     W: Job<F> + Drop + Send + Sync,
     F: Drop + Send + Sync,

@@ -1,7 +1,7 @@
 //! What a worker passes between a claim and its work.
 
-/// Passed after each claim and before its work, with the worker's number and the work's. It may count, or hold a worker
-/// back for a while.
+/// Passed after each claim and before its work, with the worker's number and the group's. It may count, or delay a
+/// worker.
 pub trait Gate {
     fn pass(&self, worker: usize, group: usize);
 }

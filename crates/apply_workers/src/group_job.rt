@@ -1,4 +1,4 @@
-//! A group's transactions, done in its cells.
+//! A group's transactions, applied to its cells.
 ghost use Rattle.std.specs.Prelude.{◌<◌, All, length};
 ghost use Rattle.apply_workers.specs.Places.{at_places};
 ghost use Rattle.apply_workers.specs.Works.{FinishesTxns, IsOfWork};
@@ -11,7 +11,7 @@ use std::alloc::Global;
 use txn_codec::Txn;
 use values::Listed;
 
-// Does the transactions at the places in the cells, in this order.
+// Applies the transactions at these places to the cells, in this order.
 fn apply_in_cells(alloc: Global, mut cells: Cells, txns: &[Txn], members: &[usize]) -> Finished
     requires { All (λ place. place < length txns.now) members.now }
     ensures { FinishesTxns cells (at_places txns.now members.now) result }

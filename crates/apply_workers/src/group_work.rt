@@ -1,4 +1,4 @@
-//! The work of one group of a batch, and what becomes of it.
+//! The work of one group of a batch, and its result.
 ghost use Rattle.std.specs.Prelude.{◌<◌, All, length};
 
 use data_tree::{Cells, Outcome};
@@ -6,7 +6,7 @@ use std::alloc::Global;
 use txn_codec::Txn;
 use values::Listed;
 
-/// A group's cells, and at which places of a batch its transactions stand.
+/// A group's cells, and the places of its transactions in the batch.
 #[derive(Drop)]
 pub struct Work<'a> {
     pub(crate) alloc: Global,
@@ -16,15 +16,15 @@ pub struct Work<'a> {
     ghost within: { All (λ place. place < length txns.now) members.now },
 }
 
-/// What became of a group's work.
+/// The result of a group's work.
 #[derive(Drop)]
 pub enum Finished {
-    /// All its transactions were done: the cells after them, and what each answered.
+    /// All its transactions were applied: the cells after them, and the outcomes.
     Done {
         cells: Cells,
         outcomes: Listed<Outcome>,
     },
-    /// Memory was refused after so many: the cells are only to be dropped.
+    /// An allocation was refused after `done` transactions: the cells are unspecified.
     Stopped {
         cells: Cells,
         done: usize,

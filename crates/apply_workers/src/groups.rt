@@ -1,4 +1,4 @@
-//! The groups of a batch, done one step at a time.
+//! The groups of a batch, advanced one step at a time.
 ghost use Rattle.std.specs.Prelude.{◌≡◌, ◌<◌, IfOk, OnOk, map, length, false};
 ghost use Rattle.std.specs.List.{list_any};
 ghost use Rattle.batcher.specs.Cut.{groups_of, is_barrier_alone};
@@ -20,8 +20,8 @@ use std::alloc::Global;
 use std::marker::Model;
 use values::{Listed, NoMemory};
 
-/// A batch whose groups are done one step at a time, in any order. It is seen as its transactions, the number of the
-/// group that is claimed next, and each group with who has it, its cells, what is left to do and what was answered.
+/// A batch whose groups are advanced one step at a time, in any order. Its model is the transactions, the number of the
+/// group that is claimed next, and for each group its holder, its cells, the transactions left, and the outcomes.
 #[derive(Drop)]
 pub struct Groups {
     batch: Batch,
@@ -55,7 +55,7 @@ impl Model for Groups {
     ghost invariant = { λ g. AreWithinGroups (groups_of g.batch) g.hands.items };
 }
 
-// Hands that hold these cells, of groups that nobody has claimed.
+// Groups with these cells that no worker has claimed.
 fn waiting(alloc: Global, each: Vec<Cells>) -> Result<Vec<GroupInProgress>, NoMemory>
     ensures { IfOk result (λ v. v.items ≡ map unclaimed_group each.items) }
 {
@@ -66,7 +66,6 @@ fn waiting(alloc: Global, each: Vec<Cells>) -> Result<Vec<GroupInProgress>, NoMe
     Ok(hands)
 }
 
-// Whether the worker has a group.
 fn has_group(hands: &[GroupInProgress], worker: usize) -> bool
     ensures { result ≡ list_any (λ h. is_held_by worker h.holder) hands.now }
 {
@@ -78,7 +77,8 @@ fn has_group(hands: &[GroupInProgress], worker: usize) -> bool
     false
 }
 
-// Does the next transaction of the worker's group, and says whether there was one. A worker has one group at most.
+// Applies the next transaction of the worker's group, and returns whether there was one. A worker has one group at
+// most.
 fn do_next(
     hands: &mut [GroupInProgress],
     alloc: Global,
@@ -102,7 +102,7 @@ fn do_next(
     Ok(taken)
 }
 
-// Gives the worker's group back, if all its transactions are done, and says whether there was one.
+// Gives the worker's group back if all its transactions are applied, and returns whether it did.
 fn give(hands: &mut [GroupInProgress], batch: &Batch, worker: usize) -> bool
     requires { AreWithinGroups (groups_of batch.now) hands.old }
     ensures held { AreWithinGroups (groups_of batch.now) hands.new }
@@ -121,7 +121,7 @@ fn give(hands: &mut [GroupInProgress], batch: &Batch, worker: usize) -> bool
     taken
 }
 
-// Does what is left of each group.
+// Applies the transactions that are left in each group.
 fn finish_each(alloc: Global, batch: &Batch, hands: Vec<GroupInProgress>) -> Result<Done, NoMemory>
     requires { AreWithinGroups (groups_of batch.now) hands.items }
     ensures cells { IfOk result (λ done. done.cells.items ≡ map (λ g. g.cells)
@@ -142,8 +142,8 @@ fn finish_each(alloc: Global, batch: &Batch, hands: Vec<GroupInProgress>) -> Res
 }
 
 impl Groups {
-    /// Takes from the tree the cells of each group's paths, and no other; no group is claimed. Refused, it leaves a
-    /// tree that is only to be dropped.
+    /// Takes the cells of each group's paths from the tree, and no others; no group is claimed. A refused allocation
+    /// leaves the tree unspecified, and the caller drops it.
     pub fn open(alloc: Global, tree: &mut Tree, batch: Batch) -> Result<Groups, NoMemory>
         ensures groups { IfOk result (λ groups. groups ≡ unstarted_batch tree.old batch) }
         ensures tree { OnOk result (tree.new ≡ left_by tree.old batch) }
@@ -159,7 +159,7 @@ impl Groups {
         })
     }
 
-    // The worker claims the next group, if it has none and one is left, and says whether it did.
+    // Claims the next group for the worker, if the worker has none and one is left, and returns whether it did.
     fn claim(&mut self, worker: usize) -> bool
         ensures taken { result ≡ can_be_taken self.old.progress (Claim worker) }
         ensures groups { self.new ≡ record self.old { progress = stepped self.old.progress (Claim worker) } }
@@ -175,9 +175,10 @@ impl Groups {
         true
     }
 
-    /// Takes the step, and says whether it could be taken: a claim by a worker that has no group, where one is left; a
-    /// transaction of the worker's group, where one is left; a giving back where none is. A step that can't be taken
-    /// changes nothing. Refused memory, it leaves groups and a tree that are only to be dropped.
+    /// Takes the step, and returns whether it could be taken: a claim by a worker that has no group, if one is left; a
+    /// transaction of the worker's group, if one is left; giving the group back, if none is left. A step that can't be
+    /// taken changes nothing. A refused allocation leaves the groups and the tree unspecified, and the caller drops
+    /// them.
     pub fn step(&mut self, alloc: Global, step: Step) -> Result<bool, NoMemory>
         ensures taken { IfOk result (λ taken. taken ≡ can_be_taken self.old.progress step) }
         ensures groups { OnOk result
@@ -190,10 +191,10 @@ impl Groups {
         }
     }
 
-    /// Does what is left, group by group, puts the cells back into the tree from which they were taken, sets the
-    /// timeouts of the sessions that the batch creates, and answers the outcomes, both in the batch's order. A batch
-    /// that has no groups, as a barrier alone, is done on the tree itself. Refused memory, it leaves a tree that is
-    /// only to be dropped.
+    /// Applies the transactions that are left, group by group, puts the cells back into the tree that they were taken
+    /// from, and sets the timeouts of the sessions that the batch creates. Returns the outcomes. Timeouts and outcomes
+    /// are in the batch's order. A batch without groups, such as a single barrier, is applied to the tree itself. A
+    /// refused allocation leaves the tree unspecified, and the caller drops it.
     pub fn home(self, alloc: Global, tree: &mut Tree) -> Result<Vec<Outcome>, NoMemory>
         ensures tree { OnOk result
             (tree.new ≡ (batch_result tree.old self.batch self.progress.groups).state) }

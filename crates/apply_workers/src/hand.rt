@@ -1,4 +1,4 @@
-//! A group that is done by steps.
+//! A group that is advanced by steps.
 ghost use Rattle.std.specs.Prelude.{◌≡◌, ◌<◌, ◌≤◌, ◌++◌, ℕ, IfOk, OnOk, All, length, drop};
 ghost use Rattle.data_tree.specs.Cells.{after_in_cells, outcomes_in_cells};
 ghost use Rattle.apply_workers.specs.Places.{at_places};
@@ -14,7 +14,7 @@ use std::marker::Model;
 use txn_codec::Txn;
 use values::NoMemory;
 
-/// Who has the group, its cells, and what the transactions that are done answered.
+/// A group's holder, its cells, and the outcomes of the transactions applied so far.
 #[derive(Drop)]
 pub struct GroupInProgress {
     holder: Holder,
@@ -38,7 +38,7 @@ impl Model for GroupInProgress {
 }
 
 impl GroupInProgress {
-    /// Nobody has claimed the group, and nothing is done in its cells.
+    /// No worker has claimed the group, and no transaction was applied.
     pub fn new(alloc: Global, cells: Cells) -> GroupInProgress
         ensures { result ≡ unclaimed_group cells }
     {
@@ -49,14 +49,14 @@ impl GroupInProgress {
         }
     }
 
-    /// The worker claims it.
+    /// The worker claims the group.
     pub fn claim(&mut self, worker: usize)
         ensures { self.new ≡ record self.old { holder = Held worker } }
     {
         self.holder = Holder::Held(worker);
     }
 
-    /// Whether the worker has it.
+    /// Whether the worker holds the group.
     pub fn is_held_by(&self, worker: usize) -> bool
         ensures { result ≡ is_held_by worker self.now.holder }
     {
@@ -66,7 +66,7 @@ impl GroupInProgress {
         }
     }
 
-    /// Does the next transaction, if the worker has the group and one is left, and says whether it did.
+    /// Applies the next transaction, if the worker holds the group and one is left, and returns whether it did.
     pub fn do_next(
         &mut self,
         alloc: Global,
@@ -92,7 +92,7 @@ impl GroupInProgress {
         Ok(true)
     }
 
-    /// Gives the group back, if the worker has it and no transaction is left, and says whether it did.
+    /// Gives the group back, if the worker holds it and no transaction is left, and returns whether it did.
     pub fn give(&mut self, worker: usize, txns: &[Txn], group: &Group) -> bool
         requires { All (λ place. place < length txns.now) group.now.members }
         ensures taken { (k : ℕ)
@@ -111,7 +111,7 @@ impl GroupInProgress {
         true
     }
 
-    /// Does what is left: the cells behind it, and what all transactions answered.
+    /// Applies the transactions that are left: returns the cells after them, and the outcomes of all.
     pub fn finish(
         self,
         alloc: Global,

@@ -1,10 +1,10 @@
-//! Who has a group.
+//! The holder of a group.
 
-/// A group is not claimed yet, held by a worker, or given back.
+/// A group isn't claimed yet, is held by a worker, or was given back.
 #[derive(Clone, Copy)]
 pub enum Holder {
     Waiting,
-    /// By the worker of this number.
+    /// Held by the worker with this number.
     Held(usize),
     Home,
 }

@@ -1,4 +1,4 @@
-//! Groups that come home.
+//! Putting the groups' cells back.
 ghost use Rattle.std.specs.Prelude.{◌≡◌, ◌<◌, IfOk, OnOk, All, List, false, length};
 ghost use Rattle.data_tree.specs.declared.outcome.Outcome.{Outcome};
 ghost use Rattle.batcher.specs.Cut.{is_barrier_alone};
@@ -13,14 +13,14 @@ use std::alloc::Global;
 use txn_codec::{Body, Txn};
 use values::{Listed, NoMemory};
 
-/// What groups left and answered, in the order of the groups.
+/// The cells and the outcomes of the groups, in the order of the groups.
 #[derive(Drop)]
 pub struct Done {
     pub cells: Vec<Cells>,
     pub outcomes: Vec<Listed<Outcome>>,
 }
 
-/// What all groups left and answered; `NoMemory` where one was stopped.
+/// The cells and the outcomes of all groups. Fails with `NoMemory` if one was stopped.
 pub fn all_done(alloc: Global, groups: Vec<Group<Work<'_>, Finished>>) -> Result<Done, NoMemory>
     ensures homes { IfOk result (λ done.
         groups.entry.items ≡ finished_groups done.cells.items done.outcomes.items) }
@@ -46,7 +46,6 @@ pub fn all_done(alloc: Global, groups: Vec<Group<Work<'_>, Finished>>) -> Result
     Ok(Done { cells, outcomes })
 }
 
-// Puts each group's cells back.
 fn put_each(alloc: Global, tree: &mut Tree, each: Vec<Cells>) -> Result<(), NoMemory>
     ensures { OnOk result (tree.new ≡ with_all_cells each.items tree.old) }
 {
@@ -68,7 +67,7 @@ fn set_timeouts(tree: &mut Tree, txns: &[Txn]) -> Result<(), NoMemory>
     Ok(())
 }
 
-// An outcome for each transaction, in whose place another comes.
+// An empty outcome for each transaction, to be replaced.
 fn empty_outcomes(alloc: Global, count: usize) -> Result<Vec<Outcome>, NoMemory>
     ensures { IfOk result (λ v. length v.items ≡ count) }
 {
@@ -118,8 +117,8 @@ fn in_order(
     Ok(all)
 }
 
-/// Puts the groups' cells back, sets the timeouts of the sessions that the batch creates, and answers the outcomes in
-/// the batch's order. Refused, it leaves a tree that is only to be dropped.
+/// Puts the groups' cells back, sets the timeouts of the sessions that the batch creates, and returns the outcomes in
+/// the batch's order. A refused allocation leaves the tree unspecified, and the caller drops it.
 pub fn home(
     alloc: Global,
     tree: &mut Tree,

@@ -1,10 +1,10 @@
-//! The law of groups that are done apart.
+//! The law of groups that are applied separately.
 
 ghost use Rattle.apply_workers.specs.Homing.{GroupsComeHome};
 
-/// Where each group of a batch is done on its own cells, what is taken one group after the other and put back so, with
-/// the timeouts set in the batch's order, is the state after the batch; and each group answers its share of what the
-/// batch answers. It does nothing.
+/// If each group of a batch is applied to its own cells, which are taken one group after the other and put back so, and
+/// the timeouts are set in the batch's order, the result is the state after the batch; and each group has its share of
+/// the batch's outcomes. It does nothing.
 pub fn groups_come_home()
     ensures { GroupsComeHome }
 {

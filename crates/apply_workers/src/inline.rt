@@ -1,4 +1,4 @@
-//! A batch that is done by steps, on one thread.
+//! A batch that is applied by steps, on one thread.
 ghost use Rattle.std.specs.Prelude.{◌≡◌, IfOk, OnOk};
 ghost use Rattle.data_tree.specs.Meaning.{state_after, outcomes_of_txns};
 
@@ -10,9 +10,10 @@ use data_tree::{Outcome, Tree};
 use std::alloc::Global;
 use values::NoMemory;
 
-/// Does a batch by these steps of its workers, passing over those that can't be taken, then what they leave undone, and
-/// answers what its transactions answer, in order: whichever steps these are, the tree and the answers are those of the
-/// transactions done one after the other. Refused memory, it leaves a tree that is only to be dropped.
+/// Applies a batch by these steps of its workers, skips the steps that can't be taken, then applies the rest, and
+/// returns the outcomes in the order of the transactions. Whatever the steps are, tree and outcomes are those of
+/// applying the transactions one after the other. A refused allocation leaves the tree unspecified, and the caller
+/// drops it.
 pub fn apply_inline(
     alloc: Global,
     tree: &mut Tree,

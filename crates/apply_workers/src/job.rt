@@ -1,4 +1,4 @@
-//! What one worker does.
+//! The loop of one worker.
 ghost use Rattle.std.specs.Prelude.{◌≡◌};
 ghost use Rattle.apply_board.specs.Seats.{IsIdle};
 ghost use Rattle.apply_workers.specs.Working.{IsWorked};

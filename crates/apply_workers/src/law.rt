@@ -1,11 +1,11 @@
-//! Laws of batches that are done by groups. Each is the contract of a function that does nothing.
+//! Laws of batches that are applied by groups. Each is the contract of a function that does nothing.
 
 ghost use Rattle.apply_workers.specs.Schedules.{SchedulesAreTheBatch, PathsAreWithOneGroup, GroupsAreTaken};
 ghost use Rattle.apply_workers.specs.ScheduleRows.{SchedulesAreWorked};
 
-/// Whichever steps workers take, and in whatever order: what is left when all groups are home, and what is answered, is
-/// what the batch's transactions leave and answer one after the other; and at any time each of their paths is with just
-/// one group.
+/// Whatever steps workers take, and in whatever order: when all groups are put back, state and outcomes are those of
+/// applying the batch's transactions one after the other; and at any time each of their paths is with exactly one
+/// group.
 pub fn every_schedule()
     ensures batch { SchedulesAreTheBatch }
     ensures paths { PathsAreWithOneGroup }
@@ -24,8 +24,8 @@ pub fn worked_schedules()
     every_schedule();
 }
 
-/// What is taken from a state one group after the other is what stands in the state at each group's paths, and what is
-/// left is the state without them: no two groups have a path in common.
+/// Taking the groups' cells from a state one group after the other takes the state's cells at each group's paths, and
+/// leaves the state without them, since no two groups have a path in common.
 pub fn groups_are_taken()
     ensures { GroupsAreTaken }
 {

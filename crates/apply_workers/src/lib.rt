@@ -1,20 +1,20 @@
 //! Workers at a board: each claims works, does them and gives the results back, until all are claimed.
 //!
-//! `work` is what one worker does. `run` has a list of works done by several, each on a thread of its own, and gives
-//! the results in the order of the works. A `Gate` is passed after each claim and before its work.
+//! `work` is the loop of one worker. `run` has a list of works done by several workers, each on a thread of its own,
+//! and returns the results in the order of the works. A `Gate` is passed after each claim and before its work.
 //!
-//! What workers do with the groups of a batch is a definition, step by step (`specs/Schedule.antt`); that it is what
-//! the batch does, whichever `Step`s are taken, is `law::every_schedule`.
+//! `specs/Schedule.antt` defines, step by step, what workers do with the groups of a batch. The law
+//! `law::every_schedule` says that the result is that of the batch, whatever `Step`s are taken.
 //!
-//! `Groups` does a batch by such steps: `open` takes the groups' cells out of the tree, `step` takes a step or passes
-//! it over, and `home` does what is left and puts all back. `apply_inline` is these calls one after the other;
-//! whichever steps it is given, it leaves and answers what the transactions do one after the other.
+//! `Groups` applies a batch by such steps: `open` takes the groups' cells out of the tree, `step` takes a step or skips
+//! it, and `home` applies the rest and puts everything back. `apply_inline` makes these calls one after the other;
+//! whatever steps it is given, state and outcomes are those of applying the transactions one after the other.
 //!
-//! `apply_batch` does a batch of transactions so: each group's cells are taken out of the tree, each group is a work on
-//! its cells (`Work`, `Finished`), and when all are home the cells are put back, the timeouts of new sessions are set
-//! and the outcomes stand in the batch's order. It leaves and answers what the transactions do one after the other,
-//! since groups have no cell in common (`groups_come_home` is that law). One worker moves nothing: it does the
-//! transactions on the tree, and passes the gate for each group at its first one.
+//! `apply_batch` applies a batch on threads: each group's cells are taken out of the tree, each group is a work on its
+//! cells (`Work`, `Finished`), and in the end the cells are put back, the timeouts of new sessions are set, and the
+//! outcomes are put in the batch's order. State and outcomes are those of applying the transactions one after the
+//! other, since groups have no cell in common (the law `groups_come_home`). A single worker moves no cells: it applies
+//! the transactions to the tree, and passes the gate for each group at the group's first transaction.
 //!
 //! ```text
 //! let batch = cut(alloc, txns, &limits)?;

@@ -1,7 +1,7 @@
-//! A step on the way to a batch that is done.
+//! A step of a schedule.
 
-/// What a worker does next: it takes the next group of a batch, does one more transaction of its group, or gives the
-/// group back when all are done. Workers are told apart by number.
+/// A step of a worker: it claims the next group of a batch, applies the next transaction of its group, or gives the
+/// group back when all are applied. Workers are numbered.
 #[derive(Clone, Copy)]
 pub enum Step {
     Claim(usize),

@@ -1,4 +1,4 @@
-//! A batch leaves and answers what its transactions do one after the other, however many workers there are.
+//! A batch has the state and the outcomes of its transactions one after the other, however many workers there are.
 use crate::words::{answers, batches_of, one_by_one, sizes, state, tree_behind};
 use apply_workers::{OpenGate, Step, apply_batch, apply_inline};
 use batcher::{Batch, Limits, cut};
@@ -24,7 +24,7 @@ const TWO_WORKERS: [Step; 10] = [
     Step::Do(2),
 ];
 
-// Of two groups the second is done first.
+// The second of two groups is applied first.
 const SECOND_FIRST: [Step; 5] = [
     Step::Claim(0),
     Step::Claim(1),
@@ -33,7 +33,7 @@ const SECOND_FIRST: [Step; 5] = [
     Step::Give(1),
 ];
 
-// How a batch is done: by so many workers, or by steps.
+// The way to apply a batch: by this many workers, or by steps.
 #[derive(Clone, Copy)]
 enum Way {
     OneWorker,
@@ -67,7 +67,7 @@ fn do_batch<R: Threads + Sync>(
     }
 }
 
-// What the batches of these words answer and leave, one behind the other.
+// The outcomes and the state of the batches of these words, one after the other.
 fn told_of<R: Threads + Sync>(
     rt: &R,
     alloc: Global,
@@ -84,7 +84,7 @@ fn told_of<R: Threads + Sync>(
     Ok(text)
 }
 
-// The same, behind those of the words before.
+// The same, after those of the words before.
 fn in_batches<R: Threads + Sync>(
     rt: &R,
     alloc: Global,
@@ -95,7 +95,7 @@ fn in_batches<R: Threads + Sync>(
     told_of(rt, alloc, &mut tree, words, way)
 }
 
-// Whether each way of doing the batches of the words leaves and answers this, behind those of the words before.
+// Whether each way to apply the batches of the words has this result, after those of the words before.
 fn is_so_each_way<R: Threads + Sync>(
     rt: &R,
     alloc: Global,
@@ -110,8 +110,8 @@ fn is_so_each_way<R: Threads + Sync>(
     Ok(true)
 }
 
-// Whether the batches of these words have these sizes, and whether 1, 2 and 64 workers, the steps of two, and none at
-// all, leave and answer this, and so do the transactions one after the other.
+// Whether the batches of these words have these sizes, and whether 1, 2 and 64 workers, the steps of two, no steps at
+// all, and the transactions one after the other all have this result.
 fn is_so<R: Threads + Sync>(
     rt: &R,
     alloc: Global,
@@ -137,7 +137,7 @@ fn two_timeouts(alloc: Global) -> Result<Batch, Fail> {
     Ok(cut(alloc, txns.as_slice(), &Limits::new(2, 256, 64)?)?)
 }
 
-// The timeout of session 9 behind that batch, done by two workers.
+// The timeout of session 9 after that batch, applied by two workers.
 fn timeout_by_workers<R: Threads + Sync>(rt: &R, alloc: Global) -> Result<Option<i32>, Fail> {
     let batch = two_timeouts(alloc)?;
     let mut tree = tree_behind(alloc, "")?;
@@ -145,7 +145,7 @@ fn timeout_by_workers<R: Threads + Sync>(rt: &R, alloc: Global) -> Result<Option
     Ok(tree.sessions().get(9))
 }
 
-// The same, done by steps of which the second group's come first.
+// The same, applied by steps of which the second group's come first.
 fn timeout_by_steps(alloc: Global) -> Result<Option<i32>, Fail> {
     let batch = two_timeouts(alloc)?;
     let mut tree = tree_behind(alloc, "")?;

@@ -1,4 +1,4 @@
-//! The largest batch, whose groups are held back in an order.
+//! The largest batch, whose groups are delayed into an order.
 
 use crate::words::{answers, tree_behind};
 use apply_workers::{Gate, apply_batch};
@@ -19,8 +19,8 @@ const WORKERS: usize = 8;
 
 const MOST_TURNS: u64 = 1_000_000_000;
 
-// Has the groups pass in ascending order; or the greatest one first of each eight, which are as many as the workers
-// have in hand at a time. Marks if a group waited in vain.
+// Lets the groups pass in ascending order, or the greatest one first of each eight, which is the number of groups that
+// the workers hold at a time. Notes whether a group waited in vain.
 #[derive(Drop)]
 struct InOrder {
     greater_first: bool,
@@ -30,7 +30,7 @@ struct InOrder {
 }
 
 impl InOrder {
-    // The group that passes before this one, if there is one.
+    // The group that has to pass before this one, if there is one.
     fn before(&self, group: u64) -> Option<u64> {
         if !self.greater_first {
             return group.checked_sub(1);
@@ -41,7 +41,7 @@ impl InOrder {
         group.checked_add(1)
     }
 
-    // Whether the group passed last, or does so while it is waited for. When one was missed none is waited for.
+    // Whether the group has passed last, or does so while this waits. Once a group was missed none is waited for.
     fn has_passed(&self, group: u64) -> bool {
         for _ in 0..MOST_TURNS {
             if self.last.load(Ordering::SeqCst) == group {
@@ -67,7 +67,7 @@ impl Gate for InOrder {
     }
 }
 
-// Makes a node for each group.
+// Creates a node for each group.
 fn make_parents(alloc: Global, tree: &mut Tree) -> Result<(), Fail> {
     for group in 0..GROUPS {
         let txn = read_txn(alloc, format!(in alloc; "/{group}")?.as_str())?;
@@ -83,7 +83,7 @@ fn parents(alloc: Global) -> Result<Tree, Fail> {
     Ok(tree)
 }
 
-// Transactions that make a child of each of these nodes, then another of each, and so on.
+// Transactions that create a child of each of these nodes, then another of each, and so on.
 fn children(alloc: Global) -> Result<Vec<Txn>, Fail> {
     let mut txns = Vec::new(alloc);
     for child in 0..OF_EACH {
@@ -94,14 +94,14 @@ fn children(alloc: Global) -> Result<Vec<Txn>, Fail> {
     Ok(txns)
 }
 
-// They as one batch.
+// These transactions as one batch.
 fn largest(alloc: Global) -> Result<Batch, Fail> {
     let txns = children(alloc)?;
     Ok(cut(alloc, txns.as_slice(), &Limits::new(WORKERS, 4096, 256)?)?)
 }
 
-// Whether a group waited in vain while the workers did the batch; how many groups and transactions it has; how many
-// nodes there are then; and what it answers.
+// Whether a group waited in vain while the workers applied the batch; the number of its groups and transactions; the
+// number of nodes afterwards; and the outcomes.
 fn held_in<R: Threads + Sync>(
     rt: &R,
     alloc: Global,
@@ -127,7 +127,7 @@ fn held<R: Threads + Sync>(rt: &R, alloc: Global, greater_first: bool) -> Result
     held_in(rt, alloc, &mut tree, greater_first)
 }
 
-// That no group waited in vain, and each create has no error, makes its node and changes its parent's children.
+// No group waited in vain, and each create has no error, creates its node and changes its parent's children.
 fn wanted(alloc: Global) -> Result<String, Fail> {
     let mut text = String::from_str(alloc, "0 256 4096 4355 ")?;
     for child in 0..OF_EACH {

@@ -1,4 +1,4 @@
-//! Which steps of a batch's groups are taken.
+//! The steps of a batch's groups that are taken.
 
 use crate::words::{batch_of, ending, state, tree_behind};
 use apply_workers::{Groups, Step};
@@ -17,7 +17,7 @@ const TWO_WORKERS: [Step; 8] = [
     Step::Give(0),
 ];
 
-// Which of the steps are taken, each as "+" or "-".
+// For each step whether it is taken, as "+" or "-".
 fn signs(alloc: Global, groups: &mut Groups, steps: &[Step]) -> Result<String, Fail> {
     let mut text = String::new(alloc);
     for step in steps {
@@ -27,7 +27,7 @@ fn signs(alloc: Global, groups: &mut Groups, steps: &[Step]) -> Result<String, F
     Ok(text)
 }
 
-// What is left without the cells of the batch, which of the steps are taken, and what the batch answers and leaves.
+// The state without the cells of the batch, the steps that are taken, and the outcomes and the state of the batch.
 fn taken_of(alloc: Global, tree: &mut Tree, words: &str, steps: &[Step]) -> Result<String, Fail> {
     let mut groups = Groups::open(alloc, tree, batch_of(alloc, words)?)?;
     let without = state(alloc, tree)?;
@@ -37,7 +37,7 @@ fn taken_of(alloc: Global, tree: &mut Tree, words: &str, steps: &[Step]) -> Resu
     Ok(format!(in alloc; "{without}|{taken}|{home}")?)
 }
 
-// The same, behind the words before.
+// The same, after the words before.
 fn taken(alloc: Global, before: &str, words: &str, steps: &[Step]) -> Result<String, Fail> {
     let mut tree = tree_behind(alloc, before)?;
     taken_of(alloc, &mut tree, words, steps)

@@ -1,4 +1,4 @@
-//! Groups are done at the same time, by workers that share them out as they go.
+//! Groups are applied at the same time, by workers that share them as they go.
 ghost use Rattle.std.specs.Prelude.{◌≤◌};
 
 use crate::words::{answers, batch_of, tree_behind};
@@ -11,7 +11,7 @@ use std::thread::Threads;
 
 const MOST_TURNS: u64 = 1_000_000_000;
 
-// Holds a group until so many others were passed, or marks that they were not.
+// Holds a group until this many others were passed, or notes that they weren't.
 #[derive(Drop)]
 struct Holding {
     held: usize,
@@ -35,7 +35,7 @@ impl Gate for Holding {
     }
 }
 
-// What so many workers answer to the batch of these words, behind the creates of three nodes.
+// The outcomes of the batch of these words by this many workers, after the creates of three nodes.
 fn done<R: Threads + Sync, G: Gate + Sync>(
     rt: &R,
     alloc: Global,
@@ -50,7 +50,7 @@ fn done<R: Threads + Sync, G: Gate + Sync>(
     Ok(apply_batch(rt, alloc, &mut tree, batch, workers, gate)?)
 }
 
-// What two workers answer while one group is held until so many others were passed; or the word "missed".
+// The outcomes by two workers while one group is held until this many others were passed; or the word "missed".
 fn held<R: Threads + Sync>(
     rt: &R,
     alloc: Global,
@@ -88,7 +88,7 @@ impl Gate for Counting {
     }
 }
 
-// How many groups one worker passes in their order, and how many otherwise.
+// The number of groups that one worker passes in their order, and the number of the others.
 fn passed<R: Threads + Sync>(rt: &R, alloc: Global, words: &str) -> Result<(u64, u64), Fail> {
     let gate = Counting {
         in_order: AtomicU64::new(0),

@@ -1,4 +1,4 @@
-//! Batches and trees that words stand for, and what they answer in words.
+//! Batches and trees given as words, and their outcomes in words.
 
 use batcher::{Batch, Limits, cut};
 use batcher_tests::read_txns;
@@ -6,7 +6,7 @@ use data_tree::{Outcome, Tree, Trigger};
 use std::alloc::Global;
 use std::test::Fail;
 
-// The tree from which every log starts. It says nothing of the tree, so that nothing is computed from it in a proof.
+// The tree that every log starts from. It has no contract, so that no proof computes anything from the tree.
 fn fresh(alloc: Global) -> Result<Tree, Fail> {
     Ok(Tree::fresh(alloc)?)
 }
@@ -20,21 +20,20 @@ fn apply_all(alloc: Global, tree: &mut Tree, words: &str) -> Result<Vec<Outcome>
     Ok(outcomes)
 }
 
-/// The fresh tree, behind the transactions of these words.
+/// The fresh tree, after the transactions of these words.
 pub fn tree_behind(alloc: Global, words: &str) -> Result<Tree, Fail> {
     let mut tree = fresh(alloc)?;
     apply_all(alloc, &mut tree, words)?;
     Ok(tree)
 }
 
-/// What is cut from the transactions of these words with limits that are usual.
+/// The batch cut from the transactions of these words with the default limits.
 pub fn batch_of(alloc: Global, words: &str) -> Result<Batch, Fail> {
     let limits = Limits::new(4, 256, 64)?;
     Ok(cut(alloc, read_txns(alloc, words)?.as_slice(), &limits)?)
 }
 
-/// All batches that are cut from the transactions of these words, one behind the other; of no transaction the empty
-/// one.
+/// All batches cut from the transactions of these words, one after the other; without transactions the empty one.
 pub fn batches_of(alloc: Global, words: &str) -> Result<Vec<Batch>, Fail> {
     let limits = Limits::new(4, 256, 64)?;
     let txns = read_txns(alloc, words)?;
@@ -53,7 +52,7 @@ pub fn batches_of(alloc: Global, words: &str) -> Result<Vec<Batch>, Fail> {
     Ok(batches)
 }
 
-/// How many transactions the batches have.
+/// The number of transactions in each batch.
 pub fn sizes(alloc: Global, batches: &[Batch]) -> Result<String, Fail> {
     let mut text = String::new(alloc);
     for batch in batches {
@@ -63,7 +62,7 @@ pub fn sizes(alloc: Global, batches: &[Batch]) -> Result<String, Fail> {
     Ok(text)
 }
 
-// A sign and the path of what watchers are told.
+// A trigger as a sign and a path.
 fn told(trigger: &Trigger) -> (char, &str) {
     match trigger {
         Trigger::Created(path) => ('+', path.as_str()),
@@ -73,8 +72,8 @@ fn told(trigger: &Trigger) -> (char, &str) {
     }
 }
 
-/// Each outcome's error, and what it tells watchers: "+" where a node was made, "-" where one was removed, "=" where
-/// its data changed, "~" where its children did.
+/// Each outcome's error, and its triggers: "+" for a node that was created, "-" for one that was deleted, "=" if its
+/// data changed, "~" if its children did.
 pub fn answers(alloc: Global, outcomes: &[Outcome]) -> Result<String, Fail> {
     let mut text = String::new(alloc);
     for outcome in outcomes {
@@ -102,7 +101,7 @@ fn names(alloc: Global, tree: &Tree, path: &str) -> Result<String, Fail> {
     Ok(text)
 }
 
-// The cversion, how many children and the pzxid that the node at the path shows, or a dash.
+// The cversion, the number of children and the pzxid in the Stat of the node at the path, or a dash.
 fn figures(alloc: Global, tree: &Tree, path: &str) -> Result<String, Fail> {
     let Some(stat) = tree.stat(path) else {
         return Ok(String::from_str(alloc, "-")?);
@@ -111,8 +110,8 @@ fn figures(alloc: Global, tree: &Tree, path: &str) -> Result<String, Fail> {
     Ok(format!(in alloc; "{cversion},{children},{pzxid}")?)
 }
 
-/// How many nodes there are, the children of "/", "/a" and "/b", the timeout of session 9, or -1, and the figures of
-/// "/a" and "/b".
+/// The number of nodes, the children of "/", "/a" and "/b", the timeout of session 9, or -1, and the figures of "/a"
+/// and "/b".
 pub fn state(alloc: Global, tree: &Tree) -> Result<String, Fail> {
     let count = tree.paths();
     let root = names(alloc, tree, "/")?;
@@ -124,20 +123,20 @@ pub fn state(alloc: Global, tree: &Tree) -> Result<String, Fail> {
     Ok(format!(in alloc; "{count}{root};{a};{b}; {timeout} {of_a} {of_b}")?)
 }
 
-/// What these outcomes say, and what the tree is then.
+/// These outcomes, and the tree afterwards.
 pub fn ending(alloc: Global, outcomes: &[Outcome], tree: &Tree) -> Result<String, Fail> {
     let mut text = answers(alloc, outcomes)?;
     text.push_str(state(alloc, tree)?.as_str())?;
     Ok(text)
 }
 
-// What the transactions of these words answer and leave, one after the other.
+// The outcomes and the state of the transactions of these words, one after the other.
 fn ending_behind(alloc: Global, tree: &mut Tree, words: &str) -> Result<String, Fail> {
     let outcomes = apply_all(alloc, tree, words)?;
     ending(alloc, outcomes.as_slice(), tree)
 }
 
-/// The same, behind those of the words before.
+/// The same, after those of the words before.
 pub fn one_by_one(alloc: Global, before: &str, words: &str) -> Result<String, Fail> {
     let mut tree = tree_behind(alloc, before)?;
     ending_behind(alloc, &mut tree, words)

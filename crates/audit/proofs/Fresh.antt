@@ -1,4 +1,4 @@
--- The counts of the fresh tree are what it shows, and so are those that a clean log leaves.
+-- The counts of the fresh tree are those in its Stats, and so are the counts that a clean log leaves.
 use Rattle.std.proofs.Common.{◌≡◌, ℕ, ◌+◌, pos, negsuc, Bool, true, false, cond, Option, Some, None, refl, sym, ap, subst, ◌∙◌, codes, w32, FitsSigned, rules}
 use mathlib.Core.Bool.{true≢false}
 use Rattle.std.proofs.lemmas.Int.{int_wrap_fits}

@@ -1,4 +1,4 @@
--- What holds of nodes and counts in a clean log, and what one operation leaves of it.
+-- The invariant of nodes and counts in a clean log, for one operation.
 use Rattle.std.proofs.Common.{◌≡◌, ℕ, ◌+◌, ◌-◌, ◌≤◌, zero, suc, ℤ, pos, ◌+ℤ◌, Bool, true, false, not, ◌&&◌, ◌||◌, cond, Option, Some, None, is_some, refl, sym, ap, subst, ◌∙◌, if◌then◌else◌, arith, w32, FitsSigned, rules}
 use mathlib.Core.Bool.{true≢false}
 use Rattle.std.proofs.lemmas.Bool.{eqb-true}
@@ -28,13 +28,13 @@ use Rattle.audit.specs.Count.{is_same_path, new_node_count, one_more, count_afte
 use Rattle.audit.proofs.Names.{or_true, child_no_root, same_child}
 use Rattle.audit.proofs.Numbers.{net, created_net, deleted_net}
 
--- the count of a node is what its numbers say
+-- The count of a node agrees with its stat.
 pub record Agrees (count : Count) (node : Node) : Type 0 where
   pub fits : FitsSigned w32 node.stat.cversion
   pub cversion : count.cversion ≡ net node.stat.cversion (set.len node.children)
   pub pzxid : count.pzxid ≡ node.stat.pzxid
 
--- a node but the root stands at a path, and its parent lists its name
+-- A node but the root is at a path, and its parent lists its name.
 pub record HasPlace (nodes : Nodes) (path : Bytes) : Type 0 where
   pub child : is_child_path path ≡ true
   pub listed : is_listed_at nodes (parent_of path) (name_of path) ≡ true
@@ -72,7 +72,7 @@ some_in names name one = by (set.len names) refl
     by zero none = absurd (not_empty names name one none)
     by (suc n) some = omega arith
 
--- a node that lists a name is there
+-- A node that lists a name exists.
 lister : (nodes : Nodes) (path name : Bytes) → (o : Option Node) → finmap.get nodes path ≡ o
     → is_listed_at nodes path name ≡ true → is_some o ≡ true
 lister nodes path name None at listed = absurd (true≢false (sym listed ∙ ap (is_listed name) at))
@@ -102,7 +102,7 @@ module _ (nodes : Nodes) (counts : Bytes → Count) (h : TxnHeader) (c : Create)
   abbrev nodes_with : Nodes
   nodes_with = finmap.insert (finmap.insert nodes up grown) c.path (new_node h c)
 
-  -- there was no node
+  -- There was no node.
   was_new : finmap.get nodes c.path ≡ None
   was_new = by (finmap.get nodes c.path) refl
     where
@@ -239,7 +239,7 @@ module _ (nodes : Nodes) (counts : Bytes → Count) (h : TxnHeader) (path : Byte
   place : HasPlace nodes path
   place = are.placed path node at_path other
 
-  -- the parent is another node, and was there
+  -- The parent is another node, and existed.
   above_other : (same above path ≡ false) × (finmap.get nodes above ≡ Some parent)
   above_other = by (same above path) refl (sym (finmap.get-remove path_total nodes path above) ∙ at_parent)
     where
@@ -289,7 +289,7 @@ module _ (nodes : Nodes) (counts : Bytes → Count) (h : TxnHeader) (path : Byte
       by false true e f is = cc
       by false false e f is = are.agree r n is
 
-  -- another node keeps its place
+  -- Another node keeps its place.
   kept : (r : Bytes) (n : Node) → finmap.get nodes r ≡ Some n → same r path ≡ false → is_root r ≡ false
       → HasPlace nodes_left r
   kept r n at apart inner =
@@ -338,7 +338,7 @@ module _ (nodes : Nodes) (counts : Bytes → Count) (h : TxnHeader) (path : Byte
   pub delete_counted : AreCounted nodes_left (λ (r : Bytes). count_after_trigger r (counts r) h.zxid (Deleted path))
   delete_counted = record { agree = delete_agree; placed = delete_placed }
 
--- a delete finds the parent
+-- A delete finds the parent.
 pub parent_is : (nodes : Nodes) (counts : Bytes → Count) (path : Bytes) (node : Node) → is_root path ≡ false
     → finmap.get nodes path ≡ Some node → is_childless (Some node) ≡ true → AreCounted nodes counts
     → finmap.get (finmap.remove nodes path) (parent_of path) ≡ None → ⊥
@@ -354,7 +354,7 @@ parent_is nodes counts path node other at none are missing =
         (ap (λ (p : Bytes). is_listed_at nodes p (name_of path)) (sym (same_is (parent_of path) path e)) ∙ listed)
     by false e is = true≢false (sym listed ∙ ap (is_listed (name_of path)) is)
 
--- ---- a node that keeps its children and what counts them
+-- ---- a node that keeps its children and their count
 
 pub same_counted : (nodes : Nodes) (counts : Bytes → Count) (path : Bytes) (old new : Node)
     → finmap.get nodes path ≡ Some old → new.children ≡ old.children → new.stat.cversion ≡ old.stat.cversion

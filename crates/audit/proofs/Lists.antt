@@ -1,4 +1,4 @@
--- A list that a loop goes over: what was taken, and what is left; and a set with nothing to go over.
+-- A list that a loop visits: the elements taken, and those left; and an empty set.
 use Rattle.std.proofs.Common.{◌≡◌, ℕ, ◌+◌, ◌<◌, List, [], ◌∷◌, ◌++◌, ◌||◌, false, length, take, drop, get_or, refl, sym, ap, ◌∙◌, add-one, drop-cons}
 use mathlib.Core.Bool.{true≢false}
 use Rattle.std.proofs.lemmas.Cmp.{eq_by_cmp_equiv}

@@ -45,7 +45,7 @@ counted-push path c s (u ∷ ts) t =
     counted-push path (count_after_triggers path c u.header.zxid (effect_of_txn s u).triggers)
     (effect_of_txn s u).state ts t
 
--- the first transactions are clean, and were done and counted
+-- The first transactions are clean, and were applied and counted.
 pub record AreTaken (log : List Txn) (i : ℕ) (path : Bytes) (now : State) (counted : Count) : Type 0 where
   pub clean : are_clean fresh_state (take i log) ≡ true
   pub state : now ≡ state_after fresh_state (take i log)

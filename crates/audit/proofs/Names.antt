@@ -1,4 +1,4 @@
--- A path is that of its name below its parent, so a parent has one child of a name.
+-- A path is made of its parent and its name, so a parent has one child of a name.
 use Rattle.std.proofs.Common.{◌≡◌, ℕ, Bool, true, false, not, eqb, cond, ◌&&◌, ◌||◌, [], ◌∷◌, ◌++◌, refl, sym, ap, subst, ◌∙◌, codes}
 use mathlib.Core.Bool.{true≢false}
 use Rattle.std.specs.List.{list_all}
@@ -11,7 +11,7 @@ root_is [] e = absurd (true≢false (sym e))
 root_is (b ∷ []) e = ap (λ (n : ℕ). n ∷ []) (eqb-true b 47 e)
 root_is (b ∷ c ∷ path) e = absurd (true≢false (sym e))
 
--- a path that has a parent isn't "/"
+-- A path that has a parent isn't "/".
 pub child_no_root : (path : Bytes) → is_child_path path ≡ true → is_root path ≡ false
 child_no_root path child = by (is_root path) refl
   where
@@ -47,7 +47,7 @@ pub and_false : (b : Bool) → (b && false) ≡ false
 and_false true = refl
 and_false false = refl
 
--- no name is empty
+-- No name is empty.
 no_double : (text : Bytes) → is_child_path (47 ∷ 47 ∷ text) ≡ true → ⊥
 no_double text e = true≢false (sym e ∙ and_false (list_all (λ b. not (eqb b 0)) (47 ∷ text)))
 

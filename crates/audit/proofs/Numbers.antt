@@ -1,11 +1,11 @@
--- The shown cversion in whole numbers, and what one more create or delete makes of it.
+-- The Stat's cversion in whole numbers, and the effect of one more create or delete on it.
 use Rattle.std.proofs.Common.{◌≡◌, ℕ, ◌+◌, ◌-◌, ◌≤◌, ◌%◌, ◌^◌, ℤ, pos, ◌+ℤ◌, ◌-ℤ◌, ◌*ℤ◌, neg_ℤ, w32, FitsSigned, refl, sym, ap, subst, ◌∙◌, arith, rules, unsigned_abs, lit<}
 use Rattle.std.proofs.Math.IntN.{+ℤ_one, +ℤ_idr, +ℤ_assoc, +ℤ_comm, neg_ℤ-+ℤ, -ℤ-+ℤ_cancel, pos-+ℤ-pos, suc_ℤ-*ℤ}
 use Rattle.std.specs.Int.{int_wrap, int_wrapping_mul, cast_signed, int_rem_euclid}
 use Rattle.std.proofs.lemmas.Int.{wrapping_sub_is, wrapping_mul_is, int_wrap-add_left, int_wrap-sub_right, int_wrap-mul_left, SFits-int_wrap, int_rem_euclid_is}
 use Rattle.node_map.specs.Stats.{shown_cversion, java_int}
 
--- twice the stored number less the number of children
+-- Twice the stored number less the number of children.
 abbrev pub net : ℤ → ℕ → ℤ
 net stored children = int_wrap w32 (stored *ℤ pos 2 -ℤ pos children)
 

@@ -23,7 +23,7 @@ counted_all-append path count zxid [] hs = refl
 counted_all-append path count zxid (g ∷ gs) hs =
     counted_all-append path (count_after_trigger path count zxid g) zxid gs hs
 
--- parts that are clean have no error part
+-- Clean parts have no error part.
 pub no_error : (h : TxnHeader) (os : List Operation) (s : State) → are_clean_parts h os s ≡ true → has_error os ≡ false
 no_error h [] s clean = refl
 no_error h (o ∷ os) s clean =
@@ -41,7 +41,7 @@ pub multi_is : (h : TxnHeader) (os : List Operation) (s : State) → are_clean_p
     → of_multi h os s ≡ of_parts h os s
 multi_is h os s clean = ap (λ (b : Bool). if b then of_failed os s else of_parts h os s) (no_error h os s clean)
 
--- what holds after clean parts holds after the multi
+-- A claim that holds after clean parts holds after the multi.
 pub multi_ok : {E : Type 0} (P : TxnEffect → Type 0) (h : TxnHeader) (os : List Operation) (s : State)
     (r : Result Bool E)
     → IfOk r (λ clean. clean ≡ are_clean_parts h os s) → IfOk r (λ clean. IsTrue clean → P (of_parts h os s))
@@ -49,7 +49,7 @@ pub multi_ok : {E : Type 0} (P : TxnEffect → Type 0) (h : TxnHeader) (os : Lis
 multi_ok P h os s (Ok clean) is done = λ t. subst P (sym (multi_is h os s (sym is ∙ t))) (done t)
 multi_ok P h os s (Err e) is done = tt
 
--- so far and to come: all in all the same
+-- What was done so far and what is to come give the whole.
 pub record IsMidway (h : TxnHeader) (os : List Operation) (i : ℕ) (path : Bytes) (old now : State)
     (before count : Count)
     : Type 0 where
@@ -82,7 +82,7 @@ midway_step h os i path old now new before count next o lt is m part clean n k =
           ∙ m.counted;
     }
 
--- a part that isn't clean
+-- A part that isn't clean.
 pub midway_error : (h : TxnHeader) (os : List Operation) (i : ℕ) (path : Bytes) (old now : State) (before count : Count)
     (o : Operation) → i < length os → o ≡ get_or os i o → IsMidway h os i path old now before count
     → is_none (error_of o) ≡ false → false ≡ are_clean_parts h os old

@@ -37,7 +37,7 @@ use Rattle.audit.proofs.Names.{and_false, root_is, child_no_root}
 use Rattle.audit.proofs.Parts.{both, counted_all-append, multi_is}
 use Rattle.audit.proofs.Holding.{AreCounted, create_counted, delete_counted, parent_is, same_counted}
 
--- nobody owns the root
+-- Every node agrees with its count, and no session owns the root.
 pub record Holds (s : State) (counts : Bytes → Count) : Type 0 where
   pub nodes : AreCounted s.nodes counts
   pub root : (session : ℤ) → set.contains s.pairs (session, codes "/") ≡ false
@@ -183,7 +183,7 @@ parts_hold h (o ∷ os) s counts has clean holds =
     (of_parts h os (of_operation h o s).state).triggers) i)
     all
 
--- a delete takes only children away
+-- A delete can only remove children.
 still_childless : (h : TxnHeader) (path : Bytes) (s : State) (r : Bytes)
     → is_childless (finmap.get s.nodes r) ≡ true
     → is_childless (finmap.get (of_operation h (op.Delete path) s).state.nodes r) ≡ true

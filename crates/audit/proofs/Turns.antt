@@ -1,4 +1,4 @@
--- The ephemerals of a session that ends are deleted in turn, each before what is below it.
+-- The ephemeral nodes of a session that ends are deleted in turn, each before those below it.
 use Rattle.std.proofs.Common.{◌≡◌, ℕ, pos, Bool, true, false, ◌&&◌, ◌||◌, cond, T, List, [], ◌∷◌, ◌++◌, Option, Some, None, map, refl, sym, ap, ◌∙◌, if◌then◌else◌, codes}
 use mathlib.Core.Bool.{true≢false}
 use Rattle.std.proofs.lemmas.Cmp.{eq_by_cmp_equiv, nat_cmp_total}
@@ -25,7 +25,7 @@ use Rattle.audit.specs.Clean.{is_childless, are_childless}
 use Rattle.audit.specs.Laws.{are_childless_in_turn, DeletesGoInTurn}
 use Rattle.audit.proofs.Names.{or_true, root_is, child_is}
 
--- ---- a parent stands before its children
+-- ---- a parent comes before its children
 
 itself : (a : ℕ) → nat_cmp a a ≡ Equal
 itself a = by (nat_cmp a a) ((eq_by_cmp_equiv nat_cmp_total).refl a)
@@ -63,7 +63,7 @@ parent_less p child = by (is_root (parent_of p)) (name_of p) refl refl
 other : (a b : Bytes) → path_cmp a b ≡ Less → eq_by_cmp path_cmp b a ≡ false
 other a b less = (eq_by_cmp_equiv path_total).symm b a ∙ ap is_eq less
 
--- ---- what stands in order
+-- ---- elements in order
 
 abbrev Ascends : List Bytes → Type 0
 Ascends [] = Unit {0}
@@ -110,7 +110,7 @@ members P (p ∷ ps) f = (
   members P ps (λ q e. f q ((λ i. eq_by_cmp path_cmp q p || e i) ∙ or_true (eq_by_cmp path_cmp q p))),
 )
 
--- ---- a delete leaves what is neither at its path nor the parent
+-- ---- a delete leaves every node but its own and the parent
 
 unchanged : (h : TxnHeader) (p : Bytes) (s : State) (q : Bytes) → eq_by_cmp path_cmp q p ≡ false
     → eq_by_cmp path_cmp q (parent_of p) ≡ false

@@ -1,4 +1,4 @@
--- Which logs are clean: nothing fails, what is deleted has no children, and a create counts its parent's stored
+-- A log is clean if nothing fails, each deleted node has no children, and each create counts its parent's stored
 -- cversion up by one.
 use Rattle.std.specs.Prelude.{ℤ, pos, negsuc, ◌+ℤ◌, ◌&&◌, ◌||◌, ◌==◌, Bool, true, List, [], ◌∷◌, Option, Some, None, is_none}
 use Rattle.std.specs.Int.{int_wrap, w32}
@@ -26,7 +26,7 @@ is_childless (Some node) = set.len node.children == 0
 abbrev pub are_childless : Nodes → List Bytes → Bool
 are_childless nodes paths = list_all (λ (path : Bytes). is_childless (finmap.get nodes path)) paths
 
--- a create asks for -1, which counts up by one, or for the next number itself; Java's 32-bit numbers wrap
+-- A create asks for -1, which counts up by one, or for the next number itself; Java's 32-bit numbers wrap.
 abbrev pub counts_up : ℤ → Option Node → Bool
 counts_up wanted None = true
 counts_up wanted (Some parent) =
@@ -42,14 +42,14 @@ is_orderly (op.Error error) nodes = true
 abbrev pub is_clean_operation : TxnHeader → Operation → State → Bool
 is_clean_operation header o s = is_orderly o s.nodes && int_eq (of_operation header o s).err (pos 0)
 
--- no part is an error part, and each is clean where the parts before it were done
+-- No part is an error part, and each is clean after the parts before it.
 abbrev pub are_clean_parts : TxnHeader → List Operation → State → Bool
 are_clean_parts header [] s = true
 are_clean_parts header (o ∷ os) s =
     is_none (error_of o) && (is_clean_operation header o s && are_clean_parts header os (of_operation header o s).state)
 
--- No ephemeral of the session that ends has a child. They are deleted in ascending bytes, so that a node goes before
--- what is below it, and none has lost its children to a delete before its own.
+-- No ephemeral node of the session that ends has a child. They are deleted in ascending order of their bytes, so a node
+-- is deleted before those below it, and none has lost its children by then.
 abbrev pub closes_clean : ℤ → State → Bool
 closes_clean session s = are_childless s.nodes (sorted_names (paths_of_session session s.pairs))
 
@@ -63,7 +63,7 @@ is_clean_body header body.CloseSession s = closes_clean header.client_id s
 abbrev pub is_clean : State → Txn → Bool
 is_clean s t = is_clean_body t.header t.body s
 
--- each transaction is clean where those before it were done
+-- Each transaction is clean after those before it.
 abbrev pub are_clean : State → List Txn → Bool
 are_clean s [] = true
 are_clean s (t ∷ ts) = is_clean s t && are_clean (effect_of_txn s t).state ts

@@ -1,4 +1,5 @@
--- The count of a node's children that were made and deleted, of what a log triggers alone. No stored cversion is in it.
+-- The count of a node's children that were created and deleted, from a log's triggers alone. It uses no stored
+-- cversion.
 use Rattle.std.specs.Prelude.{ℤ, pos, negsuc, ◌+ℤ◌, ◌||◌, Bool, List, [], ◌∷◌, Option, Some, None, nat_eq, if◌then◌else◌, codes}
 use Rattle.std.specs.Int.{int_wrap, w32}
 use Rattle.std.specs.Cmp.Lexicographic.{pointwise}
@@ -15,15 +16,15 @@ use Rattle.audit.specs.declared.count.Count.{Count}
 abbrev pub is_same_path : Bytes → Bytes → Bool
 is_same_path a b = pointwise nat_eq a b
 
--- a node that was just made
+-- A node that was just created.
 abbrev pub new_node_count : ℤ → Count
 new_node_count zxid = record { cversion = pos 0; pzxid = zxid }
 
--- one more child was made or deleted; Java's 32-bit numbers wrap
+-- One more child was created or deleted; Java's 32-bit numbers wrap.
 abbrev pub one_more : Count → ℤ → Count
 one_more count zxid = record { cversion = int_wrap w32 (count.cversion +ℤ pos 1); pzxid = zxid }
 
--- one trigger more: where the node itself is made its count begins anew
+-- One more trigger. The count of a node begins anew when the node is created.
 abbrev pub count_after_trigger : Bytes → Count → ℤ → Trigger → Count
 count_after_trigger path count zxid (Created at) =
     if is_same_path at path then new_node_count zxid else if is_same_path (parent_of at) path then one_more count zxid
@@ -33,33 +34,33 @@ count_after_trigger path count zxid (Deleted at) =
 count_after_trigger path count zxid (DataChanged at) = count
 count_after_trigger path count zxid (ChildrenChanged at) = count
 
--- all that a transaction triggers
+-- All triggers of a transaction.
 abbrev pub count_after_triggers : Bytes → Count → ℤ → List Trigger → Count
 count_after_triggers path count zxid [] = count
 count_after_triggers path count zxid (trigger ∷ triggers) =
     count_after_triggers path (count_after_trigger path count zxid trigger) zxid triggers
 
--- all that a log triggers, each with the zxid of its transaction
+-- All triggers of a log, each with the zxid of its transaction.
 abbrev pub count_after_log : Bytes → Count → State → List Txn → Count
 count_after_log path count s [] = count
 count_after_log path count s (t ∷ ts) =
     count_after_log path (count_after_triggers path count t.header.zxid (effect_of_txn s t).triggers)
     (effect_of_txn s t).state ts
 
--- In the fresh tree / and /zookeeper have a child that nobody made.
+-- In the fresh tree / and /zookeeper have a preset child.
 abbrev pub first_count : Bytes → Count
 first_count path =
     if is_same_path path (codes "/") || is_same_path path (codes "/zookeeper")
     then record { cversion = negsuc 0; pzxid = pos 0 } else record { cversion = pos 0; pzxid = pos 0 }
 
--- the count of the node at the path: since it was made last, or in the fresh tree
+-- The count of the node at the path: since it was last created, or in the fresh tree.
 abbrev pub count_from_log : List Txn → Bytes → Count
 count_from_log log path = count_after_log path (first_count path) fresh_state log
 
 abbrev pub numbers_of : Count → ℤ × ℤ
 numbers_of count = (count.cversion, count.pzxid)
 
--- the count, where the log leaves a node at the path
+-- The count, if the log leaves a node at the path.
 abbrev pub count_at : List Txn → Bytes → Option (ℤ × ℤ)
 count_at log path = if has_node (state_after fresh_state log).nodes path
     then Some (numbers_of (count_from_log log path)) else None

@@ -1,4 +1,4 @@
--- What the count of a clean log is, and how a session closes clean.
+-- The count of a clean log, and a session that closes clean.
 use Rattle.std.specs.Prelude.{◌≡◌, ℤ, Bool, true, ◌&&◌, List, [], ◌∷◌, Some, All}
 use Rattle.std.specs.FinMap as finmap
 use Rattle.std.specs.FinSet as set
@@ -17,25 +17,25 @@ use Rattle.audit.specs.declared.count.Count.{Count}
 use Rattle.audit.specs.Clean.{is_childless, closes_clean, are_clean}
 use Rattle.audit.specs.Count.{count_from_log}
 
--- the numbers that the node shows of itself
+-- The numbers in the node's Stat.
 pub record MatchesStat (counted : Count) (node : Node) : Type 0 where
   pub cversion : counted.cversion ≡ (stat_of node).cversion
   pub pzxid : counted.pzxid ≡ (stat_of node).pzxid
 
--- of a clean log in which no "/" is made or removed, as in each that was decoded
+-- For a clean log in which no "/" is created or deleted, as in each that was decoded.
 abbrev pub CountsAreShown : Type 0
 CountsAreShown =
     (log : List Txn) (path : Bytes) (node : Node) → All (λ (t : Txn). HaveParents t.body) log
     → are_clean fresh_state log ≡ true → finmap.get (state_after fresh_state log).nodes path ≡ Some node
     → MatchesStat (count_from_log log path) node
 
--- each of these deletes, in turn, is of a node without children
+-- Each of these deletes, in turn, is of a node without children.
 abbrev pub are_childless_in_turn : TxnHeader → List Bytes → State → Bool
 are_childless_in_turn header [] s = true
 are_childless_in_turn header (p ∷ ps) s =
     is_childless (finmap.get s.nodes p) && are_childless_in_turn header ps (of_operation header (op.Delete p) s).state
 
--- no ephemeral of a session has a child before the first delete, just where none has one when its turn comes
+-- No ephemeral node of a session has a child before the first delete, exactly if none has one when its turn comes.
 abbrev pub DeletesGoInTurn : Type 0
 DeletesGoInTurn =
     (header : TxnHeader) (s : State)

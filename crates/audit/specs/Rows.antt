@@ -18,7 +18,7 @@ abbrev pub txn_creating_a : TxnHeader → Txn
 txn_creating_a header = record { header = header; body = body.Single (op.Create create_of_a) }
 
 pub record WorkedCounts (h : TxnHeader) : Type 0 where
-  -- After a create of /a: the new node, its parent, another node, and none.
+  -- After a create of /a: the new node, its parent, another node, and a missing one.
   pub made : IsCounted (txn_creating_a h ∷ []) path_a (Some (pos 0, h.zxid))
   pub parent : IsCounted (txn_creating_a h ∷ []) (codes "/") (Some (pos 0, h.zxid))
   pub other : IsCounted (txn_creating_a h ∷ []) (codes "/zookeeper") (Some (negsuc 0, pos 0))

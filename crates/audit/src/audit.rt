@@ -12,12 +12,12 @@ use std::alloc::Global;
 use txn_codec::Txn;
 use values::NoMemory;
 
-/// Why a log has no count.
+/// The reason why a log has no count.
 #[derive(Clone, Copy, Debug, PartialEq, Eq)]
 pub enum AuditError {
-    /// The number of the first transaction that isn't clean, counted from 0.
+    /// The index of the first transaction that isn't clean, counted from 0.
     NotClean(usize),
-    /// A growth was refused.
+    /// An allocation was refused.
     NoMemory,
 }
 
@@ -29,7 +29,7 @@ impl From<NoMemory> for AuditError {
     }
 }
 
-// Counts in a tree that is fresh. The caller drops it, at its one end.
+// Counts in a fresh tree. The caller drops it, at its single end.
 fn count_in(
     alloc: Global,
     tree: &mut Tree,
@@ -51,9 +51,12 @@ fn count_in(
     }
 }
 
-/// Counts how many children of the node at the path a clean log made and deleted since it made the node, as a Java int,
-/// and gives the zxid of the last of these transactions, or of the one that made the node. There is no count where the
-/// log leaves no node at the path, as at a text that is no path.
+/// Counts the children of the node at the path that a clean log created and deleted since the node was created, as a
+/// Java int, and returns the count with the zxid of the last of these transactions, or of the one that created the
+/// node. Returns None if the log leaves no node at the path, or the text isn't a path.
+///
+/// Fails with [`AuditError::NotClean`] if the log isn't clean, and with [`AuditError::NoMemory`] if an allocation is
+/// refused.
 pub fn audit_stat(alloc: Global, log: &[Txn], path: &str) -> Result<Option<(i32, i64)>, AuditError>
     ensures { IsAudited log.now path.now result }
 {

@@ -1,4 +1,4 @@
-//! Whether what comes next leaves the log clean.
+//! Whether the next transaction is clean.
 
 ghost use Rattle.std.specs.Prelude.{◌≡◌, is_none};
 ghost use Rattle.std.specs.Option.{option_copied};
@@ -43,7 +43,7 @@ pub fn is_orderly(operation: &Operation, tree: &Tree) -> bool
     }
 }
 
-/// Whether a part of a multi is no error part.
+/// Whether a part of a multi isn't an error part.
 pub fn is_no_error(part: &Operation) -> bool
     ensures { result ≡ is_none (error_of part.now) }
 {
@@ -65,7 +65,7 @@ fn are_childless(paths: &TextSet, tree: &Tree) -> bool
     true
 }
 
-/// Whether no ephemeral of the session that ends has a child.
+/// Whether no ephemeral node of the session that ends has a child.
 pub fn closes_clean(header: &TxnHeader, tree: &Tree) -> bool
     ensures { result ≡ closes_clean header.now.client_id tree.now }
 {

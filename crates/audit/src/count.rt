@@ -1,4 +1,4 @@
-//! The count of a node's children that were made and deleted.
+//! The count of a node's children that were created and deleted.
 
 ghost use Rattle.std.specs.Prelude.{◌≡◌};
 ghost use Rattle.audit.specs.Count.{is_same_path, one_more, count_after_trigger, count_after_triggers, first_count};
@@ -6,8 +6,8 @@ ghost use Rattle.audit.specs.Count.{is_same_path, one_more, count_after_trigger,
 use data_tree::Trigger;
 use txn_codec::{TxnHeader, parent_of};
 
-/// How many children of a node were made or deleted since it was made, as a Java int, and by which transaction the last
-/// one; where there was none, by which one the node was made.
+/// The number of a node's children that were created or deleted since the node was created, as a Java int, and the zxid
+/// of the last such transaction; without one, the zxid of the transaction that created the node.
 #[derive(Clone, Copy, Debug, PartialEq, Eq)]
 pub struct Count {
     pub cversion: i32,
@@ -20,7 +20,7 @@ fn is_same(a: &str, b: &str) -> bool
     a == b
 }
 
-// The count in the fresh tree, where / and /zookeeper have a child that nobody made.
+// The count in the fresh tree, where / and /zookeeper have a preset child.
 pub fn first_count(path: &str) -> Count
     ensures { result ≡ first_count path.now }
 {
@@ -45,7 +45,7 @@ fn one_more(count: &Count, header: &TxnHeader) -> Count
     }
 }
 
-// The count of the node at the path after one trigger more.
+// The count of the node at the path after one more trigger.
 fn count_trigger(path: &str, count: &Count, header: &TxnHeader, trigger: &Trigger) -> Count
     ensures { result ≡ count_after_trigger path.now count.now header.now.zxid trigger.now }
 {
@@ -73,7 +73,7 @@ fn count_trigger(path: &str, count: &Count, header: &TxnHeader, trigger: &Trigge
 }
 
 impl Count {
-    /// Counts what a transaction triggered.
+    /// Counts the triggers of a transaction.
     pub fn add(&mut self, path: &str, header: &TxnHeader, triggers: &[Trigger])
         ensures { self.new ≡ count_after_triggers path.now self.old header.now.zxid triggers.now }
     {

@@ -3,14 +3,14 @@
 ghost use Rattle.audit.specs.Laws.{CountsAreShown, DeletesGoInTurn};
 ghost use Rattle.audit.specs.Rows.{CountsAreWorked};
 
-/// After a clean log in which no "/" is made or removed, as in each that was decoded, the count of each node is the
-/// cversion and the pzxid that the node shows.
+/// After a clean log in which no "/" is created or deleted, as in each that was decoded, the count of each node is the
+/// cversion and the pzxid of its Stat.
 pub fn counts_are_shown()
     ensures { CountsAreShown }
 {}
 
-/// Where each session's ephemerals stand at paths other than "/", a session closes clean just where each of its deletes,
-/// in turn, is of a node without children.
+/// If each session's ephemeral nodes are at paths other than "/", a closeSession is clean exactly if each of its
+/// deletes, in turn, is of a node without children.
 pub fn deletes_go_in_turn()
     ensures { DeletesGoInTurn }
 {}

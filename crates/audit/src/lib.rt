@@ -1,12 +1,12 @@
-//! An audit: how many children of a node a log made and deleted, counted from what the log triggers.
+//! An audit: it counts the children of a node that a log created and deleted, from the triggers of the log.
 //!
-//! A Stat shows a node's cversion as twice the stored number less the number of children. `audit_stat` counts it
-//! instead: one for each child that was made or deleted since the node was made. Of a clean log (`specs/Clean.antt`)
-//! both are the same, which is a law (`law::counts_are_shown`), so the audit tells whether a tree's numbers are right
-//! without reading any of them. Of a log that isn't clean it names the first transaction that isn't.
+//! The cversion in a Stat is twice the stored number less the number of children. `audit_stat` counts it instead: one
+//! for each child that was created or deleted since the node was created. For a clean log (`specs/Clean.antt`) both are
+//! the same by the law `law::counts_are_shown`, so the audit checks a tree's numbers without reading any of them. For a
+//! log that isn't clean it returns the index of the first transaction that isn't.
 //!
 //! ```text
-//! audit_stat(alloc, log, "/a")?       // Some((2, 0x100000003)): two children were made or deleted, the last one by this
+//! audit_stat(alloc, log, "/a")?     // Some((2, 0x100000003)): two creates or deletes of children, and the last zxid
 //! ```
 #![tactic(auto)]
 

@@ -1,4 +1,4 @@
-//! A log's transactions, each counted as it is done.
+//! A log's transactions, each counted as it is applied.
 
 ghost use Rattle.std.specs.Prelude.{◌≡◌, pos, IfOk, IsTrue};
 ghost use Rattle.std.specs.Ordering.{int_eq};
@@ -13,7 +13,7 @@ use std::alloc::Global;
 use txn_codec::{Body, Operation, Txn, TxnHeader};
 use values::NoMemory;
 
-// Does a transaction and counts what it triggers. Says whether its error is 0; where it isn't, nothing more is counted.
+// Applies a transaction and counts its triggers. Returns whether its error is 0; if it isn't, nothing is counted.
 fn apply(
     alloc: Global,
     tree: &mut Tree,
@@ -35,7 +35,7 @@ fn apply(
     Ok(true)
 }
 
-// Does an operation as a transaction of its own, if it is clean.
+// Applies an operation as a transaction of its own, if it is clean.
 fn take_operation(
     alloc: Global,
     tree: &mut Tree,
@@ -62,7 +62,7 @@ fn take_operation(
     apply(alloc, tree, &txn, path, count)
 }
 
-// Does the parts of a multi one after the other, as long as they are clean.
+// Applies the parts of a multi one after the other, as long as they are clean.
 fn take_parts(
     alloc: Global,
     tree: &mut Tree,
@@ -89,8 +89,8 @@ fn take_parts(
     Ok(true)
 }
 
-/// Does a transaction and counts what it triggers, if it is clean, and says whether it is. Where it isn't, and where
-/// memory is refused, tree and count are only to be dropped.
+/// Applies a transaction and counts its triggers, if it is clean, and returns whether it is. If it isn't, or an
+/// allocation is refused, tree and count are unspecified, and the caller drops them.
 pub fn take(
     alloc: Global,
     tree: &mut Tree,

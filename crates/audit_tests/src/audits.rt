@@ -46,7 +46,7 @@ fn log_of(alloc: Global, operations: Vec<Operation>) -> Result<Vec<Txn>, Fail> {
     Ok(log)
 }
 
-// What the audit says, in words.
+// The result of the audit, in words.
 fn audited(alloc: Global, log: &[Txn], path: &str) -> Result<String, Fail> {
     match audit_stat(alloc, log, path) {
         Ok(Some((cversion, pzxid))) => Ok(format!(in alloc; "{cversion} {pzxid}")?),

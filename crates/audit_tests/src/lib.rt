@@ -1,4 +1,5 @@
-//! Tests of the audit, over public calls alone, in a crate of their own, since a crate that has tests is proved twice.
+//! Tests of the audit, over public calls alone. They are a crate of their own, since a crate with tests is proved
+//! twice.
 #![tactic(auto)]
 
 #[cfg(test)]

@@ -1,4 +1,4 @@
--- From what an engine was fed to the audit of its log.
+-- From feeding an engine to the audit of its log.
 use Rattle.std.proofs.Common.{◌≡◌, ℕ, ℤ, List, Option, Some, Result, Ok, Err, sym, subst, inl, inr, true≢false}
 use Rattle.std.specs.Prelude.{IsOk, ◌≢◌}
 use Rattle.std.specs.Io.KnownBytes.{Keeps}
@@ -18,7 +18,7 @@ use Rattle.auditing.specs.Auditing.{log_after, AuditsLog, EndsAudit}
 use Rattle.auditing.specs.declared.auditing.Uncounted.{Uncounted}
 use Rattle.auditing.specs.declared.auditing.Uncounted.TheVariants.{NotClean, NoMemory}
 
--- where no memory was refused the machine is the one that is left
+-- If no allocation was refused, the machine is the one that is left.
 left_is : (fed : Result (Unit {0}) Stop) (m : Machine) (events : List Event) (old outputs : List Output)
     (after : Option Machine) → IsOk fed → PlaysEvents fed (Some m) events old outputs after
     → after ≡ Some (play m events).after
@@ -40,7 +40,7 @@ fed_audits fed engine m events old outputs after path (Err NotClean) is p ok aud
     (subst (λ e. PlaysEvents fed e events old outputs after) is p))
 fed_audits fed engine m events old outputs after path (Err NoMemory) is p ok audits = tt
 
--- ---- flushing keeps what was printed
+-- ---- flushing keeps the output
 
 pub ends_kept : (ending : Ending) (text : List ℕ) (path : Bytes) (a b c : Option (List ℕ))
     → EndsAudit ending text path a b

@@ -1,2 +1,2 @@
--- From what an engine was fed to the audit of its log
+-- From feeding an engine to the audit of its log.
 pub mod Feeding

@@ -1,4 +1,4 @@
--- What an audit of a text prints.
+-- The output of an audit of a text.
 use Rattle.std.specs.Prelude.{◌≡◌, ℕ, ℤ, List, [], ◌∷◌, Bool, true, false, Option, Some, None, Result, Ok, Err, ◌⊎◌, if◌then◌else◌}
 use Rattle.std.specs.Io.KnownBytes.{Appends, Keeps}
 use Rattle.ephemerals.specs.Orders.{Bytes}
@@ -30,24 +30,24 @@ is_checkpoint (ClientEnd client) = false
 is_checkpoint (Expire session) = false
 is_checkpoint Checkpoint = true
 
--- the events of a script but its checkpoints, each of which would empty the log
+-- The events of a script except its checkpoints, each of which would empty the log.
 abbrev pub fed_events : List ScriptEvent → List Event
 fed_events [] = []
 fed_events (e ∷ es) = if is_checkpoint e then fed_events es else event_of_script e ∷ fed_events es
 
--- all transactions from the fresh tree on, of the observer to which these events came; none once an image or a TRUNC
--- took effect
+-- All transactions since the fresh tree, of the observer that was fed these events; none once an image or a TRUNC has
+-- taken effect.
 abbrev pub log_after : Machine → List Event → Option (List Txn)
 log_after m events = whole_log (play m events).after.world.replica.learner
 
 abbrev pub log_of : Script → Option (List Txn)
 log_of script = log_after (machine_of script) (fed_events script.events)
 
--- there is a log, and this is its count
+-- There is a log, and this is its count.
 abbrev pub FindsCount : Option (List Txn) → Bytes → Option (ℤ × ℤ) → Type 0
 FindsCount kept path found = (log : List Txn) × (kept ≡ Some log) × IsCounted log path found
 
--- there is no log, or one that isn't clean
+-- There is no log, or one that isn't clean.
 abbrev pub IsNotClean : Option (List Txn) → Type 0
 IsNotClean kept = (kept ≡ None) ⊎ ((log : List Txn) × (i : ℕ) × (kept ≡ Some log) × IsFirstUnclean log i)
 
@@ -56,7 +56,7 @@ AuditsLog kept path (Ok found) = FindsCount kept path found
 AuditsLog kept path (Err NotClean) = IsNotClean kept
 AuditsLog kept path (Err NoMemory) = Unit {0}
 
--- the line of a count was printed, or a write failed; where memory was refused nothing was
+-- The line of a count was printed, or a write failed; after a refused allocation nothing was printed.
 abbrev pub PrintsCount : Ending → ℤ → ℤ → Option (List ℕ) → Option (List ℕ) → Type 0
 PrintsCount endings.Done cversion pzxid old new = Appends old new (count_line cversion pzxid)
 PrintsCount (endings.BadLine number) cversion pzxid old new = ⊥
@@ -65,8 +65,8 @@ PrintsCount endings.NoMemory cversion pzxid old new = Keeps old new
 PrintsCount endings.NotClean cversion pzxid old new = ⊥
 PrintsCount endings.NoNode cversion pzxid old new = ⊥
 
--- What was printed, by the way in which the audit of a text ended: the line of the count; or nothing, unless the text
--- is a script and a write failed.
+-- The output, by how the audit of a text ended: the line of the count; or nothing, unless the text is a script and a
+-- write failed.
 abbrev pub EndsAudit : Ending → List ℕ → Bytes → Option (List ℕ) → Option (List ℕ) → Type 0
 EndsAudit endings.Done text path old new =
     (script : Script) × (count : ℤ × ℤ) × (script_of text ≡ Ok script) × FindsCount (log_of script) path (Some count)
@@ -79,7 +79,7 @@ EndsAudit endings.NotClean text path old new =
 EndsAudit endings.NoNode text path old new =
     (script : Script) × (script_of text ≡ Ok script) × FindsCount (log_of script) path None × Keeps old new
 
--- the same by the exit status
+-- The same by the exit status.
 abbrev pub EndsAuditWith : ℕ → List ℕ → Bytes → Option (List ℕ) → Option (List ℕ) → Type 0
 EndsAuditWith status text path old new =
     (ending : Ending) × (status ≡ status_of ending) × EndsAudit ending text path old new

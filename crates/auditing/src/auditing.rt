@@ -1,4 +1,4 @@
-//! A script, fed to an observer whose log is audited.
+//! A script that is fed to an observer whose log is audited.
 
 ghost use Rattle.std.specs.Prelude.{◌≡◌, ◌≢◌, Some, Err, IsOk, IfOk, IfSome};
 ghost use Rattle.learner_sync.specs.Learn.{whole_log};
@@ -14,12 +14,12 @@ use std::alloc::Global;
 use std::io::{ErrorKind, Read, Write};
 use values::NoMemory;
 
-/// Why a script has no count.
+/// The reason why a script has no count.
 #[derive(Clone, Copy, Debug, PartialEq, Eq)]
 pub enum Uncounted {
     /// The log isn't clean, or an image or a TRUNC took effect.
     NotClean,
-    /// A growth was refused.
+    /// An allocation was refused.
     NoMemory,
 }
 
@@ -82,7 +82,7 @@ fn audit_fed(
     }
 }
 
-// Feeds the events to an observer, and audits its log. The observer is dropped at the one end of this function, and
+// Feeds the events to an observer, and audits its log. The observer is dropped at the single end of this function, and
 // nowhere else: each drop of it is proved anew.
 fn feed(
     alloc: Global,
@@ -97,7 +97,7 @@ fn feed(
     audit_fed(alloc, &engine, fed, path)
 }
 
-// Feeds a script's events but its checkpoints to its observer, and audits the log.
+// Feeds a script's events except its checkpoints to its observer, and audits the log.
 fn audit_script(alloc: Global, script: Script, path: &str) -> Result<Option<(i32, i64)>, Uncounted>
     ensures { AuditsLog (log_of script) path.now result }
 {
@@ -120,7 +120,6 @@ fn audit_script(alloc: Global, script: Script, path: &str) -> Result<Option<(i32
     feed(alloc, engine, events.as_slice(), path)
 }
 
-// Prints the line of a count.
 fn print_count<W: Write>(alloc: Global, cversion: i32, pzxid: i64, writer: &mut W) -> Ending
     ensures { PrintsCount result cversion pzxid (W.contents writer.old) (W.contents writer.new) }
 {
@@ -151,7 +150,7 @@ fn audit_text<W: Write>(alloc: Global, text: &[u8], path: &str, writer: &mut W) 
     }
 }
 
-// Reads a script to its end, audits it, and prints the count. A script that is read in part is not audited.
+// Reads a script to its end, audits it, and prints the count. A script that is read only in part isn't audited.
 fn audit<R: Read, W: Write>(alloc: Global, reader: &mut R, path: &str, writer: &mut W) -> Ending
     ensures { IfSome (R.remaining reader.old)
         (λ text. EndsAudit result text path.now (W.contents writer.old) (W.contents writer.new)) }
@@ -171,8 +170,8 @@ fn audit<R: Read, W: Write>(alloc: Global, reader: &mut R, path: &str, writer: &
     }
 }
 
-/// Audits a script that is read: prints the count of the node at the path, and tells standard error what went wrong.
-/// Answers the exit status.
+/// Audits a script: prints the count of the node at the path, and writes what went wrong to standard error. Returns the
+/// exit status.
 pub fn audit_on<R: Read, W: Write, E: Write>(
     alloc: Global,
     reader: &mut R,
@@ -186,7 +185,7 @@ pub fn audit_on<R: Read, W: Write, E: Write>(
 {
     let ending = audit(alloc, reader, path, writer);
     if ending != Ending::Done {
-        // Where standard error can't be written, the status tells it alone.
+        // If standard error can't be written, only the status tells the failure.
         let _ = ending.tell(errors);
     }
     ending.status()

@@ -1,8 +1,8 @@
 //! An audit of a script: its events are fed to an observer, and the children of a node are counted from the log.
 //!
-//! `audit_on` reads the script to its end, feeds its events but the checkpoints, and prints the count of the node at the
-//! path, from the log that the observer has then; its answer is the exit status. It works over any reader and writers,
-//! so what is printed is proved of the bytes that stand there (`specs/Auditing.antt`).
+//! `audit_on` reads the script to its end, feeds its events except the checkpoints, and prints the count of the node at
+//! the path, from the observer's log; it returns the exit status. It works over any reader and writers, so what it
+//! prints is proved for the bytes that it reads (`specs/Auditing.antt`).
 //!
 //! ```
 //! let mut reader = b"primed".as_slice();

@@ -1,6 +1,6 @@
-//! What the command line may ask for.
+//! The loads of the command line.
 
-/// Which transactions are made.
+/// The kind of transactions.
 #[derive(Clone, Copy)]
 pub enum Kind {
     /// Creates of nodes below each parent in turn.
@@ -13,15 +13,15 @@ pub enum Kind {
     Multis,
 }
 
-/// How much is to be done.
+/// The size of a load.
 #[derive(Clone, Copy)]
 pub struct Load {
     pub kind: Kind,
-    /// How many transactions are made.
+    /// The number of transactions.
     pub count: u32,
-    /// How long the data is that each of them gives a node.
+    /// The length of the data in each of them, in bytes.
     pub bytes: usize,
-    /// How often all of them are done.
+    /// How often all of them are applied.
     pub times: u32,
 }
 

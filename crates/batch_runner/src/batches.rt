@@ -1,4 +1,4 @@
-//! Batches that are done by workers.
+//! Batches that are applied by workers.
 
 use crate::making::tree;
 use crate::tally::Tally;
@@ -13,7 +13,7 @@ use std::thread::Threads;
 use std::time::Instant;
 use txn_codec::Txn;
 
-/// The most transactions of a batch, where nothing else is asked for.
+/// The most transactions of a batch, by default.
 pub const LENGTH: usize = 256;
 
 /// The most groups of a batch.
@@ -28,7 +28,7 @@ pub fn queued(alloc: Global, txns: &[Txn]) -> Result<VecDeque<Txn>> {
     Ok(queue)
 }
 
-/// Cuts the batch in front, which takes as many transactions as it may, or all that are left.
+/// Cuts the next batch from the front of the queue, with as many transactions as the limits allow.
 pub fn cut_one(
     rt: &impl Clock,
     alloc: Global,
@@ -45,7 +45,6 @@ pub fn cut_one(
     Ok(batch)
 }
 
-// Does a batch.
 fn do_one<R: Threads + Clock + Sync>(
     rt: &R,
     alloc: Global,
@@ -61,7 +60,7 @@ fn do_one<R: Threads + Clock + Sync>(
     tally.end_work(rt, since)
 }
 
-// Cuts and does all of them once.
+// Cuts and applies all of them once.
 fn do_all<R: Threads + Clock + Sync>(
     rt: &R,
     alloc: Global,
@@ -78,7 +77,7 @@ fn do_all<R: Threads + Clock + Sync>(
     Ok(())
 }
 
-/// Cuts the transactions into batches within the limits and does these in a tree, so many times.
+/// Cuts the transactions into batches within the limits and applies these to a tree, this many times.
 pub fn by_workers<R: Threads + Clock + Sync>(
     rt: &R,
     alloc: Global,

@@ -42,7 +42,7 @@ fn move_once(
     Ok(())
 }
 
-/// Cuts copies of the transactions into batches, so many times.
+/// Cuts copies of the transactions into batches, this many times.
 pub fn cut_all(rt: &impl Clock, alloc: Global, txns: &[Txn], times: u32) -> Result<Tally> {
     let limits = Limits::new(1, LENGTH, GROUPS)?;
     let mut tally = Tally::new();
@@ -52,7 +52,7 @@ pub fn cut_all(rt: &impl Clock, alloc: Global, txns: &[Txn], times: u32) -> Resu
     Ok(tally)
 }
 
-/// Moves the transactions out of a queue into batches, so many times.
+/// Moves the transactions out of a queue into batches, this many times.
 pub fn move_all(rt: &impl Clock, alloc: Global, txns: &[Txn], times: u32) -> Result<Tally> {
     let limits = Limits::new(1, LENGTH, GROUPS)?;
     let mut tally = Tally::new();

@@ -1,29 +1,28 @@
-//! Cuts and does batches of transactions that are made in memory, so that they can be timed. Counts
-//! stand on standard output; how many nanoseconds by the clock was cut and was worked, on standard
-//! error: making the transactions and the tree isn't in them.
+//! Cuts and applies batches of transactions that are made in memory, so that they can be timed. Standard output has the
+//! counts, standard error the nanoseconds spent on cutting and on work; making the transactions and the tree isn't
+//! included.
 //!
 //! `batch_runner cut KIND COUNT BYTES TIMES`: COUNT transactions are cut into batches, which own copies of them.
 //!
 //! `batch_runner move KIND COUNT BYTES TIMES`: they are moved out of a queue into batches.
 //!
-//! `batch_runner lend KIND COUNT BYTES TIMES`: they are done in a tree, one after the other, and stay.
+//! `batch_runner lend KIND COUNT BYTES TIMES`: they are applied to a tree, one after the other, and stay.
 //!
-//! `batch_runner apply KIND COUNT BYTES TIMES`: they are moved out of a queue, done in a tree, one after the
-//! other, and dropped.
+//! `batch_runner apply KIND COUNT BYTES TIMES`: they are moved out of a queue, applied to a tree, one after the other,
+//! and dropped.
 //!
-//! `batch_runner keep KIND COUNT BYTES TIMES`: the same, but what as many answer as a batch has is kept till these
-//! are done, and they are dropped then, as it is with a batch.
+//! `batch_runner keep KIND COUNT BYTES TIMES`: the same, but as many as a batch has are kept with their outcomes and
+//! dropped together, as with a batch.
 //!
 //! `batch_runner batch KIND COUNT BYTES TIMES WORKERS LENGTH`: they are moved into batches of up to LENGTH, each of
-//! which is done by up to WORKERS workers and dropped.
+//! which is applied by up to WORKERS workers and dropped.
 //!
-//! `batch_runner board WORKS TIMES WORKERS`: WORKS works in which there is nothing to do are claimed
-//! at a board and given back, by up to WORKERS workers.
+//! `batch_runner board WORKS TIMES WORKERS`: WORKS empty works are claimed at a board and given back, by up to WORKERS
+//! workers.
 //!
-//! All of that is done TIMES times, in batches of up to 256 where no LENGTH is given. KIND is `creates` (of nodes
-//! below 64 parents in turn), `sets` (of the data of these parents in turn), `leaves` (sets of 8 nodes below
-//! each of them in turn) or `multis` (of 8 such sets each, of the nodes below one parent). A node has BYTES bytes
-//! of data.
+//! Each of these is done TIMES times, in batches of up to 256 if no LENGTH is given. KIND is `creates` (of nodes below
+//! 64 parents in turn), `sets` (of the data of these parents in turn), `leaves` (sets of 8 nodes below each of them in
+//! turn) or `multis` (of 8 such sets each, of the nodes below one parent). A node has BYTES bytes of data.
 #![tactic(auto)]
 
 mod asked;
@@ -54,7 +53,7 @@ const USAGE: &str =
     or apply KIND COUNT BYTES TIMES, or keep KIND COUNT BYTES TIMES, \
     or batch KIND COUNT BYTES TIMES WORKERS LENGTH, or board WORKS TIMES WORKERS";
 
-// The words behind the program's name.
+// The words after the program's name.
 fn words(rt: &HostRuntime) -> Result<Vec<String>> {
     let mut words = Vec::new(rt.alloc());
     for word in env::args(rt)?.skip(1) {
@@ -63,7 +62,6 @@ fn words(rt: &HostRuntime) -> Result<Vec<String>> {
     Ok(words)
 }
 
-// One of the numbers of the command line.
 fn number(words: &[String], place: usize) -> Result<u32> {
     let text = words.get(place).context(USAGE)?;
     text.as_str().parse::<u32>().context("no number of 32 bits")
@@ -79,7 +77,7 @@ fn load_of(words: &[String]) -> Result<Load> {
     })
 }
 
-// By how many workers batches are done, and how long they are.
+// The number of workers, and the limits of a batch.
 fn limits_of(words: &[String]) -> Result<Limits> {
     let workers = number(words, 5)? as usize;
     let length = number(words, 6)? as usize;
@@ -117,7 +115,7 @@ fn run<R: Threads + Clock + Sync>(rt: &R, alloc: Global, words: &[String]) -> Re
     bail!("{USAGE}")
 }
 
-// Prints the counts, and what was measured.
+// Prints the counts and the times.
 fn print(rt: &HostRuntime, tally: &Tally) -> Result<()> {
     let done = tally.done;
     let errors = tally.errors;
@@ -130,7 +128,7 @@ fn print(rt: &HostRuntime, tally: &Tally) -> Result<()> {
     Ok(())
 }
 
-// Where nothing was measured.
+// Ends the program when nothing was measured.
 fn fail(rt: &HostRuntime, error: &Error) -> ExitCode {
     let _ = eprintln!(rt; "{error}");
     ExitCode::FAILURE

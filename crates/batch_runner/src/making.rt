@@ -1,4 +1,4 @@
-//! Transactions, and the tree that they are done in.
+//! Transactions, and the tree that they are applied to.
 
 use crate::asked::{Kind, Load};
 use anyhow::Result;
@@ -7,13 +7,13 @@ use std::alloc::Global;
 use txn_codec::{Body, Create, Operation, Path, SetData, Txn, TxnHeader};
 use values::{Blob, Listed};
 
-// How many nodes stand below the root.
+// The number of nodes below the root.
 const PARENTS: u32 = 64;
 
-// How many nodes stand below each of these.
+// The number of nodes below each of these.
 const LEAVES: u32 = 8;
 
-// The session that asked for all transactions.
+// The session of all transactions.
 const SESSION: i64 = 7;
 
 // The zxid before the first transaction of epoch 1.
@@ -34,7 +34,7 @@ fn created_path(alloc: Global, parent: u32, number: u32) -> Result<Path> {
     Ok(Path::new(alloc, text.as_str())?)
 }
 
-// A node is made, with this data and no access control list.
+// A create of a node with this data and no access control list.
 fn create(alloc: Global, path: Path, content: &[u8]) -> Result<Operation> {
     let bytes = Blob::new(alloc, content)?;
     Ok(Operation::Create(Create {
@@ -46,7 +46,7 @@ fn create(alloc: Global, path: Path, content: &[u8]) -> Result<Operation> {
     }))
 }
 
-// A node's data is replaced.
+// A setData of a node.
 fn set_data(alloc: Global, path: Path, content: &[u8]) -> Result<Operation> {
     let bytes = Blob::new(alloc, content)?;
     Ok(Operation::SetData(SetData {
@@ -56,7 +56,7 @@ fn set_data(alloc: Global, path: Path, content: &[u8]) -> Result<Operation> {
     }))
 }
 
-// The data of all nodes below a parent is replaced.
+// A multi that sets the data of all nodes below a parent.
 fn multi(alloc: Global, parent: u32, content: &[u8]) -> Result<Body> {
     let mut parts = Vec::new(alloc);
     for leaf in 0..LEAVES {
@@ -101,7 +101,7 @@ pub fn txns(alloc: Global, load: &Load) -> Result<Vec<Txn>> {
     Ok(txns)
 }
 
-// Makes the nodes below a parent.
+// Creates the nodes below a parent.
 fn make_leaves(alloc: Global, tree: &mut Tree, parent: u32) -> Result<()> {
     for leaf in 0..LEAVES {
         let operation = create(alloc, leaf_path(alloc, parent, leaf)?, b"")?;

@@ -1,4 +1,4 @@
-//! Transactions that are done one after the other.
+//! Transactions that are applied one after the other.
 
 use crate::batches::{LENGTH, queued};
 use crate::making::tree;
@@ -11,7 +11,7 @@ use std::rt::Clock;
 use std::time::Instant;
 use txn_codec::Txn;
 
-// Does all of them once, and leaves them.
+// Applies all of them once, and keeps them.
 fn apply_lent(alloc: Global, tree: &mut Tree, txns: &[Txn], tally: &mut Tally) -> Result<()> {
     for txn in txns {
         let outcome = tree.apply(alloc, txn)?;
@@ -20,7 +20,7 @@ fn apply_lent(alloc: Global, tree: &mut Tree, txns: &[Txn], tally: &mut Tally) -
     Ok(())
 }
 
-// Does all of them, and drops each.
+// Applies all of them, and drops each.
 fn apply_moved(
     alloc: Global,
     tree: &mut Tree,
@@ -37,7 +37,7 @@ fn apply_moved(
     Ok(())
 }
 
-/// Does the transactions in a tree, so many times; they are lent.
+/// Applies the transactions to a tree, this many times; they are borrowed.
 pub fn each_lent(rt: &impl Clock, alloc: Global, txns: &[Txn], times: u32) -> Result<Tally> {
     let mut tally = Tally::new();
     let mut tree = tree(alloc)?;
@@ -49,7 +49,7 @@ pub fn each_lent(rt: &impl Clock, alloc: Global, txns: &[Txn], times: u32) -> Re
     Ok(tally)
 }
 
-/// Does copies of the transactions in a tree, so many times; they are moved out of a queue, as a batch is.
+/// Applies copies of the transactions to a tree, this many times; they are moved out of a queue, as a batch is.
 pub fn each_moved(rt: &impl Clock, alloc: Global, txns: &[Txn], times: u32) -> Result<Tally> {
     let mut tally = Tally::new();
     let mut tree = tree(alloc)?;
@@ -62,7 +62,7 @@ pub fn each_moved(rt: &impl Clock, alloc: Global, txns: &[Txn], times: u32) -> R
     Ok(tally)
 }
 
-// Does as many of them as a batch has. They are dropped with what they answered when all of these are done.
+// Applies as many of them as a batch has, and then drops these together with their outcomes.
 fn apply_kept(
     alloc: Global,
     tree: &mut Tree,
@@ -82,7 +82,7 @@ fn apply_kept(
     Ok(())
 }
 
-// Does all of them once.
+// Applies all of them once.
 fn keep_once(
     rt: &impl Clock,
     alloc: Global,
@@ -98,7 +98,7 @@ fn keep_once(
     tally.end_work(rt, since)
 }
 
-/// Does copies of the transactions in a tree, so many times; as many as a batch has are kept, with their outcomes.
+/// Applies copies of the transactions to a tree, this many times; as many as a batch has are kept, with their outcomes.
 pub fn each_kept(rt: &impl Clock, alloc: Global, txns: &[Txn], times: u32) -> Result<Tally> {
     let mut tally = Tally::new();
     let mut tree = tree(alloc)?;

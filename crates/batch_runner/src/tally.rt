@@ -1,28 +1,28 @@
-//! What was done, and what it took.
+//! Counts and times.
 
 use anyhow::Result;
 use data_tree::Outcome;
 use std::rt::Clock;
 use std::time::{Duration, Instant};
 
-/// What was done, and what it took by the clock.
+/// What was done, and the time that it took.
 #[derive(Clone, Copy)]
 pub struct Tally {
-    /// How many transactions were cut or done, or works claimed.
+    /// The number of transactions that were cut or applied, or of works that were claimed.
     pub done: u64,
-    /// How many of them answered an error.
+    /// The number of transactions whose outcome is an error.
     pub errors: u64,
     pub batches: u64,
-    /// How many groups the batches had.
+    /// The number of groups in the batches.
     pub groups: u64,
-    /// The time in which batches were cut.
+    /// The time spent on cutting batches.
     pub cut: Duration,
-    /// The time in which transactions or works were done.
+    /// The time spent on applying transactions or on works.
     pub worked: Duration,
 }
 
 impl Tally {
-    /// Nothing.
+    /// All counts and times are 0.
     pub fn new() -> Tally {
         Tally {
             done: 0,
@@ -34,7 +34,7 @@ impl Tally {
         }
     }
 
-    /// Counts what answered with this error.
+    /// Counts an outcome with this error.
     pub fn count(&mut self, err: i32) {
         self.done = self.done.saturating_add(1);
         if err != 0 {
@@ -42,26 +42,26 @@ impl Tally {
         }
     }
 
-    /// Counts what answered.
+    /// Counts outcomes.
     pub fn count_all(&mut self, outcomes: &[Outcome]) {
         for outcome in outcomes {
             self.count(outcome.err);
         }
     }
 
-    /// Counts a batch with so many groups.
+    /// Counts a batch with this many groups.
     pub fn count_batch(&mut self, groups: usize) {
         self.batches = self.batches.saturating_add(1);
         self.groups = self.groups.saturating_add(groups as u64);
     }
 
-    /// The time since a moment was spent on cutting.
+    /// Adds the time since `since` to the time spent on cutting.
     pub fn end_cut(&mut self, clock: &impl Clock, since: Instant) -> Result<()> {
         self.cut = self.cut.saturating_add(since.elapsed(clock)?);
         Ok(())
     }
 
-    /// The time since a moment was spent on work.
+    /// Adds the time since `since` to the time spent on work.
     pub fn end_work(&mut self, clock: &impl Clock, since: Instant) -> Result<()> {
         self.worked = self.worked.saturating_add(since.elapsed(clock)?);
         Ok(())

@@ -1,4 +1,4 @@
-//! Works in which there is nothing to do.
+//! Empty works.
 
 use crate::tally::Tally;
 use anyhow::{Result, ensure};
@@ -30,7 +30,7 @@ fn nothings(alloc: Global, works: u32) -> Result<Vec<Nothing>> {
     Ok(nothings)
 }
 
-// Counts what came home.
+// Counts the works that were given back.
 fn count_home(groups: &[Group<Nothing, Nothing>], tally: &mut Tally) {
     for group in groups {
         if matches!(group, Group::Home(_)) {
@@ -39,7 +39,7 @@ fn count_home(groups: &[Group<Nothing, Nothing>], tally: &mut Tally) {
     }
 }
 
-/// Opens a board, has up to so many workers claim and give so many works, and closes it; all of that so many times.
+/// Opens a board, has up to this many workers claim and give the works, and closes it; all of that `times` times.
 pub fn claimed<R: Threads + Clock + Sync>(
     rt: &R,
     alloc: Global,

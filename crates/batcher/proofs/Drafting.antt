@@ -53,11 +53,11 @@ batch_in draft is = batch_of-zip draft.numbers.items (txns_in draft) is.numbers
 pub length_in : (draft : Draft) → IsDraft draft → length (tagged_in draft) ≡ length (txns_in draft)
 length_in draft is = length-zip draft.numbers.items (txns_in draft) is.numbers
 
--- as many as are kept
+-- There are as many as are stored.
 pub count_in : (draft : Draft) → length (txns_in draft) ≡ length draft.txns.items
 count_in draft = length-map draft.txns.items (λ t. t.now)
 
--- one more is kept
+-- One more is stored.
 pub txns_more : (old new : Draft) (t : Bor Txn) → new.txns.items ≡ old.txns.items ++ t ∷ []
     → txns_in new ≡ txns_in old ++ t.now ∷ []
 txns_more old new t is = ap (map (λ (t : Bor Txn). t.now)) is
@@ -140,7 +140,7 @@ module _ (limits : LimitNumbers) (draft : Draft) (is : IsDraft draft) (t : Txn) 
           by_paths ∙ ap (group_within_limit limits.groups) e
           ∙ ap (λ b. cond b (Some k) None) (lt_test k limits.groups fits)
 
--- ---- one transaction more
+-- ---- one more transaction
 
 owner_now : (before : List GroupedTxn) (k : ℕ) (t : Txn) (paths : List Bytes) → group_for before paths ≡ Some k
     → ((q : Bytes) → has_path paths q ≡ has_path (footprint t) q) → (q : Bytes)
@@ -260,7 +260,7 @@ module _ (limits : LimitNumbers) (txns : List Txn) (draft : Draft) (is : IsDraft
           not_zero zero some = absurd (some refl)
           not_zero (suc n) some = omega arith
 
-      -- the draft's transactions stand in front of the list
+      -- The draft's transactions are at the front of the list.
       pub front_is : take n txns ≡ cut limits txns
       front_is =
           ap (λ m. take m txns) (count ∙ sym (count_in draft) ∙ ap length txns_are)

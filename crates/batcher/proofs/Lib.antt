@@ -1,14 +1,14 @@
--- What is taken one after the other: paths, and transactions
+-- Paths and transactions that are taken one after the other.
 mod Steps
--- The group that is met
+-- The group that is met.
 mod Meeting
--- A draft that gains a transaction
+-- A draft that gains a transaction.
 mod Drafting
--- The group that has a path, and groups that are apart
+-- The group that has a path, and groups that are apart.
 mod Owning
--- Which transactions a group has, and which paths
+-- The transactions and the paths of a group.
 mod Members
--- The longest front that is taken
+-- The longest prefix that is taken.
 mod Taking
--- Cuts that were worked out by hand
+-- Cuts that were worked out by hand.
 mod Worked

@@ -14,7 +14,7 @@ use Rattle.batcher.specs.Groups.{group_with, group_count, only_group, group_for}
 use Rattle.batcher.specs.Inner.Joining.{met_with, all_met, met_group}
 use Rattle.batcher.proofs.Owning.{same, none}
 
--- ---- what is met path by path
+-- ---- the groups that are met path by path
 
 several : (new : ℕ) (owner : Bytes → Option ℕ) (ps : List Bytes) → met_group new (all_met owner Several ps) ≡ None
 several new owner [] = refl
@@ -69,7 +69,7 @@ met_is before owner is p ps =
 abbrev is_one : ℕ → List ℕ → Bool
 is_one j ks = list_any (λ i. nat_eq i j) ks
 
--- where a path of the group stands
+-- A path that the group has.
 record Has (owner : Bytes → Option ℕ) (j : ℕ) (ps : List Bytes) : Type 0 where
   path : Bytes
   there : has_path ps path ≡ true

@@ -1,4 +1,4 @@
--- Which transactions a group has, and which paths.
+-- The transactions and the paths of a group.
 use Rattle.std.proofs.Common.{◌≡◌, ◌≢◌, ℕ, zero, suc, ◌+◌, ◌<◌, ◌≤◌, max, nat_eq, List, [], ◌∷◌, ◌++◌, Bool, true, false, cond, ◌||◌, Option, Some, None, refl, sym, ap, ◌∙◌, subst, arith, length, map, append_assoc}
 use Rattle.std.specs.List.{flat_map, slice_get, AllByRecursion, range_with_len}
 use Rattle.std.specs.Option.{option_and_then}
@@ -74,7 +74,7 @@ no_barrier before (t ∷ txns) ts is =
 pub none_is_a_barrier : NoneIsABarrier
 none_is_a_barrier txns ts is = no_barrier [] txns ts is
 
--- ---- whose paths are covered
+-- ---- the paths of a group's transactions are covered
 
 in_front : (p : Bytes) (xs ys : List Bytes) → has_path xs p ≡ true → has_path (xs ++ ys) p ≡ true
 in_front p xs ys h =
@@ -88,7 +88,7 @@ in_rest : (p : Bytes) (xs ys : List Bytes) → has_path ys p ≡ true → has_pa
 in_rest p xs ys h =
     list_any-append (eq_by_cmp path_cmp p) xs ys ∙ ap (λ b. has_path xs p || b) h ∙ or_true (has_path xs p)
 
--- the group of the first transaction has its paths, and those that it had without it
+-- The group of the first transaction has its paths, and those that it had without it.
 paths_here : (t : GroupedTxn) (ts : List GroupedTxn) (p : Bytes) → has_path (footprint t.1) p ≡ true
     → has_path (paths_in t.0 (t ∷ ts)) p ≡ true
 paths_here t ts p h =
@@ -141,7 +141,7 @@ places_name_the_group ts k =
     zero_more : (i : ℕ) → 0 + i ≡ i
     zero_more i = omega arith
 
--- ---- the groups with one transaction more
+-- ---- the groups with one more transaction
 
 places_from-behind : (n k : ℕ) (bs : List GroupedTxn) (t : GroupedTxn)
     → places_from n k (bs ++ t ∷ []) ≡ places_from n k bs ++ cond (nat_eq t.0 k) ((n + length bs) ∷ []) []

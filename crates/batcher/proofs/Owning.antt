@@ -1,4 +1,4 @@
--- The group that has a path, and groups that are apart.
+-- The group that has a path, and groups without a common path.
 use Rattle.std.proofs.Common.{◌≡◌, ℕ, ◌+◌, max, nat_eq, List, [], ◌∷◌, ◌++◌, Bool, true, false, cond, ◌||◌, ◌&&◌, Option, Some, None, refl, sym, ap, ◌∙◌, subst, arith}
 use Rattle.std.specs.List.{cons_option, filter_map, flat_map, list_any, list_all, AllByRecursion}
 use Rattle.std.specs.Option.{option_and_then}
@@ -22,7 +22,7 @@ same e = cc
 pub none : {A : Type 0} (x : A) → Some x ≡ None → ⊥
 none x e = cc
 
--- ---- whatever each transaction keeps that comes into a group holds of all
+-- ---- an invariant of each transaction that gets a group holds for all
 
 pub grouped-keeps : (P : List GroupedTxn → Type 0)
     → ((before : List GroupedTxn) (t : Txn) (k : ℕ) → P before → group_of_next before t ≡ Some k
@@ -77,7 +77,7 @@ all_equal k j (i ∷ is) all some = by (all_equal k j is) (nat_eq i k) refl (nat
     by rest true ex true ey all some = sym (eqb-true i j ey) ∙ eqb-true i k ex
     by rest true ex false ey all some = rest all some
 
--- what is one of these is the only one
+-- If one group was met, it is the only one.
 pub only_one : (new : ℕ) (ks : List ℕ) (k j : ℕ) → only_group new ks ≡ Some k → list_any (λ i. nat_eq i j) ks ≡ true
     → j ≡ k
 only_one new [] k j is some = absurd (true≢false (sym some))
@@ -112,7 +112,7 @@ met_one g p j is (q ∷ qs) h = by (met_one g p j is qs) (eq_by_cmp path_cmp p q
         (ap (λ b. b || list_any (λ i. nat_eq i j) (filter_map g qs)) (eq-eqb j j refl))
     by rest false e h = keep (g q) (rest h)
 
--- a path of what comes into a group is that group's, or nobody's yet
+-- A path of a transaction that gets a group is that group's, or no group's yet.
 pub met_or_new : (before : List GroupedTxn) (ps : List Bytes) (k : ℕ) → group_for before ps ≡ Some k
     → (p : Bytes) → has_path ps p ≡ true → or_else (group_with before p) (Some k) ≡ Some k
 met_or_new before [] k is p h = absurd (true≢false (sym h))
@@ -125,7 +125,7 @@ met_or_new before (q ∷ qs) k is p h = by (group_with before p) refl
         (only_one (group_count before) (filter_map (group_with before) (q ∷ qs)) k j is
         (met_one (group_with before) p j e (q ∷ qs) h))
 
--- ---- each path is the group's of whoever has it
+-- ---- each path belongs to the group of any transaction that has it
 
 abbrev pub Own : (Bytes → Option ℕ) → List GroupedTxn → Type 0
 Own owner ts = AllByRecursion (λ (t : GroupedTxn). (p : Bytes) → has_path (footprint t.1) p ≡ true
@@ -162,7 +162,7 @@ own_more before t k own is = each before own
 pub groups_own : (txns : List Txn) (ts : List GroupedTxn) → tagged_txns txns ≡ Some ts → Own (group_with ts) ts
 groups_own txns ts is = grouped-keeps (λ bs. Own (group_with bs) bs) own_more [] txns ts tt is
 
--- a path of a group is its own
+-- A path of a group is its own.
 in_group : (owner : Bytes → Option ℕ) (k : ℕ) (p : Bytes) (ts : List GroupedTxn) → Own owner ts
     → has_path (paths_in k ts) p ≡ true → owner p ≡ Some k
 in_group owner k p [] own h = absurd (true≢false (sym h))

@@ -1,4 +1,4 @@
--- What is taken one after the other: paths, and transactions.
+-- Paths and transactions that are taken one after the other.
 use Rattle.std.proofs.Common.{◌≡◌, ℕ, zero, suc, ◌+◌, ◌<◌, ◌≤◌, List, [], ◌∷◌, ◌++◌, Bool, true, false, cond, ◌||◌, Option, Some, refl, sym, ap, ◌∙◌, arith, length, drop, take, map, get_or, string_bytes}
 use Rattle.std.proofs.Math.Seq.{drop-cons, take-suc}
 use Rattle.std.proofs.Math.ListN.{drop_of_length-le}
@@ -21,7 +21,7 @@ use Rattle.ephemerals.proofs.Totals.{path_total}
 use Rattle.ephemerals.proofs.TextKeys.{query, same_test}
 use Rattle.data_tree.specs.Footprint.{has_path}
 
--- the next one, and those behind it
+-- The next element, and those after it.
 abbrev pub IsNext : {A : Type 0} → List A → ℕ → A → Type 0
 IsNext xs i x = drop i xs ≡ x ∷ drop (i + 1) xs
 
@@ -39,7 +39,7 @@ one_less true true c = refl
 one_less true false c = refl
 one_less false b c = refl
 
--- a set that has a path gains nothing by it
+-- A set that has a path doesn't change when the path is inserted.
 pub gained_before : (s : Names) (p : Bytes) → set.contains s p ≡ true → s ≡ set.insert s p
 gained_before s p is = set.same_set path_total exact_bytes _ _ (λ q.
     by q (eq_by_cmp path_cmp q p) refl ∙ sym (set.contains-insert path_total s p q))
@@ -68,7 +68,7 @@ gained_all paths i past old new gained = set.same_set path_total exact_bytes _ _
     ∙ ap (λ b. set.contains old q || b) (sym (set.contains-from_list path_total paths q))
     ∙ sym (set.contains-union path_total old (set.from_list paths) q))
 
--- what is owned where a path is given to the group
+-- The owners after a path is given to the group.
 pub owned_now : {Z : Type 0} (m n : BTreeMap (String Z) ℕ) (k : ℕ) (bs p : Bytes) → bs ≡ p
     → tree.UpdatesBy string_cmp (λ (s : String Z). slice_cmp nat_cmp bs (string_bytes s)) m n (Some k)
     → (q : Bytes) → get_by_text n q ≡ cond (eq_by_cmp path_cmp q p) (Some k) (get_by_text m q)
@@ -76,7 +76,7 @@ owned_now m n k bs p is updates q =
     btree_map_updates_text bs m n (Some k) updates q
     ∙ ap (λ b. cond b (Some k) (lookup (query q) m.entries)) (same_test q bs ∙ ap (eq_by_cmp path_cmp q) is)
 
--- and where it is the group's already
+-- The same where the path is the group's already.
 owned_before : (m : Bytes → Option ℕ) (k : ℕ) (p : Bytes) → m p ≡ Some k
     → (q : Bytes) → m q ≡ cond (eq_by_cmp path_cmp q p) (Some k) (m q)
 owned_before m k p is q = by (eq_by_cmp path_cmp q p) refl
@@ -85,7 +85,7 @@ owned_before m k p is q = by (eq_by_cmp path_cmp q p) refl
     by true e = ap m (tells_apart exact_bytes q p e) ∙ is
     by false e = refl
 
--- the first n of these paths are the group's, and all others whose they were
+-- The first n of these paths are the group's, and all other owners stay.
 abbrev pub IsOwned : (Bytes → Option ℕ) → (Bytes → Option ℕ) → ℕ → List Bytes → ℕ → Type 0
 IsOwned old now k paths n = (q : Bytes) → now q ≡ cond (has_path (take n paths) q) (Some k) (old q)
 
@@ -119,7 +119,7 @@ module _ (paths : List Bytes) (i : ℕ) (p : Bytes) (within : i < length paths) 
       both false true = refl
       both false false = refl
 
-  -- what was the group's from the beginning is so still
+  -- A path that was the group's before is still the group's.
   pub owned_still : (old m : Bytes → Option ℕ) (k : ℕ) → IsOwned old m k paths i → old p ≡ Some k
       → IsOwned old m k paths (i + 1)
   owned_still old m k before was =

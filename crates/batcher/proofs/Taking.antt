@@ -1,4 +1,4 @@
--- The longest front that is taken.
+-- The longest prefix that is taken.
 use Rattle.std.proofs.Common.{◌≡◌, ◌≢◌, ℕ, zero, suc, ◌+◌, ◌-◌, ◌<◌, ◌≤◌, nat_eq, nat_lt, nat_le, List, [], ◌∷◌, ◌++◌, Bool, true, false, cond, not, ◌||◌, ◌&&◌, Option, Some, None, is_some, refl, sym, ap, ◌∙◌, subst, arith, length, take, append_assoc, min}
 use Rattle.std.specs.List.{filter_map}
 use Rattle.std.specs.Option.{option_and_then, option_map_or}
@@ -62,7 +62,7 @@ both_low workers b c g h ok = (
   first_of g h (second_of (workers && (b && c)) (g && h) ok),
 )
 
--- limits are at least 1
+-- The limits are at least 1.
 pub at_least_one : (limits : LimitNumbers) → are_limits limits ≡ true → (1 ≤ limits.batch) × (1 ≤ limits.groups)
 at_least_one limits ok =
     let low = both_low (nat_le 1 limits.workers && nat_le limits.workers 64) (nat_le 1 limits.batch)
@@ -119,10 +119,10 @@ length-batch_of : (ts : List GroupedTxn) → length (batch_of ts) ≡ length ts
 length-batch_of [] = refl
 length-batch_of (t ∷ ts) = ap suc (length-batch_of ts)
 
--- ---- what isn't taken ends the front
+-- ---- a transaction that isn't taken ends the prefix
 
 module _ (limits : LimitNumbers) where
-  -- a front that is taken
+  -- A prefix that is taken.
   pub record IsTaken (front : List GroupedTxn) : Type 0 where
     pub grouped_is : tagged_txns (batch_of front) ≡ Some front
     pub short : length front ≤ limits.batch
@@ -179,13 +179,13 @@ module _ (limits : LimitNumbers) where
           ap (λ b. b && has_at_most limits.groups (tagged_txns (batch_of front ++ (t ∷ xs))))
           (le_false (length (batch_of front ++ (t ∷ xs))) limits.batch (omega arith))
 
-  -- ---- the front that is taken
+  -- ---- the prefix that is taken
 
   abbrev pub Stops : List GroupedTxn → List Txn → Type 0
   Stops front [] = Unit {0}
   Stops front (t ∷ ts) = group_taken limits front t ≡ None
 
-  -- the front is taken of this list, and no more
+  -- The prefix is taken of this list, and no more.
   pub record IsEnd (txns : List Txn) (front : List GroupedTxn) : Type 0 where
     pub rest : List Txn
     pub all : txns ≡ batch_of front ++ rest
@@ -355,7 +355,7 @@ cuts_are_longest limits t ts ok free =
           (some_taken limits t ts ok free),
     )
 
--- where nothing is taken there is a barrier in front, or nothing
+-- If nothing is taken there is a barrier at the front, or nothing.
 pub begins_with_barrier : (limits : LimitNumbers) (txns : List Txn) → are_limits limits ≡ true
     → length (tagged_front_after limits [] txns) ≡ 0 → BeginsWithBarrier txns
 begins_with_barrier limits [] ok none = tt
@@ -365,7 +365,7 @@ begins_with_barrier limits (t ∷ ts) ok none = by (is_barrier t) refl
     by true e = refl
     by false e = let some = some_taken limits t ts ok e in absurd (omega arith)
 
--- and where something is, that is the cut
+-- If something is taken, that is the cut.
 pub taken_is_cut : (limits : LimitNumbers) (txns : List Txn) → are_limits limits ≡ true
     → 1 ≤ length (tagged_front_after limits [] txns) → batch_of (tagged_front_after limits [] txns) ≡ cut limits txns
 taken_is_cut limits [] ok some = absurd (omega arith)
@@ -386,7 +386,7 @@ taken_is_cut limits (t ∷ ts) ok some = by (is_barrier t) refl
     by true e = let few = ap length (nothing e) in absurd (omega arith)
     by false e = sym (cut_is limits t ts ok e)
 
--- what is taken is a front
+-- The transactions taken are a prefix.
 pub taken_is_front : (limits : LimitNumbers) (txns : List Txn) → are_limits limits ≡ true
     → take (length (batch_of (tagged_front_after limits [] txns))) txns ≡ batch_of (tagged_front_after limits [] txns)
 taken_is_front limits txns ok =
@@ -399,7 +399,7 @@ taken_is_grouped limits txns ok = (taken_ends limits [] txns (nothing_taken limi
 
 -- ---- a barrier alone
 
--- where nothing can be taken, what is cut is the first transaction, if there is one
+-- If nothing can be taken, the first transaction, if there is one, is cut.
 pub record IsAlone (limits : LimitNumbers) (txns : List Txn) (n : ℕ) : Type 0 where
   pub taken : take n txns ≡ cut limits txns
   pub no_groups : [] ≡ groups_of (cut limits txns)

@@ -13,7 +13,7 @@ use Rattle.batcher.specs.Groups.{group_for, tagged_txns_after, tagged_txns}
 use Rattle.batcher.specs.Cut.{has_at_most, is_allowed, longest_of, cut, groups_if_tagged, groups_of}
 use Rattle.batcher.specs.Rows.{create_txn_of, two_creates_txn, usual_limits, group_row, path_a, path_a_x, path_a_p, path_b, path_b_y, path_b_q, WorkedCuts, CutsAreWorked}
 
--- a set has at most as many members as the list that it is made of
+-- A set has at most as many members as the list that it is made from.
 len_most : (paths : List Bytes) → set.len (set.from_list {R = path_cmp} paths) ≤ length paths
 len_most [] = let none = set.len-empty path_cmp in omega arith
 len_most (p ∷ ps) =
@@ -30,11 +30,11 @@ len_most (p ∷ ps) =
 few : (n : ℕ) → n ≤ 4 → nat_lt 16 n ≡ false
 few n h = grind (arith, nat_tests)
 
--- the multi isn't done alone
+-- The multi isn't a barrier.
 both_free : (h : TxnHeader) → is_barrier (two_creates_txn h) ≡ false
 both_free h = few (set.len (txn_paths (two_creates_txn h))) (len_most (footprint (two_creates_txn h)))
 
--- the multi behind a create under each of its parents
+-- The multi after a create under each of its parents.
 refused : (h : TxnHeader) → is_allowed usual_limits
     (create_txn_of h path_a_x ∷ create_txn_of h path_b_y ∷ two_creates_txn h ∷ []) ≡ false
 refused h =

@@ -4,7 +4,7 @@ use Rattle.std.specs.Coded.{Coded, code_by, coded×, coded_ℕ, coded_list}
 use Rattle.std.specs.FinSet as set
 use Rattle.ephemerals.specs.Orders.{Names, path_cmp}
 
--- the places of its transactions in the batch, and their paths
+-- The places of its transactions in the batch, and their paths.
 pub record TxnGroup : Type 0 where
   pub members : List ℕ
   pub paths : Names

@@ -1,4 +1,4 @@
--- What the contracts of private functions cite, and nobody else has to believe.
+-- What the contracts of private functions cite. No caller depends on this.
 pub mod Joining
 pub mod Taking
 pub mod Drafts

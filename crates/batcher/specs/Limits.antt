@@ -1,7 +1,7 @@
--- How much is done at once.
+-- The limits on what is done at once.
 use Rattle.std.specs.Prelude.{ℕ, Bool, ◌&&◌, nat_le}
 
--- how many workers there are, and the most transactions and the most groups of a batch
+-- The number of workers, and the most transactions and the most groups of a batch.
 pub record LimitNumbers : Type 0 where
   pub workers : ℕ
   pub batch : ℕ

@@ -25,11 +25,11 @@ create_txn_of header path = txn_with header (body.Single (create_operation path)
 abbrev pub group_row : List ℕ → List Bytes → TxnGroup
 group_row members paths = record { members = members; paths = set.from_list paths }
 
--- 4 workers, 256 transactions, 64 groups
+-- 4 workers, 256 transactions, 64 groups.
 abbrev pub usual_limits : LimitNumbers
 usual_limits = limit_numbers 4 256 64
 
--- the batch is cut from the list, and has these groups
+-- The batch is cut from the list, and has these groups.
 pub record IsCutInto (limits : LimitNumbers) (txns batch : List Txn) (groups : List TxnGroup) : Type 0 where
   pub cut_is : cut limits txns ≡ batch
   pub groups_are : groups_of batch ≡ groups
@@ -73,7 +73,7 @@ pub record WorkedCuts (h : TxnHeader) : Type 0 where
       let all = create_txn_of h path_a_x ∷ create_txn_of h path_a_y ∷ create_txn_of h path_b_z ∷ [] in
       IsCutInto usual_limits all all (group_row (0 ∷ 1 ∷ []) (path_a_x ∷ path_a ∷ path_a_y ∷ path_a ∷ []) ∷ group_row
       (2 ∷ []) (path_b_z ∷ path_b ∷ []) ∷ [])
-  -- a multi that meets two groups begins the next batch
+  -- A multi that meets two groups begins the next batch.
   pub meets_two :
       let front = create_txn_of h path_a_x ∷ create_txn_of h path_b_y ∷ [] in
       IsCutInto usual_limits (create_txn_of h path_a_x ∷ create_txn_of h path_b_y ∷ two_creates_txn h ∷ []) front
@@ -85,7 +85,7 @@ pub record WorkedCuts (h : TxnHeader) : Type 0 where
   pub barrier_behind :
       IsCutInto usual_limits (create_txn_of h path_a_x ∷ close_session_txn h ∷ []) (create_txn_of h path_a_x ∷ [])
       (group_row (0 ∷ []) (path_a_x ∷ path_a ∷ []) ∷ [])
-  -- what has no path opens the first group, and joins the group opened last
+  -- A transaction without a path opens the first group, or joins the group opened last.
   pub no_path :
       let all = new_session_txn h ∷ create_txn_of h path_a_x ∷ new_session_txn h ∷ [] in
       IsCutInto usual_limits all all (group_row (0 ∷ []) [] ∷ group_row (1 ∷ 2 ∷ []) (path_a_x ∷ path_a ∷ []) ∷ [])

@@ -7,8 +7,8 @@ use crate::group::Group;
 use std::marker::Model;
 use txn_codec::Txn;
 
-/// Transactions that are done at once, by groups that have no path in common; or a barrier alone, which
-/// has no group. It is seen as the list of its transactions, which says what its groups are.
+/// Transactions that may be applied together, in groups that have no path in common; or a single barrier, which has no
+/// group. Its model is the list of its transactions, which determines the groups.
 #[derive(Drop)]
 pub struct Batch {
     txns: Vec<Txn>,
@@ -29,7 +29,6 @@ impl Model for Batch {
 }
 
 impl Batch {
-    // The batch of these transactions, with their groups.
     pub(crate) fn new(txns: Vec<Txn>, groups: Vec<Group>) -> Batch
         requires groups { groups.items ≡ groups_of txns.items }
         requires batch { IsTrue (is_batch txns.items) }
@@ -38,7 +37,7 @@ impl Batch {
         Batch { txns, groups }
     }
 
-    /// Whether it is a barrier alone.
+    /// Whether it is a single barrier.
     pub fn is_barrier(&self) -> bool
         ensures { result ≡ is_barrier_alone self.now }
     {
@@ -60,7 +59,7 @@ impl Batch {
         self.groups.as_slice()
     }
 
-    /// How many transactions there are.
+    /// The number of transactions.
     pub fn len(&self) -> usize
         ensures { result ≡ length self.now }
     {

@@ -1,4 +1,4 @@
-//! What is cut from the front of a list.
+//! Cutting a batch from the front of a list.
 
 ghost use Rattle.std.specs.Prelude.{◌≡◌, ◌≤◌, IfOk, OnOk, OnErr, take, drop, length};
 ghost use Rattle.batcher.specs.Cut.{cut};
@@ -11,7 +11,6 @@ use std::collections::VecDeque;
 use txn_codec::Txn;
 use values::NoMemory;
 
-// Copies of the transactions.
 fn copied(alloc: Global, txns: &[Txn]) -> Result<Vec<Txn>, NoMemory>
     ensures { IfOk result (λ copies. copies.items ≡ txns.now) }
 {
@@ -22,7 +21,7 @@ fn copied(alloc: Global, txns: &[Txn]) -> Result<Vec<Txn>, NoMemory>
     Ok(copies)
 }
 
-// Moves so many transactions out of the front.
+// Moves this many transactions out of the front.
 fn moved(alloc: Global, txns: &mut VecDeque<Txn>, count: usize) -> Result<Vec<Txn>, NoMemory>
     requires { count ≤ length txns.old.items }
     ensures front { IfOk result (λ front. front.items ≡ take count txns.old.items) }
@@ -39,9 +38,10 @@ fn moved(alloc: Global, txns: &mut VecDeque<Txn>, count: usize) -> Result<Vec<Tx
     Ok(front)
 }
 
-/// The batch at the front of the list: the longest front that the limits and the groups allow, or a
-/// barrier that begins it, alone; of the empty list, the empty batch. It owns copies of its transactions.
-/// Each costs its own paths, times a logarithm, however many stand before it.
+/// The batch at the front of the list: the longest prefix that the limits and the groups allow, or a single barrier
+/// that begins the list; the empty batch for the empty list. It owns copies of its transactions. The cost of each
+/// transaction is its number of paths times a logarithm, however many come before it. Fails only if an allocation is
+/// refused.
 pub fn cut(alloc: Global, txns: &[Txn], limits: &Limits) -> Result<Batch, NoMemory>
     ensures { IfOk result (λ batch. batch ≡ cut limits.now txns.now) }
 {
@@ -49,7 +49,8 @@ pub fn cut(alloc: Global, txns: &[Txn], limits: &Limits) -> Result<Batch, NoMemo
     Ok(Batch::new(copied(alloc, &txns[..front.count])?, front.groups))
 }
 
-/// The same, moved out of the front of a queue and not copied. Refused memory, it leaves the queue as it was.
+/// The same, with the transactions moved out of the front of a queue and not copied. A refused allocation leaves the
+/// queue as it was.
 pub fn cut_front(
     alloc: Global,
     txns: &mut VecDeque<Txn>,

@@ -20,18 +20,17 @@ use std::collections::BTreeMap;
 use txn_codec::Txn;
 use values::{NoMemory, Str};
 
-/// The transactions that were taken, where they stand, and their groups.
+/// The transactions taken so far, borrowed, and their groups.
 #[derive(Drop)]
 pub struct Draft<'a> {
     pub txns: Vec<&'a Txn>,
     /// The group of each.
     pub numbers: Vec<usize>,
-    /// The group that has a path, so that what a transaction meets is found by its own paths.
+    /// The group that has a path. So a transaction finds the groups that it meets by its own paths.
     pub owners: BTreeMap<String, usize>,
     pub groups: Vec<Group>,
 }
 
-// Whether the owner that was found is the group.
 fn is_group(found: Option<usize>, group: usize) -> bool
     ensures { IsTrue result ↔ (found ≡ Some group) }
 {
@@ -41,7 +40,6 @@ fn is_group(found: Option<usize>, group: usize) -> bool
     }
 }
 
-// Gives the path to a group.
 fn own_path(
     owners: &mut BTreeMap<String, usize>,
     alloc: Global,
@@ -55,7 +53,7 @@ fn own_path(
     Ok(())
 }
 
-// Gives the paths, of which these owners were found, to a group. Only a path that isn't the group's takes memory.
+// Gives the paths to a group; `found` has their present owners. Only a path that isn't the group's yet allocates.
 fn own(
     owners: &mut BTreeMap<String, usize>,
     alloc: Global,
@@ -75,7 +73,7 @@ fn own(
     Ok(())
 }
 
-// Adds the transaction at the place to a group, or to a new one behind the last.
+// Adds the transaction at the place to a group, or to a new one after the last.
 fn add_to(
     groups: &mut Vec<Group>,
     alloc: Global,
@@ -107,7 +105,7 @@ fn met_group(met: Met, new: usize) -> Option<usize>
 }
 
 impl<'a> Draft<'a> {
-    // No transaction, and room for so many.
+    // No transaction, and capacity for this many.
     fn with_capacity(alloc: Global, most: usize) -> Result<Draft<'a>, NoMemory>
         ensures draft { IfOk result IsDraft }
         ensures taken { IfOk result (λ draft. tagged_in draft ≡ []) }
@@ -120,7 +118,7 @@ impl<'a> Draft<'a> {
         })
     }
 
-    // The group of a transaction with these paths, if there is one for it; and the owner of each path.
+    // The group for a transaction with these paths, if there is one, and the owner of each path.
     fn group_for(
         &self,
         paths: &[Str<'_>],
@@ -137,7 +135,7 @@ impl<'a> Draft<'a> {
         Ok(met_group(met, self.groups.len()))
     }
 
-    // Adds a transaction with these paths, of which these owners were found, to a group.
+    // Adds a transaction with these paths to a group; `found` has the paths' present owners.
     fn add(
         &mut self,
         alloc: Global,
@@ -161,7 +159,7 @@ impl<'a> Draft<'a> {
         Ok(())
     }
 
-    // Takes the transaction with these paths, if it may be taken, and says whether it was.
+    // Takes the transaction with these paths if it may be taken, and returns whether it was.
     fn take(
         &mut self,
         alloc: Global,
@@ -194,7 +192,7 @@ impl<'a> Draft<'a> {
         }
     }
 
-    /// The transactions that may be done at once, from the front on.
+    /// The transactions that may be applied together, from the front on. Fails only if an allocation is refused.
     pub fn of_front(alloc: Global, txns: &'a [Txn], limits: &Limits) -> Result<Draft<'a>, NoMemory>
         ensures draft { IfOk result IsDraft }
         ensures taken { IfOk result
@@ -203,7 +201,7 @@ impl<'a> Draft<'a> {
     {
         let most = limits.batch().min(txns.len());
         let mut draft = Draft::with_capacity(alloc, most)?;
-        // Room for one transaction's paths and their owners, used for each.
+        // One transaction's paths and their owners; the vectors are reused for each.
         let mut paths = Vec::new(alloc);
         let mut found = Vec::new(alloc);
         for txn in txns {

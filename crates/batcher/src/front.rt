@@ -1,4 +1,4 @@
-//! How much is cut from the front of a list, and into which groups it falls.
+//! The length of the prefix to cut from a list, and its groups.
 
 ghost use Rattle.std.specs.Prelude.{◌≡◌, ◌≤◌, IfOk, IsTrue, take, length};
 ghost use Rattle.batcher.specs.Cut.{cut, is_batch, groups_of};
@@ -10,14 +10,14 @@ use std::alloc::Global;
 use txn_codec::Txn;
 use values::NoMemory;
 
-/// So many transactions from the front on, and their groups.
+/// The number of transactions from the front on, and their groups.
 #[derive(Drop)]
 pub struct Front {
     pub count: usize,
     pub groups: Vec<Group>,
 }
 
-/// The front that is cut. No transaction is copied for it.
+/// The prefix to cut. No transaction is copied. Fails only if an allocation is refused.
 pub fn front_of(alloc: Global, txns: &[Txn], limits: &Limits) -> Result<Front, NoMemory>
     ensures within { IfOk result (λ front. front.count ≤ length txns.now) }
     ensures cut { IfOk result (λ front. take front.count txns.now ≡ cut limits.now txns.now) }
@@ -26,7 +26,7 @@ pub fn front_of(alloc: Global, txns: &[Txn], limits: &Limits) -> Result<Front, N
 {
     let draft = Draft::of_front(alloc, txns, limits)?;
     let count = draft.txns.len();
-    // With no other before it only a barrier may not be taken, and it is alone.
+    // With no other before it only a barrier can't be taken, and it is cut alone.
     if count == 0 {
         return Ok(Front {
             count: txns.len().min(1),

@@ -10,8 +10,8 @@ use std::alloc::Global;
 use std::marker::Model;
 use values::{NoMemory, Str};
 
-/// Transactions of a batch that are done one after the other, by their places in it, and the paths that
-/// they may touch.
+/// Transactions of a batch that are applied one after the other, as their places in it, and the paths that they may
+/// touch.
 #[derive(Drop)]
 pub struct Group {
     members: Vec<usize>,
@@ -28,7 +28,7 @@ impl Model for Group {
     ghost view = { λ g. record { members = g.members.items; paths = g.paths } };
 }
 
-// Adds a path to a set. Only a new one takes memory.
+// Adds a path to a set. Only a new path allocates.
 fn add_path(alloc: Global, names: &mut TextSet, path: &str) -> Result<(), NoMemory>
     ensures { OnOk result (names.new ≡ set.insert names.old path.now) }
 {
@@ -39,7 +39,6 @@ fn add_path(alloc: Global, names: &mut TextSet, path: &str) -> Result<(), NoMemo
     Ok(())
 }
 
-// Adds paths to a set.
 fn add_paths(alloc: Global, names: &mut TextSet, paths: &[Str<'_>]) -> Result<(), NoMemory>
     ensures { OnOk result (names.new ≡ set.union names.old (set.from_list paths.now)) }
 {
@@ -50,7 +49,7 @@ fn add_paths(alloc: Global, names: &mut TextSet, paths: &[Str<'_>]) -> Result<()
 }
 
 impl Group {
-    /// No transaction, which takes no memory.
+    /// No transaction. Allocates nothing.
     pub(crate) fn new(alloc: Global) -> Group
         ensures { result ≡ empty_group }
     {
@@ -60,14 +59,14 @@ impl Group {
         }
     }
 
-    /// The places in the batch of the group's transactions, ascending.
+    /// The places of the group's transactions in the batch, ascending.
     pub fn members(&self) -> &[usize]
         ensures { result.now ≡ self.now.members }
     {
         self.members.as_slice()
     }
 
-    /// The paths that the group's transactions may touch, as a set that is gone over in ascending bytes.
+    /// The paths that the group's transactions may touch; the set iterates in ascending order of their bytes.
     pub fn paths(&self) -> &TextSet
         ensures { result.now ≡ self.now.paths }
     {

@@ -3,8 +3,8 @@
 ghost use Rattle.batcher.specs.Laws.{GroupsAreApart, EachIsInAGroup, NoneIsABarrier, GroupsCoverTheirPaths, PlacesNameTheGroup, CutsAreLongest};
 ghost use Rattle.batcher.specs.Rows.{CutsAreWorked};
 
-/// No two groups have a path in common; each transaction, in its order, is in just one group, whose paths
-/// cover its own, and is no barrier; and a group's places name its transactions in order.
+/// No two groups have a path in common. Each transaction of a batch is in exactly one group, which has all of its
+/// paths, and isn't a barrier. A group's places refer to its transactions in order.
 pub fn groups()
     ensures apart { GroupsAreApart }
     ensures each { EachIsInAGroup }
@@ -13,7 +13,7 @@ pub fn groups()
     ensures places { PlacesNameTheGroup }
 {}
 
-/// What is cut from a list that no barrier begins is the longest front that is allowed; it isn't empty.
+/// The batch cut from a list that no barrier begins is the longest prefix that is allowed, and it isn't empty.
 pub fn longest_cuts()
     ensures { CutsAreLongest }
 {}

@@ -1,10 +1,9 @@
 //! Cuts a list of transactions into batches, and a batch into groups that have no path in common.
 //!
-//! Groups of a batch may be done apart, in any order: what that leaves is what the transactions leave one
-//! after the other (the laws of `data_tree` say so). A batch is the longest front of the list in which
-//! each transaction, in turn, meets the paths of at most one group; or it is a barrier, alone.
-//! `specs/Groups.antt` says into which group a transaction comes, `specs/Cut.antt` what is cut, and the
-//! laws are in `law`.
+//! The groups of a batch may be applied separately and in any order: the result is that of applying the transactions
+//! one after the other (by the laws of `data_tree`). A batch is the longest prefix of the list in which each
+//! transaction, in turn, has paths in common with at most one group; or it is a single barrier. `specs/Groups.antt`
+//! defines the group of a transaction, `specs/Cut.antt` the cut, and the laws are in `law`.
 //!
 //! ```text
 //! let limits = Limits::new(4, 256, 64)?;
@@ -16,7 +15,7 @@
 //! }
 //! ```
 //!
-//! `cut` copies the transactions of its batch; who has them in a queue lets `cut_front` move them out of it.
+//! `cut` copies the transactions of its batch; `cut_front` moves them out of a queue.
 #![tactic(auto)]
 
 mod batch;

@@ -1,4 +1,4 @@
-//! How much is done at once.
+//! The limits on what is done at once.
 
 ghost use Rattle.std.specs.Prelude.{◌≡◌, ◌↔◌, IsOk, IfOk, IsTrue};
 ghost use Rattle.batcher.specs.Limits.{limit_numbers, are_limits};
@@ -6,8 +6,7 @@ ghost use Rattle.batcher.specs.Limits.{limit_numbers, are_limits};
 use std::marker::Model;
 use thiserror::Error;
 
-/// How many workers there are (1 to 64), and the most transactions (1 to 4096) and the most groups
-/// (1 to 256) of a batch.
+/// The number of workers (1 to 64), and the most transactions (1 to 4096) and the most groups (1 to 256) of a batch.
 #[derive(Clone, Copy)]
 pub struct Limits {
     workers: usize,
@@ -28,13 +27,13 @@ impl Model for Limits {
     ghost inverse = { λ l. record { workers = l.workers; batch = l.batch; groups = l.groups } };
 }
 
-/// A limit is out of its bounds.
+/// A limit is outside its bounds.
 #[derive(Clone, Copy, Debug, Error)]
 #[error("a limit is out of its bounds")]
 pub struct BadLimit;
 
 impl Limits {
-    /// These limits, if each is within its bounds.
+    /// Checks each limit against its bounds; fails with [`BadLimit`] if one is outside.
     pub fn new(workers: usize, batch: usize, groups: usize) -> Result<Limits, BadLimit>
         ensures accepted { IsOk result ↔ IsTrue (are_limits (limit_numbers workers batch groups)) }
         ensures limits { IfOk result (λ limits. limits ≡ limit_numbers workers batch groups) }
@@ -52,7 +51,7 @@ impl Limits {
         })
     }
 
-    /// How many workers there are.
+    /// The number of workers.
     pub fn workers(&self) -> usize
         ensures workers { result ≡ self.now.workers }
         ensures bounds { IsTrue (are_limits self.now) }

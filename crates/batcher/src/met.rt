@@ -1,4 +1,4 @@
-//! Which groups a transaction meets.
+//! The groups that a transaction meets.
 
 ghost use Rattle.std.specs.Prelude.{◌≡◌, IfOk, OnOk, map};
 ghost use Rattle.std.specs.BTreeMap.{get_by_text};
@@ -17,14 +17,13 @@ pub enum Met {
     Several,
 }
 
-// The group that has the path.
 fn owner(owners: &BTreeMap<String, usize>, path: &str) -> Option<usize>
     ensures { result ≡ get_by_text owners.now path.now }
 {
     owners.get(path).copied()
 }
 
-// What was met, and what has one path more.
+// The groups met so far, and the owner of one more path.
 fn met_with(met: Met, owner: Option<usize>) -> Met
     ensures { result ≡ met_with met owner }
 {
@@ -43,7 +42,7 @@ fn met_with(met: Met, owner: Option<usize>) -> Met
     }
 }
 
-/// The groups that own one of the paths; and for each path the group that owns it, so that it is looked up once.
+/// The groups that own one of the paths, and for each path the group that owns it, so that it is looked up once.
 pub fn met_by(
     owners: &BTreeMap<String, usize>,
     paths: &[Str<'_>],

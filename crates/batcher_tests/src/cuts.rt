@@ -1,4 +1,4 @@
-//! What is cut from the front of a list.
+//! Batches cut from the front of a list.
 
 use crate::{read_txn, read_txns};
 use batcher::{Batch, Limits, cut, cut_front};
@@ -7,7 +7,7 @@ use std::collections::VecDeque;
 use std::test::Fail;
 use txn_codec::Txn;
 
-// How many transactions the batch has, and each group's places and paths; or the word "barrier".
+// The number of transactions in the batch, and each group's places and paths; or the word "barrier".
 fn shown(alloc: Global, batch: &Batch) -> Result<String, Fail> {
     let count = batch.txns().len();
     let mut text = format!(in alloc; "{count}")?;
@@ -28,19 +28,19 @@ fn shown(alloc: Global, batch: &Batch) -> Result<String, Fail> {
     Ok(text)
 }
 
-// What is cut from the list with these limits.
+// The batch cut from the list with these limits.
 fn cut_of(alloc: Global, words: &str, batch: usize, groups: usize) -> Result<String, Fail> {
     let limits = Limits::new(4, batch, groups)?;
     let txns = read_txns(alloc, words)?;
     shown(alloc, &cut(alloc, txns.as_slice(), &limits)?)
 }
 
-// What is cut with limits that are usual.
+// The batch cut with the default limits.
 fn usual(alloc: Global, words: &str) -> Result<String, Fail> {
     cut_of(alloc, words, 256, 64)
 }
 
-// Puts the transactions of these words into the queue.
+// Appends the transactions of these words to the queue.
 fn queue_up(alloc: Global, queue: &mut VecDeque<Txn>, words: &str) -> Result<(), Fail> {
     for txn in read_txns(alloc, words)? {
         queue.push_back(txn)?;
@@ -48,7 +48,7 @@ fn queue_up(alloc: Global, queue: &mut VecDeque<Txn>, words: &str) -> Result<(),
     Ok(())
 }
 
-// What is moved out of the queue with usual limits, and how many transactions are left there.
+// The batch moved out of the queue with the default limits, and the number of transactions left there.
 fn moved(alloc: Global, queue: &mut VecDeque<Txn>) -> Result<String, Fail> {
     let batch = cut_front(alloc, queue, &Limits::new(4, 256, 64)?)?;
     let text = shown(alloc, &batch)?;
@@ -57,7 +57,7 @@ fn moved(alloc: Global, queue: &mut VecDeque<Txn>) -> Result<String, Fail> {
     Ok(format!(in alloc; "{text} ({left})")?)
 }
 
-// So many checks.
+// This many checks.
 fn checks(alloc: Global, count: usize) -> Result<Vec<Txn>, Fail> {
     let mut txns = Vec::new(alloc);
     for _ in 0..count {
@@ -66,14 +66,14 @@ fn checks(alloc: Global, count: usize) -> Result<Vec<Txn>, Fail> {
     Ok(txns)
 }
 
-// How many of so many checks are cut at most.
+// The most checks that are cut of this many.
 fn most_cut(alloc: Global, count: usize) -> Result<(usize, bool), Fail> {
     let limits = Limits::new(64, 4096, 256)?;
     let batch = cut(alloc, checks(alloc, count)?.as_slice(), &limits)?;
     Ok((batch.len(), batch.is_empty()))
 }
 
-// Whether these are limits, and are shown as they are.
+// Whether these are limits, and are returned as they are.
 fn are_limits(workers: usize, batch: usize, groups: usize) -> bool {
     match Limits::new(workers, batch, groups) {
         Ok(limits) => {
@@ -172,7 +172,7 @@ fn a_queue_keeps_what_is_behind_the_batch(rt: HostRuntime) -> Result<(), Fail> {
     let mut queue = VecDeque::new(alloc);
     queue_up(alloc, &mut queue, "/a/x close /b/y")?;
     assert_eq!(rt; moved(alloc, &mut queue)?.as_str(), "1; 0 /a /a/x (2)");
-    // Now the queue goes round its end.
+    // Now the queue wraps around its end.
     queue_up(alloc, &mut queue, "/b/z /c")?;
     assert_eq!(rt; moved(alloc, &mut queue)?.as_str(), "1 barrier (3)");
     assert_eq!(rt;

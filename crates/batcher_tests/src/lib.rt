@@ -1,5 +1,5 @@
-//! Tests of cuts, over public calls alone. They stand in a crate of their own, since a crate that has tests is proved
-//! twice; and the calls stand in functions without clauses, so that a test's own proof is short.
+//! Tests of cuts, over public calls alone. They are a crate of their own, since a crate with tests is proved twice. The
+//! calls are in functions without contracts, so that a test's own proof is short.
 #![tactic(auto)]
 
 #[cfg(test)]
@@ -31,9 +31,8 @@ fn create_of(alloc: Global, path: &str, ephemeral: bool) -> Result<Operation, Re
     }))
 }
 
-/// The transaction that a word stands for: a create of the path "/..", one of an ephemeral node at the path
-/// behind "!", a multi of creates of the paths behind "+", a check of the path behind "?", or that a session
-/// begins ("open") or ends ("close").
+/// The transaction of a word: a path alone is a create of it, "!" before a path an ephemeral create, "+" before paths a
+/// multi of creates, "?" before a path a check; "open" begins a session, and "close" ends one.
 pub fn read_txn(alloc: Global, word: &str) -> Result<Txn, ReadError> {
     if word == "open" {
         return Ok(txn_of(Body::CreateSession(5000)));

@@ -1,4 +1,4 @@
--- How long the answer to a connect is.
+-- The length of the answer to a connect.
 use Rattle.std.proofs.Common.{◌≡◌, ℕ, ◌+◌, List, [], ◌∷◌, ◌++◌, length, w32, pos, ap, ◌∙◌, arith}
 use Rattle.std.proofs.lemmas.List.{length-append}
 use Rattle.jute.specs.Format.{number_bytes, with_count}
@@ -16,7 +16,7 @@ pub answer_writable : (r : SessionResponse) → length r.password ≡ 16 → con
 unfolding connect_response
 answer_writable r e = (tt, (tt, (tt, omega (arith, e))))
 
--- with the byte behind it
+-- With its last byte.
 pub longer_framed : (r : SessionResponse) → length r.password ≡ 16
     → let body = connect_response.written (response_of r) ++ 0 ∷ [] in
     frame_bytes body ≡ number_bytes w32 (pos 37) ++ body

@@ -1,2 +1,2 @@
--- How long the answer to a connect is
+-- The length of the answer to a connect.
 mod Lengths

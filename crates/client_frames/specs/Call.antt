@@ -1,5 +1,4 @@
--- What a client's frame asks for (zookeeper.jute, RequestHeader): a header, and the body of a request of the header's
--- type.
+-- A client's frame (zookeeper.jute, RequestHeader): a header, and the body of a request of the header's type.
 use Rattle.std.specs.Prelude.{ℕ, List, Option, Some, None, Result, Ok, Err}
 use Rattle.values.specs.declared.fault.Fault.{Fault}
 use Rattle.jute.specs.declared.message.RequestHeader.{RequestHeader}
@@ -14,12 +13,12 @@ use Rattle.client_frames.specs.declared.call.Call.{Call}
 use Rattle.client_frames.specs.declared.call.CallBody.{CallBody}
 use Rattle.client_frames.specs.declared.call.CallBody.TheVariants.{Read, SetWatches, Auth, CloseSession, Unreadable, Ping, Write, Unknown}
 
--- a record at the front, if it can be read there; bytes behind it are passed over
+-- A record at the front, if it can be read there; bytes after it are ignored.
 abbrev pub value_if_read : {A : Type 0} → Result (A × List ℕ) Fault → Option A
 value_if_read (Ok x) = Some x.0
 value_if_read (Err e) = None
 
--- what it asks for, or that it can't be read
+-- The request, or that it can't be read.
 abbrev pub body_or_unreadable : {A : Type 0} → (A → CallBody) → Option A → CallBody
 body_or_unreadable body None = Unreadable
 body_or_unreadable body (Some found) = body found
@@ -27,7 +26,7 @@ body_or_unreadable body (Some found) = body found
 abbrev pub read_as : {A : Type 0} → (A → Request) → Option A → CallBody
 read_as request found = body_or_unreadable (λ r. Read (request r)) found
 
--- the body of a change isn't read
+-- The body of a change isn't read.
 abbrev pub call_body : Option RequestKind → List ℕ → CallBody
 call_body None bytes = Unknown
 call_body (Some kinds.Exists) bytes = read_as Exists (value_if_read (path_and_watch.read bytes))
@@ -51,6 +50,6 @@ abbrev pub call_after_header : Result (RequestHeader × List ℕ) Fault → Resu
 call_after_header (Ok x) = Ok (record { xid = x.0.xid; body = call_body (kind_of x.0.kind) x.1 })
 call_after_header (Err e) = Err e
 
--- the call that a frame is, if it has a whole header
+-- The call of a frame, if it has a whole header.
 abbrev pub call_in : List ℕ → Result Call Fault
 call_in frame = call_after_header (request_header.read frame)

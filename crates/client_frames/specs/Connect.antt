@@ -10,7 +10,7 @@ use Rattle.sessions.specs.declared.request.SessionRequest.{SessionRequest}
 use Rattle.sessions.specs.declared.request.SessionResponse.{SessionResponse}
 use Rattle.client_frames.specs.declared.connecting.Connecting.{Connecting}
 
--- a byte may follow the request, by which newer clients say that a read-only server would do
+-- A byte may follow the request; with it newer clients say that they accept a read-only server.
 abbrev pub connecting_after_request : Result (ConnectRequest × List ℕ) Fault → Result Connecting Fault
 connecting_after_request (Ok x) = Ok (record { request = x.0; has_byte = nat_lt 0 (length x.1) })
 connecting_after_request (Err e) = Err e
@@ -18,16 +18,15 @@ connecting_after_request (Err e) = Err e
 abbrev pub connecting_in : List ℕ → Result Connecting Fault
 connecting_in frame = connecting_after_request (connect_request.read frame)
 
--- which session is asked for
 abbrev pub session_request : ConnectRequest → SessionRequest
 session_request r = record { time_out = r.time_out; session_id = r.session_id; password = r.passwd }
 
--- protocol version 0
+-- The protocol version is 0.
 abbrev pub response_of : SessionResponse → ConnectResponse
 response_of r =
     record { protocol_version = pos 0; time_out = r.time_out; session_id = r.session_id; passwd = Some r.password }
 
--- the byte stands in the answer exactly where the request had one: 0, since no server here is read-only
+-- The answer has the byte exactly if the request had one. It is 0, since this server isn't read-only.
 abbrev pub read_only_byte : Bool → List ℕ
 read_only_byte true = 0 ∷ []
 read_only_byte false = []

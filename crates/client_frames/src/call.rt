@@ -1,4 +1,4 @@
-//! What a client's frame asks for.
+//! The requests in a client's frames.
 
 ghost use Rattle.std.specs.Prelude.{◌≡◌, IfOk};
 ghost use Rattle.jute.specs.Reads.{ReadsOwnedWhole};
@@ -12,7 +12,7 @@ use read_processor::Request;
 use std::alloc::Global;
 use values::{NoMemory, ReadError};
 
-/// What stands behind a header.
+/// The body of a frame after its header.
 #[derive(Drop)]
 pub enum CallBody<'a> {
     Read(Request<'a>),
@@ -22,16 +22,16 @@ pub enum CallBody<'a> {
     /// The body isn't one of the header's type.
     Unreadable,
     Ping,
-    /// A change, or a sync, which no observer does by itself.
+    /// A change or a sync; an observer does neither by itself.
     Write,
-    /// The header's type is none.
+    /// The header's type is unknown.
     Unknown,
 }
 
 /// A frame of a client.
 #[derive(Drop)]
 pub struct Call<'a> {
-    /// The client's number for it.
+    /// The client's number for the request.
     pub xid: i32,
     pub body: CallBody<'a>,
 }
@@ -70,7 +70,6 @@ fn read_set_watches<'a>(alloc: Global, reader: &mut Reader<'a>) -> Result<CallBo
     }
 }
 
-// The body of a request of that type.
 fn read_body<'a>(
     alloc: Global,
     kind: Option<RequestKind>,
@@ -105,7 +104,7 @@ fn read_body<'a>(
     }
 }
 
-/// The call that a frame is. A fault: it has no whole header.
+/// Reads a frame. Fails with a fault if it has no whole header, and with `NoMemory` if an allocation is refused.
 pub fn read_call<'a>(alloc: Global, frame: &'a [u8]) -> Result<Call<'a>, ReadError>
     ensures { ReadsOwnedWhole (call_in frame.now) result }
 {

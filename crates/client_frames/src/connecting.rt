@@ -10,21 +10,21 @@ use sessions::{SessionRequest, SessionResponse};
 use std::alloc::Global;
 use values::{Blob, NoMemory, ReadError};
 
-// The bytes of an answer with the byte behind it.
+// The length of the answer's frame body, its last byte included.
 const LONGER_ANSWER_LEN: i32 = 37;
 
-// And of its frame.
+// The length of that frame.
 const FRAME_LEN: usize = 41;
 
-/// A client that wants a session.
+/// A client that asks for a session.
 #[derive(Drop)]
 pub struct Connecting<'a> {
     pub request: ConnectRequest<'a>,
-    /// Whether a byte stands behind the request, by which a client says that a read-only server would do.
+    /// Whether a byte follows the request; with it a client says that it accepts a read-only server.
     pub has_byte: bool,
 }
 
-/// What a first frame asks for. A fault: it can't be read.
+/// Reads a first frame. Fails with a fault if it can't be read, and with `NoMemory` if an allocation is refused.
 pub fn read_connecting<'a>(alloc: Global, frame: &'a [u8]) -> Result<Connecting<'a>, ReadError>
     ensures { ReadsOwnedWhole (connecting_in frame.now) result }
 {
@@ -34,7 +34,7 @@ pub fn read_connecting<'a>(alloc: Global, frame: &'a [u8]) -> Result<Connecting<
     Ok(Connecting { request, has_byte })
 }
 
-/// Which session is asked for.
+/// The session that the client asks for.
 pub fn session_request<'a>(request: ConnectRequest<'a>) -> SessionRequest<'a>
     ensures { result ≡ session_request request.entry }
 {
@@ -45,7 +45,6 @@ pub fn session_request<'a>(request: ConnectRequest<'a>) -> SessionRequest<'a>
     }
 }
 
-// The record that answers.
 fn response_of(alloc: Global, response: &SessionResponse) -> Result<ConnectResponse, NoMemory>
     ensures answer { IfOk result (λ answer. answer ≡ response_of response.now) }
     ensures short { OnOk result (length response.now.password ≡ 16) }
@@ -58,7 +57,7 @@ fn response_of(alloc: Global, response: &SessionResponse) -> Result<ConnectRespo
     })
 }
 
-/// The frame of the answer, with a byte behind it exactly where the request had one.
+/// The frame of the answer, with a last byte exactly if the request had one. Fails only if an allocation is refused.
 pub fn answer_to_connect(
     alloc: Global,
     response: &SessionResponse,

@@ -1,9 +1,9 @@
-//! What the frames of a client ask for.
+//! The requests in the frames of a client.
 //!
-//! The first frame of a connection asks for a session: `read_connecting` reads it, and `answer_to_connect` is the frame
-//! of the answer. Each later frame is a call: a header, and the body of a request of the header's type. `read_call`
-//! reads it, and tells a body that can't be read from a header of no known type, which are answered differently.
-//! specs/Connect and specs/Call say what is read.
+//! The first frame of a connection asks for a session: `read_connecting` reads it, and `answer_to_connect` makes the
+//! frame of the answer. Each later frame is a call: a header, and the body of a request of the header's type.
+//! `read_call` reads it, and tells a body that can't be read from a header of unknown type, since the two are answered
+//! differently. specs/Connect and specs/Call define what is read.
 //!
 //! ```text
 //! let connecting = read_connecting(alloc, frame)?;

@@ -1,4 +1,4 @@
-//! Later frames.
+//! Frames after the first one.
 
 use crate::asked;
 use std::test::*;
@@ -46,7 +46,7 @@ fn others(rt: HostRuntime) {
     );
 }
 
-/// A body that stops short, and a header that does.
+/// A body that ends too early, and a header that does.
 #[test]
 fn short(rt: HostRuntime) {
     let path = b"\x00\x00\x00\x07\x00\x00\x00\x04\x00\x00\x00\x02/a";

@@ -7,7 +7,7 @@ use std::test::*;
 const CONNECT: [u8; 35] = *b"\x00\x00\x00\x00\x00\x00\x00\x00\x00\x00\x00\x09\x00\x00\x27\x10\
     \x00\x00\x00\x00\x00\x00\x00\x05\x00\x00\x00\x06secret\x00";
 
-/// With the byte behind it, without it, and without its own last byte.
+/// With the last byte, without it, and without the last byte of the request itself.
 #[test]
 fn first_frames(rt: HostRuntime) {
     assert!(rt; is_connect(rt.alloc(), &CONNECT, true));
@@ -15,7 +15,7 @@ fn first_frames(rt: HostRuntime) {
     assert!(rt; is_no_connect(rt.alloc(), &CONNECT[..33]));
 }
 
-/// A refusal, with the byte and without it.
+/// A refusal, with the last byte and without it.
 #[test]
 fn refusals(rt: HostRuntime) {
     let refusal = SessionResponse {

@@ -1,5 +1,5 @@
-//! Tests of `client_frames`. They stand apart, since a crate with tests is proved twice; and the calls stand behind
-//! functions without clauses, so that a test's own proof is short.
+//! Tests of `client_frames`. They are a crate of their own, since a crate with tests is proved twice. The calls are in
+//! functions without contracts, so that a test's own proof is short.
 #![tactic(auto)]
 
 #[cfg(test)]
@@ -15,7 +15,7 @@ use sessions::{SessionRequest, SessionResponse};
 use std::alloc::Global;
 use values::ReadError;
 
-// What a body asks for.
+// The request of a body.
 fn word(body: &CallBody<'_>) -> &'static str {
     match body {
         CallBody::Read(Request::Exists(_)) => "exists",
@@ -33,7 +33,7 @@ fn word(body: &CallBody<'_>) -> &'static str {
     }
 }
 
-/// What a frame asks for, in a word, if its xid is 7.
+/// The request of a frame, in a word, if its xid is 7.
 pub fn asked(alloc: Global, frame: &[u8]) -> &'static str {
     match read_call(alloc, frame) {
         Ok(call) if call.xid == 7 => word(&call.body),
@@ -61,7 +61,7 @@ fn is_fifth(connecting: Connecting<'_>, has_byte: bool) -> bool {
 }
 
 /// Whether a first frame asks for session 5 with the password "secret" and a timeout of 10 seconds, has seen zxid 9,
-/// and has a byte behind that or not.
+/// and has a last byte or not.
 pub fn is_connect(alloc: Global, frame: &[u8], has_byte: bool) -> bool {
     match read_connecting(alloc, frame) {
         Ok(connecting) => is_fifth(connecting, has_byte),

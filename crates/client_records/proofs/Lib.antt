@@ -1,6 +1,6 @@
--- how long lists are
+-- The length of lists.
 pub mod Sizes
--- texts of a set that are written
+-- The names of a set, as they are written.
 pub mod Names
--- the records
+-- The records.
 pub mod Records

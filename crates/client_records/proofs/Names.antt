@@ -1,4 +1,4 @@
--- Texts of a set that are written one behind another.
+-- The texts of a set, written one after another.
 use Rattle.std.proofs.Common.{◌≡◌, ℕ, ◌<◌, ◌^◌, List, [], ◌∷◌, ◌++◌, length, map, All, String, Global, string_bytes, refl, sym, ap, ◌∙◌, append_assoc, w32, to_z, pos}
 use Rattle.std.specs.List.{flat_map, AllByRecursion}
 use Rattle.std.proofs.lemmas.List.Concat.{flat_map-cons}
@@ -25,13 +25,13 @@ each_may (t ∷ ts) h = (
 abbrev pub spelled : String Global → List ℕ
 spelled t = text_or_empty.written (string_bytes t)
 
--- a front of all was put behind the old bytes, and the texts that are left are the rest of it
+-- A prefix of the whole was appended, and the texts left are the rest of it.
 pub record Written (old all out : List ℕ) (left : List (String Global)) : Type 0 where
   pub front : List ℕ
   pub put : out ≡ old ++ front
   pub rest : all ≡ front ++ flat_map spelled left
 
--- the count was put
+-- The count was written.
 pub put_count : (old out : List ℕ) (count : ℕ) (texts : List (String Global)) → length texts ≡ count
     → length texts < 2 ^ 31
     → out ≡ old ++ number_bytes w32 (to_z w32 count)
@@ -44,7 +44,7 @@ put_count old out count texts same few e =
       rest = rw (length-map texts string_bytes, flat_map-map text_or_empty.written string_bytes texts) refl;
     }
 
--- the next text was put
+-- The next text was written.
 pub put_next : {old all mid new : List ℕ} {t : String Global} {left : List (String Global)}
     → Written old all mid (t ∷ left) → new ≡ mid ++ spelled t → Written old all new left
 put_next {t = t} {left = left} w e = record {
@@ -54,7 +54,7 @@ put_next {t = t} {left = left} w e = record {
       ∙ sym (append_assoc w.front (spelled t) (flat_map spelled left));
 }
 
--- a front of the next text was put
+-- A prefix of the next text was written.
 pub put_part : {old all mid new : List ℕ} {t : String Global} {left : List (String Global)}
     → Written old all mid (t ∷ left) → Gains mid (spelled t) new → Gains old all new
 put_part {old = old} {t = t} {left = left} w g =

@@ -1,4 +1,4 @@
--- How long lists are when they are written, and that short ones may be written.
+-- The length of lists when they are written, and that short ones may be written.
 use Rattle.std.proofs.Common.{◌≡◌, ℕ, ◌+◌, ◌<◌, ◌≤◌, ◌^◌, List, [], ◌∷◌, length, drop, get_or, ◌∙◌, arith, refl, sym, ap, inl, inr, nat_le, Some, None}
 use Rattle.std.specs.List.{flat_map, AllByRecursion}
 use Rattle.std.proofs.lemmas.List.{length-append, drop_more}
@@ -20,7 +20,7 @@ pub list_len : {A : Type 0} (f : Format A) (vs : List A)
 unfolding number_bytes
 list_len f vs = omega arith
 
--- the items from one on
+-- The items from one on.
 pub next_item : {A : Type 0} (f : Format A) (items : List A) (i : ℕ) (item : A)
     → i < length items → item ≡ get_or items i item
     → length (flat_map f.written (drop i items))
@@ -29,7 +29,7 @@ next_item f items i item lt is =
     ap (λ vs. length (flat_map f.written vs)) (drop_more items i item lt ∙ ap (λ v. v ∷ drop (i + 1) items) (sym is))
     ∙ next_len f item (drop (i + 1) items)
 
--- ---- lists whose items are written with a byte at least, and may be written where they are short
+-- ---- lists whose items take at least one byte, and may be written if they are short
 
 module _ {A : Type 0} (f : Format A) (some : (v : A) → 1 ≤ length (f.written v))
     (small : (v : A) → length (f.written v) < 2 ^ 31 → f.Writable v) where
@@ -88,7 +88,7 @@ within_none limit n m e le = elim (leb_tells n limit) [
   | inr over ↦ rw (lt-leb m limit (omega (arith, over.1, le))) refl
 ]
 
--- so much was counted, and so much is left of it all
+-- The length counted so far, and the length that is left of the whole.
 pub record Counted (limit len left all : ℕ) : Type 0 where
   pub fits : len ≤ limit
   pub sum : len + left ≡ all

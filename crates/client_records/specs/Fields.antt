@@ -1,16 +1,16 @@
--- Lists, as records of clients have them: a null list is read as empty.
+-- Lists in the records of clients: a null list is read as empty.
 use Rattle.std.specs.Prelude.{ℕ, List, Option, Some, None, nat_le, if◌then◌else◌}
 use Rattle.jute.specs.Format.{Format, text_or_empty, vector_of, or_null}
 use Rattle.jute.specs.Owned.{acl_format}
 use Rattle.jute.specs.declared.owned.Acl.{Acl}
 
--- null texts in it are read as empty, too
+-- Null texts in it are read as empty, too.
 abbrev pub names_format : Format (List (List ℕ))
 names_format = or_null (vector_of text_or_empty)
 
 abbrev pub acls_format : Format (List Acl)
 acls_format = or_null (vector_of acl_format)
 
--- a length, where the limit allows it
+-- A length, if it is within the limit.
 abbrev pub length_within : ℕ → ℕ → Option ℕ
 length_within limit n = if nat_le n limit then Some n else None

@@ -26,6 +26,5 @@ abbrev pub request_kinds : List RequestKind
 request_kinds = Create ∷ Delete ∷ Exists ∷ GetData ∷ SetData ∷ GetAcl ∷ SetAcl ∷ GetChildren ∷ Sync
     ∷ Ping ∷ GetChildren2 ∷ Check ∷ Multi ∷ Auth ∷ SetWatches ∷ CloseSession ∷ []
 
--- the type with that code
 unfoldable pub kind_of : ℤ → Option RequestKind
 kind_of code = find (λ k. int_eq code (code_of k)) request_kinds

@@ -1,4 +1,4 @@
--- The records that stand in a client's frames: the fields of zookeeper.jute in their order, nothing between.
+-- The records in a client's frames: the fields of zookeeper.jute in their order, with nothing between.
 use Rattle.jute.specs.Format.{Format, int, long, boolean, buffer, text_format, pair_of, mapped_format}
 use Rattle.client_records.specs.Fields.{names_format}
 use Rattle.client_records.specs.declared.connect.ConnectRequest.{ConnectRequest}
@@ -20,7 +20,7 @@ connect_request =
     (λ r. (r.protocol_version, (r.last_zxid_seen, (r.time_out, (r.session_id, r.passwd)))))
     (pair_of int (pair_of long (pair_of int (pair_of long buffer))))
 
--- four records have these fields
+-- Four records have these fields.
 unfoldable pub path_and_watch : Format PathAndWatch
 path_and_watch = mapped_format (λ v. record { path = v.0; watch = v.1 }) (λ r. (r.path, r.watch))
     (pair_of text_format boolean)

@@ -1,4 +1,4 @@
--- The records that stand in the frames to a client: the fields of zookeeper.jute in their order, nothing between.
+-- The records in the frames to a client: the fields of zookeeper.jute in their order, with nothing between.
 use Rattle.jute.specs.Format.{Format, int, long, buffer, text_format, pair_of, mapped_format}
 use Rattle.jute.specs.Records.{stat_format}
 use Rattle.client_records.specs.Fields.{acls_format, names_format}

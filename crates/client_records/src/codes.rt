@@ -1,18 +1,18 @@
-//! The numbers that a client's frames have, beside those of `jute::codes`.
+//! The numbers in a client's frames, besides those of `jute::codes`.
 
 /// No error.
 pub const OK: i32 = 0;
 
-/// The error of a request whose operation isn't known.
+/// The error of a request with an unknown operation.
 pub const UNIMPLEMENTED: i32 = -6;
 
-/// The error where a scheme or its bytes aren't taken.
+/// The error of an auth packet whose scheme or data is refused.
 pub const AUTH_FAILED: i32 = -115;
 
 /// The error of a request that would change the tree.
 pub const NOT_READ_ONLY: i32 = -119;
 
-/// The state that each event has: the client is connected.
+/// The state in each event: the client is connected.
 pub const SYNC_CONNECTED: i32 = 3;
 
 /// The xid of an event's frame, which answers no request.
@@ -21,7 +21,7 @@ pub const NOTIFICATION_XID: i32 = -1;
 /// The xid of a ping and of its answer.
 pub const PING_XID: i32 = -2;
 
-/// The xid of an auth.
+/// The xid of an auth packet.
 pub const AUTH_XID: i32 = -4;
 
 /// The xid of a setWatches.

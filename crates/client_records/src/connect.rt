@@ -1,5 +1,5 @@
-//! The first frames of a connection. A byte behind either record says whether the client could do with a read-only
-//! server; it isn't part of the records.
+//! The first frames of a connection. A byte after either record is about read-only servers; it isn't part of the
+//! records.
 
 ghost use Rattle.client_records.specs.Requests.{connect_request};
 ghost use Rattle.client_records.specs.Responses.{connect_response};
@@ -15,7 +15,7 @@ pub struct ConnectRequest<'a> {
     pub protocol_version: i32,
     /// The greatest zxid that the client has seen.
     pub last_zxid_seen: i64,
-    /// How long the client asks its session to last without it, in milliseconds.
+    /// The timeout that the client asks for, in milliseconds.
     pub time_out: i32,
     /// The session that the client has, or 0.
     pub session_id: i64,
@@ -63,9 +63,9 @@ impl<'a> WriteRecord for ConnectRequest<'a> {
 #[derive(Drop, PartialEq)]
 pub struct ConnectResponse {
     pub protocol_version: i32,
-    /// How long the session lasts without its client, in milliseconds.
+    /// The timeout of the session, in milliseconds.
     pub time_out: i32,
-    /// The session, or 0 where none was given.
+    /// The session, or 0 for a refusal.
     pub session_id: i64,
     /// Its password; `None` is null.
     pub passwd: Option<Blob>,

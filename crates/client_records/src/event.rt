@@ -1,4 +1,4 @@
-//! What a client is told that it didn't ask for.
+//! The notification of an event.
 
 ghost use Rattle.client_records.specs.Responses.{watcher_event};
 
@@ -10,11 +10,11 @@ use values::{NoMemory, ReadError, Str};
 /// The WatcherEvent of zookeeper.jute.
 #[derive(Drop, PartialEq)]
 pub struct WatcherEvent<'a> {
-    /// What happened: the node was made (1), removed (2), its bytes replaced (3), or a child gained or lost (4).
+    /// The kind of the event: the node was created (1), deleted (2), its data changed (3), or its children changed (4).
     pub kind: i32,
     /// The state of the client, `SYNC_CONNECTED`.
     pub state: i32,
-    /// The path that was watched; `None` is null.
+    /// The path of the watch; `None` is null.
     pub path: Option<Str<'a>>,
 }
 

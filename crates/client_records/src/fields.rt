@@ -1,4 +1,4 @@
-//! Fields of the records: texts and bytes that may be null, and lists.
+//! Fields of the records: texts and buffers that may be null, and lists.
 
 ghost use Rattle.std.specs.Prelude.{◌≡◌, ℕ, List, length, map, nat_eq, Ok, Some, String, string_bytes};
 ghost use Rattle.std.specs.Cmp.{partial_equiv_from_equiv};
@@ -17,7 +17,7 @@ use std::collections::btree_set::Iter;
 use std::marker::Model;
 use values::{Bytes, Listed, NoMemory, ReadError, Str};
 
-// How many bytes a ustring takes, or null.
+// The length in bytes of a ustring with its length prefix, or of null.
 #[tactic(auto, unfolding(jute::specs::Format::number_bytes))]
 pub fn text_len(text: &Option<Str<'_>>) -> usize
     requires { buffer.Writable text.now }
@@ -29,7 +29,6 @@ pub fn text_len(text: &Option<Str<'_>>) -> usize
     }
 }
 
-// A ustring, or null.
 pub fn put_text(out: &mut Vec<u8>, text: &Option<Str<'_>>) -> Result<(), NoMemory>
     requires { buffer.Writable text.now }
     ensures { Puts result out.old.items (buffer.written text.now) out.new.items }
@@ -40,7 +39,7 @@ pub fn put_text(out: &mut Vec<u8>, text: &Option<Str<'_>>) -> Result<(), NoMemor
     }
 }
 
-// How many bytes a buffer takes, or null.
+// The length in bytes of a buffer with its length prefix, or of null.
 #[tactic(auto, unfolding(jute::specs::Format::number_bytes))]
 pub fn buffer_len(bytes: &Option<Bytes<'_>>) -> usize
     requires { buffer.Writable bytes.now }
@@ -52,7 +51,6 @@ pub fn buffer_len(bytes: &Option<Bytes<'_>>) -> usize
     }
 }
 
-// A buffer, or null.
 pub fn put_buffer(out: &mut Vec<u8>, bytes: &Option<Bytes<'_>>) -> Result<(), NoMemory>
     requires { buffer.Writable bytes.now }
     ensures { Puts result out.old.items (buffer.written bytes.now) out.new.items }
@@ -63,7 +61,7 @@ pub fn put_buffer(out: &mut Vec<u8>, bytes: &Option<Bytes<'_>>) -> Result<(), No
     }
 }
 
-/// A borrowed text that stands in a list, as a name or a path. Null is read as empty.
+/// A borrowed text in a list, such as a name or a path. Null is read as empty.
 #[derive(Drop)]
 pub struct Name<'a> {
     text: &'a str,
@@ -121,7 +119,7 @@ impl<'a> WriteRecord for Name<'a> {
     }
 }
 
-/// Reads a vector of records, where null is read as empty.
+/// Reads a vector of records; null is read as empty.
 #[tactic(auto, unfolding(jute::specs::Format::judged_at))]
 pub fn read_list<'a, T: ReadRecord<'a>>(
     alloc: Global,
@@ -136,7 +134,7 @@ pub fn read_list<'a, T: ReadRecord<'a>>(
     }
 }
 
-/// Writes a list as a vector: an int count, and the records one behind the other.
+/// Appends a list as a vector: an int count, and the records one after the other.
 pub fn put_list<T: WriteRecord>(out: &mut Vec<u8>, items: &[T]) -> Result<(), NoMemory>
     requires { (vector_of T.format).Writable (Some items.now) }
     ensures { Puts result out.old.items ((vector_of T.format).written (Some items.now)) out.new.items }
@@ -145,8 +143,8 @@ pub fn put_list<T: WriteRecord>(out: &mut Vec<u8>, items: &[T]) -> Result<(), No
     put_items(out, items)
 }
 
-/// Writes the texts of a set in its order, as a vector of ustrings: an int count, and the texts one
-/// behind the other.
+/// Appends the texts of a set in its order, as a vector of ustrings: an int count, and the texts one after the other. A
+/// refused allocation leaves a prefix of the bytes appended.
 pub fn put_names(out: &mut Vec<u8>, texts: Iter<'_, String>) -> Result<(), NoMemory>
     requires { names_format.Writable (map string_bytes texts) }
     ensures { Puts result out.old.items

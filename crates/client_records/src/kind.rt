@@ -1,4 +1,4 @@
-//! What a client's request asks for.
+//! The types of a client's requests.
 
 ghost use Rattle.std.specs.Prelude.{◌≡◌, Some};
 ghost use Rattle.client_records.specs.Kinds.{code_of, kind_of};
@@ -6,42 +6,42 @@ ghost use Rattle.client_records.specs.Kinds.{code_of, kind_of};
 /// The types of requests (the operation codes of `ZooDefs.OpCode`).
 #[derive(Clone, Copy, Debug, PartialEq, Eq)]
 pub enum RequestKind {
-    /// A node is to be made.
+    /// Create a node.
     Create = 1,
-    /// A node is to be removed.
+    /// Delete a node.
     Delete = 2,
-    /// Whether there is a node, and what it shows of itself.
+    /// Read a node's Stat, if there is a node.
     Exists = 3,
-    /// A node's bytes.
+    /// Read a node's data.
     GetData = 4,
-    /// A node's bytes are to be replaced.
+    /// Replace a node's data.
     SetData = 5,
-    /// Who may do what with a node.
+    /// Read a node's access control list.
     GetAcl = 6,
-    /// Who may do what with a node is to be changed.
+    /// Replace a node's access control list.
     SetAcl = 7,
-    /// The names of a node's children.
+    /// List the names of a node's children.
     GetChildren = 8,
-    /// The server is to catch up with its leader.
+    /// Have the server catch up with its leader.
     Sync = 9,
-    /// The client shows that it is there.
+    /// Show that the client is alive.
     Ping = 11,
-    /// The names of a node's children, and what the node shows of itself.
+    /// List the names of a node's children, and read its Stat.
     GetChildren2 = 12,
-    /// A node's version is to be compared.
+    /// Compare a node's version.
     Check = 13,
-    /// Several changes at once.
+    /// Make several changes at once.
     Multi = 14,
-    /// The client shows who it is.
+    /// Add an id to the connection.
     Auth = 100,
-    /// Watches that the client had are to be left again.
+    /// Set the watches that the client had before.
     SetWatches = 101,
-    /// The client's session is to end.
+    /// End the client's session.
     CloseSession = -11,
 }
 
 impl RequestKind {
-    /// The type with that code; `None` for a code that isn't listed.
+    /// The type with this code; `None` for an unknown code.
     #[tactic(auto, unfolding(crate::specs::Kinds::kind_of))]
     pub fn from_code(code: i32) -> Option<RequestKind>
         ensures { result ≡ kind_of code }
@@ -67,7 +67,7 @@ impl RequestKind {
         }
     }
 
-    /// The code by which a request's header names its type.
+    /// The code in a request's header.
     #[tactic(auto, unfolding(crate::specs::Kinds::kind_of))]
     pub fn code(self) -> i32
         ensures code { result ≡ code_of self }

@@ -4,8 +4,8 @@ ghost use Rattle.jute.specs.Laws.{IsSound};
 ghost use Rattle.client_records.specs.Requests.{connect_request, exists_request, get_data_request, get_children_request, get_children2_request, get_acl_request, set_watches, auth_packet};
 ghost use Rattle.client_records.specs.Responses.{connect_response, exists_response, get_data_response, get_children_response, get_children2_response, get_acl_response, watcher_event};
 
-/// What is read is spelled so, what is spelled so is read whatever follows, what is written is the
-/// shortest spelling, and a refusal names the first field that no spelling allows.
+/// Every format here is sound: what is read was spelled so, a spelling is read whatever follows it, what is written is
+/// the shortest spelling, and a refusal names the first field that isn't spelled.
 pub fn records()
     ensures connect_request { IsSound connect_request }
     ensures exists_request { IsSound exists_request }

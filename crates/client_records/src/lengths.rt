@@ -1,4 +1,4 @@
-//! How long lists of the tree are when they are written. Their texts have no bound of their own, and a frame has one.
+//! The length of the tree's lists in bytes. Their texts have no bound of their own, but a frame has one.
 
 ghost use Rattle.std.specs.Prelude.{◌≡◌, ◌+◌, ◌<◌, ◌≤◌, ◌^◌, length, map, IfSome, String, string_bytes};
 ghost use Rattle.jute.specs.Owned.{acl_format};
@@ -7,7 +7,7 @@ ghost use Rattle.client_records.specs.Fields.{acls_format, names_format, length_
 use jute::Acl;
 use std::collections::btree_set::Iter;
 
-// The sum, where it is within the limit.
+// The sum, if it is within the limit.
 fn grown(len: usize, more: usize, limit: usize) -> Option<usize>
     requires { len ≤ limit }
     ensures { result ≡ length_within limit (len + more) }
@@ -18,7 +18,7 @@ fn grown(len: usize, more: usize, limit: usize) -> Option<usize>
     Some(len + more)
 }
 
-// The sum with an ACL's length, where it is within the limit.
+// The sum with an ACL's length, if it is within the limit.
 #[tactic(auto, unfolding(jute::specs::Owned::acl_format, jute::specs::Owned::id_format, jute::specs::Format::number_bytes))]
 fn grown_by_acl(len: usize, item: &Acl, limit: usize) -> Option<usize>
     requires { len ≤ limit }
@@ -29,8 +29,8 @@ fn grown_by_acl(len: usize, item: &Acl, limit: usize) -> Option<usize>
     grown(len, item.id.id.as_str().len(), limit)
 }
 
-/// How many bytes `put_names` writes, where they are within the limit. With a limit below 2^31 they
-/// may then be written.
+/// The number of bytes that `put_names` appends, if they are within the limit; otherwise None. With a limit below 2^31
+/// the names may then be written.
 pub fn names_len(texts: Iter<'_, String>, limit: usize) -> Option<usize>
     ensures len { result ≡ length_within limit (length (names_format.written (map string_bytes texts.entry))) }
     ensures writable { limit < 2 ^ 31
@@ -43,8 +43,8 @@ pub fn names_len(texts: Iter<'_, String>, limit: usize) -> Option<usize>
     Some(len)
 }
 
-/// How many bytes a list of ACLs takes, where they are within the limit. With a limit below 2^31
-/// they may then be written.
+/// The length in bytes of a list of ACLs, if it is within the limit; otherwise None. With a limit below 2^31 the list
+/// may then be written.
 pub fn acls_len(items: &[Acl], limit: usize) -> Option<usize>
     ensures len { result ≡ length_within limit (length (acls_format.written items.now)) }
     ensures writable { limit < 2 ^ 31 → IfSome result (λ len. acls_format.Writable items.now) }

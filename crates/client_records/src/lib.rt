@@ -1,10 +1,10 @@
-//! The records that stand in a client's frames (zookeeper.jute of ZooKeeper 3.4), behind the headers of `jute`.
+//! The records of a client's frames (zookeeper.jute of ZooKeeper 3.4), which follow the headers of `jute`.
 //!
-//! Requests are read, and borrow their texts and bytes from the frame; responses and events are written, of what the
-//! tree holds. Each record's format stands in `specs/Requests.antt` or `specs/Responses.antt`, made by jute's
-//! combinators, and `law::records` says of each that reading and writing are that spelling. Children's names stand in a
-//! set, and `put_names` writes them without a list between. What the tree holds has no bound, and a length in a frame
-//! has one: `names_len` and `acls_len` say whether a list may be written.
+//! Requests are read, and borrow their texts and data from the frame; responses and events are written from the tree.
+//! `specs/Requests.antt` and `specs/Responses.antt` define each record's format by jute's combinators, and
+//! `law::records` says of each that reading and writing follow it. Children's names are a set, and `put_names` writes
+//! them without a list in between. The tree's texts have no bound, but a length in a frame has one: `names_len` and
+//! `acls_len` say whether a list may be written.
 //!
 //! ```text
 //! let request = PathAndWatch::read(alloc, &mut reader)?;    // exists, getData, getChildren, getChildren2

@@ -1,4 +1,4 @@
-//! What a client asks for, behind the header of its frame.
+//! The requests of a client, after the header of the frame.
 
 ghost use Rattle.client_records.specs.Requests.{path_and_watch, get_acl_request, set_watches, auth_packet};
 
@@ -13,7 +13,7 @@ use values::{Bytes, Listed, NoMemory, ReadError, Str};
 pub struct PathAndWatch<'a> {
     /// The path of the node; `None` is null.
     pub path: Option<Str<'a>>,
-    /// Whether a watch is to be left at the path.
+    /// Whether to leave a watch at the path.
     pub watch: bool,
 }
 
@@ -76,17 +76,17 @@ impl<'a> WriteRecord for GetAclRequest<'a> {
     }
 }
 
-/// The SetWatches of zookeeper.jute: what a client watched on an older connection. Null lists and
-/// null paths are read as empty.
+/// The SetWatches of zookeeper.jute: the watches of a client on an older connection. Null lists and null paths are read
+/// as empty.
 #[derive(Drop, PartialEq)]
 pub struct SetWatches<'a> {
-    /// The last zxid that the client was told of.
+    /// The last zxid that the client has seen.
     pub relative_zxid: i64,
-    /// Paths whose nodes it read.
+    /// Paths whose nodes the client has read.
     pub data_watches: Listed<Name<'a>>,
-    /// Paths at which it found no node.
+    /// Paths where it found no node.
     pub exist_watches: Listed<Name<'a>>,
-    /// Paths whose children it read.
+    /// Paths whose children it has listed.
     pub child_watches: Listed<Name<'a>>,
 }
 
@@ -129,14 +129,14 @@ impl<'a> WriteRecord for SetWatches<'a> {
     }
 }
 
-/// The AuthPacket of zookeeper.jute: by what a client says who it is.
+/// The AuthPacket of zookeeper.jute: an id that the client adds to its connection.
 #[derive(Drop, PartialEq)]
 pub struct AuthPacket<'a> {
-    /// A number that nothing reads, 0.
+    /// A number that isn't used, 0.
     pub kind: i32,
-    /// How it says it, as `digest`; `None` is null.
+    /// The scheme, such as `digest`; `None` is null.
     pub scheme: Option<Str<'a>>,
-    /// What it says, as a user and a password in `digest`; `None` is null.
+    /// The data of the scheme, in `digest` a user and a password; `None` is null.
     pub auth: Option<Bytes<'a>>,
 }
 

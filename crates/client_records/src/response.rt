@@ -1,4 +1,4 @@
-//! What answers a client's reads, behind the header of its frame.
+//! The responses to a client's reads, after the header of the frame.
 
 ghost use Rattle.std.specs.Prelude.{◌≡◌};
 ghost use Rattle.client_records.specs.Responses.{exists_response, get_data_response, get_children_response, get_children2_response, get_acl_response};
@@ -42,7 +42,7 @@ impl WriteRecord for ExistsResponse {
 /// The GetDataResponse of zookeeper.jute.
 #[derive(Drop, PartialEq)]
 pub struct GetDataResponse<'a> {
-    /// The node's bytes; `None` is null.
+    /// The node's data; `None` is null.
     pub bytes: Option<Bytes<'a>>,
     pub stat: Stat,
 }
@@ -75,7 +75,7 @@ impl<'a> WriteRecord for GetDataResponse<'a> {
     }
 }
 
-/// The GetChildrenResponse of zookeeper.jute. `put_names` writes one of names that stand in a set.
+/// The GetChildrenResponse of zookeeper.jute. `put_names` writes one from the names of a set.
 #[derive(Drop, PartialEq)]
 pub struct GetChildrenResponse<'a> {
     /// The children's names. Null is read as no names.
@@ -106,7 +106,7 @@ impl<'a> WriteRecord for GetChildrenResponse<'a> {
     }
 }
 
-/// The GetChildren2Response of zookeeper.jute. `put_names`, and then the Stat, write one of names that stand in a set.
+/// The GetChildren2Response of zookeeper.jute. `put_names` and then the Stat write one from the names of a set.
 #[derive(Drop, PartialEq)]
 pub struct GetChildren2Response<'a> {
     /// The children's names. Null is read as no names.
@@ -174,7 +174,7 @@ impl<'a> Acls<'a> {
 /// The GetACLResponse of zookeeper.jute. It is only written.
 #[derive(Drop)]
 pub struct GetAclResponse<'a> {
-    /// Who may do what with the node.
+    /// The node's access control list.
     pub acl: Acls<'a>,
     pub stat: Stat,
 }

@@ -31,7 +31,7 @@ fn codes_there_and_back(rt: HostRuntime) {
     }
 }
 
-/// What is no request of a client: a notification, what lies between the codes, createSession and error.
+/// Codes that aren't a client's request: a notification, codes between the known ones, createSession and error.
 #[test]
 fn other_codes(rt: HostRuntime) {
     for code in [0, 10, 15, 99, 102, -1, -10, i32::MAX, i32::MIN] {

@@ -1,4 +1,4 @@
-//! Tests of `client_records`. They stand apart, since a crate with tests is proved twice.
+//! Tests of `client_records`. They are a crate of their own, since a crate with tests is proved twice.
 #![tactic(auto)]
 
 #[cfg(test)]
@@ -14,7 +14,7 @@ use jute::{ReadRecord, Reader};
 use std::alloc::Global;
 use std::test::Fail;
 
-/// Whether the bytes are read as the value, a byte behind them is left, and no front of them is read.
+/// Whether the bytes are read as the value, a byte after them is left, and no prefix of them is read.
 pub fn is_read<'a, T: ReadRecord<'a> + PartialEq>(
     alloc: Global,
     bytes: &'a [u8],
@@ -28,7 +28,7 @@ pub fn is_read<'a, T: ReadRecord<'a> + PartialEq>(
     Ok(same && reader.rest().len() == 1 && refuses_fronts::<T>(alloc, text))
 }
 
-// Whether each front of the bytes is refused, and leaves the place.
+// Whether each prefix of the bytes is refused, and leaves the place.
 fn refuses_fronts<'a, T: ReadRecord<'a>>(alloc: Global, bytes: &'a [u8]) -> bool {
     for end in 0..bytes.len() {
         let front = &bytes[..end];

@@ -1,4 +1,4 @@
-//! Lists, names that stand in a set, and how long lists are.
+//! Lists, names in a set, and the lengths of lists.
 
 use client_records::{Name, acls_len, names_len, put_list, put_names, read_list};
 use jute::{Acl, Id, Reader};
@@ -15,7 +15,7 @@ fn two(alloc: Global) -> Result<BTreeSet<String>, Fail> {
     Ok(names)
 }
 
-/// A set's texts stand in ascending bytes.
+/// A set's texts are in ascending order of their bytes.
 #[test]
 fn names_of_a_set(rt: HostRuntime) -> Result<(), Fail> {
     let names = two(rt.alloc())?;
@@ -32,7 +32,7 @@ fn names_of_a_set(rt: HostRuntime) -> Result<(), Fail> {
     Ok(())
 }
 
-// Whether the bytes are read as these names, in this order, and a byte behind them is left.
+// Whether the bytes are read as these names, in this order, and a byte after them is left.
 fn are_read<'a>(alloc: Global, bytes: &'a [u8], texts: &[&'a str]) -> Result<bool, Fail> {
     let mut expected = Vec::new(alloc);
     for text in texts {
@@ -43,7 +43,7 @@ fn are_read<'a>(alloc: Global, bytes: &'a [u8], texts: &[&'a str]) -> Result<boo
     Ok(names == Listed::from_vec(expected) && reader.rest().len() == 1)
 }
 
-/// A list keeps its order and what stands in it twice; null is read as empty.
+/// A list keeps its order and its duplicates; null is read as empty.
 #[test]
 fn a_list_is_read(rt: HostRuntime) -> Result<(), Fail> {
     let alloc = rt.alloc();
@@ -61,7 +61,7 @@ fn is_refused(alloc: Global, bytes: &[u8]) -> bool {
     names.is_err() && reader.rest().len() == bytes.len()
 }
 
-/// A count below -1, and one that passes the bytes.
+/// A count below -1, and one that exceeds the bytes.
 #[test]
 fn a_list_is_refused(rt: HostRuntime) {
     let alloc = rt.alloc();
@@ -69,7 +69,7 @@ fn a_list_is_refused(rt: HostRuntime) {
     assert!(rt; is_refused(alloc, b"\x00\x00\x00\x02\x00\x00\x00\x02/a"));
 }
 
-/// No name makes an empty list, and not a null one.
+/// Without a name the list is empty, and not null.
 #[test]
 fn a_list_is_written(rt: HostRuntime) -> Result<(), Fail> {
     let alloc = rt.alloc();
@@ -94,7 +94,7 @@ fn open(alloc: Global) -> Result<Acl, NoMemory> {
     })
 }
 
-/// The list of one ACL takes 27 bytes, and that of none 4.
+/// The list of one ACL takes 27 bytes, and the empty list 4.
 #[test]
 fn lengths_of_acls(rt: HostRuntime) -> Result<(), Fail> {
     let list = vec![in rt.alloc(); open(rt.alloc())?]?;

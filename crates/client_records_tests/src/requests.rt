@@ -1,4 +1,4 @@
-//! What a client asks.
+//! The requests of clients.
 
 use crate::is_read;
 use client_records::{AuthPacket, ConnectRequest, GetAclRequest, Name, PathAndWatch, SetWatches};
@@ -7,7 +7,7 @@ use std::alloc::Global;
 use std::test::Fail;
 use values::{Bytes, Listed, NoMemory, Str};
 
-/// A session 5 without a password's bytes, and a byte behind the record: no read-only server will do.
+/// Session 5 with an empty password, and a byte after the record: no read-only server is accepted.
 const CONNECT: [u8; 45] = *b"\x00\x00\x00\x00\
     \x00\x00\x00\x00\x00\x00\x00\x00\
     \x00\x00\x27\x10\
@@ -33,7 +33,7 @@ fn connect_request(rt: HostRuntime) -> Result<(), Fail> {
     Ok(())
 }
 
-/// A path and a watch, and a byte behind them.
+/// A path and a watch, and a byte after them.
 #[test]
 #[tactic(auto, unfolding(client_records::specs::Requests::path_and_watch))]
 fn path_and_watch(rt: HostRuntime) -> Result<(), Fail> {

@@ -1,4 +1,4 @@
-//! What a client is answered and told.
+//! The responses and events for clients.
 
 use crate::is_read;
 use client_records::{
@@ -10,14 +10,14 @@ use std::alloc::Global;
 use std::test::Fail;
 use values::{Blob, Bytes, Listed, NoMemory, Str, Text};
 
-/// The Stat of the root of a fresh tree: its one child was made without a transaction.
+/// The Stat of the root of a fresh tree: its one child is a preset node.
 const ROOT: [u8; 68] = *b"\x00\x00\x00\x00\x00\x00\x00\x00\x00\x00\x00\x00\x00\x00\x00\x00\
     \x00\x00\x00\x00\x00\x00\x00\x00\x00\x00\x00\x00\x00\x00\x00\x00\
     \x00\x00\x00\x00\xff\xff\xff\xff\x00\x00\x00\x00\
     \x00\x00\x00\x00\x00\x00\x00\x00\x00\x00\x00\x00\x00\x00\x00\x01\
     \x00\x00\x00\x00\x00\x00\x00\x00";
 
-// What those bytes say.
+// The Stat that those bytes spell.
 fn root() -> Stat {
     Stat {
         czxid: 0,
@@ -34,7 +34,7 @@ fn root() -> Stat {
     }
 }
 
-// The front, the root's Stat, and a byte behind them.
+// The front, the root's Stat, and a byte after them.
 fn with_root(alloc: Global, front: &[u8]) -> Result<Vec<u8>, NoMemory> {
     let mut bytes = Vec::from_slice(alloc, front)?;
     bytes.extend_from_slice(ROOT.as_slice())?;
@@ -42,7 +42,7 @@ fn with_root(alloc: Global, front: &[u8]) -> Result<Vec<u8>, NoMemory> {
     Ok(bytes)
 }
 
-// Whether the bytes are those of `with_root` but for the last one.
+// Whether the bytes are those of `with_root` except for the last one.
 fn are_with_root(alloc: Global, bytes: &[u8], front: &[u8]) -> Result<bool, NoMemory> {
     let mut bytes = Vec::from_slice(alloc, bytes)?;
     bytes.push(7)?;
@@ -81,7 +81,7 @@ fn exists_response(rt: HostRuntime) -> Result<(), Fail> {
     Ok(())
 }
 
-// Whether the bytes are read as the answer to getData that has these bytes.
+// Whether the bytes are read as the reply to getData with this data.
 fn is_read_as<'a>(alloc: Global, bytes: &'a [u8], data: &'a [u8]) -> Result<bool, Fail> {
     let expected = GetDataResponse {
         bytes: Some(Bytes::new(data)),
@@ -106,7 +106,7 @@ fn get_data_response(rt: HostRuntime) -> Result<(), Fail> {
     Ok(())
 }
 
-/// The names of two children, and a byte behind them.
+/// The names of two children, and a byte after them.
 const CHILDREN: [u8; 23] = *b"\x00\x00\x00\x02\x00\x00\x00\x01a\x00\x00\x00\x09zookeeper\x07";
 
 #[test]
@@ -124,7 +124,7 @@ fn get_children_response(rt: HostRuntime) -> Result<(), Fail> {
     Ok(())
 }
 
-// Whether the bytes are read as the answer to getChildren2 that lists these names.
+// Whether the bytes are read as the reply to getChildren2 that lists these names.
 fn lists_them<'a>(
     alloc: Global,
     bytes: &'a [u8],
@@ -156,7 +156,7 @@ fn get_children2_response(rt: HostRuntime) -> Result<(), Fail> {
     Ok(())
 }
 
-// Whether the bytes are these entries and the root's stat, read field by field.
+// Whether the bytes are these entries and the root's Stat, read field by field.
 fn are_read(alloc: Global, bytes: &[u8], entries: &[Acl]) -> Result<bool, Fail> {
     let mut reader = Reader::new(bytes);
     let Some(list) = read_vector::<Acl>(alloc, &mut reader)? else {

@@ -94,7 +94,7 @@ module _ {X : Type 0} where
       → finmap.keys (seen es) ≡ map (λ (x : ℕ × X). x.0) es
   keys-sorted es s = ap (map (λ (x : ℕ × X). x.0)) (entries-sorted es s)
 
-  -- the first entry is taken out
+  -- The first entry is removed.
   pub keys-popped : (r : Option (ℕ × X)) (old new : List (ℕ × X)) → IfSome r (λ p. old ≡ p ∷ new)
       → IfSome r (λ p. All (λ y. nat_cmp p.0 y ≡ Less) (map (λ (x : ℕ × X). x.0) new))
       → IsStrictlySortedBy nat_cmp (map (λ (x : ℕ × X). x.0) new)
@@ -129,7 +129,7 @@ module _ {X : Type 0} where
       ∙ ap (cond (eq_by_cmp nat_cmp q p.0) None) (sym (finmap.get-from_entries nat_cmp_total (p ∷ new) q))
       ∙ sym (finmap.get-remove nat_cmp_total (seen (p ∷ new)) p.0 q))
 
-  -- the first entry is taken out, and no other
+  -- The first entry is removed, and no other.
   pub first-removed : (r : Option (ℕ × X)) (old new : List (ℕ × X)) → IfSome r (λ p. old ≡ p ∷ new)
       → IfSome r (λ p. All (λ y. nat_cmp p.0 y ≡ Less) (map (λ (x : ℕ × X). x.0) new))
       → IfSome r (λ p. seen new ≡ finmap.remove (seen old) p.0)
@@ -150,7 +150,7 @@ module _ {X : Type 0} where
   was_there true o v e = absurd (true≢false (sym (ap is_some e)))
   was_there false o v e = e
 
-  -- what is there after one was taken out was there before
+  -- An entry that is there after a removal was there before.
   pub still_there : (m : finmap.FinMap nat_cmp X) (n k : ℕ) (v : X) → finmap.get (finmap.remove m n) k ≡ Some v
       → finmap.get m k ≡ Some v
   still_there m n k v e = was_there (eq_by_cmp nat_cmp k n) (finmap.get m k) v
@@ -164,7 +164,7 @@ module _ {X : Type 0} where
       by true same = absurd (other (exact_unsigned k n (eq_is (nat_cmp k n) same)))
       by false differ = refl
 
-  -- another key is left where one is taken out, and where one is put in
+  -- A removal or an insertion leaves every other key.
   pub get-kept : (m : finmap.FinMap nat_cmp X) (n k : ℕ) → k ≢ n → finmap.get (finmap.remove m n) k ≡ finmap.get m k
   get-kept m n k other = finmap.get-remove nat_cmp_total m n k ∙ apart m n k None other
 

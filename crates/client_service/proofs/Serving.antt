@@ -1,4 +1,4 @@
--- What the loop over a client's frames does at each turn.
+-- The turns of the loop over a client's frames.
 use Rattle.std.proofs.Common.{◌≡◌, ℕ, ◌-◌, ◌<◌, ◌≤◌, Bool, true, false, not, List, [], ◌++◌, length, drop, Option, Some, None, Ok, Err, refl, sym, ap, ◌∙◌, arith}
 use Rattle.std.specs.Prelude.{is_some}
 use Rattle.std.specs.Option.{unwrap_or}
@@ -66,7 +66,7 @@ none_of : {A : Type 0} (o : Option A) → is_some o ≡ false → o ≡ None
 none_of None e = refl
 none_of (Some x) e = absurd (true≢false e)
 
--- the end of an event whose frames were served
+-- The end of an event whose frames were served.
 abbrev left_at : ℕ → Unread → StepResult World → StepResult World
 left_at n left h = and_then h (wait_at n left)
 
@@ -139,7 +139,7 @@ module _ (serving : Bool) (n : ℕ) (w : World) (o : Option OpenConnection) (byt
           (record w { clients = record w.clients { connections = with_rest w.clients.connections n (Some k) [] } })
           (unwrap_or x [] ++ bytes) (word_at n w (unwrap_or x [] ++ bytes))) e
 
--- bytes are taken to hand with those that wait
+-- The waiting bytes are taken out of the connection and joined with those that come.
 pub taken_to_hand : (serving : Bool) (n : ℕ) (u w : World) → u ≡ w → (waiting came seen bytes none : List ℕ)
     (left : OpenConnections) (o : Option Word) →
     let open_ = u.clients.connections in

@@ -1,4 +1,4 @@
--- Steps one behind another.
+-- Steps one after the other.
 use Rattle.std.proofs.Common.{◌≡◌, Bool, true, false, cond, List, [], ◌∷◌, ◌++◌, Result, Ok, Err, refl, sym, ap, subst, ◌∙◌, append_assoc}
 use Rattle.std.proofs.lemmas.List.{append-nil}
 use Rattle.values.specs.Gains.{Gains}
@@ -29,7 +29,7 @@ module _ {S A : Type 0} (is_end : S → Bool) (step : S → A → StepResult S) 
   abbrev then_run : StepResult S → List A → StepResult S
   then_run h xs = prepend_outputs h.outputs (run h.after xs)
 
-  -- the steps of two lists, one behind the other
+  -- The steps of two lists, one after the other.
   pub happening_on : (s : S) (xs ys : List A) → run s (xs ++ ys) ≡ then_run (run s xs) ys
   happening_on s [] ys = refl
   happening_on s (a ∷ xs) ys = by (is_end s) refl (happening_on (step s a).after xs ys)
@@ -43,7 +43,7 @@ module _ {S A : Type 0} (is_end : S → Bool) (step : S → A → StepResult S) 
 
 -- ---- what a loop keeps
 
--- what was put out so far is a front of the whole, and what is left leads to the rest of it
+-- `SoFar`: the outputs so far are a prefix of the whole, and `left` leads to the rest.
 pub record SoFar {S : Type 0} (old : List Output) (whole : StepResult S) (now : List Output)
     (left : StepResult S) : Type 0 where
   pub front : List Output
@@ -63,7 +63,7 @@ module _ {S : Type 0} where
     leads = ap (prepend_outputs s.front) (sym e) ∙ s.leads;
   }
 
-  -- one step was made
+  -- One step was made.
   pub steps : {T : Type 0} (old : List Output) (whole : StepResult S) (now new : List Output) (left : StepResult S)
       (h : StepResult T) (others : T → StepResult S) (after : T)
       → left ≡ prepend_outputs h.outputs (others h.after)
@@ -80,7 +80,7 @@ module _ {S : Type 0} where
         ∙ s.leads;
   }
 
-  -- nothing is left
+  -- Nothing is left to do.
   pub ends : (old : List Output) (whole : StepResult S) (now : List Output) (left : StepResult S) (after : S)
       → left ≡ no_output after → SoFar old whole now left
       → prepend_outputs old whole ≡ record { outputs = now; after = after }
@@ -89,7 +89,7 @@ module _ {S : Type 0} where
       ∙ (λ i. prepend_outputs (sym s.put i) (is i))
       ∙ ap (λ (o : List Output). record { outputs = o; after = after }) (append-nil now)
 
-  -- the last step was made
+  -- The last step was made.
   pub last_step : (old : List Output) (whole : StepResult S) (now new : List Output) (left : StepResult S) (after : S)
       → prepend_outputs now left ≡ record { outputs = new; after = after } → SoFar old whole now left
       → prepend_outputs old whole ≡ record { outputs = new; after = after }
@@ -98,13 +98,13 @@ module _ {S : Type 0} where
       ∙ ap (λ (o : List Output). prepend_outputs o left)
       (sym s.put) ∙ made
 
-  -- memory was refused on the way
+  -- An allocation was refused on the way.
   pub stops : (old : List Output) (whole : StepResult S) (now new : List Output) (left : StepResult S)
       → Gains now left.outputs new → SoFar old whole now left → Gains old whole.outputs new
   stops old whole now new left g s = rw (← ap (λ (h : StepResult S). h.outputs) s.leads)
       (gains_behind old s.front s.put g)
 
-  -- memory was refused in a step
+  -- An allocation was refused in a step.
   pub stops_in_step : {T : Type 0} (old : List Output) (whole : StepResult S) (now new : List Output)
       (left : StepResult S)
       (h : StepResult T) (others : T → StepResult S)
@@ -114,7 +114,7 @@ module _ {S : Type 0} where
       stops old whole now new (prepend_outputs h.outputs (others h.after)) (gains_first (others h.after).outputs g)
       (same_left old whole now left (prepend_outputs h.outputs (others h.after)) is s)
 
-  -- the last step was tried
+  -- The last step was tried.
   pub ends_with : (r : Result (Unit {0}) NoMemory) (old : List Output) (whole : StepResult S) (now new : List Output)
       (left last : StepResult S) (after : S)
       → left ≡ last → MeetsStep r now last new after → SoFar old whole now left → MeetsStep r old whole new after
@@ -123,13 +123,13 @@ module _ {S : Type 0} where
   ends_with (Err e) old whole now new left last after is m s =
       stops old whole now new last m (same_left old whole now left last is s)
 
--- outputs alone
+-- A step that is outputs alone.
 abbrev pub putting : List Output → StepResult (Unit {0})
 putting outputs = record { outputs = outputs; after = tt }
 
 -- ---- two steps
 
--- one was made, and then the other was tried
+-- The first step was made, and then the second was tried.
 pub then_meets : {S T : Type 0} (r : Result (Unit {0}) NoMemory) (old mid new : List Output) (h : StepResult S)
     (next : S → StepResult T) (left : S) (after : T)
     → prepend_outputs old h ≡ record { outputs = mid; after = left } → MeetsStep r mid (next left) new after
@@ -142,12 +142,12 @@ then_meets {S} (Err e) old mid new h next left after made m =
     subst (λ (s : S). Gains old (h.outputs ++ (next s).outputs) new) (sym there)
     (gains_behind old h.outputs (sym (ap (λ (g : StepResult S). g.outputs) made)) m)
 
--- the first one wanted memory
+-- An allocation was refused in the first step.
 pub first_stops : {S T : Type 0} (old new : List Output) (h : StepResult S) (next : S → StepResult T)
     → Gains old h.outputs new → Gains old (and_then h next).outputs new
 first_stops old new h next g = gains_first (next h.after).outputs g
 
--- outputs were put, and then a step was tried
+-- Outputs were appended, and then a step was tried.
 pub behind_meets : {S : Type 0} (r : Result (Unit {0}) NoMemory) (old put mid new : List Output)
     (h : StepResult S) (after : S)
     → mid ≡ old ++ put → MeetsStep r mid h new after → MeetsStep r old (prepend_outputs put h) new after

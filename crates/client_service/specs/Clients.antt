@@ -1,4 +1,4 @@
--- The clients of an observer: which connections are open, who is behind them, and what they watch.
+-- The clients of an observer: the open connections, the session of each, and what they watch.
 use Rattle.std.specs.Prelude.{ℕ, negsuc, List, [], ◌∷◌, ◌++◌, map, Option, Some, None, Bool}
 use Rattle.std.specs.FinMap as finmap
 use Rattle.sessions.specs.Sessions.{close_connection, no_sessions}
@@ -14,18 +14,18 @@ use Rattle.client_service.specs.Steps.{StepResult}
 use Rattle.sessions.specs.State.{session_settings_of}
 use Rattle.client_service.specs.declared.world.Settings.{Settings}
 
--- a connection whose bytes were all taken
+-- A connection without waiting bytes.
 abbrev pub idle_connection : OpenConnection
 idle_connection = record { rest = [] }
 
 abbrev pub is_open : ℕ → Clients → Bool
 is_open n c = finmap.contains_key c.connections n
 
--- the connection is open, with these bytes waiting
+-- The clients with connection n open and in this state.
 abbrev pub with_connection : ℕ → OpenConnection → Clients → Clients
 with_connection n connection c = record c { connections = finmap.insert c.connections n connection }
 
--- a connection goes, and its ids and its watches with it; its session stays
+-- A connection is removed, with its ids and its watches; its session stays.
 abbrev pub without_client : ℕ → Clients → Clients
 without_client n c =
     record {
@@ -39,15 +39,15 @@ abbrev pub without_clients : List ℕ → Clients → Clients
 without_clients [] c = c
 without_clients (n ∷ others) c = without_clients others (without_client n c)
 
--- these connections close, in this order
+-- Closes these connections, in this order.
 abbrev pub close_clients : List ℕ → Clients → StepResult Clients
 close_clients ns c = record { outputs = map (λ n. CloseClient n) ns; after = without_clients ns c }
 
--- all open connections close, in the order of their numbers
+-- Closes all open connections, in ascending order of their numbers.
 abbrev pub close_all_clients : Clients → StepResult Clients
 close_all_clients c = close_clients (finmap.keys c.connections) c
 
--- nobody, and no session yet
+-- No connection, and no session yet.
 abbrev pub no_clients : Settings → Clients
 no_clients settings = record {
   connections = finmap.empty;
@@ -57,21 +57,21 @@ no_clients settings = record {
 
 -- ---- what clients are told
 
--- a frame for a client, where there is one
+-- A frame for a client, if there is one.
 abbrev pub sent_to : ℕ → Option (List ℕ) → List Output
 sent_to n None = []
 sent_to n (Some frame) = ToClient n frame ∷ []
 
--- what happened at a watched path, in a frame that answers no request and names no zxid
+-- The event of a watched path, in a frame with the xid -1 and the zxid -1.
 abbrev pub notice_to : ℕ → Event → List Output
 notice_to n event = sent_to n (reply_frame NOTIFICATION_XID (negsuc 0) (look_of_event event))
 
--- each event for its connection
+-- Each event goes to its connection.
 abbrev pub notices_of : List (ℕ × Event) → List Output
 notices_of [] = []
 notices_of (told ∷ others) = notice_to told.0 told.1 ++ notices_of others
 
--- all events for one connection
+-- All events go to one connection.
 abbrev pub notices_to : ℕ → List Event → List Output
 notices_to n [] = []
 notices_to n (event ∷ others) = notice_to n event ++ notices_to n others

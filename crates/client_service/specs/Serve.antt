@@ -42,21 +42,21 @@ use Rattle.client_frames.specs.Connect.{connecting_in, session_request, answer_t
 use Rattle.client_service.specs.Steps.{StepResult, prepend_outputs, no_output, and_then, fold_steps}
 use Rattle.client_service.specs.Clients.{idle_connection, is_open, with_connection, without_client, notices_to}
 
--- ---- what goes to a client
+-- ---- what is sent to a client
 
 abbrev pub close_client : ℕ → World → StepResult World
 close_client n w = record { outputs = CloseClient n ∷ []; after = record w { clients = without_client n w.clients } }
 
--- a reply that has no frame isn't sent, and closes
+-- A reply that is too long for a frame isn't sent, and closes the connection.
 abbrev pub send_or_close : ℕ → World → Option (List ℕ) → StepResult World
 send_or_close n w None = close_client n w
 send_or_close n w (Some bytes) = record { outputs = ToClient n bytes ∷ []; after = w }
 
--- and then the connection is closed
+-- Sends a frame, and then closes the connection.
 abbrev pub send_last : ℕ → World → Option (List ℕ) → StepResult World
 send_last n w frame = and_then (send_or_close n w frame) (close_client n)
 
--- the reply names the zxid of the tree that it shows
+-- The reply has the zxid of the tree that it shows.
 abbrev pub send_reply : ℕ → World → ℤ → Look → StepResult World
 send_reply n w xid seen = send_or_close n w (reply_frame xid w.replica.learner.last_zxid seen)
 
@@ -80,13 +80,13 @@ with_watch_if n w (Some watch) = with_watch n w watch
 abbrev pub with_watching : World → WatchTables → World
 with_watching w watches = record w { clients = record w.clients { watches = watches } }
 
--- a read is answered at the state as it is, and leaves its watch
+-- A read is answered at the present state, and leaves its watch.
 abbrev pub answer_read : ℕ → World → ℤ → Request → StepResult World
 answer_read n w xid r =
     let seen = look_at_state w.replica.tree (ids_of w.clients.sessions n) r in
     send_reply n (with_watching w (with_watch_if n w.clients.watches (watch_of r seen.error))) xid seen
 
--- what the client missed is told, then it is answered
+-- The events that the client missed are sent first, then the reply.
 abbrev pub answer_set_watches : ℕ → World → ℤ → Option Renewal → StepResult World
 answer_set_watches n w xid None = send_reply n w xid (without_body BAD_ARGUMENTS)
 answer_set_watches n w xid (Some r) =
@@ -98,7 +98,7 @@ answer_set_watches n w xid (Some r) =
 abbrev pub with_sessions : World → Sessions → World
 with_sessions w sessions = record w { clients = record w.clients { sessions = sessions } }
 
--- an id is shown, which names no zxid; where it is refused, the connection is closed
+-- An id is added; its reply has the zxid 0. If the id is refused, the connection is closed.
 abbrev pub send_auth_result : ℕ → World → ℤ → AuthResult → StepResult World
 send_auth_result n w xid shows =
     if shows.is_accepted
@@ -108,7 +108,7 @@ send_auth_result n w xid shows =
 abbrev pub show_id : ℕ → World → ℤ → AuthPacket → StepResult World
 show_id n w xid packet = send_auth_result n w xid (add_auth w.clients.sessions n packet.scheme packet.auth)
 
--- the session ends; its connection is still to be closed
+-- The session ends, and its connection is still open.
 abbrev pub with_session_expired : World → Option ℤ → World
 with_session_expired w None = w
 with_session_expired w (Some session) = with_sessions w (expire_guest w.clients.sessions session).after
@@ -116,24 +116,24 @@ with_session_expired w (Some session) = with_sessions w (expire_guest w.clients.
 abbrev pub end_session : ℕ → World → World
 end_session n w = with_session_expired w (session_of_connection w.clients.sessions n)
 
--- a connection whose session another one has taken
+-- Closes the connection that has lost its session.
 abbrev pub close_client_if_some : World → Option ℕ → StepResult World
 close_client_if_some w None = no_output w
 close_client_if_some w (Some n) = close_client n w
 
--- the answer to a connect; behind a refusal the connection is closed
+-- Sends the ConnectResponse; after a refusal the connection is closed.
 abbrev pub send_connect_response : ℕ → Bool → SessionResponse → World → StepResult World
 send_connect_response n has_byte response w =
     let frame = Some (answer_to_connect response has_byte) in
     if int_eq response.session_id (pos 0) then send_last n w frame else send_or_close n w frame
 
--- an older connection of the session is closed first
+-- An older connection of the session is closed first.
 abbrev pub finish_connect : ℕ → World → Bool → ConnectResult → StepResult World
 finish_connect n w has_byte c =
     and_then (close_client_if_some (with_sessions w c.after) c.connected.older)
     (send_connect_response n has_byte c.connected.response)
 
--- a client may connect where clients are served, and if it has seen nothing that is still to come
+-- A client may connect where clients are served, if it hasn't seen a zxid above the last one.
 abbrev pub may_connect : Bool → World → ConnectRequest → Bool
 may_connect serving w request = serving && not (int_lt w.replica.learner.last_zxid request.last_zxid_seen)
 
@@ -156,23 +156,23 @@ handle_call n w xid bodies.Ping = send_reply n w PING_XID (without_body OK)
 handle_call n w xid bodies.Write = send_reply n w xid (without_body NOT_READ_ONLY)
 handle_call n w xid bodies.Unknown = send_reply_last n w xid (without_body UNIMPLEMENTED)
 
--- a frame without a whole header closes
+-- A frame whose header can't be read closes the connection.
 abbrev pub serve_as : ℕ → World → Result Call Fault → StepResult World
 serve_as n w (Ok c) = handle_call n w c.xid c.body
 serve_as n w (Err e) = close_client n w
 
--- until the connection has a session, a frame asks for one
+-- Until the connection has a session, its frame is a ConnectRequest.
 abbrev pub serve_by : Bool → ℕ → World → List ℕ → Option ℤ → StepResult World
 serve_by serving n w frame None = handle_connect serving n w (connecting_in frame)
 serve_by serving n w frame (Some session) = serve_as n w (call_in frame)
 
--- a frame is answered at the state as it is
+-- A frame is answered at the present state.
 abbrev pub serve_frame : Bool → ℕ → World → List ℕ → StepResult World
 serve_frame serving n w frame = serve_by serving n w frame (session_of_connection w.clients.sessions n)
 
 -- ---- words
 
--- a watch with the session of its connection, where 0 is none's
+-- A watch with the session of its connection. The session is 0 if the connection has none.
 abbrev pub watch_row_of : Sessions → Watched → WatchRow
 watch_row_of sessions watched = record {
   path = watched.path;
@@ -181,11 +181,11 @@ watch_row_of sessions watched = record {
   table = watched.table;
 }
 
--- all watches, in the order of paths
+-- All watches, in the order of their paths.
 abbrev pub watch_rows : Clients → List WatchRow
 watch_rows c = map (watch_row_of c.sessions) (summary c.watches)
 
--- what words tell of, with these watches
+-- The figures that the answers to words are made of, with these watches.
 abbrev pub figures_with : Bool → World → List WatchRow → Figures
 figures_with serving w watches = record {
   serving = serving;
@@ -199,16 +199,16 @@ figures_with serving w watches = record {
 abbrev pub figures_of : Bool → World → Figures
 figures_of serving w = figures_with serving w (watch_rows w.clients)
 
--- a word is answered, and the connection is closed
+-- A word is answered, and the connection is closed.
 abbrev pub tell_word : Bool → ℕ → World → Word → StepResult World
 tell_word serving n w word = send_last n w (Some (reply_text word (figures_of serving w)))
 
--- who has a session says no word
+-- A connection that has a session can't send a word.
 abbrev pub word_without_session : Option ℤ → Option Word → Option Word
 word_without_session None word = word
 word_without_session (Some session) word = None
 
--- the word of a connection's first four bytes; of fewer there is none
+-- The word in a connection's first four bytes; fewer bytes are none.
 abbrev pub word_at : ℕ → World → List ℕ → Option Word
 word_at n w bytes = word_without_session (session_of_connection w.clients.sessions n) (word_of (take 4 bytes))
 
@@ -217,12 +217,11 @@ word_at n w bytes = word_without_session (session_of_connection w.clients.sessio
 abbrev pub is_closed : ℕ → World → Bool
 is_closed n w = not (is_open n w.clients)
 
--- the connection with these bytes waiting
 abbrev pub with_waiting_bytes : ℕ → World → OpenConnection → List ℕ → World
 with_waiting_bytes n w connection rest =
     record w { clients = with_connection n (record connection { rest = rest }) w.clients }
 
--- the bytes behind the frames wait for more; a length out of its bounds closes
+-- The bytes after the last whole frame wait for more. A length out of bounds closes the connection.
 abbrev pub wait_or_close : ℕ → World → OpenConnection → Unread → StepResult World
 wait_or_close n w connection (Ok rest) = no_output (with_waiting_bytes n w connection rest)
 wait_or_close n w connection (Err e) = close_client n w
@@ -231,46 +230,46 @@ abbrev pub wait_if_open : ℕ → World → Option OpenConnection → Unread →
 wait_if_open n w None left = no_output w
 wait_if_open n w (Some connection) left = wait_or_close n w connection left
 
--- the most bytes of a client's frame
+-- The longest frame that a client may send, in bytes.
 abbrev pub client_frame_limit : ℕ
 client_frame_limit = 1048575
 
--- the frames of a client, one behind another
+-- A client's stream is a sequence of frames.
 abbrev pub frames_of_client : PhasedStream (Unit {0}) (List ℕ)
 frames_of_client = stream_of (frame_format client_frame_limit)
 
--- what is left of a connection's bytes behind its frames, if it is open still
+-- Keeps the bytes after the frames, if the connection is still open.
 abbrev pub wait_at : ℕ → Unread → World → StepResult World
 wait_at n left w = wait_if_open n w (finmap.get w.clients.connections n) left
 
--- all frames that were found, as long as the connection is open, and then what is left of its bytes
+-- Serves all frames found, as long as the connection is open, and keeps the bytes after them.
 abbrev pub serve_all : Bool → ℕ → World → Items (Unit {0}) (List ℕ) → StepResult World
 serve_all serving n w found = and_then (fold_steps (is_closed n) (serve_frame serving n) w found.found)
     (wait_at n found.left.unread)
 
--- a word, or frames
+-- A connection's bytes are a four-letter word, or frames.
 abbrev pub tell_or_serve : Bool → ℕ → World → List ℕ → Option Word → StepResult World
 tell_or_serve serving n w bytes None = serve_all serving n w (items_in frames_of_client (place_at tt bytes))
 tell_or_serve serving n w bytes (Some word) = tell_word serving n w word
 
--- the bytes of a connection that isn't open are passed over
+-- The bytes of a connection that isn't open are ignored.
 abbrev pub take_client_bytes : Bool → ℕ → World → Option OpenConnection → List ℕ → StepResult World
 take_client_bytes serving n w None bytes = no_output w
 take_client_bytes serving n w (Some connection) bytes =
     let came = connection.rest ++ bytes in
     tell_or_serve serving n (with_waiting_bytes n w connection []) came (word_at n w came)
 
--- ---- coming and going
+-- ---- connecting and leaving
 
--- one that is open already stays as it is
+-- A connection that is already open stays as it is.
 abbrev pub open_client : ℕ → World → World
 open_client n w = if is_open n w.clients then w else record w { clients = with_connection n idle_connection w.clients }
 
--- the client has gone; nothing goes out to it
+-- The client is gone, and nothing is sent to it.
 abbrev pub end_client : ℕ → World → World
 end_client n w = if is_open n w.clients then record w { clients = without_client n w.clients } else w
 
--- a session ends, and its connection closes; any other id is passed over
+-- A session ends and its connection closes. An id that isn't a session's is ignored.
 abbrev pub expire_session : World → ℤ → StepResult World
 expire_session w session =
     let e = expire_guest w.clients.sessions session in

@@ -1,4 +1,5 @@
--- What an observer knows but for its leader's bytes: its settings, the replica, and its clients.
+-- The state of an observer without that of its leader's stream: its settings, the replica that follows its leader, and
+-- its clients.
 use Rattle.std.specs.Prelude.{ℕ, List, refl}
 use Rattle.std.specs.Ordering.{nat_cmp}
 use Rattle.std.specs.Coded.{Coded, code_by, coded×, coded_ℕ, coded_list}
@@ -8,26 +9,25 @@ use Rattle.sessions.specs.State.{SessionTable as Sessions, session_table_code as
 use Rattle.watch_manager.specs.Watching.{WatchTables, watch_tables_code}
 use Rattle.client_service.specs.declared.world.Settings.{Settings}
 
--- an open connection of a client: its bytes that wait for more
+-- An open connection: the bytes of a frame that isn't complete yet.
 pub record OpenConnection : Type 0 where
   pub rest : List ℕ
 
--- the open connections by their numbers
+-- The open connections by number.
 abbrev pub OpenConnections : Type 0
 OpenConnections = finmap.FinMap nat_cmp OpenConnection
 
--- what is known of clients
 pub record Clients : Type 0 where
   pub connections : OpenConnections
-  -- the sessions, and which connection has which
+  -- The sessions, and the session of each connection.
   pub sessions : Sessions
-  -- which connection watches which path
+  -- The watches: connections and paths.
   pub watches : WatchTables
 
--- all but the leader's bytes
+-- Everything but the state of the leader's stream.
 pub record World : Type 0 where
   pub settings : Settings
-  -- what a read shows, and how far the leader was followed
+  -- The tree that reads show, and how far the leader was followed.
   pub replica : Replica
   pub clients : Clients
 

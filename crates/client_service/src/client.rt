@@ -1,4 +1,7 @@
-//! What a client's bytes do.
+//! What a client's bytes do: frames and four-letter words.
+//!
+//! Laws of `observer_core` that go over this: `Agreeing`, `Apart`, `Closing`, `Joined`, `Logs`, `Playing`, `Served`,
+//! `Taking`, `Unmoved`, `WholeImages`.
 
 ghost use Rattle.std.specs.Prelude.{◌≡◌, OnOk};
 ghost use Rattle.std.specs.FinMap as finmap;
@@ -22,10 +25,9 @@ use jute::{Reader, read_frame};
 use std::alloc::Global;
 use values::{ByteQueue, Fault, NoMemory, ReadError};
 
-/// The most bytes of a client's frame.
+/// The longest frame that a client may send, in bytes.
 pub const CLIENT_FRAME_LIMIT: u32 = 1_048_575;
 
-// Answers a call.
 fn answer_call(
     alloc: Global,
     number: u64,
@@ -67,7 +69,7 @@ fn answer_call(
     }
 }
 
-// Serves one frame of a connection that has a session.
+// Serves a frame of a connection that has a session. A frame whose header can't be read closes the connection.
 fn serve_call(
     alloc: Global,
     number: u64,
@@ -86,7 +88,7 @@ fn serve_call(
     }
 }
 
-// Serves one frame: until the connection has a session, it asks for one.
+// Serves one frame. Until the connection has a session, its frame is a ConnectRequest.
 fn serve(
     alloc: Global,
     serving: bool,
@@ -105,7 +107,7 @@ fn serve(
     }
 }
 
-// The first frame, if it is whole, and how many bytes it takes with its length.
+// Returns the first frame and the bytes that it takes with its length; None while it is incomplete.
 fn first_frame(bytes: &[u8]) -> Result<Option<(&[u8], usize)>, Fault>
     ensures { IsFirstFrame result bytes.now }
 {
@@ -122,7 +124,7 @@ fn first_frame(bytes: &[u8]) -> Result<Option<(&[u8], usize)>, Fault>
     }
 }
 
-// Serves the frames that are whole, while the connection is open. The rest waits.
+// Serves the complete frames while the connection is open. The rest waits for more bytes.
 fn serve_all(
     alloc: Global,
     serving: bool,
@@ -151,7 +153,10 @@ fn serve_all(
     Ok(())
 }
 
-/// Lets a client's bytes happen, where clients are served or not: a word, if they begin with one and may, or frames.
+/// Takes a piece of a client's stream: a four-letter word, if the connection begins with one and has no session, or
+/// frames. `serving` says whether clients are served. The bytes of a connection that isn't open are ignored.
+///
+/// Fails only if an allocation is refused; then a prefix of the outputs has been appended.
 pub fn take_client_bytes(
     alloc: Global,
     serving: bool,
@@ -176,7 +181,7 @@ pub fn take_client_bytes(
     }
 }
 
-/// Opens a connection; one that is open already stays as it is.
+/// Opens a connection; one that is already open stays as it is. Fails only if an allocation is refused.
 pub fn open_client(alloc: Global, number: u64, world: &mut World) -> Result<(), NoMemory>
     ensures { OnOk result (world.new ≡ open_client number world.old) }
 {
@@ -186,7 +191,7 @@ pub fn open_client(alloc: Global, number: u64, world: &mut World) -> Result<(), 
     world.clients.open(alloc, number)
 }
 
-/// Closes a connection whose client has gone.
+/// Closes a connection whose client is gone, and sends nothing. A number that isn't open is ignored.
 pub fn end_client(number: u64, world: &mut World)
     ensures { world.new ≡ end_client number world.old }
 {

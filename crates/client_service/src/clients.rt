@@ -1,4 +1,6 @@
-//! What is known of clients.
+//! The clients: open connections, sessions and watches.
+//!
+//! Laws of `observer_core` that go over this: `Agreeing`, `Apart`, `Joined`, `Playing`, `Served`, `Taking`, `Unmoved`.
 
 ghost use Rattle.std.specs.Prelude.{◌≡◌, ◌∷◌, OnOk, IfSome, IfNone, IfOk};
 ghost use Rattle.std.specs.FinMap as finmap;
@@ -12,7 +14,7 @@ use std::marker::Model;
 use values::NoMemory;
 use watch_manager::Watches;
 
-/// The open connections, who is behind them, and what they watch.
+/// The open connections, the session of each, and what they watch.
 #[derive(Drop)]
 pub struct Clients {
     pub connections: Connections,
@@ -31,7 +33,7 @@ impl Model for Clients {
 }
 
 impl Clients {
-    /// Nobody, and no session yet.
+    /// No connection, and no session yet.
     pub fn new(alloc: Global, settings: &Settings) -> Result<Clients, NoMemory>
         ensures { IfOk result (λ clients. clients ≡ no_clients settings.now) }
     {
@@ -49,14 +51,14 @@ impl Clients {
         self.connections.is_open(number)
     }
 
-    /// Opens a connection.
+    /// Opens a connection without waiting bytes and without a session.
     pub fn open(&mut self, alloc: Global, number: u64) -> Result<(), NoMemory>
         ensures { OnOk result (self.new ≡ with_connection number idle_connection self.old) }
     {
         self.connections.open(alloc, number)
     }
 
-    /// Closes a connection, which takes no memory. Its session stays.
+    /// Closes a connection: its ids and watches go with it, its session stays. Allocates nothing.
     pub fn close(&mut self, number: u64)
         ensures { self.new ≡ without_client number self.old }
     {
@@ -65,7 +67,7 @@ impl Clients {
         self.watches.drop_conn(number);
     }
 
-    /// Closes the connection with the least number.
+    /// Closes the connection with the least number and returns that number; None if no connection is open.
     pub fn close_first(&mut self) -> Option<u64>
         ensures first { IfSome result (λ n. finmap.keys self.old.connections
             ≡ n ∷ finmap.keys self.new.connections) }

@@ -1,4 +1,4 @@
-//! The open connections of clients.
+//! The open connections of clients, each with its unread bytes.
 
 ghost use Rattle.std.specs.Prelude.{◌≡◌, [], ◌∷◌, OnOk, IfSome, IfNone};
 ghost use Rattle.std.specs.FinMap as finmap;
@@ -10,7 +10,7 @@ use std::marker::Model;
 use std::mem;
 use values::{ByteQueue, NoMemory};
 
-/// An open connection: its bytes that wait for more.
+/// An open connection: the bytes of a frame that isn't complete yet.
 #[derive(Drop)]
 pub struct Connection {
     rest: ByteQueue,
@@ -26,7 +26,7 @@ impl Model for Connection {
     ghost view = { λ c. record { rest = c.rest } };
 }
 
-/// The open connections by their numbers.
+/// The open connections by number.
 #[derive(Drop)]
 pub struct Connections {
     map: BTreeMap<u64, Connection>,
@@ -45,7 +45,7 @@ impl Model for Connections {
 }
 
 impl Connections {
-    /// No connection, which takes no memory.
+    /// No connection. Allocates nothing.
     pub fn new(alloc: Global) -> Connections
         ensures { result ≡ finmap.empty }
     {
@@ -54,7 +54,7 @@ impl Connections {
         }
     }
 
-    /// Opens a connection.
+    /// Opens a connection without waiting bytes. Fails only if an allocation is refused.
     pub fn open(&mut self, alloc: Global, number: u64) -> Result<(), NoMemory>
         ensures { OnOk result (self.new ≡ finmap.insert self.old number (record { rest = [] })) }
     {
@@ -71,7 +71,7 @@ impl Connections {
         self.map.contains_key(&number)
     }
 
-    /// Lets other bytes wait at a connection, and answers those that waited; none where it isn't open.
+    /// Replaces the waiting bytes of a connection and returns the old ones; None if it isn't open.
     pub fn replace_rest(&mut self, number: u64, rest: ByteQueue) -> Option<ByteQueue>
         ensures old { result ≡ rest_at (finmap.get self.old number) }
         ensures new { self.new ≡ with_rest self.old number (finmap.get self.old number) rest }
@@ -82,14 +82,14 @@ impl Connections {
         }
     }
 
-    /// Closes a connection.
+    /// Closes a connection and drops its waiting bytes.
     pub fn close(&mut self, number: u64)
         ensures { self.new ≡ finmap.remove self.old number }
     {
         self.map.remove(&number);
     }
 
-    /// Closes the connection with the least number.
+    /// Closes the connection with the least number and returns that number; None if no connection is open.
     pub fn close_first(&mut self) -> Option<u64>
         ensures first { IfSome result (λ n. finmap.keys self.old ≡ n ∷ finmap.keys self.new) }
         ensures closed { IfSome result (λ n. self.new ≡ finmap.remove self.old n) }

@@ -1,4 +1,6 @@
 //! How a connection gets a session.
+//!
+//! Laws of `observer_core` that go over this: `Agreeing`, `Apart`, `Closing`, `Joined`, `Served`, `Taking`, `Unmoved`.
 
 ghost use Rattle.std.specs.Prelude.{◌≡◌, None, IfOk, OnOk};
 ghost use Rattle.std.specs.FinMap as finmap;
@@ -17,14 +19,14 @@ use sessions::{Connected, SessionRequest, SessionResponse};
 use std::alloc::Global;
 use values::{NoMemory, ReadError};
 
-// Whether a client may connect: clients are served, and it has seen nothing that is still to come.
+// A client may connect if clients are served and it hasn't seen a zxid above the last one of this replica.
 fn may_connect(serving: bool, world: &World, request: &ConnectRequest<'_>) -> bool
     ensures { result ≡ may_connect serving world.now request.now }
 {
     serving && !(world.replica.learner().last_zxid() < request.last_zxid_seen)
 }
 
-// Answers a connect; behind a refusal the connection is closed.
+// Sends the ConnectResponse; after a refusal the connection is closed.
 fn send_connect_response(
     alloc: Global,
     number: u64,
@@ -44,7 +46,7 @@ fn send_connect_response(
     send(number, world, Some(frame), outputs)
 }
 
-// Gives a connection that has no session the one that is asked for, if it may have it.
+// Gives the connection the session that the request names, or a new one, if it may have it.
 fn connect(
     alloc: Global,
     number: u64,
@@ -60,7 +62,7 @@ fn connect(
     world.clients.sessions.connect(alloc, number, request)
 }
 
-// Answers a client that may connect.
+// Connects a client that may connect, and closes an older connection of its session first.
 #[tactic(auto, using(crate::proofs::Steps::then_meets, crate::proofs::Steps::first_stops))]
 fn connect_and_answer(
     alloc: Global,
@@ -83,7 +85,9 @@ fn connect_and_answer(
     send_connect_response(alloc, number, has_byte, &connected.response, world, outputs)
 }
 
-/// Gives a connection that has no session the one that its first frame asks for, or closes it.
+/// Serves the first frame of a connection: gives it the session that its ConnectRequest asks for, or closes it.
+///
+/// Fails only if an allocation is refused; then a prefix of the outputs has been appended.
 pub fn handle_connect(
     alloc: Global,
     serving: bool,

@@ -1,4 +1,6 @@
-//! What clients are told of what they watched.
+//! The events that clients are sent for their watches.
+//!
+//! Laws of `observer_core` that go over this: `Apart`.
 
 ghost use Rattle.values.specs.Gains.{Puts};
 ghost use Rattle.client_service.specs.Clients.{notice_to, notices_of, notices_to};
@@ -10,10 +12,9 @@ use std::alloc::Global;
 use values::NoMemory;
 use watch_manager::Event;
 
-// An event's frame names no zxid.
+// An event's frame has -1 in place of a zxid.
 const NO_ZXID: i64 = -1;
 
-// Tells a connection of an event.
 fn notify(
     alloc: Global,
     number: u64,
@@ -29,7 +30,7 @@ fn notify(
     Ok(())
 }
 
-/// Tells each connection of its event.
+/// Sends each connection its event.
 pub fn notify_each(
     alloc: Global,
     events: &[(u64, Event)],
@@ -43,7 +44,7 @@ pub fn notify_each(
     Ok(())
 }
 
-/// Tells one connection of all the events.
+/// Sends one connection all the events, in order.
 pub fn notify_all(
     alloc: Global,
     number: u64,

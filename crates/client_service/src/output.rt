@@ -1,13 +1,13 @@
-//! What goes out.
+//! The outputs that an observer gives.
 
 use values::{Blob, Fault};
 
-/// What goes.
+/// An output.
 #[derive(Debug, Drop, PartialEq, Eq)]
 pub enum Output {
-    /// One packet.
+    /// One whole packet.
     ToLeader(Blob),
-    /// One frame, or a word's answer.
+    /// One whole frame, or the answer to a four-letter word.
     ToClient(u64, Blob),
     CloseLeader(Fault),
     CloseClient(u64),

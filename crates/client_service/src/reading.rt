@@ -1,4 +1,6 @@
 //! Answers to reads, and the watches that they leave.
+//!
+//! Laws of `observer_core` that go over this: `Agreeing`, `Apart`, `Closing`, `Passing`, `Taking`, `Unmoved`.
 
 ghost use Rattle.std.specs.Prelude.{◌≡◌, OnOk, Some};
 ghost use Rattle.read_processor.specs.Renewal.{renew_watches};
@@ -17,7 +19,7 @@ use std::alloc::Global;
 use values::NoMemory;
 use watch_manager::Watches;
 
-// Sets a watch, which may be set already.
+// Sets a watch; it may be set already.
 fn set_watch(
     alloc: Global,
     number: u64,
@@ -32,7 +34,6 @@ fn set_watch(
     }
 }
 
-// Sets a watch, if one is asked for.
 fn set_watch_if(
     alloc: Global,
     number: u64,
@@ -47,7 +48,6 @@ fn set_watch_if(
     }
 }
 
-// Sets watches.
 fn set_watches(
     alloc: Global,
     number: u64,
@@ -62,7 +62,9 @@ fn set_watches(
     Ok(())
 }
 
-/// Answers a read, which leaves its watch.
+/// Answers a read at the present state, and leaves its watch.
+///
+/// Fails only if an allocation is refused; then a prefix of the outputs has been appended.
 pub fn answer_request(
     alloc: Global,
     number: u64,
@@ -82,7 +84,6 @@ pub fn answer_request(
     answer(number, world, xid, seen, outputs)
 }
 
-// Sets watches of a client.
 fn watch_each(
     alloc: Global,
     number: u64,
@@ -95,7 +96,7 @@ fn watch_each(
     set_watches(alloc, number, &mut world.clients.watches, asked)
 }
 
-// Tells a client what it missed, and sets its watches again.
+// Sends the events that the client missed, and sets its watches again.
 #[tactic(auto, using(crate::proofs::Steps::behind_meets, values::proofs::Gaining::gains_first))]
 fn answer_missed(
     alloc: Global,
@@ -114,7 +115,9 @@ fn answer_missed(
     answer_without_body(alloc, number, world, xid, OK, outputs)
 }
 
-/// Answers a client that has come back and names what it watched.
+/// Answers a SetWatches of a client that has reconnected: first the events that it missed, then the reply.
+///
+/// Fails only if an allocation is refused; then a prefix of the outputs has been appended.
 pub fn answer_renewal(
     alloc: Global,
     number: u64,

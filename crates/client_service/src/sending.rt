@@ -1,4 +1,6 @@
-//! What goes to a client.
+//! What is sent to a client.
+//!
+//! Laws of `observer_core` that go over this: `Agreeing`, `Apart`, `Closing`, `Playing`, `Taking`, `Unmoved`.
 
 ghost use Rattle.std.specs.Prelude.{◌≡◌, IfOk};
 ghost use Rattle.read_processor.specs.Look.{without_body};
@@ -12,7 +14,7 @@ use read_processor::Look;
 use std::alloc::Global;
 use values::{Blob, NoMemory};
 
-/// Closes a connection.
+/// Closes a connection; its session stays.
 pub fn close_client(
     number: u64,
     world: &mut World,
@@ -27,7 +29,7 @@ pub fn close_client(
     Ok(())
 }
 
-/// Sends a frame. What is too long for one isn't sent, and closes the connection.
+/// Sends a frame. None is a reply too long for a frame; it closes the connection.
 pub fn send(
     number: u64,
     world: &mut World,
@@ -47,7 +49,7 @@ pub fn send(
     }
 }
 
-/// Sends a frame, and closes the connection.
+/// Sends a frame and closes the connection.
 #[tactic(auto, using(crate::proofs::Steps::then_meets, crate::proofs::Steps::first_stops))]
 pub fn send_last(
     number: u64,
@@ -63,7 +65,7 @@ pub fn send_last(
     close_client(number, world, outputs)
 }
 
-/// Sends what is shown, with the zxid of the tree that shows it.
+/// Sends a reply with the zxid of the tree that it shows.
 pub fn answer(
     number: u64,
     world: &mut World,
@@ -79,7 +81,7 @@ pub fn answer(
     send(number, world, frame, outputs)
 }
 
-/// Sends an error's number, or 0, without a body.
+/// Sends a reply without a body. `error` is ZooKeeper's error code, 0 for success.
 pub fn answer_without_body(
     alloc: Global,
     number: u64,
@@ -96,7 +98,7 @@ pub fn answer_without_body(
     answer(number, world, xid, seen, outputs)
 }
 
-/// Sends an error's number, or 0, without a body, and closes the connection.
+/// Sends a reply without a body and closes the connection. `error` is ZooKeeper's error code, 0 for success.
 pub fn answer_without_body_last(
     alloc: Global,
     number: u64,

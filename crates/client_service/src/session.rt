@@ -1,4 +1,7 @@
-//! Who is behind a connection, and how a session ends.
+//! The ids and the session of a connection, and how a session ends.
+//!
+//! Laws of `observer_core` that go over this: `Agreeing`, `Apart`, `Closing`, `Joined`, `Logs`, `Served`, `Taking`,
+//! `Unmoved`, `WholeImages`.
 
 ghost use Rattle.std.specs.Prelude.{◌≡◌};
 ghost use Rattle.client_service.specs.Serve.{with_sessions, show_id, end_session, close_client_if_some, expire_session};
@@ -14,10 +17,10 @@ use read_processor::Look;
 use std::alloc::Global;
 use values::{Bytes, NoMemory, Str};
 
-// The answer to an auth names no zxid.
+// The reply to an auth packet has 0 in place of a zxid.
 const NO_ZXID: i64 = 0;
 
-/// Shows an id, or closes the connection where it is refused.
+/// Adds an id to a connection, or closes the connection if the id is refused.
 pub fn show_id(
     alloc: Global,
     number: u64,
@@ -41,7 +44,7 @@ pub fn show_id(
     }
 }
 
-/// Ends the session of a connection, which is still to be closed.
+/// Ends the session of a connection and leaves the connection open; the caller closes it.
 pub fn end_session(number: u64, world: &mut World)
     ensures { world.new ≡ end_session number world.old }
 {
@@ -53,7 +56,7 @@ pub fn end_session(number: u64, world: &mut World)
     }
 }
 
-/// Closes a connection that has lost its session, if there is one.
+/// Closes a connection that has lost its session; does nothing for None.
 pub fn close_client_if_some(
     left: Option<u64>,
     world: &mut World,
@@ -69,7 +72,7 @@ pub fn close_client_if_some(
     }
 }
 
-// Ends a session, and answers its connection, which is still to be closed.
+// Ends a session and returns its connection, which the caller closes.
 fn expire(session: &i64, world: &mut World) -> Option<u64>
     ensures left { result ≡ (expire_guest world.old.clients.sessions session.now).closed }
     ensures ended { let ended = expire_guest world.old.clients.sessions session.now in
@@ -78,7 +81,7 @@ fn expire(session: &i64, world: &mut World) -> Option<u64>
     world.clients.sessions.expire(*session)
 }
 
-/// Ends a session, and closes its connection. Any other id is passed over.
+/// Ends a session and closes its connection. An id that isn't a session's is ignored.
 pub fn expire_session(
     session: &i64,
     world: &mut World,

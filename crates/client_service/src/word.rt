@@ -1,4 +1,6 @@
-//! Four-letter words, which a client says before it has a session.
+//! Four-letter words: a client may send one before it has a session.
+//!
+//! Laws of `observer_core` that go over this: `Agreeing`, `Apart`, `Playing`, `Served`, `Unmoved`, `Words`.
 
 ghost use Rattle.std.specs.Prelude.{◌≡◌, ◌<◌, IfOk, IfSome, IfNone, true, map, take, length};
 ghost use Rattle.four_letter.specs.Words.{needs_watches};
@@ -16,7 +18,6 @@ use std::alloc::Global;
 use values::{Blob, Listed, NoMemory};
 use watch_manager::Watched;
 
-// The first four bytes, if there are so many.
 fn first_four(bytes: &[u8]) -> Option<[u8; 4]>
     ensures some { IfSome result (λ four. four ≡ take 4 bytes.now) }
     ensures none { IfNone result (length bytes.now < 4) }
@@ -27,7 +28,7 @@ fn first_four(bytes: &[u8]) -> Option<[u8; 4]>
     }
 }
 
-/// The word of a connection's first four bytes. Who has a session says none.
+/// The four-letter word in a connection's first four bytes; None if they are none, or if the connection has a session.
 pub fn word_at(number: u64, world: &World, bytes: &[u8]) -> Option<Word>
     ensures { result ≡ word_at number world.now bytes.now }
 {
@@ -43,7 +44,7 @@ pub fn word_at(number: u64, world: &World, bytes: &[u8]) -> Option<Word>
     }
 }
 
-// A watch with the session of its connection, which each that watches has.
+// A watch with the session of its connection. Every connection that watches has a session.
 fn row_of<'a>(sessions: &Sessions, watched: Watched<'a>) -> WatchRow<'a>
     ensures { result ≡ watch_row_of sessions.now watched.entry }
 {
@@ -56,7 +57,6 @@ fn row_of<'a>(sessions: &Sessions, watched: Watched<'a>) -> WatchRow<'a>
     }
 }
 
-// All watches, each with its session.
 fn watch_rows(alloc: Global, clients: &Clients) -> Result<Vec<WatchRow<'_>>, NoMemory>
     ensures { IfOk result (λ rows. rows.items ≡ watch_rows clients.now) }
 {
@@ -68,7 +68,7 @@ fn watch_rows(alloc: Global, clients: &Clients) -> Result<Vec<WatchRow<'_>>, NoM
     Ok(rows)
 }
 
-// The watches, where the word's answer tells of them.
+// The watches if the word's answer needs them, otherwise none.
 fn rows_for(alloc: Global, word: Word, clients: &Clients) -> Result<Vec<WatchRow<'_>>, NoMemory>
     ensures { IfOk result (λ rows. needs_watches word ≡ true → rows.items ≡ watch_rows clients.now) }
 {
@@ -78,7 +78,7 @@ fn rows_for(alloc: Global, word: Word, clients: &Clients) -> Result<Vec<WatchRow
     watch_rows(alloc, clients)
 }
 
-// What words tell of, with these watches.
+// The figures that the answers to words are made of, with these watches.
 fn figures_with<'a>(serving: bool, world: &World, watches: Vec<WatchRow<'a>>) -> Figures<'a>
     ensures { result ≡ figures_with serving world.now watches.entry.items }
 {
@@ -93,7 +93,6 @@ fn figures_with<'a>(serving: bool, world: &World, watches: Vec<WatchRow<'a>>) ->
     }
 }
 
-// What a word is answered.
 fn answer_of(alloc: Global, serving: bool, world: &World, word: Word) -> Result<Blob, NoMemory>
     ensures { IfOk result (λ bytes. bytes ≡ reply_text word (figures_of serving world.now)) }
 {
@@ -104,7 +103,9 @@ fn answer_of(alloc: Global, serving: bool, world: &World, word: Word) -> Result<
     Ok(Blob::from_vec(bytes))
 }
 
-/// Answers a word, and closes the connection.
+/// Answers a four-letter word and closes the connection.
+///
+/// Fails only if an allocation is refused; then a prefix of the outputs has been appended.
 pub fn tell_word(
     alloc: Global,
     serving: bool,

@@ -1,11 +1,11 @@
-//! All that is known but the leader's bytes, as it is held.
+//! Everything but the state of the leader's stream, as Rust holds it.
 
 use crate::clients::Clients;
 use replica::Replica;
 use settings::{Epochs, Secret, ServerId, TimeoutBounds};
 use std::marker::Model;
 
-/// The settings of an observer: all of its set-up that shows in what it answers.
+/// The settings of an observer: the part of its configuration that its answers depend on.
 #[derive(Debug, Drop)]
 pub struct Settings {
     pub server_id: ServerId,
@@ -14,11 +14,11 @@ pub struct Settings {
     pub secret: Secret,
 }
 
-/// All but the leader's bytes.
+/// Everything but the state of the leader's stream.
 #[derive(Drop)]
 pub struct World {
     pub settings: Settings,
-    /// What a read shows, and how far the leader was followed.
+    /// The tree that reads show, and how far the leader was followed.
     pub replica: Replica,
     pub clients: Clients,
 }

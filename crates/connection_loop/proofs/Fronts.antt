@@ -1,4 +1,4 @@
--- What is left of a client's bytes after its first frames.
+-- The rest of a client's bytes after its first frames.
 use Rattle.std.proofs.Common.{◌≡◌, ℕ, suc, ◌+◌, ◌-◌, ◌<◌, List, Ok, Err, ap, sym, ◌∙◌, refl, length, arith}
 use Rattle.values.specs.declared.fault.Fault.{Fault}
 use Rattle.values.specs.declared.fault.Fault.TheVariants.{Short}
@@ -8,7 +8,7 @@ use Rattle.jute.proofs.Public.{refused_other}
 use Rattle.client_service.specs.Serve.{frames_of_client, client_frame_limit}
 use Rattle.connection_loop.specs.Frames.{bytes_read, whole_frames_length}
 
--- what is left after so many frames
+-- The rest after this many frames.
 abbrev pub left_of : ℕ → List ℕ → Unread
 left_of n bytes = (items_within frames_of_client n tt bytes).left.unread
 
@@ -41,26 +41,26 @@ left_refused n bytes e other h =
 one_more : (most k : ℕ) → k < most → most - k ≡ suc (most - (k + 1))
 one_more most k h = omega arith
 
--- a whole frame moves the place on
+-- A whole frame moves the place on.
 pub left_on : (most k : ℕ) (bytes rest f : List ℕ) → k < most
     → (frame_format client_frame_limit).read bytes ≡ Ok (f, rest)
     → left_of (most - (k + 1)) rest ≡ left_of (most - k) bytes
 left_on most k bytes rest f h e =
     sym (ap (λ n. left_of n bytes) (one_more most k h) ∙ left_whole (most - (k + 1)) bytes rest f e)
 
--- too few bytes stay
+-- Too few bytes stay.
 pub left_waits : (most k : ℕ) (bytes : List ℕ) → k < most → (frame_format client_frame_limit).read bytes ≡ Err Short
     → left_of (most - k) bytes ≡ Ok bytes
 left_waits most k bytes h e =
     ap (λ n. left_of n bytes) (one_more most k h) ∙ left_short (most - (k + 1)) bytes e
 
--- a length out of its bounds ends the stream
+-- A length out of bounds ends the stream.
 pub left_ends : (most k : ℕ) (bytes : List ℕ) (e : Fault) → (e ≡ Short → ⊥) → k < most
     → (frame_format client_frame_limit).read bytes ≡ Err e → left_of (most - k) bytes ≡ Err e
 left_ends most k bytes e other h he =
     ap (λ n. left_of n bytes) (one_more most k h) ∙ left_refused (most - (k + 1)) bytes e other he
 
--- after the last frame nothing more is read
+-- After the last frame nothing more is read.
 pub left_all : (most k : ℕ) (bytes : List ℕ) → most - k ≡ 0 → left_of (most - k) bytes ≡ Ok bytes
 left_all most k bytes e = ap (λ n. left_of n bytes) e ∙ left_none bytes
 

@@ -1,19 +1,19 @@
-//! What wakes a session's thread.
+//! The bell of a session's thread.
 
 use mio::Waker;
 use std::sync::atomic::{AtomicBool, AtomicU64, Ordering};
 
-// Nobody waits and nobody has rung.
+// The thread doesn't wait, and the bell wasn't rung.
 const EMPTY: u64 = 0;
 
-// It was rung, and the thread has not seen it yet.
+// The bell was rung, and the thread hasn't seen it yet.
 const RUNG: u64 = 1;
 
 // The thread waits.
 const WAITING: u64 = 2;
 
-/// A bell at a thread that waits in a `Poll`. It keeps one ring, so that none is lost between a look and a wait, and
-/// it costs a system call only where the thread waits.
+/// A bell for a thread that waits in a `Poll`. It keeps one ring, so none is lost between a look and a wait. A ring
+/// makes a system call only if the thread waits.
 #[derive(Drop)]
 pub struct Bell {
     state: AtomicU64,
@@ -32,15 +32,15 @@ impl Bell {
         }
     }
 
-    /// Wakes the thread, or keeps it from its next wait.
+    /// Wakes the thread, or ends its next wait at once.
     pub fn ring(&self) {
         if self.state.swap(RUNG, Ordering::SeqCst) == WAITING {
-            // A waker that fails leaves the thread its longest wait.
+            // If the waker fails, the thread wakes after its longest wait.
             let _ = self.waker.wake();
         }
     }
 
-    /// Whether the thread may wait: nobody has rung since its last wait.
+    /// Begins a wait. Returns false if the bell was rung since the last wait; then the thread mustn't wait.
     pub fn begin_wait(&self) -> bool {
         let state = &self.state;
         state
@@ -48,18 +48,18 @@ impl Bell {
             .is_ok()
     }
 
-    /// Ends a wait, and forgets the ring that ended it.
+    /// Ends a wait, and clears the ring that ended it.
     pub fn end_wait(&self) {
         self.state.store(EMPTY, Ordering::SeqCst);
     }
 
-    /// The session is to end: its reader is at its end from now on.
+    /// Has the session end: its reader is at the end of the stream from now on.
     pub fn stop(&self) {
         self.stopped.store(true, Ordering::SeqCst);
         self.ring();
     }
 
-    /// The session is to end, and nobody takes what it sends.
+    /// Has the session end while no thread takes what it sends.
     pub fn abandon(&self) {
         self.abandoned.store(true, Ordering::SeqCst);
         self.stop();

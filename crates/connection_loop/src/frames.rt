@@ -1,4 +1,4 @@
-//! Where the frames of a client end.
+//! The ends of a client's frames.
 
 ghost use Rattle.std.specs.Prelude.{◌≡◌};
 ghost use Rattle.connection_loop.specs.Frames.{whole_frames_length};
@@ -7,8 +7,8 @@ use jute::{Reader, read_frame};
 use observer_core::CLIENT_FRAME_LIMIT;
 use values::Fault;
 
-/// The length of the longest front of the bytes that is at most so many whole frames. Where a length out of its bounds
-/// follows them it is all bytes: that length ends the connection, whatever comes after it.
+/// The length in bytes of the longest prefix that is at most `most` whole frames. If a length out of bounds follows
+/// them, the result is the length of all bytes: the connection ends there, whatever follows.
 pub fn whole_frames(bytes: &[u8], most: usize) -> usize
     ensures { result ≡ whole_frames_length most bytes.now }
 {

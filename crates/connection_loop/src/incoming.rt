@@ -1,4 +1,4 @@
-//! What a connection brings, until it is sent on.
+//! The bytes of a connection, until they are sent on.
 
 ghost use Rattle.std.specs.Prelude.{◌≡◌, ◌≢◌, ◌+◌, IfSome, IsTrue};
 ghost use Rattle.connection_loop.specs.Frames.{whole_frames_length};
@@ -9,44 +9,44 @@ use std::io;
 use std::io::Read;
 use values::{Blob, NoMemory};
 
-/// How many bytes are read at once at most, and wait to be sent on.
+/// The most bytes that are read at once and wait to be sent on.
 pub const READ_LEN: usize = 16_384;
 
-/// The most whole frames that are sent on at once. So a client has no more than so many answers in one turn of the
-/// hub, however much it sends.
+/// The most whole frames that are sent on at once. So a client gets at most this many answers in one turn of the hub,
+/// however much it sends.
 pub const FRAMES_AT_ONCE: usize = 16;
 
-/// How what a connection brings is cut into messages.
+/// How a connection's bytes are cut into messages.
 #[derive(Clone, Copy, Debug, PartialEq, Eq)]
 pub enum Cutting {
-    /// A client's: whole frames, and those of one message at a time.
+    /// A client's: whole frames, and one message at a time.
     Frames,
-    /// The leader's: whatever came.
+    /// The leader's: whatever was read.
     Reads,
 }
 
-/// A front of what came, to be sent on as one message.
+/// A prefix of the waiting bytes, to be sent on as one message.
 #[derive(Clone, Copy, Debug, PartialEq, Eq)]
 pub struct Piece {
     pub len: usize,
     /// Whether a frame ends in it.
     pub ends_frame: bool,
-    // How much of its last frame comes after it, where that is longer than the buffer.
+    // The number of bytes of its last frame that come after it, if that frame is longer than the buffer.
     missing: usize,
 }
 
-/// What a connection brought and is not sent on yet.
+/// The bytes of a connection that weren't sent on yet.
 #[derive(Drop)]
 pub struct Incoming {
     cutting: Cutting,
     buffer: Vec<u8>,
     start: usize,
     end: usize,
-    // How much of a frame that is longer than the buffer is still to come.
+    // The number of bytes still to come of a frame that is longer than the buffer.
     missing: usize,
 }
 
-// How long the frame is that the bytes begin, with its length in front.
+// The length of the frame that the bytes begin with, its length prefix included.
 fn frame_len(bytes: &[u8]) -> usize {
     match bytes.first_chunk::<4>() {
         Some(length) => (u32::from_be_bytes(*length) as usize).saturating_add(4),
@@ -54,7 +54,7 @@ fn frame_len(bytes: &[u8]) -> usize {
     }
 }
 
-// The next piece of a client's bytes, of which the first ones may be missing at a frame that was sent on in part.
+// The next piece of a client's bytes. The first `missing` bytes belong to a frame that was sent on in part.
 fn next_frames(waiting: &[u8], missing: usize) -> Option<Piece>
     ensures frames { missing ≡ 0
         → IfSome result (λ p. IsTrue p.ends_frame → p.len ≡ whole_frames_length 16 waiting.now) }
@@ -87,7 +87,7 @@ fn next_frames(waiting: &[u8], missing: usize) -> Option<Piece>
 }
 
 impl Incoming {
-    /// Nothing came yet. The buffer is made for the first read.
+    /// No bytes yet. The buffer is allocated for the first read.
     pub fn new(alloc: Global, cutting: Cutting) -> Incoming {
         Incoming {
             cutting,
@@ -98,7 +98,7 @@ impl Incoming {
         }
     }
 
-    /// What is not sent on yet.
+    /// The bytes that weren't sent on yet.
     pub fn waiting(&self) -> &[u8] {
         self.buffer.get(self.start..self.end).unwrap_or(&[])
     }
@@ -108,7 +108,7 @@ impl Incoming {
         self.waiting().len() >= READ_LEN
     }
 
-    // Moves what waits to the buffer's start.
+    // Moves the waiting bytes to the buffer's start.
     fn make_room(&mut self) {
         let len = self.waiting().len();
         if self.start > 0 && self.start <= self.end && self.end <= self.buffer.len() {
@@ -118,7 +118,7 @@ impl Incoming {
         self.end = len;
     }
 
-    /// Reads what there is room for, and answers how much that was.
+    /// Reads as much as there is room for, and returns the number of bytes.
     pub fn read_from<R: Read>(&mut self, reader: &mut R) -> io::Result<usize> {
         self.make_room();
         self.buffer.resize(READ_LEN, 0)?;
@@ -130,7 +130,7 @@ impl Incoming {
         Ok(count)
     }
 
-    /// What is to be sent on next. A client's frame waits until it is whole, or fills the buffer.
+    /// The next piece to send on. A client's frame waits until it is complete, or fills the buffer.
     pub fn next(&self) -> Option<Piece> {
         let waiting = self.waiting();
         if waiting.is_empty() {
@@ -142,7 +142,7 @@ impl Incoming {
         }
     }
 
-    /// All that waits, for a connection that brings no more.
+    /// All waiting bytes, for a connection that brings no more.
     pub fn last(&self) -> Option<Piece> {
         let len = self.waiting().len();
         if len == 0 {
@@ -155,7 +155,7 @@ impl Incoming {
         })
     }
 
-    /// Takes the piece off the front.
+    /// Takes the piece off the front. Fails only if an allocation is refused.
     pub fn take(&mut self, alloc: Global, piece: Piece) -> Result<Blob, NoMemory> {
         let bytes = self.waiting().get(..piece.len).unwrap_or(&[]);
         let blob = Blob::new(alloc, bytes)?;

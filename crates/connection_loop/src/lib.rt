@@ -1,13 +1,14 @@
-//! What the thread of a connection does: it reads what the peer sends, hands it to the hub by its port, and writes what
-//! the hub puts out.
+//! The thread of a connection: it reads what the peer sends, passes it to the hub through its port, and writes the
+//! hub's outputs.
 //!
-//! [`session_loop`] serves a client and [`leader_loop`] follows the leader, over any reader and writer. Over a socket the
-//! reader waits ([`split`]): until the socket can be read or written, or the hub rings the [`Bell`]. So a thread makes
-//! system calls only where there is something to do, and looks once in ten seconds where there isn't.
+//! [`session_loop`] serves a client and [`leader_loop`] follows the leader, over any reader and writer. The reader of a
+//! socket waits ([`split`]) until the socket can be read or written, or the hub rings the [`Bell`]. So a thread makes
+//! system calls only if there is something to do, and once in ten seconds otherwise.
 //!
-//! A session hands on at most 16 whole frames at once, and the next ones when the hub has taken these and what came back
-//! is written: a client that sends much, or doesn't read, stops itself alone. Which bytes are whole frames is proved
-//! ([`whole_frames`]); of the rest, that it is safe. What happens where a read or a write fails, tests show.
+//! A session sends on at most 16 whole frames at once, and the next ones when the hub has taken these and the answers
+//! are written: a client that sends much, or doesn't read, blocks only itself. It is proved which bytes are whole
+//! frames ([`whole_frames`]), and that the rest of the code is safe. Tests show what happens if a read or a write
+//! fails.
 #![tactic(auto)]
 
 mod bell;

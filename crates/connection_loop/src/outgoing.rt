@@ -1,4 +1,4 @@
-//! What a connection is sent, until it is written.
+//! The bytes to send to a connection, until they are written.
 
 use intake::Port;
 use observer_core::Output;
@@ -7,10 +7,10 @@ use std::io;
 use std::io::Write;
 use values::{Fault, NoMemory};
 
-/// No more outputs are gathered once so many bytes are.
+/// No more outputs are gathered once this many bytes are.
 const ENOUGH: usize = 65_536;
 
-/// A buffer that is longer is given up when all of it is written.
+/// A longer buffer is freed when all of it is written.
 const KEPT: usize = 4096;
 
 /// Outputs that are gathered in one buffer, and written from there.
@@ -18,7 +18,7 @@ const KEPT: usize = 4096;
 pub struct Outgoing {
     alloc: Global,
     bytes: Vec<u8>,
-    // How much of it is written.
+    // The number of bytes written.
     at: usize,
     closing: bool,
     fault: Option<Fault>,
@@ -35,7 +35,7 @@ impl Outgoing {
         }
     }
 
-    /// Whether all that was gathered is written.
+    /// Whether everything gathered is written.
     pub fn is_written(&self) -> bool {
         self.at >= self.bytes.len()
     }
@@ -50,7 +50,7 @@ impl Outgoing {
         self.fault
     }
 
-    // Makes room for what is gathered next.
+    // Empties the buffer for the next outputs.
     fn clear(&mut self) {
         if self.bytes.capacity() > KEPT {
             self.bytes = Vec::new(self.alloc);
@@ -74,8 +74,8 @@ impl Outgoing {
         Ok(())
     }
 
-    /// Gathers the port's outputs while they are few, up to one that closes the connection. Answers
-    /// whether there was one.
+    /// Gathers the port's outputs while they are few, up to one that closes the connection. Returns whether there was
+    /// an output. Fails only if an allocation is refused.
     pub fn gather(&mut self, port: &mut Port) -> Result<bool, NoMemory> {
         self.clear();
         let mut found = false;
@@ -92,7 +92,7 @@ impl Outgoing {
         Ok(found)
     }
 
-    /// Writes what is left, as far as the writer takes it.
+    /// Writes the rest, as far as the writer takes it, and returns the number of bytes.
     pub fn write_to<W: Write>(&mut self, writer: &mut W) -> io::Result<usize> {
         let rest = self.bytes.get(self.at..).unwrap_or(&[]);
         let count = writer.write(rest)?;

@@ -1,4 +1,4 @@
-//! What the thread of a connection does.
+//! The loop of a connection's thread.
 
 use crate::incoming::{Cutting, Incoming};
 use crate::outgoing::Outgoing;
@@ -11,17 +11,17 @@ use std::time::{Clock, Duration};
 use std::{io, thread};
 use values::{Fault, NoMemory};
 
-/// How a connection of the leader ended.
+/// How the leader's connection ended.
 #[derive(Drop)]
 pub struct LeaderGone {
     pub end: PortEnd,
-    /// For which fault the engine closed it, if it did.
+    /// The fault for which the engine closed it, if it did.
     pub fault: Option<Fault>,
-    /// Whether it ended because memory was refused.
+    /// Whether it ended because an allocation was refused.
     pub wants_memory: bool,
 }
 
-// How a step of a session went.
+// The result of a step of a session.
 #[derive(Clone, Copy, PartialEq, Eq)]
 enum Step {
     /// There was something to do.
@@ -35,26 +35,26 @@ enum Step {
 // How long a session waits for the answers to what came before the end of its stream, in milliseconds.
 const LAST_WAIT: u64 = 2 * LONGEST_REST;
 
-// A thread whose reader doesn't wait only yields so often, and then sleeps for a millisecond at a time.
+// A thread whose reader doesn't wait yields this often, and then sleeps for a millisecond at a time.
 const YIELDS: u64 = 20;
 
-// A connection between its streams and its port.
+// A connection with its streams and its port.
 #[derive(Drop)]
 struct Session {
     alloc: Global,
     port: Port,
     incoming: Incoming,
     outgoing: Outgoing,
-    // A message that found no room.
+    // A message for which there was no room.
     held: Option<Message>,
-    // Frames were sent on, and no others are before these are taken.
+    // Frames were sent on, and no others are sent before these are taken.
     untaken: bool,
-    // Frames were sent on, and nothing has come back since.
+    // Frames were sent on, and no answer has come since.
     unanswered: bool,
     // The stream brings no more.
     ended: bool,
     wants_memory: bool,
-    // For how many milliseconds, about, it has rested since there was something to do.
+    // For how many milliseconds, about, there was nothing to do.
     rested: u64,
 }
 
@@ -82,20 +82,20 @@ impl Session {
         }
     }
 
-    // Without memory the connection can't go on.
+    // After a refused allocation the connection can't go on.
     fn want_memory(&mut self) -> Step {
         self.wants_memory = true;
         Step::Over
     }
 
-    // Sends a message, or holds it where there is no room.
+    // Sends a message, or holds it if there is no room.
     fn send(&mut self, message: Message) {
         if let Err(Full(message)) = self.port.send(message) {
             self.held = Some(message);
         }
     }
 
-    // Sends the message that is held. Answers whether none is left.
+    // Sends the message that is held. Returns whether none is left.
     fn send_held(&mut self) -> bool {
         if let Some(message) = self.held.take() {
             self.send(message);
@@ -103,7 +103,7 @@ impl Session {
         self.held.is_none()
     }
 
-    // Gathers outputs, and writes what the stream takes.
+    // Gathers outputs, and writes as much as the stream takes.
     fn write<W: Write>(&mut self, writer: &mut W) -> Step {
         if self.outgoing.is_written() {
             match self.outgoing.gather(&mut self.port) {
@@ -130,7 +130,7 @@ impl Session {
         }
     }
 
-    // Sends on the next piece of what came.
+    // Sends on the next piece of the waiting bytes.
     fn send_next(&mut self) -> Step {
         if self.untaken && !self.port.is_drained() {
             return Step::Idle;
@@ -154,7 +154,7 @@ impl Session {
         Step::Done
     }
 
-    // Waits until there may be something to do, as far as the reader waits.
+    // Waits until there may be something to do, if the reader waits.
     fn rest<T: Clock, R: Read>(&mut self, rt: &T, reader: &mut R) -> io::Result<()> {
         match reader.read(&mut []) {
             Ok(_) => {
@@ -174,7 +174,7 @@ impl Session {
         }
     }
 
-    // Reads, or rests where there is no room or nothing more comes.
+    // Reads, or rests if there is no room or the stream has ended.
     fn read<T: Clock, R: Read>(&mut self, rt: &T, reader: &mut R) -> Step {
         if self.ended {
             let waits = self.untaken || (self.unanswered && self.rested < LAST_WAIT);
@@ -205,7 +205,7 @@ impl Session {
         }
     }
 
-    // One step: what is to be written comes first, then what is to be sent on, then what is to be read.
+    // One step: writing comes first, then sending on, then reading.
     fn step<T: Clock, R: Read, W: Write>(
         &mut self,
         rt: &T,
@@ -216,7 +216,7 @@ impl Session {
         if written != Step::Idle {
             return written;
         }
-        // Nothing is sent on or read while something is held, or is left to be written.
+        // Nothing is sent on or read while a message is held, or bytes are left to write.
         if !self.send_held() || !self.outgoing.is_written() {
             return match self.rest(rt, reader) {
                 Ok(()) => Step::Idle,
@@ -230,7 +230,7 @@ impl Session {
         self.read(rt, reader)
     }
 
-    // Goes on until the connection ends.
+    // Makes steps until the connection ends.
     fn run<T: Wait + Clock, R: Read, W: Write>(&mut self, rt: &T, reader: &mut R, writer: &mut W) {
         self.send(Message::Up);
         for _ in rt.forever() {
@@ -242,7 +242,7 @@ impl Session {
         }
     }
 
-    // Takes what is put out for a connection that has ended, and drops it.
+    // Takes the outputs for a connection that has ended, and drops them.
     fn drop_outputs(&mut self) {
         for _ in 0..u64::MAX {
             if self.port.receive().is_none() {
@@ -251,8 +251,8 @@ impl Session {
         }
     }
 
-    // Sends the end, and waits until it is taken. For as long the outputs are taken too: while many of a port's are
-    // kept, nothing is taken of it.
+    // Sends the `End`, and waits until it is taken. Meanwhile it takes outputs, too: while many outputs are kept for a
+    // port, none of its messages is taken.
     fn end<T: Wait + Clock, R: Read>(&mut self, rt: &T, reader: &mut R) {
         let mut end = Some(Message::End);
         for _ in rt.forever() {
@@ -266,7 +266,7 @@ impl Session {
                 }
             }
             if let Err(error) = self.rest(rt, reader) {
-                // Nobody is left who would take it.
+                // No thread is left that would take it.
                 if error.kind() == ErrorKind::ConnectionAborted {
                     return;
                 }
@@ -300,8 +300,8 @@ impl Session {
     }
 }
 
-// Hands on what the reader brings and writes what comes back, until the connection ends. The writer is dropped before
-// the end is sent.
+// Passes on what the reader brings and writes the answers, until the connection ends. The writer is dropped before the
+// `End` is sent.
 fn converse<T: Wait + Clock, R: Read + Drop, W: Write + Drop>(
     rt: &T,
     alloc: Global,
@@ -320,13 +320,13 @@ fn converse<T: Wait + Clock, R: Read + Drop, W: Write + Drop>(
 
 /// Serves a client, from its connection's first byte to its end.
 ///
-/// It sends Up, and then what the reader brings: at most 16 whole frames at once, and the next ones when these are
-/// taken and what came back is written. It ends where a read or a write fails, where the reader is at its end, and
-/// where the engine closes the connection; then it writes nothing more, sends End, and finishes its port when that is
-/// taken. No message is dropped: one that finds the port full is sent again.
+/// It sends `Up`, and then what the reader brings: at most 16 whole frames at once, and the next ones when these are
+/// taken and the answers are written. It ends if a read or a write fails, if the reader is at its end, or if the engine
+/// closes the connection; then it writes nothing more, sends `End`, and finishes its port when that is taken. No
+/// message is dropped: one that finds the port full is sent again.
 ///
-/// A reader that would block says so, after a wait for whatever may change that: bytes, room to write, or the hub's
-/// bell. It is asked to wait alone by a `read` into no room.
+/// A reader that would block returns `WouldBlock`, after a wait for whatever may change that: bytes, room to write, or
+/// the hub's bell. A `read` into an empty buffer asks it only to wait.
 pub fn session_loop<T: Wait + Clock, R: Read + Drop, W: Write + Drop>(
     rt: &T,
     alloc: Global,
@@ -342,7 +342,7 @@ pub fn session_loop<T: Wait + Clock, R: Read + Drop, W: Write + Drop>(
     end
 }
 
-/// Follows the leader: as `session_loop`, but sends on whatever a read brings.
+/// Follows the leader: like `session_loop`, but sends on whatever a read brings.
 pub fn leader_loop<T: Wait + Clock, R: Read + Drop, W: Write + Drop>(
     rt: &T,
     alloc: Global,

@@ -1,4 +1,4 @@
-//! A socket whose reader waits.
+//! A socket with a reader that waits.
 
 ghost use Rattle.std.specs.Io.{ReadsAtMost};
 
@@ -16,26 +16,26 @@ const SOCKET: usize = 0;
 
 const BELL: usize = 1;
 
-/// The longest wait for bytes, in milliseconds. A wake that is lost costs no more than this, and a thread with nothing to
-/// do looks so seldom.
+/// The longest wait for bytes, in milliseconds. A wake that is lost costs no more than this, and an idle thread wakes
+/// no more often.
 const LONGEST_WAIT: u64 = 10_000;
 
-/// The longest wait with no room to read into, in milliseconds.
+/// The longest wait without room to read into, in milliseconds.
 pub const LONGEST_REST: u64 = 1000;
 
-/// The reader of a socket. Where nothing can be read, `read` waits until the socket can be read or written, or the bell
-/// is rung, and then answers `WouldBlock` if there is still nothing. With no room to read into, it only waits.
+/// The reader of a socket. If nothing can be read, `read` waits until the socket can be read or written or the bell is
+/// rung, and then returns `WouldBlock` if there is still nothing. With an empty buffer it only waits.
 ///
-/// Once the bell says so, it answers 0, the end of the stream; and with no room, where nobody takes any more what the
-/// session sends, `ConnectionAborted`.
+/// Once the bell says that the session is to end, it returns 0, the end of the stream; with an empty buffer, if no
+/// thread takes what the session sends any more, `ConnectionAborted`.
 pub struct Waiting {
     stream: Arc<TcpStream, Global>,
     poll: Poll,
     events: Events,
     bell: Arc<Bell, Global>,
-    // A read may give something.
+    // A read may return something.
     ready: bool,
-    // The peer has closed, so a short read is not the last one.
+    // The peer has closed its side, so a short read isn't the last one.
     ended: bool,
 }
 
@@ -71,7 +71,7 @@ impl Drop for Writing {
     }
 }
 
-/// The two sides of a socket, and the bell at its reader.
+/// The two sides of a socket, and the bell of its reader.
 #[derive(Drop)]
 pub struct Sides {
     pub reader: Waiting,
@@ -79,7 +79,7 @@ pub struct Sides {
     pub bell: Arc<Bell, Global>,
 }
 
-/// Takes a socket apart into its sides.
+/// Splits a socket into its sides.
 pub fn split(net: &impl Net, alloc: Global, stream: TcpStream) -> io::Result<Sides> {
     let mut stream = stream;
     let poll = Poll::new(net)?;
@@ -110,7 +110,7 @@ pub fn split(net: &impl Net, alloc: Global, stream: TcpStream) -> io::Result<Sid
 }
 
 impl Waiting {
-    // Waits for at most so many milliseconds; not at all where the bell was rung.
+    // Waits up to `longest` milliseconds, and not at all if the bell was rung.
     fn wait(&mut self, longest: u64) -> io::Result<()> {
         let most = if self.bell.begin_wait() { longest } else { 0 };
         let polled = self
@@ -129,7 +129,7 @@ impl Waiting {
         Ok(())
     }
 
-    // Waits where there is no room to read into, and answers why nothing is read.
+    // Waits without room to read into, and returns the reason why nothing is read.
     fn rest(&mut self) -> io::Error {
         if let Err(error) = self.wait(LONGEST_REST) {
             return error;
@@ -185,7 +185,7 @@ impl Write for Writing {
         match (&*self.stream).write(buf) {
             Ok(count) => Ok(count),
             Err(error) => {
-                // A peer that doesn't read isn't waited for at the end.
+                // At the end the writer doesn't wait for a peer that doesn't read.
                 if error.kind() == ErrorKind::WouldBlock && self.bell.is_stopped() {
                     return Err(io::Error::from(ErrorKind::BrokenPipe));
                 }

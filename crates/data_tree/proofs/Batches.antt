@@ -19,7 +19,7 @@ outside : (ps qs : List Bytes) → ((q : Bytes) → has_path ps q ≡ true → h
 outside ps qs sub q out true e = absurd (true≢false (sym (sub q e) ∙ out))
 outside ps qs sub q out false e = e
 
--- an operation of another group leaves the cells of the group k
+-- An operation of another group leaves the cells of group k.
 others_leave : (paths : ℕ → List Bytes) → AreDisjoint paths → (t : GroupedTxn) → KeepsToCells t.1
     → ((p : Bytes) → has_path (footprint t.1) p ≡ true → has_path (paths t.0) p ≡ true)
     → (k : ℕ) → t.0 ≢ k → (s : State) (p : Bytes) → has_path (paths k) p ≡ true
@@ -29,13 +29,13 @@ others_leave paths disjoint t cells keeps k other s p at =
     (transactions_keep_to_their_footprints t.1 cells).state.frame s p
     (outside (footprint t.1) (paths t.0) keeps p apart _ refl)
 
--- what a transaction leaves in its cells doesn't hang on whether its timeout is set there
+-- A transaction leaves the same in its cells whether or not its timeout is set there.
 same_in_cells : (paths : List Bytes) (t : Txn) (cells s : State)
     → AreSameAt paths (effect_of_txn cells t).state s → AreSameAt paths (effect_in_cells cells t).state s
 same_in_cells paths t cells s same p at =
     let cell = same p at in record { node = cell.node; owners = cell.owners }
 
--- one transaction of the group more
+-- One more transaction of the group.
 own_step : (paths : List Bytes) (t : Txn) → KeepsToCells t
     → ((p : Bytes) → has_path (footprint t) p ≡ true → has_path paths p ≡ true) → (s cells : State)
     → AreSameAt paths cells s
@@ -48,7 +48,7 @@ own_step paths t keep within s cells same =
       confined.answer cells s (λ p at. same p (within p at)),
     )
 
--- a group leaves all other cells as they were
+-- A group leaves all other cells as they were.
 group_frame : (paths : ℕ → List Bytes) (ts : List GroupedTxn) → KeepsToGroupPaths paths ts
     → (cells : State) (k : ℕ) (p : Bytes)
     → has_path (paths k) p ≡ false → IsSameCell (after_in_cells cells (txns_of_group k ts)) cells p
@@ -65,7 +65,7 @@ group_frame paths (t ∷ ts) keeps cells k p out = by (t.0 == k) refl (λ c. gro
         same_cell_trans (rest (effect_in_cells cells t.1).state) (record { node = cell.node; owners = cell.owners })
     by false e rest = rest cells
 
--- what holds of the group k after one transaction more, and of the answers at its places
+-- The claim for group k after one more transaction, and for the outcomes at its places.
 GroupStep : (paths : List Bytes) (t : GroupedTxn) (ts : List GroupedTxn) (s cells : State) (k : ℕ) → Bool → Type 0
 GroupStep paths t ts s cells k b =
     AreSameAt paths (after_in_cells cells (if b then t.1 ∷ txns_of_group k ts else txns_of_group k ts))

@@ -1,4 +1,4 @@
--- What a transaction means doesn't hang on the sessions, but for their timeouts.
+-- The effect of a transaction doesn't depend on the sessions, except for their timeouts.
 use Rattle.std.proofs.Common.{◌≡◌, pos, List, [], ◌∷◌, ◌++◌, take, Bool, true, false, if◌then◌else◌, refl, ap, sym, ◌∙◌}
 use Rattle.std.specs.FinMap as finmap
 use Rattle.ephemerals.specs.Orders.{sorted_names}
@@ -38,7 +38,7 @@ apart_effect x effect s =
     ap (λ u. let m : TxnEffect = record { state = u; err = effect.err; parts = []; triggers = effect.triggers } in m)
     (apart_changes x s effect.changes)
 
--- one part before others
+-- One part before others.
 before : Effect → TxnEffect → TxnEffect
 before effect rest = record {
   state = rest.state;
@@ -74,7 +74,7 @@ apart_multi : (x : SessionTimeouts) (h : TxnHeader) (os : List Operation) (s : S
 apart_multi x h os s true = refl
 apart_multi x h os s false = apart_parts x h os s
 
--- but for the sessions, a transaction means the same whatever the sessions are
+-- Except for the sessions, a transaction has the same effect whatever the sessions are.
 pub apart_mean : (x : SessionTimeouts) (t : Txn) (s : State)
     → meant_with x (effect_of_txn (with_sessions x s) t) ≡ meant_with x (effect_of_txn s t)
 apart_mean x t s = by t.header t.body
@@ -92,7 +92,7 @@ apart_mean x t s = by t.header t.body
         (delete_operations (sorted_names (paths_of_session h.client_id s.pairs)))
         (state_without_session h.client_id s))
 
--- what a refused transaction leaves, it leaves so whatever the sessions are
+-- A refused transaction leaves the same whatever the sessions are.
 pub apart_left : (x : SessionTimeouts) (h : TxnHeader) (b : Body) (old new : State) → IsLeftByRefused h b old new
     → IsLeftByRefused h b (with_sessions x old) (with_sessions x new)
 apart_left x h (body.Single o) old new is = ap (with_sessions x) is

@@ -76,7 +76,7 @@ within_set_data : (h : TxnHeader) (b : SetData) (node : Option Node)
 within_set_data h b None = tt
 within_set_data h b (Some node) = (touches_first b.path [], tt)
 
--- an operation changes cells of its footprint alone
+-- An operation changes only cells of its footprint.
 effect-within : (h : TxnHeader) (o : Operation) (nodes : Nodes)
     → AreWithin (footprint_of_operation o) (effect_of h o nodes).changes
 effect-within h (op.Create c) nodes = within_create h c (finmap.get nodes (parent_of c.path))
@@ -86,7 +86,7 @@ effect-within h (op.SetData b) nodes = within_set_data h b (finmap.get nodes b.p
 effect-within h (op.Check p) nodes = tt
 effect-within h (op.Error e) nodes = tt
 
--- and reads these alone
+-- It reads only these cells, too.
 effect-local : (h : TxnHeader) (o : Operation) (s t : State) → AreSameAt (footprint_of_operation o) s t
     → effect_of h o s.nodes ≡ effect_of h o t.nodes
 effect-local h (op.Create c) s t same =
@@ -102,7 +102,7 @@ effect-local h (op.SetData b) s t same = ap (set_data_at h b) (same b.path (touc
 effect-local h (op.Check p) s t same = refl
 effect-local h (op.Error e) s t same = refl
 
--- an effect that changes cells of its footprint alone and reads these alone
+-- An effect that changes and reads only cells of its footprint.
 effect-confined : (ps : List Bytes) (effect : State → Effect) → ((s : State) → AreWithin ps (effect s).changes)
     → ((s t : State) → AreSameAt ps s t → effect s ≡ effect t)
     → IsConfinedTo ps (λ s. of_effect (effect s) s)
@@ -193,7 +193,7 @@ or_at_second : (a b : Bool) → b ≡ true → (a || b) ≡ true
 or_at_second true b h = refl
 or_at_second false b h = h
 
--- a step confined to ps is confined to more
+-- A step confined to some paths is confined to more.
 pub wider : (ps qs : List Bytes) (f : State → State) → ((q : Bytes) → has_path ps q ≡ true → has_path qs q ≡ true)
     → IsConfined ps f → (s t : State) → AreSameAt qs s t → AreSameAt qs (f s) (f t)
 wider ps qs f sub c s t same q at = by (has_path ps q) refl
@@ -292,7 +292,7 @@ multi-sessions : (h : TxnHeader) (os : List Operation) (s : State) (b : Bool)
 multi-sessions h os s true = refl
 multi-sessions h os s false = parts-sessions h os s
 
--- a closeSession takes its session out, and sets no timeout
+-- A closeSession removes its session and sets no timeout.
 pub close-sessions : (h : TxnHeader) (s : State)
     → (of_close_session h s).state.sessions ≡ finmap.remove s.sessions h.client_id
 close-sessions h s =

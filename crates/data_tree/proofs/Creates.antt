@@ -1,4 +1,4 @@
--- What a create leaves where the name is taken, and where it is refused.
+-- A create of a name that is taken, and one that is refused.
 use Rattle.std.proofs.Common.{◌≡◌, List, [], ◌∷◌, Bool, true, false, Option, Some, None, refl, ap, ◌∙◌, if◌then◌else◌, int_lt}
 use Rattle.std.specs.FinMap as finmap
 use Rattle.std.specs.FinSet as set
@@ -21,7 +21,7 @@ use Rattle.node_map.specs.declared.added_child.AddedChild.TheVariants.{Taken, Ad
 use Rattle.data_tree.proofs.Lists.{nothing_more}
 use Rattle.node_map.proofs.NodeUpdates.{insert_same, added_child_taken, undone}
 
--- a parent whose numbers rise at most
+-- A parent whose stat can only rise.
 with_raised_stat-is : (s : State) (h : TxnHeader) (c : Create) (path : Bytes) (parent : Node)
     → finmap.get s.nodes path ≡ Some parent
     → (let t : State =
@@ -88,7 +88,7 @@ taken-done s h c n before after taken is same = by (finmap.get s.nodes (parent_o
     by None e t is = record { state = cc; err = cc; fired = cc }
     by (Some parent) e t is = with_name parent (set.contains parent.children (name_of c.path)) e refl t is
 
--- a name that was added is taken out again
+-- A name that was added is removed again.
 pub undone_child : (m : Nodes) (path name : Bytes) (h : TxnHeader) (c : Create) (stat : StatPersisted)
     → Added stat ≡ added_child (finmap.get m path) name
     → update_node (update_node m path (with_added_child h c name)) path (without_added_child name stat) ≡ m

@@ -1,4 +1,4 @@
--- What a delete leaves.
+-- The state that a delete leaves.
 use Rattle.std.proofs.Common.{◌≡◌, List, [], ◌++◌, Bool, true, false, cond, Option, Some, None, is_some, refl, sym, ap, ◌∙◌}
 use mathlib.Core.Bool.{true≢false}
 use Rattle.std.specs.Ordering.{eq_by_cmp}
@@ -34,7 +34,7 @@ remove_absent m path none =
 abbrev effect : State → TxnHeader → Bytes → Effect
 effect s h path = delete_at h path (finmap.get s.nodes path) (finmap.get (finmap.remove s.nodes path) (parent_of path))
 
--- no node
+-- There is no node.
 pub missing-effect : (s : State) (h : TxnHeader) (path : Bytes) → None ≡ finmap.get s.nodes path
     → no_change NO_NODE ≡ effect s h path
 missing-effect s h path none =
@@ -56,7 +56,7 @@ no_parent : (o : Option Node) → false ≡ is_some o → o ≡ None
 no_parent None e = refl
 no_parent (Some x) e = absurd (true≢false (sym e))
 
--- no parent
+-- There is no parent.
 pub orphan-effect : (s : State) (h : TxnHeader) (path : Bytes) (node : Node) → Some node ≡ finmap.get s.nodes path
     → false ≡ is_some (finmap.get (finmap.remove s.nodes path) (parent_of path))
     → delete_at h path (Some node) None ≡ effect s h path
@@ -64,7 +64,7 @@ orphan-effect s h path node found none =
     (λ i. delete_at h path (found i)
     (sym (no_parent (finmap.get (finmap.remove s.nodes path) (parent_of path)) none) i))
 
--- a node with a parent
+-- A node with a parent.
 pub deleted-is : (s : State) (h : TxnHeader) (path : Bytes) (node : Node) (n : Nodes) (p : OwnerPairs)
     → Some node ≡ finmap.get s.nodes path
     → true ≡ is_some (finmap.get (finmap.remove s.nodes path) (parent_of path))

@@ -1,4 +1,4 @@
--- What transactions and nodes that are put leave of paths and names.
+-- Transactions and inserted nodes keep paths and names valid.
 use Rattle.std.proofs.Common.{◌≡◌, Bool, true, false, ◌||◌, ◌&&◌, ◌==◌, not, List, [], ◌∷◌, Option, Some, None, refl, sym, ap, ◌∙◌, if◌then◌else◌, int_lt, ℤ, pos, codes}
 use Rattle.std.proofs.lemmas.Bool.{eqb-true}
 use Rattle.std.specs.Ordering.{int_eq}
@@ -59,7 +59,7 @@ after_all s (c ∷ cs) fine each = after_all (after_change s c) cs fine.1 (after
 
 -- ---- operations
 
--- what is made has a parent
+-- A created path has a parent.
 abbrev Makes : Operation → Type 0
 Makes (op.Create c) = is_child_path c.path ≡ true
 Makes (op.Delete path) = Unit {0}
@@ -195,7 +195,7 @@ body_keeps h body.CloseSession s has each =
     parts_keep h (delete_operations (sorted_names (paths_of_session h.client_id s.pairs)))
     (delete_makes (sorted_names (paths_of_session h.client_id s.pairs))) (state_without_session h.client_id s) each
 
--- ---- nodes that are put
+-- ---- nodes that are inserted
 
 listed_keeps : (nodes : Nodes) (path : Bytes) → is_child_path path ≡ true → EachIsNamed nodes
     → (o : Option Node) → finmap.get nodes (parent_of path) ≡ o

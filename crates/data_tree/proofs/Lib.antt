@@ -1,26 +1,26 @@
--- A list that grew and was cut back
+-- A list that grew and was cut back.
 pub mod Lists
--- A map from signed numbers as a finite map
+-- A map from signed numbers as a finite map.
 pub mod IntMaps
--- A pair that was added and is taken out again, and the changes of pairs
+-- A pair that was added and is removed again, and the changes of pairs.
 pub mod UndonePairs
--- What a create leaves where the name is taken, or where it is refused
+-- A create of a name that is taken, and one that is refused.
 pub mod Creates
--- What a delete leaves
+-- The state that a delete leaves.
 pub mod Deletes
--- One more part of a multi, one more delete of a closeSession, and the errors of parts
+-- One more part of a multi, one more delete of a closeSession, and the errors of parts.
 pub mod Multis
--- States with the same cells, and what one change does to a cell
+-- States with the same cells, and the effect of one change on a cell.
 pub mod SameCells
--- Transactions on other cells commute
+-- Transactions on other cells commute.
 pub mod Commute
--- The groups of a batch, each on its own cells
+-- The groups of a batch, each on its own cells.
 pub mod Batches
--- Cells that are taken out of a state, and put back
+-- Cells that are taken out of a state, and put back.
 pub mod MovedCells
--- What a transaction means doesn't hang on the sessions
+-- The effect of a transaction doesn't depend on the sessions.
 pub mod CellMeanings
--- A node that was put where it has a place, and one that was not
+-- A node that was inserted where it has a place, and one that wasn't.
 pub mod Placing
--- What transactions and nodes that are put leave of paths and names
+-- Transactions and inserted nodes keep paths and names valid.
 pub mod KeepingNames

@@ -16,7 +16,7 @@ use Rattle.data_tree.specs.declared.outcome.Outcome.{Outcome}
 use Rattle.std.proofs.Math.ListN.{drop_of_length-le}
 use Rattle.data_tree.proofs.Lists.{nothing_more}
 
--- so far and to come: all in all the same
+-- What was done so far and what is to come give the whole.
 pub record IsMidway (header : TxnHeader) (parts : List Operation) (i : ℕ) (old now : State) (errors : List ℤ)
     (triggers : List Trigger) : Type 0 where
   pub front : now ≡ (of_parts header (take i parts) old).state
@@ -24,7 +24,7 @@ pub record IsMidway (header : TxnHeader) (parts : List Operation) (i : ℕ) (old
   pub errors_are : errors ++ (of_parts header (drop i parts) now).parts ≡ (of_parts header parts old).parts
   pub triggers_are : triggers ++ (of_parts header (drop i parts) now).triggers ≡ (of_parts header parts old).triggers
 
--- the same of deletes, of which these are left
+-- The same for deletes, of which these are left.
 pub record IsClosing (header : TxnHeader) (paths left : Names) (old now : State) (before triggers : List Trigger) : Type
     0 where
   pub state : (of_parts header (delete_operations (sorted_names left)) now).state
@@ -37,7 +37,7 @@ of_parts-push : (h : TxnHeader) (xs : List Operation) (x : Operation) (s : State
 of_parts-push h [] x s = refl
 of_parts-push h (o ∷ xs) x s = of_parts-push h xs x (of_operation h o s).state
 
--- what is left, and its first element
+-- The rest of a list, and its first element.
 pub left_is : {A : Type 0} (xs : List A) (i : ℕ) (x : A) → i < length xs → x ≡ get_or xs i x
     → drop i xs ≡ x ∷ drop (i + 1) xs
 left_is xs i x lt is = drop-cons xs i x lt ∙ (λ j. sym is j ∷ drop (sym (add-one i) j) xs)
@@ -90,7 +90,7 @@ pub error-of_parts : (h : TxnHeader) (ps : List Operation) (s : State)
 error-of_parts h [] s = refl
 error-of_parts h (p ∷ ps) s = refl
 
--- when all parts are done
+-- All parts are done.
 pub midway_done : (h : TxnHeader) (ps : List Operation) (i : ℕ) (old now : State) (errors : List ℤ)
     (triggers : List Trigger) → length ps ≤ i → IsMidway h ps i old now errors triggers
     → (let o : Outcome = record { err = first_error errors; parts = errors; triggers = triggers } in o)
@@ -139,7 +139,7 @@ pub has_error-passed : (ps : List Operation) (x : Operation) (rest : List Operat
     → is_some (error_of x) ≡ false → has_error ps ≡ has_error rest
 has_error-passed ps x rest is passed = ap has_error is ∙ ap (λ b. b || has_error rest) passed
 
--- the errors behind a part where the other parts have this one
+-- The errors of the parts after one, where this is the error of each part that isn't an error part.
 abbrev pub errors_behind : ℤ → List Operation → List ℤ
 errors_behind otherwise [] = []
 errors_behind otherwise (o ∷ os) =
@@ -157,7 +157,7 @@ all_failed (o ∷ os) = by (all_failed os) (error_of o)
     by rest None = ap (λ es. RUNTIME_INCONSISTENCY ∷ es) rest
     by rest (Some e) = ap (λ es. e ∷ es) rest
 
--- from the start on, as a failed multi answers
+-- From the start on these are the errors of a failed multi.
 pub errors_from_start : (os : List Operation) → errors_behind (pos 0) os ≡ errors_of_failed os
 errors_from_start [] = refl
 errors_from_start (o ∷ os) = by (errors_from_start os) (error_of o)

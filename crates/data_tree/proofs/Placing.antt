@@ -1,4 +1,4 @@
--- A node that was put where it has a place, and one that was not.
+-- A node that was inserted where it has a place, and one that wasn't.
 use Rattle.std.proofs.Common.{◌≡◌, Bool, true, false, not, ◌&&◌, ◌==◌, cond, Option, Some, None, Result, Ok, Err, IfOk, OnOk, OnErr, is_some, refl, sym, ap, ◌∙◌, if◌then◌else◌, codes}
 use Rattle.std.proofs.lemmas.Bool.{eq-eqb, not-true}
 use Rattle.std.specs.Ordering.{eq_by_cmp}
@@ -19,7 +19,7 @@ use Rattle.data_tree.specs.State.{State, Nodes}
 use Rattle.data_tree.specs.Making.{with_placed_node, with_node, with_node_in_place, has_place}
 use Rattle.data_tree.specs.Inner.Placing.{with_new_node_placed}
 
--- a new node that is taken out again
+-- A new node that is removed again.
 pub new_node_removed : (m : Nodes) (path : Bytes) (node : Node) → not (has_node m path) ≡ true
     → finmap.remove (with_new_node m path node) path ≡ m
 new_node_removed m path node new =
@@ -44,7 +44,7 @@ nowhere m path f none =
     ∙ ap (update_found finmap.empty path f) (finmap.get-empty path_cmp path)
     ∙ sym (finmap.empty_of_len m none)
 
--- the root, where there is no node
+-- The root is inserted where there is no node at all.
 pub root_placed : (s : State) (node : Node) → finmap.len s.nodes ≡ 0
     → with_placed_node s (codes "/") node ≡ with_node_in_place s (codes "/") node
 root_placed s node none =
@@ -52,7 +52,7 @@ root_placed s node none =
     (sym (nowhere s.nodes (parent_of (codes "/")) (with_name (name_of (codes "/"))) none))
     ∙ ap (λ b. if b then with_node s (codes "/") node else s) (sym (eq-eqb _ _ none))
 
--- ---- what is said of an answer
+-- ---- the answers
 
 pub each_ok : {A E : Type 0} {P Q : A → Type 0} (r : Result A E) → ((x : A) → P x → Q x) → IfOk r P → IfOk r Q
 each_ok (Ok x) f h = f x h
@@ -72,7 +72,7 @@ and-true : (b : Bool) → (b && true) ≡ b
 and-true true = refl
 and-true false = refl
 
--- the nodes, where the parent, if any, lists the name
+-- The state in which the parent, if there is one, lists the name.
 abbrev pub listing : State → Bytes → State
 listing s path = record s { nodes = update_node s.nodes (parent_of path) (with_name (name_of path)) }
 
@@ -86,12 +86,12 @@ module _ (s : State) (path : Bytes) (node : Node) (other : is_root path ≡ fals
       → with_node_in_place s path node ≡ (if b then with_node s path node else s)
   placed_by b is = ap (λ (v : Bool). if v then with_node s path node else s) is
 
-  -- there is a parent
+  -- There is a parent.
   pub with_parent : has_node s.nodes (parent_of path) ≡ true → has_place s.nodes path ≡ not (has_node s.nodes path)
   with_parent there =
       place_is ∙ ap (λ (b : Bool). not (has_node s.nodes path) && b) there ∙ and-true (not (has_node s.nodes path))
 
-  -- which doesn't matter to whether there is a node at the path
+  -- This doesn't change whether there is a node at the path.
   pub same_node : has_node (listing s path).nodes path ≡ has_node s.nodes path
   same_node = by (finmap.get s.nodes (parent_of path)) refl
     where
@@ -120,7 +120,7 @@ module _ (s : State) (path : Bytes) (node : Node) (other : is_root path ≡ fals
   there_added None stat a = cc
   there_added (Some parent) stat a = refl
 
-  -- what is new at the listing has a place
+  -- The path has a place exactly if it has no node in that state.
   pub taken_place : Taken ≡ added_child (finmap.get s.nodes (parent_of path)) (name_of path)
       → not (has_node (listing s path).nodes path) ≡ has_place s.nodes path
   taken_place t = ap not same_node ∙ sym (with_parent (there_taken (finmap.get s.nodes (parent_of path)) t))
@@ -141,7 +141,7 @@ module _ (s : State) (path : Bytes) (node : Node) (other : is_root path ≡ fals
       ap (λ (b : Bool). if b then listing s path else with_placed_node (listing s path) path node) here
       ∙ sym (placed_by true (sym is))
 
-  -- the parent lists the name already
+  -- The parent lists the name already.
   pub taken_placed : Taken ≡ added_child (finmap.get s.nodes (parent_of path)) (name_of path)
       → with_new_node_placed (listing s path) path node ≡ with_node_in_place s path node
   taken_placed t =
@@ -149,7 +149,7 @@ module _ (s : State) (path : Bytes) (node : Node) (other : is_root path ≡ fals
       (λ _. ap (λ (m : Nodes). let u : State = record s { nodes = m } in u)
       (kept_name s.nodes (parent_of path) (name_of path) t))
 
-  -- the node is new
+  -- The node is new.
   pub added_placed : not (has_node (listing s path).nodes path) ≡ true → true ≡ has_place s.nodes path
       → with_new_node_placed (listing s path) path node ≡ with_node_in_place s path node
   added_placed new is =
@@ -157,11 +157,11 @@ module _ (s : State) (path : Bytes) (node : Node) (other : is_root path ≡ fals
       (not-true (has_node (listing s path).nodes path) new)
       ∙ sym (placed_by true (sym is))
 
-  -- there is no place
+  -- There is no place.
   pub refused : false ≡ has_place s.nodes path → s ≡ with_node_in_place s path node
   refused is = sym (placed_by false (sym is))
 
--- where there was a node, all is as it was
+-- Where there was a node, everything is as it was.
 pub old_node_kept : (s : State) (path : Bytes) (node : Node) → false ≡ not (has_node s.nodes path)
     → with_new_node_placed s path node ≡ s
 old_node_kept s path node old = by (has_node s.nodes path) old

@@ -16,7 +16,7 @@ use Rattle.data_tree.specs.Meaning.Change.{Put, Remove, Own, Disown}
 use Rattle.data_tree.specs.Footprint.{has_path, IsSameCell}
 use Rattle.ephemerals.proofs.Totals.{path_total, pair_total, pair_exact}
 
--- states with the same cells and sessions are equal
+-- States with the same cells and sessions are equal.
 pub same_state : (s t : State) → s.sessions ≡ t.sessions → ((path : Bytes) → IsSameCell s t path) → s ≡ t
 same_state s t sessions cells =
     let nodes : s.nodes ≡ t.nodes =
@@ -47,7 +47,7 @@ then_apart Greater q h = refl
 pair_apart : (v w : ℤ) (q p : Bytes) → eq_by_cmp path_cmp q p ≡ false → eq_by_cmp pair_cmp (v, q) (w, p) ≡ false
 pair_apart v w q p h = then_apart (int_cmp v w) (path_cmp q p) h
 
--- a change leaves the cells at other paths
+-- A change leaves the cells at other paths.
 pub after_change-frame : (s : State) (c : Change) (q : Bytes) → eq_by_cmp path_cmp q (path_of c) ≡ false
     → IsSameCell (after_change s c) s q
 after_change-frame s (Put p n) q h =
@@ -75,7 +75,7 @@ after_change-frame s (Disown v p) q h =
           ∙ ap (λ b. not b && set.contains s.pairs (w, q)) (pair_apart w v q p h);
     }
 
--- what a change leaves in a cell depends on that cell alone
+-- What a change leaves in a cell depends on that cell alone.
 pub after_change-local : (s t : State) (c : Change) (q : Bytes) → IsSameCell s t q
     → IsSameCell (after_change s c) (after_change t c) q
 after_change-local s t (Put p n) q e =
@@ -112,7 +112,7 @@ after_change-sessions s (Remove p) = refl
 after_change-sessions s (Own v p) = refl
 after_change-sessions s (Disown v p) = refl
 
--- the changes are at these paths
+-- The changes are at these paths.
 abbrev pub AreWithin : List Bytes → List Change → Type 0
 AreWithin paths cs = AllByRecursion (λ c. has_path paths (path_of c) ≡ true) cs
 

@@ -1,4 +1,4 @@
--- A pair that was added and is taken out again, and the changes of pairs.
+-- A pair that was added and is removed again, and the changes of pairs.
 use Rattle.std.proofs.Common.{◌≡◌, ℤ, pos, [], ◌∷◌, Bool, true, false, not, ◌&&◌, refl, sym, if◌then◌else◌}
 use mathlib.Core.Bool.{true≢false}
 use Rattle.std.specs.Ordering.{int_eq}

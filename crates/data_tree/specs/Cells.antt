@@ -1,4 +1,4 @@
--- Cells that are taken out of a state and put back, and what transactions mean there.
+-- Cells that are taken out of a state and put back, and the effects of transactions on them.
 use Rattle.std.specs.Prelude.{◌≡◌, ℤ, List, [], ◌∷◌, not, true, false, None}
 use Rattle.std.specs.FinMap as finmap
 use Rattle.std.specs.FinSet as set
@@ -11,7 +11,7 @@ use Rattle.data_tree.specs.Meaning.{TxnEffect, effect_of_txn, answer_of}
 use Rattle.data_tree.specs.Footprint.{IsSameCell}
 use Rattle.data_tree.specs.declared.outcome.Outcome.{Outcome}
 
--- the cells at these paths, and no session
+-- The cells at these paths, and no session.
 abbrev pub cells_at : Names → State → State
 cells_at paths s = record {
   nodes = finmap.retain_keys s.nodes (set.contains paths);
@@ -19,7 +19,7 @@ cells_at paths s = record {
   sessions = finmap.empty;
 }
 
--- these cells are empty
+-- The state with empty cells at these paths.
 abbrev pub without_cells : Names → State → State
 without_cells paths s = record {
   nodes = finmap.retain_keys s.nodes (λ (path : Bytes). not (set.contains paths path));
@@ -27,7 +27,7 @@ without_cells paths s = record {
   sessions = s.sessions;
 }
 
--- what stands in the cells stands in the state too
+-- The state with these cells added.
 abbrev pub with_cells : State → State → State
 with_cells cells s = record {
   nodes = with_entries s.nodes (finmap.entries cells.nodes);
@@ -35,12 +35,12 @@ with_cells cells s = record {
   sessions = s.sessions;
 }
 
--- the transaction's meaning, with the sessions left as they are: their timeouts are set where all the state is
+-- The effect of the transaction, without setting a session's timeout; timeouts are set on the whole state.
 abbrev pub effect_in_cells : State → Txn → TxnEffect
 effect_in_cells cells t =
     let meant = effect_of_txn cells t in record meant { state = record meant.state { sessions = cells.sessions } }
 
--- one after the other
+-- The transactions one after the other.
 abbrev pub after_in_cells : State → List Txn → State
 after_in_cells cells [] = cells
 after_in_cells cells (t ∷ ts) = after_in_cells (effect_in_cells cells t).state ts
@@ -50,12 +50,12 @@ outcomes_in_cells cells [] = []
 outcomes_in_cells cells (t ∷ ts) =
     answer_of (effect_in_cells cells t) ∷ outcomes_in_cells (effect_in_cells cells t).state ts
 
--- no node, and no session lists the path
+-- There is no node at the path, and no session lists it.
 pub record IsEmptyCell (s : State) (path : Bytes) : Type 0 where
   pub node : finmap.get s.nodes path ≡ None
   pub owners : (session : ℤ) → set.contains s.pairs (session, path) ≡ false
 
--- the cells at the paths go, and no other
+-- The cells at the paths are moved, and no other.
 pub record MovesCells (paths : Names) (s : State) : Type 0 where
   pub taken : (path : Bytes) → set.contains paths path ≡ true → IsSameCell (cells_at paths s) s path
   pub gone : (path : Bytes) → set.contains paths path ≡ true → IsEmptyCell (without_cells paths s) path
@@ -65,7 +65,7 @@ pub record MovesCells (paths : Names) (s : State) : Type 0 where
 abbrev pub TakenCellsMove : Type 0
 TakenCellsMove = (paths : Names) (s : State) → MovesCells paths s
 
--- cells come to where nothing stands, and where they are empty nothing changes
+-- Cells are put in place of empty ones, and an empty cell changes nothing.
 pub record PutsCells (cells s : State) : Type 0 where
   pub put : (path : Bytes) → IsEmptyCell s path → IsSameCell (with_cells cells s) cells path
   pub left : (path : Bytes) → IsEmptyCell cells path → IsSameCell (with_cells cells s) s path
@@ -73,6 +73,6 @@ pub record PutsCells (cells s : State) : Type 0 where
 abbrev pub CellsComeToEmptyCells : Type 0
 CellsComeToEmptyCells = (cells s : State) → PutsCells cells s
 
--- what is taken and put back as it is leaves the state as it was
+-- Cells that are taken and put back unchanged leave the state as it was.
 abbrev pub TakenAndPutBackIsTheState : Type 0
 TakenAndPutBackIsTheState = (paths : Names) (s : State) → with_cells (cells_at paths s) (without_cells paths s) ≡ s

@@ -1,5 +1,5 @@
--- Transactions keep to their footprints, so those on other cells commute, and groups of them leave what the whole
--- batch leaves.
+-- Transactions keep to their footprints, so those with separate footprints commute, and groups of them leave what the
+-- whole batch leaves.
 use Rattle.std.specs.Prelude.{◌≡◌, ◌≢◌, ◌⊎◌, ◌==◌, ℕ, List, [], ◌∷◌, true, false, map, if◌then◌else◌}
 use Rattle.std.specs.List.{AllByRecursion}
 use Rattle.std.specs.FinMap as finmap
@@ -13,12 +13,12 @@ use Rattle.data_tree.specs.Meaning.{TxnEffect, effect_of_txn, state_after, outco
 use Rattle.data_tree.specs.Cells.{after_in_cells, outcomes_in_cells}
 use Rattle.data_tree.specs.Footprint.{has_path, IsSameCell, AreSameAt, AreApart, footprint, KeepsToCells}
 
--- the step leaves every other cell, and what it leaves in its own cells depends on those alone; no session is in a cell
+-- The step leaves every other cell, and what it leaves in its own cells depends on those alone. Sessions aren't cells.
 pub record IsConfined (paths : List Bytes) (step : State → State) : Type 0 where
   pub frame : (s : State) (path : Bytes) → has_path paths path ≡ false → IsSameCell (step s) s path
   pub local : (s t : State) → AreSameAt paths s t → AreSameAt paths (step s) (step t)
 
--- a step and its answer, which depends on the step's cells alone
+-- A step and its outcome, which depends on the step's cells alone.
 pub record IsConfinedTo (paths : List Bytes) (meant : State → TxnEffect) : Type 0 where
   pub state : IsConfined paths (λ s. (meant s).state)
   pub answer : (s t : State) → AreSameAt paths s t → answer_of (meant s) ≡ answer_of (meant t)
@@ -26,7 +26,7 @@ pub record IsConfinedTo (paths : List Bytes) (meant : State → TxnEffect) : Typ
 abbrev pub TransactionsKeepToTheirFootprints : Type 0
 TransactionsKeepToTheirFootprints = (t : Txn) → KeepsToCells t → IsConfinedTo (footprint t) (λ s. effect_of_txn s t)
 
--- a createSession sets its session's timeout
+-- A createSession sets its session's timeout.
 abbrev pub with_timeout_of : TxnHeader → Body → SessionTimeouts → SessionTimeouts
 with_timeout_of header (body.CreateSession timeout) sessions = finmap.insert sessions header.client_id timeout
 with_timeout_of header (body.Single operation) sessions = sessions
@@ -34,19 +34,19 @@ with_timeout_of header (body.SetAcl body) sessions = sessions
 with_timeout_of header (body.Multi parts) sessions = sessions
 with_timeout_of header body.CloseSession sessions = sessions
 
--- the sessions after the transactions' timeouts were set in order
+-- The sessions after the transactions' timeouts were set in order.
 abbrev pub with_timeouts : SessionTimeouts → List Txn → SessionTimeouts
 with_timeouts sessions [] = sessions
 with_timeouts sessions (t ∷ ts) = with_timeouts (with_timeout_of t.header t.body sessions) ts
 
--- what becomes of the sessions hangs on no cell
+-- The sessions after a transaction depend on no cell.
 abbrev pub TransactionsSetTheirTimeouts : Type 0
 TransactionsSetTheirTimeouts =
     (txns : List Txn) (s : State) → AllByRecursion KeepsToCells txns
     → (state_after s txns).sessions ≡ with_timeouts s.sessions txns
 
--- in either order the same cells and the same answers; and the same state, where the order of their timeouts doesn't
--- matter either
+-- The cells and the outcomes are the same in either order; so are the states, if the order of the timeouts doesn't
+-- matter either.
 pub record DoCommute (a b : Txn) (s : State) : Type 0 where
   pub cells : (path : Bytes) → IsSameCell (state_after s (a ∷ b ∷ [])) (state_after s (b ∷ a ∷ [])) path
   pub first : answer_of (effect_of_txn (effect_of_txn s b).state a) ≡ answer_of (effect_of_txn s a)
@@ -58,16 +58,16 @@ abbrev pub DisjointTransactionsCommute : Type 0
 DisjointTransactionsCommute =
     (a b : Txn) (s : State) → KeepsToCells a → KeepsToCells b → AreApart (footprint a) (footprint b) → DoCommute a b s
 
--- a transaction and the group that it was put into
+-- A transaction and the group that it is in.
 abbrev pub GroupedTxn : Type 0
 GroupedTxn = ℕ × Txn
 
--- what is done in the group k, in order
+-- The transactions of group k, in order.
 abbrev pub txns_of_group : ℕ → List GroupedTxn → List Txn
 txns_of_group k [] = []
 txns_of_group k (t ∷ ts) = if t.0 == k then t.1 ∷ txns_of_group k ts else txns_of_group k ts
 
--- what stands at the places of the group k
+-- The elements at the places of group k.
 abbrev pub entries_of_group : {A : Type 0} → ℕ → List GroupedTxn → List A → List A
 entries_of_group k [] xs = []
 entries_of_group k (t ∷ ts) [] = []
@@ -76,19 +76,19 @@ entries_of_group k (t ∷ ts) (x ∷ xs) = if t.0 == k then x ∷ entries_of_gro
 abbrev pub batch_of : List GroupedTxn → List Txn
 batch_of batch = map (λ (t : GroupedTxn). t.1) batch
 
--- each transaction keeps to its group's paths
+-- Each transaction keeps to its group's paths.
 abbrev pub KeepsToGroupPaths : (ℕ → List Bytes) → List GroupedTxn → Type 0
 KeepsToGroupPaths paths [] = Unit {0}
 KeepsToGroupPaths paths (t ∷ ts) =
     (KeepsToCells t.1 × ((p : Bytes) → has_path (footprint t.1) p ≡ true → has_path (paths t.0) p ≡ true))
     × KeepsToGroupPaths paths ts
 
--- no two groups have a path in common
+-- No two groups have a path in common.
 abbrev pub AreDisjoint : (ℕ → List Bytes) → Type 0
 AreDisjoint paths = (j k : ℕ) → j ≢ k → AreApart (paths j) (paths k)
 
--- each group's own transactions, on cells that were taken from the state, leave these cells as the whole batch does and
--- all other cells as they were, and give the answers that the batch gives at the group's places
+-- The transactions of a group, applied to cells that were taken from the state, leave these cells as the whole batch
+-- does and all other cells as they were, and have the outcomes that the batch has at the group's places.
 pub record AgreesWithBatch (paths : List Bytes) (batch : List GroupedTxn) (s taken : State) (k : ℕ) : Type 0 where
   pub cells : AreSameAt paths (after_in_cells taken (txns_of_group k batch)) (state_after s (batch_of batch))
   pub others : (p : Bytes) → has_path paths p ≡ false
@@ -96,14 +96,14 @@ pub record AgreesWithBatch (paths : List Bytes) (batch : List GroupedTxn) (s tak
   pub answers : outcomes_in_cells taken (txns_of_group k batch)
       ≡ entries_of_group k batch (outcomes_of_txns s (batch_of batch))
 
--- so it doesn't matter when, and by whom, a group's transactions are done
+-- So a group's transactions may be applied at any time and by any worker.
 abbrev pub GroupsAreTheBatch : Type 0
 GroupsAreTheBatch =
     (paths : ℕ → List Bytes) (batch : List GroupedTxn) → AreDisjoint paths → KeepsToGroupPaths paths batch
     → (s cells : State) (k : ℕ) → AreSameAt (paths k) cells s → AgreesWithBatch (paths k) batch s cells k
 
--- and a state that has each group's cells, the old cells elsewhere, and the timeouts set in order, is the state after
--- the batch
+-- A state with the cells of each group, the old cells elsewhere, and the timeouts set in order is the state after the
+-- batch.
 abbrev pub CellsPutBackAreTheBatch : Type 0
 CellsPutBackAreTheBatch =
     (paths : ℕ → List Bytes) (batch : List GroupedTxn) → AreDisjoint paths → KeepsToGroupPaths paths batch

@@ -1,5 +1,5 @@
--- Which cells a transaction reads and writes. A cell at a path is the node there, if any, and the sessions that list
--- the path.
+-- The cells that a transaction reads and writes. The cell at a path is the node there, if any, and the sessions that
+-- list the path.
 use Rattle.std.specs.Prelude.{◌≡◌, ℤ, List, [], ◌∷◌, ◌++◌, Bool, true, false, if◌then◌else◌}
 use Rattle.std.specs.List.{list_any}
 use Rattle.std.specs.Ordering.{eq_by_cmp}
@@ -26,7 +26,7 @@ abbrev pub footprint_of_parts : List Operation → List Bytes
 footprint_of_parts [] = []
 footprint_of_parts (o ∷ os) = footprint_of_operation o ++ footprint_of_parts os
 
--- of a transaction that keeps to cells
+-- The footprint of a transaction that keeps to cells.
 abbrev pub footprint : Txn → List Bytes
 footprint t = of_body t.body
   where
@@ -37,7 +37,8 @@ footprint t = of_body t.body
     of_body (body.CreateSession timeout) = []
     of_body body.CloseSession = []
 
--- a closeSession changes cells of every path that the session lists
+-- Every transaction but a closeSession keeps to cells. A closeSession changes cells at every path that its session
+-- lists.
 abbrev pub KeepsToCells : Txn → Type 0
 KeepsToCells t = keeps t.body
   where
@@ -51,7 +52,7 @@ KeepsToCells t = keeps t.body
 abbrev pub has_path : List Bytes → Bytes → Bool
 has_path paths path = list_any (eq_by_cmp path_cmp path) paths
 
--- the cells at the path: the node, and the sessions that list the path
+-- The cell at the path: the node, and the sessions that list the path.
 pub record IsSameCell (s t : State) (path : Bytes) : Type 0 where
   pub node : finmap.get s.nodes path ≡ finmap.get t.nodes path
   pub owners : (session : ℤ) → set.contains s.pairs (session, path) ≡ set.contains t.pairs (session, path)

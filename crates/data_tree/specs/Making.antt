@@ -1,4 +1,4 @@
--- How a tree is made of sessions and nodes, one by one.
+-- Building a tree from sessions and nodes, one by one.
 use Rattle.std.specs.Prelude.{ℤ, Bool, not, ◌&&◌, ◌==◌, if◌then◌else◌}
 use Rattle.std.specs.FinMap as finmap
 use Rattle.std.specs.FinSet as set
@@ -10,14 +10,14 @@ use Rattle.node_map.specs.declared.node.Node.{Node}
 use Rattle.node_map.specs.Updates.{with_name, update_node}
 use Rattle.data_tree.specs.State.{State, Nodes}
 
--- no node and no session
+-- No node and no session.
 abbrev pub empty_state : State
 empty_state = record { nodes = finmap.empty; pairs = set.empty; sessions = finmap.empty }
 
 abbrev pub with_session : State → ℤ → ℤ → State
 with_session s session timeout = record s { sessions = finmap.insert s.sessions session timeout }
 
--- the node, and its owner's pair
+-- The state with the node and its owner's pair.
 abbrev pub with_placed_node : State → Bytes → Node → State
 with_placed_node s path node = record {
   nodes = finmap.insert s.nodes path node;
@@ -25,16 +25,16 @@ with_placed_node s path node = record {
   sessions = s.sessions;
 }
 
--- the node at the path, its name in the parent, if any, and its owner's pair
+-- The state with the node, its name in the parent, if there is one, and its owner's pair.
 abbrev pub with_node : State → Bytes → Node → State
 with_node s path node =
     with_placed_node (record s { nodes = update_node s.nodes (parent_of path) (with_name (name_of path)) }) path node
 
--- "/" has a place where there is no node, and any other path where it is new and its parent is there
+-- The path "/" has a place if there is no node at all, any other path if it is new and its parent exists.
 abbrev pub has_place : Nodes → Bytes → Bool
 has_place nodes path =
     if is_root path then finmap.len nodes == 0 else not (has_node nodes path) && has_node nodes (parent_of path)
 
--- the node at a path that has a place; at any other path nothing changes
+-- The node is added if the path has a place; otherwise nothing changes.
 abbrev pub with_node_in_place : State → Bytes → Node → State
 with_node_in_place s path node = if has_place s.nodes path then with_node s path node else s

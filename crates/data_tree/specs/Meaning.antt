@@ -1,4 +1,4 @@
--- What a transaction does to the state, and what it answers (ZooKeeper Programmer's Guide).
+-- The effect of a transaction on the state, and its outcome (ZooKeeper Programmer's Guide).
 use Rattle.std.specs.Prelude.{ℤ, pos, List, [], ◌∷◌, ◌++◌, if◌then◌else◌, Bool, Option, Some, None, is_some, map, int_lt, codes}
 use Rattle.std.specs.Option.{unwrap_or}
 use Rattle.std.specs.List.{list_any}
@@ -25,15 +25,15 @@ use Rattle.data_tree.specs.declared.outcome.Outcome.{Outcome}
 use Rattle.data_tree.specs.declared.outcome.Trigger.{Trigger}
 use Rattle.data_tree.specs.declared.outcome.Trigger.TheVariants.{Created, Deleted, DataChanged, ChildrenChanged}
 
--- one change of one cell
+-- A change of one cell.
 pub data Change : Type 0 where
-  -- the path has this node
+  -- The path has this node.
   Put : (path : Bytes) (node : Node) → Change
-  -- the path has no node
+  -- The path has no node.
   Remove : (path : Bytes) → Change
-  -- the session lists the path
+  -- The session lists the path.
   Own : (session : ℤ) (path : Bytes) → Change
-  -- the session doesn't
+  -- The session doesn't list the path.
   Disown : (session : ℤ) (path : Bytes) → Change
 
 abbrev pub after_change : State → Change → State
@@ -46,7 +46,7 @@ abbrev pub after_changes : State → List Change → State
 after_changes s [] = s
 after_changes s (c ∷ cs) = after_changes (after_change s c) cs
 
--- what one operation does: its error, its changes in order, and what it fires
+-- The effect of one operation: its error, its changes in order, and its triggers.
 pub record Effect : Type 0 where
   pub err : ℤ
   pub changes : List Change
@@ -55,19 +55,19 @@ pub record Effect : Type 0 where
 abbrev pub no_change : ℤ → Effect
 no_change error = record { err = error; changes = []; triggers = [] }
 
--- a parent whose children, stored cversion and pzxid are set
+-- A parent with these children, this stored cversion and this pzxid.
 abbrev pub with_children : Node → Names → ℤ → ℤ → Node
 with_children parent children cversion zxid =
     record parent { children = children; stat = record parent.stat { cversion = cversion; pzxid = zxid } }
 
--- session 0 owns nothing
+-- Session 0 owns nothing.
 abbrev pub gained_pair : ℤ → Bytes → List Change
 gained_pair owner path = if int_eq owner (pos 0) then [] else Own owner path ∷ []
 
 abbrev pub lost_pair : ℤ → Bytes → List Change
 lost_pair owner path = if int_eq owner (pos 0) then [] else Disown owner path ∷ []
 
--- a name that is taken raises the parent's numbers at most
+-- A create of a name that the parent has already can only raise the parent's stat.
 abbrev pub create_taken : TxnHeader → Create → Node → Effect
 create_taken header create parent =
     let next = next_cversion parent.stat.cversion create.parent_cversion in
@@ -98,7 +98,7 @@ create_under header create (Some parent) =
     if set.contains parent.children (name_of create.path) then create_taken header create parent
     else create_new header create parent
 
--- the node that is removed, and its parent
+-- The node is removed, and its name in the parent.
 abbrev pub delete_at : TxnHeader → Bytes → Option Node → Option Node → Effect
 delete_at header path None parent = no_change NO_NODE
 delete_at header path (Some node) None = record { err = NO_NODE; changes = Remove path ∷ []; triggers = [] }
@@ -121,7 +121,7 @@ set_data_at header body (Some node) =
       triggers = DataChanged body.path ∷ [];
     }
 
--- an operation reads the nodes at its path and at the parent, and no more
+-- An operation reads only the nodes at its path and at the parent.
 abbrev pub effect_of : TxnHeader → Operation → Nodes → Effect
 effect_of header (op.Create body) nodes = create_under header body (finmap.get nodes (parent_of body.path))
 effect_of header (op.Delete path) nodes =
@@ -134,7 +134,7 @@ abbrev pub set_acl_at : SetAcl → Option Node → Effect
 set_acl_at body None = no_change NO_NODE
 set_acl_at body (Some node) = record { err = pos 0; changes = Put body.path (with_acl body node) ∷ []; triggers = [] }
 
--- the state after a transaction, its error, the errors of its parts, and what it fires
+-- The state after a transaction, its error, the errors of its parts, and its triggers.
 pub record TxnEffect : Type 0 where
   pub state : State
   pub err : ℤ
@@ -151,12 +151,11 @@ of_operation header operation s = of_effect (effect_of header operation s.nodes)
 abbrev pub of_set_acl : SetAcl → State → TxnEffect
 of_set_acl body s = of_effect (set_acl_at body (finmap.get s.nodes body.path)) s
 
--- 0 where there is none
+-- The first error that isn't 0, or 0 if there is none.
 abbrev pub first_error : List ℤ → ℤ
 first_error [] = pos 0
 first_error (e ∷ es) = if int_eq e (pos 0) then first_error es else e
 
--- the error of an error part
 abbrev pub error_of : Operation → Option ℤ
 error_of (op.Error error) = Some error
 error_of (op.Create body) = None
@@ -167,28 +166,28 @@ error_of (op.Check body) = None
 abbrev pub has_error : List Operation → Bool
 has_error parts = list_any (λ (o : Operation). is_some (error_of o)) parts
 
--- its own error for an error part, and -2 for any other
+-- An error part has its own error, any other part -2.
 abbrev pub error_in_failed : Operation → ℤ
 error_in_failed o = unwrap_or (error_of o) RUNTIME_INCONSISTENCY
 
--- the parts of a multi with an error part: 0 before the first one
+-- The errors of a multi that has an error part: 0 before the first one.
 abbrev pub errors_of_failed : List Operation → List ℤ
 errors_of_failed [] = []
 errors_of_failed (o ∷ os) = if is_some (error_of o) then map error_in_failed (o ∷ os) else pos 0 ∷ errors_of_failed os
 
--- the answer of a multi with an error part
+-- The outcome of a multi that has an error part.
 abbrev pub failed_outcome : List Operation → Outcome
 failed_outcome parts =
     let errors = errors_of_failed parts in
     record { err = first_error errors; parts = errors; triggers = [] }
 
--- nothing is applied
+-- Nothing is applied.
 abbrev pub of_failed : List Operation → State → TxnEffect
 of_failed parts s =
     let answer = failed_outcome parts in
     record { state = s; err = answer.err; parts = answer.parts; triggers = answer.triggers }
 
--- the parts in order; one that fails stops none after it
+-- The parts in order. A part that fails doesn't stop those after it.
 abbrev pub of_parts : TxnHeader → List Operation → State → TxnEffect
 of_parts header [] s = record { state = s; err = pos 0; parts = []; triggers = [] }
 of_parts header (o ∷ os) s =
@@ -204,7 +203,7 @@ of_parts header (o ∷ os) s =
 abbrev pub of_multi : TxnHeader → List Operation → State → TxnEffect
 of_multi header parts s = if has_error parts then of_failed parts s else of_parts header parts s
 
--- the session's timeout is set
+-- The session's timeout is set.
 abbrev pub of_create_session : TxnHeader → ℤ → State → TxnEffect
 of_create_session header timeout s =
     record {
@@ -217,12 +216,12 @@ of_create_session header timeout s =
 abbrev pub delete_operations : List Bytes → List Operation
 delete_operations paths = map op.Delete paths
 
--- the state without the session and its pairs
+-- The state without the session and its pairs.
 abbrev pub state_without_session : ℤ → State → State
 state_without_session session s =
     record { nodes = s.nodes; pairs = without_session session s.pairs; sessions = finmap.remove s.sessions session }
 
--- the session's ephemerals are deleted in ascending bytes; an error is passed over
+-- The session's ephemeral nodes are deleted in ascending order of their bytes. Errors are ignored.
 abbrev pub of_close_session : TxnHeader → State → TxnEffect
 of_close_session header s =
     let deleted =
@@ -243,17 +242,17 @@ effect_of_txn s txn = effect_of_body txn.header txn.body s
 abbrev pub answer_of : TxnEffect → Outcome
 answer_of m = record { err = m.err; parts = m.parts; triggers = m.triggers }
 
--- the transactions one after the other
+-- The transactions one after the other.
 abbrev pub state_after : State → List Txn → State
 state_after s [] = s
 state_after s (t ∷ ts) = state_after (effect_of_txn s t).state ts
 
--- what they answer
+-- The outcomes of the transactions.
 abbrev pub outcomes_of_txns : State → List Txn → List Outcome
 outcomes_of_txns s [] = []
 outcomes_of_txns s (t ∷ ts) = answer_of (effect_of_txn s t) ∷ outcomes_of_txns (effect_of_txn s t).state ts
 
--- the tree from which every log starts: /, /zookeeper and /zookeeper/quota
+-- The tree that every log starts from: /, /zookeeper and /zookeeper/quota.
 abbrev pub fresh_state : State
 fresh_state = record {
   nodes =

@@ -1,4 +1,4 @@
--- What keeps the paths of a tree's nodes, and the names that they list, right.
+-- The paths of a tree's nodes, and the names that they list, stay valid.
 use Rattle.std.specs.Prelude.{IsTrue}
 use Rattle.ephemerals.specs.Orders.{Bytes}
 use Rattle.txn_codec.specs.Paths.{is_path, is_child_path, name_of}
@@ -10,11 +10,11 @@ use Rattle.data_tree.specs.State.{State}
 use Rattle.data_tree.specs.Meaning.{effect_of_txn}
 use Rattle.data_tree.specs.Making.{with_node_in_place}
 
--- what stands behind a path's last slash may stand there
+-- The bytes after the last slash of a path may be a child's name.
 abbrev pub PathsEndInNames : Type 0
 PathsEndInNames = (path : Bytes) → IsTrue (is_child_path path) → IsTrue (is_child_name (name_of path))
 
--- of a transaction that makes no "/", as each has that was decoded
+-- The transaction doesn't create "/"; a decoded one never does.
 abbrev pub TransactionsKeepNames : Type 0
 TransactionsKeepNames = (s : State) (t : Txn) → HaveParents t.body → AreNamed s.nodes
     → AreNamed (effect_of_txn s t).state.nodes

@@ -1,4 +1,4 @@
--- What a transaction that was refused for want of memory leaves.
+-- What a transaction leaves after a refused allocation.
 use Rattle.std.specs.Prelude.{◌≡◌, ℕ, List, Bool, true, false, take}
 use Rattle.txn_codec.specs.declared.txn.TxnHeader.{TxnHeader}
 use Rattle.txn_codec.specs.declared.txn.Operation.{Operation}
@@ -7,16 +7,16 @@ use Rattle.txn_codec.specs.declared.txn.Body.TheVariants as body
 use Rattle.data_tree.specs.State.{State}
 use Rattle.data_tree.specs.Meaning.{has_error, of_parts}
 
--- a front of the parts was done
+-- A prefix of the parts was applied.
 abbrev pub IsAfterFront : TxnHeader → List Operation → State → State → Type 0
 IsAfterFront header parts old new = (n : ℕ) × (new ≡ (of_parts header (take n parts) old).state)
 
--- a multi with an error part has done nothing, and any other a front of its parts
+-- A multi with an error part has changed nothing, any other has applied a prefix of its parts.
 abbrev pub IsPartlyDone : Bool → TxnHeader → List Operation → State → State → Type 0
 IsPartlyDone true header parts old new = new ≡ old
 IsPartlyDone false header parts old new = IsAfterFront header parts old new
 
--- of a closeSession nothing is said, and any transaction but a multi has done nothing
+-- Nothing is claimed about a closeSession. Any other transaction that isn't a multi has changed nothing.
 abbrev pub IsLeftByRefused : TxnHeader → Body → State → State → Type 0
 IsLeftByRefused header (body.Single operation) old new = new ≡ old
 IsLeftByRefused header (body.SetAcl body) old new = new ≡ old

@@ -9,7 +9,7 @@ pub use Rattle.node_map.specs.Nodes.{Nodes}
 pub use Rattle.data_tree.specs.Sessions.{SessionTimeouts}
 use Rattle.node_map.specs.declared.node.Node.{Node}
 
--- the nodes by path, the ephemerals as pairs of a session and a path, and each session's timeout
+-- The nodes by path, the ephemerals as pairs of a session and a path, and the timeout of each session.
 pub record State : Type 0 where
   pub nodes : Nodes
   pub pairs : OwnerPairs

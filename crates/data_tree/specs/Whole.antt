@@ -1,5 +1,5 @@
--- When a tree is whole: its paths and names are right, and its nodes, the names that they list, and the pairs of
--- sessions and paths agree.
+-- A tree is whole if its paths and names are valid, and its nodes, the names that they list, and the pairs of sessions
+-- and paths agree.
 use Rattle.std.specs.Prelude.{◌≡◌, true, codes}
 use Rattle.node_map.specs.Agreement.{has_node, AreLinked, AreNamed, AreOwned}
 use Rattle.data_tree.specs.State.{State}

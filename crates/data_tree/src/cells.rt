@@ -1,4 +1,6 @@
-//! Cells that are taken out of a tree, so that groups of transactions can be done apart.
+//! Cells that are taken out of a tree, so that groups of transactions can be applied separately.
+//!
+//! Laws that go over this: `Batches`, `CellMeanings`, `MovedCells`.
 
 ghost use Rattle.std.specs.Prelude.{◌≡◌, [], pos, OnOk, OnErr, IfOk};
 ghost use Rattle.data_tree.specs.Cells.{cells_at, without_cells, with_cells, effect_in_cells};
@@ -13,8 +15,8 @@ use std::marker::Model;
 use txn_codec::{Body, Txn};
 use values::{Listed, NoMemory};
 
-/// What stands at some paths of a tree, taken out of it by `Tree::take_cells`: the nodes there, and the sessions that
-/// list these paths. It is seen as a state without a session.
+/// The cells at some paths, taken out of a tree by `Tree::take_cells`: the nodes there, and the sessions that list
+/// these paths. Its model is a state without sessions.
 #[derive(Drop)]
 pub struct Cells {
     tree: Tree,
@@ -36,7 +38,7 @@ impl Model for Cells {
     } };
 }
 
-// The answer of a createSession.
+// The outcome of a createSession.
 fn no_outcome(alloc: Global) -> Outcome
     ensures { result ≡ record { err = pos 0; parts = []; triggers = [] } }
 {
@@ -48,7 +50,8 @@ fn no_outcome(alloc: Global) -> Outcome
 }
 
 impl Tree {
-    /// Moves out what stands at these paths, and leaves nothing there. Refused, it leaves the tree as it was.
+    /// Moves the cells at these paths out of the tree and leaves empty cells. A refused allocation leaves the tree as
+    /// it was.
     pub fn take_cells(&mut self, alloc: Global, paths: &TextSet) -> Result<Cells, NoMemory>
         ensures cells { IfOk result (λ cells. cells ≡ cells_at paths.now self.old) }
         ensures rest { OnOk result (self.new ≡ without_cells paths.now self.old) }
@@ -59,8 +62,8 @@ impl Tree {
         })
     }
 
-    /// Puts what stands in the cells, and nothing else, into the tree: where its own cells are empty they are those
-    /// that are given. Refused, it leaves a tree that is only to be dropped.
+    /// Moves the cells into the tree, where they replace empty cells. A refused allocation leaves the tree unspecified,
+    /// and the caller drops it.
     pub fn put_cells(&mut self, alloc: Global, cells: Cells) -> Result<(), NoMemory>
         ensures { OnOk result (self.new ≡ with_cells cells self.old) }
     {
@@ -69,10 +72,11 @@ impl Tree {
 }
 
 impl Cells {
-    /// Does a transaction in the cells: whatever stands in all other cells, what it leaves here and answers is what it
-    /// would leave and answer in the whole tree, where the cells have its footprint. A session's timeout isn't set.
-    /// Refused for want of memory, it leaves what `Tree::apply` leaves: of a multi a front of its parts was done, a
-    /// closeSession leaves cells that are only to be dropped, and any other leaves the cells as they were.
+    /// Applies a transaction to the cells. If they include its footprint, it leaves the same cells and has the same
+    /// outcome as in the whole tree, whatever the other cells are. A session's timeout isn't set.
+    ///
+    /// A refused allocation leaves what it leaves in `Tree::apply`: a multi has applied a prefix of its parts, after a
+    /// closeSession the cells are unspecified, and any other transaction leaves the cells as they were.
     pub fn apply(&mut self, alloc: Global, txn: &Txn) -> Result<Outcome, NoMemory>
         ensures cells { OnOk result (self.new ≡ (effect_in_cells self.old txn.now).state) }
         ensures answer { IfOk result (λ o. o ≡ answer_of (effect_in_cells self.old txn.now)) }

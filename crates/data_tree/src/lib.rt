@@ -1,18 +1,19 @@
-//! The data tree of ZooKeeper: what each transaction does to it, answers, and tells watchers.
+//! The data tree of ZooKeeper: what each transaction does to it, its errors, and its triggers for watchers.
 //!
-//! A `Tree` is a state in three parts: the nodes by path, which session owns which ephemeral node, and each session's
-//! timeout. It starts `fresh`, or `empty` where it is read from an image node by node. `apply` does one transaction,
-//! and is proved to be what `specs/Meaning.antt` says of it; `docs/TRANSACTIONS.md` tells that in a table. What
-//! allocates is done first: where memory is refused, the tree is as it was, but after a multi or a closeSession. The
-//! laws in `law` say which transactions can be done apart: `take_cells` moves what stands at some paths out of the
-//! tree, transactions that keep to these paths are done there as they are done here, and `put_cells` brings it back.
+//! A `Tree` is a state in three parts: the nodes by path, the ephemeral nodes of each session, and the timeout of each
+//! session. It starts `fresh`, or `empty` if it is read node by node from an image. `apply` applies one transaction and
+//! is proved to do what `specs/Meaning.antt` defines; `docs/TRANSACTIONS.md` has this as a table. It allocates before
+//! it changes anything, so a refused allocation leaves the tree as it was, except in a multi or a closeSession. The
+//! laws in `law` say which transactions can be applied separately: `take_cells` moves the cells at some paths out of
+//! the tree, transactions whose footprint is within these paths are applied to the cells as they would be to the tree,
+//! and `put_cells` moves the cells back.
 //!
 //! ```text
 //! let mut tree = Tree::fresh(alloc)?;
 //! let outcome = tree.apply(alloc, &decode_txn(alloc, bytes)?)?;
-//! outcome.err                          // 0, or the number of the first error
-//! outcome.triggers                     // what watchers are told, in order
-//! tree.node("/a"), tree.stat("/a")     // the node, and what it shows of itself
+//! outcome.err                          // the first error code, or 0
+//! outcome.triggers                     // the triggers for watchers, in order
+//! tree.node("/a"), tree.stat("/a")     // the node, and its Stat
 //! let mut cells = tree.take_cells(alloc, &paths)?;
 //! cells.apply(alloc, &txn)?;
 //! tree.put_cells(alloc, cells)?;

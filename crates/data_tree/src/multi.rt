@@ -1,4 +1,6 @@
 //! The errors of a multi's parts.
+//!
+//! Laws that go over this: `CellMeanings`, `Commute`, `KeepingNames`.
 
 ghost use Rattle.std.specs.Prelude.{◌≡◌, IfOk};
 ghost use Rattle.data_tree.specs.Meaning.{first_error, error_of, has_error, errors_of_failed, failed_outcome};
@@ -9,7 +11,7 @@ use std::alloc::Global;
 use txn_codec::Operation;
 use values::{Listed, NoMemory};
 
-/// The first error that isn't 0, if any, and else 0.
+/// The first error that isn't 0, or 0 if there is none.
 pub fn first_error(errors: &[i32]) -> i32
     ensures { result ≡ first_error errors.now }
 {
@@ -21,7 +23,6 @@ pub fn first_error(errors: &[i32]) -> i32
     0
 }
 
-// The error of an error part.
 fn error_of(part: &Operation) -> Option<i32>
     ensures { result ≡ error_of part.now }
 {
@@ -44,7 +45,7 @@ pub fn has_error(parts: &[Operation]) -> bool
     false
 }
 
-/// What a multi with an error part answers.
+/// The outcome of a multi that has an error part. Fails only if an allocation is refused.
 pub fn failed_outcome(alloc: Global, parts: &[Operation]) -> Result<Outcome, NoMemory>
     ensures { IfOk result (λ o. o ≡ failed_outcome parts.now) }
 {

@@ -1,35 +1,35 @@
-//! What a transaction answers.
+//! The outcome of a transaction.
 
 ghost use Rattle.std.specs.Prelude.{◌≡◌, ◌∷◌, ◌++◌, [], OnOk};
 
 use std::alloc::Global;
 use values::{Listed, NoMemory, Text};
 
-/// What a change of the tree tells watchers, with the path that it concerns (ZooKeeper Programmer's Guide, "Watches").
+/// A change that watches fire on, with its path (ZooKeeper Programmer's Guide, "Watches").
 #[derive(Debug, Drop)]
 pub enum Trigger {
-    /// A node was made.
+    /// A node was created.
     Created(Text),
-    /// A node was removed.
+    /// A node was deleted.
     Deleted(Text),
-    /// A node's bytes were replaced.
+    /// A node's data was replaced.
     DataChanged(Text),
     /// A node gained or lost a child.
     ChildrenChanged(Text),
 }
 
-/// What a transaction answers.
+/// The outcome of a transaction.
 #[derive(Debug, Drop)]
 pub struct Outcome {
-    /// 0, or the number of the first error.
+    /// ZooKeeper's error code of the first error, or 0.
     pub err: i32,
-    /// The error of each part of a multi, in order; no other transaction has parts.
+    /// The error of each part of a multi, in order. Any other transaction has no parts.
     pub parts: Listed<i32>,
-    /// What watchers are told, in order.
+    /// The triggers for watchers, in order.
     pub triggers: Listed<Trigger>,
 }
 
-/// Adds what a create or a delete fires: at the path, and at its parent.
+/// Adds the triggers of a create or a delete: at the path, and at its parent.
 pub fn fire_with_parent(
     triggers: &mut Vec<Trigger>,
     alloc: Global,
@@ -45,7 +45,7 @@ pub fn fire_with_parent(
     Ok(())
 }
 
-/// Adds what a setData fires.
+/// Adds the trigger of a setData.
 pub fn fire_data_changed(
     triggers: &mut Vec<Trigger>,
     alloc: Global,

@@ -1,4 +1,4 @@
-//! The sessions' timeouts.
+//! The timeouts of sessions.
 
 ghost use Rattle.std.specs.Prelude.{◌≡◌, ℤ, OnOk, OnErr};
 ghost use Rattle.std.specs.Map.Iter.{ShowsInOrder, deref_pair};
@@ -10,7 +10,7 @@ use std::collections::btree_map::Iter;
 use std::marker::Model;
 use values::NoMemory;
 
-/// Each session's timeout in milliseconds.
+/// The timeout of each session, in milliseconds.
 #[derive(Drop)]
 pub struct Timeouts {
     map: BTreeMap<i64, i32>,
@@ -39,7 +39,7 @@ impl Clone for Timeouts {
 }
 
 impl Timeouts {
-    // No session, which takes no memory.
+    // No session. Allocates nothing.
     pub(crate) fn new(alloc: Global) -> Timeouts
         ensures { result ≡ finmap.empty }
     {
@@ -48,14 +48,14 @@ impl Timeouts {
         }
     }
 
-    /// The timeout of the session, if there is that session.
+    /// The timeout of the session in milliseconds, or None if there is no such session.
     pub fn get(&self, session: i64) -> Option<i32>
         ensures { result ≡ finmap.get self.now session }
     {
         self.map.get(&session).copied()
     }
 
-    /// The sessions with their timeouts, in ascending number.
+    /// The sessions with their timeouts, in ascending order of their ids.
     pub fn iter(&self) -> Iter<'_, i64, i32>
         ensures entries { result ≡ finmap.entries self.now }
         ensures runs { ShowsInOrder (deref_pair {K = ℤ} {X = ℤ}) }
@@ -63,7 +63,7 @@ impl Timeouts {
         self.map.iter()
     }
 
-    // Sets a session's timeout.
+    // Sets a session's timeout. A refused allocation changes nothing.
     pub(crate) fn set(&mut self, session: i64, timeout: i32) -> Result<(), NoMemory>
         ensures ok { OnOk result (self.new ≡ finmap.insert self.old session timeout) }
         ensures err { OnErr result (self.new ≡ self.old) }
@@ -72,7 +72,6 @@ impl Timeouts {
         Ok(())
     }
 
-    // Drops a session.
     pub(crate) fn remove(&mut self, session: i64)
         ensures { self.new ≡ finmap.remove self.old session }
     {

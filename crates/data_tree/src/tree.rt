@@ -1,4 +1,6 @@
 //! The data tree.
+//!
+//! Laws that go over this: `Batches`, `CellMeanings`, `Commute`, `KeepingNames`, `MovedCells`, `Multis`.
 
 ghost use Rattle.std.specs.Prelude.{◌≡◌, ◌++◌, [], ◌↔◌, OnOk, OnErr, IfOk, IsTrue, not, map, String, string_bytes, codes};
 ghost use Rattle.std.specs.Option.{option_copied, option_map};
@@ -33,7 +35,7 @@ use txn_codec::{
 };
 use values::{Listed, NoMemory, Text};
 
-/// The nodes, the sessions' ephemerals, and the sessions' timeouts.
+/// The nodes, the ephemeral nodes of each session, and the timeout of each session.
 #[derive(Drop)]
 pub struct Tree {
     nodes: NodeMap,
@@ -53,7 +55,8 @@ impl Model for Tree {
 }
 
 impl Tree {
-    /// The tree from which every log starts: /, /zookeeper and /zookeeper/quota, and no session.
+    /// The tree that every log starts from: /, /zookeeper and /zookeeper/quota, and no session. Fails only if an
+    /// allocation is refused.
     pub fn fresh(alloc: Global) -> Result<Tree, NoMemory>
         ensures { IfOk result (λ tree. tree ≡ fresh_state) }
     {
@@ -77,8 +80,7 @@ impl Tree {
         })
     }
 
-    /// A tree without a node and without a session, which takes no memory: where a tree that is read from an image
-    /// begins.
+    /// A tree without a node and without a session, which an image is loaded into. Allocates nothing.
     pub fn empty(alloc: Global) -> Tree
         ensures { result ≡ empty_state }
     {
@@ -89,7 +91,7 @@ impl Tree {
         }
     }
 
-    /// A tree that is equal to this one.
+    /// A copy of this tree. Fails only if an allocation is refused.
     pub fn copy(&self) -> Result<Tree, NoMemory>
         ensures { IfOk result (λ tree. tree ≡ self.now) }
     {
@@ -100,7 +102,7 @@ impl Tree {
         })
     }
 
-    /// Sets a session's timeout in milliseconds. Refused, it leaves the tree as it was.
+    /// Sets a session's timeout in milliseconds. A refused allocation leaves the tree as it was.
     pub fn put_session(&mut self, session: i64, timeout: i32) -> Result<(), NoMemory>
         ensures ok { OnOk result (self.new ≡ with_session self.old session timeout) }
         ensures err { OnErr result (self.new ≡ self.old) }
@@ -108,9 +110,9 @@ impl Tree {
         self.timeouts.set(session, timeout)
     }
 
-    /// Adds a node at the path, its name in the parent and its owner's pair, and says whether the path has a place: "/"
-    /// where there is no node, and any other path where it is new and its parent is there. Where there is no place, and
-    /// where memory is refused, the tree is as it was.
+    /// Adds a node at the path, its name in the parent, and its owner's pair. Returns whether the path has a place: "/"
+    /// has one if there is no node at all, any other path if it is new and its parent exists. Without a place, and
+    /// after a refused allocation, the tree is as it was.
     pub fn put_node(&mut self, alloc: Global, path: &Path, node: Node) -> Result<bool, NoMemory>
         ensures placed { IfOk result (λ placed. placed ≡ has_place self.old.nodes path.now) }
         ensures state { OnOk result (self.new ≡ with_node_in_place self.old path.now node) }
@@ -137,7 +139,7 @@ impl Tree {
         }
     }
 
-    // Puts the root where there is no node, and says whether there was none.
+    // Inserts the root if there is no node at all, and returns whether there was none.
     fn put_root(&mut self, alloc: Global, node: Node) -> Result<bool, NoMemory>
         ensures placed { IfOk result (λ placed. placed ≡ has_place self.old.nodes (codes "/")) }
         ensures state { OnOk result (self.new ≡ with_node_in_place self.old (codes "/") node) }
@@ -150,7 +152,7 @@ impl Tree {
         Ok(true)
     }
 
-    // Puts a node and its owner's pair where there is no node yet, and says whether there was none.
+    // Inserts a node and its owner's pair if there is no node at the path yet, and returns whether there was none.
     fn place_new_node(&mut self, alloc: Global, path: &str, node: Node) -> Result<bool, NoMemory>
         ensures new { IfOk result (λ new. new ≡ not (has_node self.old.nodes path.now)) }
         ensures state { OnOk result (self.new ≡ with_new_node_placed self.old path.now node) }
@@ -169,7 +171,7 @@ impl Tree {
         }
     }
 
-    // Puts a node and its owner's pair, or leaves all as it was.
+    // Inserts a node and its owner's pair. A refused allocation leaves the tree as it was.
     fn place_node(&mut self, alloc: Global, path: &str, node: Node) -> Result<(), NoMemory>
         ensures ok { OnOk result (self.new ≡ with_placed_node self.old path.now node) }
         ensures err { OnErr result (self.new ≡ self.old) }
@@ -288,7 +290,7 @@ impl Tree {
         self.put_session(header.client_id, timeout)
     }
 
-    // Does one operation, and adds what it fires.
+    // Applies one operation and adds its triggers.
     fn operate(
         &mut self,
         alloc: Global,
@@ -308,7 +310,7 @@ impl Tree {
         }
     }
 
-    // Does the parts of a multi in order.
+    // Applies the parts of a multi in order.
     fn operate_all(
         &mut self,
         alloc: Global,
@@ -332,7 +334,7 @@ impl Tree {
         })
     }
 
-    // Deletes the paths in ascending bytes, and adds what that fires.
+    // Deletes the paths in ascending order of their bytes, and adds the triggers.
     fn delete_all(
         &mut self,
         alloc: Global,
@@ -369,8 +371,10 @@ impl Tree {
         self.delete_all(alloc, header, paths, triggers)
     }
 
-    /// Does a transaction. Refused for want of memory, a multi has done a front of its parts, a closeSession leaves a
-    /// tree that is only to be dropped, and any other leaves the tree as it was.
+    /// Applies a transaction and returns its outcome.
+    ///
+    /// A refused allocation leaves a prefix of a multi's parts applied; after a closeSession it leaves the tree
+    /// unspecified, and the caller drops it; with any other transaction it leaves the tree as it was.
     pub fn apply(&mut self, alloc: Global, txn: &Txn) -> Result<Outcome, NoMemory>
         ensures state { OnOk result (self.new ≡ (effect_of_txn self.old txn.now).state) }
         ensures answer { IfOk result (λ o. o ≡ answer_of (effect_of_txn self.old txn.now)) }
@@ -414,7 +418,7 @@ impl Tree {
         self.operate_all(alloc, header, parts)
     }
 
-    // The nodes and the pairs at these paths, which stand here no more.
+    // Moves the nodes and the pairs at these paths out of the tree.
     pub(crate) fn take_tree(&mut self, alloc: Global, paths: &TextSet) -> Result<Tree, NoMemory>
         ensures cells { IfOk result (λ cells. cells ≡ cells_at paths.now self.old) }
         ensures rest { OnOk result (self.new ≡ without_cells paths.now self.old) }
@@ -430,7 +434,7 @@ impl Tree {
         })
     }
 
-    // Adds the nodes and the pairs of another tree.
+    // Moves the nodes and the pairs of another tree into this one.
     pub(crate) fn put_tree(&mut self, alloc: Global, cells: Tree) -> Result<(), NoMemory>
         ensures { OnOk result (self.new ≡ with_cells cells self.old) }
     {
@@ -445,21 +449,21 @@ impl Tree {
         self.nodes.get(path)
     }
 
-    /// What the node at the path shows of itself.
+    /// The Stat of the node at the path, as clients see it.
     pub fn stat(&self, path: &str) -> Option<Stat>
         ensures { result ≡ option_map stat_of (finmap.get self.now.nodes path.now) }
     {
         Some(self.node(path)?.shown())
     }
 
-    /// How many nodes there are.
+    /// The number of nodes.
     pub fn paths(&self) -> usize
         ensures { result ≡ finmap.len self.now.nodes }
     {
         self.nodes.len()
     }
 
-    /// The nodes with their paths, in ascending bytes.
+    /// The nodes with their paths, in ascending order of the paths' bytes.
     pub fn nodes(&self) -> Iter<'_, String, Node>
         ensures entries { map (λ e. (string_bytes e.0, e.1)) result ≡ finmap.entries self.now.nodes }
         ensures runs { ShowsInOrder (deref_pair {K = String Global} {X = TheNode}) }
@@ -467,7 +471,7 @@ impl Tree {
         self.nodes.iter()
     }
 
-    /// The names of the children of the node at the path, in ascending bytes.
+    /// The names of the children of the node at the path, in ascending order of their bytes.
     pub fn children(&self, path: &str) -> Option<&TextSet>
         ensures { option_copied result ≡
             option_map children_of (finmap.get self.now.nodes path.now) }
@@ -475,23 +479,23 @@ impl Tree {
         Some(&self.node(path)?.children)
     }
 
-    /// Each session's timeout.
+    /// The timeout of each session.
     pub fn sessions(&self) -> &Timeouts
         ensures { result.now ≡ self.now.sessions }
     {
         &self.timeouts
     }
 
-    /// Which session owns which ephemeral node.
+    /// The ephemeral nodes of each session.
     pub fn ephemerals(&self) -> &Ephemerals
         ensures { result.now ≡ self.now.pairs }
     {
         &self.ephemerals
     }
 
-    /// Whether the tree is whole: there is a root; each node stands at a path and lists names that may stand in one;
-    /// each node but the root has a parent that lists its name; each name that a node lists has a node; and the
-    /// ephemerals are the owned nodes' paths, each with its owner.
+    /// Whether the tree is whole: there is a root; each node is at a path and lists names of children; each node but
+    /// the root has a parent that lists its name; each name that a node lists has a node; and the ephemerals are the
+    /// paths of the owned nodes, each with its owner. Fails only if an allocation is refused.
     pub fn is_whole(&self, alloc: Global) -> Result<bool, NoMemory>
         ensures { IfOk result (λ whole. IsTrue whole ↔ IsWhole self.now) }
     {

@@ -7,7 +7,7 @@ use std::test::Fail;
 use txn_codec::AclList;
 use values::{Listed, Text};
 
-// An entry that grants everyone these permissions.
+// An entry that grants every client these permissions.
 fn entry_of(alloc: Global, perms: i32) -> Result<Acl, Fail> {
     let scheme = Text::new(alloc, "world")?;
     let id = Text::new(alloc, "anyone")?;
@@ -23,7 +23,7 @@ fn is_open(acl: &Option<Listed<Acl>>) -> Result<bool, Fail> {
     Ok(list.listed().is_none() && list.clone()?.listed().is_none())
 }
 
-// Whether a list keeps its one entry with these permissions, and so does its copy.
+// Whether a list has one entry with these permissions, and so has its copy.
 fn keeps(alloc: Global, perms: i32) -> Result<bool, Fail> {
     let mut entries = Vec::new(alloc);
     entries

@@ -1,4 +1,4 @@
-//! Trees that are made node by node, and copied.
+//! Trees that are built node by node, and copied.
 
 use crate::path_of;
 use data_tree::{Node, Tree};
@@ -24,7 +24,7 @@ fn stat_of(owner: i64) -> StatPersisted {
     }
 }
 
-// A node without bytes, entries and children, of the owner.
+// A node without data, entries and children, with this owner.
 fn node_of(alloc: Global, owner: i64) -> Result<Node, Fail> {
     Ok(Node {
         bytes: None,
@@ -34,7 +34,7 @@ fn node_of(alloc: Global, owner: i64) -> Result<Node, Fail> {
     })
 }
 
-// Puts a node of the owner, and says whether there was a place.
+// Adds a node of the owner, and returns whether there was a place.
 fn put(alloc: Global, tree: &mut Tree, text: &str, owner: i64) -> Result<bool, Fail> {
     let path = path_of(alloc, text).ok_or("a path")?;
     Ok(tree.put_node(alloc, &path, node_of(alloc, owner)?)?)
@@ -49,7 +49,7 @@ fn root_of(alloc: Global, names: &[&str]) -> Result<Node, Fail> {
     Ok(root)
 }
 
-// Puts the root and then /x/y, and says whether the tree is whole.
+// Adds the root and then /x/y, and returns whether the tree is whole.
 fn is_whole_below(alloc: Global, tree: &mut Tree, root: Node) -> Result<bool, Fail> {
     let path = path_of(alloc, "/").ok_or("a path")?;
     tree.put_node(alloc, &path, root)?;
@@ -58,14 +58,14 @@ fn is_whole_below(alloc: Global, tree: &mut Tree, root: Node) -> Result<bool, Fa
     Ok(tree.is_whole(alloc)?)
 }
 
-// A tree of /x/y, whose root listed the names before; and whether it is whole.
+// A tree of /x/y whose root listed the names before, and whether it is whole.
 fn is_whole_from(alloc: Global, names: &[&str]) -> Result<bool, Fail> {
     let root = root_of(alloc, names)?;
     let mut tree = Tree::empty(alloc);
     is_whole_below(alloc, &mut tree, root)
 }
 
-// Session 9 lasts 5 seconds; then come nodes, and for each a sign whether there was a place.
+// Session 9 has a timeout of 5 seconds; then come nodes, and for each a sign whether there was a place.
 fn make(alloc: Global, tree: &mut Tree, nodes: &[(&str, i64)]) -> Result<String, Fail> {
     tree.put_session(9, 5000)?;
     let mut signs = String::new(alloc);
@@ -79,7 +79,7 @@ fn make(alloc: Global, tree: &mut Tree, nodes: &[(&str, i64)]) -> Result<String,
     Ok(signs)
 }
 
-// Puts /a too early, the root, its children and what has no place any more.
+// Adds /a too early, the root, its children, and nodes that have no place any more.
 fn make_whole(alloc: Global, tree: &mut Tree) -> Result<String, Fail> {
     make(
         alloc,
@@ -104,20 +104,20 @@ fn names(alloc: Global, tree: &Tree) -> Result<String, Fail> {
     Ok(text)
 }
 
-// Whether the tree is whole, and session 9 lasts 5 seconds and owns /a.
+// Whether the tree is whole, and session 9 has a timeout of 5 seconds and owns /a.
 fn is_as_made(alloc: Global, tree: &Tree) -> Result<bool, Fail> {
     let owns = tree.ephemerals().contains(9, "/a");
     Ok(tree.is_whole(alloc)? && owns && tree.sessions().get(9) == Some(5000))
 }
 
-// Whether a copy of the tree keeps what the tree then loses: the time of its session.
+// Whether a copy of the tree keeps the timeout that the tree then loses.
 fn is_copied(alloc: Global, tree: &mut Tree) -> Result<bool, Fail> {
     let copy = tree.copy()?;
     tree.put_session(9, 0)?;
     Ok(is_as_made(alloc, &copy)? && names(alloc, &copy)?.as_str() == "ab")
 }
 
-// For each node a sign whether there was a place, and then whether the tree is as it was made.
+// For each node a sign whether there was a place, and then whether the tree is as it was built.
 fn signs_and_tree(alloc: Global, tree: &mut Tree) -> Result<(String, bool), Fail> {
     let signs = make_whole(alloc, tree)?;
     let is_made = is_as_made(alloc, tree)?;
@@ -129,7 +129,7 @@ fn made(alloc: Global) -> Result<(String, bool), Fail> {
     signs_and_tree(alloc, &mut tree)
 }
 
-// Whether a copy is as the tree was made, and whether the tree itself still is.
+// Whether a copy is as the tree was built, and whether the tree itself still is.
 fn copy_and_tree(alloc: Global, tree: &mut Tree) -> Result<(bool, bool), Fail> {
     make_whole(alloc, tree)?;
     let is_copied = is_copied(alloc, tree)?;
@@ -141,7 +141,7 @@ fn copied(alloc: Global) -> Result<(bool, bool), Fail> {
     copy_and_tree(alloc, &mut tree)
 }
 
-// The paths of a tree's nodes, each behind a blank.
+// The paths of a tree's nodes, each after a blank.
 fn paths(alloc: Global, tree: &Tree) -> Result<String, Fail> {
     let mut text = String::new(alloc);
     for (path, _) in tree.nodes() {

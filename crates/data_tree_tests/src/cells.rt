@@ -1,4 +1,4 @@
-//! Cells that are taken out of a tree, changed apart, and put back.
+//! Cells that are taken out of a tree, changed separately, and put back.
 
 use crate::path_of;
 use crate::transactions::fresh;
@@ -20,7 +20,7 @@ fn txn_of(session: i64, body: Body) -> Txn {
     Txn { header, body }
 }
 
-// The session makes an ephemeral node of one byte.
+// The session creates an ephemeral node with one byte of data.
 fn create(alloc: Global, session: i64, path: &str) -> Result<Txn, Fail> {
     let create = Create {
         path: path_of(alloc, path).ok_or("a path")?,
@@ -32,7 +32,7 @@ fn create(alloc: Global, session: i64, path: &str) -> Result<Txn, Fail> {
     Ok(txn_of(session, Body::Single(Operation::Create(create))))
 }
 
-// The node has two bytes.
+// The node gets two bytes of data.
 fn set_data(alloc: Global, path: &str) -> Result<Txn, Fail> {
     let set_data = SetData {
         path: path_of(alloc, path).ok_or("a path")?,
@@ -59,14 +59,14 @@ fn made(alloc: Global) -> Result<Tree, Fail> {
     Ok(tree)
 }
 
-// The error of the transaction, and how many triggers it has.
+// The error of the transaction, and the number of its triggers.
 fn answer(alloc: Global, cells: &mut Cells, txn: &Txn) -> Result<String, Fail> {
     let outcome = cells.apply(alloc, txn)?;
     let triggers = outcome.triggers.as_slice().len();
     Ok(format!(in alloc; "{} {triggers};", outcome.err)?)
 }
 
-// Session 7 makes /q, and /e gets new bytes; a session begins; a node that isn't in the cells isn't found.
+// Session 7 creates /q, and /e gets new data; a session begins; a node that isn't in the cells isn't found.
 fn change(alloc: Global, cells: &mut Cells) -> Result<String, Fail> {
     let txns = [
         create(alloc, 7, "/q")?,
@@ -81,7 +81,7 @@ fn change(alloc: Global, cells: &mut Cells) -> Result<String, Fail> {
     Ok(text)
 }
 
-// How many nodes there are, how many pairs, how many bytes /e has, and how long session 7 lasts.
+// The number of nodes, the number of pairs, the length of the data of /e, and the timeout of session 7.
 fn state_of(alloc: Global, tree: &Tree) -> Result<String, Fail> {
     let bytes = tree.stat("/e").map(|stat| stat.data_length).unwrap_or(-1);
     let timeout = tree.sessions().get(7).unwrap_or(-1);
@@ -98,13 +98,13 @@ fn taken(alloc: Global, tree: &mut Tree) -> Result<Cells, Fail> {
     Ok(tree.take_cells(alloc, &paths)?)
 }
 
-// The tree that has the cells again.
+// The tree with the cells put back.
 fn put(alloc: Global, tree: &mut Tree, cells: Cells) -> Result<String, Fail> {
     tree.put_cells(alloc, cells)?;
     state_of(alloc, tree)
 }
 
-// The tree without the cells, what is answered in the cells, and the tree that has them again, which is whole.
+// The tree without the cells, the outcome in the cells, and the tree with the cells put back, which is whole.
 fn moved_in(alloc: Global, tree: &mut Tree) -> Result<String, Fail> {
     let mut cells = taken(alloc, tree)?;
     let without = state_of(alloc, tree)?;

@@ -1,6 +1,6 @@
-//! Tests of the data tree and of the sets below it, over public calls alone. They stand in a crate of their own, since
-//! a crate that has tests is proved twice; and most calls stand in functions without clauses, so that a test's own
-//! proof is short.
+//! Tests of the data tree and of the sets below it, over public calls alone. They are a crate of their own, since a
+//! crate with tests is proved twice. Most calls are in functions without contracts, so that a test's own proof is
+//! short.
 #![tactic(auto)]
 
 #[cfg(test)]

@@ -1,10 +1,10 @@
-//! Which session owns which path.
+//! The owners of paths.
 
 use ephemerals::{Ephemerals, TextSet};
 use std::alloc::Global;
 use std::test::Fail;
 
-// The paths of a session, one after another; none is a dash.
+// The paths of a session, one after another; a dash if there are none.
 fn paths(alloc: Global, owners: &Ephemerals, session: i64) -> Result<String, Fail> {
     let mut text = String::new(alloc);
     match owners.of(session) {
@@ -28,7 +28,7 @@ fn text_of(alloc: Global, owners: &Ephemerals) -> Result<String, Fail> {
     Ok(text)
 }
 
-// Adds pairs, and says for each whether it was new.
+// Adds pairs, and returns for each whether it was new.
 fn add_all(alloc: Global, owners: &mut Ephemerals, pairs: &[(i64, &str)]) -> Result<String, Fail> {
     let mut signs = String::new(alloc);
     for (session, path) in pairs {
@@ -41,12 +41,12 @@ fn add_all(alloc: Global, owners: &mut Ephemerals, pairs: &[(i64, &str)]) -> Res
     Ok(signs)
 }
 
-// Two paths of session 9, one of them twice, and one of nobody.
+// Two paths of session 9, one of them twice, and one of session 0.
 fn fill(alloc: Global, owners: &mut Ephemerals) -> Result<String, Fail> {
     add_all(alloc, owners, &[(9, "/b"), (9, "/a"), (9, "/b"), (0, "/c")])
 }
 
-// The paths of a copy of the pairs, in which /a goes from session 9 to session 7.
+// The paths of a copy of the pairs, in which /a moves from session 9 to session 7.
 fn moved(alloc: Global, owners: &Ephemerals) -> Result<String, Fail> {
     let mut copy = owners.clone()?;
     copy.replace(alloc, "/a", 9, 7)?;
@@ -54,7 +54,7 @@ fn moved(alloc: Global, owners: &Ephemerals) -> Result<String, Fail> {
     text_of(alloc, &copy)
 }
 
-// The pairs at /a that session 9 and then session 7 own, beside what is left without them and with them again.
+// The pairs at /a, owned by session 9 and then by session 7, and the other pairs without them and with them again.
 fn taken(alloc: Global, owners: &mut Ephemerals) -> Result<String, Fail> {
     owners.add(alloc, 7, "/a")?;
     let mut paths = TextSet::new(alloc);

@@ -4,7 +4,7 @@ use ephemerals::TextSet;
 use std::alloc::Global;
 use std::test::Fail;
 
-// Inserts the texts, and says for each whether it was new.
+// Inserts the texts, and returns for each whether it was new.
 fn insert_all(alloc: Global, set: &mut TextSet, texts: &[&str]) -> Result<String, Fail> {
     let mut signs = String::new(alloc);
     for text in texts {
@@ -23,7 +23,7 @@ fn looped(alloc: Global, set: &TextSet) -> Result<String, Fail> {
     Ok(out)
 }
 
-// The texts one after another, as they are taken out.
+// The texts one after another, as `pop_first` returns them.
 fn popped(alloc: Global, set: &mut TextSet) -> Result<String, Fail> {
     let mut out = String::new(alloc);
     for _ in 0..set.len() {
@@ -33,7 +33,7 @@ fn popped(alloc: Global, set: &mut TextSet) -> Result<String, Fail> {
     Ok(out)
 }
 
-// The texts of a copy of the set, from which one was taken.
+// The texts of a copy of the set, from which one was removed.
 fn copied(alloc: Global, set: &TextSet) -> Result<String, Fail> {
     let mut copy = set.clone()?;
     copy.remove("a");

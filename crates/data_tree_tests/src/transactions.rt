@@ -1,26 +1,26 @@
-//! What transactions answer, one after the other.
+//! The outcomes of transactions, one after the other.
 
 use data_tree::{Outcome, Tree, Trigger};
 use std::alloc::Global;
 use std::test::Fail;
 use txn_codec::{Txn, decode_txn};
 
-// Session 9 makes the ephemeral /e.
+// Session 9 creates the ephemeral /e.
 const CREATE_E: &[u8; 51] =
     b"\0\0\0\0\0\0\0\x09\0\0\0\x01\0\0\0\0\0\0\0\x01\0\0\0\0\0\0\x03\xe8\0\0\0\x01\0\0\0\x02/e\xff\xff\xff\xff\xff\xff\xff\xff\x01\xff\xff\xff\xff";
-// Session 9 makes the ephemeral /d.
+// Session 9 creates the ephemeral /d.
 const CREATE_D: &[u8; 51] =
     b"\0\0\0\0\0\0\0\x09\0\0\0\x01\0\0\0\0\0\0\0\x02\0\0\0\0\0\0\x03\xe8\0\0\0\x01\0\0\0\x02/d\xff\xff\xff\xff\xff\xff\xff\xff\x01\xff\xff\xff\xff";
-// Session 7 makes /d/x; the cversion of /d becomes 2,147,483,647.
+// Session 7 creates /d/x; the cversion of /d becomes 2,147,483,647.
 const CREATE_X: &[u8; 53] =
     b"\0\0\0\0\0\0\0\x07\0\0\0\x01\0\0\0\0\0\0\0\x03\0\0\0\0\0\0\x03\xe8\0\0\0\x01\0\0\0\x04/d/x\xff\xff\xff\xff\xff\xff\xff\xff\0\x7f\xff\xff\xff";
-// Session 7 makes /d/y; the cversion of /d counts up by one.
+// Session 7 creates /d/y; the cversion of /d counts up by one.
 const CREATE_Y: &[u8; 53] =
     b"\0\0\0\0\0\0\0\x07\0\0\0\x01\0\0\0\0\0\0\0\x04\0\0\0\0\0\0\x03\xe8\0\0\0\x01\0\0\0\x04/d/y\xff\xff\xff\xff\xff\xff\xff\xff\0\xff\xff\xff\xff";
 // A multi that failed: a create of /m, an error of -101, a delete of /e.
 const FAILED_MULTI: &[u8; 89] =
     b"\0\0\0\0\0\0\0\x07\0\0\0\x01\0\0\0\0\0\0\0\x05\0\0\0\0\0\0\x03\xe8\0\0\0\x0e\0\0\0\x03\0\0\0\x01\0\0\0\x13\0\0\0\x02/m\xff\xff\xff\xff\xff\xff\xff\xff\0\xff\xff\xff\xff\xff\xff\xff\xff\0\0\0\x04\xff\xff\xff\x9b\0\0\0\x02\0\0\0\x06\0\0\0\x02/e";
-// A multi: a create of /e, which is there, and null data of /e.
+// A multi: a create of /e, which exists, and null data for /e.
 const MULTI: &[u8; 85] =
     b"\0\0\0\0\0\0\0\x07\0\0\0\x01\0\0\0\0\0\0\0\x06\0\0\0\0\0\0\x03\xe8\0\0\0\x0e\0\0\0\x02\0\0\0\x01\0\0\0\x13\0\0\0\x02/e\xff\xff\xff\xff\xff\xff\xff\xff\0\0\0\0\x01\0\0\0\x05\0\0\0\x0e\0\0\0\x02/e\xff\xff\xff\xff\0\0\0\x01";
 // The open list for /d, aversion 4.
@@ -49,7 +49,7 @@ fn errors_of(alloc: Global, parts: &[i32]) -> Result<String, Fail> {
     Ok(text)
 }
 
-// What watchers are told.
+// The triggers, as signs and paths.
 fn signs_of(alloc: Global, triggers: &[Trigger]) -> Result<String, Fail> {
     let mut text = String::new(alloc);
     for trigger in triggers {
@@ -60,7 +60,7 @@ fn signs_of(alloc: Global, triggers: &[Trigger]) -> Result<String, Fail> {
     Ok(text)
 }
 
-// The error, the parts' errors, and what watchers are told.
+// The error, the parts' errors, and the triggers.
 fn text_of(alloc: Global, outcome: &Outcome) -> Result<String, Fail> {
     let errors = errors_of(alloc, outcome.parts.as_slice())?;
     let signs = signs_of(alloc, outcome.triggers.as_slice())?;
@@ -72,13 +72,13 @@ fn txn_of(alloc: Global, bytes: &[u8]) -> Result<Txn, Fail> {
     Ok(decode_txn(alloc, bytes)?)
 }
 
-// What the transaction that the bytes spell answers.
+// The outcome of the transaction that the bytes spell.
 fn answer(alloc: Global, tree: &mut Tree, bytes: &[u8]) -> Result<String, Fail> {
     let txn = txn_of(alloc, bytes)?;
     text_of(alloc, &tree.apply(alloc, &txn)?)
 }
 
-// What the transactions answer, one after the other.
+// The outcomes of the transactions, one after the other.
 fn answers(alloc: Global, tree: &mut Tree, texts: &[&[u8]]) -> Result<String, Fail> {
     let mut all = String::new(alloc);
     for bytes in texts {
@@ -88,18 +88,18 @@ fn answers(alloc: Global, tree: &mut Tree, texts: &[&[u8]]) -> Result<String, Fa
     Ok(all)
 }
 
-// The shown cversion, how many children, the pzxid and the aversion of a node.
+// The cversion of the Stat, the number of children, the pzxid and the aversion of a node.
 fn numbers(tree: &Tree, path: &str) -> Option<(i32, i32, i64, i32)> {
     let stat = tree.stat(path)?;
     Some((stat.cversion, stat.num_children, stat.pzxid, stat.aversion))
 }
 
-/// The tree from which every log starts. It says nothing of the tree, so that nothing is computed from it in a proof.
+/// The tree that every log starts from. It has no contract, so that no proof computes anything from the tree.
 pub fn fresh(alloc: Global) -> Result<Tree, Fail> {
     Ok(Tree::fresh(alloc)?)
 }
 
-// What the transactions answer, and the numbers of a node then.
+// The outcomes of the transactions, and the numbers of a node afterwards.
 fn answers_and_node(
     alloc: Global,
     texts: &[&[u8]],

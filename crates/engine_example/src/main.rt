@@ -1,10 +1,10 @@
-//! An engine in a program of one's own: it is fed what came, and asked what it knows.
+//! An engine in a program of one's own: it is fed events, and queried.
 //!
-//! The leader tells that /a was created with the bytes "hi", and the client of connection 1 asks for them. The engine
-//! answers with outputs, which a server would write to its sockets; this program prints what they are.
+//! The leader sends the create of /a with the data "hi", and the client of connection 1 reads it. The engine returns
+//! outputs, which a server would write to its sockets; this program prints what they are.
 //!
-//! The functions are short and promise nothing. One that knew both the bytes and what the engine promises of them would
-//! have the prover compute the answer, which takes minutes.
+//! The functions are short and have no contracts. A proof about one that knew both the bytes and the contract of the
+//! engine for them would have to compute the answer, which takes minutes.
 #![tactic(auto)]
 
 use anyhow::Result;
@@ -13,7 +13,7 @@ use std::alloc::Global;
 use std::process::ExitCode;
 use values::{Blob, Bytes};
 
-// An INFORM, the packet by which an observer learns of a transaction: the create of /a, of zxid 0x100000001.
+// An INFORM, the packet by which an observer learns a transaction: the create of /a with the zxid 0x100000001.
 fn inform_of_create() -> &'static [u8] {
     b"\0\0\0\x08\0\0\0\x01\0\0\0\x01\0\0\0\x4c\0\0\0\0\0\0\0\x07\0\0\0\x01\
     \0\0\0\x01\0\0\0\x01\0\0\0\0\0\0\x03\xe8\0\0\0\x01\0\0\0\x02/a\0\0\0\x02hi\
@@ -25,22 +25,22 @@ fn get_data() -> &'static [u8] {
     b"\0\0\0\x0f\0\0\0\x01\0\0\0\x04\0\0\0\x02/a\0"
 }
 
-// An observer with server id 3, epochs 0, timeouts of 4 to 40 seconds and no secret, and with the usual limits. It
-// follows a leader, and connection 1 is open.
+// An observer with server id 3, epochs 0, timeouts of 4 to 40 seconds, no secret, and the default limits. It follows a
+// leader, and connection 1 is open.
 fn started(alloc: Global) -> Result<Engine> {
     let secret = Blob::new(alloc, &[])?;
     let config = Config::new(3, 0, 0, 4000, 40_000, secret, default_limits())?;
     Ok(Engine::primed(alloc, config)?)
 }
 
-// What goes out for what came. Where memory is refused the engine stops, and is closed from then on.
+// Feeds the events and returns the outputs. After a refused allocation the engine is closed.
 fn fed(alloc: Global, engine: &mut Engine, events: &[Event<'_>]) -> Result<Vec<Output>> {
     let mut outputs = Vec::new(alloc);
     engine.feed_inline(alloc, events, &mut outputs)?;
     Ok(outputs)
 }
 
-// The leader's packet comes, and then the client's frame. The bytes of either may come in any pieces.
+// Feeds the leader's packet, and then the client's frame. Both may be fed in any pieces.
 fn fed_both(alloc: Global, engine: &mut Engine) -> Result<Vec<Output>> {
     let events = [
         Event::LeaderBytes(Bytes::new(inform_of_create())),
@@ -65,7 +65,7 @@ fn print_outputs(rt: &HostRuntime, outputs: &[Output]) -> Result<()> {
     Ok(())
 }
 
-// How many nodes there are, and how far the leader was followed.
+// The number of nodes, and how far the leader was followed.
 fn print_end(rt: &HostRuntime, engine: &Engine) -> Result<()> {
     let paths = engine.tree().paths();
     let zxid = engine.learner().last_zxid();
@@ -88,7 +88,7 @@ fn main(rt: HostRuntime) -> ExitCode {
     match run(&rt) {
         Ok(()) => ExitCode::SUCCESS,
         Err(error) => {
-            // Where standard error can't be written, the status alone tells of it.
+            // If standard error can't be written, only the status tells the failure.
             let _ = eprintln!(rt; "{error}");
             ExitCode::FAILURE
         }

@@ -1,4 +1,4 @@
--- What stands in a set that is listed in order.
+-- The elements of a set that is listed in order.
 use Rattle.std.proofs.Common.{◌≡◌, List, [], ◌∷◌, Bool, true, false, cond, ◌||◌, Some, is_some, refl, sym, ap, ◌∙◌, map}
 use Rattle.std.specs.declared.cmp.Ordering.{Ordering}
 use Rattle.std.specs.FinMap as finmap
@@ -20,7 +20,7 @@ module _ {K : Type 0} {R : K → K → Ordering} (o : IsTotalOrder R) where
       by true = refl
       by false = refl
 
-  -- what stands in a list in order is what stands in the list
+  -- A list in order has the elements of the list.
   pub any-ascending : (ks : List K) (q : K) → list_any (eq_by_cmp R q)
       (finmap.keys (finmap.from_entries {R = R} (map (λ (k : K). (k, tt {0})) ks))) ≡ list_any (eq_by_cmp R q) ks
   any-ascending ks q =

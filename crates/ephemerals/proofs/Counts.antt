@@ -1,4 +1,4 @@
--- How many pairs there are: those of one session and the others.
+-- The number of pairs: those of one session and the others.
 use Rattle.std.proofs.Common.{◌≡◌, ℤ, ℕ, ◌+◌, ◌-◌, ◌≤◌, zero, suc, List, [], ◌∷◌, Bool, true, false, cond, not, ◌||◌, ◌&&◌, refl, sym, ap, subst, ◌∙◌, arith}
 use mathlib.Core.Bool.{true≢false}
 use Rattle.std.specs.declared.cmp.Ordering.{Ordering}
@@ -15,14 +15,14 @@ use Rattle.std.proofs.Math.Bool.{and-false}
 use Rattle.ephemerals.proofs.Ties.{tied_then, same_session}
 use Rattle.ephemerals.proofs.SessionPaths.{contains-owned, contains-without}
 
--- whether a pair of the session k is the pair p
+-- Whether a pair of session k is the pair p.
 tied-mine : (k : ℤ) (p : ℤ × Bytes) (q : Bytes)
     → eq_by_cmp pair_cmp (k, q) p ≡ (int_eq p.0 k && eq_by_cmp path_cmp q p.1)
 tied-mine k p q =
     tied_then (int_cmp k p.0) (path_cmp q p.1)
     ∙ ap (λ b. b && eq_by_cmp path_cmp q p.1) (sym (same_session p.0 k))
 
--- a pair that is p is of its session
+-- A pair equal to p is of p's session.
 tied-session : (k : ℤ) (p q : ℤ × Bytes) → eq_by_cmp pair_cmp q p ≡ true → int_eq q.0 k ≡ int_eq p.0 k
 tied-session k p q e = ap (λ (r : ℤ × Bytes). int_eq r.0 k) (tells_apart pair_exact q p e)
 
@@ -81,11 +81,11 @@ len-insert-new : {K : Type 0} {R : K → K → Ordering} → IsTotalOrder R → 
     → set.contains s k ≡ false → set.len (set.insert s k) ≡ set.len s + 1
 len-insert-new o s k new = set.len-insert o s k ∙ ap (λ b. cond b (set.len s) (set.len s + 1)) new
 
--- the session's pairs and the others are all pairs
+-- The session's pairs and the others are all pairs.
 abbrev PartsAddUp : ℤ → OwnerPairs → Type 0
 PartsAddUp k pairs = set.len (paths_of_session k pairs) + set.len (without_session k pairs) ≡ set.len pairs
 
--- a new pair is the session's or another's
+-- A new pair is the session's or another's.
 parts-grow : (k : ℤ) (pairs : OwnerPairs) (p : ℤ × Bytes) → set.contains pairs p ≡ false → PartsAddUp k pairs
     → PartsAddUp k (set.insert pairs p)
 parts-grow k pairs p new sum = by (int_eq p.0 k) refl
@@ -116,7 +116,7 @@ parts-grow k pairs p new sum = by (int_eq p.0 k) refl
         ∙ len-insert-new pair_total (without_session k pairs) p unseen in
         omega (arith, more, owned, rest, sum)
 
--- of a set that is made pair by pair
+-- For a set that is built pair by pair.
 len-parts-listed : (k : ℤ) (ps : List (ℤ × Bytes)) → PartsAddUp k (set.from_list ps)
 len-parts-listed k [] = omega (arith, ap set.len owned ∙ set.len-empty path_cmp, ap set.len rest)
   where
@@ -145,7 +145,7 @@ len-parts k pairs =
     (λ q. set.contains-from_list pair_total (set.items pairs) q ∙ sym (set.contains-items pairs q)) in
     subst (PartsAddUp k) listed (len-parts-listed k (set.items pairs))
 
--- what a member says of the count
+-- The count of a set that has a member.
 pub some-contained : (pairs : OwnerPairs) (p : ℤ × Bytes) (count : ℕ) → count ≡ set.len pairs
     → set.contains pairs p ≡ true
     → 1 ≤ count
@@ -154,7 +154,7 @@ some-contained pairs p zero is here =
     (sym here ∙ ap (λ s. set.contains s p) (set.empty_of_len pairs (sym is)) ∙ set.contains-empty pair_cmp p))
 some-contained pairs p (suc count) is here = omega arith
 
--- a pair more, or none
+-- One more pair, or none.
 pub count-insert : (pairs new : OwnerPairs) (p : ℤ × Bytes) (count : ℕ) → count ≡ set.len pairs
     → new ≡ set.insert pairs p
     → set.contains pairs p ≡ false → count + 1 ≡ set.len new
@@ -169,7 +169,7 @@ count-insert_again pairs new p count is made here =
     ∙ ap set.len (insert-present pair_total pair_exact pairs p here)
     ∙ sym (ap set.len made)
 
--- a pair less, or none
+-- One pair less, or none.
 pub count-remove : (pairs new : OwnerPairs) (p : ℤ × Bytes) (count : ℕ) → count ≡ set.len pairs
     → new ≡ set.remove pairs p
     → set.contains pairs p ≡ true → count - 1 ≡ set.len new
@@ -185,7 +185,7 @@ count-remove_none pairs new p count is made none =
     ∙ sym (ap set.len made ∙ set.len-remove pair_total pairs p
     ∙ ap (λ b. cond b (set.len pairs - 1) (set.len pairs)) none)
 
--- the pairs of a session less
+-- The pairs of a session are removed.
 pub count-owned : (k : ℤ) (pairs : OwnerPairs) (count owned : ℕ) → count ≡ set.len pairs
     → owned ≡ set.len (paths_of_session k pairs)
     → owned ≤ count

@@ -1,4 +1,4 @@
--- Pairs that are kept as a set for each key.
+-- Pairs that are stored as a set for each key.
 use Rattle.std.proofs.Common.{◌≡◌, List, [], ◌∷◌, ◌++◌, Bool, true, false, cond, not, ◌||◌, ◌&&◌, T, Option, Some, None, refl, sym, ap, subst, ◌∙◌, map, length, arith}
 use Rattle.std.proofs.Math.Bool.{and-false, or-false}
 use Rattle.std.specs.declared.cmp.Ordering.{Ordering}
@@ -54,7 +54,7 @@ module _ {K V : Type 0} {R : K → K → Ordering} {S : V → V → Ordering} (o
       (λ i. tied_then (R q k) (S v w) i || any-one q k v ws i)
       ∙ and_or (eq_by_cmp R q k) (eq_by_cmp S v w) (list_any (eq_by_cmp S v) ws)
 
-  -- whether the set that was found has the value
+  -- Whether the set that was found has the value.
   abbrev pub listed : Option (set.FinSet S) → V → Bool
   listed None v = false
   listed (Some s) v = set.contains s v
@@ -131,8 +131,8 @@ module _ {K V : Type 0} {R : K → K → Ordering} {S : V → V → Ordering} (o
       by true = refl
       by false = refl
 
-  -- The pairs after the key k gets a set that differs at w alone. What a set has of a value is `change` of whether it
-  -- is w, and of what it had.
+  -- The pairs after key k gets a set that differs at w alone. Whether the new set has a value is `change` of whether
+  -- the value is w, and of whether the old set had it.
   module _ (m n : Sets) (k : K) (w : V) (old new : set.FinSet S) (made : n ≡ finmap.insert m k new)
       (was : (v : V) → listed (finmap.get m k) v ≡ set.contains old v) where
     pairs-change : (change : Bool → Bool → Bool) → ((b : Bool) → change false b ≡ b)
@@ -169,12 +169,12 @@ module _ {K V : Type 0} {R : K → K → Ordering} {S : V → V → Ordering} (o
         ∙ set.contains-remove ov old w v) _
         (λ r. set.contains-remove pair_total (pairs_of m) (k, w) r)
 
-  -- through the set that stood at the key
+  -- Through the set at the key.
   pub insert_through : (m n : Sets) (k : K) (w : V) (old new : set.FinSet S) → n ≡ finmap.insert m k new
       → finmap.get m k ≡ Some old → new ≡ set.insert old w → pairs_of n ≡ set.insert (pairs_of m) (k, w)
   insert_through m n k w old new made found is = pairs-insert m n k w old new made (λ v. ap (λ o. listed o v) found) is
 
-  -- as the first value of the key
+  -- As the first value of the key.
   pub insert_first : (m n : Sets) (k : K) (w : V) (old new : set.FinSet S) → n ≡ finmap.insert m k new
       → finmap.get m k ≡ None → old ≡ set.empty → new ≡ set.insert old w → pairs_of n ≡ set.insert (pairs_of m) (k, w)
   insert_first m n k w old new made none empty is =
@@ -185,12 +185,12 @@ module _ {K V : Type 0} {R : K → K → Ordering} {S : V → V → Ordering} (o
       → finmap.get m k ≡ Some old → new ≡ set.remove old w → pairs_of n ≡ set.remove (pairs_of m) (k, w)
   remove_through m n k w old new made found is = pairs-remove m n k w old new made (λ v. ap (λ o. listed o v) found) is
 
-  -- whether the set that was found has the value
+  -- Whether the set that was found has the value.
   pub contains-found : (m : Sets) (k : K) (found : Option (set.FinSet S)) → finmap.get m k ≡ found → (v : V)
       → set.contains (pairs_of m) (k, v) ≡ listed found v
   contains-found m k found is v = contains-pairs m k v ∙ ap (λ o. listed o v) is
 
-  -- no pair of a key that has no set
+  -- A key without a set has no pair.
   pub remove_none : (m : Sets) (k : K) (w : V) → finmap.get m k ≡ None → pairs_of m ≡ set.remove (pairs_of m) (k, w)
   remove_none m k w none = set.same_set pair_total pair_exact _ _ (λ r. each r.0 r.1)
     where
@@ -205,7 +205,7 @@ module _ {K V : Type 0} {R : K → K → Ordering} {S : V → V → Ordering} (o
           ∙ ap (λ b. not b && set.contains (pairs_of m) (q, v)) (sym (tied_then (R q k) (S v w)))
           ∙ sym (set.contains-remove pair_total (pairs_of m) (k, w) (q, v))
 
-  -- a key without values is forgotten
+  -- A key without values is removed.
   pub forget : (m n : Sets) (k : K) → n ≡ finmap.remove m k → ((v : V) → set.contains (pairs_of m) (k, v) ≡ false)
       → pairs_of n ≡ pairs_of m
   forget m n k made none =
@@ -217,7 +217,7 @@ module _ {K V : Type 0} {R : K → K → Ordering} {S : V → V → Ordering} (o
       by q v true e = sym (none v) ∙ ap (λ x. set.contains (pairs_of m) (x, v)) (sym (tells_apart ek q k e))
       by q v false e = refl
 
-  -- nor has one whose set was emptied a value
+  -- A key whose set was emptied has no value either.
   pub emptied : (m n : Sets) (k : K) (new : set.FinSet S) → n ≡ finmap.insert m k new → new ≡ set.empty → (v : V)
       → set.contains (pairs_of n) (k, v) ≡ false
   emptied m n k new made e v =
@@ -227,7 +227,7 @@ module _ {K V : Type 0} {R : K → K → Ordering} {S : V → V → Ordering} (o
       ∙ ap (λ s. set.contains s v) e
       ∙ set.contains-empty S v
 
-  -- all pairs of a key are taken out
+  -- All pairs of a key are removed.
   pub taken : (m n : Sets) (k : K) → n ≡ finmap.remove m k
       → pairs_of n ≡ set.retain (pairs_of m) (λ (p : K × V). not (eq_by_cmp R k p.0))
   taken m n k made = ap pairs_of made ∙ set.same_set pair_total pair_exact _ _ (λ r.

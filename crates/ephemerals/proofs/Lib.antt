@@ -1,30 +1,30 @@
--- The orders of paths and of pairs are total. Public
+-- The orders of paths and of pairs are total. Public.
 pub mod Totals
--- When two pairs are equal. Public
+-- Equality of two pairs. Public.
 pub mod Ties
--- What holds where a call was refused. Public
+-- Claims about a call that was refused. Public.
 pub mod Errors
--- Texts, looked up by their bytes. Public
+-- Texts, looked up by their bytes. Public.
 pub mod TextKeys
--- A set of texts as a finite set of byte lists
+-- A set of texts as a finite set of byte lists.
 pub mod TextSets
--- The pairs of one session, and those of the others
+-- The pairs of one session, and those of the others.
 pub mod SessionPaths
--- Sets of paths by session as a set of pairs
+-- Sets of paths by session as a set of pairs.
 pub mod PairSets
--- One owner in place of another
+-- One owner in place of another.
 pub mod OtherOwner
--- How many pairs there are
+-- The number of pairs.
 pub mod Counts
--- Pairs that are kept as a set for each key. Public
+-- Pairs that are stored as a set for each key. Public.
 pub mod Grouped
--- A map from texts as a finite map from bytes. Public
+-- A map from texts as a finite map from bytes. Public.
 pub mod PathMaps
--- What stands in a set that is listed in order. Public
+-- The elements of a set that is listed in order. Public.
 pub mod Ascending
--- A set of sessions as a finite set of numbers
+-- A set of sessions as a finite set of numbers.
 pub mod SessionSets
--- Sets of sessions by path as a set of pairs
+-- Sets of sessions by path as a set of pairs.
 pub mod PathSets
--- Pairs that are gone over by path or by session, and pairs at some paths. Public
+-- Pairs that are visited by path or by session, and pairs at some paths. Public.
 pub mod Steps

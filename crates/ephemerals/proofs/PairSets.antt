@@ -44,7 +44,7 @@ any-one v k p (q ∷ qs) =
     (λ i. tied_then (int_cmp v k) (path_cmp p q) i || any-one v k p qs i)
     ∙ and_or (eq_by_cmp int_cmp v k) (eq_by_cmp path_cmp p q) (list_any (eq_by_cmp path_cmp p) qs)
 
--- whether the set that was found has the path
+-- Whether the set that was found has the path.
 abbrev pub listed : Option Names → Bytes → Bool
 listed None p = false
 listed (Some names) p = set.contains names p
@@ -86,7 +86,7 @@ holds-lookup (e ∷ es) v p distinct = by (holds-lookup es v p distinct.1) (eq_b
         ∙ rest
         ∙ ap (λ b. listed (cond b (Some e.1) (lookup (is_at (int_cmp v)) es)) p) (sym t)
 
--- the pairs of one session, and the others
+-- The pairs of one session, and the others.
 pub contains-pairs_of : (e : ℤ × Names) (es : List (ℤ × Names)) (v : ℤ) (p : Bytes)
     → set.contains (pairs_of (e ∷ es)) (v, p)
     ≡ ((eq_by_cmp int_cmp v e.0 && set.contains e.1 p) || set.contains (pairs_of es) (v, p))
@@ -104,7 +104,7 @@ contains-pairs m ordered v p =
     ∙ any-pairs m.entries v p
     ∙ holds-lookup m.entries v p (IsDistinct-from_sorted int_cmp (keys_of m.entries) ordered)
 
--- whether the set that was found for the session has the path
+-- Whether the set that was found for the session has the path.
 pub contains-found : (m : BTreeMap ℤ Names) → tree.IsOrdered int_cmp m → (k : ℤ) (found : Option Names)
     → found ≡ tree.get int_cmp m k → (p : Bytes) → set.contains (pairs_of m.entries) (k, p) ≡ listed found p
 contains-found m ordered k found is p = contains-pairs m ordered k p ∙ ap (λ o. listed o p) (sym is)
@@ -124,8 +124,8 @@ contains-updated m n om on k w u v p =
     by true = refl
     by false = refl
 
--- The pairs after the session k gets a set of paths that differs at the path q alone. What a set has of a path is
--- `change` of whether the path is q, and of what it had.
+-- The pairs after session k gets a set of paths that differs at path q alone. Whether the new set has a path is
+-- `change` of whether the path is q, and of whether the old set had it.
 module _ (m n : BTreeMap ℤ Names) (om : tree.IsOrdered int_cmp m) (on : tree.IsOrdered int_cmp n) (k : ℤ) (q : Bytes)
     (old new : Names)
     (was : (p : Bytes) → listed (tree.get int_cmp m k) p ≡ set.contains old p)
@@ -168,7 +168,7 @@ module _ (m n : BTreeMap ℤ Names) (om : tree.IsOrdered int_cmp m) (on : tree.I
       (λ p. ap (λ s. set.contains s p) is ∙ set.contains-remove path_total old q p) _
       (λ r. set.contains-remove pair_total (pairs_of m.entries) (k, q) r)
 
--- as it is written through what `get_mut` lent for the session
+-- Written through what `get_mut` borrowed for the session.
 pub pairs-insert_through : (m n : BTreeMap ℤ Names) → tree.IsOrdered int_cmp m → tree.IsOrdered int_cmp n
     → (k : ℤ) (q : Bytes) (old new : Names) → Some old ≡ tree.get int_cmp m k → new ≡ set.insert old q
     → (IsSome (tree.get int_cmp m k) → tree.UpdatesBy int_cmp (int_cmp k) m n (Some new))
@@ -176,7 +176,7 @@ pub pairs-insert_through : (m n : BTreeMap ℤ Names) → tree.IsOrdered int_cmp
 pairs-insert_through m n om on k q old new found is updates =
     pairs-insert m n om on k q old new (λ p. ap (λ o. listed o p) (sym found)) (updates (subst IsSome found refl)) is
 
--- as the session's first path
+-- As the session's first path.
 pub pairs-insert_first : (m n : BTreeMap ℤ Names) → tree.IsOrdered int_cmp m → tree.IsOrdered int_cmp n
     → (k : ℤ) (q : Bytes) (old new : Names) → tree.get int_cmp m k ≡ None → old ≡ set.empty → new ≡ set.insert old q
     → tree.UpdatesBy int_cmp (int_cmp k) m n (Some new) → pairs_of n.entries ≡ set.insert (pairs_of m.entries) (k, q)
@@ -192,7 +192,7 @@ pub pairs-remove_through : (m n : BTreeMap ℤ Names) → tree.IsOrdered int_cmp
 pairs-remove_through m n om on k q old new found is updates =
     pairs-remove m n om on k q old new (λ p. ap (λ o. listed o p) (sym found)) (updates (subst IsSome found refl)) is
 
--- no path of a session that has none
+-- A session without a set has no path.
 pub pairs-remove_none : (m : BTreeMap ℤ Names) → tree.IsOrdered int_cmp m → (k : ℤ) (q : Bytes)
     → tree.get int_cmp m k ≡ None → pairs_of m.entries ≡ set.remove (pairs_of m.entries) (k, q)
 pairs-remove_none m om k q none = set.same_set pair_total pair_exact _ _ (λ r. each r.0 r.1)
@@ -210,7 +210,7 @@ pairs-remove_none m om k q none = set.same_set pair_total pair_exact _ _ (λ r. 
         ∙ ap (λ b. not b && set.contains (pairs_of m.entries) (v, p)) (sym (tied_then (int_cmp v k) (path_cmp p q)))
         ∙ sym (set.contains-remove pair_total (pairs_of m.entries) (k, q) (v, p))
 
--- a session without paths is forgotten
+-- A session without paths is removed.
 pub pairs-forget : (m n : BTreeMap ℤ Names) → tree.IsOrdered int_cmp m → tree.IsOrdered int_cmp n → (k : ℤ)
     → ((p : Bytes) → set.contains (pairs_of m.entries) (k, p) ≡ false)
     → tree.UpdatesBy int_cmp (int_cmp k) m n None → pairs_of n.entries ≡ pairs_of m.entries
@@ -224,7 +224,7 @@ pairs-forget m n om on k none u = set.same_set pair_total pair_exact _ _ (λ r. 
     each : (v : ℤ) (p : Bytes) → set.contains (pairs_of n.entries) (v, p) ≡ set.contains (pairs_of m.entries) (v, p)
     each v p = contains-updated m n om on k None u v p ∙ by v p (eq_by_cmp int_cmp k v) refl
 
--- nor has one whose set was emptied a path
+-- A session whose set was emptied has no path either.
 pub pairs-emptied : (m n : BTreeMap ℤ Names) → tree.IsOrdered int_cmp m → tree.IsOrdered int_cmp n
     → (k : ℤ) (new : Names) → new ≡ set.empty
     → tree.UpdatesBy int_cmp (int_cmp k) m n (Some new) → (p : Bytes) → set.contains (pairs_of n.entries) (k, p) ≡ false
@@ -235,7 +235,7 @@ pairs-emptied m n om on k new e u p =
     ∙ ap (λ s. set.contains s p) e
     ∙ set.contains-empty path_cmp p
 
--- the set of a session is the paths that it owns
+-- The set of a session has the paths that it owns.
 pub owned-listed : (m : BTreeMap ℤ Names) → tree.IsOrdered int_cmp m → (k : ℤ) (found : Names)
     → ((p : Bytes) → listed (tree.get int_cmp m k) p ≡ set.contains found p)
     → found ≡ paths_of_session k (pairs_of m.entries)
@@ -250,7 +250,7 @@ owned-none m om k none =
     (λ q. contains-owned k (pairs_of m.entries) q ∙ contains-pairs m om k q ∙ ap (λ o. listed o q) none
     ∙ sym (set.contains-empty path_cmp q))
 
--- all pairs of a session are taken out
+-- All pairs of a session are removed.
 pub pairs-take : (m n : BTreeMap ℤ Names) → tree.IsOrdered int_cmp m → tree.IsOrdered int_cmp n → (k : ℤ)
     → tree.UpdatesBy int_cmp (int_cmp k) m n None
     → pairs_of n.entries ≡ without_session k (pairs_of m.entries)

@@ -49,7 +49,7 @@ module _ {X Z : Type 0} where
       finmap.same_map path_total exact_bytes _ _ (λ q. get-updated bs m n None u q
       ∙ sym (finmap.get-remove path_total (seen m.entries) bs q))
 
-  -- entries that were cloned
+  -- Entries that were cloned.
   pub same_entries : {Y : Type 0} (xs : List (String Z × X)) (ys : List (String Y × X))
       → AllZip (λ (x : String Z × X) (y : String Y × X). (string_bytes y.0 ≡ string_bytes x.0) × (y.1 ≡ x.1)) xs ys
       → by_bytes ys ≡ by_bytes xs

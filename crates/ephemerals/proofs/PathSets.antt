@@ -49,7 +49,7 @@ contains-turned pairs v q =
 abbrev Sets : Type 0
 Sets = finmap.FinMap path_cmp (set.FinSet int_cmp)
 
--- whether the set that was found has the session
+-- Whether the set that was found has the session.
 abbrev pub listed : Option SessionIds → ℤ → Bool
 listed None v = false
 listed (Some sessions) v = set.contains sessions v
@@ -71,7 +71,7 @@ pub contains-found : (m : Sets) (k : Bytes) (found : Option SessionIds) → finm
     → set.contains (pairs_of m) (v, k) ≡ listed found v
 contains-found m k found is v = contains-pairs m v k ∙ ap (λ o. listed o v) is
 
--- what an operation on pairs of a path and a session is on pairs of a session and a path
+-- An operation on pairs of a path and a session is one on pairs of a session and a path.
 turned-insert : (pairs : PathPairs) (k : Bytes) (w : ℤ)
     → swapped_pairs (set.insert pairs (k, w)) ≡ set.insert (swapped_pairs pairs) (w, k)
 turned-insert pairs k w = set.same_set pair_total pair_exact _ _ (λ r.
@@ -99,7 +99,7 @@ turned-without pairs k = set.same_set pair_total pair_exact _ _ (λ r.
     ∙ sym (set.contains-retain (swapped_pairs pairs) (λ (p : ℤ × Bytes). not (eq_by_cmp path_cmp k p.1)) r
     (λ x tie. ap (λ (p : ℤ × Bytes). not (eq_by_cmp path_cmp k p.1)) (sym (pair_exact r x tie)))))
 
--- through the set that stood at the path
+-- Through the set at the path.
 pub insert_through : (m n : Sets) (k : Bytes) (w : ℤ) (old new : SessionIds) → n ≡ finmap.insert m k new
     → finmap.get m k ≡ Some old → new ≡ set.insert old w → pairs_of n ≡ set.insert (pairs_of m) (w, k)
 insert_through m n k w old new made found is =
@@ -107,7 +107,7 @@ insert_through m n k w old new made found is =
     found is)
     ∙ turned-insert (grouped.pairs_of m) k w
 
--- as the first session of the path
+-- As the first session of the path.
 pub insert_first : (m n : Sets) (k : Bytes) (w : ℤ) (old new : SessionIds) → n ≡ finmap.insert m k new
     → finmap.get m k ≡ None → old ≡ set.empty → new ≡ set.insert old w → pairs_of n ≡ set.insert (pairs_of m) (w, k)
 insert_first m n k w old new made none empty is =
@@ -122,28 +122,28 @@ remove_through m n k w old new made found is =
     found is)
     ∙ turned-remove (grouped.pairs_of m) k w
 
--- no pair of a path that has no set
+-- A path without a set has no pair.
 pub remove_none : (m : Sets) (k : Bytes) (w : ℤ) → finmap.get m k ≡ None
     → pairs_of m ≡ set.remove (pairs_of m) (w, k)
 remove_none m k w none =
     ap swapped_pairs (by_key.remove_none path_total int_cmp_total exact_bytes exact_signed m k w none)
     ∙ turned-remove (grouped.pairs_of m) k w
 
--- a path without sessions is forgotten
+-- A path without sessions is removed.
 pub forget : (m n : Sets) (k : Bytes) → n ≡ finmap.remove m k → ((v : ℤ) → set.contains (pairs_of m) (v, k) ≡ false)
     → pairs_of n ≡ pairs_of m
 forget m n k made none =
     ap swapped_pairs (by_key.forget path_total int_cmp_total exact_bytes exact_signed m n k made
     (λ v. sym (contains-turned (grouped.pairs_of m) v k) ∙ none v))
 
--- nor has one whose set was emptied a session
+-- A path whose set was emptied has no session either.
 pub emptied : (m n : Sets) (k : Bytes) (new : SessionIds) → n ≡ finmap.insert m k new → new ≡ set.empty → (v : ℤ)
     → set.contains (pairs_of n) (v, k) ≡ false
 emptied m n k new made e v =
     contains-turned (grouped.pairs_of n) v k
     ∙ by_key.emptied path_total int_cmp_total exact_bytes exact_signed m n k new made e v
 
--- all pairs of a path are taken out
+-- All pairs of a path are removed.
 pub taken : (m n : Sets) (k : Bytes) → n ≡ finmap.remove m k → pairs_of n ≡ without_path k (pairs_of m)
 taken m n k made =
     ap swapped_pairs (by_key.taken path_total int_cmp_total exact_bytes exact_signed m n k made)
@@ -155,7 +155,7 @@ no_pairs = set.same_set pair_total pair_exact _ _ (λ r.
     ∙ ap (λ o. listed o r.0) (finmap.get-empty path_cmp r.1)
     ∙ sym (set.contains-empty pair_cmp r))
 
--- what was found at a path tells who owns it
+-- What was found at a path has its owners.
 pub if_some : (m : Sets) (k : Bytes) (pairs : OwnerPairs) → pairs_of m ≡ pairs → (found : Option SessionIds)
     → finmap.get m k ≡ found
     → IfSome found (λ sessions. (v : ℤ) → set.contains sessions v ≡ set.contains pairs (v, k))

@@ -8,7 +8,7 @@ use Rattle.ephemerals.specs.Pairs.{paths_of_session, without_session}
 use Rattle.ephemerals.proofs.Totals.{path_total, pair_exact}
 use Rattle.ephemerals.proofs.Ties.{tied_then, same_session}
 
--- the paths of one session
+-- The paths of one session.
 any-owned : (k : ℤ) (q : Bytes) (ps : List (ℤ × Bytes))
     → list_any (eq_by_cmp path_cmp q) (map (λ (p : ℤ × Bytes). p.1) (filter (λ (p : ℤ × Bytes). int_eq p.0 k) ps))
     ≡ list_any (eq_by_cmp pair_cmp (k, q)) ps
@@ -40,7 +40,7 @@ contains-owned k pairs q =
     ∙ any-owned k q (set.items pairs)
     ∙ sym (set.contains-items pairs (k, q))
 
--- the pairs of the other sessions
+-- The pairs of the other sessions.
 pub contains-without : (k : ℤ) (pairs : OwnerPairs) (q : ℤ × Bytes)
     → set.contains (without_session k pairs) q ≡ (set.contains pairs q && not (int_eq q.0 k))
 contains-without k pairs q =

@@ -1,4 +1,4 @@
--- Pairs that are gone over by path or by session.
+-- Pairs that are visited by path or by session.
 use Rattle.std.proofs.Common.{◌≡◌, ℤ, List, [], ◌∷◌, Bool, true, false, not, ◌||◌, ◌&&◌, refl, sym, ap, ◌∙◌}
 use Rattle.std.proofs.Math.Bool.{and-false, or-false}
 use Rattle.std.specs.List.{list_any}
@@ -20,7 +20,7 @@ use Rattle.ephemerals.proofs.SessionPaths.{contains-owned, contains-without}
 same_pairs : (s t : OwnerPairs) → ((v : ℤ) (q : Bytes) → set.contains s (v, q) ≡ set.contains t (v, q)) → s ≡ t
 same_pairs s t same = set.same_set pair_total pair_exact s t (λ r. same r.0 r.1)
 
--- ---- pairs that are put in or taken out one by one
+-- ---- pairs that are inserted or removed one by one
 
 contains-without_all : (ps : List (ℤ × Bytes)) (s : OwnerPairs) (r : ℤ × Bytes)
     → set.contains (without_all ps s) r ≡ (set.contains s r && not (list_any (eq_by_cmp pair_cmp r) ps))
@@ -104,7 +104,7 @@ has_lost_at p ks sessions old new members is v q =
     ∙ ap (λ b. set.contains old (v, q) && not b)
     (any-at_path p v q ks ∙ ap (λ b. eq_by_cmp path_cmp q p && b) (members v))
 
--- ---- all that stands at a path
+-- ---- all pairs at a path
 
 contains-pairs_on : (p : Bytes) (pairs : OwnerPairs) (v : ℤ) (q : Bytes)
     → set.contains (pairs_on p pairs) (v, q) ≡ (set.contains pairs (v, q) && eq_by_cmp path_cmp p q)
@@ -118,12 +118,12 @@ contains-without_path p pairs v q =
     set.contains-retain pairs (λ (r : ℤ × Bytes). not (eq_by_cmp path_cmp p r.1)) (v, q)
     (λ x tie. ap (λ (r : ℤ × Bytes). not (eq_by_cmp path_cmp p r.1)) (sym (pair_exact (v, q) x tie)))
 
--- what is read at the path p in place of q, where they are the same
+-- A value at path p in place of q, where they are the same.
 at_same : (pairs : OwnerPairs) (v : ℤ) (p q : Bytes) → eq_by_cmp path_cmp p q ≡ true
     → set.contains pairs (v, p) ≡ set.contains pairs (v, q)
 at_same pairs v p q t = ap (λ x. set.contains pairs (v, x)) (tells_apart exact_bytes p q t)
 
--- all sessions of the path were taken out
+-- All sessions of the path were removed.
 pub lost_all : (p : Bytes) (sessions : SessionIds) (old new : OwnerPairs)
     → ((v : ℤ) → set.contains sessions v ≡ set.contains old (v, p)) → HasLostAt p sessions old new
     → new ≡ without_path p old
@@ -138,7 +138,7 @@ lost_all p sessions old new are lost = same_pairs _ _ (λ v q.
     by true false c same = refl
     by false b c same = refl
 
--- nobody owns the path
+-- No session owns the path.
 pub lost_none : (p : Bytes) (old : OwnerPairs) → ((v : ℤ) → set.contains old (v, p) ≡ false) → without_path p old ≡ old
 lost_none p old none = same_pairs _ _ (λ v q.
     contains-without_path p old v q
@@ -149,7 +149,7 @@ lost_none p old none = same_pairs _ _ (λ v q.
     by false true h = refl
     by false false h = refl
 
--- all sessions of the path among the others were added
+-- All sessions that the others have at the path were added.
 pub gained_all : (p : Bytes) (sessions : SessionIds) (old new others : OwnerPairs)
     → ((v : ℤ) → set.contains sessions v ≡ set.contains others (v, p)) → HasGainedAt p sessions old new
     → new ≡ set.union old (pairs_on p others)
@@ -167,7 +167,7 @@ gained_all p sessions old new others are gained = same_pairs _ _ (λ v q.
     by false true c same = refl
     by false false c same = refl
 
--- nobody among the others owns the path
+-- The others have no session at the path.
 pub gained_none : (p : Bytes) (old others : OwnerPairs) → ((v : ℤ) → set.contains others (v, p) ≡ false)
     → old ≡ set.union old (pairs_on p others)
 gained_none p old others none = same_pairs _ _ (λ v q.
@@ -182,7 +182,7 @@ gained_none p old others none = same_pairs _ _ (λ v q.
     by false true h = refl
     by false false h = refl
 
--- ---- all that stands at some paths
+-- ---- all pairs at some paths
 
 contains-without_each : (ps : List Bytes) (pairs : OwnerPairs) (v : ℤ) (q : Bytes)
     → set.contains (without_listed_paths ps pairs) (v, q)
@@ -252,7 +252,7 @@ each_found paths pairs = same_pairs _ _ (λ v q.
     ∙ (λ i. set.contains-empty pair_cmp (v, q) i || (set.contains pairs (v, q) && any-in_order paths q i))
     ∙ sym (contains-pairs_at paths pairs (v, q)))
 
--- ---- all that a session owns
+-- ---- all pairs of a session
 
 pub session_dropped : (k : ℤ) (pairs : OwnerPairs)
     → without_all (pairs_with_session k (sorted_names (paths_of_session k pairs))) pairs ≡ without_session k pairs
@@ -271,7 +271,7 @@ session_dropped k pairs = same_pairs _ _ (λ v q.
     by true false c same = refl
     by false b c same = refl
 
--- one session's paths more
+-- One more session's paths.
 pub union_step : (old new : OwnerPairs) (e : ℤ × Names) (es : List (ℤ × Names)) → HasGainedOf e.0 e.1 old new
     → set.union new (pairs_of es) ≡ set.union old (pairs_of (e ∷ es))
 union_step old new e es gained = same_pairs _ _ (λ v q.

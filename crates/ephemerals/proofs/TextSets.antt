@@ -63,7 +63,7 @@ names-remove bs s n u =
     (λ q. contains-updated bs s n false u q ∙ cond-and (eq_by_cmp path_cmp q bs) (set.contains (names_of s.keys) q)
     ∙ sym (set.contains-remove path_total (names_of s.keys) bs q))
 
--- a list of texts as entries
+-- A list of texts as entries.
 abbrev marked : List Bytes → List (Bytes × Unit {0})
 marked texts = map (λ (t : Bytes). (t, tt {0})) texts
 
@@ -111,7 +111,7 @@ same_marked xs ys same = finmap.same_map path_total exact_bytes _ _ (λ q.
     ∙ ap (λ b. cond b (Some (tt {0})) None) (same q)
     ∙ sym (finmap.get-from_entries path_total (marked ys) q ∙ find-marked q ys))
 
--- a sorted list of texts lists its set in order
+-- A sorted list of texts is its set in order.
 pub in_order-sorted : (bs : List Bytes) → IsStrictlySortedBy path_cmp bs → sorted_names (set.from_list bs) ≡ bs
 in_order-sorted bs s =
     ap (λ m. finmap.keys m)
@@ -174,7 +174,7 @@ sorted_nothing : (Z : Type 0) → IsStrictlySortedBy {K = String Z} string_cmp [
 unfolding IsStrictlySortedBy
 sorted_nothing Z = tt
 
--- the first text is taken out of a sorted list
+-- The first text is removed from a sorted list.
 pub popped_first : {Z : Type 0} (r : Option (String Z)) (old new : List (String Z)) → IfSome r (λ k. old ≡ k ∷ new)
     → IfSome r (λ k. All (λ x. string_cmp k x ≡ Less) new) → IsStrictlySortedBy string_cmp new
     → IfSome r (λ k. sorted_names (names_of old) ≡ string_bytes k ∷ sorted_names (names_of new))
@@ -195,7 +195,7 @@ popped_none {Z = Z} None old variant =
     none (x ∷ xs) v = absurd (true≢false (sym (v (omega arith))))
 popped_none (Some k) old variant = tt
 
--- texts that were cloned have the same bytes
+-- Texts that were cloned have the same bytes.
 pub same_bytes : {Y Z : Type 0} (xs : List (String Y)) (ys : List (String Z))
     → AllZip (λ (x : String Y) (y : String Z). string_bytes y ≡ string_bytes x) xs ys
     → map string_bytes ys ≡ map string_bytes xs

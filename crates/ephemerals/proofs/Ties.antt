@@ -1,4 +1,4 @@
--- When two pairs are equal, by their order.
+-- Equality of two pairs, by their order.
 use Rattle.std.proofs.Common.{◌≡◌, ℤ, Bool, true, false, ◌&&◌, refl}
 use Rattle.std.specs.Ordering.{eq_by_cmp, is_eq, int_cmp, int_eq, ordering_then}
 use Rattle.std.specs.Cmp.{int_cmp_total, eq_by_cmp_equiv}
@@ -12,7 +12,7 @@ tied_then Less b = refl
 tied_then Equal b = refl
 tied_then Greater b = refl
 
--- whether two sessions are equal, by their order
+-- Whether two sessions are equal, by their order.
 pub same_session : (a b : ℤ) → int_eq a b ≡ eq_by_cmp int_cmp b a
 same_session a b = (eq_by_cmp_equiv int_cmp_total).symm a b
 

@@ -1,4 +1,4 @@
--- The orders of paths and of pairs are total, and tie only what is equal.
+-- The orders of paths and of pairs are total, and tie only equal values.
 use Rattle.std.proofs.Common.{ℤ}
 use Rattle.std.specs.Cmp.{IsTotalOrder, then_total, on_total, int_cmp_total}
 use Rattle.std.specs.Ordering.{int_cmp}

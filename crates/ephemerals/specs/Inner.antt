@@ -1,4 +1,4 @@
--- What the types' private fields stand for. No caller has to believe it.
+-- The models of the types' private fields. No caller depends on this.
 pub mod NamesView
 pub mod PairsView
 pub mod SessionsView

@@ -9,26 +9,26 @@ use Rattle.std.specs.FinSet as set
 abbrev pub Bytes : Type 0
 Bytes = List ℕ
 
--- ascending bytes
+-- Ascending bytes.
 abbrev pub path_cmp : Bytes → Bytes → Ordering
 path_cmp = slice_cmp nat_cmp
 
 abbrev pub Names : Type 0
 Names = set.FinSet path_cmp
 
--- ascending session, then ascending bytes
+-- By session, then by the path's bytes.
 abbrev pub pair_cmp : ℤ × Bytes → ℤ × Bytes → Ordering
 pair_cmp = then_cmp (on (λ (p : ℤ × Bytes). p.0) int_cmp) (on (λ (p : ℤ × Bytes). p.1) path_cmp)
 
--- sessions by their ids
+-- Sessions, ordered by id.
 abbrev pub SessionIds : Type 0
 SessionIds = set.FinSet int_cmp
 
--- sessions with the paths of their ephemeral nodes
+-- Sessions with the paths of their ephemeral nodes.
 abbrev pub OwnerPairs : Type 0
 OwnerPairs = set.FinSet pair_cmp
 
--- each text once, in ascending bytes
+-- Each text once, in ascending order of their bytes.
 abbrev pub sorted_texts : List Bytes → List Bytes
 sorted_texts texts = finmap.keys (finmap.from_entries {R = path_cmp} (map (λ (t : Bytes). (t, tt {0})) texts))
 

@@ -1,4 +1,4 @@
--- Which session owns which path. Session 0 owns none.
+-- The pairs of a session and a path that it owns. Session 0 owns none.
 use Rattle.std.specs.Prelude.{ℤ, pos, not, map, if◌then◌else◌}
 use Rattle.std.specs.List.{filter}
 use Rattle.std.specs.Ordering.{int_eq}
@@ -11,11 +11,10 @@ with_pair pairs session path = if int_eq session (pos 0) then pairs else set.ins
 abbrev pub without_pair : OwnerPairs → ℤ → Bytes → OwnerPairs
 without_pair pairs session path = if int_eq session (pos 0) then pairs else set.remove pairs (session, path)
 
--- the path goes from the old session to the new one
+-- The path moves from the old session to the new one.
 abbrev pub with_other_owner : OwnerPairs → Bytes → ℤ → ℤ → OwnerPairs
 with_other_owner pairs path old new = with_pair (without_pair pairs old path) new path
 
--- the paths that the session owns
 abbrev pub paths_of_session : ℤ → OwnerPairs → Names
 paths_of_session session pairs =
     set.from_list (map (λ (p : ℤ × Bytes). p.1) (filter (λ (p : ℤ × Bytes). int_eq p.0 session) (set.items pairs)))
@@ -23,10 +22,8 @@ paths_of_session session pairs =
 abbrev pub without_session : ℤ → OwnerPairs → OwnerPairs
 without_session session pairs = set.retain pairs (λ (p : ℤ × Bytes). not (int_eq p.0 session))
 
--- the pairs at these paths
 abbrev pub pairs_at : Names → OwnerPairs → OwnerPairs
 pairs_at paths pairs = set.retain pairs (λ (p : ℤ × Bytes). set.contains paths p.1)
 
--- all pairs but those at these paths
 abbrev pub without_paths : Names → OwnerPairs → OwnerPairs
 without_paths paths pairs = set.retain pairs (λ (p : ℤ × Bytes). not (set.contains paths p.1))

@@ -1,4 +1,4 @@
-//! For each path the sessions that own it.
+//! The pairs by path: for each path the sessions that own it.
 
 ghost use Rattle.std.specs.Prelude.{◌≡◌, ℤ, OnOk, OnErr, IfSome, IfNone, IsTrue, false};
 ghost use Rattle.std.specs.FinSet as set;
@@ -12,7 +12,7 @@ use std::collections::BTreeMap;
 use std::marker::Model;
 use values::NoMemory;
 
-/// Pairs of a session and a path, kept as a set of sessions for each path.
+/// Pairs of a session and a path, stored as a set of sessions for each path.
 #[derive(Drop)]
 pub struct ByPath {
     map: BTreeMap<String, SessionSet>,
@@ -32,7 +32,7 @@ impl Model for ByPath {
 }
 
 impl ByPath {
-    /// No pair, which takes no memory.
+    /// No pair. Allocates nothing.
     pub fn new(alloc: Global) -> ByPath
         ensures { result ≡ set.empty }
     {
@@ -41,7 +41,7 @@ impl ByPath {
         }
     }
 
-    /// The sessions that own the path, where there is a set of them.
+    /// The sessions that own the path; None if no session does.
     pub fn of(&self, path: &str) -> Option<&SessionSet>
         ensures some { IfSome result
             (λ sessions. (v : ℤ) →
@@ -54,7 +54,7 @@ impl ByPath {
         }
     }
 
-    /// Adds a pair.
+    /// Adds a pair. A refused allocation changes nothing.
     pub fn insert(&mut self, alloc: Global, path: &str, session: i64) -> Result<(), NoMemory>
         ensures ok { OnOk result (self.new ≡ set.insert self.old (session, path.now)) }
         ensures err { OnErr result (self.new ≡ self.old) }
@@ -73,7 +73,7 @@ impl ByPath {
         }
     }
 
-    // Takes a pair out, and says whether the path has a set that is empty now.
+    // Removes a pair and returns whether the path's set is empty now.
     fn remove_pair(&mut self, path: &str, session: i64) -> bool
         ensures removed { self.new ≡ set.remove self.old (session, path.now) }
         ensures emptied { IsTrue result →
@@ -88,7 +88,7 @@ impl ByPath {
         }
     }
 
-    // Frees the set of a path that nobody owns.
+    // Frees the set of a path that no session owns.
     fn forget(&mut self, path: &str)
         requires { (v : ℤ) → set.contains self.old (v, path.now) ≡ false }
         ensures { self.new ≡ self.old }
@@ -96,7 +96,7 @@ impl ByPath {
         self.map.remove(path);
     }
 
-    /// Takes a pair out.
+    /// Removes a pair.
     pub fn remove(&mut self, path: &str, session: i64)
         ensures { self.new ≡ set.remove self.old (session, path.now) }
     {
@@ -105,7 +105,7 @@ impl ByPath {
         }
     }
 
-    /// Takes out the session at each of the paths.
+    /// Removes the session from each of the paths.
     pub fn remove_all(&mut self, paths: &TextSet, session: i64)
         ensures { self.new ≡ without_all (pairs_with_session session (sorted_names paths.now)) self.old }
     {
@@ -114,7 +114,7 @@ impl ByPath {
         }
     }
 
-    /// Takes out all pairs of a path, and answers its sessions where there is a set of them.
+    /// Removes all pairs of a path and returns its sessions; None if no session owns it.
     pub fn take(&mut self, path: &str) -> Option<SessionSet>
         ensures some { IfSome result
             (λ sessions. (v : ℤ) → set.contains sessions v ≡ set.contains self.old (v, path.now)) }

@@ -1,4 +1,4 @@
-//! For each session the paths that it owns.
+//! The pairs by session: for each session the paths that it owns.
 
 ghost use Rattle.std.specs.Prelude.{◌≡◌, ◌≢◌, ◌&&◌, OnOk, OnErr, IfOk, IfSome, IfNone, IsTrue, not, false, pos, string_bytes, List, ℕ, ℤ};
 ghost use Rattle.std.specs.Ordering.{int_eq};
@@ -17,11 +17,11 @@ use std::collections::btree_map::Iter;
 use std::marker::Model;
 use values::NoMemory;
 
-/// Pairs of a session and a path, kept as a set of paths for each session.
+/// Pairs of a session and a path, stored as a set of paths for each session.
 #[derive(Drop)]
 pub struct BySession {
     sets: BTreeMap<i64, TextSet>,
-    // How many pairs there are.
+    // The number of pairs.
     count: usize,
 }
 
@@ -45,7 +45,7 @@ impl Model for BySession {
 }
 
 impl BySession {
-    /// No pair, which takes no memory.
+    /// No pair. Allocates nothing.
     pub fn new(alloc: Global) -> BySession
         ensures { result ≡ set.empty }
     {
@@ -55,7 +55,7 @@ impl BySession {
         }
     }
 
-    /// How many pairs there are.
+    /// The number of pairs.
     pub fn count(&self) -> usize
         ensures { result ≡ set.len self.now }
     {
@@ -72,14 +72,14 @@ impl BySession {
         }
     }
 
-    /// Adds the pair, and says whether it is new.
+    /// Adds the pair and returns whether it is new. A refused allocation changes nothing.
     pub fn insert(&mut self, alloc: Global, session: i64, path: String) -> Result<bool, NoMemory>
         ensures ok { OnOk result (self.new ≡ set.insert self.old (session, string_bytes path)) }
         ensures added { IfOk result
             (λ added. added ≡ not (set.contains self.old (session, string_bytes path))) }
         ensures err { OnErr result (self.new ≡ self.old) }
     {
-        // Each pair takes more than a byte of memory, so that memory ends before the numbers do.
+        // Each pair takes more than a byte of memory, so memory runs out before the count overflows.
         let count = self.count.checked_add(1).ok_or(NoMemory)?;
         match self.sets.get_mut(&session) {
             Some(paths) => {
@@ -99,7 +99,7 @@ impl BySession {
         }
     }
 
-    // Takes the pair out, and says whether the session has a set that is empty now.
+    // Removes the pair and returns whether the session's set is empty now.
     fn remove_pair(&mut self, session: i64, path: &str) -> bool
         ensures removed { self.new ≡ set.remove self.old (session, path.now) }
         ensures emptied { IsTrue result →
@@ -124,7 +124,7 @@ impl BySession {
         self.sets.remove(&session);
     }
 
-    /// Takes the pair out.
+    /// Removes the pair.
     pub fn remove(&mut self, session: i64, path: &str)
         ensures { self.new ≡ set.remove self.old (session, path.now) }
     {
@@ -133,7 +133,7 @@ impl BySession {
         }
     }
 
-    /// Takes out the path at each of the sessions.
+    /// Removes the path from each of the sessions.
     pub fn remove_all(&mut self, sessions: &SessionSet, path: &str)
         ensures { HasLostAt path.now sessions.now self.old self.new }
     {
@@ -150,7 +150,7 @@ impl BySession {
         self.sets.iter()
     }
 
-    /// The paths of a session, in ascending bytes, if it owns one.
+    /// The paths of a session in ascending order of their bytes; None if it owns none.
     pub fn of(&self, session: i64) -> Option<&TextSet>
         ensures paths { IfSome result (λ paths. paths.now ≡ paths_of_session session self.now) }
         ensures some { IfSome result (λ paths. paths.now ≢ set.empty) }
@@ -167,7 +167,7 @@ impl BySession {
         }
     }
 
-    /// Takes out all paths of a session, which takes no memory.
+    /// Removes all paths of a session and returns them. Allocates nothing.
     pub fn take_session(&mut self, alloc: Global, session: i64) -> TextSet
         ensures paths { result ≡ paths_of_session session self.old }
         ensures rest { self.new ≡ without_session session self.old }

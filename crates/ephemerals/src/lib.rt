@@ -1,9 +1,9 @@
-//! Ordered sets of texts, and which session owns which path.
+//! Ordered sets of texts, and the paths that each session owns.
 //!
-//! A `TextSet` is a finite set of texts that is gone over in ascending bytes: a node's children, or a session's
-//! paths. `Ephemerals` is a finite set of pairs of a session and a path, kept by session and by path, so that neither
-//! a session that ends nor a path that is taken out looks at other pairs. Session 0 owns nothing: what would add or
-//! remove a pair of it does nothing.
+//! A `TextSet` is a finite set of texts that iterates in ascending order of their bytes: a node's children, or a
+//! session's paths. `Ephemerals` is a finite set of pairs of a session and a path, stored by session and by path, so
+//! that ending a session and removing a path look at no other pairs. Session 0 owns nothing: adding or removing a pair
+//! of it does nothing.
 //!
 //! ```text
 //! let mut owners = Ephemerals::new(alloc);

@@ -1,4 +1,4 @@
-//! Which session owns which ephemeral node.
+//! The owners of the ephemeral nodes.
 
 ghost use Rattle.std.specs.Prelude.{◌≡◌, ◌≢◌, ◌&&◌, OnOk, OnErr, IfOk, IfSome, IfNone, not, pos};
 ghost use Rattle.std.specs.Ordering.{int_eq};
@@ -15,7 +15,7 @@ use std::alloc::{AllocError, Global};
 use std::marker::Model;
 use values::NoMemory;
 
-/// Which session owns which ephemeral node: a set of pairs of a session and a path. Session 0 owns none.
+/// The owners of the ephemeral nodes: a set of pairs of a session and a path. Session 0 owns none.
 #[derive(Drop)]
 pub struct Ephemerals {
     by_session: BySession,
@@ -38,7 +38,7 @@ impl Model for Ephemerals {
 }
 
 impl Ephemerals {
-    /// No pair, which takes no memory.
+    /// No pair. Allocates nothing.
     pub fn new(alloc: Global) -> Ephemerals
         ensures { result ≡ set.empty }
     {
@@ -48,7 +48,7 @@ impl Ephemerals {
         }
     }
 
-    /// How many pairs there are.
+    /// The number of pairs.
     pub fn count(&self) -> usize
         ensures { result ≡ set.len self.now }
     {
@@ -62,7 +62,7 @@ impl Ephemerals {
         self.by_session.contains(session, path)
     }
 
-    // Adds the pair, and says whether it is new.
+    // Adds the pair and returns whether it is new.
     fn insert(&mut self, alloc: Global, session: i64, path: &str) -> Result<bool, NoMemory>
         ensures ok { OnOk result (self.new ≡ set.insert self.old (session, path.now)) }
         ensures added { IfOk result
@@ -83,7 +83,8 @@ impl Ephemerals {
         }
     }
 
-    /// Makes the session own the path, and says whether it is new. Session 0 gains nothing.
+    /// Makes the session an owner of the path and returns whether it is new. Session 0 gains nothing. A refused
+    /// allocation changes nothing.
     pub fn add(&mut self, alloc: Global, session: i64, path: &str) -> Result<bool, NoMemory>
         ensures ok { OnOk result (self.new ≡ with_pair self.old session path.now) }
         ensures added { let owns = set.contains self.old (session, path.now) in
@@ -96,7 +97,7 @@ impl Ephemerals {
         self.insert(alloc, session, path)
     }
 
-    /// Makes the session own the path no more. Session 0 loses nothing.
+    /// Removes the session as an owner of the path. Session 0 loses nothing.
     pub fn remove(&mut self, session: i64, path: &str)
         ensures { self.new ≡ without_pair self.old session path.now }
     {
@@ -107,7 +108,8 @@ impl Ephemerals {
         self.by_path.remove(path, session);
     }
 
-    /// The path goes from the old session to the new one. Session 0 loses and gains nothing.
+    /// Gives the path of the old session to the new one. Session 0 loses and gains nothing. A refused allocation
+    /// changes nothing.
     pub fn replace(&mut self, alloc: Global, path: &str, old: i64, new: i64) -> Result<(), NoMemory>
         ensures ok { OnOk result (self.new ≡ with_other_owner self.old path.now old new) }
         ensures err { OnErr result (self.new ≡ self.old) }
@@ -120,7 +122,7 @@ impl Ephemerals {
         Ok(())
     }
 
-    /// The paths of a session, in ascending bytes, if it owns one.
+    /// The paths of a session in ascending order of their bytes; None if it owns none.
     pub fn of(&self, session: i64) -> Option<&TextSet>
         ensures paths { IfSome result (λ paths. paths.now ≡ paths_of_session session self.now) }
         ensures some { IfSome result (λ paths. paths.now ≢ set.empty) }
@@ -129,7 +131,7 @@ impl Ephemerals {
         self.by_session.of(session)
     }
 
-    /// Takes out all paths of a session, which takes no memory.
+    /// Removes all paths of a session and returns them. Allocates nothing.
     pub fn take_session(&mut self, alloc: Global, session: i64) -> TextSet
         ensures paths { result ≡ paths_of_session session self.old }
         ensures rest { self.new ≡ without_session session self.old }
@@ -139,7 +141,7 @@ impl Ephemerals {
         paths
     }
 
-    // Adds the path at each of the sessions.
+    // Adds the path to each of the sessions.
     fn add_sessions(
         &mut self,
         alloc: Global,
@@ -154,7 +156,7 @@ impl Ephemerals {
         Ok(())
     }
 
-    // Adds what others own at the path.
+    // Adds the pairs that the others have at the path.
     fn add_on(&mut self, alloc: Global, path: &str, others: &Ephemerals) -> Result<(), NoMemory>
         ensures { OnOk result (self.new ≡ set.union self.old (pairs_on path.now others.now)) }
     {
@@ -164,7 +166,7 @@ impl Ephemerals {
         }
     }
 
-    /// A copy of the pairs at these paths.
+    /// A copy of the pairs at these paths. Fails only if an allocation is refused.
     pub fn at(&self, alloc: Global, paths: &TextSet) -> Result<Ephemerals, NoMemory>
         ensures { IfOk result (λ found. found ≡ pairs_at paths.now self.now) }
     {
@@ -175,7 +177,7 @@ impl Ephemerals {
         Ok(found)
     }
 
-    // Takes out the pairs at the path.
+    // Removes the pairs at the path.
     fn drop_on(&mut self, path: &str)
         ensures { self.new ≡ without_path path.now self.old }
     {
@@ -185,7 +187,7 @@ impl Ephemerals {
         }
     }
 
-    /// Takes out the pairs at these paths, which takes no memory.
+    /// Removes the pairs at these paths. Allocates nothing.
     pub fn drop_at(&mut self, paths: &TextSet)
         ensures { self.new ≡ without_paths paths.now self.old }
     {
@@ -194,7 +196,7 @@ impl Ephemerals {
         }
     }
 
-    // Adds the session at each of the paths.
+    // Adds the session to each of the paths.
     fn add_paths(&mut self, alloc: Global, session: i64, paths: &TextSet) -> Result<(), NoMemory>
         ensures { OnOk result (HasGainedOf session paths.now self.old self.new) }
     {
@@ -204,7 +206,7 @@ impl Ephemerals {
         Ok(())
     }
 
-    /// Adds all of the others' pairs. Refused, it may have added some.
+    /// Adds all of the others' pairs. After a refused allocation some may be added.
     pub fn add_all(&mut self, alloc: Global, others: &Ephemerals) -> Result<(), NoMemory>
         ensures { OnOk result (self.new ≡ set.union self.old others.now) }
     {

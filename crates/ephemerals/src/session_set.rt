@@ -12,7 +12,7 @@ use std::collections::btree_set::Iter;
 use std::marker::Model;
 use values::NoMemory;
 
-/// A set of sessions, in ascending number.
+/// A set of sessions, ordered by id.
 #[derive(Drop)]
 pub struct SessionSet {
     sessions: BTreeSet<i64>,
@@ -31,7 +31,7 @@ impl Model for SessionSet {
 }
 
 impl SessionSet {
-    /// No session, which takes no memory.
+    /// No session. Allocates nothing.
     pub fn new(alloc: Global) -> SessionSet
         ensures { result ≡ set.empty }
     {
@@ -47,7 +47,7 @@ impl SessionSet {
         self.sessions.is_empty()
     }
 
-    /// Adds a session, and says whether it is new.
+    /// Adds a session and returns whether it is new. A refused allocation changes nothing.
     pub fn insert(&mut self, session: i64) -> Result<bool, NoMemory>
         ensures ok { OnOk result (self.new ≡ set.insert self.old session) }
         ensures added { IfOk result (λ added. added ≡ not (set.contains self.old session)) }
@@ -56,7 +56,7 @@ impl SessionSet {
         Ok(self.sessions.insert(session)?)
     }
 
-    /// Takes a session out.
+    /// Removes a session.
     pub fn remove(&mut self, session: i64)
         ensures { self.new ≡ set.remove self.old session }
     {

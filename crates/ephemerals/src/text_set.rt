@@ -13,7 +13,7 @@ use std::collections::btree_set::Iter;
 use std::marker::Model;
 use values::NoMemory;
 
-/// A set of texts, in ascending bytes.
+/// A set of texts, ordered by their bytes.
 #[derive(Drop)]
 pub struct TextSet {
     texts: BTreeSet<String>,
@@ -33,7 +33,7 @@ impl Model for TextSet {
 }
 
 impl TextSet {
-    /// An empty set, which takes no memory.
+    /// An empty set. Allocates nothing.
     pub fn new(alloc: Global) -> TextSet
         ensures { result ≡ set.empty }
     {
@@ -42,7 +42,7 @@ impl TextSet {
         }
     }
 
-    /// How many texts there are.
+    /// The number of texts.
     pub fn len(&self) -> usize
         ensures { result ≡ set.len self.now }
     {
@@ -56,14 +56,14 @@ impl TextSet {
         self.len() == 0
     }
 
-    /// Whether the text is there.
+    /// Whether the text is in the set.
     pub fn contains(&self, text: &str) -> bool
         ensures { result ≡ set.contains self.now text.now }
     {
         self.texts.contains(text)
     }
 
-    /// Adds a text, and says whether it is new. Only a new text can be refused.
+    /// Adds a text and returns whether it is new. Only a new text allocates; a refused allocation changes nothing.
     pub fn insert(&mut self, text: String) -> Result<bool, NoMemory>
         ensures ok { OnOk result (self.new ≡ set.insert self.old (string_bytes text)) }
         ensures added { IfOk result
@@ -74,7 +74,7 @@ impl TextSet {
         Ok(self.texts.insert(text)?)
     }
 
-    /// Takes a text out, and says whether it was there.
+    /// Removes a text and returns whether it was there.
     pub fn remove(&mut self, text: &str) -> bool
         ensures removed { self.new ≡ set.remove self.old text.now }
         ensures was { result ≡ set.contains self.old text.now }
@@ -82,7 +82,7 @@ impl TextSet {
         self.texts.remove(text)
     }
 
-    /// The texts in ascending bytes.
+    /// The texts in ascending order of their bytes.
     pub fn iter(&self) -> Iter<'_, String>
         ensures texts { map string_bytes result ≡ sorted_names self.now }
         ensures members { let texts = map string_bytes result in
@@ -92,7 +92,7 @@ impl TextSet {
         self.texts.iter()
     }
 
-    /// Takes out the first text in ascending bytes.
+    /// Removes the first text in the order of bytes and returns it.
     pub fn pop_first(&mut self) -> Option<String>
         ensures first { IfSome result
             (λ text. sorted_names self.old ≡ string_bytes text ∷ sorted_names self.new) }

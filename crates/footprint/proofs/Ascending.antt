@@ -18,7 +18,7 @@ use Rattle.footprint.specs.declared.cover.Footprint.TheVariants.{Barrier, Paths}
 use Rattle.footprint.specs.Footprints.{txn_paths, is_barrier, txn_footprint}
 use Rattle.footprint.specs.Laws.{PathsAreTheCells, PathsAscend}
 
--- texts as entries
+-- Texts as entries.
 abbrev marked : List Bytes → List (Bytes × Unit {0})
 marked texts = map (λ (t : Bytes). (t, tt {0})) texts
 
@@ -76,7 +76,7 @@ abbrev listed : Footprint → List Bytes
 listed Barrier = []
 listed (Paths paths) = paths
 
--- which list a footprint that is no barrier has
+-- The list of a footprint that isn't a barrier.
 the_list : (t : Txn) (paths : List Bytes) → txn_footprint t ≡ Paths paths → sorted_names (txn_paths t) ≡ paths
 the_list t paths = by (is_barrier t)
   where

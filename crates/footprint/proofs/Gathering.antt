@@ -14,7 +14,7 @@ use Rattle.txn_codec.specs.declared.txn.Body.TheVariants as body
 use Rattle.data_tree.specs.Footprint.{footprint}
 use Rattle.footprint.specs.Footprints.{most_paths, is_barrier}
 
--- one path more is in the set
+-- One more path is in the set.
 pub one_more : (paths : List Bytes) (i : ℕ) (p : Bytes) → i < length paths → p ≡ get_or paths i p
     → (old new : Names) → old ≡ set.from_list (take i paths) → new ≡ set.insert old p
     → new ≡ set.from_list (take (i + 1) paths)
@@ -44,7 +44,7 @@ no_more (p ∷ ps) =
 below : (n m : ℕ) → n ≤ m → nat_lt m n ≡ false
 below n m le = grind (arith, nat_tests)
 
--- a multi that names so few paths is no barrier
+-- A multi with so few paths isn't a barrier.
 pub few_enough : (t : Txn) (paths : List Bytes) (parts : List Operation) → t.body ≡ body.Multi parts
     → paths ≡ footprint t → length paths ≤ most_paths → false ≡ is_barrier t
 few_enough t paths parts multi is few =

@@ -1,4 +1,4 @@
--- A list of paths as a set
+-- A list of paths as a set.
 mod Gathering
--- The paths of a set as a list
+-- The paths of a set as a list.
 pub mod Ascending

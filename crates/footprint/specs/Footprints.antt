@@ -1,4 +1,5 @@
--- A transaction's footprint: a finite set of paths, or a barrier. The set is listed in ascending bytes, each path once.
+-- A transaction's footprint: a finite set of paths, or a barrier. The set is listed in ascending order of the paths'
+-- bytes, each path once.
 use Rattle.std.specs.Prelude.{ℕ, Bool, true, false, nat_lt, if◌then◌else◌}
 use Rattle.std.specs.FinSet as set
 use Rattle.ephemerals.specs.Orders.{Names, sorted_names}
@@ -9,11 +10,11 @@ use Rattle.data_tree.specs.Footprint as cells
 use Rattle.footprint.specs.declared.cover.Footprint.{Footprint}
 use Rattle.footprint.specs.declared.cover.Footprint.TheVariants.{Barrier, Paths}
 
--- a multi of more paths is a barrier
+-- A multi with more paths is a barrier.
 abbrev pub most_paths : ℕ
 most_paths = 16
 
--- the paths whose cells a transaction may touch; those of a closeSession hang on the state and aren't here
+-- The paths whose cells a transaction may touch. Those of a closeSession depend on the state and aren't included.
 abbrev pub txn_paths : Txn → Names
 txn_paths t = set.from_list (cells.footprint t)
 

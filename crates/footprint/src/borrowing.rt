@@ -8,7 +8,6 @@ ghost use Rattle.data_tree.specs.Footprint.{footprint_of_operation, footprint_of
 use txn_codec::{Body, Operation, Path, Txn};
 use values::{NoMemory, Str};
 
-// Whether a part of a multi is an error part.
 fn is_error(part: &Operation) -> bool
     ensures { result ≡ is_some (error_of part.now) }
 {
@@ -19,7 +18,7 @@ fn is_error(part: &Operation) -> bool
     }
 }
 
-// Whether some part of a multi is an error part, so that nothing of it is done.
+// Whether some part of a multi is an error part, so that none of it is applied.
 fn has_error(parts: &[Operation]) -> bool
     ensures { result ≡ has_error parts.now }
 {
@@ -31,7 +30,6 @@ fn has_error(parts: &[Operation]) -> bool
     false
 }
 
-// Adds a path.
 fn add<'a>(path: &'a str, paths: &mut Vec<Str<'a>>) -> Result<(), NoMemory>
     ensures { OnOk result (paths.new.items ≡ paths.old.items ++ path.now ∷ []) }
 {
@@ -39,7 +37,7 @@ fn add<'a>(path: &'a str, paths: &mut Vec<Str<'a>>) -> Result<(), NoMemory>
     Ok(())
 }
 
-// Adds a path, and the one above it.
+// Adds a path and its parent's.
 fn add_with_parent<'a>(path: &'a Path, paths: &mut Vec<Str<'a>>) -> Result<(), NoMemory>
     ensures { OnOk result (paths.new.items ≡ paths.old.items ++ path.now ∷ parent_of path.now ∷ []) }
 {
@@ -47,7 +45,6 @@ fn add_with_parent<'a>(path: &'a Path, paths: &mut Vec<Str<'a>>) -> Result<(), N
     add(path.parent(), paths)
 }
 
-// Adds the paths of an operation.
 fn add_operation<'a>(operation: &'a Operation, paths: &mut Vec<Str<'a>>) -> Result<(), NoMemory>
     ensures { OnOk result (paths.new.items ≡ paths.old.items ++ footprint_of_operation operation.now) }
 {
@@ -59,7 +56,6 @@ fn add_operation<'a>(operation: &'a Operation, paths: &mut Vec<Str<'a>>) -> Resu
     }
 }
 
-// Adds the paths of a multi's parts.
 fn add_parts<'a>(parts: &'a [Operation], paths: &mut Vec<Str<'a>>) -> Result<(), NoMemory>
     ensures { OnOk result (paths.new.items ≡ paths.old.items ++ footprint_of_parts parts.now) }
 {
@@ -69,8 +65,8 @@ fn add_parts<'a>(parts: &'a [Operation], paths: &mut Vec<Str<'a>>) -> Result<(),
     Ok(())
 }
 
-/// Adds the paths of a transaction, as it names them: in no order, and some of a multi's more than once. Those of a
-/// closeSession are not told.
+/// Appends the paths of a transaction as it names them: in no order, and some of a multi's more than once. A
+/// closeSession adds none, since its paths depend on the state.
 pub fn borrow_paths<'a>(txn: &'a Txn, paths: &mut Vec<Str<'a>>) -> Result<(), NoMemory>
     ensures { OnOk result (paths.new.items ≡ paths.old.items ++ footprint txn.now) }
 {

@@ -1,12 +1,12 @@
-//! What a footprint is.
+//! The footprint of a transaction.
 
 use values::{Listed, Text};
 
-/// Which paths a transaction may touch.
+/// The paths that a transaction may touch.
 #[derive(Debug, Drop, PartialEq, Eq)]
 pub enum Footprint {
-    /// Not to be told without the state, or too many: nothing is done beside it.
+    /// The paths depend on the state, or are too many: the transaction is applied alone.
     Barrier,
-    /// The paths, each once, in ascending bytes; maybe none.
+    /// The paths, each once, in ascending order of their bytes; there may be none.
     Paths(Listed<Text>),
 }

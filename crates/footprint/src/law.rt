@@ -2,7 +2,7 @@
 
 ghost use Rattle.footprint.specs.Laws.{PathsAreTheCells, PathsAscend};
 
-/// A transaction that is no barrier lists its paths strictly ascending, and lists just those whose cells it may touch.
+/// A transaction that isn't a barrier lists exactly the paths whose cells it may touch, in strictly ascending order.
 pub fn footprints()
     ensures paths { PathsAreTheCells }
     ensures ascend { PathsAscend }

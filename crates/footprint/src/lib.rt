@@ -1,8 +1,8 @@
-//! Which paths a transaction may touch.
+//! The paths that a transaction may touch.
 //!
-//! Transactions whose footprints have no path in common can be done apart (the laws of `data_tree` say so), so a batch
-//! may be cut by their footprints. A footprint is a finite set of paths, given as a strictly ascending list, or a
-//! barrier: a transaction whose paths hang on the state, or are too many, is done alone.
+//! Transactions whose footprints have no path in common can be applied separately (by the laws of `data_tree`), so a
+//! batch may be cut by their footprints. A footprint is a finite set of paths, given as a strictly ascending list, or a
+//! barrier: a transaction whose paths depend on the state, or are too many, is applied alone.
 //!
 //! ```text
 //! match footprint(alloc, &txn)? {
@@ -11,8 +11,8 @@
 //! }
 //! ```
 //!
-//! Who needs no order has the paths as the transaction names them: `borrow_paths` copies none of them, and
-//! `is_barrier` tells whether they are too many.
+//! A caller that needs no order takes the paths as the transaction names them: `borrow_paths` copies none of them, and
+//! `is_barrier` says whether they are too many.
 #![tactic(auto)]
 
 mod borrowing;

@@ -1,4 +1,4 @@
-//! The footprint of a transaction, its paths listed in ascending bytes.
+//! The footprint of a transaction, its paths listed in ascending order of their bytes.
 
 ghost use Rattle.std.specs.Prelude.{◌≡◌, IfOk};
 ghost use Rattle.std.specs.FinSet as set;
@@ -13,10 +13,9 @@ use std::alloc::Global;
 use txn_codec::{Body, Txn};
 use values::{Listed, NoMemory, Str, Text};
 
-// A multi of more paths is done alone.
+// A multi with more paths is applied alone.
 const MOST_PATHS: usize = 16;
 
-// The set of the paths.
 fn gathered(alloc: Global, paths: &[Str<'_>]) -> Result<TextSet, NoMemory>
     ensures { IfOk result (λ names. names ≡ set.from_list paths.now) }
 {
@@ -27,7 +26,7 @@ fn gathered(alloc: Global, paths: &[Str<'_>]) -> Result<TextSet, NoMemory>
     Ok(names)
 }
 
-/// Whether a transaction with these paths is done alone.
+/// Whether a transaction with these paths is a barrier. Fails only if an allocation is refused.
 pub fn is_barrier(alloc: Global, txn: &Txn, paths: &[Str<'_>]) -> Result<bool, NoMemory>
     requires { paths.now ≡ cells.footprint txn.now }
     ensures { IfOk result (λ barrier. barrier ≡ is_barrier txn.now) }
@@ -35,7 +34,7 @@ pub fn is_barrier(alloc: Global, txn: &Txn, paths: &[Str<'_>]) -> Result<bool, N
     match &txn.body {
         Body::CloseSession => Ok(true),
         Body::Multi(_) => {
-            // As many paths as these aren't there, also if each is another.
+            // There can't be too many paths, even if they are all distinct.
             if paths.len() <= MOST_PATHS {
                 return Ok(false);
             }
@@ -45,7 +44,6 @@ pub fn is_barrier(alloc: Global, txn: &Txn, paths: &[Str<'_>]) -> Result<bool, N
     }
 }
 
-// The set as a list.
 fn listed(alloc: Global, paths: TextSet) -> Result<Listed<Text>, NoMemory>
     ensures { IfOk result (λ list. list ≡ sorted_names paths) }
 {
@@ -57,7 +55,8 @@ fn listed(alloc: Global, paths: TextSet) -> Result<Listed<Text>, NoMemory>
     Ok(Listed::from_vec(list))
 }
 
-/// The transaction's footprint, or want of memory. It costs the transaction's own paths, times a logarithm.
+/// The transaction's footprint. Its cost is the number of the transaction's own paths times a logarithm. Fails only if
+/// an allocation is refused.
 pub fn footprint(alloc: Global, txn: &Txn) -> Result<Footprint, NoMemory>
     ensures { IfOk result (λ footprint. footprint ≡ txn_footprint txn.now) }
 {

@@ -1,4 +1,4 @@
-//! Which paths a transaction may touch.
+//! The paths that a transaction may touch.
 
 use crate::words::{operation_of, txn_of};
 use footprint::{Footprint, borrow_paths, footprint};
@@ -7,7 +7,7 @@ use std::test::Fail;
 use txn_codec::{Body, Path, SetAcl, Txn};
 use values::Listed;
 
-// The footprint: its paths, each behind a blank, or the word "barrier".
+// The footprint: its paths, each after a blank, or the word "barrier".
 fn shown(alloc: Global, txn: &Txn) -> Result<String, Fail> {
     let mut text = String::new(alloc);
     match footprint(alloc, txn)? {
@@ -22,7 +22,7 @@ fn shown(alloc: Global, txn: &Txn) -> Result<String, Fail> {
     Ok(text)
 }
 
-// The footprint of an operation that stands alone.
+// The footprint of an operation outside a multi.
 fn of_single(alloc: Global, sign: char, path: &str) -> Result<String, Fail> {
     let operation = operation_of(alloc, sign, path)?;
     shown(alloc, &txn_of(Body::Single(operation)))
@@ -42,7 +42,7 @@ fn of_multi(alloc: Global, parts: &[(char, &str)]) -> Result<String, Fail> {
     shown(alloc, &multi_of(alloc, parts)?)
 }
 
-// The paths that a transaction lends, each behind a blank.
+// The paths borrowed from a transaction, each after a blank.
 fn lent(alloc: Global, txn: &Txn) -> Result<String, Fail> {
     let mut paths = Vec::new(alloc);
     borrow_paths(txn, &mut paths)?;
@@ -54,7 +54,7 @@ fn lent(alloc: Global, txn: &Txn) -> Result<String, Fail> {
     Ok(text)
 }
 
-// The paths that a multi lends.
+// The paths borrowed from a multi.
 fn lent_by_multi(alloc: Global, parts: &[(char, &str)]) -> Result<String, Fail> {
     lent(alloc, &multi_of(alloc, parts)?)
 }
@@ -69,7 +69,7 @@ fn of_set_acl(alloc: Global, path: &str) -> Result<String, Fail> {
     shown(alloc, &txn_of(Body::SetAcl(set_acl)))
 }
 
-// The footprint of a multi that makes a child of /p for each name.
+// The footprint of a multi that creates a child of /p for each name.
 fn of_creates(alloc: Global, names: &[&str]) -> Result<String, Fail> {
     let mut operations = Vec::new(alloc);
     for name in names {
@@ -156,7 +156,7 @@ fn a_multi_of_more_than_16_paths_is_a_barrier(rt: HostRuntime) -> Result<(), Fai
     Ok(())
 }
 
-// 17 parts that touch two paths.
+// 17 parts, each of which touches two paths.
 #[test]
 fn a_multi_of_many_parts_and_few_paths_is_none(rt: HostRuntime) -> Result<(), Fail> {
     let alloc = rt.alloc();
@@ -167,7 +167,7 @@ fn a_multi_of_many_parts_and_few_paths_is_none(rt: HostRuntime) -> Result<(), Fa
     Ok(())
 }
 
-// A create names its path and then its parent; a path that two parts touch is lent twice, and a barrier lends none.
+// A create names its path and then its parent. A path that two parts touch is borrowed twice, and a barrier has none.
 #[test]
 fn paths_are_lent_as_they_are_named(rt: HostRuntime) -> Result<(), Fail> {
     let alloc = rt.alloc();

@@ -1,10 +1,10 @@
-//! Transactions that signs and paths stand for.
+//! Transactions given as signs and paths.
 
 use std::alloc::Global;
 use txn_codec::{Body, Check, Create, Operation, Path, SetData, Txn, TxnHeader};
 use values::ReadError;
 
-/// The operation that a sign stands for: "+" a create, "-" a delete, "=" new data, "?" a check, and any other an error.
+/// The operation of a sign: "+" a create, "-" a delete, "=" new data, "?" a check, and any other an error.
 pub fn operation_of(alloc: Global, sign: char, path: &str) -> Result<Operation, ReadError> {
     let path = Path::new(alloc, path)?;
     Ok(match sign {

@@ -1,4 +1,4 @@
--- What stands once in a set.
+-- The distinct elements of a list.
 use Rattle.std.proofs.Common.{◌≡◌, ℕ, ◌+◌, ◌<◌, ◌≤◌, List, [], ◌∷◌, ◌++◌, map, take, drop, length, get_or, refl, sym, ap, ◌∙◌, arith}
 use Rattle.std.specs.declared.cmp.Ordering.{Ordering}
 use Rattle.std.specs.declared.cmp.Ordering.TheVariants.{Less, Equal, Greater}
@@ -11,13 +11,13 @@ use Rattle.std.proofs.Math.Seq.{take-length}
 use Rattle.watch_manager.specs.Ascending.{sorted_distinct, with_inserted_keys}
 use Rattle.watch_manager.proofs.Ascending.{ascending-nil, inserted-ascending}
 
--- all of them, put in one by one
+-- All of them, inserted one by one.
 pub inserted-all : {K : Type 0} {R : K → K → Ordering} → IsTotalOrder R → CmpEqualImpliesEq R → (ks : List K)
     → with_inserted_keys R [] ks ≡ sorted_distinct R ks
 inserted-all {K} {R} o exact ks =
     ap (λ keys. with_inserted_keys R keys ks) (sym (ascending-nil o)) ∙ inserted-ascending o exact [] ks
 
--- keys, by what is seen of them
+-- Keys, by their models.
 pub seen-insert : {K L : Type 0} (S : L → L → Ordering) (f : K → L) (ks : List K) (k : K)
     → map f (insert_key (λ x y. S (f x) (f y)) ks k) ≡ insert_key S (map f ks) (f k)
 seen-insert S f [] k = refl
@@ -30,7 +30,7 @@ seen-insert {K} {L} S f (x ∷ xs) k = by (seen-insert S f xs k) (S (f k) (f x))
     by later Equal = refl
     by later Greater = ap (λ (ls : List L). f x ∷ ls) later
 
--- the item at a place, and those after it
+-- The element at a place, and those after it.
 pub rest_at : {A : Type 0} (xs : List A) (i : ℕ) (x : A) → i < length xs → x ≡ get_or xs i x
     → drop i xs ≡ x ∷ drop (i + 1) xs
 rest_at xs i x within is = drop_more xs i x within ∙ (λ j. sym is j ∷ drop (i + 1) xs)

@@ -1,4 +1,4 @@
--- Texts, evaluated on rows that are listed.
+-- Texts, evaluated on rows given as a list.
 use Rattle.std.proofs.Common.{◌≡◌, ℕ, List, ◌++◌, map, length}
 use Rattle.std.specs.Prelude.{codes, decimal}
 use Rattle.std.specs.Cmp.{nat_cmp_total, int_cmp_total}
@@ -10,7 +10,7 @@ use Rattle.four_letter.specs.Texts.{name_value_line, wchs_text, wchp_text, sessi
 use Rattle.four_letter.specs.Inner.Gathered.{sessions_on}
 use Rattle.four_letter.specs.declared.figures.WatchRow.{WatchRow}
 
--- with each set computed as a list
+-- The text with each set computed as a list.
 abbrev wchs_placed : List WatchRow → List ℕ
 wchs_placed rows =
     decimal (length (placed nat_cmp_total (map (λ (r : WatchRow). r.conn) rows))) ++ codes " connections watching "

@@ -99,7 +99,7 @@ find-set path q (e ∷ es) old new is = by (eq_by_cmp path_cmp path e.0.now) ref
         ∙ ap (eq_by_cmp path_cmp path) (tells_apart exact_bytes q e.0.now here)
         ∙ t))
 
--- through the sessions that stand at the path
+-- Through the sessions of the path.
 pub adds_through : (row : WatchRow) (path : Bytes) (es new : Entries) (old sessions : BTreeSet ℤ) → path ≡ row.path
     → new ≡ set_value (asks path) es sessions → Some old ≡ lookup (asks path) es
     → sessions.keys ≡ insert_key int_cmp old.keys row.session
@@ -114,7 +114,7 @@ adds_through row path es new old sessions same made found is q =
     (Some (insert_key int_cmp (unwrap_or (find path_cmp p (sessions_by_path es)) []) row.session))
     (find path_cmp q (sessions_by_path es))) same
 
--- as the first session of the path
+-- As the first session of the path.
 pub adds_first : (row : WatchRow) (path : Bor (List ℕ)) (es new : Entries) (sessions : BTreeSet ℤ)
     → path.now ≡ row.path
     → new ≡ insert_entry (λ (a b : Bor (List ℕ)). path_cmp a.now b.now) es path sessions
@@ -212,7 +212,7 @@ is_any-sessions_on q (r ∷ rs) = by (same_path q r.path) (is_any-sessions_on q 
     by true rest = refl
     by false rest = rest
 
--- a path that has a row is watched
+-- A path that has a row is watched.
 in_order-watched : (q : Bytes) (rows : List WatchRow)
     → sorted_sessions (sessions_on q rows)
     ≡ cond (list_any (eq_by_cmp path_cmp q) (map (λ (r : WatchRow). r.path) rows))
@@ -262,7 +262,7 @@ module _ {X : Type 0} (f : Bytes → X) where
       by true t rest = ap (λ p. Some (f p)) (sym (tells_apart exact_bytes q k t))
       by false t rest = rest
 
--- what is gathered of all rows
+-- The result for all rows.
 all_gathered : (rows : List WatchRow) (all : SessionsByPath) → GathersSessions rows all
     → IsStrictlySortedBy path_cmp (keys_of all)
     → all ≡ valued (λ path. watching_sessions path rows) (watched_paths rows)

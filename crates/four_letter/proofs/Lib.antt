@@ -1,8 +1,8 @@
--- What stands once in a set
+-- The distinct elements of a list.
 mod Counting
--- Sessions, gathered row by row
+-- Sessions, gathered row by row.
 mod Gathering
--- Lines, put out one behind the other
+-- Lines, appended one after the other.
 mod Lines
--- Texts, evaluated on rows that are listed
+-- Texts, evaluated on rows given as a list.
 mod Evaluating

@@ -1,2 +1,2 @@
--- What private functions make on the way. No caller has to believe it.
+-- What private functions compute on the way. No caller depends on this.
 pub mod Gathered

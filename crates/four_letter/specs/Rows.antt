@@ -1,4 +1,4 @@
--- Rows that were worked out by hand: an observer, and what it is asked and answers.
+-- Rows that were worked out by hand: the figures of an observer, and its answers.
 use Rattle.std.specs.Prelude.{◌≡◌, ℕ, ◌*◌, ◌+◌, ◌^◌, ℤ, pos, negsuc, List, [], ◌∷◌, ◌++◌, true, false, codes}
 use Rattle.ephemerals.specs.Orders.{Bytes}
 use Rattle.watch_manager.specs.declared.watched.Table.{Table}
@@ -8,7 +8,7 @@ use Rattle.four_letter.specs.declared.figures.Figures.{Figures}
 use Rattle.four_letter.specs.declared.figures.WatchRow.{WatchRow}
 use Rattle.four_letter.specs.declared.word.Word.TheVariants.{Ruok, Isro, Srvr, Mntr, Wchs, Wchp}
 
--- one connection has a session, and the tree has the three nodes that every tree has
+-- One connection has a session, and the tree has the three preset nodes.
 abbrev pub primed_figures : Figures
 primed_figures = record { serving = true; last = pos 0; connections = 1; paths = 3; pairs = 0; watches = [] }
 
@@ -18,19 +18,19 @@ leaderless_figures = record primed_figures { serving = false }
 abbrev pub watch_row : Bytes → ℕ → ℤ → Table → WatchRow
 watch_row path conn session table = record { path = path; conn = conn; session = session; table = table }
 
--- the first session of server 3, 0x300000000000001
+-- The first session of server 3, 0x300000000000001.
 abbrev pub first_session : ℤ
 first_session = pos 216172782113783809
 
--- connection 1 watches the children of the root and the data of /a
+-- Connection 1 watches the children of the root and the data of /a.
 abbrev pub one_watcher_figures : Figures
 one_watcher_figures = record primed_figures {
   paths = 4;
   watches = watch_row (codes "/") 1 first_session Child ∷ watch_row (codes "/a") 1 first_session Own ∷ [];
 }
 
--- The session of connection 1 watches /a in both tables, those of connections 2 and 3 in one. The session of
--- connection 2 is one of server 255, whose ids are negative.
+-- The session of connection 1 watches /a in both tables, those of connections 2 and 3 in one. The session of connection
+-- 2 is one of server 255, whose ids are negative.
 abbrev pub three_watcher_figures : Figures
 three_watcher_figures = record primed_figures {
   watches =

@@ -1,4 +1,4 @@
--- What each word is answered. Lines, their order and what is counted are this observer's own.
+-- The answer to each word. The lines, their order and the counts are this observer's own.
 use Rattle.std.specs.Prelude.{◌≡◌, ℕ, ◌+◌, ℤ, List, ◌++◌, length, false, if◌then◌else◌, codes, decimal}
 use Rattle.std.specs.List.{flat_map}
 use Rattle.std.specs.Int.{w64, cast_unsigned}
@@ -10,15 +10,15 @@ use Rattle.four_letter.specs.declared.figures.WatchRow.{WatchRow}
 use Rattle.four_letter.specs.declared.word.Word.{Word}
 use Rattle.four_letter.specs.declared.word.Word.TheVariants.{Ruok, Isro, Srvr, Mntr, Wchs, Wchp}
 
--- the 64 bits of two's complement in lower-case hexadecimal digits, without zeros in front
+-- The 64 bits of two's complement in lower-case hexadecimal digits, without leading zeros.
 abbrev pub prefixed_hex : ℤ → List ℕ
 prefixed_hex number = codes "0x" ++ radix_digits 16 false (cast_unsigned w64 number)
 
--- a line of a name and a value
+-- A line of a name and a value.
 abbrev pub name_value_line : List ℕ → List ℕ → List ℕ
 name_value_line name value = name ++ value ++ codes "\n"
 
--- ZooKeeper keeps the root under two names, and counts it twice
+-- ZooKeeper has the root under two names, and counts it twice.
 abbrev pub node_count : Figures → ℕ
 node_count f = f.paths + 1
 
@@ -46,14 +46,14 @@ wchs_text rows =
 abbrev pub session_line : ℤ → List ℕ
 session_line session = name_value_line (codes "\t") (prefixed_hex session)
 
--- a path, and below it the sessions that watch it
+-- A path, and on the lines after it the sessions that watch it.
 abbrev pub path_block : List WatchRow → Bytes → List ℕ
 path_block rows path = path ++ codes "\n" ++ flat_map session_line (watching_sessions path rows)
 
 abbrev pub wchp_text : List WatchRow → List ℕ
 wchp_text rows = flat_map (path_block rows) (watched_paths rows)
 
--- what is told of the tree and of watches, while clients are served
+-- The text about the tree and the watches, while clients are served.
 abbrev pub while_serving : Figures → List ℕ → List ℕ
 while_serving f told = if f.serving then told else codes "not serving\n"
 
@@ -65,7 +65,7 @@ reply_text Mntr f = while_serving f (mntr_text f)
 reply_text Wchs f = while_serving f (wchs_text f.watches)
 reply_text Wchp f = while_serving f (wchp_text f.watches)
 
--- the word's answer is the same whatever is watched
+-- The word's answer is the same whatever is watched.
 abbrev pub TellsOfNoWatch : Word → Type 0
 TellsOfNoWatch word = (f : Figures) (rows : List WatchRow)
     → reply_text word (record f { watches = rows }) ≡ reply_text word f

@@ -16,11 +16,10 @@ letters_of Wchp = codes "wchp"
 abbrev pub all_words : List Word
 all_words = Ruok ∷ Isro ∷ Srvr ∷ Mntr ∷ Wchs ∷ Wchp ∷ []
 
--- the word that these bytes spell
 abbrev pub word_of : List ℕ → Option Word
 word_of bytes = find (λ word. bytes_eq bytes (letters_of word)) all_words
 
--- whether the answer tells of watches
+-- Whether the answer needs the watches.
 abbrev pub needs_watches : Word → Bool
 needs_watches Ruok = false
 needs_watches Isro = false

@@ -1,4 +1,4 @@
-//! What an observer tells of itself.
+//! The figures of an observer.
 
 use values::{Listed, Str};
 use watch_manager::Table;
@@ -12,19 +12,19 @@ pub struct WatchRow<'a> {
     pub table: Table,
 }
 
-/// What the words are answered from.
+/// The figures that the answers are made of.
 #[derive(Drop)]
 pub struct Figures<'a> {
     /// Whether clients are served.
     pub serving: bool,
     /// The last zxid.
     pub last: i64,
-    /// How many connections have a session.
+    /// The number of connections that have a session.
     pub connections: usize,
-    /// How many paths the tree has.
+    /// The number of paths in the tree.
     pub paths: usize,
-    /// How many pairs of a session and an ephemeral node there are.
+    /// The number of pairs of a session and an ephemeral node.
     pub pairs: usize,
-    /// The watches of both tables. Words that tell of none are answered alike without them.
+    /// The watches of both tables. The answer of a word that doesn't need watches is the same without them.
     pub watches: Listed<WatchRow<'a>>,
 }

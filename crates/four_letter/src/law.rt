@@ -2,7 +2,7 @@
 
 ghost use Rattle.four_letter.specs.Rows.{WorkedRows};
 
-/// Rows that were worked out by hand.
+/// The definitions, evaluated on rows that were worked out by hand.
 pub fn worked_rows()
     ensures { WorkedRows }
 {}

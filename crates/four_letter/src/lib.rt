@@ -1,8 +1,8 @@
-//! The four-letter words, by which operators ask an observer how it fares.
+//! The four-letter words, by which operators ask an observer for its state.
 //!
-//! A connection that begins with one of six words is sent a text. specs/Words says which bytes are a word, specs/Texts
-//! which text each is answered, and specs/Watched what the watches amount to. What a text tells of stands in `Figures`,
-//! which whoever asks fills in; only the words of which `needs_watches` says so look at the watches.
+//! A connection that begins with one of six words is sent a text. specs/Words defines the words, specs/Texts the text
+//! of each, and specs/Watched the counts of watches. The texts are made from `Figures`, which the caller fills in; only
+//! the words for which `needs_watches` is true use the watches.
 //!
 //! ```text
 //! let mut out = Vec::new(alloc);

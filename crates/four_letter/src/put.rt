@@ -24,7 +24,7 @@ pub fn put_count(out: &mut Vec<u8>, name: &str, count: u128) -> Result<(), NoMem
     }
 }
 
-/// Appends a line of a name and a number as the 64 bits of two's complement.
+/// Appends a line of a name and a number as the 64 bits of two's complement, in hexadecimal.
 pub fn put_hex(out: &mut Vec<u8>, name: &str, number: i64) -> Result<(), NoMemory>
     ensures { OnOk result (out.new.items ≡ out.old.items ++ name_value_line name.now (prefixed_hex number)) }
 {
@@ -35,7 +35,7 @@ pub fn put_hex(out: &mut Vec<u8>, name: &str, number: i64) -> Result<(), NoMemor
     }
 }
 
-/// Appends the line that says how many connections watch how many paths.
+/// Appends the line with the number of connections that watch and of paths that are watched.
 pub fn put_watching(out: &mut Vec<u8>, connections: usize, paths: usize) -> Result<(), NoMemory>
     ensures { OnOk result (out.new.items ≡ out.old.items ++ (decimal connections
         ++ codes " connections watching " ++ decimal paths ++ codes " paths\n")) }

@@ -1,4 +1,4 @@
-//! What each word is answered.
+//! The answer to each word.
 
 ghost use Rattle.std.specs.Prelude.{◌≡◌, ◌++◌, List, ℕ, Ok, false, true, OnOk, OnErr, IfOk, IfSome, IfNone, is_some};
 ghost use Rattle.std.specs.List.{flat_map};
@@ -74,7 +74,6 @@ fn put_wchp(out: &mut Vec<u8>, alloc: Global, rows: &[WatchRow<'_>]) -> Result<(
     Ok(())
 }
 
-// Appends the word's text.
 fn put_text(
     out: &mut Vec<u8>,
     alloc: Global,
@@ -96,8 +95,8 @@ fn put_text(
     }
 }
 
-/// Appends what the word is answered, where the bytes spell one, and says whether they do. Refused, the list stays as
-/// it was.
+/// Appends the answer to a word and returns true, or returns false if the bytes spell no word. A refused allocation
+/// leaves `out` as it was.
 pub fn answer(word: [u8; 4], figures: &Figures<'_>, out: &mut Vec<u8>) -> Result<bool, NoMemory>
     ensures known { IfOk result (λ known. known ≡ is_some (word_of word)) }
     ensures text { IfSome (word_of word)

@@ -1,4 +1,4 @@
-//! What the watches amount to.
+//! Counts of the watches.
 
 ghost use Rattle.std.specs.Prelude.{◌≡◌, IfOk, OnOk, length};
 ghost use Rattle.four_letter.specs.Watched.{watched_paths, watching_connections};
@@ -9,7 +9,7 @@ use std::alloc::Global;
 use std::collections::{BTreeMap, BTreeSet};
 use values::NoMemory;
 
-/// How many paths are watched.
+/// The number of watched paths. Fails only if an allocation is refused.
 pub fn count_paths(alloc: Global, rows: &[WatchRow<'_>]) -> Result<usize, NoMemory>
     ensures { IfOk result (λ count. count ≡ length (watched_paths rows.now)) }
 {
@@ -20,7 +20,7 @@ pub fn count_paths(alloc: Global, rows: &[WatchRow<'_>]) -> Result<usize, NoMemo
     Ok(paths.len())
 }
 
-/// How many connections watch something.
+/// The number of connections that watch something. Fails only if an allocation is refused.
 pub fn count_connections(alloc: Global, rows: &[WatchRow<'_>]) -> Result<usize, NoMemory>
     ensures { IfOk result (λ count. count ≡ length (watching_connections rows.now)) }
 {
@@ -55,7 +55,7 @@ fn add<'a>(
     }
 }
 
-/// The watched paths, each with the sessions that watch it.
+/// The watched paths, each with the sessions that watch it. Fails only if an allocation is refused.
 pub fn by_path<'a>(
     alloc: Global,
     rows: &'a [WatchRow<'_>],

@@ -1,4 +1,4 @@
-//! The words.
+//! The four-letter words.
 
 ghost use Rattle.std.specs.Prelude.{◌≡◌, Some, false};
 ghost use Rattle.four_letter.specs.Words.{word_of, needs_watches};
@@ -7,22 +7,22 @@ ghost use Rattle.four_letter.specs.Texts.{TellsOfNoWatch};
 /// A four-letter word.
 #[derive(Clone, Copy)]
 pub enum Word {
-    /// Whether it runs.
+    /// Whether the observer runs.
     Ruok,
     /// Whether it serves clients that write, too.
     Isro,
-    /// Its place and its size.
+    /// Its state and its size.
     Srvr,
-    /// The same, and its watches and ephemeral nodes, to be read by a program.
+    /// The same with its watches and ephemeral nodes, for programs.
     Mntr,
-    /// How much is watched.
+    /// The number of watches.
     Wchs,
-    /// Which session watches which path.
+    /// The sessions that watch each path.
     Wchp,
 }
 
 impl Word {
-    /// The word that the bytes spell, if they spell one.
+    /// The word that the bytes spell, or None.
     pub fn from_bytes(bytes: [u8; 4]) -> Option<Word>
         ensures { result ≡ word_of bytes }
     {
@@ -61,7 +61,7 @@ impl Word {
         }
     }
 
-    /// Whether its answer tells of watches. Where it doesn't, it is the same whatever is watched.
+    /// Whether its answer needs the watches. Otherwise it is the same whatever is watched.
     pub fn needs_watches(self) -> bool
         ensures needed { result ≡ needs_watches self }
         ensures unseen { result ≡ false → TellsOfNoWatch self }

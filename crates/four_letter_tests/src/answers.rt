@@ -1,4 +1,4 @@
-//! What each word is answered.
+//! The answer to each word.
 
 use crate::{answered, listed, spelled_again, tells_of_watches};
 use std::alloc::Global;
@@ -15,7 +15,7 @@ fn watching(alloc: Global) -> Result<Watches, Fail> {
     Ok(watches)
 }
 
-// Whether the word is answered this, behind what stood there.
+// Whether the word has this answer, after what was there before.
 fn is_answered(
     alloc: Global,
     word: &[u8; 4],
@@ -27,7 +27,7 @@ fn is_answered(
     Ok(known && out.as_slice() == wanted.as_bytes())
 }
 
-// How many of the words are answered otherwise.
+// The number of words with another answer.
 fn otherwise(
     alloc: Global,
     serving: bool,

@@ -1,6 +1,6 @@
-//! Tests of the four-letter words and of the list of watches, over public calls alone. They stand in a crate of their
-//! own, since a crate that has tests is proved twice; and the calls stand in functions without clauses, so that a
-//! test's own proof is short.
+//! Tests of the four-letter words and of the list of watches, over public calls alone. They are a crate of their own,
+//! since a crate with tests is proved twice. The calls are in functions without contracts, so that a test's own proof
+//! is short.
 #![tactic(auto)]
 
 #[cfg(test)]
@@ -20,7 +20,7 @@ fn session_of(conn: u64) -> i64 {
     }
 }
 
-/// What the word is answered by an observer with these watches, and whether it is a word.
+/// The answer to the word by an observer with these watches, and whether it is a word.
 pub fn answered(
     alloc: Global,
     word: [u8; 4],
@@ -52,7 +52,7 @@ pub fn answered(
     Ok((known, out))
 }
 
-/// The watches as they are listed: path, connection, and "d" or "c" for the table.
+/// The list of the watches: path, connection, and "d" or "c" for the table.
 pub fn listed(alloc: Global, watches: &Watches) -> Result<Vec<u8>, NoMemory> {
     let mut text = Vec::new(alloc);
     for row in &watches.summary(alloc)? {
@@ -72,7 +72,7 @@ pub fn listed(alloc: Global, watches: &Watches) -> Result<Vec<u8>, NoMemory> {
     Ok(text)
 }
 
-/// Whether the bytes are a word whose answer tells of watches; none where they are no word.
+/// Whether the bytes are a word whose answer needs the watches; none if they aren't a word.
 pub fn tells_of_watches(bytes: [u8; 4]) -> Option<bool> {
     match Word::from_bytes(bytes) {
         None => None,
@@ -80,7 +80,7 @@ pub fn tells_of_watches(bytes: [u8; 4]) -> Option<bool> {
     }
 }
 
-/// The bytes that spell the word of these bytes; none where they are no word.
+/// The bytes that spell the word of these bytes; none if they aren't a word.
 pub fn spelled_again(bytes: [u8; 4]) -> Option<[u8; 4]> {
     match Word::from_bytes(bytes) {
         None => None,

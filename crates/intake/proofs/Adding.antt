@@ -1,4 +1,4 @@
--- A port that is added.
+-- Adding a port.
 use Rattle.std.proofs.Common.{◌≡◌, ◌+◌, ℕ, Bool, List, [], ◌++◌, Option, Some, None, refl, ap, sym, ◌∙◌, subst}
 use Rattle.std.specs.Prelude.{if◌then◌else◌}
 use Rattle.std.specs.FinMap as finmap
@@ -11,12 +11,12 @@ use Rattle.intake.specs.Messages.{PortMessage}
 use Rattle.intake.specs.Links.{Links, taken_from, owed_to, IsEndBy}
 use Rattle.intake.specs.Desk.{Desk, AddsPort}
 
--- what is seen of a desk
+-- The model of a desk.
 abbrev seen_desk : Bool → Option Machine → Links → ℕ → List PortMessage → Desk
 seen_desk closed engine links next fresh =
     record { machine = if closed then None else engine; links = links; next = next; fresh = fresh }
 
--- the two ends of new rings
+-- The two ends of new rings.
 pub record AreNew (end : PortEnd) (link : Link) : Type 0 where
   pub inbox : IsPair end.inbox link.inbox
   pub outbox : IsPair link.outbox end.outbox

@@ -1,4 +1,4 @@
--- A desk goes on agreeing with what it took.
+-- A desk keeps agreeing with the messages that it took.
 use Rattle.std.proofs.Common.{◌≡◌, ◌≢◌, ◌≤◌, ◌+◌, ℕ, true, cond, List, [], ◌++◌, Option, Some, None, refl, ap, sym, ◌∙◌, subst, inl, inr, append_assoc, arith}
 use Rattle.std.specs.Prelude.{is_some}
 use Rattle.std.specs.Ordering.{nat_cmp}
@@ -105,7 +105,7 @@ waits began old new taken before a w = record {
       (none_stays (finmap.get old.links n) (finmap.get new.links n) (w.links.stay.at n) u.0, u.1);
 }
 
--- ---- a port that goes
+-- ---- removing a port
 
 some_is : (o : Option Link) → is_some o ≡ true → (l : Link) × (o ≡ Some l)
 some_is None live = cc
@@ -138,7 +138,7 @@ closes began old k taken before a = record {
   unused = λ n above. let u = a.unused n above in (gone old.links k n u.0, u.1);
 }
 
--- ---- a port that is added
+-- ---- adding a port
 
 adds_owes : (began : Machine) (old new : Desk) (port : PortEnd) (taken : List PortMessage)
     (before : ℕ → List PortMessage)
@@ -189,7 +189,7 @@ adds began old new port taken before a d = record {
   unused = adds_unused began old new port taken before a d;
 }
 
--- ---- all of it
+-- ---- all steps
 
 nothing_there : (n : ℕ) → finmap.get (finmap.empty {X = Link} {R = nat_cmp}) n ≡ None
 nothing_there n = finmap.get-from_entries {X = Link} nat_cmp_total [] n

@@ -1,4 +1,4 @@
--- A hub's list goes with its desk.
+-- A hub's list agrees with its desk.
 use Rattle.std.proofs.Common.{◌≡◌, ◌≤◌, ◌+◌, ◌==◌, ℕ, zero, suc, Bool, true, false, cond, List, [], ◌∷◌, ◌++◌, length, take, Option, Some, None, Ok, refl, ap, sym, ◌∙◌, subst, inl, inr, arith}
 use Rattle.std.specs.FinMap as finmap
 use Rattle.std.proofs.lemmas.List.{take-append-le, take_all, length-append}
@@ -12,7 +12,7 @@ use Rattle.intake.specs.Agreement.{DeskAgrees, outputs_of, with_port}
 use Rattle.intake.specs.Hub.{Hub, number_at, taken_before, IsHubSince}
 use Rattle.intake.proofs.Agreeing.{desks_agree}
 
--- the lists before the ports, told in another way
+-- The lists before the ports, given in another way.
 told_so : (began : Machine) (d : Desk) (taken : List PortMessage) (before others : ℕ → List PortMessage)
     → ((n : ℕ) → others n ≡ before n) → DeskAgrees began d taken before → DeskAgrees began d taken others
 told_so began d taken before others same a = record {
@@ -85,7 +85,7 @@ runs_without began old n new is r =
 
 -- ---- a port
 
--- the numbers with one more at their end
+-- The numbers with one more at their end.
 added_at : (xs : List ℕ) (v n : ℕ) → number_at (xs ++ v ∷ []) n ≡ cond (n == length xs) v (number_at xs n)
 added_at [] v zero = refl
 added_at [] v (suc k) = grind (arith, nat_tests)

@@ -1,4 +1,4 @@
--- What is kept where one port's ends are written over, and over several such writes.
+-- Overwriting one port's ends, and a list of such writes.
 use Rattle.std.proofs.Common.{◌≡◌, ◌≢◌, ℕ, true, List, [], ◌∷◌, ◌++◌, Option, Some, None, Result, Ok, Err, refl, ap, sym, ◌∙◌, subst, inl, inr, append_assoc}
 use Rattle.std.specs.Prelude.{OnOk, is_some}
 use Rattle.std.specs.Ordering.{nat_cmp}
@@ -22,7 +22,7 @@ use Rattle.intake.specs.Messages.{PortMessage, part_of_port, port_of, share_of_p
 use Rattle.intake.specs.Links.{Links, outputs_owed, taken_from, owed_to, taken_at, owed_at, IsEndBy, IsSameLink, StaysOpen, AllStay, TakesNoMessage, TakesMessages, PutsShares}
 use Rattle.intake.proofs.Parts.{share_joined, share_own, share_other}
 
--- ---- one port's ends are written over
+-- ---- one port's ends are overwritten
 
 pub record Written (old : Links) (k : ℕ) (was is : Link) (new : Links) : Type 0 where
   pub there : finmap.get old k ≡ Some was
@@ -111,7 +111,7 @@ puts_at old was is new o w stays took owes = record {
       (λ n apart live. sym (append-nil (owed_at old n)) ∙ ap (λ l. owed_at old n ++ l) (sym (share_other n o apart)));
 }
 
--- ---- a port that isn't live is passed over
+-- ---- a port that isn't live is ignored
 
 pub rests_same : (links : Links) → TakesNoMessage links links
 rests_same links = record {
@@ -216,7 +216,7 @@ puts_on a b c xs ys x y = record {
       ∙ ap (λ l. owed_at a n ++ l) (sym (share_joined n xs ys));
 }
 
--- ---- a link's ends, and maps that are the same
+-- ---- a link's ends, and equal maps
 
 pub stays_put : (a b : Link) → SameProducer a.outbox b.outbox → b.inbox ≡ a.inbox → IsSameLink a b
 stays_put a b out in_same = record {
@@ -263,7 +263,7 @@ pub is_there : (old : Links) (k : ℕ) (was is : Link) (new : Links) → Written
     → finmap.get new k ≡ Some is
 is_there old k was is new w = ap (λ (l : Links). finmap.get l k) w.written ∙ get-inserted old k is
 
--- ---- where memory may be refused
+-- ---- an allocation may be refused
 
 pub takes_ok : (result : Result (Unit {0}) NoMemory) (old : Links) (k : ℕ) (was is : Link) (new : Links)
     (before after : List PortMessage) → Written old k was is new → IsSameLink was is

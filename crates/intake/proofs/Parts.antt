@@ -1,4 +1,4 @@
--- A port's part of what came, and its share of what goes out.
+-- A port's part of the messages, and its share of the outputs.
 use Rattle.std.proofs.Common.{◌≡◌, ◌≢◌, ℕ, List, [], ◌∷◌, ◌++◌, ◌==◌, map, refl, ap, sym, ◌∙◌, append_assoc, cond, eq-eqb, arith}
 use Rattle.std.specs.Prelude.{filter}
 use Rattle.std.proofs.lemmas.List.{append-nil, map-append}
@@ -26,21 +26,21 @@ own n m = grind (arith, nat_tests)
 other : (k n : ℕ) (m : Message) → k ≢ n → part_of_port k ((n, m) ∷ []) ≡ []
 other k n m apart = grind (arith, nat_tests)
 
--- a message of the port comes last in its part
+-- A message of the port comes last in its part.
 pub part_own : (n : ℕ) (m : Message) (came : List PortMessage) (r : List Message)
     → r ++ part_of_port n (came ++ (n, m) ∷ []) ≡ (r ++ part_of_port n came) ++ m ∷ []
 part_own n m came r =
     ap (λ l. r ++ l) (part_joined n came ((n, m) ∷ []) ∙ ap (λ l. part_of_port n came ++ l) (own n m))
     ∙ sym (append_assoc r (part_of_port n came) (m ∷ []))
 
--- and in no other part
+-- It is in no other part.
 pub part_others : (k n : ℕ) (m : Message) (came : List PortMessage) → k ≢ n
     → part_of_port k (came ++ (n, m) ∷ []) ≡ part_of_port k came
 part_others k n m came apart =
     part_joined k came ((n, m) ∷ []) ∙ ap (λ l. part_of_port k came ++ l) (other k n m apart)
     ∙ append-nil (part_of_port k came)
 
--- an output is its port's, and no other's
+-- An output is its port's, and no other's.
 pub share_own : (o : Output) → share_of_port (port_of o) (o ∷ []) ≡ o ∷ []
 share_own o = ap (λ b. cond b (o ∷ []) []) (eq-eqb (port_of o) (port_of o) refl)
 

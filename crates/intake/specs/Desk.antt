@@ -1,4 +1,4 @@
--- A desk, and what a turn answers and leaves.
+-- A desk, and the contract of a turn.
 use Rattle.std.specs.Prelude.{◌≡◌, ◌≢◌, ◌⊎◌, ◌+◌, ℕ, List, [], ◌++◌, length, Bool, true, false, Option, Some, None, IsSome, Result, Ok, Err, refl}
 use Rattle.std.specs.FinMap as finmap
 use Rattle.std.specs.Coded.{Coded, code_by, coded×, coded_ℕ}
@@ -11,20 +11,20 @@ use Rattle.intake.specs.declared.port.PortEnd.{PortEnd}
 use Rattle.intake.specs.Ports.{sent_through, received_through}
 use Rattle.intake.specs.Links.{Links, is_open_port, taken_at, owed_at, IsEnd, AllStay, TakesNoMessage}
 
--- an observer with its open ports; a closed one has no machine
+-- An observer with its open ports; a closed one has no machine.
 pub record Desk : Type 0 where
   pub machine : Option Machine
   pub links : Links
-  -- the number of the next port
+  -- The number of the next port.
   pub next : ℕ
-  -- what the last turn took
+  -- The messages of the last turn.
   pub fresh : List PortMessage
 
--- A new desk, with no port.
+-- A new desk, without a port.
 abbrev pub new_desk : Machine → Desk
 new_desk m = record { machine = Some m; links = finmap.empty; next = 0; fresh = [] }
 
--- it is closed, or its engine isn't
+-- The desk is closed, or its engine isn't.
 abbrev pub IsOpenUnless : Bool → Option Machine → Type 0
 IsOpenUnless true engine = Unit {0}
 IsOpenUnless false engine = IsSome engine
@@ -42,7 +42,7 @@ pub record AddsPort (old : Desk) (port : PortEnd) (new : Desk) : Type 0 where
   pub machine : new.machine ≡ old.machine
   pub fresh : new.fresh ≡ old.fresh
 
--- A turn plays what it takes, and puts out what that brings.
+-- A turn plays the messages that it takes, and puts the outputs.
 pub record TakesTurn (m : Machine) (old new : Desk) : Type 0 where
   pub machine : new.machine ≡ Some (play m (events_of new.fresh)).after
   pub took : (n : ℕ) → taken_at new.links n ≡ taken_at old.links n ++ part_of_port n new.fresh
@@ -51,14 +51,14 @@ pub record TakesTurn (m : Machine) (old new : Desk) : Type 0 where
   pub stay : AllStay old.links new.links
   pub next : new.next ≡ old.next
 
--- Nothing is taken, and what is put comes of what was kept.
+-- No message is taken, and the outputs put are from those that were kept.
 pub record TakesNothing (old new : Desk) : Type 0 where
   pub machine : new.machine ≡ old.machine
   pub links : TakesNoMessage old.links new.links
   pub next : new.next ≡ old.next
 
--- A turn is made; or the list of messages couldn't grow, and they stay where they are; or any other want of memory
--- closed the desk. A closed one answers that, and takes nothing.
+-- A turn is made; or the list of messages couldn't grow, and the messages stay where they are; or another refused
+-- allocation closed the desk. A desk that was closed before returns `Closed`, and takes nothing.
 abbrev pub AnswersTurn : Result ℕ Stop → Option Machine → Desk → Desk → Type 0
 AnswersTurn (Ok count) (Some m) old new = (count ≡ length new.fresh) × TakesTurn m old new
 AnswersTurn (Err stops.NoMemory) (Some m) old new = (new.machine ≡ None) ⊎ ((new.fresh ≡ []) × TakesNothing old new)

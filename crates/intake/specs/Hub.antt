@@ -1,4 +1,4 @@
--- A hub: a desk, and the list of all that it took.
+-- A hub: a desk, and the list of all messages that it took.
 use Rattle.std.specs.Prelude.{◌≡◌, ◌≤◌, ℕ, zero, suc, List, [], ◌∷◌, length, take, refl}
 use Rattle.std.specs.Coded.{Coded, code_by, coded×, coded_ℕ, coded_list}
 use Rattle.observer_core.specs.Machine.{Machine}
@@ -8,22 +8,22 @@ use Rattle.intake.specs.Agreement.{DeskAgrees}
 
 pub record Hub : Type 0 where
   pub desk : Desk
-  -- all that was taken, in order
+  -- All messages taken, in order.
   pub taken : List PortMessage
-  -- how many messages were taken when each port was added, by the ports' numbers
+  -- For each port, by number, how many messages were taken when it was added.
   pub since : List ℕ
 
--- the number at a place; 0 past the end
+-- The number at a place; 0 past the end.
 abbrev pub number_at : List ℕ → ℕ → ℕ
 number_at [] n = 0
 number_at (x ∷ xs) zero = x
 number_at (x ∷ xs) (suc n) = number_at xs n
 
--- what was taken when a port was added
+-- The messages taken when a port was added.
 abbrev pub taken_before : Hub → ℕ → List PortMessage
 taken_before h n = take (number_at h.since n) h.taken
 
--- The hub began with a machine, and its desk agrees with all that it took since.
+-- The hub began with this machine, and its desk agrees with all messages that it took since.
 pub record IsHubSince (began : Machine) (h : Hub) : Type 0 where
   pub agrees : DeskAgrees began h.desk h.taken (taken_before h)
   pub within : (n : ℕ) → number_at h.since n ≤ length h.taken

@@ -1,4 +1,4 @@
--- What was taken of a port, and what is put out to it, by the hub's ends of all open ports.
+-- The messages taken of a port, and the outputs put to it, given the hub's ends of all open ports.
 use Rattle.std.specs.Prelude.{◌≡◌, ℕ, List, [], ◌++◌, Option, Some, None, Bool, true}
 use Rattle.std.specs.Ordering.{nat_cmp}
 use Rattle.std.specs.FinMap as finmap
@@ -9,7 +9,7 @@ use Rattle.intake.specs.declared.port.PortEnd.{PortEnd}
 use Rattle.intake.specs.declared.link.Link.{Link}
 use Rattle.intake.specs.Messages.{PortMessage, part_of_port, share_of_port}
 
--- the hub's ends of each open port, by the ports' numbers
+-- The hub's ends of each open port, by number.
 abbrev pub Links : Type 0
 Links = finmap.FinMap nat_cmp Link
 
@@ -18,7 +18,7 @@ is_open_port n links = finmap.contains_key links n
 
 -- ---- of one port
 
--- what was put into a port's outbox, and then what is kept for it
+-- The outputs put into a port's outbox, followed by those kept for it.
 abbrev pub outputs_owed : Link → List Output
 outputs_owed link = sent link.outbox ++ link.kept.items
 
@@ -38,56 +38,54 @@ abbrev pub owed_to : Option Link → List Output
 owed_to None = []
 owed_to (Some link) = outputs_owed link
 
--- the end is that of the rings of which the hub has these ends
+-- The end belongs to the rings of which the hub has these ends.
 abbrev pub IsEndBy : PortEnd → Option Link → Type 0
 IsEndBy end None = ⊥
 IsEndBy end (Some link) = IsPair end.inbox link.inbox × IsPair link.outbox end.outbox
 
--- a port's ends as they were, but for what went through
+-- A port's ends as they were, except for what went through.
 pub record IsSameLink (old new : Link) : Type 0 where
   pub inbox : SameConsumer old.inbox new.inbox
   pub outbox : SameProducer old.outbox new.outbox
 
--- a port is open as before, and its rings are the same
+-- A port is open as before, and has the same rings.
 abbrev pub StaysOpen : Option Link → Option Link → Type 0
 StaysOpen None None = Unit {0}
 StaysOpen (Some old) (Some new) = IsSameLink old new
 StaysOpen None (Some new) = ⊥
 StaysOpen (Some old) None = ⊥
 
--- ---- of all ports; of one that isn't open there is nothing
+-- ---- of all ports; a port that isn't open has nothing
 
--- what was taken of a port
 abbrev pub taken_at : Links → ℕ → List Message
 taken_at links n = taken_from (finmap.get links n)
 
--- the messages that were seen in a port's inbox and are still to be taken
+-- The messages that were seen in a port's inbox and weren't taken yet.
 abbrev pub waiting_at : Links → ℕ → List Message
 waiting_at links n = waiting_from (finmap.get links n)
 
--- what was put into a port's outbox
 abbrev pub outbox_at : Links → ℕ → List Output
 outbox_at links n = put_to (finmap.get links n)
 
--- what was put into a port's outbox, and then what is kept for it
+-- The outputs put into a port's outbox, followed by those kept for it.
 abbrev pub owed_at : Links → ℕ → List Output
 owed_at links n = owed_to (finmap.get links n)
 
--- the end is that of an open port
+-- The end is that of an open port.
 abbrev pub IsEnd : PortEnd → Links → Type 0
 IsEnd end links = IsEndBy end (finmap.get links end.number)
 
--- the same ports are open, and their rings are the same
+-- The same ports are open, and have the same rings.
 pub record AllStay (old new : Links) : Type 0 where
   pub at : (n : ℕ) → StaysOpen (finmap.get old n) (finmap.get new n)
 
--- Nothing is taken, and what is put comes of what was kept.
+-- No message is taken, and the outputs put are from those that were kept.
 pub record TakesNoMessage (old new : Links) : Type 0 where
   pub stay : AllStay old new
   pub took : (n : ℕ) → taken_at new n ≡ taken_at old n
   pub owes : (n : ℕ) → owed_at new n ≡ owed_at old n
 
--- What is taken of each port comes at the end of a list, in order.
+-- The messages taken of each port are appended to a list, in order.
 pub record TakesMessages (old : Links) (before : List PortMessage) (new : Links) (after : List PortMessage) : Type 0
   where
     pub stay : AllStay old new

@@ -1,28 +1,27 @@
--- What went through a port, by the end that its thread has.
+-- What went through a port, from its thread's end.
 use Rattle.std.specs.Prelude.{◌≡◌, List}
 use Rattle.rtrb.specs.Ring.{sent, received, known_free, known_items, SameProducer, SameConsumer}
 use Rattle.client_service.specs.declared.output.Output.{Output}
 use Rattle.intake.specs.declared.message.Message.{Message}
 use Rattle.intake.specs.declared.port.PortEnd.{PortEnd}
 
--- the messages that were sent by a port
 abbrev pub sent_through : PortEnd → List Message
 sent_through port = sent port.inbox
 
--- the outputs that it received
+-- The outputs that it received.
 abbrev pub received_through : PortEnd → List Output
 received_through port = received port.outbox
 
--- so many messages as there is room for were sent and not seen to be taken
+-- As many messages as there is room for were sent and not seen to be taken.
 abbrev pub IsFull : PortEnd → Type 0
 IsFull port = known_free port.inbox ≡ 0
 
--- the same port, but for what went through
+-- The same port, except for what went through.
 pub record SamePort (old new : PortEnd) : Type 0 where
   pub number : new.number ≡ old.number
   pub inbox : SameProducer old.inbox new.inbox
   pub outbox : SameConsumer old.outbox new.outbox
 
--- the outputs that it was seen to have and that it didn't receive yet
+-- The outputs that were seen in its outbox and weren't received yet.
 abbrev pub unread_through : PortEnd → List Output
 unread_through port = known_items port.outbox

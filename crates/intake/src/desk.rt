@@ -1,4 +1,4 @@
-//! The desk: an engine, and the ports whose messages it is fed.
+//! The desk: an engine, and the ports whose messages it takes.
 
 ghost use Rattle.std.specs.Prelude.{◌≡◌, ◌⊎◌, ◌++◌, ◌<◌, ◌≤◌, length, IfOk, IfErr, OnErr, OnOk, IsSome, Some, None, Ok, Err, []};
 ghost use Rattle.std.specs.FinMap as finmap;
@@ -33,22 +33,22 @@ use values::NoMemory;
 
 const MAX_CAPACITY: usize = 1024;
 
-/// Hands the messages of its ports to an engine, and what goes out to the ports. It keeps no list of what it took.
+/// Feeds the messages of its ports to an engine, and the outputs to the ports. It keeps no list of what it took.
 #[derive(Drop)]
 pub struct Desk {
     alloc: Global,
     engine: Engine,
-    // Memory was refused where a turn couldn't go back.
+    // An allocation was refused where a turn couldn't be undone.
     closed: bool,
     links: Links,
     // The number of the next port.
     next: usize,
-    // What the last turn took.
+    // The messages of the last turn.
     fresh: Vec<(usize, Message)>,
     marks: Marks,
     notes: Notes,
     // The ports for which outputs were kept when the turn began, and those that may have sent something. Each list has
-    // room for all open ports.
+    // capacity for all open ports.
     kept: Vec<usize>,
     marked: Vec<usize>,
 }
@@ -77,7 +77,7 @@ impl Model for Desk {
 }
 
 impl Desk {
-    /// A desk whose observer has followed no leader yet.
+    /// A desk whose observer hasn't followed a leader yet. Fails only if an allocation is refused.
     pub fn new(alloc: Global, config: Config) -> Result<Desk, NoMemory>
         ensures { IfOk result (λ d. d ≡ new_desk (new_machine config.settings)) }
     {
@@ -86,7 +86,8 @@ impl Desk {
         Ok(Desk::with_engine(alloc, engine, marks))
     }
 
-    /// A desk whose observer follows a leader in epoch 1, with connection 1 open.
+    /// A desk whose observer follows a leader in epoch 1, with connection 1 open. Fails only if an allocation is
+    /// refused.
     pub fn primed(alloc: Global, config: Config) -> Result<Desk, NoMemory>
         ensures { IfOk result (λ d. d ≡ new_desk (primed_machine config.settings)) }
     {
@@ -113,8 +114,8 @@ impl Desk {
         }
     }
 
-    /// The next port, with room for so many messages (1 to 1024) and so many outputs. Numbers rise from 0, and none is
-    /// used again.
+    /// Adds the next port, with room for `capacity` messages (1 to 1024) and as many outputs. Numbers count from 0, and
+    /// none is used again.
     pub fn add_port(&mut self, capacity: usize) -> Result<Port, AddPortError>
         ensures ok { IfOk result (λ port. AddsPort self.old port self.new) }
         ensures err { OnErr result (self.new ≡ self.old) }
@@ -160,7 +161,7 @@ impl Desk {
         Ok(Port::new(end, mark))
     }
 
-    /// What the last turn took, in order: each message with its port's number.
+    /// The messages of the last turn, in order, each with its port's number.
     pub fn fresh(&self) -> &[(usize, Message)]
         ensures { result.now ≡ self.now.fresh }
     {
@@ -172,29 +173,29 @@ impl Desk {
         self.notes.told.as_slice()
     }
 
-    /// The ports whose end the last turn took.
+    /// The ports whose `End` the last turn took.
     pub fn ended(&self) -> &[usize] {
         self.notes.ended.as_slice()
     }
 
-    /// What wakes the hub's thread, as a message does.
+    /// The waker of the hub's thread, which a message wakes, too. Fails only if an allocation is refused.
     pub fn waker(&self) -> Result<Arc<Waker, Global>, NoMemory> {
         Ok(Arc::try_clone(self.marks.waker())?)
     }
 
-    /// Waits, at most so long, until a port sends something, or has room again for outputs that are kept.
+    /// Waits up to `at_most` until a port sends something, or has room again for outputs that are kept.
     pub fn wait<R: Wait>(&self, rt: &R, at_most: Duration) {
         self.marks.waker().wait(rt, at_most);
     }
 
-    /// The observer. Of a closed desk it is only to be dropped.
+    /// The observer. The engine of a closed desk is unspecified.
     pub fn engine(&self) -> &Engine
         ensures { (m : TheMachine) → self.now.machine ≡ Some m → result.now ≡ Some m }
     {
         &self.engine
     }
 
-    /// How many messages of a finished port are still to be taken. The next turn takes them.
+    /// The number of messages of a finished port that weren't taken yet. The next turn takes them.
     pub fn left(&mut self, end: &mut PortEnd) -> usize
         requires { IsEnd end.old self.old.links }
         ensures count { result ≡ length (waiting_at self.new.links end.old.number) }
@@ -210,7 +211,7 @@ impl Desk {
         count
     }
 
-    // Moves what the last turn took to the end of a list. Refused memory closes the desk.
+    // Moves the messages of the last turn to the end of a list. A refused allocation closes the desk.
     pub(crate) fn hand_over(&mut self, taken: &mut Vec<(usize, Message)>) -> Result<(), NoMemory>
         ensures taken { OnOk result (taken.new.items ≡ taken.old.items ++ self.old.fresh) }
         ensures desk { OnOk result (self.new ≡ record self.old { fresh = [] }) }
@@ -223,7 +224,7 @@ impl Desk {
         Ok(())
     }
 
-    /// A finished port goes, with what was kept for it and what it sent that wasn't taken.
+    /// Removes a finished port, with the outputs kept for it and the messages that weren't taken.
     pub fn close(&mut self, end: PortEnd)
         ensures { self.new ≡ record self.old { links = finmap.remove self.old.links end.number } }
     {
@@ -233,9 +234,11 @@ impl Desk {
         drop(end);
     }
 
-    /// Puts what was kept, takes what came, and feeds it to the engine; answers how many messages it took. It takes no
-    /// more of a port than its capacity, and goes through the ports by number. Where the list of messages can't grow
-    /// they stay where they are; any other want of memory closes the desk.
+    /// Makes a turn: puts the outputs that were kept, takes messages and feeds them to the engine. Returns the number
+    /// of messages taken. It goes through the ports by number, and takes no more messages of a port than its capacity.
+    ///
+    /// If the list of messages can't grow, the messages stay where they are; any other refused allocation closes the
+    /// desk. Fails with [`Stop::Closed`] if the desk was closed before.
     pub fn turn<R: Threads + Sync, G: Gate + Sync>(
         &mut self,
         rt: &R,
@@ -286,8 +289,8 @@ impl Desk {
     }
 }
 
-// Puts what was kept, finds the ports that may have sent something, and makes room for what is there. Refused memory,
-// the ports are marked again, and nothing that is kept is forgotten.
+// Puts the outputs that were kept, finds the ports that may have sent something, and makes room for their messages.
+// After a refused allocation the ports are marked again, and no output that is kept is lost.
 #[tactic(auto, using(crate::proofs::Keeping::rests_on))]
 fn prepare(
     links: &mut Links,
@@ -315,7 +318,7 @@ fn prepare(
     Ok(())
 }
 
-// Feeds what was taken.
+// Feeds the messages to the engine.
 fn play<R: Threads + Sync, G: Gate + Sync>(
     rt: &R,
     alloc: Global,

@@ -1,4 +1,4 @@
-//! The events that messages stand for.
+//! The events of messages.
 
 ghost use Rattle.std.specs.Prelude.{◌≡◌, IfOk};
 ghost use Rattle.intake.specs.Messages.{event_of_message, events_of, port_of};
@@ -8,7 +8,7 @@ use observer_core::{Event, Output};
 use std::alloc::Global;
 use values::{Bytes, NoMemory};
 
-/// The event that a port's message stands for.
+/// The event of a port's message.
 pub fn event_of(number: usize, message: &Message) -> Event<'_>
     ensures { result ≡ event_of_message number message.now }
 {
@@ -36,7 +36,7 @@ pub fn event_of(number: usize, message: &Message) -> Event<'_>
     }
 }
 
-/// The events that the messages stand for, in order.
+/// The events of the messages, in order. Fails only if an allocation is refused.
 pub fn events_of(alloc: Global, messages: &[(usize, Message)]) -> Result<Vec<Event<'_>>, NoMemory>
     ensures { IfOk result (λ v. v.items ≡ events_of messages.now) }
 {

@@ -1,4 +1,4 @@
-//! The hub: a desk, and the list of all that it took.
+//! The hub: a desk, and the list of all messages that it took.
 
 ghost use Rattle.std.specs.Prelude.{◌≡◌, ◌++◌, ◌+◌, length, IfOk, OnErr, OnOk, []};
 ghost use Rattle.std.specs.FinMap as finmap;
@@ -19,12 +19,12 @@ use std::marker::Model;
 use std::thread::Threads;
 use values::NoMemory;
 
-/// A desk, and the list of all that it took, which grows for good.
+/// A desk, and the list of all messages that it took, which only grows.
 #[derive(Drop)]
 pub struct Hub {
     desk: Desk,
     taken: Vec<(usize, Message)>,
-    // How many messages were taken when each port was added, by the ports' numbers.
+    // For each port, by number, how many messages were taken when it was added.
     since: Vec<usize>,
 }
 
@@ -42,7 +42,7 @@ impl Model for Hub {
 }
 
 impl Hub {
-    /// A hub whose observer has followed no leader yet.
+    /// A hub whose observer hasn't followed a leader yet. Fails only if an allocation is refused.
     pub fn new(alloc: Global, config: Config) -> Result<Hub, NoMemory>
         ensures { IfOk result (λ h. IsHubSince (new_machine config.settings) h) }
     {
@@ -50,7 +50,8 @@ impl Hub {
         Ok(Hub::with_desk(alloc, desk))
     }
 
-    /// A hub whose observer follows a leader in epoch 1, with connection 1 open.
+    /// A hub whose observer follows a leader in epoch 1, with connection 1 open. Fails only if an allocation is
+    /// refused.
     pub fn primed(alloc: Global, config: Config) -> Result<Hub, NoMemory>
         ensures { IfOk result (λ h. IsHubSince (primed_machine config.settings) h) }
     {
@@ -68,7 +69,7 @@ impl Hub {
         }
     }
 
-    /// The next port, as a desk adds it.
+    /// Adds the next port, as a desk does.
     pub fn add_port(&mut self, capacity: usize) -> Result<Port, AddPortError>
         ensures ok { OnOk result ((began : TheMachine) → IsHubSince began self.old → IsHubSince began self.new) }
         ensures end { IfOk result (λ port. IsEnd port self.new.desk.links) }
@@ -86,7 +87,7 @@ impl Hub {
         }
     }
 
-    /// All that was taken, in order: each message with its port's number.
+    /// All messages taken, in order, each with its port's number.
     pub fn taken(&self) -> &[(usize, Message)]
         ensures { result.now ≡ self.now.taken }
     {
@@ -99,7 +100,7 @@ impl Hub {
         &self.desk
     }
 
-    /// A turn of the desk, after which the list has what it took at its end.
+    /// Makes a turn of the desk, and appends its messages to the list.
     pub fn turn<R: Threads + Sync, G: Gate + Sync>(
         &mut self,
         rt: &R,
@@ -115,7 +116,7 @@ impl Hub {
         Ok(count)
     }
 
-    /// How many messages of a finished port are still to be taken. The next turn takes them.
+    /// The number of messages of a finished port that weren't taken yet. The next turn takes them.
     pub fn left(&mut self, end: &mut PortEnd) -> usize
         requires { IsEnd end.old self.old.desk.links }
         ensures count { result ≡ length (waiting_at self.new.desk.links end.old.number) }
@@ -130,7 +131,7 @@ impl Hub {
         self.desk.left(end)
     }
 
-    /// A finished port goes, with what was kept for it and what it sent that wasn't taken.
+    /// Removes a finished port, with the outputs kept for it and the messages that weren't taken.
     pub fn close(&mut self, end: PortEnd)
         ensures { (began : TheMachine) → IsHubSince began self.old → IsHubSince began self.new }
     {

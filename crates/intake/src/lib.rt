@@ -1,22 +1,22 @@
 //! Ports, by which threads share an engine.
 //!
-//! A thread that talks to a connection has a [`Port`]: it sends [`Message`]s into an inbox and receives outputs from an
-//! outbox, two rings of a fixed capacity, and waits for nobody. One thread, the hub's, has a [`Desk`]: the engine, and
-//! the other ends of all rings. A turn of the desk puts outputs that it keeps for want of room, takes what came, port by
-//! port, feeds it to the engine as one list of events, and puts what goes out. Port 0 is the leader's, and port n is
-//! connection n.
+//! A thread that serves a connection has a [`Port`]: it sends [`Message`]s into an inbox and receives outputs from an
+//! outbox, two rings of a fixed capacity, and never waits for another thread. One thread, the hub's, has a [`Desk`]:
+//! the engine, and the other ends of all rings. A turn of the desk puts the outputs that it kept for want of room,
+//! takes messages, port by port, feeds them to the engine as one list of events, and puts the outputs. Port 0 is the
+//! leader's, and port n is connection n.
 //!
-//! What a turn does, says `Turned` in specs/Desk, of the desk before and after it and of the messages that it took
-//! (`fresh`). A desk keeps no list of what it took, so its memory doesn't grow with that; and what a closed port leaves
-//! behind is its number, which is never used again. The law [`desks_agree`] says what follows over all turns: for every
-//! list of messages with which a desk agrees, it agrees after a turn with that list and the turn's messages
-//! (specs/Agreement). A [`Hub`] is a desk with that list.
+//! `TakesTurn` in specs/Desk defines a turn by the desk before and after it and the messages that it took (`fresh`). A
+//! desk keeps no list of these messages, so its memory doesn't grow with them; a closed port leaves only its number,
+//! which is never used again. The law [`desks_agree`] states the result of all turns: if a desk agrees with a list of
+//! messages, then after a turn it agrees with that list and the turn's messages (specs/Agreement). A [`Hub`] is a desk
+//! with that list.
 //!
-//! A client that doesn't read stops itself alone: what its outbox has no room for is kept, in order, and while more than
-//! 1 MiB is kept nothing is taken of its port, until its inbox is full and its thread stops reading.
+//! A client that doesn't read blocks only itself: outputs for which its outbox has no room are kept, in order, and
+//! while more than 1 MiB is kept no message of its port is taken, until its inbox is full and its thread stops reading.
 //!
-//! Which ports may have sent something, and that a thread is woken, is no part of a contract: `marks` and `waker` are
-//! hints between threads, and tests show that they serve.
+//! No contract says which ports may have sent something, or that a thread is woken: `marks` and `waker` are hints
+//! between threads, and tests check them.
 //!
 //! ```text
 //! let mut desk = Desk::primed(alloc, config)?;

@@ -17,7 +17,8 @@ use std::alloc::Global;
 use std::collections::VecDeque;
 use values::NoMemory;
 
-// Nothing is taken of a port for which more bytes of outputs are kept, so that it fills up and its thread stops.
+// While more bytes of outputs than this are kept for a port, none of its messages is taken, so its inbox fills up and
+// its thread stops.
 const KEPT_LIMIT: usize = 1 << 20;
 
 /// The hub's ends of a port.
@@ -25,18 +26,18 @@ const KEPT_LIMIT: usize = 1 << 20;
 pub struct Link {
     pub inbox: Consumer<Message>,
     pub outbox: Producer<Output>,
-    /// What the outbox has no room for, in order.
+    /// The outputs for which the outbox has no room, in order.
     pub kept: VecDeque<Output>,
-    /// How many bytes are kept, about.
+    /// The approximate number of bytes kept.
     pub kept_bytes: usize,
     pub slot: usize,
-    /// The port sends no more, so all that it sent is taken.
+    /// The port sends no more, so everything that it sent is taken.
     pub is_finished: bool,
-    /// The last turn in which it was told of something.
+    /// The last turn in which its thread was noted to be told.
     pub told_in: u64,
 }
 
-// How much memory an output holds, about.
+// The approximate memory of an output, in bytes.
 fn size(output: &Output) -> usize {
     match output {
         Output::ToLeader(bytes) | Output::ToClient(_, bytes) => bytes
@@ -69,7 +70,7 @@ impl Link {
         }
     }
 
-    // Has the port's thread told, once a turn.
+    // Notes that the port's thread is to be told, once a turn.
     fn tell(&mut self, number: usize, notes: &mut Notes) -> Result<(), NoMemory>
         ensures { (self.new.inbox ≡ self.old.inbox) × (self.new.outbox ≡ self.old.outbox)
             × (self.new.kept ≡ self.old.kept) }
@@ -99,7 +100,7 @@ impl Link {
         }
     }
 
-    /// Puts kept outputs until the outbox is full or none is kept.
+    /// Puts kept outputs until the outbox is full or none is kept, and notes that the thread is to be told.
     pub fn put_kept(&mut self, number: usize, notes: &mut Notes) -> Result<(), NoMemory>
         ensures owes { outputs_owed self.new ≡ outputs_owed self.old }
         ensures outbox { SameProducer self.old.outbox self.new.outbox }
@@ -116,7 +117,7 @@ impl Link {
         Ok(())
     }
 
-    // Puts an output behind those kept, or keeps it.
+    // Puts an output, after those that are kept; without room it is kept, too.
     fn add_output(&mut self, output: Output) -> Result<(), NoMemory>
         ensures owes { OnOk result (outputs_owed self.new ≡ outputs_owed self.old ++ output ∷ []) }
         ensures outbox { SameProducer self.old.outbox self.new.outbox }
@@ -131,7 +132,7 @@ impl Link {
         Ok(())
     }
 
-    /// Puts an output behind those kept, or keeps it.
+    /// Puts an output, after those that are kept, and notes that the thread is to be told.
     pub fn put(&mut self, number: usize, output: Output, notes: &mut Notes) -> Result<(), NoMemory>
         ensures owes { OnOk result (outputs_owed self.new ≡ outputs_owed self.old ++ output ∷ []) }
         ensures outbox { SameProducer self.old.outbox self.new.outbox }
@@ -145,12 +146,12 @@ impl Link {
         self.tell(number, notes)
     }
 
-    // Whether nothing is to be taken for now.
+    // Whether no message is to be taken for now.
     fn is_blocked(&self) -> bool {
         self.kept_bytes > KEPT_LIMIT && !self.is_finished
     }
 
-    /// Looks how many messages there are to take.
+    /// Looks up the number of messages to take.
     pub fn look(&mut self) -> usize
         ensures inbox { ConsumerLooked self.old.inbox self.new.inbox }
         ensures outbox { (self.new.outbox ≡ self.old.outbox) × (self.new.kept ≡ self.old.kept) }
@@ -161,7 +162,7 @@ impl Link {
         self.inbox.slots()
     }
 
-    // Takes the messages that were seen, and answers whether the end is among them.
+    // Takes the messages that the last look saw, and returns whether the `End` is among them.
     #[tactic(auto, using(crate::proofs::Parts::part_own, crate::proofs::Parts::part_others))]
     fn take_seen(
         &mut self,
@@ -187,8 +188,8 @@ impl Link {
         Ok(ended)
     }
 
-    /// Takes the messages that the last look saw. Where the inbox was full, or nothing is taken for now, the port is
-    /// looked at again in the next turn.
+    /// Takes the messages that the last look saw. If the inbox was full, or no message is to be taken for now, the port
+    /// is looked at again in the next turn.
     pub fn take(
         &mut self,
         number: usize,
@@ -217,7 +218,7 @@ impl Link {
         Ok(())
     }
 
-    /// How many messages of a finished port are still there.
+    /// The number of messages of a finished port that weren't taken yet.
     pub fn left(&mut self, end: &mut PortEnd) -> usize
         requires { IsEndBy end.old (Some self.old) }
         ensures count { result ≡ length (known_items self.new.inbox) }

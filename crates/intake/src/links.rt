@@ -17,7 +17,7 @@ use std::collections::BTreeMap;
 use std::marker::Model;
 use values::NoMemory;
 
-/// The hub's ends of each open port, by the ports' numbers. A number that has no port is passed over.
+/// The hub's ends of each open port, by number. A number without an open port is ignored.
 #[derive(Drop)]
 pub struct Links {
     map: BTreeMap<usize, Link>,
@@ -73,7 +73,7 @@ impl Links {
         }
     }
 
-    /// Puts an output out to the port.
+    /// Puts an output to its port.
     pub fn put(&mut self, output: Output, notes: &mut Notes) -> Result<(), NoMemory>
         ensures { OnOk result (PutsShares self.old (output ∷ []) self.new) }
     {
@@ -84,7 +84,7 @@ impl Links {
         }
     }
 
-    /// Looks how many messages there are to take of the port.
+    /// Looks up the number of messages to take of the port.
     pub fn look(&mut self, number: usize) -> usize
         ensures { TakesNoMessage self.old self.new }
     {
@@ -110,14 +110,14 @@ impl Links {
         }
     }
 
-    /// Has the port looked at again.
+    /// Has the port looked at again in the next turn.
     pub fn mark(&self, number: usize, marks: &Marks) {
         if let Some(link) = self.map.get(&number) {
             marks.raise(link.slot);
         }
     }
 
-    /// How many messages of a finished port are still there.
+    /// The number of messages of a finished port that weren't taken yet.
     pub fn left(&mut self, end: &mut PortEnd) -> usize
         requires { IsEnd end.old self.old }
         ensures count { result ≡ length (waiting_at self.new end.old.number) }
@@ -132,7 +132,7 @@ impl Links {
         }
     }
 
-    /// Puts what is kept for these ports.
+    /// Puts the outputs that are kept for these ports.
     #[tactic(auto, using(crate::proofs::Keeping::rests_same, crate::proofs::Keeping::rests_on))]
     pub fn put_all_kept(&mut self, numbers: &[usize], notes: &mut Notes) -> Result<(), NoMemory>
         ensures { TakesNoMessage self.old self.new }
@@ -143,7 +143,7 @@ impl Links {
         Ok(())
     }
 
-    /// Looks how many messages there are to take of these ports.
+    /// Looks up the number of messages to take of these ports.
     #[tactic(auto, using(crate::proofs::Keeping::rests_same, crate::proofs::Keeping::rests_on))]
     pub fn look_all(&mut self, numbers: &[usize]) -> usize
         ensures { TakesNoMessage self.old self.new }
@@ -155,14 +155,14 @@ impl Links {
         count
     }
 
-    /// Has these ports looked at again.
+    /// Has these ports looked at again in the next turn.
     pub fn mark_all(&self, numbers: &[usize], marks: &Marks) {
         for number in numbers {
             self.mark(*number, marks);
         }
     }
 
-    /// Takes the messages that were seen, port by port.
+    /// Takes the messages that the last look saw, port by port.
     #[tactic(auto, using(crate::proofs::Keeping::takes_none, crate::proofs::Keeping::takes_on))]
     pub fn take_all(
         &mut self,
@@ -179,7 +179,7 @@ impl Links {
         Ok(())
     }
 
-    /// Puts each output out to its port.
+    /// Puts each output to its port.
     #[tactic(auto, using(crate::proofs::Keeping::puts_none, crate::proofs::Keeping::puts_on))]
     pub fn put_all(&mut self, outputs: Vec<Output>, notes: &mut Notes) -> Result<(), NoMemory>
         ensures { OnOk result (PutsShares self.old outputs.items self.new) }

@@ -1,9 +1,10 @@
-//! Which ports may have something for the hub.
+//! Marks of the ports that may have something for the hub.
 //!
-//! Each port has a slot, which a later port takes when it has been closed, and each slot a mark. So a turn looks at one
-//! word for each 64 slots and at the ports that are marked, and not at each port. A mark is a hint: no contract speaks
-//! of it. Whoever sends sets the mark of the slot first, then that of the group; the hub clears them in the other
-//! order, and then takes. So what was sent before a mark was cleared is taken, and what is sent later marks again.
+//! Each port has a slot, which another port gets when it is closed, and each slot has a mark. So a turn looks at one
+//! word for each 64 slots and at the ports that are marked, and not at each port. A mark is a hint: no contract refers
+//! to it. A sender sets the mark of the slot first and then that of the group; the hub clears them in the other order,
+//! and then takes messages. So a message sent before a mark was cleared is taken, and one that is sent later marks
+//! again.
 
 use crate::waker::Waker;
 use slab::Slab;
@@ -14,7 +15,7 @@ use values::NoMemory;
 
 const GROUP: usize = 64;
 
-// The marks of some slots, and one that says that some of them may be set.
+// The marks of some slots, and one mark for the group: some of them may be set.
 #[derive(Drop)]
 struct Group {
     any: AtomicBool,
@@ -41,12 +42,12 @@ impl Group {
         }
     }
 
-    // Whether a slot may be marked. The group's mark is cleared.
+    // Clears the group's mark and returns whether a slot may be marked.
     fn take_any(&self) -> bool {
         self.any.load(Ordering::SeqCst) && self.any.swap(false, Ordering::SeqCst)
     }
 
-    // Whether the slot is marked. Its mark is cleared.
+    // Clears the slot's mark and returns whether it was set.
     fn take(&self, place: usize) -> bool {
         match self.marks.get(place) {
             None => false,
@@ -55,7 +56,7 @@ impl Group {
     }
 }
 
-/// A port's mark, and what wakes the hub's thread.
+/// A port's mark, and the waker of the hub's thread.
 #[derive(Drop)]
 pub struct Mark {
     group: Arc<Group, Global>,
@@ -76,7 +77,7 @@ impl Mark {
     }
 }
 
-/// The slots, with the port that each has, and their marks.
+/// The slots, with the port of each, and their marks.
 #[derive(Drop)]
 pub struct Marks {
     alloc: Global,
@@ -95,7 +96,7 @@ impl Marks {
         })
     }
 
-    /// A slot for the port, with its mark.
+    /// Gives the port a slot, and returns the slot with its mark.
     pub fn add(&mut self, number: usize) -> Result<(usize, Mark), NoMemory> {
         let slot = self.slots.vacant_key();
         let index = slot / GROUP;
@@ -115,7 +116,7 @@ impl Marks {
         Ok((slot, mark))
     }
 
-    /// The slot has no port any more.
+    /// Frees the slot.
     pub fn remove(&mut self, slot: usize) {
         self.slots.try_remove(slot);
     }
@@ -127,7 +128,8 @@ impl Marks {
         }
     }
 
-    /// Appends the marked ports, and clears their marks. Refused memory, those that it didn't append stay marked.
+    /// Appends the marked ports, and clears their marks. After a refused allocation the ports that weren't appended
+    /// stay marked.
     pub fn take(&self, numbers: &mut Vec<usize>) -> Result<(), NoMemory> {
         for (index, group) in self.groups.iter().enumerate() {
             if group.take_any() {

@@ -1,9 +1,9 @@
-//! What goes into a port.
+//! The messages that go into a port.
 
 use thiserror::Error;
 use values::Blob;
 
-/// What the thread that has a port tells the hub.
+/// A message from the thread of a port to the hub.
 #[derive(Debug, Drop, PartialEq, Eq)]
 pub enum Message {
     /// The connection is open.
@@ -11,17 +11,17 @@ pub enum Message {
     Bytes(Blob),
     /// The connection has ended.
     End,
-    /// While clients are served, the tree becomes the base, and the log is emptied.
+    /// The tree becomes the base and the log is emptied, while clients are served.
     Checkpoint,
-    /// The session has expired.
+    /// The session with this id has expired.
     Expire(i64),
 }
 
-/// No room for a message, which is handed back.
+/// There is no room for the message, which is returned.
 #[derive(Debug, Drop)]
 pub struct Full(pub Message);
 
-/// Why a port wasn't added.
+/// The reason why a port wasn't added.
 #[derive(Clone, Copy, Debug, PartialEq, Eq, Error)]
 pub enum AddPortError {
     #[error("a port has room for 1 to 1024 messages")]

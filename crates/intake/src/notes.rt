@@ -1,19 +1,19 @@
-//! What a turn notes of the ports beside what it takes and puts.
+//! What a turn notes about the ports.
 
 use std::alloc::Global;
 use std::mem;
 use values::NoMemory;
 
-/// Ports by number. Each list has room for all open ports, so that a turn takes no memory for them.
+/// Ports by number. Each list has capacity for all open ports, so a turn allocates nothing for them.
 #[derive(Drop)]
 pub struct Notes {
-    /// The turn's number, by which a port is told once a turn.
+    /// The turn's number; it ensures that a port is noted once a turn.
     pub turn: u64,
-    /// Whose threads are to be told: they got outputs, or their inboxes may have been full.
+    /// The ports whose threads are to be told: they got outputs, or their inboxes may have been full.
     pub told: Vec<usize>,
-    /// Whose end was taken.
+    /// The ports whose `End` was taken.
     pub ended: Vec<usize>,
-    /// For whom outputs are kept.
+    /// The ports for which outputs are kept.
     pub keeping: Vec<usize>,
 }
 
@@ -27,14 +27,14 @@ impl Notes {
         }
     }
 
-    /// Makes room for so many ports.
+    /// Makes room for this many ports.
     pub fn reserve(&mut self, ports: usize) -> Result<(), NoMemory> {
         reserve(&mut self.told, ports)?;
         reserve(&mut self.ended, ports)?;
         reserve(&mut self.keeping, ports)
     }
 
-    /// Another turn begins. The ports for which outputs are kept become the list that is handed in.
+    /// Begins another turn. `kept` becomes the list of the ports for which outputs are kept.
     pub fn begin(&mut self, kept: &mut Vec<usize>) {
         self.turn = self.turn.wrapping_add(1);
         self.told.clear();
@@ -44,7 +44,7 @@ impl Notes {
     }
 }
 
-/// Makes room for so many numbers in all.
+/// Makes room for this many numbers in all.
 pub fn reserve(numbers: &mut Vec<usize>, count: usize) -> Result<(), NoMemory> {
     Ok(numbers.reserve(count.saturating_sub(numbers.len()))?)
 }

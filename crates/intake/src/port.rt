@@ -1,4 +1,4 @@
-//! The end of a port that a thread of its own has.
+//! The end of a port that is with the thread of its connection.
 
 ghost use Rattle.std.specs.Prelude.{◌≡◌, ◌++◌, [], ◌∷◌, OnOk, IfErr, IfSome, IfNone};
 ghost use Rattle.intake.specs.Ports.{sent_through, received_through, IsFull, SamePort};
@@ -9,7 +9,7 @@ use observer_core::Output;
 use rtrb::{Consumer, Producer, PushError};
 use std::marker::Model;
 
-/// What is left of a port that sends no more.
+/// The end of a port that sends no more.
 #[derive(Drop)]
 pub struct PortEnd {
     pub(crate) number: usize,
@@ -22,7 +22,7 @@ pub struct PortEnd {
 pub struct Port {
     end: PortEnd,
     mark: Mark,
-    // How many outputs came since none was there.
+    // The number of outputs received since the outbox was last empty.
     came: usize,
 }
 
@@ -63,7 +63,7 @@ impl Port {
         self.end.inbox.capacity()
     }
 
-    /// Sends a message to the hub and wakes it, or hands the message back where there is no room. It waits for nobody.
+    /// Sends a message to the hub and wakes it. Without room it returns the message in [`Full`]. It never waits.
     pub fn send(&mut self, message: Message) -> Result<(), Full>
         ensures ok { OnOk result (sent_through self.new ≡ sent_through self.old ++ message ∷ []) }
         ensures full { IfErr result (λ full. (full.0 ≡ message) × (sent_through self.new ≡ sent_through self.old)
@@ -80,8 +80,8 @@ impl Port {
         }
     }
 
-    /// The next output, if one is there. Where none is, after so many that the outbox may have been full, it wakes the
-    /// hub, which may keep some more.
+    /// Receives the next output, if there is one. If there is none, after so many outputs that the outbox may have been
+    /// full, it wakes the hub, which may keep more outputs.
     pub fn receive(&mut self) -> Option<Output>
         ensures some { IfSome result (λ o. received_through self.new ≡ received_through self.old ++ o ∷ []) }
         ensures none { IfNone result (received_through self.new ≡ received_through self.old) }
@@ -103,7 +103,7 @@ impl Port {
         }
     }
 
-    /// Whether the hub has taken all that was sent.
+    /// Whether the hub has taken all messages sent.
     pub fn is_drained(&mut self) -> bool
         ensures sent { sent_through self.new ≡ sent_through self.old }
         ensures received { received_through self.new ≡ received_through self.old }
@@ -112,7 +112,7 @@ impl Port {
         self.end.inbox.slots() == self.end.inbox.capacity()
     }
 
-    /// Sends no more.
+    /// Ends sending, and returns the port's end.
     pub fn finish(self) -> PortEnd
         ensures { result ≡ self }
     {

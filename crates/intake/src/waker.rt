@@ -1,10 +1,10 @@
-//! What wakes the hub's thread.
+//! The waker of the hub's thread.
 
 use std::sync::Wait;
 use std::thread::Parker;
 use std::time::Duration;
 
-/// Wakes the hub's thread where it waits, and else has its next wait end at once.
+/// Wakes the hub's thread if it waits; otherwise its next wait ends at once.
 #[derive(Drop)]
 pub struct Waker {
     parker: Parker,
@@ -21,7 +21,7 @@ impl Waker {
         self.parker.unpark();
     }
 
-    // Waits until somebody wakes this, at most so long. It may return early.
+    // Waits up to `at_most` for a wake. It may return early.
     pub(crate) fn wait<R: Wait>(&self, rt: &R, at_most: Duration) {
         self.parker.park_timeout(rt, at_most);
     }

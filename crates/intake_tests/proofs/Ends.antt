@@ -1,4 +1,4 @@
--- A finished port's end is that of an open port still, after what went through it and after a turn.
+-- The end of a finished port is still that of an open port, after messages went through it and after a turn.
 use Rattle.std.proofs.Common.{◌≡◌, ℕ, Option, Some, None, Result, Ok, Err, sym, ◌∙◌, subst}
 use Rattle.std.specs.FinMap as finmap
 use Rattle.observer_core.specs.Machine.{Machine}
@@ -9,7 +9,7 @@ use Rattle.intake.specs.Ports.{SamePort}
 use Rattle.intake.specs.Links.{Links, IsEnd, IsEndBy, StaysOpen, AllStay}
 use Rattle.intake.specs.Desk.{Desk, AnswersTurn}
 
--- both moved from the same thing
+-- Both are equal to the same value.
 moved : {X : Type 0} (a b c d : X) → b ≡ a → c ≡ a → d ≡ b → d ≡ c
 moved a b c d one other later = later ∙ one ∙ sym other
 

@@ -1,4 +1,4 @@
-//! What the tests share.
+//! Helpers of the tests.
 use apply_workers::OpenGate;
 use intake::{Desk, Full, Hub, Message, Port};
 use observer_core::{Config, Output, default_limits};
@@ -33,7 +33,7 @@ pub fn port(desk: &mut Desk, capacity: usize) -> Result<Port, &'static str> {
     desk.add_port(capacity).ok().ok_or("port")
 }
 
-/// The frame that asks whether there is a root, with this xid.
+/// The exists of the root with this xid.
 pub fn asks(xid: u8) -> [u8; 18] {
     [0, 0, 0, 14, 0, 0, 0, xid, 0, 0, 0, 3, 0, 0, 0, 1, 47, 0]
 }
@@ -47,7 +47,7 @@ pub fn asks_twice(alloc: Global) -> Result<Blob, &'static str> {
     blob(alloc, frames.as_slice())
 }
 
-/// Sends bytes, and answers whether there was room.
+/// Sends bytes, and returns whether there was room.
 pub fn sends(alloc: Global, port: &mut Port, bytes: &[u8]) -> bool {
     match blob(alloc, bytes) {
         Ok(bytes) => port.send(Message::Bytes(bytes)).is_ok(),
@@ -55,17 +55,17 @@ pub fn sends(alloc: Global, port: &mut Port, bytes: &[u8]) -> bool {
     }
 }
 
-/// How many messages a turn takes.
+/// The number of messages that a turn takes.
 pub fn turn<R: Threads + Sync>(rt: &R, desk: &mut Desk) -> Option<usize> {
     desk.turn(rt, &OpenGate).ok()
 }
 
-/// How many messages a turn of a hub takes.
+/// The number of messages that a turn of a hub takes.
 pub fn hub_turn<R: Threads + Sync>(rt: &R, hub: &mut Hub) -> Option<usize> {
     hub.turn(rt, &OpenGate).ok()
 }
 
-/// How many messages a hub has taken.
+/// The number of messages that a hub has taken.
 pub fn taken(hub: &Hub) -> usize {
     hub.taken().len()
 }
@@ -86,7 +86,7 @@ pub fn xid_of(output: Output) -> Option<u8> {
     }
 }
 
-/// The xid of the reply that comes next, if one is there.
+/// The xid of the next reply, if there is one.
 pub fn receives(port: &mut Port) -> Option<u8> {
     match port.receive() {
         Some(output) => xid_of(output),
@@ -94,7 +94,7 @@ pub fn receives(port: &mut Port) -> Option<u8> {
     }
 }
 
-/// Whether a message was handed back, and is this one.
+/// Whether a message was returned, and is this one.
 pub fn is_handed_back(sent: Result<(), Full>, bytes: &[u8]) -> bool {
     match sent {
         Err(Full(Message::Bytes(back))) => back.as_slice() == bytes,

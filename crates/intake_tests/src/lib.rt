@@ -1,7 +1,7 @@
 //! Tests of ports and the desk, over the public calls of `intake`.
 //!
-//! What a test looks at stands behind helper functions without clauses: it shows when it runs, and its proof would else
-//! compute what the engine answers.
+//! The calls are in helper functions without contracts: what a test looks at shows when it runs, and its proof would
+//! otherwise compute the engine's answer.
 #![tactic(auto)]
 
 #[cfg(test)]

@@ -1,4 +1,4 @@
-//! What a port does by itself, and how it comes and goes.
+//! A port by itself, and adding and removing ports.
 //!
 //! A test makes the desk and has a function of its own do the rest, so that the desk is dropped at one place.
 use crate::helpers::{asks, blob, is_handed_back, port, primed, sends, xid_of};

@@ -1,4 +1,4 @@
-//! What turns take and put.
+//! The messages that turns take, and the outputs that they put.
 //!
 //! A test makes the desk and has a function of its own do the rest, so that the desk is dropped at one place.
 use crate::helpers::{

@@ -1,4 +1,4 @@
--- One format behind another, and values of one type as those of another.
+-- One format after another, and values of one type that represent those of another.
 use Rattle.std.proofs.Common.{◌≡◌, ℕ, List, [], ◌++◌, length, Ok, refl, sym, ap, subst, ◌∙◌, append_assoc, arith, inl, inr}
 use Rattle.std.proofs.lemmas.List.{append-nil, length-append}
 use Rattle.jute.specs.Format.{◌>>=◌, Format, pair_of, mapped_format}
@@ -6,7 +6,7 @@ use Rattle.jute.specs.Laws.{TakesSpelling, TakesSpellings, NamesFaults, IsLawful
 use Rattle.jute.specs.Pieces.{ReadsInPieces, TakesSomeBytes}
 use Rattle.jute.proofs.Steps.{bind_ok, ok_is, bind_err, not_refused, behind_read, then_stands, then_leaves, within, then_eats}
 
--- what stands anywhere stands at an end
+-- A format that is sound anywhere is sound at an end.
 pub sound_at_end : {A : Type 0} (f : Format A) → IsSound f → IsSoundAtEnd f
 sound_at_end f s = record {
   takes = s.lawful.takes;
@@ -17,7 +17,7 @@ sound_at_end f s = record {
   writable = s.writable;
 }
 
--- ---- one behind another
+-- ---- one after another
 
 both_takes : {A B : Type 0} (f : Format A) (g : Format B) → TakesSpellings f → TakesSpellings g
     → TakesSpellings (pair_of f g)

@@ -29,7 +29,7 @@ count_back limit (negsuc (suc n)) k e = absurd cc
 pub count_sound : (limit : ℕ) → IsSound (count_format limit)
 count_sound limit = judged_sound (length_or_null limit) (λ k. Some (length_number k)) int (count_back limit) int_sound
 
--- a count without the number that it is
+-- A count without its number.
 abbrev pub SpellsCount : ℕ → Option ℕ → List ℕ → Type 0
 SpellsCount limit None bytes = bytes ≡ null_bytes
 SpellsCount limit (Some n) bytes = (n ≤ limit) × (bytes ≡ number_bytes w32 (pos n))

@@ -1,4 +1,4 @@
--- Values that are judged after reading.
+-- Values that are judged after they are read.
 use Rattle.std.proofs.Common.{◌≡◌, ℕ, ◌≤◌, List, [], ◌++◌, length, Option, Some, None, Result, Ok, Err, refl, subst, arith, inl, inr}
 use Rattle.values.specs.declared.fault.Fault.{Fault}
 use Rattle.jute.specs.Format.{◌>>=◌, Format, IsSomeAnd, back_bytes, judged_format, judged_at, case_of, or_empty, or_null}
@@ -6,9 +6,9 @@ use Rattle.jute.specs.Laws.{IsBytes, TakesSpelling, TakesSpellings, NamesFaults,
 use Rattle.jute.specs.Pieces.{ReadsInPieces, TakesSomeBytes}
 use Rattle.jute.proofs.Steps.{bind_ok, ok_is, bind_err, not_refused, behind_read, then_stands, plain_stands, then_leaves, plain_leaves, then_eats}
 
--- ---- the value that is written for one that was read
+-- ---- the value that is written in place of one that was read
 
--- it is read as the same, fits where that one does, and isn't longer
+-- It is read as the same value, fits if the other one does, and isn't longer.
 abbrev pub IsBack : {A B : Type 0} → (A → Result B Fault) → Format A → A → B → Option A → Type 0
 IsBack to f a v None = ⊥
 IsBack to f a v (Some b) = (to b ≡ Ok v) × (f.Fits a → f.Fits b) × (length (f.written b) ≤ length (f.written a))
@@ -16,7 +16,7 @@ IsBack to f a v (Some b) = (to b ≡ Ok v) × (f.Fits a → f.Fits b) × (length
 abbrev pub Returns : {A B : Type 0} → (A → Result B Fault) → (B → Option A) → Format A → Type 0
 Returns {A = A} {B = B} to back f = (a : A) (v : B) → to a ≡ Ok v → IsBack to f a v (back v)
 
--- the value that was read is given back
+-- The value that was read is written.
 returns_same : {A B : Type 0} (to : A → Result B Fault) (back : B → Option A) (f : Format A)
     → ((a : A) (v : B) → to a ≡ Ok v → back v ≡ Some a) → Returns to back f
 returns_same to back f same a v e = rw (same a v e) (e, λ h. h, omega arith)
@@ -116,7 +116,7 @@ judged_eats {A} {B} to back f e = record {
       (e.eats bytes) (λ a rest. plain_leaves (to a) (λ v. v) rest (length rest) (omega arith));
 }
 
--- with another value written than was read
+-- A different value is written than was read.
 pub judged_back_sound : {A B : Type 0} (to : A → Result B Fault) (back : B → Option A) (f : Format A)
     → Returns to back f → IsSound f → IsSound (judged_format to back f)
 judged_back_sound to back f returns s = record {

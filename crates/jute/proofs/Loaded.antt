@@ -1,4 +1,4 @@
--- What is read in parts is what stands there, and what is refused is what the relation says.
+-- What is read in parts is what the relation says, and so is what is refused.
 use Rattle.std.proofs.Common.{◌≡◌, ℕ, zero, suc, ◌<◌, Bool, true, false, List, [], ◌∷◌, ◌++◌, length, Result, Ok, Err, refl, sym, ap, subst, ◌∙◌, append_assoc, arith, ◌⊎◌, inl, inr}
 use Rattle.values.specs.declared.fault.Fault.{Fault}
 use Rattle.jute.specs.Format.{◌>>=◌}
@@ -24,7 +24,7 @@ sound_streamed stream s = record { streamed = λ phase. streamed_in (stream.read
 pub sound_lawful : {S A : Type 0} (stream : PhasedStream S A) → AreSound stream → AreLawful stream
 sound_lawful stream s = record { lawful = λ phase. lawful_in (stream.reading phase) (s.sound phase) }
 
--- what was read is spelled at the front
+-- The value that was read is spelled at the front.
 record Front {A : Type 0} (f : Reading A) (bytes : List ℕ) (v : A) (rest : List ℕ) : Type 0 where
   text : List ℕ
   parts : bytes ≡ text ++ rest
@@ -49,7 +49,7 @@ answers_in : {A : Type 0} (f : Reading A) → IsSoundIn f → (bytes : List ℕ)
     → read_in f bytes ≡ Err e
 answers_in (values f) s bytes e h = s.named.answers bytes e h
 
--- ---- a text, and what stands behind it
+-- ---- bytes, and those that follow
 
 module _ {S A : Type 0} (stream : PhasedStream S A) where
   pub stand_on : (vs : List A) (phase end : S) (text rest : List ℕ) → SpellsItems stream vs phase text end []
@@ -77,7 +77,7 @@ module _ {S A L : Type 0} (load : LoadRules S A L) (sound : AreSound load.stream
   abbrev streamed : IsStream load.stream
   streamed = sound_streamed load.stream sound
 
-  -- what is left behind a value
+  -- The result for the values after this one.
   abbrev left : S → A → L → List ℕ → Result (L × List ℕ) Fault
   left phase v next rest = unless_last (load.is_last v) next rest (load_from load (load.stream.after phase v) next rest)
 
@@ -87,7 +87,7 @@ module _ {S A L : Type 0} (load : LoadRules S A L) (sound : AreSound load.stream
       ap (read_in (load.stream.reading phase)) is
       ∙ again_in (load.stream.reading phase) (sound.sound phase) v text rest spells
 
-  -- one value that stands there and is taken
+  -- One value is spelled at the front and taken.
   step_on : (phase : S) (v : A) (old next : L) (bytes text rest : List ℕ) → bytes ≡ text ++ rest
       → SpellsIn (load.stream.reading phase) v text → load.takes old v ≡ Ok next
       → load_from load phase old bytes ≡ left phase v next rest
@@ -95,7 +95,7 @@ module _ {S A L : Type 0} (load : LoadRules S A L) (sound : AreSound load.stream
       load_read load streamed phase old bytes rest v (read_of phase v bytes text rest is spells)
       ∙ ap (λ (q : Result L Fault). q >>= λ n. left phase v n rest) took
 
-  -- ---- what stands there is loaded
+  -- ---- the values in the bytes are loaded
 
   again_from : (vs : List A) (phase end : S) (old new : L) (bytes rest : List ℕ)
       → SpellsItems load.stream vs phase bytes end rest → EndsOnce load vs → made_of load old vs ≡ Ok new
@@ -108,7 +108,7 @@ module _ {S A L : Type 0} (load : LoadRules S A L) (sound : AreSound load.stream
       step : (next : L) × (load.takes old v ≡ Ok next) × (made_of load next vs ≡ Ok new)
       step = bind_ok (load.takes old v) (λ next. made_of load next vs) new e
 
-      -- nothing stands behind the last
+      -- Nothing follows the last value.
       none_behind : (ws : List A) → ws ≡ [] → SpellsItems load.stream ws (load.stream.after phase v) h.1 end rest
           → made_of load step.0 ws ≡ Ok new → (let r : Result (L × List ℕ) Fault = Ok (step.0, h.1) in r
           ≡ Ok (new, rest))
@@ -126,7 +126,7 @@ module _ {S A L : Type 0} (load : LoadRules S A L) (sound : AreSound load.stream
       → load_from load phase old bytes ≡ Ok (new, rest)
   loaded_again phase old new bytes rest l = again_from l.found phase l.end old new bytes rest l.stand l.ends l.made
 
-  -- ---- what is loaded stands there
+  -- ---- the values that are loaded are in the bytes
 
   abbrev Loaded : S → L → List ℕ → L → List ℕ → Type 0
   Loaded phase old bytes new rest = IsLoaded load phase old bytes new rest × IsBytes rest

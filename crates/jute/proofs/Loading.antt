@@ -1,4 +1,4 @@
--- What is read in parts, one step after another, and however the bytes are cut.
+-- A value that is read in parts, step by step, and however the bytes are cut.
 use Rattle.std.proofs.Common.{◌≡◌, ℕ, zero, suc, ◌<◌, Bool, true, false, List, ◌++◌, length, Result, Ok, Err, refl, ap, subst, ◌∙◌, arith, inl, inr}
 use Rattle.values.specs.declared.fault.Fault.{Fault}
 use Rattle.jute.specs.Format.{◌>>=◌}
@@ -7,7 +7,7 @@ use Rattle.jute.specs.Stream.{Reading, values, IsStreamableIn, IsStream, read_in
 use Rattle.jute.specs.Loading.{LoadRules, unless_last, load_within, load_from}
 use Rattle.jute.proofs.Streaming.{shorter_rest}
 
--- what was read in a phase is read again
+-- A value that was read in a phase is read again.
 stands_in : {A : Type 0} (f : Reading A) → IsStreamableIn f → (bytes more : List ℕ)
     → IsStable (read_in f bytes) more (read_in f (bytes ++ more))
 stands_in (values f) s bytes more = s.pieced.stands bytes more
@@ -17,7 +17,7 @@ at_most (Ok x) n h = omega (arith, h)
 at_most (Err e) n h = tt
 
 module _ {S A L : Type 0} (load : LoadRules S A L) (s : IsStream load.stream) where
-  -- what is made of a value, and of the others
+  -- What is made of a value, and of the others.
   abbrev pub made_with : L → (A → L → List ℕ → Result (L × List ℕ) Fault) → A × List ℕ → Result (L × List ℕ) Fault
   made_with made others x = load.takes made x.0 >>= λ next. unless_last (load.is_last x.0) next x.1
       (others x.0 next x.1)
@@ -55,7 +55,7 @@ module _ {S A L : Type 0} (load : LoadRules S A L) (s : IsStream load.stream) wh
       (λ v next rest lt.
       enough n m (load.stream.after phase v) next rest (omega (arith, lt, ln)) (omega (arith, lt, lm)))
 
-  -- one step, with no bound to be seen
+  -- One step, without the bound.
   pub load_step : (phase : S) (made : L) (bytes : List ℕ)
       → load_from load phase made bytes ≡ one (read_in (load.stream.reading phase) bytes) made (behind phase)
   unfolding load_within
@@ -65,7 +65,7 @@ module _ {S A L : Type 0} (load : LoadRules S A L) (s : IsStream load.stream) wh
       (λ v next rest lt. enough (length bytes) (suc (length rest)) (load.stream.after phase v) next rest lt
       (omega arith))
 
-  -- the step for each answer of the reading
+  -- The step for each result of the reading.
   pub load_refused : (phase : S) (made : L) (bytes : List ℕ) (e : Fault)
       → read_in (load.stream.reading phase) bytes ≡ Err e → load_from load phase made bytes ≡ Err e
   load_refused phase made bytes e h = load_step phase made bytes ∙ ap (λ r. one r made (behind phase)) h
@@ -75,7 +75,7 @@ module _ {S A L : Type 0} (load : LoadRules S A L) (s : IsStream load.stream) wh
       → load_from load phase made bytes ≡ made_with made (behind phase) (v, rest)
   load_read phase made bytes rest v h = load_step phase made bytes ∙ ap (λ r. one r made (behind phase)) h
 
-  -- and it stands, whatever comes behind
+  -- It stays the same whatever follows.
   pub load_read_on : (phase : S) (made : L) (bytes rest more : List ℕ) (v : A)
       → read_in (load.stream.reading phase) bytes ≡ Ok (v, rest)
       → load_from load phase made (bytes ++ more) ≡ made_with made (behind phase) (v, rest ++ more)

@@ -1,4 +1,4 @@
--- What crates above may cite: the laws of the formats, and what combinators and streams keep of them.
+-- The lemmas that other crates may cite: the laws of the formats, and those of combinators and streams.
 pub use Rattle.jute.proofs.Steps.{IsBytes-drop, IsBytes-front, IsBytes-back, bind_ok, guard_ok, guard_ended, ok_is, guard_err, guard_refused, bind_err, not_refused, behind_read, then_stands}
 pub use Rattle.jute.proofs.Numbers.{int_sound, long_sound, boolean_sound}
 pub use Rattle.jute.proofs.Both.{sound_at_end, both_sound, both_at_end, mapped_sound, mapped_at_end}

@@ -1,4 +1,4 @@
--- Steps of reading: what a step that did not fail answered, what a refusal came from, and what more bytes change.
+-- Steps of reading: the value of a step that succeeded, the source of a refusal, and the effect of more bytes.
 use Rattle.std.proofs.Common.{◌≡◌, ℕ, zero, suc, ◌+◌, ◌<◌, ◌≤◌, Bool, true, false, cond, ltb, List, [], ◌∷◌, ◌++◌, length, take, drop, Result, Ok, Err, refl, ap, ◌∙◌, arith, ◌⊎◌, inl, inr}
 use Rattle.std.proofs.lemmas.Bool.{cases_lt, lt-ltb, le-ltb}
 use Rattle.std.proofs.lemmas.List.{drop-append-le, length-append, length-drop, length-take, get_or-drop, get_or-take, get_or_past}
@@ -32,15 +32,15 @@ IsBytes-front (x ∷ a) b h (suc i) = IsBytes-front a b (λ i. h (suc i)) i
 pub same_length : (x y : List ℕ) → x ≡ y → length y ≤ length x
 same_length x y e = omega (arith, ap length e)
 
--- ---- what a step answered
+-- ---- the value of a step
 
--- the value of a step that did not fail
+-- The value of a step that succeeded.
 pub bind_ok : {A B F : Type 0} (r : Result A F) (f : A → Result B F) (y : B) → (r >>= f) ≡ Ok y
     → (x : A) × (r ≡ Ok x) × (f x ≡ Ok y)
 bind_ok (Ok x) f y e = (x, refl, e)
 bind_ok (Err d) f y e = absurd cc
 
--- a test that did not fail
+-- A test that succeeded.
 pub guard_ok : {A F : Type 0} (b : Bool) (d : F) (x y : A) → cond b (Err d) (Ok x) ≡ Ok y → (b ≡ false) × (x ≡ y)
 guard_ok true d x y e = absurd cc
 guard_ok false d x y e = (refl, cc)
@@ -55,7 +55,7 @@ done x = Ok x
 pub ok_is : {A : Type 0} (x y : A) → done x ≡ done y → x ≡ y
 ok_is x y e = cc
 
--- ---- what a refusal came from
+-- ---- the source of a refusal
 
 pub guard_err : {A F : Type 0} (b : Bool) (d e : F) (x : A) → cond b (Err d) (Ok x) ≡ Err e → (b ≡ true) × (d ≡ e)
 guard_err true d e x h = (refl, cc)
@@ -73,7 +73,7 @@ bind_err (Err d) f e h = let same : d ≡ e = cc in inl (ap (λ d. Err d) same)
 pub not_refused : {A : Type 0} (x : A) (e : Fault) → done x ≡ Err e → ⊥
 not_refused x e h = absurd cc
 
--- behind a value that is spelled
+-- After a value that is spelled.
 pub behind_read : {A : Type 0} (f : Format A) → IsLawful f
     → (S : A → List ℕ → Type 0) (bytes : List ℕ) (b : SpellsFront f S bytes) → f.read bytes ≡ Ok (b.0, b.2)
 behind_read f lf S bytes b = ap f.read b.3 ∙ lf.again b.0 b.1 b.2 b.4
@@ -88,7 +88,7 @@ then_stands (Ok x) after more f h k = rw h (k x.0 x.1)
 then_stands (Err e) after more f (inl s) k = inl s
 then_stands (Err e) after more f (inr s) k = inr (rw s refl)
 
--- a step that reads nothing
+-- A step that reads nothing.
 pub plain_stands : {B C : Type 0} (q : Result B Fault) (to : B → C) (rest more : List ℕ)
     → IsStable (q >>= λ k. Ok (to k, rest)) more (q >>= λ k. Ok (to k, rest ++ more))
 plain_stands (Ok k) to rest more = refl
@@ -109,7 +109,7 @@ pub within : {A : Type 0} (r : Result (A × List ℕ) Fault) (m n : ℕ) → m �
 within (Ok x) m n le h = omega (arith, h, le)
 within (Err e) m n le h = tt
 
--- so many bytes, or too few of them
+-- This many bytes, or too few of them.
 pub cut_stands : {B : Type 0} (n : ℕ) (value : List ℕ → B) (bytes more : List ℕ)
     → (n ≤ length bytes → value (bytes ++ more) ≡ value bytes)
     → IsStable (cond (ltb (length bytes) n) (Err Short) (Ok (value bytes, drop n bytes))) more

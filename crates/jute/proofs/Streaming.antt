@@ -28,11 +28,11 @@ module _ {S A : Type 0} (stream : PhasedStream S A) (s : IsStream stream) where
       (eats_in (stream.reading phase) bytes (s.streamed phase))
       (λ v b lt. enough n m (stream.after phase v) b (omega (arith, lt, ln)) (omega (arith, lt, lm)))
 
-  -- the values behind one
+  -- The values after one.
   abbrev behind : S → A → List ℕ → Items S A
   behind phase v rest = items_in stream (place_at (stream.after phase v) rest)
 
-  -- one step, with no bound to be seen
+  -- One step, without the bound.
   pub unrolled : (phase : S) (bytes : List ℕ)
       → items_in stream (place_at phase bytes) ≡ items_after_read (read_in (stream.reading phase) bytes) (behind phase)
       (place_after_fault (stream.reading phase) phase bytes)
@@ -65,19 +65,19 @@ module _ {S A : Type 0} (stream : PhasedStream S A) (s : IsStream stream) where
   shorter_rest phase bytes rest v h = subst (λ (r : Result (A × List ℕ) Fault). LeavesFewer r (length bytes)) h
       (eats_in (stream.reading phase) bytes (s.streamed phase))
 
-  -- the law at a phase and bytes
+  -- The law at a phase and bytes.
   abbrev Pieces : S → List ℕ → List ℕ → Type 0
   Pieces phase bytes more =
       items_in stream (place_at phase (bytes ++ more)) ≡ joined_items (items_in stream (place_at phase bytes))
       (items_in stream (with_more_bytes (items_in stream (place_at phase bytes)).left more))
 
-  -- the bytes are looked at by this reading
+  -- This reading is the one that is used.
   abbrev IsReadBy : S → Reading A → Type 0
   IsReadBy phase f = (bytes : List ℕ)
       → items_in stream (place_at phase bytes) ≡ items_after_read (read_in f bytes) (behind phase)
       (place_after_fault f phase bytes)
 
-  -- no value stands at the end of the first piece
+  -- No value is complete at the end of the first piece.
   ended : (phase : S) (e : Fault) (bytes more : List ℕ) (after : Result (A × List ℕ) Fault)
       → (e ≡ Short) ⊎ (after ≡ Err e)
       → items_in stream (place_at phase (bytes ++ more)) ≡ items_after_read after (behind phase)
@@ -129,6 +129,6 @@ pub refused_other : (e : Fault) (bytes : List ℕ) → (e ≡ Short → ⊥) →
 refused_other Short bytes other = absurd (other refl)
 refused_other e bytes other = refl
 
--- a stream of one format
+-- A stream of one format.
 pub only_streamed : {A : Type 0} (f : Format A) → IsStreamable f → IsStream (stream_of f)
 only_streamed f s = record { streamed = λ phase. s }

@@ -1,4 +1,4 @@
--- Sums of cases behind a tag, and parts.
+-- Sums of cases after a tag, and values that fill a buffer.
 use Rattle.std.proofs.Common.{◌≡◌, ℕ, ◌≤◌, false, cond, eqb, List, [], ◌∷◌, ◌++◌, length, Option, Some, None, Result, Ok, Err, refl, sym, ap, subst, ◌∙◌, append_assoc, arith, inl, inr}
 use Rattle.std.specs.Prelude.{◌≢◌, ℤ, pos}
 use Rattle.std.specs.Int.{w32}
@@ -168,7 +168,7 @@ module _ {K B : Type 0} (tag : Format K) (tag_of : B → K) (f : K → Format B)
     writable = λ v h. (tags.writable (tag_of v) h.0, (sf (tag_of v)).writable v h.1);
   }
 
--- ---- all of a text
+-- ---- all of the bytes
 
 pub whole_found : {A : Type 0} (f : Format A) → TakesSpellings f → (x : List ℕ) (v : A) → IsBytes x
     → whole_value f.read x ≡ Ok v → f.Spells v x

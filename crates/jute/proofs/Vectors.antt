@@ -323,6 +323,6 @@ module _ {A : Type 0} (f : Format A) (sound : IsSound f) where
     writable = vector_writable;
   }
 
-  -- where null stands for an empty list
+  -- Null is read as an empty list.
   pub null_vector_sound : IsSound (or_null (vector_of f))
   null_vector_sound = or_null_sound (vector_of f) (λ h. (omega arith, tt)) null_length vector_sound

@@ -14,7 +14,7 @@ use Rattle.values.specs.Gains.{Gains, Puts}
 use Rattle.jute.specs.Format.{number_bytes}
 use Rattle.values.proofs.Gaining.{gains_first, gains_behind, gains_same}
 
--- the items before one are put, and a front of that one
+-- The items before one were written, and a prefix of that one.
 pub gains_item : {A : Type 0} (w : A → List ℕ) (old mid new : List ℕ) (items : List A) (i : ℕ) (item : A)
     → i < length items → item ≡ get_or items i item
     → mid ≡ old ++ flat_map w (take i items) → Gains mid (w item) new → Gains old (flat_map w items) new
@@ -27,18 +27,18 @@ gains_item w old mid new items i item lt is put gains =
     ∙ ap (λ x. flat_map w (take i items) ++ x) (flat_map-cons w item (drop (suc i) items)) in
     gains_same (sym whole) (gains_behind old (flat_map w (take i items)) put (gains_first behind gains))
 
--- a call that failed has gained what is said
+-- A call that failed has appended a prefix.
 pub fails : {E : Type 0} {old items new : List ℕ} (r : Result (Unit {0}) E) → IsErr r → Gains old items new
     → Puts r old items new
 fails (Ok u) h g = absurd cc
 fails (Err e) h g = g
 
--- numbers, which are passed by their bits
+-- Numbers, which are passed as their bits.
 pub puts_number : {E : Type 0} (r : Result (Unit {0}) E) (w : Width) (z : ℤ) (old new : List ℕ) → FitsSigned w z
     → Puts r old (number_bytes w (to_z w (of_z w z))) new → Puts r old (number_bytes w z) new
 puts_number r w z old new fits h = subst (λ (y : ℤ). Puts r old (number_bytes w y) new) (to_z-of_z w z fits) h
 
--- the items before one and that one are no longer than all
+-- The items up to and including one are no longer than all of them.
 pub length_item : {A : Type 0} (w : A → List ℕ) (items : List A) (i : ℕ) (item : A) → i < length items
     → item ≡ get_or items i item
     → length (flat_map w (take i items)) + length (w item) ≤ length (flat_map w items)

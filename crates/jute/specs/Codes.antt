@@ -3,6 +3,6 @@ use Rattle.std.specs.Prelude.{List, [], ◌∷◌, codes}
 use Rattle.jute.specs.declared.codes.TheConstants.{ALL}
 use Rattle.jute.specs.declared.owned.Acl.{Acl}
 
--- everyone may do everything
+-- Every client may do everything.
 abbrev pub open_acl : List Acl
 open_acl = record { perms = ALL; id = record { scheme = codes "world"; id = codes "anyone" } } ∷ []

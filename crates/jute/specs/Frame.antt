@@ -1,4 +1,4 @@
--- A frame: how many bytes follow, as an int, and those bytes. There is no null frame.
+-- A frame: the number of bytes that follow, as an int, and those bytes. There is no null frame.
 use Rattle.std.specs.Prelude.{◌≡◌, ℕ, List, length, take, drop, Result, Some, Ok, Err, nat_lt, nat_le, ◌<◌, ◌^◌, ◌≤◌, ◌⊎◌, if◌then◌else◌, ℤ, pos, negsuc}
 use Rattle.values.specs.declared.fault.Fault.{Fault}
 use Rattle.values.specs.declared.fault.Fault.TheVariants.{Short, BadLength}
@@ -8,7 +8,7 @@ abbrev pub frame_length : ℕ → ℤ → Result ℕ Fault
 frame_length limit (pos n) = if nat_le n limit then Ok n else Err BadLength
 frame_length limit (negsuc n) = Err BadLength
 
--- how many bytes follow; there is no null
+-- The number of bytes that follow; there is no null.
 abbrev pub frame_count : ℕ → Format ℕ
 frame_count limit = judged_format (frame_length limit) (λ n. Some (pos n)) int
 
@@ -18,7 +18,7 @@ front_of n bytes = if nat_lt (length bytes) n then Err Short else Ok (take n byt
 unfoldable pub frame_at : ℕ → List ℕ → Result (List ℕ × List ℕ) Fault
 frame_at limit bytes = (frame_count limit).read bytes >>= λ k. front_of k.0 k.1
 
--- the bytes behind their length
+-- The bytes after their length.
 abbrev pub frame_bytes : List ℕ → List ℕ
 frame_bytes bytes = with_count (length bytes) bytes
 

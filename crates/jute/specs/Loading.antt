@@ -1,5 +1,5 @@
--- A value that is read in parts: the values of a stream are taken, one behind another, by what was made of those
--- before, until one is the last.
+-- A value that is read in parts: the values of a stream are taken in order, each by what was made of those before it,
+-- until the last one.
 use Rattle.std.specs.Prelude.{◌≡◌, ℕ, zero, suc, Bool, true, false, List, [], ◌∷◌, ◌++◌, length, Result, Ok, Err, ◌⊎◌, if◌then◌else◌}
 use Rattle.values.specs.declared.fault.Fault.{Fault}
 use Rattle.values.specs.declared.fault.Fault.TheVariants.{Short}
@@ -10,31 +10,31 @@ use Rattle.jute.specs.Stream.{Reading, values, PhasedStream, read_in}
 
 pub record LoadRules (S A L : Type 0) : Type 1 where
   pub stream : PhasedStream S A
-  -- what a value makes of what was made so far, or the fault for which it is refused
+  -- What is made of a value and what was made so far, or the fault for which the value is refused.
   pub takes : L → A → Result L Fault
   pub is_last : A → Bool
 
 -- ---- as a function
 
--- behind the last value nothing more is read
+-- After the last value nothing more is read.
 abbrev pub unless_last : {L : Type 0} → Bool → L → List ℕ → Result (L × List ℕ) Fault → Result (L × List ℕ) Fault
 unless_last last made rest others = if last then Ok (made, rest) else others
 
--- of at most so many values
+-- With this bound on the number of values.
 unfoldable pub load_within : {S A L : Type 0} → LoadRules S A L → ℕ → S → L → List ℕ → Result (L × List ℕ) Fault
 load_within load zero phase made bytes = Err Short
 load_within load (suc n) phase made bytes =
     read_in (load.stream.reading phase) bytes >>= λ x. load.takes made x.0 >>= λ next.
     unless_last (load.is_last x.0) next x.1 (load_within load n (load.stream.after phase x.0) next x.1)
 
--- What the values make of what was made before them, and the bytes behind the last one. Each value takes a byte at
--- least, so that there are no more values than bytes.
+-- What the values make of what was made before them, and the bytes after the last one. Each value takes at least one
+-- byte, so there are no more values than bytes.
 abbrev pub load_from : {S A L : Type 0} → LoadRules S A L → S → L → List ℕ → Result (L × List ℕ) Fault
 load_from load phase made bytes = load_within load (suc (length bytes)) phase made bytes
 
 -- ---- as a relation
 
--- what the values make, taken one behind another
+-- What the values make, taken in order.
 abbrev pub made_of : {S A L : Type 0} → LoadRules S A L → L → List A → Result L Fault
 made_of load made [] = Ok made
 made_of load made (v ∷ vs) = load.takes made v >>= λ next. made_of load next vs
@@ -43,7 +43,7 @@ abbrev pub EndsAt : {A : Type 0} → Bool → List A → Type 0 → Type 0
 EndsAt true behind others = behind ≡ []
 EndsAt false behind others = others
 
--- a last value stands at the end, and nowhere else
+-- The last value comes at the end, and nowhere else.
 abbrev pub EndsOnce : {S A L : Type 0} → LoadRules S A L → List A → Type 0
 EndsOnce load [] = ⊥
 EndsOnce load (v ∷ vs) = EndsAt (load.is_last v) vs (EndsOnce load vs)
@@ -52,7 +52,7 @@ abbrev pub NoneIsLast : {S A L : Type 0} → LoadRules S A L → List A → Type
 NoneIsLast load [] = Unit {0}
 NoneIsLast load (v ∷ vs) = (load.is_last v ≡ false) × NoneIsLast load vs
 
--- the values that were loaded
+-- The values that were loaded.
 pub record IsLoaded {S A L : Type 0} (load : LoadRules S A L) (phase : S) (old : L) (bytes : List ℕ) (new : L)
     (rest : List ℕ) : Type 0 where
   pub found : List A
@@ -61,17 +61,17 @@ pub record IsLoaded {S A L : Type 0} (load : LoadRules S A L) (phase : S) (old :
   pub ends : EndsOnce load found
   pub made : made_of load old found ≡ Ok new
 
--- which field a refusal of the reading names
+-- The field that a refusal of the reading names.
 abbrev pub AgainstIn : {A : Type 0} → Reading A → Fault → List ℕ → Type 0
 AgainstIn (values f) e bytes = f.against e bytes
 
--- a value is spelled at the front, and this holds of it
+-- A value with this property is spelled at the front.
 abbrev pub SpellsNext : {A : Type 0} → Reading A → (A → Type 0) → List ℕ → Type 0
 SpellsNext {A = A} reading P bytes =
     (v : A) × (text rest : List ℕ) × (bytes ≡ text ++ rest) × SpellsIn reading v text × P v
 
--- Some values stand at the front and were taken, none of them the last. The next field is against its spelling; or the
--- next value is spelled, and not taken.
+-- Some values at the front were taken, none of them the last. Then the next field isn't spelled, or the next value is
+-- spelled and refused.
 pub record IsRefused {S A L : Type 0} (load : LoadRules S A L) (phase : S) (old : L) (bytes : List ℕ)
     (e : Fault) : Type 0 where
   pub found : List A
@@ -84,15 +84,15 @@ pub record IsRefused {S A L : Type 0} (load : LoadRules S A L) (phase : S) (old 
   pub next : AgainstIn (load.stream.reading end) e rest
       ⊎ SpellsNext (load.stream.reading end) (λ v. load.takes so_far v ≡ Err e) rest
 
--- ---- what is asked of it
+-- ---- the requirements
 
 abbrev pub IsSoundIn : {A : Type 0} → Reading A → Type 0
 IsSoundIn (values f) = IsSound f
 
--- each format of the stream is sound
+-- Each format of the stream is sound.
 pub record AreSound {S A : Type 0} (stream : PhasedStream S A) : Type 0 where
   pub sound : (phase : S) → IsSoundIn (stream.reading phase)
 
--- no value is refused for want of bytes
+-- No value is refused for want of bytes.
 pub record NeverWaits {S A L : Type 0} (load : LoadRules S A L) : Type 0 where
   pub goes_on : (made : L) (v : A) → load.takes made v ≡ Err Short → ⊥

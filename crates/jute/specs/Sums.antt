@@ -1,4 +1,4 @@
--- Sums of cases, each behind a tag that tells which; and a part, which is a buffer that holds just a value.
+-- Sums of cases, each after a tag that says which case it is; and values that fill a buffer.
 use Rattle.std.specs.Prelude.{◌≡◌, ◌≢◌, ℕ, List, [], ◌++◌, length, Option, Some, None, Result, Ok, Err, ◌<◌, ◌^◌, ◌≤◌, ◌==◌, ◌⊎◌, if◌then◌else◌}
 use Rattle.values.specs.declared.fault.Fault.{Fault}
 use Rattle.values.specs.declared.fault.Fault.TheVariants.{Short, TrailingBytes}
@@ -6,7 +6,7 @@ use Rattle.jute.specs.Format.{Format, ◌>>=◌, SpellsFront, judged_at, buffer,
 
 -- ---- values without bytes, and no values
 
--- a value without fields: the empty text
+-- A value without fields: no bytes.
 abbrev pub empty_format : Format (Unit {0})
 empty_format = record {
   Spells = λ v bytes. bytes ≡ [];
@@ -17,7 +17,7 @@ empty_format = record {
   against = λ e bytes. ⊥;
 }
 
--- all bytes are refused, for one fault
+-- All bytes are refused, for one fault.
 abbrev pub refusal_format : {A : Type 0} → Fault → Format A
 refusal_format d = record {
   Spells = λ v bytes. ⊥;
@@ -34,7 +34,7 @@ unfoldable pub tagged_at : {K B : Type 0} → (List ℕ → Result (K × List �
     → (K → List ℕ → Result (B × List ℕ) Fault) → List ℕ → Result (B × List ℕ) Fault
 tagged_at r s bytes = r bytes >>= λ k. s k.0 k.1
 
--- a tag, and a value in the format of that tag
+-- A tag, and a value in the format of that tag.
 abbrev pub tagged_format : {K B : Type 0} → Format K → (B → K) → (K → Format B) → Format B
 tagged_format tag tag_of f = record {
   Spells = λ v bytes. (x y : List ℕ) × (bytes ≡ x ++ y) × tag.Spells (tag_of v) x × (f (tag_of v)).Spells v y;
@@ -47,15 +47,15 @@ tagged_format tag tag_of f = record {
 
 -- ---- parts
 
--- a value that is all of a text
+-- A value that is spelled by all of the bytes.
 unfoldable pub whole_value : {A : Type 0} → (List ℕ → Result (A × List ℕ) Fault) → List ℕ → Result A Fault
 whole_value r bytes = r bytes >>= λ v. if length v.1 == 0 then Ok v.0 else Err TrailingBytes
 
--- the value is refused, or bytes stand behind it
+-- The value is refused, or bytes follow it.
 abbrev pub AgainstWhole : {A : Type 0} → Format A → Fault → List ℕ → Type 0
 AgainstWhole f e bytes = f.against e bytes ⊎ ((e ≡ TrailingBytes) × SpellsFront f (λ v rest. rest ≢ []) bytes)
 
--- the value that a buffer holds; null holds none
+-- The value in a buffer; null holds none.
 abbrev pub held_value : {A : Type 0} → (List ℕ → Result (A × List ℕ) Fault) → Option (List ℕ) → Result A Fault
 held_value r None = Err Short
 held_value r (Some bytes) = whole_value r bytes
@@ -64,7 +64,7 @@ abbrev pub AgainstHeld : {A : Type 0} → Format A → Fault → Option (List �
 AgainstHeld f e None = e ≡ Short
 AgainstHeld f e (Some bytes) = AgainstWhole f e bytes
 
--- a buffer that isn't null, and holds a value and nothing behind it
+-- A buffer that isn't null, and holds a value and nothing after it.
 abbrev pub held_in_buffer : {A : Type 0} → Format A → Format A
 held_in_buffer f = record {
   Spells = λ v bytes. (x : List ℕ) × f.Spells v x × buffer.Spells (Some x) bytes;

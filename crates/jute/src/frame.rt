@@ -9,7 +9,7 @@ use crate::reader::Reader;
 use crate::writer::{WriteRecord, put_int};
 use values::{Fault, NoMemory};
 
-// The length that a number stands for.
+// The length that a number encodes.
 fn frame_length(length: i32, limit: u32) -> Result<u32, Fault>
     ensures { result ≡ frame_length limit length }
 {
@@ -23,8 +23,8 @@ fn frame_length(length: i32, limit: u32) -> Result<u32, Fault>
     Ok(length)
 }
 
-/// Reads a frame: an int length from 0 to the limit, and that many bytes. Below 0 or above the
-/// limit it is `BadLength`, and with fewer bytes behind it `Short`. A refused read leaves the place.
+/// Reads a frame: an int length from 0 to `limit`, and that many bytes. The faults are `BadLength` for a length out of
+/// these bounds, and `Short` if there are fewer bytes. A refused read leaves the reader's place.
 #[tactic(auto, unfolding(crate::specs::Frame::frame_at, crate::specs::Format::judged_at))]
 pub fn read_frame<'a>(reader: &mut Reader<'a>, limit: u32) -> Result<&'a [u8], Fault>
     ensures { ReadsValue (frame_format limit) (λ b. b.now) result reader.old reader.new }
@@ -40,7 +40,8 @@ pub fn read_frame<'a>(reader: &mut Reader<'a>, limit: u32) -> Result<&'a [u8], F
     Ok(front)
 }
 
-/// Writes a frame that holds the record: its length as an int, and its bytes.
+/// Appends a frame that holds the record: its length as an int, and its bytes. A refused allocation leaves a prefix of
+/// the bytes appended.
 pub fn put_frame<T: WriteRecord>(out: &mut Vec<u8>, value: &T) -> Result<(), NoMemory>
     requires writable { T.format.Writable value.now }
     requires small { length (T.format.written value.now) < 2 ^ 31 }

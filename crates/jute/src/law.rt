@@ -10,10 +10,9 @@ ghost use Rattle.jute.specs.Stream.{IsStreamable, ComesInPieces, stream_of, Item
 ghost use Rattle.jute.specs.declared.owned.Acl.{Acl};
 ghost use Rattle.std.specs.Prelude.{◌≡◌, ℕ, List, ◌<◌, ◌^◌};
 
-/// What is read is spelled so, what is spelled so is read whatever follows, and what is written is
-/// the shortest spelling. So a refusal is given only where no front of the bytes spells a value; it
-/// names the first field that no bytes at its place spell, and no other refusal does; it stands
-/// whatever comes behind, but for too few bytes.
+/// Every format here is sound: what is read was spelled so, a spelling is read whatever follows it, and what is written
+/// is the shortest spelling. So a read is refused only if no prefix of the bytes spells a value. Its fault names the
+/// first field that no bytes at its place spell, and any fault but `Short` stays the same whatever bytes follow.
 pub fn formats()
     ensures int { IsSound int }
     ensures long { IsSound long }
@@ -38,7 +37,7 @@ pub fn streams()
     ensures pieces { ComesInPieces (stream_of acl_format) }
 {}
 
-/// What stands in the bytes, as a relation, is what the function finds, and nothing else is.
+/// The relation holds between bytes and the values that the function finds in them, and between no others.
 pub fn relates()
     ensures found { (bytes : List ℕ) → IsBytes bytes
         → AreItems (stream_of acl_format) tt bytes (items_in (stream_of acl_format) (place_at tt bytes)) }

@@ -1,15 +1,14 @@
-//! The fields and records of Jute (zookeeper.jute of ZooKeeper 3.4): read from borrowed bytes, written behind a byte
-//! text.
+//! The fields and records of Jute (zookeeper.jute of ZooKeeper 3.4), read from borrowed bytes and appended to a vector.
 //!
-//! A `Reader` is a place in bytes; a read moves it behind what was read, and a refused one leaves it. A record reads by
-//! `ReadRecord` and writes by `WriteRecord`, which tells its length before it is written. What a record's bytes are
-//! stands in one value, its format (`specs/Format.antt`, `specs/Records.antt`), made by combinators of those of its
-//! fields; the law `law::formats` says once for each that reading and writing are that spelling, and which field a
-//! refusal names.
+//! A `Reader` is a place in bytes; a read moves it past what was read, and a refused read leaves it. A record is read
+//! by `ReadRecord` and written by `WriteRecord`, which gives its length before it is written. One value defines the
+//! bytes of a record: its format (`specs/Format.antt`, `specs/Records.antt`), built by combinators from the formats of
+//! its fields. The law `law::formats` says once for each record that reading and writing follow its format, and which
+//! field a refusal names.
 //!
 //! ```text
 //! let mut reader = Reader::new(bytes);
-//! let header = RequestHeader::read(alloc, &mut reader)?;     // a fault: the first field that no spelling allows
+//! let header = RequestHeader::read(alloc, &mut reader)?;     // the fault names the first field that isn't spelled
 //! let path = reader.read_string()?;                           // borrowed from the bytes
 //! ReplyHeader { xid: header.xid, zxid, err: codes::NO_NODE }.write(&mut out)?;
 //! ```

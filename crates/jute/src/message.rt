@@ -52,7 +52,7 @@ pub struct ReplyHeader {
     pub xid: i32,
     /// The last zxid that the server has applied.
     pub zxid: i64,
-    /// 0, or the number of an error.
+    /// The error code, or 0.
     pub err: i32,
 }
 

@@ -1,4 +1,4 @@
-//! What owns the bytes that were read: buffers, and who may do what with a node.
+//! Values that own the bytes that were read: buffers, ids and access control lists.
 
 ghost use Rattle.std.specs.Prelude.{◌≡◌, length};
 ghost use Rattle.jute.specs.Format.{buffer};
@@ -12,7 +12,7 @@ use crate::writer::{WriteRecord, put_bytes, put_int, put_string};
 use std::alloc::Global;
 use values::{Blob, NoMemory, ReadError, Text};
 
-/// Reads a buffer, null among them, and copies its bytes. A refused read leaves the place.
+/// Reads a buffer, which may be null, and copies its bytes. A refused read leaves the reader's place.
 pub fn read_blob(alloc: Global, reader: &mut Reader<'_>) -> Result<Option<Blob>, ReadError>
     ensures { ReadsOwned buffer.read (λ b. b) result reader.old reader.new }
 {
@@ -25,7 +25,7 @@ pub fn read_blob(alloc: Global, reader: &mut Reader<'_>) -> Result<Option<Blob>,
     Ok(bytes)
 }
 
-/// How many bytes a buffer takes, or null.
+/// The length in bytes of a buffer, or of null, with its length prefix.
 #[tactic(auto, unfolding(crate::specs::Format::number_bytes))]
 pub fn blob_len(bytes: &Option<Blob>) -> usize
     requires { buffer.Writable bytes.now }
@@ -37,7 +37,7 @@ pub fn blob_len(bytes: &Option<Blob>) -> usize
     }
 }
 
-/// Writes a buffer, or null.
+/// Appends a buffer, or null. A refused allocation leaves a prefix of the bytes appended.
 pub fn put_blob(out: &mut Vec<u8>, bytes: &Option<Blob>) -> Result<(), NoMemory>
     requires { buffer.Writable bytes.now }
     ensures { Puts result out.old.items (buffer.written bytes.now) out.new.items }
@@ -48,16 +48,16 @@ pub fn put_blob(out: &mut Vec<u8>, bytes: &Option<Blob>) -> Result<(), NoMemory>
     }
 }
 
-/// The Id of zookeeper.jute: whom an ACL speaks of. Null texts are read as empty.
+/// The Id of zookeeper.jute: the client that an ACL entry is about. Null texts are read as empty.
 #[derive(Clone, Debug, Drop, PartialEq, Eq)]
 pub struct Id {
-    /// How the id is meant, as `world` or `digest`.
+    /// The scheme that the id belongs to, such as `world` or `digest`.
     pub scheme: Text,
-    /// Who it is, as `anyone` in `world`.
+    /// The id within its scheme, such as `anyone` in `world`.
     pub id: Text,
 }
 
-/// The ACL of zookeeper.jute: what an id is granted.
+/// The ACL of zookeeper.jute: the permissions of an id.
 #[derive(Clone, Debug, Drop, PartialEq, Eq)]
 pub struct Acl {
     /// The bits READ 1, WRITE 2, CREATE 4, DELETE 8 and ADMIN 16.

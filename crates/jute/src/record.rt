@@ -1,4 +1,4 @@
-//! Records: what is read from the front of a byte text by one function.
+//! Records, each read from the front of bytes by one function.
 
 ghost use Rattle.std.specs.Prelude.{◌≡◌, List, ℕ, Result};
 ghost use Rattle.values.specs.declared.fault.Fault.{Fault as TheFault};
@@ -9,8 +9,8 @@ use crate::reader::Reader;
 use std::alloc::Global;
 use values::{Fault, Listed, ReadError, Str};
 
-/// What is read from the front of a byte text. Its faults are those of its fields, the first one
-/// first; a refused read leaves the place unchanged.
+/// A value that is read from the front of bytes. Its faults are those of its fields, in the order of the fields. A
+/// refused read leaves the place unchanged.
 pub trait ReadRecord<'a>: Sized + Drop {
     ghost read_of: { List ℕ → Result (Self × List ℕ) TheFault };
 
@@ -18,7 +18,7 @@ pub trait ReadRecord<'a>: Sized + Drop {
         ensures { ReadsOwned read_of (λ v. v) result reader.old reader.new };
 }
 
-// That many records, one behind the other.
+// Reads this many records, one after the other.
 fn read_items<'a, T: ReadRecord<'a>>(
     alloc: Global,
     count: u32,
@@ -35,8 +35,8 @@ fn read_items<'a, T: ReadRecord<'a>>(
     Ok(items)
 }
 
-/// Reads a vector of records: an int count, and the records one behind the other; `None` is null,
-/// the count -1. Faults are those of the count, as in [`Reader::read_count`], and of the records.
+/// Reads a vector of records: an int count, and the records; `None` is null, the count -1. The faults are those of the
+/// count, as in [`Reader::read_count`], and of the records. Fails with `NoMemory` if an allocation is refused.
 #[tactic(auto, unfolding(crate::specs::Format::vector_at))]
 pub fn read_vector<'a, T: ReadRecord<'a>>(
     alloc: Global,
@@ -54,7 +54,7 @@ pub fn read_vector<'a, T: ReadRecord<'a>>(
     Ok(Some(Listed::from_vec(items)))
 }
 
-/// Reads a ustring, where null is read as empty.
+/// Reads a ustring; null is read as empty.
 #[tactic(auto, unfolding(crate::specs::Format::judged_at))]
 pub fn read_name<'a>(reader: &mut Reader<'a>) -> Result<Str<'a>, Fault>
     ensures { ReadsValue text_or_empty (λ t. t) result reader.old reader.new }

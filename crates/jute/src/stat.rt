@@ -1,4 +1,4 @@
-//! What a node is said to be.
+//! The stat of a node.
 
 ghost use Rattle.jute.specs.Records.{stat_format, stat_persisted, four_longs, three_ints};
 ghost use Rattle.values.specs.Gains.{Puts};
@@ -12,25 +12,25 @@ use values::{NoMemory, ReadError};
 /// The Stat of zookeeper.jute, 68 bytes.
 #[derive(Clone, Copy, Debug, PartialEq, Eq)]
 pub struct Stat {
-    /// The zxid of the node's creation.
+    /// The zxid of the transaction that created the node.
     pub czxid: i64,
-    /// The zxid of the last change of the node's bytes.
+    /// The zxid of the last change of the node's data.
     pub mzxid: i64,
-    /// When the node was created, in milliseconds since 1970.
+    /// The time of the node's creation, in milliseconds since 1970.
     pub ctime: i64,
-    /// When the node's bytes were last changed, in milliseconds since 1970.
+    /// The time of the last change of the node's data, in milliseconds since 1970.
     pub mtime: i64,
-    /// How often the node's bytes were changed.
+    /// The number of changes of the node's data.
     pub version: i32,
-    /// How often the node's children were changed.
+    /// The number of changes of the node's children.
     pub cversion: i32,
-    /// How often the node's ACL was changed.
+    /// The number of changes of the node's ACL.
     pub aversion: i32,
-    /// The session that owns an ephemeral node, and 0 for any other.
+    /// The session that owns an ephemeral node; 0 for any other node.
     pub ephemeral_owner: i64,
-    /// How many bytes the node has.
+    /// The length of the node's data in bytes.
     pub data_length: i32,
-    /// How many children the node has.
+    /// The number of the node's children.
     pub num_children: i32,
     /// The zxid of the last change of the node's children.
     pub pzxid: i64,
@@ -79,24 +79,24 @@ impl WriteRecord for Stat {
     }
 }
 
-/// The StatPersisted of zookeeper.jute, 60 bytes: the numbers of a node that are kept.
+/// The StatPersisted of zookeeper.jute, 60 bytes: the stored part of a node's stat.
 #[derive(Clone, Copy, Debug, PartialEq, Eq)]
 pub struct StatPersisted {
-    /// The zxid of the node's creation.
+    /// The zxid of the transaction that created the node.
     pub czxid: i64,
-    /// The zxid of the last change of the node's bytes.
+    /// The zxid of the last change of the node's data.
     pub mzxid: i64,
-    /// When the node was created, in milliseconds since 1970.
+    /// The time of the node's creation, in milliseconds since 1970.
     pub ctime: i64,
-    /// When the node's bytes were last changed, in milliseconds since 1970.
+    /// The time of the last change of the node's data, in milliseconds since 1970.
     pub mtime: i64,
-    /// How often the node's bytes were changed.
+    /// The number of changes of the node's data.
     pub version: i32,
-    /// How often a child was created.
+    /// The number of creates of a child.
     pub cversion: i32,
-    /// How often the node's ACL was changed.
+    /// The number of changes of the node's ACL.
     pub aversion: i32,
-    /// The session that owns an ephemeral node, and 0 for any other.
+    /// The session that owns an ephemeral node; 0 for any other node.
     pub ephemeral_owner: i64,
     /// The zxid of the last change of the node's children.
     pub pzxid: i64,
@@ -141,7 +141,6 @@ impl WriteRecord for StatPersisted {
     }
 }
 
-// Four longs, one behind the other.
 fn put_four_longs(out: &mut Vec<u8>, a: &i64, b: &i64, c: &i64, d: &i64) -> Result<(), NoMemory>
     ensures { Puts result out.old.items (four_longs a.now b.now c.now d.now) out.new.items }
 {
@@ -151,7 +150,6 @@ fn put_four_longs(out: &mut Vec<u8>, a: &i64, b: &i64, c: &i64, d: &i64) -> Resu
     d.write(out)
 }
 
-// Three ints, one behind the other.
 fn put_three_ints(out: &mut Vec<u8>, a: &i32, b: &i32, c: &i32) -> Result<(), NoMemory>
     ensures { Puts result out.old.items (three_ints a.now b.now c.now) out.new.items }
 {

@@ -1,5 +1,4 @@
-//! Fields that are written behind a byte text. Where memory is refused, a front of the new bytes
-//! stands behind the old ones.
+//! Appending fields to a vector of bytes. A refused allocation leaves a prefix of the new bytes appended.
 
 ghost use Rattle.std.specs.Prelude.{◌≡◌, ◌<◌, ◌^◌, length, Some, List, ℕ, All};
 ghost use Rattle.std.specs.List.{flat_map};
@@ -9,7 +8,7 @@ ghost use Rattle.jute.specs.Format.{Format, int, long, boolean, buffer, vector_o
 use byteorder::{BigEndian, ByteOrder};
 use values::{Listed, NoMemory};
 
-/// Writes an int: 4 bytes, big-endian two's complement.
+/// Appends an int: 4 bytes, big-endian two's complement.
 #[tactic(auto, using(values::proofs::Gaining::gains_nothing), unfolding(crate::specs::Format::number_bytes))]
 pub fn put_int(out: &mut Vec<u8>, n: i32) -> Result<(), NoMemory>
     ensures { Puts result out.old.items (int.written n) out.new.items }
@@ -19,7 +18,7 @@ pub fn put_int(out: &mut Vec<u8>, n: i32) -> Result<(), NoMemory>
     Ok(out.extend_from_slice(&bytes)?)
 }
 
-/// Writes a long: 8 bytes, big-endian two's complement.
+/// Appends a long: 8 bytes, big-endian two's complement.
 #[tactic(auto, using(values::proofs::Gaining::gains_nothing), unfolding(crate::specs::Format::number_bytes))]
 pub fn put_long(out: &mut Vec<u8>, n: i64) -> Result<(), NoMemory>
     ensures { Puts result out.old.items (long.written n) out.new.items }
@@ -29,7 +28,7 @@ pub fn put_long(out: &mut Vec<u8>, n: i64) -> Result<(), NoMemory>
     Ok(out.extend_from_slice(&bytes)?)
 }
 
-/// Writes a boolean: one byte, 1 or 0.
+/// Appends a boolean: one byte, 1 or 0.
 #[tactic(auto, using(values::proofs::Gaining::gains_nothing))]
 pub fn put_bool(out: &mut Vec<u8>, b: bool) -> Result<(), NoMemory>
     ensures { Puts result out.old.items (boolean.written b) out.new.items }
@@ -38,7 +37,7 @@ pub fn put_bool(out: &mut Vec<u8>, b: bool) -> Result<(), NoMemory>
     Ok(())
 }
 
-/// Writes a buffer that is not null: an int length, and the bytes.
+/// Appends a buffer that isn't null: an int length, and the bytes.
 pub fn put_bytes(out: &mut Vec<u8>, bytes: &[u8]) -> Result<(), NoMemory>
     requires { length bytes.now < 2 ^ 31 }
     ensures { Puts result out.old.items (buffer.written (Some bytes.now)) out.new.items }
@@ -48,7 +47,7 @@ pub fn put_bytes(out: &mut Vec<u8>, bytes: &[u8]) -> Result<(), NoMemory>
     Ok(())
 }
 
-/// Writes a ustring that is not null: an int length, and the bytes of its UTF-8.
+/// Appends a ustring that isn't null: an int length, and the bytes of its UTF-8.
 pub fn put_string(out: &mut Vec<u8>, text: &str) -> Result<(), NoMemory>
     requires { length text.now < 2 ^ 31 }
     ensures { Puts result out.old.items (buffer.written (Some text.now)) out.new.items }
@@ -56,11 +55,11 @@ pub fn put_string(out: &mut Vec<u8>, text: &str) -> Result<(), NoMemory>
     put_bytes(out, text.as_bytes())
 }
 
-/// What is written behind a byte text in the one spelling of its format.
+/// A value that is written in the one spelling that its format defines.
 pub trait WriteRecord: Sized {
     ghost format: { Format Self };
 
-    /// How many bytes are written.
+    /// The number of bytes that `write` appends.
     fn written_len(&self) -> usize
         requires writable { format.Writable self.now }
         requires small { length (format.written self.now) < 2 ^ 63 }
@@ -99,7 +98,7 @@ impl WriteRecord for i64 {
     }
 }
 
-/// Writes records, one behind the other.
+/// Appends records, one after the other.
 pub fn put_items<T: WriteRecord>(out: &mut Vec<u8>, items: &[T]) -> Result<(), NoMemory>
     requires { All T.format.Writable items.now }
     ensures { Puts result out.old.items (flat_map T.format.written items.now) out.new.items }
@@ -110,7 +109,7 @@ pub fn put_items<T: WriteRecord>(out: &mut Vec<u8>, items: &[T]) -> Result<(), N
     Ok(())
 }
 
-/// How many bytes records take, one behind the other.
+/// The length of records in bytes.
 pub fn items_len<T: WriteRecord>(items: &[T]) -> usize
     requires writable { All T.format.Writable items.now }
     requires small { length (flat_map T.format.written items.now) < 2 ^ 63 }
@@ -123,7 +122,7 @@ pub fn items_len<T: WriteRecord>(items: &[T]) -> usize
     len
 }
 
-/// How many bytes a vector takes, or null.
+/// The length in bytes of a vector with its count, or of null.
 #[tactic(auto, unfolding(crate::specs::Format::number_bytes))]
 pub fn vector_len<T: WriteRecord>(items: &Option<Listed<T>>) -> usize
     requires writable { (vector_of T.format).Writable items.now }
@@ -136,8 +135,7 @@ pub fn vector_len<T: WriteRecord>(items: &Option<Listed<T>>) -> usize
     }
 }
 
-/// Writes a vector: an int count, and the records one behind the other; `None` is null, the
-/// count -1.
+/// Appends a vector: an int count, and the records; `None` is null, the count -1.
 pub fn put_vector<T: WriteRecord>(
     out: &mut Vec<u8>,
     items: &Option<Listed<T>>,

@@ -20,7 +20,7 @@ const OTHERS: &[u8; 14] = b"\x07\x00\x00\x00\x05\x00\x00\x00\x01x\xff\xff\xff\xf
 /// A buffer, and null.
 const BLOBS: &[u8; 10] = b"\0\0\0\x02hi\xff\xff\xff\xff";
 
-// Why no text is read, if the place is left.
+// The fault for which no text is read, if the place is left.
 fn text_fault(bytes: &[u8]) -> Option<Fault> {
     let mut reader = Reader::new(bytes);
     let fault = reader.read_string().err();
@@ -43,7 +43,7 @@ fn refused_texts(rt: HostRuntime) {
     }
 }
 
-// Why no frame is read.
+// The fault for which no frame is read.
 fn frame_fault(reader: &mut Reader<'_>, limit: u32) -> Option<Fault> {
     read_frame(reader, limit).err()
 }
@@ -72,21 +72,21 @@ fn fields(alloc: Global) -> Result<Vec<u8>, NoMemory> {
     Ok(out)
 }
 
-// Whether the int, the long and the boolean come.
+// Whether the int, the long and the boolean come next.
 fn are_numbers(reader: &mut Reader<'_>) -> bool {
     reader.read_int() == Ok(-2)
         && reader.read_long() == Ok(0x1_0000_0001)
         && reader.read_bool() == Ok(true)
 }
 
-// Whether the buffers and the text come.
+// Whether the buffers and the text come next.
 fn are_texts(reader: &mut Reader<'_>) -> bool {
     reader.read_buffer() == Ok(Some(b"hi".as_slice()))
         && reader.read_buffer() == Ok(None)
         && reader.read_string() == Ok(Some("/a"))
 }
 
-// The next name, of which null is an empty one.
+// The next name; null is an empty one.
 fn next_name<'a>(reader: &mut Reader<'a>) -> Option<&'a str> {
     match read_name(reader) {
         Ok(name) => Some(name.as_str()),

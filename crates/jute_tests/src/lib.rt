@@ -1,5 +1,5 @@
-//! Tests of the crates that read and write bytes: `values`, `jute` and `quorum_packet`. They stand apart, since a crate
-//! with tests is proved twice.
+//! Tests of the crates that read and write bytes: `values`, `jute` and `quorum_packet`. They are a crate of their own,
+//! since a crate with tests is proved twice.
 #![tactic(auto)]
 
 #[cfg(test)]
@@ -17,7 +17,7 @@ use quorum_packet::{PacketKind, QuorumPacket, write_packet};
 use std::alloc::Global;
 use values::{Blob, NoMemory};
 
-/// What is written of a packet that carries the bytes, for nobody's request.
+/// The bytes of a packet with this data and without authinfo.
 #[tactic(auto, unfolding(quorum_packet::specs::Packet::packet_format))]
 pub fn packet_bytes(
     alloc: Global,

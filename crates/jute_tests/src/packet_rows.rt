@@ -1,4 +1,4 @@
-//! Packets and the feed of them.
+//! Packets and their feed.
 
 use crate::packet_bytes;
 use quorum_packet::{Item, PacketFeed, PacketKind, write_packet};
@@ -19,7 +19,7 @@ fn with_data(alloc: Global, kind: PacketKind) -> Result<Vec<u8>, NoMemory> {
     packet_bytes(alloc, kind, 0x1_0000_0001, b"data")
 }
 
-/// The kind, the zxid and the number of bytes of the next packet; `None` also where a part of an image is next.
+/// The kind, the zxid and the number of bytes of the next packet; `None` also if a part of an image is next.
 fn next_outline(
     alloc: Global,
     feed: &mut PacketFeed,
@@ -69,7 +69,8 @@ fn feed_kind(alloc: Global, feed: &mut PacketFeed, kind: PacketKind) -> Result<(
     feed.feed(&bytes)
 }
 
-// Why a stream may not end behind an UPTODATE and the bytes, before and after what is whole there was taken.
+// The fault for which a stream may not end after an UPTODATE and the bytes, before and after the complete packets were
+// taken.
 fn end_behind(alloc: Global, bytes: &[u8]) -> Result<(Option<Fault>, Option<Fault>), ReadError> {
     let mut feed = PacketFeed::new(alloc);
     feed_kind(alloc, &mut feed, PacketKind::UpToDate)?;
@@ -83,7 +84,7 @@ fn end_behind(alloc: Global, bytes: &[u8]) -> Result<(Option<Fault>, Option<Faul
     Ok((before, feed.end().err()))
 }
 
-/// Where packets wait that weren't taken the stream may not end.
+/// While packets wait that weren't taken, the stream may not end.
 #[test]
 fn stream_may_end_behind_whole_packets(rt: HostRuntime) -> Result<(), Fail> {
     let rows: [(&[u8], Option<Fault>); 4] = [
@@ -106,14 +107,14 @@ fn stream_may_end_behind_whole_packets(rt: HostRuntime) -> Result<(), Fail> {
     Ok(())
 }
 
-// Puts an UPTODATE behind, and in two pieces an INFORM whose data has the length -2.
+// Appends an UPTODATE, and in two pieces an INFORM whose data has the length -2.
 fn feed_bad_length(alloc: Global, feed: &mut PacketFeed) -> Result<(), NoMemory> {
     feed_kind(alloc, feed, PacketKind::UpToDate)?;
     feed.feed(b"\0\0\0\x08\0\0\0\x01\0\0\0\x01")?;
     feed.feed(b"\xff\xff\xff\xfe")
 }
 
-// Whether the feed is refused for the length, whatever is put behind.
+// Whether the feed is refused for the length, whatever is appended.
 fn is_length_bad(alloc: Global, feed: &mut PacketFeed) -> Result<bool, NoMemory> {
     let refused = next_outline(alloc, feed) == Err(ReadError::Fault(Fault::BadLength));
     let is_named = feed.end() == Err(Fault::BadLength);
@@ -133,7 +134,7 @@ fn fault_stays(rt: HostRuntime) -> Result<(), Fail> {
     Ok(())
 }
 
-/// What is written of the next packet.
+/// The bytes of the next packet, written again.
 fn written_again(alloc: Global, feed: &mut PacketFeed) -> Result<Vec<u8>, ReadError> {
     let mut out = Vec::new(alloc);
     if let Some(Item::Packet(packet)) = feed.next(alloc)? {

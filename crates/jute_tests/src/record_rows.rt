@@ -10,7 +10,7 @@ use std::alloc::Global;
 use std::test::Fail;
 use values::{Listed, NoMemory, ReadError, Text};
 
-/// The frame that answers getData: header, bytes and Stat of a node that was created with two.
+/// The frame of the reply to getData: header, data and Stat of a node that was created with two bytes.
 const REPLY: [u8; 94] = *b"\x00\x00\x00\x5a\
     \x00\x00\x00\x01\x00\x00\x00\x01\x00\x00\x00\x01\x00\x00\x00\x00\
     \x00\x00\x00\x02hi\
@@ -20,7 +20,7 @@ const REPLY: [u8; 94] = *b"\x00\x00\x00\x5a\
     \x00\x00\x00\x00\x00\x00\x00\x00\x00\x00\x00\x02\x00\x00\x00\x00\
     \x00\x00\x00\x01\x00\x00\x00\x01";
 
-/// The frame that asks for it.
+/// The frame of the request for it.
 const REQUEST: [u8; 19] =
     *b"\x00\x00\x00\x0f\x00\x00\x00\x01\x00\x00\x00\x04\x00\x00\x00\x02/a\x00";
 
@@ -30,7 +30,7 @@ const PERSISTED: [u8; 60] = *b"\x00\x00\x00\x00\x00\x00\x00\x01\x00\x00\x00\x00\
     \x00\x00\x00\x05\x00\x00\x00\x06\x00\x00\x00\x07\
     \x00\x00\x00\x00\x00\x00\x00\x08\x00\x00\x00\x00\x00\x00\x00\x09";
 
-/// The list of one ACL that lets anyone do everything.
+/// The list of one ACL that grants every client everything.
 const OPEN: [u8; 27] =
     *b"\x00\x00\x00\x01\x00\x00\x00\x1f\x00\x00\x00\x05world\x00\x00\x00\x06anyone";
 
@@ -60,7 +60,7 @@ fn reply_header() -> ReplyHeader {
     }
 }
 
-// The reply, behind its frame's length.
+// The reply, after its frame's length.
 #[tactic(auto, unfolding(jute::specs::Records::reply_header, jute::specs::Records::stat_format))]
 fn reply_written(alloc: Global) -> Result<Vec<u8>, NoMemory> {
     let mut out = Vec::new(alloc);
@@ -71,7 +71,7 @@ fn reply_written(alloc: Global) -> Result<Vec<u8>, NoMemory> {
     Ok(out)
 }
 
-// The bytes of the one frame.
+// The bytes of the single frame.
 fn framed(bytes: &[u8]) -> Option<&[u8]> {
     let mut frames = Reader::new(bytes);
     let found = read_frame(&mut frames, LIMIT).ok();
@@ -82,7 +82,7 @@ fn framed(bytes: &[u8]) -> Option<&[u8]> {
     }
 }
 
-// Whether the reply is read, to its end.
+// Whether the reply is read to its end.
 fn is_reply(alloc: Global, bytes: &[u8]) -> Result<bool, ReadError> {
     let mut reader = Reader::new(bytes);
     let header = ReplyHeader::read(alloc, &mut reader)?;
@@ -104,7 +104,7 @@ fn reply_is_read_and_written(rt: HostRuntime) -> Result<(), Fail> {
     Ok(())
 }
 
-// The request, behind its frame's length.
+// The request, after its frame's length.
 #[tactic(auto, unfolding(jute::specs::Records::request_header))]
 fn request_written(alloc: Global) -> Result<Vec<u8>, NoMemory> {
     let mut out = Vec::new(alloc);
@@ -115,7 +115,7 @@ fn request_written(alloc: Global) -> Result<Vec<u8>, NoMemory> {
     Ok(out)
 }
 
-// Whether the request is read, to its end.
+// Whether the request is read to its end.
 fn is_request(alloc: Global, bytes: &[u8]) -> Result<bool, ReadError> {
     let mut reader = Reader::new(bytes);
     let header = RequestHeader::read(alloc, &mut reader)?;
@@ -137,7 +137,7 @@ fn request_is_read_and_written(rt: HostRuntime) -> Result<(), Fail> {
     Ok(())
 }
 
-// A header in a frame of its own, and behind it two ints.
+// A header in a frame of its own, and two ints after it.
 #[tactic(auto, unfolding(jute::specs::Records::request_header, jute::specs::Format::number_bytes))]
 fn frame_and_items(alloc: Global) -> Result<Vec<u8>, NoMemory> {
     let mut out = Vec::new(alloc);
@@ -175,7 +175,7 @@ fn persisted_written(alloc: Global) -> Result<Vec<u8>, NoMemory> {
     Ok(out)
 }
 
-// Whether the numbers are read, to their end.
+// Whether the numbers are read to their end.
 fn is_persisted(alloc: Global, bytes: &[u8]) -> Result<bool, ReadError> {
     let mut reader = Reader::new(bytes);
     let found = StatPersisted::read(alloc, &mut reader)?;
@@ -192,7 +192,7 @@ fn persisted_stat_is_read_and_written(rt: HostRuntime) -> Result<(), Fail> {
     Ok(())
 }
 
-// Whether the list has one entry, which lets anyone do everything.
+// Whether the list has one entry, which grants every client everything.
 fn is_open(alloc: Global, acls: &Option<Listed<Acl>>) -> Result<bool, NoMemory> {
     let Some(acls) = acls else {
         return Ok(false);

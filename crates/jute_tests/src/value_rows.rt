@@ -4,14 +4,14 @@ use std::alloc::Global;
 use std::test::Fail;
 use values::{Blob, ByteQueue, Bytes, Fault, Listed, NoMemory, ReadError, Text};
 
-// Whether bytes are kept, and are the same where they are moved in.
+// Whether bytes are copied, and are the same when they are moved in.
 fn are_bytes_kept(alloc: Global) -> Result<bool, Fail> {
     let blob = Blob::new(alloc, b"hi")?;
     let moved = Blob::from_vec(b"hi".to_vec(alloc)?);
     Ok(blob.as_slice() == b"hi".as_slice() && blob == moved)
 }
 
-// Whether bytes become a copy of as many others, and of more.
+// Whether bytes become a copy of others, of the same length and of a greater one.
 fn are_bytes_copied(alloc: Global) -> Result<bool, NoMemory> {
     let mut blob = Blob::new(alloc, b"hi")?;
     blob.copy_from(&Blob::new(alloc, b"ho")?)?;
@@ -20,14 +20,14 @@ fn are_bytes_copied(alloc: Global) -> Result<bool, NoMemory> {
     Ok(as_many && blob.as_slice() == b"hello".as_slice())
 }
 
-// Whether a text is kept, and isn't another.
+// Whether a text is copied, and isn't equal to another.
 fn is_text_kept(alloc: Global) -> Result<bool, NoMemory> {
     let text = Text::new(alloc, "/a")?;
     let other = Text::new(alloc, "/b")?;
     Ok(text.as_str() == "/a" && text != other)
 }
 
-// Whether a list gives back what it took, and isn't its front.
+// Whether a list returns what it was made from, and isn't equal to a prefix of it.
 fn is_list_kept(alloc: Global) -> Result<bool, Fail> {
     let listed = Listed::from_vec([1u8, 2].to_vec(alloc)?);
     let is_front = listed == Listed::from_vec([1u8].to_vec(alloc)?);
@@ -62,7 +62,7 @@ fn faults() -> [(u8, Fault, &'static str); 12] {
     ]
 }
 
-// The fault as it is shown, by itself and as the reason of a refusal.
+// The fault as it is printed, by itself and as the reason of a refusal.
 fn shown(alloc: Global, fault: Fault) -> Result<String, Fail> {
     Ok(format!(in alloc; "{fault} {}", ReadError::from(fault))?)
 }

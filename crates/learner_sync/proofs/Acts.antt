@@ -1,4 +1,4 @@
--- What is to be done tells what becomes of the log and its base, and what is sent can be written.
+-- The acts account for each change of the log and its base, and every packet to send can be written.
 use Rattle.std.proofs.Common.{◌≡◌, ℕ, ℤ, List, [], ◌∷◌, ◌++◌, Option, Some, Result, Ok, Err, Bool, true, false, cond, refl, subst, int_lt}
 use Rattle.std.specs.Prelude.{pos, negsuc}
 use Rattle.std.specs.List.{AllByRecursion}
@@ -29,7 +29,7 @@ use Rattle.learner_sync.specs.declared.phase.Phase.TheVariants as phase
 use Rattle.learner_sync.proofs.Each.{packet-each}
 use Rattle.learner_sync.proofs.Sending.{introduction-writable, epoch-writable, acknowledgement-writable, ping-writable}
 
--- what isn't refused tells it
+-- A result that isn't refused accounts for the log.
 abbrev Holds : Learner → Result LearnerStep Fault → Type 0
 Holds l (Ok x) = AccountsForLog x.acts l x.after
 Holds l (Err e) = Unit {0}
@@ -156,7 +156,7 @@ learn-holds l (item.Part p) = part-holds l.phase l p
 
 -- ---- what is sent
 
--- what isn't refused can be done
+-- The acts of a result that isn't refused can be done.
 abbrev CanBe : Result LearnerStep Fault → Type 0
 CanBe (Ok x) = AllByRecursion CanBeDone x.acts
 CanBe (Err e) = Unit {0}

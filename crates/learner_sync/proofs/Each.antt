@@ -1,4 +1,4 @@
--- What holds of each thing that is to be done for a packet.
+-- A predicate that holds for each act of a packet.
 use Rattle.std.proofs.Common.{ℕ, ℤ, List, [], ◌∷◌, ◌++◌, Option, Some, Result, Ok, Err, Bool, true, false, cond, int_lt}
 use Rattle.std.specs.Prelude.{pos, negsuc}
 use Rattle.std.specs.List.{AllByRecursion}
@@ -25,7 +25,7 @@ module _ (P : Act → Type 0) (applies : P act.Apply) (epochs : P act.Epochs) (s
     (truncates : (zxid : ℤ) → P (act.Truncate zxid))
     (answers : (l : Learner) (epoch : ℤ) → P (act.Send (ack_epoch l epoch)))
     (acknowledges : (l : Learner) → P (act.Send (epoch_ack l))) where
-  -- what isn't refused has it
+  -- It holds for each act of a result that isn't refused.
   abbrev pub Each : Result LearnerStep Fault → Type 0
   Each (Ok x) = AllByRecursion P x.acts
   Each (Err e) = Unit {0}

@@ -1,4 +1,4 @@
--- The accepted epoch never falls.
+-- The accepted epoch never decreases.
 use Rattle.std.proofs.Common.{◌≡◌, ℕ, ℤ, List, [], ◌∷◌, ◌++◌, Option, Some, Result, Ok, Err, Bool, true, false, cond, refl, subst, int_lt, ◌≤ℤ◌}
 use Rattle.std.specs.Prelude.{pos, negsuc}
 use Rattle.std.specs.Ordering.{int_eq}
@@ -25,7 +25,7 @@ use Rattle.learner_sync.specs.declared.phase.Phase.{Phase}
 use Rattle.learner_sync.specs.declared.phase.Phase.TheVariants as phase
 use Rattle.learner_sync.proofs.Zxids.{lt_of, lt_le, le_refl}
 
--- the epoch that is accepted then isn't below this one
+-- In a result that isn't refused the accepted epoch isn't below this one.
 abbrev Holds : ℤ → Result LearnerStep Fault → Type 0
 Holds epoch (Ok x) = epoch ≤ℤ x.after.accepted_epoch
 Holds epoch (Err e) = Unit {0}

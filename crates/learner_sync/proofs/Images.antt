@@ -1,4 +1,4 @@
--- The parts of an image, one behind the other.
+-- The parts of an image in order.
 use Rattle.std.proofs.Common.{◌≡◌, ℤ, false, List, [], ◌∷◌, Result, Ok, Err, refl, ap, ◌∙◌}
 use Rattle.values.specs.declared.fault.Fault.{Fault}
 use Rattle.jute.specs.Format.{◌>>=◌}
@@ -15,7 +15,7 @@ use Rattle.learner_sync.specs.declared.act.Act.TheVariants as act
 use Rattle.learner_sync.specs.declared.phase.Phase.{Phase}
 use Rattle.learner_sync.specs.declared.phase.Phase.TheVariants as phase
 
--- an item, and then others
+-- An item, and then others.
 abbrev then : Learner → List Item → Result LearnerStep Fault → Result LearnerStep Fault
 then l others r = r >>= λ x. prepend_acts x.acts (learn_all x.after others)
 
@@ -28,7 +28,7 @@ drop-inner : (p : ImagePart) → is_end (Part p) ≡ false → acts_to_drop p �
 drop-inner part.End e = cc
 drop-inner p e = refl
 
--- where a part that isn't the end is loaded, and the end is the last thing
+-- Each part before the end is loaded, and the end has the last act.
 all-load : (l : Learner) (last : Act) (after : Learner)
     → ((p : ImagePart) → is_end (Part p) ≡ false → learn_item l (item.Part p) ≡ Ok (single_act (act.LoadPart p) l))
     → learn_item l (item.Part part.End) ≡ Ok (single_act last after)

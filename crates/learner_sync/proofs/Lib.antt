@@ -1,19 +1,19 @@
--- the law of the record
+-- The law of the record.
 pub mod Records
--- the zxids of a log
+-- The zxids of a log.
 pub mod Zxids
--- the log follows
+-- The log is followed.
 pub mod Logs
--- epochs
+-- The accepted epoch.
 pub mod Epochs
--- while clients are served
+-- While clients are served.
 pub mod Serving
--- the parts of an image
+-- The parts of an image.
 pub mod Images
--- worked steps
+-- Worked steps.
 pub mod Rows
--- what is to be done
+-- The acts.
 pub mod Acts
 pub mod Each
--- what is sent
+-- The packets that are sent.
 pub mod Sending

@@ -1,4 +1,4 @@
--- Whatever is learnt, the log is followed.
+-- Whatever is learnt, the learner follows its log.
 use Rattle.std.proofs.Common.{◌≡◌, ℕ, ℤ, List, [], ◌∷◌, ◌++◌, Option, Some, Result, Ok, Err, Bool, true, false, cond, refl, sym, ap, subst, ◌∙◌, int_lt, ◌<ℤ◌, ◌≤ℤ◌}
 use Rattle.std.specs.Prelude.{pos, negsuc}
 use Rattle.std.specs.Int.{int_max}
@@ -27,12 +27,12 @@ use Rattle.learner_sync.specs.declared.phase.Phase.{Phase}
 use Rattle.learner_sync.specs.declared.phase.Phase.TheVariants as phase
 use Rattle.learner_sync.proofs.Zxids.{lt_of, le_of, below_max, max_same, max_left, max_above, zero_le, max_over, le_lt, zxid-push, rises-push, rises-up_to, front-up_to}
 
--- what isn't refused follows its log
+-- A result that isn't refused follows its log.
 abbrev Follows : Result LearnerStep Fault → Type 0
 Follows (Ok x) = FollowsItsLog x.after
 Follows (Err e) = Unit {0}
 
--- the same log, in another phase
+-- The same log, in another phase.
 moved : (l : Learner) (ph : Phase) → PhaseFitsLog ph l.log → FollowsItsLog l → FollowsItsLog (at_phase l ph)
 moved l ph s f = record { rising = f.rising; last = f.last; based = f.based; stands = s }
 
@@ -199,7 +199,7 @@ load-follows part.End l zxid le f = record {
 }
 load-follows p l zxid le f = f
 
--- ---- all of it
+-- ---- every item
 
 packet-follows : (ph : Phase) (l : Learner) (p : QuorumPacket) → FollowsItsLog l → Follows (packet_in_phase ph l p)
 packet-follows phase.Down l p f = f

@@ -1,4 +1,4 @@
--- What is sent can be written.
+-- The packets that a learner sends can be written.
 use Rattle.std.proofs.Common.{◌≡◌, ℤ, length, refl, arith}
 use Rattle.jute.specs.Format.{int, number_bytes}
 use Rattle.quorum_packet.specs.Packet.{packet_format}

@@ -1,4 +1,4 @@
--- While clients are served, what is learnt leaves the learner as it is, or is one transaction more.
+-- While clients are served, what is learnt leaves the learner as it is, or is one more transaction.
 use Rattle.std.proofs.Common.{◌≡◌, ℕ, ℤ, List, [], ◌∷◌, ◌++◌, Option, Some, Result, Ok, Err, Bool, true, false, cond, refl, sym, ap, subst, ◌∙◌, int_lt, ◌<ℤ◌, ◌⊎◌, inl, inr}
 use Rattle.std.specs.Int.{int_max}
 use Rattle.values.specs.declared.fault.Fault.{Fault}
@@ -20,12 +20,12 @@ use Rattle.learner_sync.specs.declared.phase.Phase.{Phase}
 use Rattle.learner_sync.specs.declared.phase.Phase.TheVariants as phase
 use Rattle.learner_sync.proofs.Zxids.{lt_of, max_right}
 
--- what isn't refused leaves the learner, or is one transaction more
+-- A result that isn't refused leaves the learner, or is one more transaction.
 abbrev Goes : Learner → Result LearnerStep Fault → Type 0
 Goes l (Ok x) = (x.after ≡ l) ⊎ HasOneMoreTxn l x
 Goes l (Err e) = Unit {0}
 
--- a learner that applied a transaction, by what changes of it
+-- A learner that applied a transaction, given the fields that change.
 abbrev with_last : Learner → Txn → Phase → ℤ → LearnerStep
 with_last l t ph last = single_act act.Apply (record l { phase = ph; last_zxid = last; log = l.log ++ t ∷ [] })
 

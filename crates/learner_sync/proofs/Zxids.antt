@@ -1,4 +1,4 @@
--- The zxids of a log: one more at its end, and a front of it.
+-- The zxids of a log: one more at its end, and a prefix of it.
 use Rattle.std.proofs.Common.{◌≡◌, ℤ, List, [], ◌∷◌, ◌++◌, Bool, true, false, cond, refl, sym, ap, subst, ◌∙◌, int_lt, ◌<ℤ◌, ◌≤ℤ◌, Option, Some, None, slice_get, length, ◌-◌, suc, arith}
 use Rattle.std.specs.Prelude.{T, pos, int_le}
 use Rattle.std.specs.Int.{int_max}
@@ -34,7 +34,7 @@ zero_le = omega (arith, ints)
 pub max_right : (x y : ℤ) → x <ℤ y → int_max x y ≡ y
 max_right x y lt = omega (arith, ints, clamps)
 
--- a greater one behind
+-- The maximum with a greater zxid after it.
 pub max_over : (base last next : ℤ) → last <ℤ next → int_max (int_max base last) next ≡ int_max base next
 max_over base last next lt = omega (arith, ints, clamps)
 
@@ -73,7 +73,7 @@ rises-up_to zxid a (t ∷ log) r = by (int_le t.header.zxid zxid) (rises-up_to z
     by true others = (r.0, others)
     by false others = rises-from a t.header.zxid (txns_up_to zxid log) r.0 others
 
--- nothing is, where all is above it
+-- No transaction is kept where all are above the zxid.
 none-up_to : (zxid a : ℤ) (log : List Txn) → zxid <ℤ a → ZxidsRise a log → txns_up_to zxid log ≡ []
 none-up_to zxid a [] lt r = refl
 none-up_to zxid a (t ∷ log) lt r =

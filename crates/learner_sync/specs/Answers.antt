@@ -1,4 +1,4 @@
--- What a learner sends to its leader.
+-- The packets that a learner sends to its leader.
 use Rattle.std.specs.Prelude.{ℤ, pos, [], Some, None}
 use Rattle.jute.specs.Format.{int}
 use Rattle.quorum_packet.specs.declared.packet.QuorumPacket.{QuorumPacket}
@@ -11,7 +11,7 @@ use Rattle.learner_sync.specs.Zxids.{first_zxid}
 abbrev pub protocol_version : ℤ
 protocol_version = pos 0x10000
 
--- a learner introduces itself, with the epoch that it has accepted
+-- A learner introduces itself, with the epoch that it has accepted.
 abbrev pub observer_info : Learner → ℤ → QuorumPacket
 observer_info l server_id = record {
   kind = code_of kinds.ObserverInfo;
@@ -20,7 +20,7 @@ observer_info l server_id = record {
   authinfo = None;
 }
 
--- the leader's epoch is answered with how far the learner is, and an epoch
+-- The leader's epoch is answered with the learner's last zxid and an epoch.
 abbrev pub ack_epoch : Learner → ℤ → QuorumPacket
 ack_epoch l epoch = record {
   kind = code_of kinds.AckEpoch;
@@ -29,7 +29,7 @@ ack_epoch l epoch = record {
   authinfo = None;
 }
 
--- the leader's epoch is acknowledged
+-- The leader's epoch is acknowledged.
 abbrev pub epoch_ack : Learner → QuorumPacket
 epoch_ack l = record {
   kind = code_of kinds.Ack;
@@ -38,6 +38,6 @@ epoch_ack l = record {
   authinfo = None;
 }
 
--- a PING comes back as it is, but without what it carried
+-- A PING is sent back with empty data.
 abbrev pub ping_reply : QuorumPacket → QuorumPacket
 ping_reply p = record p { bytes = Some [] }

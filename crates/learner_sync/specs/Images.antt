@@ -1,4 +1,4 @@
--- What is learnt of a whole image, and of items one behind the other.
+-- What is learnt of a whole image, and of a list of items.
 use Rattle.std.specs.Prelude.{◌≡◌, false, List, [], ◌∷◌, ◌++◌, map, Result, Ok, Err}
 use Rattle.std.specs.List.{AllByRecursion}
 use Rattle.values.specs.declared.fault.Fault.{Fault}
@@ -16,7 +16,7 @@ use Rattle.learner_sync.specs.declared.act.Act.TheVariants as act
 use Rattle.learner_sync.specs.declared.phase.Phase.{Phase}
 use Rattle.learner_sync.specs.declared.phase.Phase.TheVariants as phase
 
--- ---- items one behind the other: what is to be done for each, in order; the first refusal ends it
+-- ---- a list of items: the acts for each, in order; the first refusal ends it
 
 abbrev pub prepend_acts : List Act → Result LearnerStep Fault → Result LearnerStep Fault
 prepend_acts acts (Ok x) = Ok (record { acts = acts ++ x.acts; after = x.after })
@@ -34,7 +34,7 @@ AreInner parts = AllByRecursion (λ p. is_end (Part p) ≡ false) parts
 abbrev pub items_of : List ImagePart → List Item
 items_of parts = map item.Part parts ++ item.Part part.End ∷ []
 
--- its parts are loaded, and then the last thing is done with it
+-- The parts of the image are loaded, and then the last act is done.
 abbrev pub acts_of_image : List ImagePart → Act → List Act
 acts_of_image parts last = map act.LoadPart parts ++ last ∷ []
 
@@ -52,7 +52,7 @@ image_in_phase phase.Serving l parts = Ok (record { acts = acts_of_image parts a
 abbrev pub learn_image : Learner → List ImagePart → Result LearnerStep Fault
 learn_image l parts = image_in_phase l.phase l parts
 
--- the parts of an image, one behind the other, do what the whole image does
+-- The parts of an image in order do what the whole image does.
 abbrev pub PartsAreTheImage : Type 0
 PartsAreTheImage =
     (l : Learner) (parts : List ImagePart) → AreInner parts → learn_all l (items_of parts) ≡ learn_image l parts

@@ -1,4 +1,4 @@
--- What holds of every learner: at the start, and whatever it learns.
+-- What holds for every learner: at the start, and whatever it learns.
 use Rattle.std.specs.Prelude.{◌≡◌, ℤ, pos, Bool, true, false, List, [], ◌∷◌, ◌++◌, Ok, ◌<ℤ◌, ◌≤ℤ◌, ◌⊎◌}
 use Rattle.std.specs.Int.{int_max}
 use Rattle.std.specs.List.{AllByRecursion}
@@ -18,18 +18,18 @@ use Rattle.learner_sync.specs.declared.phase.Phase.TheVariants as phase
 
 -- ---- the log
 
--- each transaction has a zxid above the one before it
+-- Each transaction has a zxid above the one before it.
 abbrev pub ZxidsRise : ℤ → List Txn → Type 0
 ZxidsRise zxid [] = Unit {0}
 ZxidsRise zxid (t ∷ log) = (zxid <ℤ t.header.zxid) × ZxidsRise t.header.zxid log
 
--- the zxid of an image to come isn't below 0; on an image, what was applied last is the log's last
+-- The zxid of an awaited image isn't below 0. On an image, the transaction applied last is the log's last.
 abbrev pub PhaseFitsLog : Phase → List Txn → Type 0
 PhaseFitsLog (phase.Image zxid) log = pos 0 ≤ℤ zxid
 PhaseFitsLog (phase.ReplayOnImage applied) log = applied ≡ zxid_after (pos 0) log
 PhaseFitsLog phase log = Unit {0}
 
--- The zxids of the log rise, from above 0; after an image the first ones may be below the base's. The last zxid is the
+-- The zxids of the log ascend from above 0; after an image the first ones may be below the base's. The last zxid is the
 -- greater of the base's and that of the log's last transaction.
 pub record FollowsItsLog (l : Learner) : Type 0 where
   pub rising : ZxidsRise (pos 0) l.log
@@ -46,14 +46,14 @@ pub record LogsAreFollowed : Type 0 where
   pub ends : (l : Learner) → FollowsItsLog l → FollowsItsLog (stop_following l)
   pub checks : (l : Learner) → FollowsItsLog l → FollowsItsLog (checkpoint_learner l)
 
--- what is up to a zxid stands at the front of the log
+-- The transactions up to a zxid are a prefix of the log.
 abbrev pub TruncatesToFronts : Type 0
 TruncatesToFronts =
     (l : Learner) (zxid : ℤ) → FollowsItsLog l → (above : List Txn) × (l.log ≡ txns_up_to zxid l.log ++ above)
 
 -- ---- epochs
 
--- the accepted epoch never falls, and only learning raises it
+-- The accepted epoch never decreases, and only learning raises it.
 pub record EpochsDontFall : Type 0 where
   pub starts : (l : Learner) (server_id : ℤ) → (start_following l server_id).after.accepted_epoch ≡ l.accepted_epoch
   pub learns : (l : Learner) (i : Item) (x : LearnerStep) → learn_item l i ≡ Ok x
@@ -63,21 +63,21 @@ pub record EpochsDontFall : Type 0 where
 
 -- ---- serving
 
--- the log has one transaction more, whose zxid is above the last one and is the last from then on
+-- The log has one more transaction. Its zxid is above the last one, and is the new last one.
 pub record HasOneMoreTxn (l : Learner) (x : LearnerStep) : Type 0 where
   pub txn : Txn
   pub above : l.last_zxid <ℤ txn.header.zxid
   pub learnt : x ≡ single_act act.Apply (record l { last_zxid = txn.header.zxid; log = l.log ++ txn ∷ [] })
 
--- while clients are served, what is learnt leaves the learner as it is, or is one transaction more
+-- While clients are served, what is learnt leaves the learner as it is, or is one more transaction.
 abbrev pub ServingRises : Type 0
 ServingRises =
     (l : Learner) (i : Item) (x : LearnerStep) → l.phase ≡ phase.Serving → learn_item l i ≡ Ok x
     → (x.after ≡ l) ⊎ HasOneMoreTxn l x
 
--- ---- what is to be done
+-- ---- acts
 
--- these are all that is to be done for an item
+-- The acts that are the only act for their item.
 abbrev pub is_only_act : Act → Bool
 is_only_act act.Apply = true
 is_only_act (act.LoadPart part) = true
@@ -85,8 +85,8 @@ is_only_act act.LoadImage = true
 is_only_act (act.Truncate zxid) = true
 is_only_act a = false
 
--- What is to be done tells what becomes of the log and its base: one transaction more, those up to a zxid, or none on a
--- new base. If it tells nothing of them, they stay; and a part that is to be loaded leaves the learner as it is.
+-- The acts account for the log and its base: one more transaction, the transactions up to a zxid, or an empty log on a
+-- new base. Without such an act the log and the base are unchanged. A part to load leaves the learner as it is.
 abbrev pub AccountsForLog : List Act → Learner → Learner → Type 0
 AccountsForLog (act.Apply ∷ []) l after = (t : Txn) × (after.log ≡ l.log ++ t ∷ []) × (after.base_zxid ≡ l.base_zxid)
 AccountsForLog (act.Truncate zxid ∷ []) l after = (after.log ≡ txns_up_to zxid l.log) × (after.base_zxid ≡ l.base_zxid)
@@ -95,21 +95,21 @@ AccountsForLog (act.LoadPart part ∷ acts) l after = (acts ≡ []) × (after �
 AccountsForLog acts l after =
     (after.log ≡ l.log) × (after.base_zxid ≡ l.base_zxid) × AllByRecursion (λ a. is_only_act a ≡ false) acts
 
--- what is done with an image
+-- The acts that concern an image.
 abbrev pub is_of_image : Act → Bool
 is_of_image (act.LoadPart part) = true
 is_of_image act.LoadImage = true
 is_of_image act.DropImage = true
 is_of_image a = false
 
--- what is sent can be written
+-- A packet to send can be written.
 abbrev pub CanBeDone : Act → Type 0
 CanBeDone (act.Send p) = packet_format.Writable p
 CanBeDone a = Unit {0}
 
 pub record ActsAccountForLog : Type 0 where
   pub tells : (l : Learner) (i : Item) (x : LearnerStep) → learn_item l i ≡ Ok x → AccountsForLog x.acts l x.after
-  -- a packet does nothing with an image
+  -- No act for a packet concerns an image.
   pub packets : (l : Learner) (p : QuorumPacket) (x : LearnerStep) → learn_item l (item.Packet p) ≡ Ok x
       → AllByRecursion (λ a. is_of_image a ≡ false) x.acts
   pub sends : (l : Learner) (i : Item) (x : LearnerStep) → learn_item l i ≡ Ok x → CanBeWritten i

@@ -1,6 +1,6 @@
--- What is learnt of an item of the leader's stream: what is to be done, and what the learner knows then; or the fault
--- for which the item is refused. In one packet a wrong kind comes first, then a zxid that is out of place, then what
--- the packet carries, then a commit of another proposal, and last a transaction that is out of order.
+-- What is learnt of an item of the leader's stream: the acts to do and the learner afterwards; or the fault for which
+-- the item is refused. Within one packet the faults are judged in this order: a wrong kind, a zxid out of place, the
+-- data of the packet, a commit of another proposal, and a transaction out of order.
 use Rattle.std.specs.Prelude.{◌≡◌, ℕ, ℤ, pos, negsuc, false, List, [], ◌∷◌, ◌++◌, filter, int_lt, int_le, Option, Some, None, Result, Ok, Err, if◌then◌else◌}
 use Rattle.std.specs.Int.{int_max}
 use Rattle.std.specs.Ordering.{int_eq}
@@ -27,12 +27,11 @@ use Rattle.learner_sync.specs.declared.act.Act.TheVariants as act
 use Rattle.learner_sync.specs.declared.phase.Phase.{Phase}
 use Rattle.learner_sync.specs.declared.phase.Phase.TheVariants as phase
 
--- what is to be done, in order, and what the learner knows then
+-- The acts to do, in order, and the learner afterwards.
 pub record LearnerStep : Type 0 where
   pub acts : List Act
   pub after : Learner
 
--- nothing is to be done
 abbrev pub no_acts : Learner → LearnerStep
 no_acts l = record { acts = []; after = l }
 
@@ -42,14 +41,14 @@ single_act a l = record { acts = a ∷ []; after = l }
 abbrev pub at_phase : Learner → Phase → Learner
 at_phase l phase = record l { phase = phase }
 
--- the bytes that a packet carries; null reads as empty
+-- The data of a packet; null reads as empty.
 abbrev pub carried_bytes : Option (List ℕ) → List ℕ
 carried_bytes None = []
 carried_bytes (Some bytes) = bytes
 
--- ---- a leader comes, and goes
+-- ---- a leader connects, and leaves
 
--- the learner introduces itself; while there is a leader, another is passed over
+-- The learner introduces itself. While it has a leader, another one is ignored.
 abbrev pub start_in : Phase → Learner → ℤ → LearnerStep
 start_in phase.Down l server_id = single_act (act.Send (observer_info l server_id)) (at_phase l phase.Hello)
 start_in phase l server_id = no_acts l
@@ -57,13 +56,14 @@ start_in phase l server_id = no_acts l
 abbrev pub start_following : Learner → ℤ → LearnerStep
 start_following l server_id = start_in l.phase l server_id
 
--- the leader is gone, or was refused: open proposals are forgotten
+-- The leader is gone or was refused: open proposals are forgotten.
 abbrev pub stop_following : Learner → Learner
 stop_following l = record l { phase = phase.Down; proposals = [] }
 
 -- ---- hello: the leader names its epoch
 
--- A greater epoch is accepted, and answered with the current one. That which was accepted before is answered with -1.
+-- A greater epoch is accepted and answered with the current one. The epoch that was accepted before is answered with
+-- -1.
 abbrev pub accept_epoch : Learner → ℤ → LearnerStep
 accept_epoch l epoch =
     if int_lt l.accepted_epoch epoch
@@ -73,7 +73,7 @@ accept_epoch l epoch =
     }
     else single_act (act.Send (ack_epoch l (negsuc 0))) (at_phase l phase.Sync)
 
--- a version stands in the bytes, whatever it is
+-- The data has to hold a protocol version; any version will do.
 abbrev pub leader_info : Learner → ℤ → List ℕ → Result LearnerStep Fault
 leader_info l epoch bytes =
     if int_lt epoch l.accepted_epoch then Err EpochTooSmall
@@ -85,16 +85,15 @@ packet_in_hello kind l p = Err UnexpectedPacket
 
 -- ---- sync: the leader says how it brings the learner up to date
 
--- the transactions up to a zxid
 abbrev pub txns_up_to : ℤ → List Txn → List Txn
 txns_up_to zxid log = filter (λ t. int_le t.header.zxid zxid) log
 
--- the zxid of the last transaction; a given one where there is none
+-- The zxid of the last transaction, or the given one if there is none.
 abbrev pub zxid_after : ℤ → List Txn → ℤ
 zxid_after zxid [] = zxid
 zxid_after zxid (t ∷ log) = zxid_after t.header.zxid log
 
--- the last zxid is the greater of the base's and that of the last transaction that is kept
+-- The last zxid is the greater of the base's and that of the last transaction kept.
 abbrev pub with_truncated_log : Learner → List Txn → Learner
 with_truncated_log l kept = record l {
   phase = phase.Replay;
@@ -108,7 +107,7 @@ truncate_log l zxid =
     if int_lt zxid l.base_zxid then Err CannotTruncate
     else Ok (single_act (act.Truncate zxid) (with_truncated_log l (txns_up_to zxid l.log)))
 
--- until the image is whole all stays as it was
+-- Until the image is complete, everything else stays as it was.
 abbrev pub await_image : Learner → ℤ → Result LearnerStep Fault
 await_image l zxid = if int_lt zxid (pos 0) then Err OutOfOrder else Ok (no_acts (at_phase l (phase.Image zxid)))
 
@@ -120,8 +119,9 @@ packet_in_sync kind l p = Err UnexpectedPacket
 
 -- ---- transactions
 
--- The zxid that a transaction must be above: the last one. A leader writes an image while its tree goes on changing, so
--- what it sends next may be in the image already: that needs only be in order.
+-- A transaction's zxid has to be above this one, which is the last zxid. After an image there is an exception: a
+-- leader's tree changes while it writes the image, so the transactions that it sends next may be in the image already.
+-- They only have to be in order.
 abbrev pub zxid_floor : Phase → ℤ → ℤ
 zxid_floor (phase.ReplayOnImage applied) last_zxid = applied
 zxid_floor phase last_zxid = last_zxid
@@ -130,11 +130,11 @@ abbrev pub phase_after_zxid : Phase → ℤ → Phase
 phase_after_zxid (phase.ReplayOnImage applied) zxid = phase.ReplayOnImage zxid
 phase_after_zxid phase zxid = phase
 
--- a transaction with this zxid was applied: it is the last zxid, unless that is greater
+-- A transaction with this zxid was applied: the last zxid is the greater of it and the one before.
 abbrev pub with_applied_zxid : Learner → ℤ → Learner
 with_applied_zxid l zxid = record l { phase = phase_after_zxid l.phase zxid; last_zxid = int_max l.last_zxid zxid }
 
--- the log has it as its last
+-- The transaction is appended to the log.
 abbrev pub with_applied : Learner → Txn → Learner
 with_applied l t = with_applied_zxid (record l { log = l.log ++ t ∷ [] }) t.header.zxid
 
@@ -143,7 +143,7 @@ apply_txn l t =
     if int_lt (zxid_floor l.phase l.last_zxid) t.header.zxid then Ok (single_act act.Apply (with_applied l t))
     else Err OutOfOrder
 
--- a transaction that is proposed and committed in one; open proposals stay
+-- A transaction that is proposed and committed in one packet; open proposals stay.
 abbrev pub learn_inform : Learner → List ℕ → Result LearnerStep Fault
 learn_inform l bytes = value_of_whole txn_format bytes >>= λ t. apply_txn l t
 
@@ -151,7 +151,7 @@ abbrev pub learn_proposal : Learner → List ℕ → Result LearnerStep Fault
 learn_proposal l bytes = value_of_whole txn_format bytes >>= λ t. Ok
     (no_acts (record l { proposals = l.proposals ++ t ∷ [] }))
 
--- the oldest proposal is applied, which is the one that has this zxid
+-- The oldest proposal is applied; it has to have this zxid.
 abbrev pub commit_of : Learner → List Txn → ℤ → Result LearnerStep Fault
 commit_of l [] zxid = Err CommitMismatch
 commit_of l (t ∷ others) zxid =
@@ -168,7 +168,7 @@ new_leader l = record {
   after = record l { current_epoch = l.accepted_epoch };
 }
 
--- the leader's epoch is current from now on, also where no NEWLEADER came; open proposals are forgotten
+-- The leader's epoch is the current one from now on, even if no NEWLEADER came. Open proposals are forgotten.
 abbrev pub up_to_date : Learner → LearnerStep
 up_to_date l = record {
   acts = act.Epochs ∷ act.Send (epoch_ack l) ∷ act.ServeFrom ∷ [];
@@ -192,7 +192,7 @@ packet_in_serving kind l p = Ok (no_acts l)
 
 -- ---- images
 
--- the image is the base, and the last zxid is its own
+-- The image is the base, and its zxid is the last zxid.
 abbrev pub with_image_zxid : Learner → ℤ → Learner
 with_image_zxid l zxid = record l {
   phase = phase.ReplayOnImage (pos 0);
@@ -206,7 +206,7 @@ abbrev pub load_part : ImagePart → Learner → ℤ → LearnerStep
 load_part part.End l zxid = single_act act.LoadImage (with_image_zxid l zxid)
 load_part p l zxid = single_act (act.LoadPart p) l
 
--- an image that wasn't asked for is loaded for its faults, and dropped
+-- An image that wasn't asked for is loaded to find its faults, and dropped.
 abbrev pub acts_to_drop : ImagePart → List Act
 acts_to_drop part.End = act.DropImage ∷ []
 acts_to_drop p = act.LoadPart p ∷ []
@@ -214,9 +214,9 @@ acts_to_drop p = act.LoadPart p ∷ []
 abbrev pub load_to_drop : ImagePart → Learner → LearnerStep
 load_to_drop p l = record { acts = acts_to_drop p; after = l }
 
--- ---- all of it
+-- ---- every item
 
--- without a leader no packet does anything; while an image is to come no packet comes
+-- Without a leader a packet does nothing. While an image is awaited, no packet can come.
 abbrev pub packet_in_phase : Phase → Learner → QuorumPacket → Result LearnerStep Fault
 packet_in_phase phase.Down l p = Ok (no_acts l)
 packet_in_phase phase.Hello l p = packet_in_hello (kind_of p.kind) l p
@@ -226,7 +226,7 @@ packet_in_phase (phase.ReplayOnImage applied) l p = packet_in_replay (kind_of p.
 packet_in_phase phase.Replay l p = packet_in_replay (kind_of p.kind) l p
 packet_in_phase phase.Serving l p = packet_in_serving (kind_of p.kind) l p
 
--- without a leader an image is passed over, as where none was asked for
+-- Without a leader an image is dropped, like one that wasn't asked for.
 abbrev pub part_in_phase : Phase → Learner → ImagePart → Result LearnerStep Fault
 part_in_phase phase.Down l p = Ok (load_to_drop p l)
 part_in_phase phase.Hello l p = Err UnexpectedPacket
@@ -249,14 +249,14 @@ checkpoint_in phase l = l
 abbrev pub checkpoint_learner : Learner → Learner
 checkpoint_learner l = checkpoint_in l.phase l
 
--- ---- what is asked
+-- ---- the log as a whole
 
--- the log where it has all transactions, from the tree before any on
+-- The log if it has every transaction since the empty tree.
 abbrev pub whole_log : Learner → Option (List Txn)
 whole_log l = if l.is_complete then Some l.log else None
 
--- What a step answers and leaves: what is to be done, and the learner that knows more. Or the item is refused for its
--- fault, or memory was, and the learner is as it was.
+-- The contract of a step: it returns the acts, and the learner is the one after the item; or the item is refused for
+-- its fault, or an allocation is, and the learner is as it was.
 abbrev pub LearnsItem : Result (List Act) ReadError → Result LearnerStep Fault → Learner → Learner → Type 0
 LearnsItem (Ok acts) learned old new = learned ≡ Ok (record { acts = acts; after = new })
 LearnsItem (Err e) learned old new = IsFailureOf e learned × (new ≡ old)

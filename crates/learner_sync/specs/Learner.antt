@@ -1,4 +1,4 @@
--- What a learner knows.
+-- The state of a learner.
 use Rattle.std.specs.Prelude.{refl, ℤ, pos, List, [], Bool, true}
 use Rattle.std.specs.Coded.{Coded, code_by, coded×, coded_ℤ, coded_bool, coded_list}
 use Rattle.settings.specs.Settings.{EpochPair}
@@ -7,24 +7,24 @@ use Rattle.learner_sync.specs.declared.phase.Phase.{Phase}
 use Rattle.learner_sync.specs.declared.phase.Phase.TheVariants as phase
 
 pub record Learner : Type 0 where
-  -- where it stands with its leader
+  -- The phase between the learner and its leader.
   pub phase : Phase
-  -- the greatest epoch that a leader was accepted with; from its LEADERINFO on that of the leader
+  -- The greatest epoch of a leader that was accepted; from its LEADERINFO on, the epoch of the present leader.
   pub accepted_epoch : ℤ
-  -- the epoch of the last leader that was followed
+  -- The epoch of the last leader that was followed.
   pub current_epoch : ℤ
-  -- the greatest zxid so far
+  -- The greatest zxid so far.
   pub last_zxid : ℤ
-  -- the zxid of the base, which is a state that is kept elsewhere
+  -- The zxid of the base, a state that is kept elsewhere.
   pub base_zxid : ℤ
-  -- the transactions that were applied since the base
+  -- The transactions that were applied since the base.
   pub log : List Txn
-  -- the transactions that wait for their commit, the oldest first
+  -- The transactions that wait for their commit, oldest first.
   pub proposals : List Txn
-  -- no image, no TRUNC and no checkpoint has taken effect, so that the log has all transactions
+  -- No image, TRUNC or checkpoint has taken effect, so the log has every transaction.
   pub is_complete : Bool
 
--- before any leader: the base is the tree before any transaction
+-- Before any leader: the base is the tree before any transaction.
 abbrev pub new_learner : EpochPair → Learner
 new_learner epochs = record {
   phase = phase.Down;
@@ -37,7 +37,7 @@ new_learner epochs = record {
   is_complete = true;
 }
 
--- one that serves, in the first epoch
+-- A learner that serves in epoch 1.
 abbrev pub primed_learner : Learner
 primed_learner =
     record (new_learner (record { accepted = pos 1; current = pos 1 })) { phase = phase.Serving }

@@ -17,7 +17,7 @@ use Rattle.learner_sync.specs.declared.act.Act.TheVariants as act
 use Rattle.learner_sync.specs.declared.phase.Phase.{Phase}
 use Rattle.learner_sync.specs.declared.phase.Phase.TheVariants as phase
 
--- the zxid of the first epoch with this counter
+-- The zxid with this counter in epoch 1.
 abbrev pub zxid_at : ℕ → ℤ
 zxid_at counter = pos (0x100000000 + counter)
 
@@ -30,11 +30,10 @@ txn_at counter = record {
 abbrev pub sent_packet : ℤ → ℤ → Option (List ℕ) → QuorumPacket
 sent_packet kind zxid bytes = record { kind = kind; zxid = zxid; bytes = bytes; authinfo = None }
 
--- a packet of that kind
 abbrev pub packet_item : PacketKind → ℤ → Option (List ℕ) → Item
 packet_item kind zxid bytes = item.Packet (sent_packet (code_of kind) zxid bytes)
 
--- one that was led through the first epoch
+-- A learner that was brought through epoch 1.
 abbrev pub learner_in_phase : Phase → ℤ → ℤ → List Txn → List Txn → Learner
 learner_in_phase phase last base log proposals = record {
   phase = phase;
@@ -53,11 +52,11 @@ version_bytes = Some (hex_bytes (codes "00010000"))
 abbrev pub learner_in_hello : Learner
 learner_in_hello = learner_in_phase phase.Hello (pos 0) (pos 0) [] []
 
--- base at 3, and then 4 and 5
+-- The base is at 3, and the log has 4 and 5.
 abbrev pub learner_with_log : Learner
 learner_with_log = learner_in_phase phase.Sync (zxid_at 5) (zxid_at 3) (txn_at 4 ∷ txn_at 5 ∷ []) []
 
--- on an image at 5, whose SNAP came before what the leader did meanwhile
+-- The image is at 5, and its SNAP came before the transactions that the leader made meanwhile.
 abbrev pub learner_on_image : Learner
 learner_on_image = learner_in_phase (phase.ReplayOnImage (pos 0)) (zxid_at 5) (zxid_at 5) [] (txn_at 4 ∷ [])
 
@@ -69,7 +68,7 @@ pub record WorkedRows : Type 0 where
       start_following (new_learner (record { accepted = pos 0; current = pos 0 })) (pos 3)
       ≡ single_act (act.Send (sent_packet (pos 16) (pos 0) (Some (hex_bytes (codes "0000000000000003 00010000")))))
       (record (new_learner (record { accepted = pos 0; current = pos 0 })) { phase = phase.Hello })
-  -- the epoch that was accepted before
+  -- The epoch was accepted before.
   pub same_epoch :
       learn_item learner_in_hello (packet_item kinds.LeaderInfo (zxid_at 0) version_bytes)
       ≡ Ok (single_act (act.Send (sent_packet (pos 18) (pos 0) (Some (hex_bytes (codes "ffffffff")))))
@@ -80,7 +79,7 @@ pub record WorkedRows : Type 0 where
         acts = act.Epochs ∷ act.Send (sent_packet (pos 18) (pos 0) (Some (hex_bytes (codes "00000001")))) ∷ [];
         after = record learner_in_hello { phase = phase.Sync; accepted_epoch = pos 2 };
       })
-  -- the epoch is judged before what the packet carries
+  -- The epoch is judged before the packet's data.
   pub smaller_epoch : learn_item learner_in_hello (packet_item kinds.LeaderInfo (pos 0) None) ≡ Err EpochTooSmall
   pub no_version : learn_item learner_in_hello (packet_item kinds.LeaderInfo (pos 0x200000000) None) ≡ Err Short
   pub too_early : learn_item learner_in_hello (packet_item kinds.Diff (zxid_at 0) None) ≡ Err UnexpectedPacket
@@ -92,7 +91,7 @@ pub record WorkedRows : Type 0 where
       ≡ Ok (single_act (act.Truncate (zxid_at 4))
       (learner_in_phase phase.Replay (zxid_at 4) (zxid_at 3) (txn_at 4 ∷ []) []))
   pub below_base : learn_item learner_with_log (packet_item kinds.Trunc (zxid_at 2) None) ≡ Err CannotTruncate
-  -- a transaction below the base is kept, and the last zxid is the base's
+  -- A transaction below the base is kept, and the last zxid is the base's.
   pub base_is_greater :
       learn_item (learner_in_phase phase.Sync (zxid_at 6) (zxid_at 5) (txn_at 4 ∷ txn_at 6 ∷ []) [])
       (packet_item kinds.Trunc (zxid_at 5) None)
@@ -105,7 +104,7 @@ pub record WorkedRows : Type 0 where
   pub image_is_whole :
       learn_item (record learner_with_log { phase = phase.Image (zxid_at 7) }) (item.Part part.End)
       ≡ Ok (single_act act.LoadImage (learner_in_phase (phase.ReplayOnImage (pos 0)) (zxid_at 7) (zxid_at 7) [] []))
-  -- what may be in the image already doesn't lower the last zxid
+  -- A transaction that may be in the image already doesn't lower the last zxid.
   pub in_the_image :
       learn_item learner_on_image (packet_item kinds.Commit (zxid_at 4) None)
       ≡ Ok (single_act act.Apply (learner_in_phase (phase.ReplayOnImage (zxid_at 4)) (zxid_at 5) (zxid_at 5)
@@ -123,7 +122,7 @@ pub record WorkedRows : Type 0 where
         acts = act.Epochs ∷ act.Send (sent_packet (pos 3) (zxid_at 0) None) ∷ act.ServeFrom ∷ [];
         after = learner_in_phase phase.Serving (pos 0) (pos 0) [] [];
       })
-  -- null comes back with length 0
+  -- Null data is sent back as data of length 0.
   pub ping :
       learn_item (learner_in_phase phase.Serving (zxid_at 2) (pos 0) [] []) (packet_item kinds.Ping (zxid_at 2) None)
       ≡ Ok (single_act (act.Send (sent_packet (pos 5) (zxid_at 2) (Some [])))

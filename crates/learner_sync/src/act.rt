@@ -1,25 +1,25 @@
-//! What is to be done because of what a leader sends.
+//! What a learner has its replica do for an item of the leader's stream.
 
 use quorum_packet::QuorumPacket;
 use snapshot_codec::ImagePart;
 
-/// What is to be done because of what a leader sends.
+/// An act: one thing to do for an item of the leader's stream.
 #[derive(Debug, Drop)]
 pub enum Act {
-    /// The packet goes to the leader.
+    /// Send the packet to the leader.
     Send(QuorumPacket),
-    /// The log's last transaction is applied to the tree.
+    /// Apply the last transaction of the log to the tree.
     Apply,
-    /// The part is loaded, apart from the tree.
+    /// Load the part, apart from the tree.
     LoadPart(ImagePart),
-    /// The image is whole: what was loaded takes the tree's place, and is the base.
+    /// The image is complete: it replaces the tree and is the new base.
     LoadImage,
-    /// The image is whole, and wasn't asked for: what was loaded is dropped.
+    /// The image is complete but wasn't asked for: drop what was loaded.
     DropImage,
-    /// The tree becomes the base with the log applied, of which what was above this zxid is gone.
+    /// Rebuild the tree from the base and the log, which keeps no transaction above this zxid.
     Truncate(i64),
-    /// The epochs are others from now on.
+    /// The epochs have changed.
     Epochs,
-    /// Clients are served from now on.
+    /// Serve clients from now on.
     ServeFrom,
 }

@@ -1,4 +1,6 @@
-//! What a learner sends to its leader, and acts in a list.
+//! The packets that a learner sends to its leader, and lists of acts.
+//!
+//! Laws that go over this: `Acts`, `Each`, `Epochs`, `Logs`, `Sending`.
 
 ghost use Rattle.std.specs.Prelude.{◌≡◌, ◌∷◌, [], IfOk};
 ghost use Rattle.learner_sync.specs.Answers.{observer_info, ack_epoch, epoch_ack, ping_reply};
@@ -13,17 +15,17 @@ use settings::ServerId;
 use std::alloc::Global;
 use values::{Blob, Listed, NoMemory};
 
-// The form of the protocol that a learner speaks.
+// The protocol version that a learner names.
 const PROTOCOL_VERSION: i32 = 0x1_0000;
 
-// A list of one act.
+// A list of one act. Fails only if an allocation is refused.
 pub fn act_list(alloc: Global, act: Act) -> Result<Listed<Act>, NoMemory>
     ensures { IfOk result (λ acts. acts ≡ act ∷ []) }
 {
     Ok(Listed::from_vec(vec![in alloc; act]?))
 }
 
-// A list of no act, which takes no memory.
+// A list of no act. Allocates nothing.
 pub fn empty_act_list(alloc: Global) -> Listed<Act>
     ensures { result ≡ [] }
 {
@@ -31,7 +33,7 @@ pub fn empty_act_list(alloc: Global) -> Listed<Act>
 }
 
 impl Learner {
-    // The packet by which the learner introduces itself.
+    // The OBSERVERINFO packet by which the learner introduces itself.
     #[tactic(auto, unfolding(crate::specs::Records::learner_info))]
     pub(crate) fn introduction(
         &self,
@@ -54,7 +56,7 @@ impl Learner {
         })
     }
 
-    // The answer to the leader's epoch, with the learner's current one or -1.
+    // The ACKEPOCH packet that answers a LEADERINFO, with the last zxid and this epoch: the current one, or -1.
     pub(crate) fn epoch_answer(&self, alloc: Global, epoch: i32) -> Result<QuorumPacket, NoMemory>
         ensures { IfOk result (λ p. p ≡ ack_epoch self.now epoch) }
     {
@@ -68,7 +70,7 @@ impl Learner {
         })
     }
 
-    // The packet that acknowledges the leader's epoch.
+    // The ACK of the leader's epoch.
     pub(crate) fn acknowledgement(&self) -> QuorumPacket
         ensures { result ≡ epoch_ack self.now }
     {
@@ -81,7 +83,7 @@ impl Learner {
     }
 }
 
-// The answer to a PING, which takes no memory.
+// The answer to a PING: the same packet with empty data. Allocates nothing.
 pub fn ping_answer(alloc: Global, packet: QuorumPacket) -> QuorumPacket
     ensures { result ≡ ping_reply packet }
 {

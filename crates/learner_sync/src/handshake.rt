@@ -1,4 +1,6 @@
-//! What a leader says before it brings a learner up to date.
+//! The handshake: what a leader sends before it brings a learner up to date.
+//!
+//! Laws that go over this: `Acts`, `Each`, `Epochs`, `Logs`.
 
 ghost use Rattle.std.specs.Prelude.{◌≡◌};
 ghost use Rattle.quorum_packet.specs.Kinds.{kind_of};
@@ -15,7 +17,7 @@ use quorum_packet::{PacketKind, QuorumPacket};
 use std::alloc::Global;
 use values::{Fault, Listed, ReadError};
 
-// The bytes that a packet carries; null reads as empty.
+// The data of a packet; null reads as empty.
 pub fn carried_bytes(packet: &QuorumPacket) -> &[u8]
     ensures { result.now ≡ carried_bytes packet.now.bytes }
 {
@@ -26,7 +28,7 @@ pub fn carried_bytes(packet: &QuorumPacket) -> &[u8]
 }
 
 impl Learner {
-    // The leader names its epoch; in the bytes stands a version.
+    // Takes the leader's epoch. The data has to hold a protocol version; any version will do.
     fn leader_info(
         &mut self,
         alloc: Global,
@@ -53,7 +55,7 @@ impl Learner {
         Ok(acts)
     }
 
-    /// The leader is to name its epoch.
+    /// Takes a packet while the leader hasn't named its epoch yet.
     pub(crate) fn hello(
         &mut self,
         alloc: Global,
@@ -87,7 +89,7 @@ impl Learner {
         }
     }
 
-    // The transactions above the zxid are forgotten.
+    // Drops the transactions above a zxid from the log.
     fn truncate(&mut self, alloc: Global, zxid: i64) -> Result<Listed<Act>, ReadError>
         ensures { LearnsItem result (truncate_log self.old zxid) self.old self.new }
     {
@@ -103,7 +105,7 @@ impl Learner {
         Ok(acts)
     }
 
-    // An image is to come.
+    // Waits for the image that a SNAP packet of this zxid announces.
     fn await_image(&mut self, alloc: Global, zxid: i64) -> Result<Listed<Act>, ReadError>
         ensures { LearnsItem result (await_image self.old zxid) self.old self.new }
     {
@@ -114,7 +116,7 @@ impl Learner {
         Ok(empty_act_list(alloc))
     }
 
-    /// The leader is to say how it brings the learner up to date.
+    /// Takes a packet that says how the leader brings the learner up to date: DIFF, TRUNC or SNAP.
     pub(crate) fn sync(
         &mut self,
         alloc: Global,

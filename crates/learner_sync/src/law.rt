@@ -6,19 +6,20 @@ ghost use Rattle.learner_sync.specs.Laws.{LogsAreFollowed, TruncatesToFronts, Ep
 ghost use Rattle.learner_sync.specs.Records.{learner_info};
 ghost use Rattle.learner_sync.specs.Rows.{WorkedRows};
 
-/// What is read is spelled so, what is spelled so is read whatever follows, and what is written is a spelling.
+/// The LearnerInfo format is sound: what is read was spelled so, a spelling is read whatever follows it, and what is
+/// written is a spelling.
 pub fn records()
     ensures { IsSound learner_info }
 {}
 
-/// The zxids of the log rise, and the last zxid is the greater of the base's and that of the log's last transaction: at
-/// the start, and whatever is learnt. So what a TRUNC keeps is a front of the log.
+/// The zxids of the log ascend, and the last zxid is the greater of the base's and that of the log's last transaction:
+/// at the start, and whatever is learnt. So a TRUNC keeps a prefix of the log.
 pub fn logs()
     ensures followed { LogsAreFollowed }
     ensures fronts { TruncatesToFronts }
 {}
 
-/// The accepted epoch never falls.
+/// The accepted epoch never decreases.
 pub fn epochs()
     ensures { EpochsDontFall }
 {}
@@ -28,17 +29,17 @@ pub fn serving()
     ensures { ServingRises }
 {}
 
-/// What is to be done tells what becomes of the log and of its base, and what is sent can be written.
+/// The acts of an item account for each change of the log and its base, and every packet to send can be written.
 pub fn acts()
     ensures { ActsAccountForLog }
 {}
 
-/// A whole image does what its parts do, one behind the other.
+/// A whole image has the same acts as its parts in order.
 pub fn images()
     ensures { PartsAreTheImage }
 {}
 
-/// The definitions, computed on steps that were worked out by hand.
+/// The definitions, evaluated on steps that were worked out by hand.
 pub fn worked_rows()
     ensures { WorkedRows }
 {}

@@ -1,4 +1,6 @@
 //! How far a leader was followed.
+//!
+//! Laws that go over this: `Logs`.
 
 ghost use Rattle.std.specs.Prelude.{◌≡◌, IfOk, OnErr, length};
 ghost use Rattle.std.specs.Option.{option_map};
@@ -16,7 +18,7 @@ use std::marker::Model;
 use txn_codec::Txn;
 use values::{Listed, NoMemory};
 
-/// How far a leader was followed, and where the two stand.
+/// How far a leader was followed: phase, epochs, last zxid, log and proposals. A learner has no tree.
 #[derive(Drop)]
 pub struct Learner {
     pub(crate) phase: Phase,
@@ -51,7 +53,7 @@ impl Model for Learner {
 }
 
 impl Learner {
-    /// One that followed no leader yet. It takes no memory.
+    /// A learner that hasn't followed a leader yet. Allocates nothing.
     pub fn new(alloc: Global, epochs: Epochs) -> Learner
         ensures { result ≡ new_learner epochs }
     {
@@ -67,7 +69,7 @@ impl Learner {
         }
     }
 
-    /// One that serves in the first epoch, and has no transaction yet. It takes no memory.
+    /// A learner that serves in epoch 1 and has no transaction yet. Allocates nothing.
     pub fn primed(alloc: Global) -> Learner
         ensures { result ≡ primed_learner }
     {
@@ -83,8 +85,8 @@ impl Learner {
         }
     }
 
-    /// A leader is there: what is to be done, which is to send the packet by which the server introduces itself;
-    /// nothing while there is one already. Refused memory leaves the learner as it was.
+    /// A leader has connected. Returns the act to send the packet by which the observer introduces itself, or no act
+    /// while the learner has a leader already. A refused allocation leaves the learner as it was.
     pub fn start(&mut self, alloc: Global, server_id: ServerId) -> Result<Listed<Act>, NoMemory>
         ensures ok { IfOk result (λ acts. start_following self.old server_id
             ≡ record { acts = acts; after = self.new }) }
@@ -106,7 +108,7 @@ impl Learner {
         }
     }
 
-    /// The leader is gone, or what it sent was refused. The transactions that wait for their commit are forgotten.
+    /// The leader is gone, or what it sent was refused. Proposals without a commit are forgotten.
     pub fn end(&mut self)
         ensures { self.new ≡ stop_following self.old }
     {
@@ -114,7 +116,7 @@ impl Learner {
         self.proposals.clear();
     }
 
-    /// While clients are served, the state is the new base, and the log is empty. Otherwise nothing happens.
+    /// Makes the present state the new base and empties the log, while clients are served; otherwise does nothing.
     pub fn checkpoint(&mut self)
         ensures { self.new ≡ checkpoint_learner self.old }
     {
@@ -134,14 +136,14 @@ impl Learner {
         }
     }
 
-    /// Where the learner and its leader stand.
+    /// The phase between the learner and its leader.
     pub fn phase(&self) -> Phase
         ensures { result ≡ self.now.phase }
     {
         self.phase
     }
 
-    /// The greatest epoch that a leader was accepted with, and the epoch of the last leader that was followed.
+    /// The accepted epoch, and the current epoch, which is that of the last leader that was followed.
     pub fn epochs(&self) -> (i32, i32)
         ensures accepted { result.0 ≡ self.now.accepted_epoch }
         ensures current { result.1 ≡ self.now.current_epoch }
@@ -156,14 +158,14 @@ impl Learner {
         self.last_zxid
     }
 
-    /// The transactions that were applied since the base.
+    /// The transactions that were applied since the base, in order.
     pub fn since_base(&self) -> &[Txn]
         ensures { result.now ≡ self.now.log }
     {
         self.log.as_slice()
     }
 
-    /// All transactions, from the tree before any on; `None` once an image, a TRUNC or a checkpoint took effect.
+    /// All transactions since the empty tree, in order; `None` once an image, a TRUNC or a checkpoint has taken effect.
     pub fn log(&self) -> Option<&[Txn]>
         ensures { option_map (λ txns. txns.now) result ≡ whole_log self.now }
     {

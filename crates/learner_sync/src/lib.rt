@@ -1,18 +1,18 @@
-//! How an observer follows its leader: what each packet, and each part of an image, has it do.
+//! How an observer follows its leader: what it does for each packet, and for each part of an image.
 //!
-//! A `Learner` knows how far a leader was followed: in which phase the two are, the epochs, the last zxid, and the
-//! transactions that were applied since the base. `step` takes the next item of the leader's stream, and answers what
-//! is to be done, in order; or it refuses the item and is as it was. The tree stands elsewhere: an `Apply` means the
-//! log's last transaction, and an image is loaded by its parts.
+//! A `Learner` knows how far a leader was followed: the phase between the two, the epochs, the last zxid, and the
+//! transactions that were applied since the base. `step` takes the next item of the leader's stream and returns the
+//! acts to do, in order; or it refuses the item and is as it was. The tree is kept elsewhere: `Apply` refers to the
+//! log's last transaction, and an image is loaded part by part.
 //!
 //! ```text
-//! send(learner.start(alloc, server_id)?);                        // a leader is there
+//! send(learner.start(alloc, server_id)?);                        // a leader has connected
 //! for act in learner.step(alloc, item)?.into_vec() { .. }
-//! learner.end();                                                 // it is gone, or an item was refused
+//! learner.end();                                                 // it has left, or an item was refused
 //! ```
 //!
-//! `specs/Learn.antt` says what is learnt of an item, `specs/Images.antt` what of a whole image; the laws in `law` say
-//! what holds of every learner that is made and led on by these calls.
+//! `specs/Learn.antt` defines what is learnt of an item, and `specs/Images.antt` what is learnt of a whole image. The
+//! laws in `law` hold for every learner that is made and changed by these calls.
 #![tactic(auto)]
 
 mod act;

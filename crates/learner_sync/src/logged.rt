@@ -1,11 +1,13 @@
-//! Transactions that were applied, in order.
+//! The log: transactions that were applied, in order.
+//!
+//! Laws that go over this: `Acts`, `Each`, `Epochs`, `Logs`, `Zxids`.
 
 ghost use Rattle.std.specs.Prelude.{◌≡◌};
 ghost use Rattle.learner_sync.specs.Learn.{txns_up_to, zxid_after};
 
 use txn_codec::Txn;
 
-/// The zxid of the last transaction; the given one where there is none.
+/// The zxid of the log's last transaction, or the given zxid if the log is empty.
 pub fn zxid_after(zxid: i64, log: &[Txn]) -> i64
     ensures { result ≡ zxid_after zxid log.now }
 {
@@ -15,7 +17,7 @@ pub fn zxid_after(zxid: i64, log: &[Txn]) -> i64
     }
 }
 
-/// Keeps the transactions up to a zxid.
+/// Removes the transactions above a zxid.
 pub fn keep_up_to(log: &mut Vec<Txn>, zxid: i64)
     ensures { log.new.items ≡ txns_up_to zxid log.old.items }
 {

@@ -1,20 +1,20 @@
-//! Where a learner and its leader stand.
+//! The phases between a learner and its leader.
 
-/// Where a learner and its leader stand.
+/// The phase between a learner and its leader.
 #[derive(Clone, Copy, Debug, PartialEq, Eq)]
 pub enum Phase {
     /// There is no leader.
     Down,
-    /// The leader is to name its epoch.
+    /// The leader's epoch is awaited.
     Hello,
-    /// The leader is to say how it brings the learner up to date.
+    /// A DIFF, TRUNC or SNAP is awaited: the leader says how it brings the learner up to date.
     Sync,
-    /// The image behind a SNAP packet of this zxid is to come.
+    /// An image is awaited, which a SNAP packet of this zxid has announced.
     Image(i64),
-    /// The image was loaded, and what the leader did while it wrote it is to come. The zxid is that of the transaction
-    /// that was applied last since the image, or 0.
+    /// The image was loaded, and the transactions that the leader made while it wrote the image are awaited. The zxid
+    /// is that of the last transaction applied since the image, or 0.
     ReplayOnImage(i64),
-    /// The transactions that the learner lacks are to come.
+    /// The transactions that the learner lacks are awaited.
     Replay,
     /// The learner is up to date, and clients are served.
     Serving,

@@ -1,4 +1,6 @@
 //! The record by which a learner introduces itself.
+//!
+//! Laws that go over this: `Records`, `Sending`.
 
 ghost use Rattle.learner_sync.specs.Records.{learner_info};
 
@@ -6,11 +8,11 @@ use jute::{ReadRecord, Reader, WriteRecord, put_int, put_long};
 use std::alloc::Global;
 use values::{NoMemory, ReadError};
 
-/// The LearnerInfo of zookeeper.jute: who a learner is.
+/// The LearnerInfo record of zookeeper.jute: the id and the protocol version of a learner.
 #[derive(Clone, Copy, Debug, PartialEq, Eq)]
 pub struct LearnerInfo {
     pub server_id: i64,
-    /// Which form of the protocol it speaks.
+    /// The version of the protocol that the learner speaks.
     pub protocol_version: i32,
 }
 

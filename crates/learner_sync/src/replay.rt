@@ -1,4 +1,6 @@
-//! What a leader sends to bring a learner up to date, and from then on.
+//! The packets that bring a learner up to date, and those that come while clients are served.
+//!
+//! Laws that go over this: `Acts`, `Each`, `Epochs`, `Logs`, `Serving`.
 
 ghost use Rattle.std.specs.Prelude.{◌≡◌, int_lt, Ok};
 ghost use Rattle.quorum_packet.specs.Kinds.{kind_of};
@@ -15,7 +17,7 @@ use txn_codec::{TxnHeader, decode_txn};
 use values::{Fault, Listed, ReadError};
 
 impl Learner {
-    // Whether a transaction may come next.
+    // Whether a transaction with this header is in order.
     fn may_apply(&self, header: &TxnHeader) -> bool
         ensures { result ≡ int_lt (zxid_floor self.now.phase self.now.last_zxid) header.now.zxid }
     {
@@ -31,7 +33,7 @@ impl Learner {
         floor < header.zxid
     }
 
-    // A transaction with this header was put into the log.
+    // Moves the last zxid and the phase to a transaction that was put into the log.
     fn note_applied(&mut self, header: TxnHeader)
         ensures { self.new ≡ with_applied_zxid self.old header.zxid }
     {
@@ -41,7 +43,7 @@ impl Learner {
         self.last_zxid = self.last_zxid.max(header.zxid);
     }
 
-    // A transaction that is proposed and committed in one.
+    // Applies a transaction that is proposed and committed in one packet.
     fn inform(&mut self, alloc: Global, bytes: &[u8]) -> Result<Listed<Act>, ReadError>
         ensures { LearnsItem result (learn_inform self.old bytes.now) self.old self.new }
     {
@@ -56,7 +58,7 @@ impl Learner {
         Ok(acts)
     }
 
-    // A transaction that waits for its commit.
+    // Keeps a transaction until its commit.
     fn propose(&mut self, alloc: Global, bytes: &[u8]) -> Result<Listed<Act>, ReadError>
         ensures { LearnsItem result (learn_proposal self.old bytes.now) self.old self.new }
     {
@@ -65,7 +67,7 @@ impl Learner {
         Ok(empty_act_list(alloc))
     }
 
-    // The oldest proposal is committed.
+    // Applies the oldest proposal, which has to have this zxid.
     fn commit(&mut self, alloc: Global, zxid: i64) -> Result<Listed<Act>, ReadError>
         ensures { LearnsItem result (learn_commit self.old zxid) self.old self.new }
     {
@@ -89,7 +91,7 @@ impl Learner {
         Ok(acts)
     }
 
-    // The leader's epoch is current.
+    // Takes the leader's epoch as the current one.
     fn new_leader(&mut self, alloc: Global) -> Result<Listed<Act>, ReadError>
         ensures { LearnsItem result (Ok (new_leader self.old)) self.old self.new }
     {
@@ -98,7 +100,7 @@ impl Learner {
         Ok(Listed::from_vec(acts))
     }
 
-    // The learner is up to date.
+    // The learner is up to date: clients are served, and open proposals are forgotten.
     fn up_to_date(&mut self, alloc: Global) -> Result<Listed<Act>, ReadError>
         ensures { LearnsItem result (Ok (up_to_date self.old)) self.old self.new }
     {
@@ -113,7 +115,7 @@ impl Learner {
         Ok(Listed::from_vec(acts))
     }
 
-    /// What the learner lacks is to come.
+    /// Takes a packet while the learner isn't up to date.
     pub(crate) fn replay(
         &mut self,
         alloc: Global,
@@ -145,7 +147,7 @@ impl Learner {
         }
     }
 
-    /// Clients are served.
+    /// Takes a packet while clients are served.
     pub(crate) fn serve(
         &mut self,
         alloc: Global,

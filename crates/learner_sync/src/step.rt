@@ -1,4 +1,6 @@
 //! What is learnt of an item of the leader's stream.
+//!
+//! Laws that go over this: `Acts`, `Each`, `Epochs`, `Images`, `Logs`, `Serving`.
 
 ghost use Rattle.std.specs.Prelude.{◌≡◌, IfOk, Ok};
 ghost use Rattle.learner_sync.specs.Learn.{LearnsItem, packet_in_phase, part_in_phase, load_part, acts_to_drop, learn_item};
@@ -12,7 +14,7 @@ use snapshot_codec::ImagePart;
 use std::alloc::Global;
 use values::{Fault, Listed, NoMemory, ReadError};
 
-// A part of an image that wasn't asked for.
+// Loads a part of an image that wasn't asked for, only to find its faults.
 fn load_to_drop(alloc: Global, part: ImagePart) -> Result<Listed<Act>, NoMemory>
     ensures { IfOk result (λ acts. acts ≡ acts_to_drop part) }
 {
@@ -23,7 +25,7 @@ fn load_to_drop(alloc: Global, part: ImagePart) -> Result<Listed<Act>, NoMemory>
 }
 
 impl Learner {
-    // A part of the image that the SNAP packet of this zxid announced.
+    // Loads a part of the image that a SNAP packet of this zxid announced.
     fn load(&mut self, alloc: Global, part: ImagePart, zxid: i64) -> Result<Listed<Act>, ReadError>
         ensures { LearnsItem result (Ok (load_part part self.old zxid)) self.old self.new }
     {
@@ -64,9 +66,11 @@ impl Learner {
         }
     }
 
-    /// The next item of the leader's stream: what is to be done, in order. The faults are those of the learner's rules:
-    /// `UnexpectedPacket`, `EpochTooSmall`, `CannotTruncate`, `OutOfOrder` and `CommitMismatch`, and those of what a
-    /// packet carries. A refused item, or refused memory, leaves the learner as it was.
+    /// Takes the next item of the leader's stream and returns the acts to do, in order.
+    ///
+    /// The faults are those of the learner's rules, `UnexpectedPacket`, `EpochTooSmall`, `CannotTruncate`, `OutOfOrder`
+    /// and `CommitMismatch`, and those of the data that a packet carries. A refused item or a refused allocation leaves
+    /// the learner as it was.
     pub fn step(&mut self, alloc: Global, item: Item) -> Result<Listed<Act>, ReadError>
         ensures { LearnsItem result (learn_item self.old item) self.old self.new }
     {

@@ -1,19 +1,21 @@
-//! The numbers of transactions, and the epochs in them.
+//! Zxids and the epochs in them.
+//!
+//! Laws that go over this: `Acts`, `Each`, `Epochs`, `Logs`.
 
 ghost use Rattle.std.specs.Prelude.{◌≡◌};
 ghost use Rattle.learner_sync.specs.Zxids.{epoch_of, first_zxid};
 
-// One more than the greatest counter of a zxid.
+// The number of zxids in an epoch: the counter has 32 bits.
 const COUNTERS: i64 = 4_294_967_296;
 
-/// The epoch of a zxid: its upper 32 bits.
+/// The epoch of a zxid: its upper 32 bits, signed.
 pub fn epoch_of(zxid: i64) -> i32
     ensures { result ≡ epoch_of zxid }
 {
     zxid.div_euclid(COUNTERS) as i32
 }
 
-/// The zxid with which an epoch begins: its counter is 0.
+/// The zxid at which an epoch begins: its counter is 0.
 pub fn first_zxid(epoch: i32) -> i64
     ensures { result ≡ first_zxid epoch }
 {

@@ -1,4 +1,4 @@
-//! A learner and its leader greet each other.
+//! The handshake of a learner and its leader.
 
 use crate::steps::{Seen, at, come, does, follow, greeted, packet, sends, version};
 use jute::{ReadRecord, Reader, WriteRecord};
@@ -9,7 +9,7 @@ use std::alloc::Global;
 use std::test::Fail;
 use values::{Blob, Fault};
 
-// One of server 3 that is at the first epoch, and waits for the leader's.
+// A learner of server 3 in epoch 1 that waits for the leader's epoch.
 fn waiting(alloc: Global) -> Result<Learner, Fail> {
     let Some(epochs) = Epochs::new(1, 1) else {
         return Err("no epochs".into());
@@ -29,7 +29,7 @@ fn introduction(rt: HostRuntime) -> Result<(), Fail> {
     let info: &[u8] = b"\0\0\0\0\0\0\0\x03\0\x01\0\0";
     assert!(rt; sends(&acts, 1, 16, 0, Some(info)));
     assert!(rt; learner.phase() == Phase::Hello);
-    // While there is a leader another one is passed over.
+    // While there is a leader, another one is ignored.
     assert!(rt; come(rt.alloc(), &mut learner, server_id)?.is_empty());
     learner.end();
     assert!(rt; learner.phase() == Phase::Down);

@@ -1,4 +1,4 @@
-//! Images, and what comes behind them.
+//! Images, and the packets after them.
 
 use crate::steps::{Seen, at, counters, does, follow, greeted, packet, with_txn};
 use learner_sync::Learner;
@@ -19,7 +19,7 @@ fn end() -> Item {
     Item::Part(ImagePart::End)
 }
 
-// One that has loaded an image at 5.
+// A learner that has loaded an image at 5.
 fn on_image(alloc: Global) -> Result<Learner, Fail> {
     let mut learner = greeted(alloc)?;
     follow(alloc, &mut learner, packet(PacketKind::Snap, at(5), None))?;

@@ -1,4 +1,5 @@
-//! Tests of `learner_sync`, over its public calls. They stand apart, since a crate with tests is proved twice.
+//! Tests of `learner_sync`, over its public calls. They are a crate of their own, since a crate with tests is proved
+//! twice.
 #![tactic(auto)]
 
 #[cfg(test)]

@@ -1,4 +1,4 @@
-//! What a leader sends to bring a learner up to date, and from then on.
+//! The packets that bring a learner up to date, and those that come afterwards.
 
 use crate::steps::{
     Seen, at, come, counters, does, follow, greeted, packet, sends, version, with_txn,
@@ -10,7 +10,7 @@ use std::alloc::Global;
 use std::test::Fail;
 use values::Fault;
 
-// One that serves, with a base at 3, and 4 and 5 since.
+// A learner that serves, with a base at 3, and 4 and 5 since.
 fn with_base(alloc: Global) -> Result<Learner, Fail> {
     let mut learner = Learner::primed(alloc);
     follow(
@@ -32,7 +32,7 @@ fn with_base(alloc: Global) -> Result<Learner, Fail> {
     Ok(learner)
 }
 
-// The same, where another leader of its epoch has greeted it.
+// The same, after the handshake with another leader of its epoch.
 fn greeted_again(alloc: Global) -> Result<Learner, Fail> {
     let mut learner = with_base(alloc)?;
     learner.end();
@@ -42,7 +42,7 @@ fn greeted_again(alloc: Global) -> Result<Learner, Fail> {
     Ok(learner)
 }
 
-// One for which 1 and 2 are proposed.
+// A learner with the proposals 1 and 2.
 fn proposed(alloc: Global) -> Result<Learner, Fail> {
     let mut learner = greeted(alloc)?;
     follow(alloc, &mut learner, packet(PacketKind::Diff, 0, None))?;

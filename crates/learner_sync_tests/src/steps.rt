@@ -1,4 +1,4 @@
-//! Items of a leader, and what a learner does with them.
+//! Items of a leader, and what a learner does for them.
 
 use jute::{put_int, put_long};
 use learner_sync::{Act, Learner};
@@ -7,12 +7,12 @@ use settings::{Epochs, ServerId};
 use std::alloc::Global;
 use values::{Blob, Fault, Listed, NoMemory, ReadError};
 
-/// The zxid of the first epoch with this counter.
+/// The zxid with this counter in epoch 1.
 pub fn at(counter: u32) -> i64 {
     0x1_0000_0000 + i64::from(counter)
 }
 
-/// A packet for nobody's request.
+/// A packet without authinfo.
 pub fn packet(kind: PacketKind, zxid: i64, bytes: Option<Blob>) -> Item {
     Item::Packet(QuorumPacket {
         kind: kind.code(),
@@ -33,7 +33,7 @@ pub fn txn_bytes(alloc: Global, zxid: i64) -> Result<Blob, NoMemory> {
     Ok(Blob::from_vec(bytes))
 }
 
-/// A packet that carries a transaction, whose zxid it has.
+/// A packet with a transaction, and the transaction's zxid.
 pub fn with_txn(alloc: Global, kind: PacketKind, zxid: i64) -> Result<Item, NoMemory> {
     Ok(packet(kind, zxid, Some(txn_bytes(alloc, zxid)?)))
 }
@@ -51,7 +51,7 @@ fn is_packet(act: &Act, kind: i32, zxid: i64, bytes: Option<&[u8]>) -> bool {
     are_bytes && packet.kind == kind && packet.zxid == zxid && packet.authinfo.is_none()
 }
 
-/// Whether these are so many acts, and one sends a packet with these fields and no ids.
+/// Whether there are this many acts, and one sends a packet with these fields and no ids.
 pub fn sends(acts: &Listed<Act>, count: usize, kind: i32, zxid: i64, bytes: Option<&[u8]>) -> bool {
     for act in acts.as_slice() {
         if is_packet(act, kind, zxid, bytes) {
@@ -61,12 +61,12 @@ pub fn sends(acts: &Listed<Act>, count: usize, kind: i32, zxid: i64, bytes: Opti
     false
 }
 
-/// What is to be done because of the item. It says nothing of the learner, so that a test is proved at once.
+/// The acts of the item. It has no contract, so that a test's proof is short.
 pub fn follow(alloc: Global, learner: &mut Learner, item: Item) -> Result<Listed<Act>, ReadError> {
     learner.step(alloc, item)
 }
 
-/// What is to be done because a leader is there.
+/// The acts of a leader that connects.
 pub fn come(
     alloc: Global,
     learner: &mut Learner,
@@ -75,7 +75,7 @@ pub fn come(
     learner.start(alloc, server_id)
 }
 
-/// What an item does: a letter for each act, or the fault for which it is refused.
+/// The result of an item: a letter for each act, or the fault for which it is refused.
 #[derive(Clone, Copy, PartialEq)]
 pub enum Seen {
     Nothing,
@@ -89,7 +89,7 @@ pub enum Seen {
     Refused(Fault),
 }
 
-// What the learner does with the item, as it is seen.
+// The learner's result for the item.
 fn see(alloc: Global, learner: &mut Learner, item: Item) -> Result<Seen, NoMemory> {
     let acts = match learner.step(alloc, item) {
         Ok(acts) => acts,
@@ -117,12 +117,12 @@ pub fn does(
     Ok(see(alloc, learner, item)? == wanted)
 }
 
-/// A version of the protocol, as a leader sends it.
+/// A protocol version, as a leader sends it.
 pub fn version(alloc: Global) -> Result<Option<Blob>, NoMemory> {
     Ok(Some(Blob::new(alloc, b"\0\x01\0\0")?))
 }
 
-/// A learner that was greeted by a leader of the first epoch.
+/// A learner after the handshake with a leader of epoch 1.
 pub fn greeted(alloc: Global) -> Result<Learner, ReadError> {
     let mut learner = Learner::new(alloc, Epochs::default());
     come(alloc, &mut learner, ServerId::default())?;
@@ -131,7 +131,7 @@ pub fn greeted(alloc: Global) -> Result<Learner, ReadError> {
     Ok(learner)
 }
 
-/// The zxids of the transactions since the base, joined: each counter is a digit.
+/// The zxids of the transactions since the base as one number: each counter is a digit.
 pub fn counters(learner: &Learner) -> i64 {
     let mut digits = 0i64;
     for txn in learner.since_base() {

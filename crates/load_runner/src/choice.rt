@@ -1,8 +1,8 @@
-//! Numbers in an order that only looks like chance.
+//! Numbers in an order that looks random.
 
 ghost use Rattle.std.specs.Prelude.{◌<◌, ◌≤◌};
 
-/// A fixed sequence of numbers (a linear congruence of 64 bits).
+/// A fixed sequence of numbers (a linear congruential generator of 64 bits).
 #[derive(Debug, Drop)]
 pub struct Choice {
     state: u64,
@@ -14,7 +14,7 @@ impl Choice {
         Choice { state: 1 }
     }
 
-    /// The next number, which is below the one given.
+    /// The next number; it is below `end`.
     pub fn below(&mut self, end: u32) -> u32
         requires { 1 ≤ end }
         ensures { result < end }

@@ -1,4 +1,4 @@
-//! A leader that comes in place of another, and brings the observer up to date.
+//! A leader that replaces another one, and brings the observer up to date.
 
 ghost use Rattle.std.specs.Prelude.{◌≤◌};
 
@@ -10,11 +10,11 @@ use quorum_packet::PacketKind;
 use std::alloc::Global;
 use values::Bytes;
 
-/// The zxid before the first transaction of the epoch of those who come.
+/// The zxid before the first transaction of the new leaders' epoch.
 pub const NEXT_EPOCH: i64 = 0x2_0000_0000;
 
 impl Load {
-    /// The leader's bytes come in pieces.
+    /// Feeds the leader's bytes in pieces.
     pub fn follow_in_pieces(&mut self, alloc: Global, bytes: &[u8], piece: usize) -> Result<()>
         requires { 1 ≤ piece }
     {
@@ -24,14 +24,15 @@ impl Load {
         Ok(())
     }
 
-    // The leader says a packet that carries nothing.
+    // The leader sends a packet without data.
     fn follow(&mut self, alloc: Global, kind: PacketKind, zxid: i64) -> Result<()> {
         let mut packet = Vec::new(alloc);
         write_bare(kind, zxid, &mut packet)?;
         self.happen(alloc, &[Event::LeaderBytes(Bytes::new(packet.as_slice()))])
     }
 
-    /// The leader goes, another one comes and names its epoch, and then what brings the observer up to date.
+    /// The leader leaves, another one connects and names its epoch, and sends the packet that brings the observer up to
+    /// date.
     pub fn meet(&mut self, alloc: Global, kind: PacketKind, zxid: i64) -> Result<()> {
         let mut naming = Vec::new(alloc);
         write_leader_info(alloc, NEXT_EPOCH, &mut naming)?;

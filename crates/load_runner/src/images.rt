@@ -11,23 +11,23 @@ use observer_core::Event;
 use quorum_packet::PacketKind;
 use std::alloc::Global;
 
-/// An image, and what comes behind it.
+/// An image, and the checkpoints after it.
 #[derive(Clone, Copy, Debug)]
 pub struct Images {
-    /// How many nodes stand below the root.
+    /// The number of nodes below the root.
     pub parents: u32,
-    /// How many nodes stand below each of these.
+    /// The number of nodes below each of these.
     pub children: u32,
-    /// How many bytes of data each of them has.
+    /// The length of the data of each of these, in bytes.
     pub content: u32,
-    /// In pieces of how many bytes the image comes.
+    /// The length of the pieces in which the image comes, in bytes.
     pub piece: u32,
-    /// How many checkpoints are taken then.
+    /// The number of checkpoints taken afterwards.
     pub checkpoints: u32,
 }
 
 impl Load {
-    // What was written of the image comes, once it fills a piece.
+    // Sends the bytes written of the image, once they fill a piece.
     fn send_piece(&mut self, alloc: Global, piece: usize, written: &mut Vec<u8>) -> Result<()>
         requires { 1 ≤ piece }
     {
@@ -38,7 +38,7 @@ impl Load {
         Ok(())
     }
 
-    // A node below the root comes, and the nodes below it.
+    // Sends a node below the root, and the nodes below it.
     fn send_below(
         &mut self,
         alloc: Global,
@@ -59,7 +59,7 @@ impl Load {
         Ok(())
     }
 
-    // An image comes, without sessions, in which everyone may change every node.
+    // Sends an image without sessions, in which every client may change every node.
     fn send_image(&mut self, alloc: Global, sizes: &Images) -> Result<()>
         requires { 1 ≤ sizes.now.piece }
     {
@@ -76,7 +76,7 @@ impl Load {
         self.follow_in_pieces(alloc, written.as_slice(), sizes.piece as usize)
     }
 
-    /// A leader comes and brings an image; then checkpoints are taken.
+    /// A leader connects and sends an image; then checkpoints are taken.
     pub fn load_image(&mut self, alloc: Global, sizes: &Images) -> Result<()> {
         ensure!(sizes.piece > 0, "a piece has no bytes");
         self.meet(alloc, PacketKind::Snap, NEXT_EPOCH)?;

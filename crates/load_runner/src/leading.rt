@@ -1,4 +1,4 @@
-//! The bytes by which a leader takes up an observer, and those of an image.
+//! The bytes with which a leader accepts an observer, and those of an image.
 
 ghost use Rattle.std.specs.Prelude.{◌≤◌, length, IfOk};
 
@@ -10,13 +10,13 @@ use std::alloc::Global;
 use txn_codec::Path;
 use values::Blob;
 
-// The protocol version that a leader names with its epoch.
+// The protocol version that a leader sends with its epoch.
 const PROTOCOL_VERSION: &[u8] = &[0, 1, 0, 0];
 
-// The key of the list that permits everything to everybody.
+// The key of the list that grants every client everything.
 const OPEN_KEY: i64 = -1;
 
-// The most bytes of a node's data.
+// The longest data of a node, in bytes.
 const DATA_LIMIT: usize = 4_194_304;
 
 /// The path of a node of an image, below the root.
@@ -27,7 +27,7 @@ pub fn image_parent(alloc: Global, parent: u32) -> Result<Path>
     short_path(alloc, text.as_str())
 }
 
-/// The path of a node below such a node: 20 bytes, where the numbers are below 100,000,000.
+/// The path of a node below such a node: 20 bytes, if the numbers are below 100,000,000.
 pub fn image_child(alloc: Global, parent: u32, child: u32) -> Result<Path>
     ensures { IfOk result (λ p. length p ≤ PATH_LIMIT) }
 {
@@ -35,7 +35,7 @@ pub fn image_child(alloc: Global, parent: u32, child: u32) -> Result<Path>
     short_path(alloc, text.as_str())
 }
 
-/// Writes a packet that carries nothing. An error may leave a front of it.
+/// Appends a packet without data. An error may leave a prefix of it appended.
 #[tactic(auto, unfolding(quorum_packet::specs::Packet::packet_format))]
 pub fn write_bare(kind: PacketKind, zxid: i64, out: &mut Vec<u8>) -> Result<()> {
     let bare = QuorumPacket {
@@ -47,7 +47,7 @@ pub fn write_bare(kind: PacketKind, zxid: i64, out: &mut Vec<u8>) -> Result<()> 
     Ok(write_packet(&bare, out)?)
 }
 
-/// Writes the packet by which a leader names its epoch. An error may leave a front of it.
+/// Appends the packet by which a leader names its epoch. An error may leave a prefix of it appended.
 #[tactic(auto, unfolding(quorum_packet::specs::Packet::packet_format))]
 pub fn write_leader_info(alloc: Global, zxid: i64, out: &mut Vec<u8>) -> Result<()> {
     let naming = QuorumPacket {
@@ -59,7 +59,7 @@ pub fn write_leader_info(alloc: Global, zxid: i64, out: &mut Vec<u8>) -> Result<
     Ok(write_packet(&naming, out)?)
 }
 
-/// Writes a node of an image, which everyone may change. An error may leave a front of it.
+/// Appends a node of an image, which every client may change. An error may leave a prefix of it appended.
 #[tactic(auto, unfolding(jute::specs::Records::stat_persisted))]
 pub fn write_node(path: &str, content: &[u8], out: &mut Vec<u8>) -> Result<()>
     requires { length path.now ≤ PATH_LIMIT }
@@ -82,7 +82,7 @@ pub fn write_node(path: &str, content: &[u8], out: &mut Vec<u8>) -> Result<()>
     Ok(stat.write(out)?)
 }
 
-/// Writes the end of an image. An error may leave a front of it.
+/// Appends the end of an image. An error may leave a prefix of it appended.
 pub fn write_end(out: &mut Vec<u8>) -> Result<()> {
     put_string(out, "/")?;
     Ok(put_string(out, "BenWasHere")?)

@@ -6,17 +6,17 @@ use anyhow::Result;
 use client_records::RequestKind;
 use std::alloc::Global;
 
-/// How much is to be listed.
+/// The sizes of the load.
 #[derive(Clone, Copy, Debug)]
 pub struct Listing {
-    /// How many nodes are made below one parent.
+    /// The number of nodes created below one parent.
     pub children: u32,
-    /// How often a client asks for their names.
+    /// How often a client lists them.
     pub times: u32,
 }
 
 impl Load {
-    /// Makes the children of one node, and then lists them.
+    /// Creates the children of one node, and then lists them.
     pub fn list(&mut self, alloc: Global, sizes: &Listing) -> Result<()> {
         self.make_tree(alloc, 1, sizes.children, CONTENT)?;
         let path = parent_path(alloc, 0)?;

@@ -1,4 +1,4 @@
-//! A leader and clients that know what they say, and the engine that they say it to.
+//! A leader and clients that send made-up messages, and the engine that gets them.
 
 ghost use Rattle.txn_codec.specs.Spelling.{body_format};
 
@@ -9,34 +9,34 @@ use std::alloc::Global;
 use txn_codec::{Body, Txn, TxnHeader};
 use values::{Blob, Bytes};
 
-// The session that asked for all transactions.
+// The session of all transactions.
 const SESSION: i64 = 7;
 
-/// The connection that a primed engine has.
+/// The connection of a primed engine.
 pub const CONNECTION: u64 = 1;
 
 /// The zxid before the first transaction of epoch 1.
 pub const EPOCH: i64 = 0x1_0000_0000;
 
-/// The engine, and what was said to it.
+/// The engine, and counts of what it was sent.
 #[derive(Drop)]
 pub struct Load {
     pub engine: Engine,
-    /// How many transactions the leader told of.
+    /// The number of transactions sent by the leader.
     pub transactions: u64,
-    /// How many requests were answered.
+    /// The number of requests answered.
     pub replies: u64,
-    /// How many events clients were told of.
+    /// The number of events sent to clients.
     pub events: u64,
-    // The zxid of the last one.
+    // The zxid of the last transaction.
     zxid: i64,
-    // The bytes of the message that is said next.
+    // The bytes of the next message.
     message: Vec<u8>,
-    // What the engine put out, until it is counted.
+    // The engine's outputs, until they are counted.
     outputs: Vec<Output>,
 }
 
-// A count of what was said or came back, with so many more.
+// The sum of two counts.
 fn add_count(count: u64, more: u64) -> Result<u64> {
     count.checked_add(more).context("no count is left")
 }
@@ -58,7 +58,7 @@ impl Load {
         })
     }
 
-    // Takes away what went out, and answers how much it was. All of it goes to clients.
+    // Removes the outputs, and returns their number. All of them go to clients.
     fn take_sent(&mut self) -> Result<u64> {
         ensure!(
             self.outputs
@@ -71,7 +71,7 @@ impl Load {
         Ok(sent)
     }
 
-    /// The leader tells of a transaction, and those who watch what it changes are told.
+    /// The leader sends a transaction, and the watchers of its changes get events.
     pub fn tell(&mut self, alloc: Global, body: Body) -> Result<()>
         requires { body_format.Writable body }
     {
@@ -93,7 +93,7 @@ impl Load {
         Ok(())
     }
 
-    /// A connection's bytes come, and are answered as far as they are whole.
+    /// Feeds a connection's bytes, and counts the answers to those that are whole frames.
     pub fn feed_client(&mut self, alloc: Global, connection: u64, bytes: &[u8]) -> Result<()> {
         let events = [Event::ClientBytes(connection, Bytes::new(bytes))];
         self.engine.feed_inline(alloc, &events, &mut self.outputs)?;
@@ -102,7 +102,7 @@ impl Load {
         Ok(())
     }
 
-    /// What comes of the leader, but for transactions: packets may go to it, and clients are closed with it.
+    /// Feeds events of the leader other than transactions. The outputs may be packets to it, and closed clients.
     pub fn happen(&mut self, alloc: Global, events: &[Event<'_>]) -> Result<()> {
         self.engine.feed_inline(alloc, events, &mut self.outputs)?;
         ensure!(
@@ -116,7 +116,7 @@ impl Load {
         Ok(())
     }
 
-    /// A client connects, and is given a session.
+    /// A client connects, and gets a session.
     pub fn open(&mut self, alloc: Global, connection: u64) -> Result<()> {
         let events = [Event::ClientUp(connection)];
         self.engine.feed_inline(alloc, &events, &mut self.outputs)?;
@@ -125,7 +125,7 @@ impl Load {
         self.feed_client(alloc, connection, frame.as_slice())
     }
 
-    // Makes the nodes below a parent.
+    // Creates the nodes below a parent.
     fn make_children(
         &mut self,
         alloc: Global,
@@ -141,7 +141,7 @@ impl Load {
         Ok(())
     }
 
-    /// Makes nodes below the root.
+    /// Creates nodes below the root.
     pub fn make_parents(&mut self, alloc: Global, parents: u32, content: &[u8]) -> Result<()> {
         for parent in 0..parents {
             let path = parent_path(alloc, parent)?;
@@ -151,7 +151,7 @@ impl Load {
         Ok(())
     }
 
-    /// Makes nodes below the root, and nodes below each of these, all with the same data.
+    /// Creates nodes below the root, and nodes below each of these, all with the same data.
     pub fn make_tree(
         &mut self,
         alloc: Global,

@@ -1,4 +1,4 @@
-//! Logs whose end a leader undoes.
+//! Logs of which a leader truncates the end.
 
 use crate::load::{EPOCH, Load};
 use crate::messages::CONTENT;
@@ -6,21 +6,21 @@ use anyhow::Result;
 use quorum_packet::PacketKind;
 use std::alloc::Global;
 
-/// How much is told, and what is left of it.
+/// The sizes of the load.
 #[derive(Clone, Copy, Debug)]
 pub struct Logs {
-    /// How many nodes are made below the root.
+    /// The number of nodes created below the root.
     pub parents: u32,
-    /// How many nodes are made below each of these.
+    /// The number of nodes created below each of these.
     pub children: u32,
-    /// How many of these transactions are left.
+    /// The number of these transactions that are kept.
     pub kept: u32,
-    /// How many leaders come who undo the others.
+    /// The number of leaders that truncate the others.
     pub times: u32,
 }
 
 impl Load {
-    /// Makes the nodes; then leaders come, each of whom undoes the transactions behind the first ones.
+    /// Creates the nodes; then leaders connect, each of which truncates the transactions after the first ones.
     pub fn undo(&mut self, alloc: Global, sizes: &Logs) -> Result<()> {
         self.make_tree(alloc, sizes.parents, sizes.children, CONTENT)?;
         let last = EPOCH + i64::from(sizes.kept);

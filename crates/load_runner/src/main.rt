@@ -1,30 +1,27 @@
-//! Feeds the engine with transactions and requests that are made in memory, and prints counts alone,
-//! so that it can be timed.
+//! Feeds the engine with transactions and requests that are made in memory, and prints only counts, so that it can be
+//! timed.
 //!
-//! `load_runner PARENTS CHILDREN SETS EVERY`: the leader tells of PARENTS creates below the root and
-//! of CHILDREN below each of these, then of SETS setDatas of children; a client reads a child at each
-//! EVERY of them, and never where EVERY is 0.
+//! `load_runner PARENTS CHILDREN SETS EVERY`: the leader sends PARENTS creates below the root and CHILDREN below each
+//! of these, then SETS setDatas of children; a client reads a child at each EVERY of them, and never if EVERY is 0.
 //!
-//! `load_runner reads PARENTS CHILDREN READS TIMES PIECE`: after such creates, of 100 bytes of data
-//! each, a client writes READS getDatas of children, and says all of them TIMES times, in pieces of
-//! PIECE bytes.
+//! `load_runner reads PARENTS CHILDREN READS TIMES PIECE`: after such creates, of 100 bytes of data each, a client
+//! makes READS getDatas of children, and sends all of them TIMES times, in pieces of PIECE bytes.
 //!
-//! `load_runner watches CONNECTIONS WATCHES NODES SETS OTHERS`: OTHERS watches are left, and
-//! CONNECTIONS connections opened, each of which leaves WATCHES watches; then each of these
-//! connections watches NODES nodes, all the same ones, and the leader sets the first SETS of them.
+//! `load_runner watches CONNECTIONS WATCHES NODES SETS OTHERS`: OTHERS watches are left, and CONNECTIONS connections
+//! opened, each of which leaves WATCHES watches; then each of these connections watches the same NODES nodes, and the
+//! leader sets the first SETS of them.
 //!
-//! `load_runner lists CHILDREN TIMES`: after creates of CHILDREN nodes below one, a client lists these
-//! TIMES times.
+//! `load_runner lists CHILDREN TIMES`: after creates of CHILDREN nodes below one, a client lists these TIMES times.
 //!
-//! `load_runner pings CONNECTIONS`: CONNECTIONS connections are opened, and on each a ping comes that
-//! is as long as a frame may be, in two pieces.
+//! `load_runner pings CONNECTIONS`: CONNECTIONS connections are opened, and each sends a ping of the greatest frame
+//! length, in two pieces.
 //!
-//! `load_runner images PARENTS CHILDREN CONTENT PIECE CHECKPOINTS`: a leader comes and brings an image of
-//! PARENTS nodes below the root, and CHILDREN below each of these, each with CONTENT bytes of data, in
-//! pieces of PIECE bytes; then CHECKPOINTS checkpoints are taken.
+//! `load_runner images PARENTS CHILDREN CONTENT PIECE CHECKPOINTS`: a leader connects and sends an image of PARENTS
+//! nodes below the root, and CHILDREN below each of these, each with CONTENT bytes of data, in pieces of PIECE bytes;
+//! then CHECKPOINTS checkpoints are taken.
 //!
-//! `load_runner logs PARENTS CHILDREN KEPT TIMES`: after creates of such nodes TIMES leaders come, each of
-//! whom undoes all of these transactions but the first KEPT.
+//! `load_runner logs PARENTS CHILDREN KEPT TIMES`: after creates of such nodes TIMES leaders connect, each of which
+//! truncates all of these transactions but the first KEPT.
 #![tactic(auto)]
 
 mod choice;
@@ -57,7 +54,7 @@ const USAGE: &str =
     or watches CONNECTIONS WATCHES NODES SETS OTHERS, or lists CHILDREN TIMES, or pings CONNECTIONS, \
     or images PARENTS CHILDREN CONTENT PIECE CHECKPOINTS, or logs PARENTS CHILDREN KEPT TIMES";
 
-// The words behind the program's name.
+// The words after the program's name.
 fn words(rt: &HostRuntime) -> Result<Vec<String>> {
     let mut words = Vec::new(rt.alloc());
     for word in env::args(rt)?.skip(1) {
@@ -157,7 +154,7 @@ fn run(alloc: Global, load: &mut Load, words: &[String]) -> Result<()> {
     load.set(alloc, &sets_of(words)?)
 }
 
-// What was said, and what came of it.
+// The counts of messages sent and answers got.
 struct Counts {
     transactions: u64,
     replies: u64,
@@ -178,7 +175,7 @@ fn run_and_count(alloc: Global, load: &mut Load, words: &[String]) -> Result<Cou
     })
 }
 
-// It holds the load to one end, since each end proves all of the drop anew.
+// The load is dropped at the single end of this function, since each drop of it is proved anew.
 fn run_load(alloc: Global, words: &[String]) -> Result<Counts> {
     let mut load = Load::new(alloc)?;
     run_and_count(alloc, &mut load, words)

@@ -13,19 +13,19 @@ use std::alloc::Global;
 use txn_codec::{Body, Create, Operation, Path, SetData, Txn, encode_txn};
 use values::{Blob, NoMemory, Str};
 
-/// The most bytes of a path here.
+/// The longest path here, in bytes.
 pub const PATH_LIMIT: usize = 64;
 
-// The most bytes of a transaction or a request that a message carries here.
+// The longest transaction or request of a message here, in bytes.
 const CARRIED_LIMIT: usize = 1024;
 
-// The most bytes of a client's frame.
+// The longest frame of a client, in bytes.
 const FRAME_LIMIT: usize = 1_048_575;
 
-/// What a node holds where nothing else is said.
+/// The default data of a node.
 pub const CONTENT: &[u8] = b"0123456789abcdef";
 
-/// 100 bytes that a node may hold.
+/// 100 bytes of data.
 pub const LONG_CONTENT: &[u8; 100] = &[b'x'; 100];
 
 /// The path of a text, if it is a short one.
@@ -52,7 +52,7 @@ pub fn child_path(alloc: Global, parent: u32, child: u32) -> Result<Path>
     short_path(alloc, text.as_str())
 }
 
-/// The path of a node that a connection watches: 20 bytes, where the numbers are below 10,000,000.
+/// The path of a node that a connection watches: 20 bytes, if the numbers are below 10,000,000.
 pub fn watched_path(alloc: Global, connection: u64, watch: u32) -> Result<Path>
     ensures { IfOk result (λ p. length p ≤ PATH_LIMIT) }
 {
@@ -60,7 +60,7 @@ pub fn watched_path(alloc: Global, connection: u64, watch: u32) -> Result<Path>
     short_path(alloc, text.as_str())
 }
 
-/// A node is made that everyone may change.
+/// A create of a node that every client may change.
 #[tactic(auto, unfolding(jute::specs::Owned::acl_format, jute::specs::Owned::id_format))]
 pub fn create(alloc: Global, path: Path, content: &[u8]) -> Result<Body>
     requires { length path ≤ PATH_LIMIT }
@@ -78,7 +78,7 @@ pub fn create(alloc: Global, path: Path, content: &[u8]) -> Result<Body>
     })))
 }
 
-/// A node's data is replaced.
+/// A setData of a node.
 pub fn set_data(alloc: Global, path: Path) -> Result<Body, NoMemory>
     requires { length path ≤ PATH_LIMIT }
     ensures { IfOk result body_format.Writable }
@@ -91,7 +91,7 @@ pub fn set_data(alloc: Global, path: Path) -> Result<Body, NoMemory>
     })))
 }
 
-/// Writes the packet by which a leader tells of a transaction. An error may leave a front of it.
+/// Appends the packet by which a leader sends a transaction. An error may leave a prefix of it appended.
 #[tactic(auto, unfolding(quorum_packet::specs::Packet::packet_format))]
 pub fn write_inform(alloc: Global, txn: &Txn, out: &mut Vec<u8>) -> Result<()>
     requires { body_format.Writable txn.now.body }
@@ -108,8 +108,7 @@ pub fn write_inform(alloc: Global, txn: &Txn, out: &mut Vec<u8>) -> Result<()>
     Ok(write_packet(&informing, out)?)
 }
 
-/// Writes the frame by which a client reads a node and may watch it. An error may leave a front of
-/// it.
+/// Appends the frame by which a client reads a node and may watch it. An error may leave a prefix of it appended.
 #[tactic(auto, unfolding(jute::specs::Records::request_header, client_records::specs::Requests::path_and_watch))]
 pub fn write_read(
     alloc: Global,
@@ -135,7 +134,7 @@ pub fn write_read(
     Ok(put_bytes(out, frame.as_slice())?)
 }
 
-/// Writes the frame by which a client asks for a new session. An error may leave a front of it.
+/// Appends the frame by which a client asks for a new session. An error may leave a prefix of it appended.
 #[tactic(auto, unfolding(client_records::specs::Requests::connect_request))]
 pub fn write_connect(alloc: Global, out: &mut Vec<u8>) -> Result<()> {
     let mut frame = Vec::new(alloc);
@@ -151,8 +150,8 @@ pub fn write_connect(alloc: Global, out: &mut Vec<u8>) -> Result<()> {
     Ok(put_bytes(out, frame.as_slice())?)
 }
 
-/// Writes the frame of a ping behind whose header bytes stand that say nothing, as many as may. An
-/// error may leave a front of it.
+/// Appends the frame of a ping whose header is followed by as many meaningless bytes as a frame may have. An error may
+/// leave a prefix of it appended.
 #[tactic(auto, unfolding(jute::specs::Records::request_header))]
 pub fn write_long_ping(alloc: Global, out: &mut Vec<u8>) -> Result<()> {
     let mut frame = Vec::new(alloc);

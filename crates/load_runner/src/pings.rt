@@ -1,4 +1,4 @@
-//! Connections on which a frame came that is as long as a frame may be.
+//! Connections that send a frame of the greatest length.
 
 use crate::load::Load;
 use crate::messages::write_long_ping;
@@ -6,14 +6,14 @@ use crate::watches::FIRST;
 use anyhow::Result;
 use std::alloc::Global;
 
-/// How many connections are opened.
+/// The number of connections opened.
 #[derive(Clone, Copy, Debug)]
 pub struct Pings {
     pub connections: u32,
 }
 
 impl Load {
-    /// Opens connections, on each of which one long frame comes, in two pieces.
+    /// Opens connections, each of which sends one long frame in two pieces.
     pub fn ping(&mut self, alloc: Global, sizes: &Pings) -> Result<()> {
         let mut frame = Vec::new(alloc);
         write_long_ping(alloc, &mut frame)?;

@@ -1,4 +1,4 @@
-//! Reads, one behind the other without waiting.
+//! Reads, one after another without waiting.
 
 ghost use Rattle.std.specs.Prelude.{◌≤◌};
 
@@ -9,22 +9,22 @@ use anyhow::{Result, ensure};
 use client_records::RequestKind;
 use std::alloc::Global;
 
-/// How much is to be read.
+/// The sizes of the load.
 #[derive(Clone, Copy, Debug)]
 pub struct Reads {
-    /// How many nodes are made below the root.
+    /// The number of nodes created below the root.
     pub parents: u32,
-    /// How many nodes are made below each of these.
+    /// The number of nodes created below each of these.
     pub children: u32,
-    /// How many reads of such nodes the client writes.
+    /// The number of reads of such nodes that the client makes.
     pub reads: u32,
-    /// How often it says all of them.
+    /// How often it sends all of them.
     pub times: u32,
-    /// In pieces of how many bytes these come.
+    /// The length of the pieces in which they come, in bytes.
     pub piece: u32,
 }
 
-// The frames by which the data of children is asked for, in a mixed order.
+// The frames that read the data of children, in a mixed order.
 fn frames_of_reads(alloc: Global, sizes: &Reads) -> Result<Vec<u8>>
     requires parents { 1 ≤ sizes.now.parents }
     requires children { 1 ≤ sizes.now.children }
@@ -41,7 +41,7 @@ fn frames_of_reads(alloc: Global, sizes: &Reads) -> Result<Vec<u8>>
 }
 
 impl Load {
-    // The client's bytes come in pieces.
+    // Feeds the client's bytes in pieces.
     fn feed_in_pieces(&mut self, alloc: Global, bytes: &[u8], piece: usize) -> Result<()>
         requires { 1 ≤ piece }
     {
@@ -51,7 +51,7 @@ impl Load {
         Ok(())
     }
 
-    /// Makes the nodes with 100 bytes of data each, and then reads children.
+    /// Creates the nodes with 100 bytes of data each, and then reads children.
     pub fn read(&mut self, alloc: Global, sizes: &Reads) -> Result<()> {
         ensure!(
             sizes.parents > 0 && sizes.children > 0 && sizes.piece > 0,

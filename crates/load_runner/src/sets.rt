@@ -1,4 +1,4 @@
-//! Transactions, with reads between.
+//! Transactions with reads in between.
 
 ghost use Rattle.std.specs.Prelude.{◌≤◌, length};
 
@@ -10,26 +10,26 @@ use client_records::RequestKind;
 use std::alloc::Global;
 use txn_codec::Path;
 
-/// How much is to be set.
+/// The sizes of the load.
 #[derive(Clone, Copy, Debug)]
 pub struct Sets {
-    /// How many nodes are made below the root.
+    /// The number of nodes created below the root.
     pub parents: u32,
-    /// How many nodes are made below each of these.
+    /// The number of nodes created below each of these.
     pub children: u32,
     /// How often the data of such a node is set.
     pub sets: u32,
-    /// A node is read at each so many sets; 0: never.
+    /// A node is read after each this many sets; 0 means never.
     pub every: u32,
 }
 
-// Whether a node is read before the set of a number.
+// Whether a node is read before the set with this number.
 fn is_read(every: u32, set: u32) -> bool {
     every != 0 && set % every == 0
 }
 
 impl Load {
-    // The client asks for a node's data.
+    // The client reads a node's data.
     fn ask(&mut self, alloc: Global, path: &Path) -> Result<()>
         requires { length path.now ≤ PATH_LIMIT }
     {
@@ -64,7 +64,7 @@ impl Load {
         Ok(())
     }
 
-    /// Makes the nodes, and then sets and reads children in a mixed order.
+    /// Creates the nodes, and then sets and reads children in a mixed order.
     pub fn set(&mut self, alloc: Global, sizes: &Sets) -> Result<()> {
         self.make_tree(alloc, sizes.parents, sizes.children, CONTENT)?;
         if sizes.parents == 0 || sizes.children == 0 {

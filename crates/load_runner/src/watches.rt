@@ -9,23 +9,23 @@ use std::alloc::Global;
 /// The first connection that is opened here.
 pub const FIRST: u64 = 2;
 
-/// How much is to be watched.
+/// The sizes of the load.
 #[derive(Clone, Copy, Debug)]
 pub struct Watched {
-    /// How many connections are opened.
+    /// The number of connections opened.
     pub connections: u32,
-    /// How many watches each of them leaves that nothing uses up.
+    /// The number of watches that each of them leaves and that never fire.
     pub watches: u32,
-    /// How many nodes each of them watches besides.
+    /// The number of nodes that each of them watches besides.
     pub nodes: u32,
-    /// How many of these nodes are set then.
+    /// The number of these nodes that are set afterwards.
     pub sets: u32,
-    /// How many watches stand beside that nothing uses up.
+    /// The number of other watches that never fire.
     pub others: u32,
 }
 
 impl Load {
-    // A connection watches paths of 20 bytes, at which there are no nodes.
+    // A connection watches paths of 20 bytes, where there are no nodes.
     fn set_watches(&mut self, alloc: Global, connection: u64, watches: u32) -> Result<()> {
         let mut frame = Vec::new(alloc);
         for watch in 0..watches {
@@ -59,15 +59,14 @@ impl Load {
         Ok(())
     }
 
-    // The leader tells that a node was set.
+    // The leader sends a setData of a node.
     fn set_node(&mut self, alloc: Global, node: u32) -> Result<()> {
         let path = parent_path(alloc, node)?;
         let body = set_data(alloc, path)?;
         self.tell(alloc, body)
     }
 
-    /// Opens connections that leave watches, and all of which watch the same nodes besides; then some of
-    /// these are set.
+    /// Opens connections that leave watches and all watch the same nodes besides; then some of these nodes are set.
     pub fn watch(&mut self, alloc: Global, sizes: &Watched) -> Result<()> {
         self.set_watches(alloc, CONNECTION, sizes.others)?;
         self.open_all(alloc, sizes.connections, sizes.watches)?;

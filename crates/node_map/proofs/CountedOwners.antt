@@ -1,4 +1,4 @@
--- The nodes that a loop went over, each with its pair, and how many of them are owned.
+-- The nodes that a loop has visited, each with its pair, and how many of them are owned.
 use Rattle.std.proofs.Common.{◌≡◌, ℕ, ℤ, pos, ◌+◌, ◌<◌, ◌^◌, List, [], ◌∷◌, ◌++◌, true, false, not, ◌&&◌, Some, IsTrue, refl, sym, ap, subst, ◌∙◌, ◌↔◌, length, string_bytes, append-nil, length-append, ◌≤◌, arith, if◌then◌else◌}
 use mathlib.Core.Bool.{true≢false}
 use Rattle.std.specs.Map.{lookup, keys_of}
@@ -31,7 +31,7 @@ length-push [] x = refl
 length-push (y ∷ xs) x = let rest : length (xs ++ x ∷ []) ≡ length xs + 1 = length-push xs x in omega arith
 
 module _ {Z : Type 0} where
-  -- the nodes that were gone over, each with its pair, and how many of them are owned
+  -- The nodes visited so far, each with its pair, and how many of them are owned.
   pub record AreCounted (nodes : Nodes) (pairs : OwnerPairs) (rest : List (String Z × Node)) (owned : ℕ) : Type 0 where
     pub before : List (String Z × Node)
     pub all : nodes ≡ nodes_of (before ++ rest)
@@ -61,7 +61,7 @@ module _ {Z : Type 0} where
 
   module _ (nodes : Nodes) (pairs : OwnerPairs) (e : String Z × Node) (rest : List (String Z × Node)) (n : ℕ)
       (c : AreCounted nodes pairs (e ∷ rest) n) where
-    -- one more entry, of which the pair, if any, is listed
+    -- One more entry; its pair, if it has one, is listed.
     further : (ps : List (ℤ × Bytes)) → with_owner e [] ≡ ps → AreIn {R = pair_cmp} pairs ps → length ps ≤ 1
         → AreCounted nodes pairs rest (n + length ps)
     further ps is here most =

@@ -1,4 +1,4 @@
--- Items of a set, none of them twice, are all of it exactly where they are as many.
+-- Distinct items of a set are the whole set exactly if they are as many as it has.
 use Rattle.std.proofs.Common.{◌≡◌, ℕ, zero, suc, ◌+◌, ◌-◌, ◌<◌, List, [], ◌∷◌, Bool, true, false, cond, not, ◌&&◌, ◌||◌, refl, sym, ap, ◌∙◌, length, arith}
 use mathlib.Core.Bool.{true≢false}
 use Rattle.std.specs.declared.cmp.Ordering.{Ordering}
@@ -9,7 +9,7 @@ use Rattle.std.proofs.lemmas.Map.Lookups.{CmpEqualImpliesEq}
 use Rattle.std.proofs.lemmas.Map.Views.{tells_apart}
 use Rattle.std.specs.FinSet as set
 
--- none is there twice
+-- No item is there twice.
 abbrev pub AreDistinct : {K : Type 0} (R : K → K → Ordering) → List K → Type 0
 AreDistinct R [] = Unit {0}
 AreDistinct R (k ∷ ks) = (list_any (eq_by_cmp R k) ks ≡ false) × AreDistinct R ks

@@ -1,10 +1,10 @@
--- A loop over a list that stops at the first item that fails: what is left decides.
+-- A loop over a list that stops at the first item that fails: the rest of the list decides.
 use Rattle.std.proofs.Common.{List, [], ◌∷◌, false, true, IsTrue, ◌↔◌, refl, sym}
 use mathlib.Core.Bool.{true≢false}
 use Rattle.std.specs.List.{AllByRecursion}
 
 module _ {A : Type 0} (P : A → Type 0) (X : Type 0) where
-  -- X holds exactly where all that are left pass
+  -- X holds exactly if all the items left pass.
   abbrev pub Decides : List A → Type 0
   Decides rest = AllByRecursion P rest ↔ X
 

@@ -1,4 +1,4 @@
--- A map of entries that are in order has just these entries.
+-- A map built from sorted entries has exactly these entries.
 use Rattle.std.proofs.Common.{◌≡◌, List, [], ◌∷◌, length, refl, sym, ap, ◌∙◌, string_bytes, arith}
 use Rattle.std.specs.declared.cmp.Ordering.{Ordering}
 use Rattle.std.specs.declared.cmp.Ordering.TheVariants.{Less}

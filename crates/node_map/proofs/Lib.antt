@@ -1,20 +1,20 @@
--- A map from texts as a finite map from bytes
+-- A map from texts as a finite map from bytes.
 pub mod TextMaps
--- A map of entries that are in order
+-- A map of sorted entries.
 pub mod EntriesInOrder
--- A node that was lent for writing
+-- A node that was borrowed mutably.
 pub mod NodeUpdates
--- Nodes that are taken out of a map, and put into one
+-- Nodes that are taken out of a map, and put into one.
 pub mod MovedNodes
--- A loop that stops at the first item that fails
+-- A loop that stops at the first item that fails.
 pub mod Deciding
--- The entries of a map are its nodes, and what links them
+-- The entries of a map are its nodes, and how they are linked.
 pub mod Links
--- Items of a set that are as many as the set
+-- Items of a set that are as many as the set.
 pub mod Counting
--- The owners of a map's nodes, as pairs
+-- The owners of a map's nodes, as pairs.
 pub mod OwnersOfNodes
--- How many nodes a loop found to be owned
+-- The number of owned nodes that a loop has found.
 pub mod CountedOwners
--- Paths and names stay right
+-- Paths and names stay valid.
 pub mod Naming

@@ -1,4 +1,4 @@
--- The entries of a map are its nodes, and what links them.
+-- The entries of a map are its nodes, and how they are linked.
 use Rattle.std.proofs.Common.{◌≡◌, suc, ◌<◌, List, [], ◌∷◌, Bool, true, false, cond, Option, Some, None, refl, sym, ap, subst, ◌∙◌, ◌||◌, ◌↔◌, map, length, string_bytes, is_some, arith}
 use mathlib.Core.Bool.{true≢false}
 use Rattle.std.specs.BTreeMap as tree
@@ -38,7 +38,7 @@ all_map : {A : Type 0} (P Q : A → Type 0) → ((x : A) → P x → Q x) → (x
 all_map P Q f [] h = tt
 all_map P Q f (x ∷ xs) h = (f x h.0, all_map P Q f xs h.1)
 
--- the texts that were gone over are a set's
+-- The texts visited are those of a set.
 module _ {Z : Type 0} (P : Bytes → Type 0) where
   each_text : (q : Bytes) (keys : List (String Z)) → AllByRecursion (λ (k : String Z). P (string_bytes k)) keys
       → list_any (eq_by_cmp path_cmp q) (map string_bytes keys) ≡ true → P q
@@ -76,7 +76,7 @@ module _ {Z : Type 0} (P : Bytes → Type 0) where
     (λ each. of_each_text keys (λ q one. each q (members q ∙ one))),
   )
 
--- the entries that were gone over are a map's nodes
+-- The entries visited are the nodes of a map.
 module _ {Z : Type 0} (P : Bytes → Node → Type 0) where
   each_entry : (q : Bytes) (node : Node) (es : List (String Z × Node))
       → AllByRecursion (λ (e : String Z × Node). P (string_bytes e.0) e.1) es → lookup (query q) es ≡ Some node
@@ -104,7 +104,7 @@ module _ {Z : Type 0} (P : Bytes → Node → Type 0) where
         m.entries (each_of_all (λ (e : String Z × Node). tree.get string_cmp m e.0 ≡ Some e.1) m.entries found)),
   )
 
--- what a node owes, that nodes and names agree
+-- What a node contributes to the agreement of nodes and names.
 abbrev pub IsLinked : Nodes → Bytes → Node → Type 0
 IsLinked nodes path node = (has_parent nodes path ≡ true) × HasItsChildren nodes path node.children
 

@@ -51,7 +51,7 @@ get-with nodes new q =
 
 -- ---- nodes that are moved one by one
 
--- the first nodes, without those at the paths
+-- The first nodes, without those at the paths.
 pub removed_all : (nodes : Nodes) (ps : List Bytes) (q : Bytes) → finmap.get (without_nodes ps nodes) q
     ≡ cond (list_any (eq_by_cmp path_cmp q) ps) None (finmap.get nodes q)
 removed_all nodes [] q = refl
@@ -77,7 +77,7 @@ none_left nodes paths = finmap.same_map path_total exact_bytes _ _ (λ q.
     by true o = refl
     by false o = refl
 
--- a node that replaces what stands, where something stands
+-- A node that replaces another one, where there is one.
 abbrev put_over : Option Node → Option Node → Option Node
 put_over None stood = stood
 put_over (Some node) None = None
@@ -130,7 +130,7 @@ get-moved (p ∷ ps) nodes room q =
     by false true same = refl
     by false false same = refl
 
--- where there is room for them, all nodes at the paths were moved
+-- Where there is room for them, all nodes at the paths were moved.
 pub all_moved : (paths : Names) (nodes room : Nodes) → IsRoomFor paths nodes room
     → with_moved_nodes (sorted_names paths) nodes room ≡ finmap.retain_keys nodes (set.contains paths)
 all_moved paths nodes room has = finmap.same_map path_total exact_bytes _ _ (λ q.
@@ -147,7 +147,7 @@ all_moved paths nodes room has = finmap.same_map path_total exact_bytes _ _ (λ 
     by false n None h = refl
     by false n (Some r) h = absurd (true≢false h)
 
--- there is room for all that isn't left
+-- There is room for the nodes at all paths except those left.
 abbrev pub HasRoomFor : Names → Nodes → List Bytes → Nodes → Type 0
 HasRoomFor paths nodes left room =
     (q : Bytes) → (has_node room q || (list_any (eq_by_cmp path_cmp q) left && has_node nodes q))
@@ -190,9 +190,9 @@ no_room_needed paths nodes room p ps before none q =
 pub room_for_all : (paths : Names) (nodes room : Nodes) → HasRoomFor paths nodes [] room → IsRoomFor paths nodes room
 room_for_all paths nodes room all q = sym (or-false (has_node room q)) ∙ all q
 
--- ---- nodes that are put one by one
+-- ---- nodes that are inserted one by one
 
--- the first nodes with the others, of which these entries are left
+-- The first nodes with those of the others that aren't left.
 pub record IsJoining {Z : Type 0} (others old : Nodes) (left : List (String Z × Node)) (nodes : Nodes) : Type 0 where
   sorted : IsStrictlySortedBy string_cmp (keys_of left)
   same : (q : Bytes) → option_or (finmap.get (seen left) q) (finmap.get nodes q)

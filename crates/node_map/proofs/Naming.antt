@@ -1,4 +1,4 @@
--- Paths and names stay right.
+-- Paths and names stay valid.
 use Rattle.std.proofs.Common.{◌≡◌, ℕ, Bool, true, false, not, ◌&&◌, ◌||◌, ◌==◌, cond, List, [], ◌∷◌, Option, Some, None, is_some, string_bytes, refl, sym, ap, subst, ◌∙◌, if◌then◌else◌}
 use mathlib.Core.Bool.{true≢false}
 use Rattle.std.specs.Ordering.{eq_by_cmp}
@@ -66,7 +66,7 @@ no_nul (b ∷ text) none = by (no_nul text) (b == 0) none
     by rest true e = cc
     by rest false e = rest e
 
--- the parts between the slashes, but for the first
+-- The parts between the slashes, without the first.
 abbrev behind_first : List Bytes → List Bytes
 behind_first [] = []
 behind_first (part ∷ parts) = parts
@@ -78,7 +78,7 @@ behind_onto : (b : ℕ) (parts : List Bytes) → behind_first (onto_first b part
 behind_onto b [] = refl
 behind_onto b (part ∷ parts) = refl
 
--- behind the last of some slashes stands a part that isn't the first; and the last of all parts is one of them
+-- The bytes after the last slash are a part that isn't the first, and the last of all parts is one of them.
 record EndsInName (text : Bytes) : Type 0 where
   later : list_all is_name (behind_first (parts_of text)) ≡ true → has_slash text ≡ true
       → is_name (after_last_slash text) ≡ true
@@ -131,7 +131,7 @@ name_is (b ∷ text) is =
     (ap not (no_nul left (no_nul_left text fine.0))))
     (ap not (slashes left ∙ no_slash_left text))
 
--- ---- what each node owes
+-- ---- what each node contributes
 
 pub record IsNamed (path : Bytes) (node : Node) : Type 0 where
   pub right : is_path path ≡ true

@@ -1,4 +1,4 @@
--- A node that was lent for writing.
+-- A node that was borrowed mutably.
 use Rattle.std.proofs.Common.{◌≡◌, Bool, true, false, cond, Option, Some, None, is_some, OnSome, refl, sym, ap, subst, ◌∙◌, if◌then◌else◌}
 use Rattle.std.specs.Borrow.{MutBor}
 use Rattle.std.specs.Ordering.{eq_by_cmp, is_eq}
@@ -19,7 +19,7 @@ use Rattle.std.specs.Cmp.{tied_itself}
 use Rattle.node_map.specs.declared.node.Node.{Node}
 use Rattle.ephemerals.proofs.Totals.{path_total}
 
--- what a path has, put there again
+-- Inserting the node that is there already.
 pub insert_same : (m : Nodes) (path : Bytes) (node : Node) → finmap.get m path ≡ Some node
     → finmap.insert m path node ≡ m
 insert_same m path node e =
@@ -61,7 +61,7 @@ get_inserted m path node =
     finmap.get-insert path_total m path node path
     ∙ ap (λ r. cond (is_eq r) (Some node) (finmap.get m path)) (tied_itself path_total path)
 
--- a new name
+-- A new name.
 pub added_child_new : (h : TxnHeader) (c : Create) (name : Bytes) (parent : Node)
     → set.contains parent.children name ≡ false
     → with_added_child h c name parent
@@ -70,14 +70,14 @@ added_child_new h c name parent free =
     ap (λ b. if b then with_raised_stat h c parent
     else record parent { children = set.insert parent.children name; stat = stat_after_create h c parent.stat }) free
 
--- a name that is taken
+-- A name that is taken.
 pub added_child_taken : (h : TxnHeader) (c : Create) (name : Bytes) (parent : Node)
     → set.contains parent.children name ≡ true → with_added_child h c name parent ≡ with_raised_stat h c parent
 added_child_taken h c name parent taken =
     ap (λ b. if b then with_raised_stat h c parent
     else record parent { children = set.insert parent.children name; stat = stat_after_create h c parent.stat }) taken
 
--- a name that was added, and taken out again with the old numbers
+-- A name that was added, and removed again with the old stat.
 pub undone : (m : Nodes) (path name : Bytes) (h : TxnHeader) (c : Create) (parent : Node)
     → finmap.get m path ≡ Some parent → set.contains parent.children name ≡ false
     → update_node (update_node m path (with_added_child h c name)) path (without_added_child name parent.stat) ≡ m
@@ -93,7 +93,7 @@ undone m path name h c parent is free =
     ∙ (λ i. record parent { children = remove-insert path_total exact_bytes parent.children name free i }))
     ∙ insert_same m path parent is
 
--- a name that was added, and taken out again
+-- A name that was added, and removed again.
 pub undone_name : (m : Nodes) (path name : Bytes) (stat : StatPersisted)
     → Added stat ≡ added_child (finmap.get m path) name
     → update_node (update_node m path (with_name name)) path (without_name name) ≡ m
@@ -117,7 +117,7 @@ undone_name m path name stat = by (finmap.get m path) refl
     by None is a = cc
     by (Some parent) is a = under parent (set.contains parent.children name) is refl a
 
--- a name that was there
+-- A name that was there.
 pub kept_name : (m : Nodes) (path name : Bytes) → Taken ≡ added_child (finmap.get m path) name
     → update_node m path (with_name name) ≡ m
 kept_name m path name = by (finmap.get m path) refl
@@ -136,7 +136,7 @@ kept_name m path name = by (finmap.get m path) refl
     by None is t = cc
     by (Some parent) is t = under parent (set.contains parent.children name) is refl t
 
--- a node that is put where there was none
+-- A node that is inserted where there was none.
 pub new_node_put : (m : Nodes) (path : Bytes) (node : Node) → finmap.get m path ≡ None
     → finmap.insert m path node ≡ with_new_node m path node
 new_node_put m path node none = by (finmap.get m path) none
@@ -146,7 +146,7 @@ new_node_put m path node none = by (finmap.get m path) none
     by None is = refl
     by (Some old) is = cc
 
--- a node that was put in place of another one, which is put back
+-- A node that replaced another one, which is put back.
 pub old_node_put_back : (m : Nodes) (path : Bytes) (node old : Node) → finmap.get m path ≡ Some old
     → update_node (finmap.insert m path node) path (λ _. old) ≡ with_new_node m path node
 old_node_put_back m path node old is =

@@ -21,12 +21,12 @@ use Rattle.std.proofs.Math.Bool.{and-false, and-true, or-false}
 use Rattle.ephemerals.proofs.Ties.{tied_then, same_session}
 
 module _ {Z : Type 0} where
-  -- the pair of an entry, in front of others
+  -- The pair of an entry, in front of others.
   abbrev pub with_owner : String Z × Node → List (ℤ × Bytes) → List (ℤ × Bytes)
   with_owner e ps =
       if int_eq e.1.stat.ephemeral_owner (pos 0) then ps else (e.1.stat.ephemeral_owner, string_bytes e.0) ∷ ps
 
-  -- the owners of the nodes with their paths
+  -- The owners of the nodes with their paths.
   abbrev pub owners : List (String Z × Node) → List (ℤ × Bytes)
   owners [] = []
   owners (e ∷ es) = with_owner e (owners es)
@@ -41,7 +41,7 @@ module _ {Z : Type 0} where
       owner : ℤ
       owner = e.1.stat.ephemeral_owner
 
-      -- the path stands once
+      -- The path occurs once.
       none_left : eq_by_cmp path_cmp p (string_bytes e.0) ≡ true → lookup (query p) es ≡ None
       none_left t =
           ap (λ q. lookup (query q) es) (tells_apart exact_bytes p (string_bytes e.0) t)
@@ -56,7 +56,7 @@ module _ {Z : Type 0} where
               ap (λ b. not b && true) (ap (λ x. int_eq x (pos 0)) (sym same) ∙ z)
           apart false t = and-false (not (int_eq s (pos 0)))
 
-      -- an owner that isn't 0 is the session exactly where the session isn't 0 and is the owner
+      -- For an owner other than 0, the session is the owner exactly if it isn't 0 and is the owner.
       owner_is : int_eq owner (pos 0) ≡ false → int_eq owner s ≡ (not (int_eq s (pos 0)) && int_eq owner s)
       owner_is z = split (int_eq owner s) refl
         where
@@ -114,7 +114,7 @@ module _ {Z : Type 0} where
       by rest true = rest
       by rest false = ap (λ ps. (x.1.stat.ephemeral_owner, string_bytes x.0) ∷ ps) rest
 
-  -- what stands in the middle is found
+  -- An entry in the middle is found.
   pub found-at : (before : List (String Z × Node)) (e : String Z × Node) (rest : List (String Z × Node))
       → IsStrictlySortedBy string_cmp (keys_of (before ++ e ∷ rest))
       → lookup (query (string_bytes e.0)) (before ++ e ∷ rest) ≡ Some e.1

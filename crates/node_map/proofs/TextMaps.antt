@@ -21,7 +21,7 @@ use Rattle.node_map.specs.Inner.NodesView.{by_bytes}
 use Rattle.ephemerals.proofs.Totals.{path_total}
 use Rattle.ephemerals.proofs.TextKeys.{query, same_test}
 
--- what holds where a look-up finds something holds where it lent something
+-- What holds where a look-up finds a value holds where it borrows one.
 pub on_some : {Y : Type 0} {P : Type 0} (r : Option (MutBor Y)) (x : Option Y) → option_copied_mut r ≡ x
     → (IsSome x → P) → OnSome r P
 on_some None x e f = tt
@@ -76,7 +76,7 @@ module _ {X Z : Type 0} where
       (get-seen es (string_bytes e.0) ∙ none_ahead (string_bytes e.0) es (sorted_head string_cmp e.0 (keys_of es) s))
       ∙ omega arith
 
-  -- entries that were cloned
+  -- Entries that were cloned.
   same_entries : {Y : Type 0} (xs : List (String Z × X)) (ys : List (String Y × X))
       → AllZip (λ (x : String Z × X) (y : String Y × X). (string_bytes y.0 ≡ string_bytes x.0) × (y.1 ≡ x.1)) xs ys
       → by_bytes ys ≡ by_bytes xs

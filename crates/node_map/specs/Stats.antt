@@ -1,4 +1,4 @@
--- What a node shows of itself (Stat of zookeeper.jute). Java's 32-bit numbers wrap.
+-- The Stat of a node, as clients see it (Stat of zookeeper.jute). Java's 32-bit numbers wrap.
 use Rattle.std.specs.Prelude.{ℕ, ℤ, pos, ◌%◌, ◌^◌, List, Option, Some, None, length}
 use Rattle.std.specs.Int.{int_wrapping_sub, int_wrapping_mul, cast_signed, w32}
 use Rattle.std.specs.FinSet as set
@@ -7,20 +7,19 @@ use Rattle.ephemerals.specs.Orders.{Names}
 use Rattle.node_map.specs.declared.node.Node.{Node}
 use Rattle.jute.specs.declared.stat.StatPersisted.{StatPersisted}
 
--- a count as a Java int
 abbrev pub java_int : ℕ → ℤ
 java_int n = cast_signed w32 (n % 2 ^ 32)
 
--- null has no byte
+-- Null has the length 0.
 abbrev pub length_or_zero : Option (List ℕ) → ℕ
 length_or_zero None = 0
 length_or_zero (Some bytes) = length bytes
 
--- every create and delete of a child, where the stored number counts the creates alone
+-- It counts creates and deletes of children; the stored number counts creates alone.
 abbrev pub shown_cversion : ℤ → ℤ → ℤ
 shown_cversion stored children = int_wrapping_sub w32 (int_wrapping_mul w32 stored (pos 2)) children
 
--- the kept numbers, how many children there are, and how many bytes
+-- From the stored stat, the number of children, and the length of the data in bytes.
 abbrev pub shown_stat : StatPersisted → ℤ → ℤ → Stat
 shown_stat stat children bytes = record {
   czxid = stat.czxid;

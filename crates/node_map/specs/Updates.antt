@@ -1,4 +1,4 @@
--- What a transaction makes of a node, and what becomes of the nodes when the one at a path changes.
+-- What a transaction makes of a node, and the nodes after the one at a path has changed.
 use Rattle.std.specs.Prelude.{ℤ, pos, negsuc, ◌+ℤ◌, [], if◌then◌else◌, Bool, Some, Option, None, List, ◌∷◌}
 use Rattle.std.specs.Int.{int_wrap, w32}
 use Rattle.std.specs.Ordering.{int_eq}
@@ -14,11 +14,11 @@ use Rattle.std.specs.FinMap as finmap
 use Rattle.node_map.specs.declared.node.Node.{Node}
 use Rattle.node_map.specs.Nodes.{Nodes}
 
--- the stored cversion of the parent after a create: -1 counts it up by one, and Java's 32-bit numbers wrap
+-- The stored cversion of the parent after a create: -1 counts it up by one, and Java's 32-bit numbers wrap.
 abbrev pub next_cversion : ℤ → ℤ → ℤ
 next_cversion stored wanted = if int_eq wanted (negsuc 0) then int_wrap w32 (stored +ℤ pos 1) else wanted
 
--- the session that an ephemeral node belongs to, and 0 for any other node
+-- The session that owns an ephemeral node; 0 for any other node.
 abbrev pub owner_of : TxnHeader → Bool → ℤ
 owner_of header ephemeral = if ephemeral then header.client_id else pos 0
 
@@ -48,7 +48,7 @@ with_data header body node =
 abbrev pub with_acl : SetAcl → Node → Node
 with_acl body node = record node { acl = acl_or_open body.acl; stat = record node.stat { aversion = body.version } }
 
--- a node that nobody made: empty data, the open list, all numbers 0
+-- A node that no transaction creates: empty data, the open access control list, all numbers 0.
 abbrev pub preset_node : Names → Node
 preset_node children = record {
   bytes = Some [];
@@ -67,7 +67,7 @@ preset_node children = record {
   children = children;
 }
 
--- a node that lists the name too
+-- A node that lists the name too.
 abbrev pub with_name : Bytes → Node → Node
 with_name name parent = record parent { children = set.insert parent.children name }
 
@@ -75,11 +75,11 @@ abbrev pub update_found : Nodes → Bytes → (Node → Node) → Option Node �
 update_found nodes path f None = nodes
 update_found nodes path f (Some node) = finmap.insert nodes path (f node)
 
--- f of the node at the path, if any
+-- The nodes with f applied to the node at the path, if there is one.
 abbrev pub update_node : Nodes → Bytes → (Node → Node) → Nodes
 update_node nodes path f = update_found nodes path f (finmap.get nodes path)
 
--- the nodes, and in their place those of the entries
+-- The nodes, with those of the entries in place of the nodes at the same paths.
 abbrev pub with_entries : Nodes → List (Bytes × Node) → Nodes
 with_entries nodes [] = nodes
 with_entries nodes (e ∷ es) = finmap.insert (with_entries nodes es) e.0 e.1

@@ -1,14 +1,14 @@
-//! What became of a new child's name.
+//! The result of adding a child's name to its parent.
 
 use jute::StatPersisted;
 
-/// What became of a name that was to be added to a parent.
+/// The result of adding a child's name to its parent.
 #[derive(Drop)]
 pub enum AddedChild {
     /// There is no parent.
     NoParent,
     /// The parent has the name already.
     Taken,
-    /// The parent has the name now; these were its numbers before.
+    /// The parent has the name now; this was its stat before.
     Added(StatPersisted),
 }

@@ -1,4 +1,6 @@
-//! Nodes that are moved from one map to another, with their bytes, lists and names as they are.
+//! Moving nodes from one map to another, with their data, lists and names as they are.
+//!
+//! Laws of `data_tree` that go over this: `MovedCells`.
 
 ghost use Rattle.std.specs.Prelude.{◌≡◌, OnOk, OnErr, IfOk, not};
 ghost use Rattle.std.specs.FinMap as finmap;
@@ -16,14 +18,13 @@ use std::alloc::Global;
 use values::NoMemory;
 
 impl NodeMap {
-    // Whether there is a node at the path.
     fn has(&self, path: &str) -> bool
         ensures { result ≡ has_node self.now path.now }
     {
         self.get(path).is_some()
     }
 
-    // A map with a node at each of the paths that has one here: inserting in its place then takes no memory.
+    // A map with a node at each of the paths that has a node here. Replacing that node later allocates nothing.
     fn room_at(&self, alloc: Global, paths: &TextSet) -> Result<NodeMap, NoMemory>
         ensures { IfOk result (λ room. IsRoomFor paths.now self.now room) }
     {
@@ -39,7 +40,7 @@ impl NodeMap {
         Ok(room)
     }
 
-    // Puts the node in place of the one at the path, if there is one.
+    // Replaces the node at the path, if there is one.
     fn fill(&mut self, path: &str, node: Node)
         ensures { self.new ≡ update_node self.old path.now (λ (n : Node). node) }
     {
@@ -49,7 +50,7 @@ impl NodeMap {
         }
     }
 
-    // Moves the node at the path, if any, to where one stands in its place.
+    // Moves the node at the path, if there is one, in place of the node at the same path of `room`.
     fn move_node(&mut self, path: &str, room: &mut NodeMap)
         ensures gone { self.new ≡ finmap.remove self.old path.now }
         ensures moved { room.new ≡ with_replaced_node path.now (finmap.get self.old path.now) room.old }
@@ -60,7 +61,7 @@ impl NodeMap {
         }
     }
 
-    /// Takes out the nodes at these paths. What takes memory is done first.
+    /// Takes out the nodes at these paths. It allocates before it changes anything.
     pub fn take(&mut self, alloc: Global, paths: &TextSet) -> Result<NodeMap, NoMemory>
         ensures taken { IfOk result
             (λ taken. taken ≡ finmap.retain_keys self.old (set.contains paths.now)) }

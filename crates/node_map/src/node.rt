@@ -1,4 +1,6 @@
 //! A node of the tree.
+//!
+//! Laws of `data_tree` that go over this: `Commute`, `KeepingNames`.
 
 ghost use Rattle.std.specs.Prelude.{◌≡◌, OnOk, OnErr, IfOk, not, int_lt, if◌then◌else◌, string_bytes};
 ghost use Rattle.std.specs.FinSet as set;
@@ -12,7 +14,7 @@ use std::alloc::{AllocError, Global};
 use txn_codec::{AclList, Create, SetAcl, SetData, TxnHeader};
 use values::{Blob, NoMemory};
 
-/// A node: its bytes, or null; who may do what; its numbers; the names of its children.
+/// A node: its data, which may be null, its access control list, its stat, and the names of its children.
 #[derive(Drop)]
 pub struct Node {
     pub bytes: Option<Blob>,
@@ -45,7 +47,6 @@ fn next_version(stored: i32, wanted: i32) -> i32
     }
 }
 
-// A parent's numbers after a create.
 fn stat_after_create(before: StatPersisted, header: &TxnHeader, create: &Create) -> StatPersisted
     ensures { result ≡ stat_after_create header.now create.now before }
 {
@@ -55,7 +56,7 @@ fn stat_after_create(before: StatPersisted, header: &TxnHeader, create: &Create)
     after
 }
 
-// The numbers with the greater cversion; the first ones where it is the same.
+// The stat with the greater cversion, or the first one if the two are equal.
 fn higher_stat(before: StatPersisted, after: StatPersisted) -> StatPersisted
     ensures { result ≡ (if int_lt before.cversion after.cversion then after else before) }
 {
@@ -65,7 +66,7 @@ fn higher_stat(before: StatPersisted, after: StatPersisted) -> StatPersisted
     before
 }
 
-/// A parent's numbers after a child was deleted.
+/// A parent's stat after a delete of a child.
 pub(crate) fn stat_after_delete(before: StatPersisted, header: &TxnHeader) -> StatPersisted
     ensures { result ≡ record before { pzxid = header.now.zxid } }
 {
@@ -74,14 +75,14 @@ pub(crate) fn stat_after_delete(before: StatPersisted, header: &TxnHeader) -> St
     numbers
 }
 
-/// The session that a created node belongs to, and 0 where it isn't ephemeral.
+/// The session that owns a created node, or 0 if the node isn't ephemeral.
 pub(crate) fn owner(header: &TxnHeader, ephemeral: bool) -> i64
     ensures { result ≡ owner_of header.now ephemeral }
 {
     if ephemeral { header.client_id } else { 0 }
 }
 
-// The numbers of a new node.
+// The stat of a new node.
 fn first_stat(header: &TxnHeader, create: &Create) -> StatPersisted
     ensures { result ≡ (new_node header.now create.now).stat }
 {
@@ -98,7 +99,7 @@ fn first_stat(header: &TxnHeader, create: &Create) -> StatPersisted
     }
 }
 
-// Makes bytes a copy of others.
+// Copies data. A refused allocation changes nothing.
 fn copy_bytes(bytes: &mut Option<Blob>, others: &Option<Blob>) -> Result<(), NoMemory>
     ensures ok { OnOk result (bytes.new ≡ others.now) }
     ensures err { OnErr result (bytes.new ≡ bytes.old) }
@@ -112,7 +113,6 @@ fn copy_bytes(bytes: &mut Option<Blob>, others: &Option<Blob>) -> Result<(), NoM
     Ok(())
 }
 
-// A node's numbers after its bytes were written.
 fn stat_with_data(before: StatPersisted, header: &TxnHeader, body: &SetData) -> StatPersisted
     ensures { result ≡
         record before {
@@ -128,7 +128,6 @@ fn stat_with_data(before: StatPersisted, header: &TxnHeader, body: &SetData) -> 
     after
 }
 
-// A set of one text.
 fn one_text(alloc: Global, text: &str) -> Result<TextSet, NoMemory>
     ensures { IfOk result (λ texts. texts ≡ set.insert set.empty text.now) }
 {
@@ -137,7 +136,6 @@ fn one_text(alloc: Global, text: &str) -> Result<TextSet, NoMemory>
     Ok(texts)
 }
 
-// The numbers of a node that nobody made.
 fn preset_stat() -> StatPersisted
     ensures { result ≡ (preset_node set.empty).stat }
 {
@@ -154,7 +152,7 @@ fn preset_stat() -> StatPersisted
     }
 }
 
-// A node that nobody made.
+// A preset node: one that no transaction creates.
 fn make_preset_node(alloc: Global, children: TextSet) -> Result<Node, NoMemory>
     ensures { IfOk result (λ node. node ≡ preset_node children) }
 {
@@ -167,14 +165,14 @@ fn make_preset_node(alloc: Global, children: TextSet) -> Result<Node, NoMemory>
 }
 
 impl Node {
-    /// A node that nobody made, without a child.
+    /// A preset node without children.
     pub fn childless(alloc: Global) -> Result<Node, NoMemory>
         ensures { IfOk result (λ node. node ≡ preset_node set.empty) }
     {
         make_preset_node(alloc, TextSet::new(alloc))
     }
 
-    /// A node that stands where another one comes, which takes no memory.
+    /// A node that another one will replace. Allocates nothing.
     pub(crate) fn placeholder(alloc: Global) -> Node {
         Node {
             bytes: None,
@@ -184,7 +182,7 @@ impl Node {
         }
     }
 
-    /// A node that nobody made, with one child.
+    /// A preset node with one child.
     pub fn with_child(alloc: Global, child: &str) -> Result<Node, NoMemory>
         ensures { IfOk result (λ node. node ≡ preset_node (set.insert set.empty child.now)) }
     {
@@ -203,7 +201,7 @@ impl Node {
         })
     }
 
-    /// Adds a child's name, or raises the numbers where it is taken, and says whether the name is new.
+    /// Adds a child's name, or raises the node's stat if it has the name already. Returns whether the name is new.
     pub(crate) fn add_child(
         &mut self,
         name: String,
@@ -226,7 +224,7 @@ impl Node {
         Ok(false)
     }
 
-    /// Replaces the bytes.
+    /// Replaces the data. A refused allocation changes nothing.
     pub(crate) fn set_data(&mut self, header: &TxnHeader, body: &SetData) -> Result<(), NoMemory>
         ensures ok { OnOk result (self.new ≡ with_data header.now body.now self.old) }
         ensures err { OnErr result (self.new ≡ self.old) }
@@ -236,7 +234,7 @@ impl Node {
         Ok(())
     }
 
-    /// Replaces the access control list.
+    /// Replaces the access control list. A refused allocation changes nothing.
     pub(crate) fn set_acl(&mut self, body: &SetAcl) -> Result<(), NoMemory>
         ensures ok { OnOk result (self.new ≡ with_acl body.now self.old) }
         ensures err { OnErr result (self.new ≡ self.old) }
@@ -247,7 +245,7 @@ impl Node {
         Ok(())
     }
 
-    /// What the node shows of itself.
+    /// The node's Stat, as clients see it.
     pub fn shown(&self) -> Stat
         ensures { result ≡ stat_of self.now }
     {
@@ -259,7 +257,7 @@ impl Node {
     }
 }
 
-// What the kept numbers show, with how many children there are and how many bytes.
+// The Stat that clients see, from the stored one, the number of children and the length of the data in bytes.
 fn show(stat: StatPersisted, children: i32, bytes: i32) -> Stat
     ensures { result ≡ shown_stat stat children bytes }
 {
@@ -285,7 +283,7 @@ fn java_int(count: usize) -> i32
     ((count % (1 << 32)) as u32).cast_signed()
 }
 
-// How many bytes there are; null has none.
+// The length of the data in bytes; 0 for null.
 fn length(bytes: &Option<Blob>) -> usize
     ensures { result ≡ length_or_zero bytes.now }
 {
@@ -295,7 +293,7 @@ fn length(bytes: &Option<Blob>) -> usize
     }
 }
 
-// The number of creates and deletes of children, from that of creates.
+// The cversion that clients see. It counts creates and deletes of children, and the stored one creates alone.
 fn shown_cversion(stored: i32, children: i32) -> i32
     ensures { result ≡ shown_cversion stored children }
 {

@@ -1,4 +1,6 @@
-//! The nodes by path, seen as a finite map.
+//! The nodes by path, modelled as a finite map.
+//!
+//! Laws that go over this: `Naming`. Laws of `data_tree` that go over this: `KeepingNames`, `MovedCells`.
 
 ghost use Rattle.std.specs.Prelude.{◌≡◌, ◌↔◌, ℤ, OnOk, OnErr, IfOk, IsTrue, Option, None, Some, is_some, not, true, map, String, string_bytes};
 ghost use Rattle.std.specs.Option.{option_copied, option_copied_mut};
@@ -53,14 +55,14 @@ impl Clone for NodeMap {
     }
 }
 
-// Whether a text may stand behind a path's last slash.
+// Whether a text may follow the last slash of a path.
 fn is_child_name(name: &[u8]) -> bool
     ensures { result ≡ is_child_name name.now }
 {
     !name.is_empty() && !name.contains(&0) && !name.contains(&b'/')
 }
 
-// Whether each of the names may stand there.
+// Whether each of the names may follow the last slash of a path.
 fn are_child_names(names: &TextSet) -> bool
     ensures { IsTrue result ↔ AreChildNames names.now }
 {
@@ -73,7 +75,7 @@ fn are_child_names(names: &TextSet) -> bool
 }
 
 impl NodeMap {
-    /// No node, which takes no memory.
+    /// No node. Allocates nothing.
     pub fn new(alloc: Global) -> NodeMap
         ensures { result ≡ finmap.empty }
     {
@@ -89,14 +91,14 @@ impl NodeMap {
         self.map.get(path)
     }
 
-    /// How many nodes there are.
+    /// The number of nodes.
     pub fn len(&self) -> usize
         ensures { result ≡ finmap.len self.now }
     {
         self.map.len()
     }
 
-    /// The nodes with their paths, in ascending bytes.
+    /// The nodes with their paths, in ascending order of the paths' bytes.
     pub fn iter(&self) -> Iter<'_, String, Node>
         ensures entries { map (λ e. (string_bytes e.0, e.1)) result ≡ finmap.entries self.now }
         ensures runs { ShowsInOrder (deref_pair {K = String Global} {X = TheNode}) }
@@ -104,7 +106,7 @@ impl NodeMap {
         self.map.iter()
     }
 
-    /// Puts a node at the path, in place of another one.
+    /// Inserts a node at the path; it replaces another one there. A refused allocation changes nothing.
     pub fn insert(&mut self, path: String, node: Node) -> Result<(), NoMemory>
         ensures ok { OnOk result (self.new ≡ finmap.insert self.old (string_bytes path) node) }
         ensures err { OnErr result (self.new ≡ self.old) }
@@ -113,7 +115,8 @@ impl NodeMap {
         Ok(())
     }
 
-    /// Puts all of the others' nodes, in place of those that stand there. Refused, it may have put some.
+    /// Inserts all of the others' nodes; they replace those at the same paths. After a refused allocation some may be
+    /// inserted.
     pub fn append(&mut self, others: NodeMap) -> Result<(), NoMemory>
         ensures { OnOk result (self.new ≡ with_entries self.old (finmap.entries others)) }
     {
@@ -123,7 +126,7 @@ impl NodeMap {
         Ok(())
     }
 
-    /// Takes out the node at the path.
+    /// Removes the node at the path and returns it.
     pub fn remove(&mut self, path: &str) -> Option<Node>
         ensures value { result ≡ finmap.get self.old path.now }
         ensures removed { self.new ≡ finmap.remove self.old path.now }
@@ -138,7 +141,7 @@ impl NodeMap {
         self.map.get_mut(path)
     }
 
-    // Puts another node at the path, if one is there.
+    // Replaces the node at the path, if there is one.
     fn replace(&mut self, path: &str, node: Node)
         ensures { self.new ≡ update_node self.old path.now (λ _. node) }
     {
@@ -148,7 +151,7 @@ impl NodeMap {
         }
     }
 
-    /// Puts a node at the path where there is none yet, and says whether there was none.
+    /// Inserts a node at the path if there is none yet, and returns whether there was none.
     pub fn insert_new(&mut self, alloc: Global, path: &str, node: Node) -> Result<bool, NoMemory>
         ensures new { IfOk result (λ new. new ≡ not (has_node self.old path.now)) }
         ensures state { OnOk result (self.new ≡ with_new_node self.old path.now node) }
@@ -164,7 +167,7 @@ impl NodeMap {
         }
     }
 
-    /// Makes the node at the path, if any, list the name.
+    /// Adds a name to the children of the node at the path, if there is one. A refused allocation changes nothing.
     pub fn add_name(&mut self, path: &str, name: String) -> Result<AddedChild, NoMemory>
         ensures state { OnOk result
             (self.new ≡ update_node self.old path.now (with_name (string_bytes name))) }
@@ -183,7 +186,7 @@ impl NodeMap {
         }
     }
 
-    /// Makes the node at the path, if any, list the name no more.
+    /// Removes a name from the children of the node at the path, if there is one.
     pub fn remove_name(&mut self, path: &str, name: &str)
         ensures { self.new ≡ update_node self.old path.now (without_name name.now) }
     {
@@ -195,7 +198,7 @@ impl NodeMap {
         }
     }
 
-    /// Adds a child's name to the node at the path, or raises that node's numbers where it has the name.
+    /// Adds a child's name to the node at the path, or raises that node's stat if it has the name.
     pub fn add_child(
         &mut self,
         path: &str,
@@ -222,7 +225,7 @@ impl NodeMap {
         }
     }
 
-    /// Takes a child's name from the node at the path, if any, and gives it back its numbers.
+    /// Removes a child's name from the node at the path, if there is one, and restores that node's stat.
     pub fn undo_add_child(&mut self, path: &str, name: &str, before: StatPersisted)
         ensures { self.new ≡ update_node self.old path.now (without_added_child name.now before) }
     {
@@ -235,7 +238,7 @@ impl NodeMap {
         }
     }
 
-    /// Takes the name of a deleted child from the node at the path, and says whether there is such a node.
+    /// Removes the name of a deleted child from the node at the path, and returns whether there is such a node.
     pub fn remove_child(&mut self, path: &str, name: &str, header: &TxnHeader) -> bool
         ensures state { self.new ≡
             update_node self.old path.now (without_child name.now header.now.zxid) }
@@ -251,7 +254,7 @@ impl NodeMap {
         }
     }
 
-    /// Replaces the bytes of the node at the path, and says whether there is such a node.
+    /// Replaces the data of the node at the path, and returns whether there is such a node.
     pub fn set_data(
         &mut self,
         path: &str,
@@ -272,7 +275,7 @@ impl NodeMap {
         }
     }
 
-    /// Replaces the access control list of the node at the path, and says whether there is such a node.
+    /// Replaces the access control list of the node at the path, and returns whether there is such a node.
     pub fn set_acl(&mut self, path: &str, body: &SetAcl) -> Result<bool, NoMemory>
         ensures state { OnOk result (self.new ≡ update_node self.old path.now (with_acl body.now)) }
         ensures found { IfOk result (λ found. found ≡ is_some (finmap.get self.old path.now)) }
@@ -287,7 +290,6 @@ impl NodeMap {
         }
     }
 
-    // Whether the node at the path lists the name.
     fn lists(&self, path: &str, name: &str) -> bool
         ensures { result ≡ is_listed_at self.now path.now name.now }
     {
@@ -317,7 +319,7 @@ impl NodeMap {
         Ok(true)
     }
 
-    /// Whether each node stands at a path, and lists names that may stand behind a path's last slash.
+    /// Whether each node is at a path, and lists names that may follow the last slash of a path.
     pub fn are_named(&self) -> bool
         ensures { IsTrue result ↔ AreNamed self.now }
     {
@@ -348,8 +350,8 @@ impl NodeMap {
         Ok(true)
     }
 
-    /// Whether the pairs are the owned nodes' owners and paths. Where each of these is a pair, and they are as many
-    /// as the pairs, there is no other pair.
+    /// Whether the pairs are the owners and paths of the owned nodes. It checks that each of these is a pair and that
+    /// there are as many of them as pairs, so there is no other pair.
     pub fn are_owned(&self, pairs: &Ephemerals) -> bool
         ensures { IsTrue result ↔ AreOwned self.now pairs.now }
     {

@@ -1,4 +1,4 @@
--- Whatever happens, sessions and watches name open connections, and no two connections have one session.
+-- No event ends the agreement: sessions and watches name open connections, and no two connections have one session.
 use Rattle.std.proofs.Common.{◌≡◌, ℕ, ℤ, pos, Bool, true, false, cond, not, ◌||◌, List, [], ◌∷◌, ◌++◌, Option, Some, None, Result, Ok, Err, refl, sym, ap, ◌∙◌}
 use Rattle.std.specs.Prelude.{is_some, IsTrue}
 use Rattle.std.specs.Option.{unwrap_or}
@@ -62,7 +62,7 @@ IsOpen n w = is_open n w.clients ≡ true
 
 -- ---- no two connections have one session
 
--- the connection that has the session
+-- The connection that has the session.
 with_session : (o : Option SessionConnection) (session : ℤ) → session_in o ≡ Some session
     → (c : SessionConnection) × ((o ≡ Some c) × (c.session ≡ session))
 with_session None session e = absurd (true≢false (sym (ap is_some e)))
@@ -90,7 +90,7 @@ opened_agrees n k c a = record {
 
 -- ---- connections close
 
--- each other one is open still
+-- Each other connection is still open.
 open_but : (n : ℕ) (c : Clients) (m : ℕ) → is_open m c ≡ true
     → (is_open m (without_client n c) || same_connection n m) ≡ true
 open_but n c m e =
@@ -117,7 +117,7 @@ module _ (kept : AgreementIsKept) (told : OnlyWatchersAreTold) (dropped : Droppe
   each_closed_agrees [] c a = a
   each_closed_agrees (n ∷ others) c a = each_closed_agrees others (without_client n c) (closed_agrees n c a)
 
-  -- ---- what goes to a client
+  -- ---- what is sent to a client
 
   close_agrees : (n : ℕ) (w : World) → Agreeing w → Agreeing (close_client n w).after
   close_agrees n w a = closed_agrees n w.clients a

@@ -1,4 +1,4 @@
--- All worked rows: those of words, step by step, and the others.
+-- All worked rows: those of words, evaluated step by step, and the others.
 use Rattle.std.proofs.Common.{◌≡◌, ℕ, List, [], ◌∷◌, ◌++◌, take, Option, Err, false, cond, refl, ap, ◌∙◌}
 use Rattle.std.specs.Prelude.{ℤ, pos, codes, is_some}
 use Rattle.std.specs.FinMap as finmap
@@ -25,9 +25,9 @@ use Rattle.observer_core.specs.Rows.{reply_of_create, set_data_inform_event, get
 use Rattle.client_service.proofs.NatMaps.{get-inserted}
 use Rattle.observer_core.proofs.Rows.{ReadAgain, NobodyTold, world_at, at_frames, in_hand, create_get, set_get, cut_get, create_twice, closed_passes, watch_told, idle_is}
 
--- ---- connection 2 begins with a word, where no leader was followed
+-- ---- connection 2 begins with a word, and no leader was followed
 
--- a new machine's world, in which connection 2 is open
+-- A new machine's world, in which connection 2 is open.
 abbrev opened : Settings → World
 opened settings =
     let w = (new_machine settings).world in

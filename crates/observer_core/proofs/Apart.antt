@@ -1,4 +1,4 @@
--- What a client does reaches no other connection but an older one of its session.
+-- What a client does affects no other connection except an older one of its session.
 use Rattle.std.proofs.Common.{◌≡◌, ◌≢◌, ◌⊎◌, inl, inr, ℕ, ℤ, pos, negsuc, Bool, true, false, not, cond, List, [], ◌∷◌, ◌++◌, Option, Some, None, Result, Ok, Err, refl, sym, ap, ◌∙◌}
 use Rattle.std.specs.Option.{unwrap_or}
 use Rattle.std.specs.Ordering.{int_eq}
@@ -60,7 +60,7 @@ module _ {A : Type 0} (P : A → Type 0) where
   all_back [] ys p = p
   all_back (x ∷ xs) ys p = all_back xs ys p.1
 
--- ---- connections that are left alone
+-- ---- connections that are untouched
 
 untouched : (k : ℕ) (c : Clients) → IsUntouched k c c
 untouched k c = record { rest = refl; session = refl; own = λ path. refl; child = λ path. refl }
@@ -93,7 +93,7 @@ without_alone stay keep_watches n c k other = record {
 }
 
 module _ (left : ℕ → Type 0) where
-  -- one step, and another on what it left
+  -- One step, and another on the state that it left.
   then_apart : (n : ℕ) (w : World) (h : StepResult World) (next : World → StepResult World) → IsApart n left w h
       → IsApart n left h.after (next h.after) → IsApart n left w (and_then h next)
   then_apart n w h next a b = record {
@@ -104,7 +104,7 @@ module _ (left : ℕ → Type 0) where
         (b.others k other (all_back (λ (o : Output). o ≢ CloseClient k) h.outputs (next h.after).outputs stays));
   }
 
-  -- the clients change, and nothing goes out
+  -- The clients change, and nothing is sent.
   changes : (n : ℕ) (w : World) (c : Clients) → ((k : ℕ) → k ≢ n → IsUntouched k w.clients c)
       → IsApart n left w (no_output (record w { clients = c }))
   changes n w c alone = record { outputs = tt; replica = refl; others = λ k other stays. alone k other }
@@ -113,7 +113,7 @@ module _ (left : ℕ → Type 0) where
   stays_so n w = changes n w w.clients (λ k other. untouched k w.clients)
 
   module _ (stay : OtherConnectionsStay) (keep_watches : OthersKeepWatches) where
-    -- the client's connection closes, or another one
+    -- The client's own connection closes, or one in `left`.
     close_apart : (n m : ℕ) (w : World) → (m ≡ n) ⊎ left m → IsApart n left w (close_client m w)
     close_apart n m w may = record {
       outputs = (may, tt);
@@ -325,7 +325,7 @@ module _ (left : ℕ → Type 0) where
     call_in_apart n w (Ok c) agree = call_apart n w c.xid c.body agree
     call_in_apart n w (Err e) agree = close_own n w
 
-    -- ---- what is left of a client's bytes
+    -- ---- the rest of a client's bytes
 
     wait_apart : (n : ℕ) (w : World) (o : Option OpenConnection) (unread : Unread)
         → IsApart n left w (wait_if_open n w o unread)
@@ -334,7 +334,7 @@ module _ (left : ℕ → Type 0) where
         (connection_alone n w (record { rest = rest }))
     wait_apart n w (Some c) (Err e) = close_own n w
 
-  -- ---- coming and going
+  -- ---- connecting and leaving
 
   pub open_apart : (n : ℕ) (w : World) → IsApart n left w (no_output (open_client n w))
   open_apart n w = by (is_open n w.clients)
@@ -354,11 +354,11 @@ module _ (left : ℕ → Type 0) where
 
 -- ---- all that a client sends
 
--- none but the client's own connection closes
+-- None but the client's own connection closes.
 abbrev Nobody : ℕ → Type 0
 Nobody k = ⊥
 
--- with more that may be closed
+-- More connections may be closed.
 wider : (n : ℕ) (p q : ℕ → Type 0) (w : World) (h : StepResult World) → ((k : ℕ) → p k → q k) → IsApart n p w h
     → IsApart n q w h
 wider n p q w h more a = record { outputs = each h.outputs a.outputs; replica = a.replica; others = a.others }
@@ -383,7 +383,7 @@ module _ (stay : OtherConnectionsStay) (keep_watches : OthersKeepWatches) (told 
     (of_sessions : (w : World) → Agree w → SessionsAgree w.clients.sessions)
     (served : (serving : Bool) (n : ℕ) (w : World) (frame : List ℕ) → is_closed n w ≡ false → Agree w
     → Agree (serve_frame serving n w frame).after) where
-  -- a client that has a session keeps it, and closes nobody else
+  -- A client that has a session keeps it, and closes no other connection.
   record IsOwn (n : ℕ) (session : ℤ) (w : World) (h : StepResult World) : Type 0 where
     apart : IsApart n Nobody w h
     has : HasIfOpen n session h.after.clients
@@ -421,7 +421,8 @@ module _ (stay : OtherConnectionsStay) (keep_watches : OthersKeepWatches) (told 
           let then = rest (served serving n w f (ap not here) agree) first.has in
           record { apart = then_apart Nobody n w h others first.apart then.apart; has = then.has }
 
-  -- a client without a session asks for one first; whom that closes had the session that it takes up
+  -- A client without a session asks for one first. A connection that this closes had the session that the client takes
+  -- over.
   abbrev Had : World → ℤ → ℕ → Type 0
   Had w session k = session_of_connection w.clients.sessions k ≡ Some session
 
@@ -517,7 +518,7 @@ module _ (stay : OtherConnectionsStay) (keep_watches : OthersKeepWatches) (told 
       v : World
       v = with_waiting_bytes n w c []
 
-      -- the bytes are taken to hand first
+      -- The connection's waiting bytes are taken out of it first.
       at_hand : (left : ℕ → Type 0) → IsApart n left w (no_output v)
       at_hand left = changes left n w v.clients (connection_alone n w idle_connection)
 

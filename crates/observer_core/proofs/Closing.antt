@@ -1,4 +1,4 @@
--- Which connections are open behind a client's step: none more than before, and none with other bytes waiting.
+-- The open connections after a client's step: each was open before, with the same waiting bytes.
 use Rattle.std.proofs.Common.{◌≡◌, ℕ, ℤ, pos, Bool, true, false, cond, List, Option, Some, None, Result, Ok, Err}
 use Rattle.std.specs.Ordering.{int_eq}
 use Rattle.std.specs.FinMap as finmap
@@ -23,7 +23,7 @@ use Rattle.client_service.specs.Steps.{StepResult}
 use Rattle.client_service.specs.Serve.{close_client, send_or_close, send_last, send_reply_last, with_watching, with_watch_if, with_each_watch, answer_set_watches, with_sessions, send_auth_result, with_session_expired, end_session, close_client_if_some, send_connect_response, finish_connect, may_connect, handle_connect, handle_call, serve_as, serve_by, serve_frame}
 use Rattle.client_service.proofs.NatMaps.{still_there}
 
--- each connection that is open then was open before, with the same bytes waiting
+-- Each connection that is open afterwards was open before, with the same waiting bytes.
 abbrev pub OnlyCloses : World → World → Type 0
 OnlyCloses w v = (k : ℕ) (c : OpenConnection) → finmap.get v.clients.connections k ≡ Some c
     → finmap.get w.clients.connections k ≡ Some c

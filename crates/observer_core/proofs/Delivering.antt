@@ -1,4 +1,4 @@
--- What the loops over the leader's packets and parts and over the connections do at each turn.
+-- The turns of the loops over the leader's packets and parts, and over the connections.
 use Rattle.std.proofs.Common.{append_assoc, map, ◌≡◌, ℕ, List, [], ◌∷◌, ◌++◌, false, Result, Ok, Err, Option, Some, None, refl, sym, ap, subst, ◌∙◌}
 use Rattle.std.specs.Prelude.{is_err}
 use Rattle.std.specs.FinMap as finmap
@@ -48,7 +48,7 @@ abbrev first_taken : WorldAndLoading → Items Phase Item → Result (StepResult
 first_taken w i r = came_to i (and_then (delivery_of r w)
     (λ d. fold_steps is_refused (deliver_item item_step) d i.found))
 
--- nothing is put out on the way there
+-- No output on the way there.
 abbrev pub quietly : WorldAndLoading → Result (Place Phase) Fault → StepResult (StreamProgress Phase WorldAndLoading)
 quietly w place = no_output (record { left = w; place = place })
 
@@ -80,13 +80,12 @@ module _ (w : WorldAndLoading) (found : Items Phase Item) where
   fault_found place e is fault = ap (take_items item_step w) is
       ∙ ap (λ (u : Unread). quietly w (place_or_fault place u)) fault
 
--- ---- one packet or part more
+-- ---- one more packet or part
 
 module _ (old now new : List Output) (whole : StepResult (StreamProgress Phase WorldAndLoading))
     (w after : WorldAndLoading)
     (found others : Items Phase Item) (p : Item)
     (is : found ≡ with_first p others) (s : SoFar old whole now (take_items item_step w found)) where
-  -- it was taken
   pub packet_taken : ReceivesItem (Ok tt) now (item_step w p) w new after
       → SoFar old whole new (take_items item_step after others)
   packet_taken received = by (item_step w p) refl received
@@ -98,7 +97,7 @@ module _ (old now new : List Output) (whole : StepResult (StreamProgress Phase W
           after (taken_first w found p others h is taken) made s
       by (Err e) refused none = absurd none
 
-  -- memory was refused in it
+  -- An allocation was refused while it was taken.
   pub packet_stops : ReceivesItem (Err errors.NoMemory) now (item_step w p) w new after → Gains old whole.outputs new
   packet_stops received = by (item_step w p) refl received
     where
@@ -110,7 +109,6 @@ module _ (old now new : List Output) (whole : StepResult (StreamProgress Phase W
       by (Err e) refused same = stops old whole now new (take_items item_step w found)
           (rw same (gains_nothing now (take_items item_step w found).outputs)) s
 
-  -- it was refused
   pub packet_refused : (e : Fault) → ReceivesItem (Err (errors.Fault e)) now (item_step w p) w new after
       → prepend_outputs old whole ≡ record { outputs = new; after = record { left = after; place = Err e } }
   packet_refused e received =
@@ -124,7 +122,7 @@ pub all_of : {A : Type 0} (P : A → Type 0) (xs : List A) → AllByRecursion P 
 all_of P [] a = All-nil P
 all_of P (x ∷ xs) a = All-cons P x xs a.0 (all_of P xs a.1)
 
--- the packets were sent, and then the events were told, or some of them
+-- The packets were sent, and then all of the events or a prefix of them.
 pub told_first : (r : Result (Unit {0}) NoMemory) (old mid new sent told : List Output) → mid ≡ old ++ sent
     → Puts r mid told new
     → Puts r old (sent ++ told) new
@@ -154,7 +152,7 @@ module _ (d : WorldAndLoading) (i : Item) (old : List Output) where
   module _ (brought : ItemOutcome) (loading : Loading) (r : Replica)
       (taken : take_item d.loading d.world.replica i ≡ Ok
       (record { replies = brought.replies; triggers = brought.triggers; loading = loading; replica = r })) where
-    -- it was taken and told
+    -- The item was taken, and its effect was sent.
     pub received : (new : List Output) (clients : Clients)
         → MeetsStep (Ok tt) old (send_outcome d.world.clients brought) new clients
         → ReceivesItem (Ok tt) old (item_step d i) d new
@@ -172,7 +170,7 @@ module _ (d : WorldAndLoading) (i : Item) (old : List Output) where
           after = record { loading = loading; world = record d.world { replica = r; clients = h.after } };
         }) told)
 
-    -- memory was refused in the telling
+    -- An allocation was refused while its effect was sent.
     pub untold : (new : List Output) (after : WorldAndLoading)
         → Gains old (send_outcome d.world.clients brought).outputs new
         → ReceivesItem (Err errors.NoMemory) old (item_step d i) d new after
@@ -180,7 +178,7 @@ module _ (d : WorldAndLoading) (i : Item) (old : List Output) where
         subst (λ (m : Result (StepResult WorldAndLoading) Fault). ReceivesItem (Err errors.NoMemory) old m d new after)
         (sym (ap telling_it taken)) gains
 
-  -- memory was refused in the taking
+  -- An allocation was refused while it was taken.
   pub untaken : (after : WorldAndLoading) → ReceivesItem (Err errors.NoMemory) old (item_step d i) d old after
   untaken after = by (item_step d i)
     where
@@ -188,7 +186,7 @@ module _ (d : WorldAndLoading) (i : Item) (old : List Output) where
       by (Ok h) = gains_nothing old h.outputs
       by (Err e) = refl
 
-  -- it was refused
+  -- The item was refused for a fault.
   pub refused : (e : Fault) (loading : Loading) (r : Replica) → take_item d.loading d.world.replica i ≡ Err e
       → loading ≡ d.loading → r ≡ d.world.replica
       → ReceivesItem (Err (errors.Fault e)) old (item_step d i) d old
@@ -204,7 +202,7 @@ module _ (d : WorldAndLoading) (i : Item) (old : List Output) where
     ),
   )
 
-  -- either
+  -- The item was refused, or an allocation was.
   pub not_taken : (e : ReadError) (loading : Loading) (r : Replica)
       → TakesItem (Err e) (take_item d.loading d.world.replica i)
       d.loading d.world.replica loading r
@@ -240,7 +238,7 @@ disconnects (Err e) old new w clients m = m
 
 -- ---- the leader is lost
 
--- the clients are closed behind it
+-- The clients are closed after the leader.
 pub loses : (r : Result (Unit {0}) NoMemory) (mid put new : List Output) (w left : World) (e : Fault)
     → put ≡ mid ++ CloseLeader e ∷ []
     → MeetsStep r put (disconnect_all w) new left
@@ -250,7 +248,7 @@ loses (Ok u) mid put new w left e is m =
     ∙ ap (λ (o : List Output). prepend_outputs o (disconnect_all w)) (sym is) ∙ m
 loses (Err n) mid put new w left e is m = gains_behind mid (CloseLeader e ∷ []) is m
 
--- no leader is beside it
+-- There is no leader any more.
 pub alone : (r : Result (Unit {0}) NoMemory) (old new : List Output) (h : StepResult World) (left : World)
     → MeetsStep r old h new left → MeetsStep {S =
     Machine} r old (with_leader None h) new (record { leader = None; world = left })
@@ -259,7 +257,7 @@ alone (Err e) old new h left m = m
 
 -- ---- a piece
 
--- what packets and parts leave of the leader
+-- The state of the leader's stream after its packets and parts.
 abbrev left_by : StepResult (StreamProgress Phase WorldAndLoading) → StepResult (WorldAndLeader Leader)
 left_by h = record {
   outputs = h.outputs;
@@ -299,7 +297,6 @@ module _ (old : List Output) (leader : Option Leader) (l : Leader) (w : World) (
   taken : take_leader_bytes part_reader leader w bytes ≡ and_then came leaving
   taken = ap (λ (o : Option Leader). take_leader_bytes part_reader o w bytes) leads
 
-  -- the leader stays
   pub stays : (new : List Output) (after : Leader) (left : World) → FollowsStream (Ok None) old came new after left
       → MeetsStep (Ok tt) old (take_leader_bytes part_reader leader w bytes) new
       (record { leader = Some after; world = left })
@@ -309,7 +306,7 @@ module _ (old : List Output) (leader : Option Leader) (l : Leader) (w : World) (
       ∙ then_meets (Ok tt) old new new came leaving (record { world = left; leader = Ok after }) m is
       (ap (λ (o : List Output). record { outputs = o; after = m }) (append-nil new))
 
-  -- a fault came behind what was delivered
+  -- A fault came after the items that were delivered.
   pub loses_in_piece : (r : Result (Unit {0}) NoMemory) (mid new : List Output) (after : Leader)
       (left last : World) (e : Fault)
       → FollowsStream (Ok (Some e)) old came mid after left
@@ -321,7 +318,7 @@ module _ (old : List Output) (leader : Option Leader) (l : Leader) (w : World) (
       (record { leader = None; world = last }) is
       (alone r mid new (prepend_outputs (CloseLeader e ∷ []) (disconnect_all left)) last m))
 
-  -- memory was refused on the way
+  -- An allocation was refused on the way.
   pub stops_in_piece : (new : List Output) → Gains old came.outputs new
       → Gains old (take_leader_bytes part_reader leader w bytes).outputs new
   stops_in_piece new gains =

@@ -1,4 +1,4 @@
--- Whoever was served a frame has a session, or is closed.
+-- A connection whose frame was served has a session, or is closed.
 use Rattle.std.proofs.Common.{◌≡◌, ℕ, ◌+◌, ◌==◌, ℤ, pos, Bool, true, false, cond, not, List, ◌∷◌, Option, Some, None, Result, Ok, Err, refl, sym, ap, ◌∙◌}
 use Rattle.std.specs.Prelude.{is_some}
 use Rattle.std.specs.Ordering.{eq_by_cmp, nat_cmp, int_eq}
@@ -22,7 +22,7 @@ use Rattle.client_service.proofs.NatMaps.{get-inserted}
 use Rattle.observer_core.proofs.Keeping.{happening_keeps}
 use Rattle.observer_core.proofs.Taking.{HasIfOpen, closed_has, greet_has, call_in_has}
 
--- the connection has a session, if it is open
+-- The connection has a session, if it is open.
 abbrev pub HasOne : ℕ → Clients → Type 0
 HasOne n c = is_open n c ≡ true → is_some (session_of_connection c.sessions n) ≡ true
 
@@ -32,7 +32,7 @@ has_one n session c has here = ap is_some (has here)
 closed_one : (n : ℕ) (c : Clients) → HasOne n (without_client n c)
 closed_one n c = has_one n (pos 0) (without_client n c) (closed_has n (pos 0) c)
 
--- where another connection closes, the session stays
+-- Where another connection closes, the session stays.
 other_closed : (n j : ℕ) (session : ℤ) (c : Clients) → session_of_connection c.sessions n ≡ Some session
     → HasIfOpen n session (without_client j c)
 other_closed n j session c has = by (eq_by_cmp nat_cmp n j) refl
@@ -61,7 +61,7 @@ left_has : (n : ℕ) (session : ℤ) (w : World) (left : Option ℕ)
 left_has n session w None has = λ _. has
 left_has n session w (Some j) has = other_closed n j session w.clients has
 
--- ---- an answer that names a session gives it
+-- ---- a response that names a session gives it
 
 abbrev Gives : ℕ → ConnectResult → Type 0
 Gives n c = int_eq c.connected.response.session_id (pos 0) ≡ false

@@ -1,9 +1,9 @@
--- What each step keeps is kept by all.
+-- An invariant of each step is an invariant of the whole list.
 use Rattle.std.proofs.Common.{◌≡◌, Bool, false, List, [], ◌∷◌}
 use Rattle.std.proofs.lemmas.Bool.{cond_both}
 use Rattle.client_service.specs.Steps.{StepResult, no_output, and_then, fold_steps}
 
--- where a state is at its end no step is made
+-- No step is made where the state is at its end.
 module _ {S A : Type 0} (P : S → Type 0) (is_end : S → Bool) (step : S → A → StepResult S)
     (kept : (s : S) (a : A) → is_end s ≡ false → P s → P (step s a).after) where
   pub happening_keeps : (s : S) (all : List A) → P s → P (fold_steps is_end step s all).after

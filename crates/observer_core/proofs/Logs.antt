@@ -1,4 +1,4 @@
--- Whatever happens, a replica follows its log.
+-- After every event the replica follows its log.
 use Rattle.std.proofs.Common.{◌≡◌, ℕ, List, Option, Some, None, Result, Ok, Err, false, sym, subst, refl}
 use Rattle.std.specs.FinMap as finmap
 use Rattle.values.specs.declared.fault.Fault.{Fault}
@@ -23,7 +23,7 @@ use Rattle.observer_core.proofs.Unmoved.{client_same, open_same, end_same, expir
 abbrev Follows : World → Type 0
 Follows w = FollowsItsLog w.replica
 
--- another world with the same replica
+-- Another world with the same replica.
 still_follows : (w v : World) → v.replica ≡ w.replica → Follows w → Follows v
 still_follows w v same f = subst FollowsItsLog (sym same) f
 

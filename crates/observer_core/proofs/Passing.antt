@@ -1,4 +1,5 @@
--- A test that all numbers in a map pass, and all connections that have a session or watch something.
+-- A predicate of connection numbers that holds for all keys of a map, and for all connections with a session or a
+-- watch.
 use Rattle.std.proofs.Common.{◌≡◌, ℕ, ◌+◌, ◌==◌, ℤ, pos, Bool, true, false, ◌||◌, List, [], ◌∷◌, length, Option, Some, None, refl, sym, ap, ◌∙◌}
 use Rattle.std.specs.Prelude.{is_some, nat_lt}
 use Rattle.std.specs.List.{list_any}
@@ -39,7 +40,7 @@ module _ {X : Type 0} (test : ℕ → Bool) (m : finmap.FinMap nat_cmp X) (n : �
       (λ same h. ap test (tells_apart exact_unsigned k n same) ∙ here) (λ other h. all k h)
       (sym (ap is_some (finmap.get-insert nat_cmp_total m n v k)) ∙ has)
 
-  -- whoever is left passes, if only the one that was taken out doesn't
+  -- The remaining keys pass, if at most the removed one doesn't.
   pub removed_passes : KeysPass (λ k. test k || same_connection n k) m → KeysPass test (finmap.remove m n)
   removed_passes all k has =
       cond_both (eq_by_cmp nat_cmp k n) None (finmap.get m k) (λ o. is_some o ≡ true → test k ≡ true)
@@ -47,7 +48,7 @@ module _ {X : Type 0} (test : ℕ → Bool) (m : finmap.FinMap nat_cmp X) (n : �
       (λ other h. or_first (test k) (same_connection n k) ((eq_by_cmp_equiv nat_cmp_total).symm n k ∙ other) (all k h))
       (sym (ap is_some (finmap.get-remove nat_cmp_total m n k)) ∙ has)
 
-  -- so it is where that one isn't in the map
+  -- The same where that key isn't in the map.
   pub absent_passes : finmap.get m n ≡ None → KeysPass (λ k. test k || same_connection n k) m → KeysPass test m
   absent_passes none all k has = by (same_connection n k) refl
     where
@@ -63,7 +64,7 @@ module _ (test : ℕ → Bool) where
   abbrev Pass : SessionTable → Type 0
   Pass s = KeysPass test s.connections
 
-  -- whoever has a session still passes, if only the one that was closed doesn't
+  -- Every connection that still has a session passes, if at most the closed one doesn't.
   pub closed_passes : (s : SessionTable) (n : ℕ) → KeysPass (λ k. test k || same_connection n k) s.connections
       → Pass (close_connection s n)
   closed_passes s n all = by (finmap.get s.connections n) refl
@@ -117,7 +118,7 @@ module _ (test : ℕ → Bool) where
 
 -- ---- connections that watch
 
--- a weaker test
+-- A weaker predicate.
 pub watchers_pass : (p q : ℕ → Bool) (w : WatchTables) → ((k : ℕ) → p k ≡ true → q k ≡ true) → WatchersPass p w
     → WatchersPass q w
 watchers_pass p q w weaker all = (λ path k has. weaker k (all.0 path k has), λ path k has. weaker k (all.1 path k has))

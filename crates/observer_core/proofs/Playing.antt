@@ -1,4 +1,4 @@
--- Play of lists joined, and of bytes cut.
+-- `play` of concatenated lists, and of a piece of bytes that is cut in two.
 use Rattle.std.proofs.Common.{◌≡◌, ◌⊎◌, inl, inr, ℕ, ◌<◌, ◌≤◌, Bool, true, false, cond, not, List, [], ◌∷◌, ◌++◌, length, take, Option, Some, None, Result, Ok, Err, refl, sym, ap, subst, ◌∙◌, append_assoc}
 use Rattle.std.specs.Prelude.{is_some}
 use Rattle.std.specs.Option.{unwrap_or}
@@ -52,12 +52,12 @@ some_is c k e = ap (λ (o : Option OpenConnection). unwrap_or o c) e
 
 -- ---- the leader's bytes
 
--- what the packets that came leave of the leader
+-- The machine after the packets that came.
 abbrev finish : StepResult (Delivery WorldAndLoading) → Place Phase → StepResult Machine
 finish h place = and_then h (λ d. with_leader_or_fault d.left.world
     (leader_at d.left.loading (place_after place d.fault)))
 
--- what further bytes of the leader bring
+-- The machine after further bytes of the leader.
 abbrev then_leader : StepResult Machine → List ℕ → StepResult Machine
 then_leader h more = prepend_outputs h.outputs (take_leader_bytes part_reader h.after.leader h.after.world more)
 
@@ -105,7 +105,7 @@ leader_cut (Some l) w a b =
 
 -- ---- both
 
--- one event that does what two do, one behind the other
+-- One event has the effect of two others in order.
 two_events : (m : Machine) (x y z : Event) (events : List Event)
     → play_event m x ≡ prepend_outputs (play_event m y).outputs
     (play_event (play_event m y).after z) → play m (x ∷ events) ≡ play m (y ∷ z ∷ events)
@@ -121,7 +121,7 @@ leader_cut_anywhere m a b events = two_events m (LeaderBytes (a ++ b)) (LeaderBy
 
 -- ---- a client's bytes
 
--- the connection, if it is open, has no bytes waiting
+-- The connection has no waiting bytes, if it is open.
 abbrev IsTaken : ℕ → World → Type 0
 IsTaken n w = (k : OpenConnection) → finmap.get w.clients.connections n ≡ Some k → k ≡ idle_connection
 
@@ -144,16 +144,16 @@ module _ (serving : Bool) (n : ℕ) where
       by true others = t
       by false others = others
 
-  -- what the frames that came leave of the connection
+  -- The connection after the frames that came.
   abbrev left_at : StepResult World → Unread → StepResult World
   left_at h left = and_then h (wait_at n left)
 
-  -- what further bytes of the client bring
+  -- The machine after further bytes of the client.
   abbrev then_client : StepResult World → List ℕ → StepResult World
   then_client h more = and_then h
       (λ w. take_client_bytes serving n w (finmap.get w.clients.connections n) more)
 
-  -- bytes are taken to hand again
+  -- Bytes are kept again.
   kept_again : (w : World) (rest : List ℕ) → finmap.get w.clients.connections n ≡ Some idle_connection
       → with_waiting_bytes n (with_waiting_bytes n w idle_connection rest) (record { rest = rest }) [] ≡ w
   kept_again w rest there =
@@ -161,7 +161,7 @@ module _ (serving : Bool) (n : ℕ) where
       (insert-insert w.clients.connections n idle_connection (record { rest = rest })
       ∙ insert-same w.clients.connections n idle_connection there)
 
-  -- bytes that wait are taken up with those that come
+  -- The waiting bytes are joined with those that come.
   taken_up : (w : World) (rest more : List ℕ) → finmap.get w.clients.connections n ≡ Some idle_connection
       → tell_or_serve serving n w (rest ++ more) (word_at n w (rest ++ more))
       ≡ then_client (no_output (with_waiting_bytes n w idle_connection rest)) more
@@ -172,7 +172,7 @@ module _ (serving : Bool) (n : ℕ) where
       (with_waiting_bytes n w idle_connection rest) o more)
       (get-inserted w.clients.connections n (record { rest = rest })))
 
-  -- what waits of these bytes says no word with those that come
+  -- The bytes that wait don't make a word with those that come.
   abbrev SaysNone : World → Unread → List ℕ → Type 0
   SaysNone w unread more = (rest : List ℕ) → unread ≡ Ok rest → is_open n w.clients ≡ true
       → word_at n w (rest ++ more) ≡ None
@@ -204,13 +204,13 @@ module _ (serving : Bool) (n : ℕ) where
       ∙ sym (ap (λ (x : Option OpenConnection). take_client_bytes serving n w x more) there)
   served_on w (Some k) left more there t says = waited_on w k left.unread more there (t k there) says
 
-  -- ---- frames, of which the first piece has all, or a front
+  -- ---- frames, where the first piece has all of them or a prefix
 
   module _ (w : World) (a b : List ℕ) (there : finmap.get w.clients.connections n ≡ Some idle_connection) where
     abbrev i : Items (Unit {0}) (List ℕ)
     i = items_in frames_of_client (place_at tt a)
 
-    -- where a frame was found, its client has a session then, or is closed
+    -- Where a frame was found, its client then has a session or is closed.
     abbrev AllSayNone : Items (Unit {0}) (List ℕ) → Type 0
     AllSayNone found = SaysNone (fold_steps (is_closed n) (serve_frame serving n) w found.found).after
         found.left.unread b
@@ -227,7 +227,7 @@ module _ (serving : Bool) (n : ℕ) where
         subst AllSayNone (sym (items_refused frames_of_client frames_streamed tt a e read))
         (λ rest is here. ap (λ (x : List ℕ). word_at n w (x ++ b)) (sym (still_waits e a rest is)) ∙ none)
 
-    -- a word that isn't said in the first piece isn't said at all
+    -- If the two pieces together begin with no word, the frames of both are served.
     both_served : word_at n w (a ++ b) ≡ None
         → serve_all serving n w (items_in frames_of_client (place_at tt (a ++ b)))
         ≡ then_client (serve_all serving n w i) b
@@ -246,13 +246,13 @@ module _ (serving : Bool) (n : ℕ) where
         ∙ behind_behind h.outputs waits.outputs
         (take_client_bytes serving n waits.after (finmap.get waits.after.clients.connections n) b)
 
-    -- fewer bytes than a length has all wait
+    -- Fewer bytes than a length prefix all wait.
     all_wait : length a < 4 → serve_all serving n w i ≡ no_output (with_waiting_bytes n w idle_connection a)
     all_wait short =
         ap (serve_all serving n w) (items_short frames_of_client frames_streamed tt a (short_frame a short))
         ∙ ap (λ (o : Option OpenConnection). wait_if_open n w o (Ok a)) there
 
-    -- a word is answered, and what comes then is passed over
+    -- A word is answered, and the bytes that come then are ignored.
     told_then : (word : Word) → tell_word serving n w word
         ≡ then_client (tell_word serving n w word) b
     told_then word =

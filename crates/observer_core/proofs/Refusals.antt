@@ -1,4 +1,4 @@
--- What a refused item leaves.
+-- The state that a refused item leaves.
 use Rattle.std.proofs.Common.{◌≡◌, ℕ, List, ◌∷◌, ◌++◌, Some, None, is_some, Err, refl, ap, ◌∙◌}
 use Rattle.std.proofs.lemmas.List.{append-nil}
 use Rattle.values.specs.declared.fault.Fault.{Fault}
@@ -14,7 +14,6 @@ use Rattle.observer_core.specs.Play.{play_event}
 use Rattle.observer_core.specs.Logs.{delivery_of_items, RefusalsChangeNothing}
 use Rattle.client_service.proofs.Steps.{passed_over, goes_on, happening_on}
 
--- what is left where an item was refused
 abbrev refused_with : Delivery WorldAndLoading → Fault → Delivery WorldAndLoading
 refused_with d e = record { left = d.left; fault = Some e }
 
@@ -22,7 +21,7 @@ item_refused : (d : Delivery WorldAndLoading) (i : Item) (e : Fault) → item_st
     → deliver_item item_step d i ≡ no_output (refused_with d e)
 item_refused d i e is = ap (λ r. delivery_of r d.left) is
 
--- after a refusal the others are passed over
+-- After a refusal the other items are ignored.
 others_dropped : (d : Delivery WorldAndLoading) (refused : Item) (others : List Item) (e : Fault) → d.fault ≡ None
     → item_step d.left refused ≡ Err e
     → fold_steps is_refused (deliver_item item_step) d (refused ∷ others) ≡ no_output (refused_with d e)
@@ -34,7 +33,7 @@ others_dropped d refused others e none is =
     ∙ passed_over is_refused (deliver_item item_step) (refused_with d e) others refl
 
 module _ (l : Leader) (w : World) (bytes : List ℕ) where
-  -- what the machine does once all items are delivered
+  -- The machine once all items are delivered.
   abbrev finished : StepResult (Delivery WorldAndLoading) → StepResult Machine
   finished h =
       prepend_outputs h.outputs (with_leader_or_fault h.after.left.world

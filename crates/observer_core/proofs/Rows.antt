@@ -1,4 +1,4 @@
--- The worked rows, step by step: what the bytes read as, the state behind each transaction, and the reply to each
+-- The worked rows, step by step: what the bytes read as, the state after each transaction, and the reply to each
 -- request.
 use Rattle.std.proofs.Common.{◌≡◌, ◌≤◌, ℕ, List, [], ◌∷◌, ◌++◌, length, map, take, not, Option, Some, None, Result, Ok, Bool, true, false, cond, refl, sym, ap, ◌∙◌, arith, rules}
 use Rattle.std.specs.Prelude.{ℤ, pos, negsuc, codes, is_some}
@@ -206,7 +206,7 @@ written_there = simp (finmap.get-insert {X = Node} nat_list_cmp_total)
 abbrev packet_of : ℤ → List ℕ → QuorumPacket
 packet_of zxid bytes = record { kind = pos 8; zxid = zxid; bytes = Some bytes; authinfo = None }
 
--- one packet, and nothing behind it
+-- One packet, and nothing after it.
 abbrev one_packet : QuorumPacket → Items Phase Item
 one_packet p = record { found = item.Packet p ∷ []; left = place_at Packets [] }
 
@@ -252,7 +252,7 @@ body_read : path_and_watch.read get_body ≡ Ok (record { path = Some (codes "/a
 unfolding path_and_watch judged_at buffer_at
 body_read = rw (is_utf8-from_IsUtf8 (codes "/a") path_is_text)
 
--- the reply of a node, by how many children it has
+-- The reply to a read of a node, with its number of children.
 abbrev reply_by : ℤ → Node → ℕ → Option (List ℕ)
 reply_by zxid n children =
     let shown = shown_stat n.stat (java_int children) (java_int (length_or_zero n.bytes)) in
@@ -281,12 +281,12 @@ call_read =
     ∙ ap (λ k. Ok (record { xid = pos 1; body = call_body k get_body })) kind_read
     ∙ ap (λ r. Ok (record { xid = pos 1; body = read_as GetData (value_if_read r) })) body_read
 
--- a look is answered, and leaves its watch
+-- A reply is sent, and its watch is set.
 abbrev shown_by : World → Look → StepResult World
 shown_by w seen = send_reply 1 (with_watching w (with_watch_if 1 w.clients.watches (watch_of wanted seen.error)))
     (pos 1) seen
 
--- a world whose tree shows the node is answered with it
+-- The reply in a world whose tree has the node.
 answered_by : (w : World) (session : ℤ) (n : Node) (frame : List ℕ)
     → session_of_connection w.clients.sessions 1 ≡ Some session
     → ids_of w.clients.sessions 1 ≡ []
@@ -308,7 +308,7 @@ answered_by w session n frame joined no_ids there shows childless is =
 
 -- ---- watches
 
--- where nobody watches, nobody is told
+-- Where nothing is watched, no event is sent.
 abbrev pub NobodyTold : Type 0
 NobodyTold = (triggers : List Trigger) → fire no_watch triggers ≡ (record { events = []; left = no_watch })
 
@@ -326,14 +326,14 @@ unwatched only silent triggers =
 
 -- ---- events
 
--- what was written is read again
+-- A transaction that was written reads back as itself.
 abbrev pub ReadAgain : Type 0
 ReadAgain = (t : Txn) → txn_format.Fits t → value_of_whole txn_format (txn_format.written t) ≡ Ok t
 
 abbrev pub at_first : List ℕ → OpenConnections
 at_first rest = finmap.insert finmap.empty 1 (record { rest = rest })
 
--- the first connection is open and has the first session, and nobody watches
+-- Connection 1 is open and has the first session, and nothing is watched.
 abbrev pub clients_at : Settings → List ℕ → Clients
 clients_at settings rest = record {
   connections = at_first rest;
@@ -353,7 +353,7 @@ no_ids_first : (settings : Settings) → ids_of (first_client settings).sessions
 no_ids_first settings = ap ids_in
     (get-inserted {X = SessionConnection} finmap.empty 1 (new_connection (first_session settings)))
 
--- a replica that serves in epoch 1
+-- A replica that serves in epoch 1.
 abbrev replica_at : ℤ → List Txn → State → Replica
 replica_at zxid log s = record {
   learner = record {
@@ -374,23 +374,23 @@ abbrev world_with : Settings → ℤ → List Txn → State → Clients → Worl
 world_with settings zxid log s clients =
     record { settings = settings; replica = replica_at zxid log s; clients = clients }
 
--- a world in epoch 1, with the first connection open
+-- A world in epoch 1, with connection 1 open.
 abbrev pub world_at : Settings → ℤ → List Txn → State → List ℕ → World
 world_at settings zxid log s rest = world_with settings zxid log s (clients_at settings rest)
 
--- a leader's stream of which nothing waits
+-- A leader's stream without waiting bytes.
 abbrev pub beginning : Leader
 beginning = record { place = place_at Packets []; loading = nothing_loaded }
 
--- a machine that follows a leader there
+-- A machine that follows a leader, in this world.
 abbrev pub following : Settings → ℤ → List Txn → State → List ℕ → Machine
 following settings zxid log s rest = record { leader = Some beginning; world = world_at settings zxid log s rest }
 
--- no image is loaded beside it
+-- No image is being loaded.
 abbrev led : World → WorldAndLoading
 led w = record { loading = nothing_loaded; world = w }
 
--- what is done of what was learnt
+-- The effect of what was learnt from an item.
 abbrev done : World → Result LearnerStep Fault → Result (StepResult WorldAndLoading) Fault
 done w r =
     (r >>= λ x. carry_out_all (unled nothing_loaded (with_learner w.replica x)) x.acts) >>= λ t. Ok
@@ -405,14 +405,14 @@ informed_of again settings last log s clients zxid t fits =
     let w = world_with settings last log s clients in
     ap (λ (r : Result Txn Fault). done w (r >>= λ u. apply_txn w.replica.learner u)) (again t fits)
 
--- what one packet leaves
+-- The machine after one packet.
 abbrev one_delivered : World → Result (StepResult WorldAndLoading) Fault → StepResult Machine
 one_delivered w r =
     let h = delivery_of r (led w) in
     prepend_outputs (h.outputs ++ []) (with_leader_or_fault h.after.left.world
     (leader_at h.after.left.loading (place_after (place_at Packets []) h.after.fault)))
 
--- one INFORM comes
+-- One INFORM comes.
 inform_comes : (again : ReadAgain) (settings : Settings) (last : ℤ) (log : List Txn) (s : State) (clients : Clients)
     (bytes : List ℕ) (zxid : ℤ) (t : Txn) → txn_format.Fits t →
     let w = world_with settings last log s clients in
@@ -435,11 +435,11 @@ after_set settings = following settings (pos 4294967298) (create_txn ∷ set_txn
 abbrev with_watches : World → WatchTables → World
 with_watches w watches = record w { clients = record w.clients { watches = watches } }
 
--- what a transaction triggered is told
+-- The events of a transaction's triggers are sent.
 abbrev told_by : World → FireResult → Result (StepResult WorldAndLoading) Fault
 told_by w fired = Ok (record { outputs = notices_of fired.events; after = led (with_watches w fired.left) })
 
--- the create is meant, and the setData behind it
+-- The create takes effect, and the setData after it.
 abbrev meant_create : Settings → Clients → World
 meant_create settings clients =
     world_with settings (pos 4294967297) (create_txn ∷ []) (effect_of_txn fresh_state create_txn).state clients
@@ -489,7 +489,7 @@ keys-first = ap (λ (es : List (ℕ × OpenConnection)). map (λ (e : ℕ × Ope
     (finmap.entries-insert nat_cmp_total finmap.empty 1 (record { rest = [] })
     ∙ ap (finmap.put nat_cmp 1 (record { rest = [] })) (entries-empty OpenConnection))
 
--- its zxid isn't above the last one
+-- The zxid isn't above the last one.
 create_comes_again : (again : ReadAgain) (settings : Settings)
     → play_event (after_create settings []) create_inform_event ≡ refusing settings
 create_comes_again again settings =
@@ -508,11 +508,11 @@ create_comes_again again settings =
 abbrev pub replying : List ℕ → Machine → StepResult Machine
 replying frame m = record { outputs = ToClient 1 frame ∷ []; after = m }
 
--- what the first connection's bytes do, by the frames that they make
+-- The machine after the frames of connection 1.
 abbrev pub at_frames : World → Items (Unit {0}) (List ℕ) → StepResult Machine
 at_frames w i = with_leader (Some beginning) (serve_all true 1 w i)
 
--- the bytes of the first connection are taken to hand
+-- The waiting bytes of connection 1 are joined with those that come.
 pub in_hand : (settings : Settings) (zxid : ℤ) (log : List Txn) (s : State) (rest bytes : List ℕ)
     → play_event (following settings zxid log s rest) (ClientBytes 1 bytes)
     ≡ at_frames (world_at settings zxid log s [])
@@ -528,7 +528,7 @@ in_hand settings zxid log s rest bytes =
     (items_in frames_of_client (place_at tt (rest ++ bytes))))
     (insert-insert finmap.empty 1 (record { rest = [] }) (record { rest = rest }))
 
--- the bytes that are left wait
+-- The unread bytes wait.
 left_waiting : (settings : Settings) (zxid : ℤ) (log : List Txn) (s : State) (rest : List ℕ)
     → wait_if_open 1 (world_at settings zxid log s []) (finmap.get (at_first []) 1) (Ok rest) ≡ no_output
     (world_at settings zxid log s rest)
@@ -539,7 +539,7 @@ left_waiting settings zxid log s rest =
     ∙ ap (λ (c : OpenConnections). no_output (record w { clients = record w.clients { connections = c } }))
     (insert-insert finmap.empty 1 (record { rest = rest }) (record { rest = [] }))
 
--- the last byte of a request comes
+-- The last byte of a request comes.
 get_comes : (settings : Settings) (zxid : ℤ) (log : List Txn) (s : State) (rest bytes frame : List ℕ)
     → items_in frames_of_client (place_at tt (rest ++ bytes)) ≡ one_frame get_frame
     → serve_frame true 1 (world_at settings zxid log s []) get_frame ≡ record {
@@ -562,7 +562,7 @@ get_comes settings zxid log s rest bytes frame found replies =
     ∙ ap (λ (h : StepResult World). with_leader (Some beginning) (prepend_outputs (ToClient 1 frame ∷ []) h))
     (left_waiting settings zxid log s [])
 
--- a part of a request comes
+-- The first part of a request comes.
 front_comes : (settings : Settings)
     → play_event (following settings (pos 0) [] fresh_state []) (ClientBytes 1 get_data_frame_start) ≡ no_output
     (following settings (pos 0) [] fresh_state get_data_frame_start)
@@ -631,7 +631,7 @@ missing_replied : reply_frame (pos 2) (pos 0) (without_body NO_NODE) ≡ Some re
 unfolding reply_header number_bytes
 missing_replied = refl
 
--- the first connection watches /a
+-- Connection 1 watches /a.
 abbrev one_watch : WatchTables
 one_watch = watches_on ((codes "/a", 1) ∷ []) []
 
@@ -680,7 +680,7 @@ exists_comes settings =
     }))
     (insert-insert finmap.empty 1 (record { rest = [] }) (record { rest = [] }))
 
--- what the create triggers
+-- The triggers of the create.
 create_triggers : (effect_of_txn fresh_state create_txn).triggers
     ≡ Created (codes "/a") ∷ ChildrenChanged (codes "/") ∷ []
 create_triggers =

@@ -1,4 +1,4 @@
--- Whatever happens, where clients aren't served nobody has a session.
+-- After every event, no connection has a session where clients aren't served.
 use Rattle.std.proofs.Common.{◌≡◌, ℕ, ℤ, Bool, true, false, ◌||◌, List, [], ◌∷◌, ◌++◌, Option, Some, None, Result, Ok, Err, refl, sym, ap, subst, ◌∙◌}
 use Rattle.std.specs.Prelude.{is_some}
 use Rattle.std.specs.List.{list_any}
@@ -39,7 +39,7 @@ use Rattle.observer_core.proofs.Keeping.{happening_keeps}
 use Rattle.observer_core.proofs.Passing.{KeysPass, closed_passes, expired_passes}
 use Rattle.observer_core.proofs.Unmoved.{client_same, open_same, end_same, expire_same}
 
--- ---- nobody has a session
+-- ---- no connection has a session
 
 abbrev Nobody : Sessions → Type 0
 Nobody s = KeysPass (λ _. false) s.connections
@@ -58,11 +58,11 @@ nobody_has s none n = by (finmap.get s.connections n) (none n)
     by None e has = has
     by (Some c) e has = absurd (true≢false (ap is_some e))
 
--- nobody has one where clients aren't served
+-- No connection has a session where clients aren't served.
 abbrev Served : World → Type 0
 Served w = is_serving_clients w ≡ false → Nobody w.clients.sessions
 
--- a world behind another: clients that are served stay so, and where they aren't nobody gets a session
+-- From one world to the next, clients that are served stay served, and where they aren't no connection gets a session.
 stays_served : (w v : World) → (is_serving_clients w ≡ true → is_serving_clients v ≡ true)
     → (is_serving_clients w ≡ false → Nobody w.clients.sessions → Nobody v.clients.sessions) → Served w → Served v
 stays_served w v stays still served none = by (is_serving_clients w) refl
@@ -80,7 +80,7 @@ same_served w v same still served = stays_served w v (λ e. ap is_serving same �
 closes_nobody : (n : ℕ) (s : Sessions) → Nobody s → Nobody (close_connection s n)
 closes_nobody n s nobody = closed_passes (λ _. false) s n (λ k has. ap (λ b. b || same_connection n k) (nobody k has))
 
--- where all that have a session close, nobody has one then
+-- If every connection that has a session closes, no connection has one.
 each_closed : (ns : List ℕ) (c : Clients) → KeysPass (λ k. list_any (eq_by_cmp nat_cmp k) ns) c.sessions.connections
     → Nobody (without_clients ns c).sessions
 each_closed [] c all = all
@@ -101,7 +101,7 @@ each_closed (n ∷ others) c all =
         ap (λ b. is_other k || b) ((eq_by_cmp_equiv nat_cmp_total).symm n k)
         ∙ either (eq_by_cmp nat_cmp k n) (is_other k) e
 
--- whoever has a session is open
+-- Every connection that has a session is open.
 abbrev Joined : World → Type 0
 Joined w = KeysPass (λ n. is_open n w.clients) w.clients.sessions.connections
 
@@ -111,7 +111,7 @@ gone_nobody w joined =
     each_closed (finmap.keys open_connections) w.clients
     (λ k has. sym (finmap.contains_key-keys open_connections k) ∙ joined k has)
 
--- ---- a client that isn't served is only closed
+-- ---- a client that isn't served can only be closed
 
 join_nobody : (n : ℕ) (w : World) (c : Result Connecting Fault) → Nobody w.clients.sessions
     → Nobody (handle_connect false n w c).after.clients.sessions
@@ -155,7 +155,7 @@ left_nobody : (w : World) (left : Option ℕ) → Nobody w.clients.sessions
 left_nobody w None nobody = nobody
 left_nobody w (Some n) nobody = closes_nobody n w.clients.sessions nobody
 
--- ---- clients that are served stay so where a leader comes, and at a checkpoint
+-- ---- clients that are served stay served when a leader comes, and at a checkpoint
 
 begins_serving : (r : Replica) (server_id : ℤ) → is_serving r ≡ true
     → is_serving (follow_leader r server_id).replica ≡ true

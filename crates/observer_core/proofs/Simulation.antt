@@ -1,5 +1,5 @@
--- To take the parts of an image one by one, or the image when it is whole, is the same. What is shown of a stream,
--- grouped, are its packets and whole images; so only what is done with a list of items is proved here, item by item.
+-- Taking the parts of an image one by one is the same as taking the image once it is complete. The items of a stream,
+-- grouped, are its packets and whole images, so only the effect of a list of items is left to prove, item by item.
 use Rattle.std.proofs.Common.{◌≡◌, ℕ, Bool, true, false, List, [], ◌∷◌, ◌++◌, Option, Some, Result, Ok, Err, refl, sym, ap, subst, ◌∙◌}
 use Rattle.values.specs.declared.fault.Fault.{Fault}
 use Rattle.jute.specs.Format.{◌>>=◌}
@@ -28,7 +28,7 @@ use Rattle.client_service.proofs.Steps.{passed_over}
 
 -- ---- the relation
 
--- The same place of the stream. Where an image comes the replica waits for one.
+-- The same place in the stream. Where an image comes, the replica waits for one.
 pub record Alike (loading : Loading) (waits : Bool) (place : Place Phase) (whole : Place Bool) : Type 0 where
   pub same : SamePlace loading place whole
   pub awaited : whole.phase ≡ true → waits ≡ true
@@ -38,7 +38,7 @@ LeadersAlike loading waits (Ok p) (Ok q) = Alike loading waits p q
 LeadersAlike loading waits (Err d) (Err e) = d ≡ e
 LeadersAlike loading waits p q = ⊥
 
--- the same goes out, the same world is left, and so are leaders that are alike
+-- The outputs and the world are the same, and the states of the stream are alike.
 pub record Same (a : StepResult (StreamProgress Phase WorldAndLoading)) (b : StepResult (StreamProgress Bool World)) :
     Type 0 where
   pub outputs : a.outputs ≡ b.outputs
@@ -51,7 +51,7 @@ same_behind : (so_far : List Output) (a : StepResult (StreamProgress Phase World
 same_behind so_far a b s =
     record { outputs = ap (λ (o : List Output). so_far ++ o) s.outputs; world = s.world; leader = s.leader }
 
--- what each side does, by what it comes to
+-- The same, with equal results in place of both.
 same_by : (a c : StepResult (StreamProgress Phase WorldAndLoading)) (b d : StepResult (StreamProgress Bool World))
     → a ≡ c → b ≡ d → Same c d
     → Same a b
@@ -62,7 +62,7 @@ same_by a c b d p q s =
 -- ---- one item after another
 
 module _ {S W I : Type 0} (taking : W → I → Result (StepResult W) Fault) where
-  -- what the first does, and the others behind it
+  -- The first item's effect, and then that of the others.
   abbrev first : W → Items S I → Result (StepResult W) Fault → StepResult (StreamProgress S W)
   first w others (Ok h) = prepend_outputs h.outputs (take_items taking h.after others)
   first w others (Err e) = no_output (record { left = w; place = Err e })
@@ -89,7 +89,7 @@ by_part loading w i = take_items item_step (record { loading = loading; world = 
 abbrev by_image : World → Items Bool WholeItem → StepResult (StreamProgress Bool World)
 by_image w i = take_items whole_item_step w i
 
--- What is taken leaves nothing loaded, and the others after it do the same: so do all.
+-- An item that is taken leaves no image being loaded. If the others after it have the same effect, so has the whole.
 taken_same : (loading : Loading) (w : World) (q : Result ItemEffect Fault) (i : Items Phase Item)
     (k : Items Bool WholeItem)
     → ((t : ItemEffect) → q ≡ Ok t
@@ -105,7 +105,7 @@ taken_same loading w (Ok t) i k others =
     (subst (λ (l : Loading). Same (by_part l h.after i) (by_image h.after k)) (sym o.0) o.1)
 taken_same loading w (Err e) i k others = record { outputs = refl; world = refl; leader = refl }
 
--- what is loaded where something was taken
+-- The image that is being loaded after an item that was taken.
 abbrev loaded_in : Result ItemEffect Fault → Loading
 loaded_in (Ok t) = t.loading
 loaded_in (Err e) = nothing_loaded
@@ -116,7 +116,7 @@ still_unloaded : (r : Result ItemEffect Fault) (t : ItemEffect)
 still_unloaded (Ok u) t same e = sym (ap loaded_in e) ∙ ap loaded_in same
 still_unloaded (Err d) t same e = absurd cc
 
--- an image is owed after a SNAP packet alone
+-- An image is owed after a SNAP packet, and only there.
 owed_by_snap : (kind : Option PacketKind) → is_owed (phase_after_kind kind) ≡ true → kind ≡ Some kinds.Snap
 owed_by_snap (Some kinds.Snap) e = refl
 owed_by_snap kind e = absurd cc
@@ -124,7 +124,7 @@ owed_by_snap kind e = absurd cc
 abbrev loading_of : LoadedParts → Loading
 loading_of made = record { made = made; ended = false }
 
--- both stand at the same place
+-- Both are at the same place.
 stands_alike : (loading : Loading) (waits : Bool) (p : Place Phase) (q : Place Bool) (u v : Unread)
     → SameUnread loading p.phase u v → Alike loading waits p q
     → LeadersAlike loading waits (place_or_fault p u) (place_or_fault q v)
@@ -134,7 +134,7 @@ stands_alike loading waits p q (Ok u) (Err e) s a = absurd s
 stands_alike loading waits p q (Err d) (Ok v) s a = absurd s
 
 module _ (law : ImagesComeInParts) where
-  -- ---- items in their order, and where the stream stands after them
+  -- ---- items in their order, and the place in the stream after them
 
   module _ (p : Place Phase) (q : Place Bool) where
     abbrev DoTheSame : Loading → World → List Item → Type 0
@@ -143,7 +143,7 @@ module _ (law : ImagesComeInParts) where
         → Same (by_part l w (record { found = is; left = p }))
         (by_image w (record { found = (grouped_items l is).found; left = q }))
 
-    -- an image is owed where the replica waits for one; where none is, nothing is loaded
+    -- Where an image is owed, the replica waits for one. Where none is owed, nothing is loaded.
     abbrev AllDoTheSame : List Item → Type 0
     AllDoTheSame is = (owed : Bool) (l : Loading) (w : World) → (owed ≡ true → awaits_image w.replica ≡ true)
         → (owed ≡ false → l ≡ nothing_loaded) → AreInOrder owed is (is_owed p.phase) → DoTheSame l w is
@@ -177,7 +177,7 @@ module _ (law : ImagesComeInParts) where
               rest,
         )))
 
-    -- the end: the image takes effect, and nothing is loaded
+    -- The end of the image: the image takes effect, and nothing is loaded.
     end_taken : (is : List Item) (l : Loading) (w : World) → awaits_image w.replica ≡ true
         → AreInOrder false is (is_owed p.phase) → AllDoTheSame is → DoTheSame l w (item.Part part.End ∷ is)
     end_taken is l w waits order all rest =
@@ -200,7 +200,7 @@ module _ (law : ImagesComeInParts) where
           all false nothing_loaded (send_effect w t).after (λ owes. absurd cc) (λ none. refl) order rest,
         )))
 
-    -- another part: the world stays, and the image goes on
+    -- A part that isn't the last: the world stays, and the image goes on after what the part makes.
     part_taken : (k : ImagePart) (is : List Item) (l : Loading) (w : World) → awaits_image w.replica ≡ true
         → AreInOrder true is (is_owed p.phase) → AllDoTheSame is → (made : Result LoadedParts Fault)
         → take_item l w.replica (item.Part k)
@@ -248,7 +248,7 @@ module _ (law : ImagesComeInParts) where
 
   -- ---- a piece
 
-  -- where a packet is next nothing is loaded
+  -- Where a packet comes next, nothing is loaded.
   none_loaded : (l : Loading) (phase : Phase) (u v : List ℕ) → SameUnread l phase (Ok u) (Ok v) → is_owed phase ≡ false
       → l ≡ nothing_loaded
   none_loaded l Packets u v s e = s.0

@@ -1,4 +1,4 @@
--- A session that a client takes up, and has for as long as it is open.
+-- A client takes over a session, and has it for as long as it is open.
 use Rattle.std.proofs.Common.{◌≡◌, ◌≢◌, ℕ, ◌==◌, ℤ, pos, Bool, true, false, cond, List, length, Option, Some, None, Result, Ok, Err, refl, sym, ap, ◌∙◌}
 use Rattle.std.specs.Prelude.{is_some, nat_lt}
 use Rattle.std.specs.List.{list_any}
@@ -38,7 +38,7 @@ none_or_some a e = true≢false (sym (ap is_some e))
 -- ---- what sessions keep
 
 module _ (s : Sessions) (n : ℕ) where
-  -- showing an id leaves the session
+  -- Adding an id leaves the session.
   show_keeps : (id : Id) (session : ℤ) (o : Option Joined) → session_in o ≡ Some session
       → session_of_connection s n ≡ Some session
       → session_of_connection (show_in s n id o).after n ≡ Some session
@@ -58,12 +58,12 @@ module _ (s : Sessions) (n : ℕ) where
       by None = has
       by (Some text) = show_keeps (digest_id text) session (finmap.get s.connections n) has has
 
-  -- the connection whose session is taken up had it, and the client has it now
+  -- The connection whose session is taken over had it, and the client has it now.
   record IsTaken (j : ℕ) (session : ℤ) (after : Sessions) : Type 0 where
     had : session_of_connection s j ≡ Some session
     has : session_of_connection after n ≡ Some session
 
-  -- an older connection is one whose session is taken up
+  -- An older connection is one whose session is taken over.
   connect_takes : (request : SessionRequest) (j : ℕ) → SessionsAgree s
       → (connect_session s n request).connected.older ≡ Some j
       → IsTaken j request.session_id (connect_session s n request).after
@@ -171,7 +171,7 @@ wait_has n session w (Some c) (Err e) there has = closed_has n session w.clients
 
 -- ---- a client that connects
 
--- it takes up one session, or is closed; and whoever is closed for it had that session
+-- It takes over one session, or is closed; and a connection that is closed for it had that session.
 pub record Joins (n : ℕ) (w : World) (older : Option ℕ) (after : Clients) : Type 0 where
   pub session : ℤ
   pub left : (j : ℕ) → older ≡ Some j → session_of_connection w.clients.sessions j ≡ Some session

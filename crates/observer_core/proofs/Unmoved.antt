@@ -1,4 +1,4 @@
--- What clients do leaves the replica.
+-- The events of clients leave the replica.
 use Rattle.std.proofs.Common.{◌≡◌, ℕ, ℤ, List, [], ◌++◌, Option, Some, None, Result, Ok, Err, Bool, true, false, cond, refl, ◌∙◌}
 use Rattle.std.specs.Prelude.{pos}
 use Rattle.std.specs.Ordering.{int_eq}
@@ -133,7 +133,7 @@ wait_same n w None left = refl
 wait_same n w (Some k) (Ok rest) = refl
 wait_same n w (Some k) (Err e) = refl
 
--- one that comes, and one that goes
+-- A client connects or leaves.
 pub open_same : (n : ℕ) (w : World) → SameReplica w (open_client n w)
 open_same n w = by (is_open n w.clients)
   where

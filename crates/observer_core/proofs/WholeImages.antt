@@ -46,7 +46,7 @@ record SameStep (a : StepResult Machine) (b : StepResult (MachineBy (Place Bool)
 
 -- ---- the leader's bytes
 
--- what the side by parts makes of what came
+-- The machine by parts after the items that came.
 abbrev stood : StepResult (StreamProgress Phase WorldAndLoading) → Result (Place Phase) Fault → StepResult Machine
 stood a r = prepend_outputs a.outputs (with_leader_or_fault a.after.left.world (leader_at a.after.left.loading r))
 
@@ -107,7 +107,7 @@ rebased_phase false r = refl
 
 -- ---- events
 
--- the world changes, but not whether an image may come
+-- The world changes, but whether an image may come doesn't.
 beside_same : (w : World) (l : Option Leader) (p : Option (Place Bool)) (h : StepResult World)
     → awaits_image h.after.replica ≡ awaits_image w.replica → OpenAlike (awaits_image w.replica) l p
     → SameStep (with_leader l h) (with_leader p h)
@@ -116,12 +116,12 @@ beside_same w l p h same a = record {
   machine = record { world = refl; leader = subst (λ (waits : Bool). OpenAlike waits l p) (sym same) a };
 }
 
--- where a stream begins
+-- Both machines begin a stream at the same place.
 opened_alike : (waits : Bool) → Alike part_reader.opened.loading waits part_reader.opened.place image_reader.opened
 opened_alike waits = record { same = (refl, (refl, refl)); awaited = λ owes. absurd cc }
 
 module _ (law : ImagesComeInParts) (pieces : PiecesAreGrouped) (order : ItemsAreInOrder) where
-  -- on the same world
+  -- Both machines have the same world.
   abbrev SameOn : World → Option Leader → Option (Place Bool) → Event → Type 0
   SameOn w l p e =
       SameStep (play_event_by part_reader (record { leader = l; world = w }) e)

@@ -1,4 +1,4 @@
--- What a connection says before it has a session: words, and what waits of them.
+-- What a connection sends before it has a session: four-letter words, and the bytes that wait to become one.
 use Rattle.std.proofs.Common.{◌≡◌, ◌⊎◌, inl, inr, ℕ, ◌<◌, ◌≤◌, ℤ, Bool, true, false, List, ◌++◌, length, take, Option, Some, None, Result, Ok, Err, refl, sym, ap, ◌∙◌, arith}
 use Rattle.std.specs.Prelude.{is_some, nat_lt}
 use Rattle.std.specs.Str.{bytes_eq}
@@ -22,7 +22,7 @@ use Rattle.client_service.specs.Serve.{word_without_session, client_frame_limit}
 
 -- ---- words and bytes
 
--- the letters of a word are four
+-- A word has four letters.
 four : (word : Word) → length (letters_of word) ≡ 4
 four Ruok = refl
 four Isro = refl
@@ -41,7 +41,7 @@ spelt word bytes short = by (bytes_eq bytes (letters_of word)) refl
         absurd (omega arith)
     by false e = refl
 
--- fewer bytes are no word
+-- Fewer than four bytes are no word.
 pub no_word : (bytes : List ℕ) → length bytes < 4 → word_of bytes ≡ None
 no_word bytes short = rw (
   spelt Ruok bytes short,
@@ -56,17 +56,17 @@ pub says_none : (session : Option ℤ) (word : Option Word) → word ≡ None �
 says_none None word e = e
 says_none (Some session) word e = refl
 
--- who has a session says none
+-- A connection that has a session sends no word.
 pub has_said : (session : Option ℤ) (word : Option Word) → is_some session ≡ true
     → word_without_session session word ≡ None
 has_said None word has = absurd (true≢false (sym has))
 has_said (Some session) word has = refl
 
--- four bytes say the same whatever comes behind them
+-- The first four bytes decide, whatever follows.
 pub same_front : (bytes more : List ℕ) → 4 ≤ length bytes → word_of (take 4 (bytes ++ more)) ≡ word_of (take 4 bytes)
 same_front bytes more enough = ap word_of (take-append-le 4 bytes more enough)
 
--- a word that was said is said still with more behind it
+-- A word stays a word with more bytes after it.
 pub still_says : (session : Option ℤ) (word : Word) (bytes more : List ℕ)
     → word_without_session session (word_of (take 4 bytes)) ≡ Some word
     → word_without_session session (word_of (take 4 (bytes ++ more))) ≡ Some word
@@ -90,20 +90,20 @@ int_short bytes short =
 abbrev counted_in : Result (ℤ × List ℕ) Fault → Result (ℕ × List ℕ) Fault
 counted_in r = r >>= λ a. frame_length client_frame_limit a.0 >>= λ v. Ok (v, a.1)
 
--- fewer bytes have no length
+-- Fewer than four bytes have no length prefix.
 pub short_frame : (bytes : List ℕ) → length bytes < 4 → (frame_format client_frame_limit).read bytes ≡ Err Short
 unfolding frame_at judged_at
 short_frame bytes short =
     ap (λ (r : Result (ℤ × List ℕ) Fault). counted_in r >>= λ k. front_of k.0 k.1) (int_short bytes short)
 
--- bytes that wait where no frame is whole are all
+-- Where no frame is complete, all the bytes wait.
 pub still_waits : (e : Fault) (bytes rest : List ℕ) → unread_after_fault e bytes ≡ Ok rest → bytes ≡ rest
 still_waits Short bytes rest is = cc
 still_waits e bytes rest is = cc
 
--- ---- what is told
+-- ---- the answers
 
--- a word that tells of no watch is answered alike whatever is watched
+-- A word whose answer lists no watches has the same answer whatever is watched.
 pub same_text : (word : Word) (f : Figures) (rows : List WatchRow) → (needs_watches word ≡ true → rows ≡ f.watches)
     → reply_text word (record f { watches = rows }) ≡ reply_text word f
 same_text Ruok f rows same = refl

@@ -1,4 +1,4 @@
--- How sessions, watches and open connections hang together.
+-- How sessions, watches and open connections refer to each other.
 use Rattle.std.specs.Prelude.{◌≡◌, ℕ, ℤ, List, Some, None, true, false, IsTrue}
 use Rattle.std.specs.FinMap as finmap
 use Rattle.settings.specs.Settings.{is_server_id}
@@ -14,19 +14,19 @@ use Rattle.observer_core.specs.Play.{is_serving_clients, play, new_machine, prim
 
 -- Sessions and watches name open connections.
 pub record ClientsAgree (c : Clients) : Type 0 where
-  -- each connection's session is a guest session that hasn't ended, and that session's connection is this one
+  -- Each connection's session is a live guest session, and that session's connection is this one.
   pub sessions : SessionsAgree c.sessions
-  -- whoever has a session is open
+  -- Every connection that has a session is open.
   pub joined : (n : ℕ) → finmap.contains_key c.sessions.connections n ≡ true → is_open n c ≡ true
-  -- whoever watches something is open
+  -- Every connection that watches something is open.
   pub watching : WatchersPass (λ n. is_open n c) c.watches
 
--- no two connections have one session
+-- No two connections have one session.
 abbrev pub OneSessionEach : Type 0
 OneSessionEach = (c : Clients) → ClientsAgree c → (m n : ℕ) (session : ℤ)
     → session_of_connection c.sessions m ≡ Some session → session_of_connection c.sessions n ≡ Some session → m ≡ n
 
--- it is so at the start, and no event ends it
+-- The clients agree at the start, and no event ends that.
 pub record ConnectionsAgree : Type 0 where
   pub starts : (settings : Settings) → IsTrue (is_server_id settings.server_id)
       → ClientsAgree (new_machine settings).world.clients
@@ -36,11 +36,11 @@ pub record ConnectionsAgree : Type 0 where
       → ClientsAgree (play m events).after.world.clients
   pub apart : OneSessionEach
 
--- where clients aren't served nobody has a session
+-- Where clients aren't served no connection has a session.
 abbrev pub NoSessionUnlessServing : World → Type 0
 NoSessionUnlessServing w = is_serving_clients w ≡ false → (n : ℕ) → session_of_connection w.clients.sessions n ≡ None
 
--- it is so at the start, and no event ends it
+-- This holds at the start, and no event ends it.
 pub record SessionsAreServed : Type 0 where
   pub starts : (settings : Settings) → NoSessionUnlessServing (new_machine settings).world
   pub starts_primed : (settings : Settings) → NoSessionUnlessServing (primed_machine settings).world

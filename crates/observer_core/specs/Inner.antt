@@ -1,4 +1,4 @@
--- What the private functions answer and leave. No public contract cites this.
+-- The contracts of the private functions. No public contract cites this.
 use Rattle.std.specs.Prelude.{◌≡◌, List, ◌++◌, map, Result, Ok, Err, Option, Some, None}
 use Rattle.values.specs.Gains.{Gains}
 use Rattle.values.specs.declared.fault.Fault.{Fault}
@@ -17,7 +17,7 @@ use Rattle.replica.specs.declared.item_outcome.ItemOutcome.{ItemOutcome}
 use Rattle.watch_manager.specs.Watches.{fire}
 use Rattle.client_service.specs.Results.{MeetsStep}
 
--- what was brought is told to the leader and to those who watch
+-- The packets go to the leader, and an event to each watcher.
 abbrev pub send_outcome : Clients → ItemOutcome → StepResult Clients
 send_outcome c brought =
     let fired = fire c.watches brought.triggers in
@@ -26,7 +26,7 @@ send_outcome c brought =
       after = record c { watches = fired.left };
     }
 
--- A packet or part was taken; or it was refused, and nothing was changed; or memory was.
+-- A packet or part was taken; or it was refused, and nothing changed; or an allocation was refused.
 abbrev pub ReceivesItem : Result (Unit {0}) ReadError → List Output → Result (StepResult WorldAndLoading) Fault
     → WorldAndLoading
     → List Output → WorldAndLoading → Type 0
@@ -36,7 +36,7 @@ ReceivesItem (Err errors.NoMemory) old (Ok h) before new after = Gains old h.out
 ReceivesItem (Err errors.NoMemory) old (Err e) before new after = new ≡ old
 ReceivesItem (Err (errors.Fault e)) old meant before new after = (meant ≡ Err e) × ((new ≡ old) × (after ≡ before))
 
--- Packets and parts were delivered, and the stream goes on, or ended with a fault.
+-- Packets and parts were delivered, and the stream goes on or ended with a fault.
 abbrev pub DeliversItems : Result (Option Fault) NoMemory → List Output
     → StepResult (StreamProgress Phase WorldAndLoading) → List Output
     → Place Phase → WorldAndLoading → Type 0
@@ -46,7 +46,7 @@ DeliversItems (Ok (Some e)) old whole new place left =
     MeetsStep (Ok tt) old whole new (record { left = left; place = Err e })
 DeliversItems (Err e) old whole new place left = Gains old whole.outputs new
 
--- A piece was taken, and the stream goes on, or ended with a fault.
+-- A piece was taken, and the stream goes on or ended with a fault.
 abbrev pub FollowsStream : Result (Option Fault) NoMemory → List Output → StepResult (WorldAndLeader Leader)
     → List Output → Leader
     → World → Type 0

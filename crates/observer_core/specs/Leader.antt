@@ -1,4 +1,4 @@
--- What a leader's stream does: each packet, and each part of an image or each whole image, as it comes.
+-- What a leader's stream does: each packet, and each part of an image or each whole image, in the order of the stream.
 use Rattle.std.specs.Prelude.{ℕ, List, [], ◌∷◌, ◌++◌, map, Option, Some, None, is_some, Result, Ok, Err, Bool, true, false}
 use Rattle.values.specs.declared.fault.Fault.{Fault}
 use Rattle.values.specs.declared.fault.Fault.TheVariants.{Short}
@@ -27,7 +27,7 @@ use Rattle.client_service.specs.Clients.{notices_of, close_all_clients}
 abbrev pub to_leader : QuorumPacket → Output
 to_leader p = ToLeader (packet_format.written p)
 
--- What was taken is told at once: packets go to the leader, and events to those who watch, which uses up their watches.
+-- The packets go to the leader at once, and an event to each watcher; the watches that fired are used up.
 abbrev pub send_effect : World → ItemEffect → StepResult World
 send_effect w t =
     let fired = fire w.clients.watches t.triggers in
@@ -36,7 +36,7 @@ send_effect w t =
       after = record w { replica = t.replica; clients = record w.clients { watches = fired.left } };
     }
 
--- a world, and beside it how much of an image is loaded
+-- A world, and the image that is being loaded, apart from it.
 pub record WorldAndLoading : Type 0 where
   pub loading : Loading
   pub world : World
@@ -44,22 +44,22 @@ pub record WorldAndLoading : Type 0 where
 abbrev pub step_with_loading : Loading → StepResult World → StepResult WorldAndLoading
 step_with_loading loading h = record { outputs = h.outputs; after = record { loading = loading; world = h.after } }
 
--- what a packet or a part does, or the fault for which it is refused
+-- What a packet or a part does, or the fault for which it is refused.
 abbrev pub item_step : WorldAndLoading → Item → Result (StepResult WorldAndLoading) Fault
 item_step d i = take_item d.loading d.world.replica i >>= λ t. Ok (step_with_loading t.loading (send_effect d.world t))
 
--- the same of packets and whole images
+-- The same for packets and whole images.
 abbrev pub whole_item_step : World → WholeItem → Result (StepResult World) Fault
 whole_item_step w i = take_whole w.replica i >>= λ t. Ok (send_effect w t)
 
--- ---- one behind another, up to the first that is refused
+-- ---- a list of items, up to the first that is refused
 
--- what is left, and the fault of the one that was refused
+-- The state left, and the fault of the item that was refused, if one was.
 pub record Delivery (W : Type 0) : Type 0 where
   pub left : W
   pub fault : Option Fault
 
--- what is refused changes nothing, and ends the stream
+-- A refused item changes nothing and ends the stream.
 abbrev pub delivery_of : {W : Type 0} → Result (StepResult W) Fault → W → StepResult (Delivery W)
 delivery_of (Ok h) w = record { outputs = h.outputs; after = record { left = h.after; fault = None } }
 delivery_of (Err e) w = no_output (record { left = w; fault = Some e })
@@ -74,7 +74,7 @@ is_refused d = is_some d.fault
 abbrev pub deliver_all : {W I : Type 0} → (W → I → Result (StepResult W) Fault) → W → List I → StepResult (Delivery W)
 deliver_all take w is = fold_steps is_refused (deliver_item take) (record { left = w; fault = None }) is
 
--- the place behind what was found, unless the stream has a fault there
+-- The place after the last item found, unless the unread bytes are a fault.
 abbrev pub place_or_fault : {S : Type 0} → Place S → Unread → Result (Place S) Fault
 place_or_fault place (Ok bytes) = Ok place
 place_or_fault place (Err e) = Err e
@@ -83,7 +83,7 @@ abbrev pub place_after : {S : Type 0} → Place S → Option Fault → Result (P
 place_after place None = place_or_fault place place.unread
 place_after place (Some e) = Err e
 
--- what is left behind all that was found, and where the stream stands then
+-- The state left after all the items found, and the place of the stream, or the fault there.
 pub record StreamProgress (S W : Type 0) : Type 0 where
   pub left : W
   pub place : Result (Place S) Fault
@@ -94,26 +94,26 @@ take_items take w found =
     let h = deliver_all take w found.found in
     record { outputs = h.outputs; after = record { left = h.after.left; place = place_after found.left h.after.fault } }
 
--- ---- two ways to take a leader's stream: part by part, and by whole images
+-- ---- two ways to read a leader's stream: part by part, and by whole images
 
--- the world, and what is kept of the stream; or the fault that ended it
+-- The world, and the state of the stream or the fault that ended it.
 pub record WorldAndLeader (L : Type 0) : Type 0 where
   pub world : World
   pub leader : Result L Fault
 
 pub record StreamReader (L : Type 0) : Type 0 where
-  -- what is kept where a stream begins
+  -- The state at the start of a stream.
   pub opened : L
-  -- what a piece does
+  -- What a piece of the stream does.
   pub taken : L → World → List ℕ → StepResult (WorldAndLeader L)
-  -- whether the stream may end
+  -- Whether the stream may end in this state.
   pub ended : L → Result (Unit {0}) Fault
 
 abbrev pub leader_at : Loading → Result (Place Phase) Fault → Result Leader Fault
 leader_at loading r = r >>= λ place. Ok (record { place = place; loading = loading })
 
--- Part by part, so that an image is never there beside the tree that it makes. What was loaded of one goes with the
--- leader.
+-- Part by part, so that no image is held besides the tree that it makes. An image that isn't complete is dropped with
+-- the leader.
 abbrev pub part_reader : StreamReader Leader
 part_reader = record {
   opened = record { place = place_at Packets []; loading = nothing_loaded };
@@ -127,14 +127,14 @@ part_reader = record {
   ended = λ l. end_of l.place;
 }
 
--- a stream may end where no image is owed and no byte is unread
+-- A stream may end where no image is owed and no byte is unread.
 abbrev pub whole_end : Bool → Unread → Result (Unit {0}) Fault
 whole_end owed (Err e) = Err e
 whole_end true (Ok bytes) = Err Short
 whole_end false (Ok []) = Ok tt
 whole_end false (Ok (b ∷ bytes)) = Err Short
 
--- by whole images
+-- By whole images.
 abbrev pub image_reader : StreamReader (Place Bool)
 image_reader = record {
   opened = place_at false [];
@@ -144,13 +144,13 @@ image_reader = record {
   ended = λ place. whole_end place.phase place.unread;
 }
 
--- ---- a leader comes, sends, and goes
+-- ---- a leader connects, sends, and leaves
 
--- what happens to the world leaves the leader's stream
+-- A step of the world, which leaves the state of the leader's stream.
 abbrev pub with_leader : {L : Type 0} → Option L → StepResult World → StepResult (MachineBy L)
 with_leader leader h = record { outputs = h.outputs; after = record { leader = leader; world = h.after } }
 
--- the observer introduces itself; while there is a leader another is passed over
+-- The observer introduces itself. While it has a leader, another one is ignored.
 abbrev pub meet_leader : {L : Type 0} → StreamReader L → Option L → World → StepResult (MachineBy L)
 meet_leader side None w =
     let t = follow_leader w.replica w.settings.server_id in
@@ -160,17 +160,17 @@ meet_leader side None w =
     }
 meet_leader side (Some l) w = no_output (record { leader = Some l; world = w })
 
--- all connections are closed, and with them go the watches; transactions that were proposed are forgotten
+-- All connections are closed and their watches dropped. Proposals without a commit are forgotten.
 abbrev pub disconnect_all : World → StepResult World
 disconnect_all w =
     let closed = close_all_clients w.clients in
     record { outputs = closed.outputs; after = record w { replica = without_leader w.replica; clients = closed.after } }
 
--- the leader goes, and the clients are closed
+-- The leader is gone, and the clients are closed.
 abbrev pub on_leader_end : {L : Type 0} → World → StepResult (MachineBy L)
 on_leader_end w = with_leader None (disconnect_all w)
 
--- A fault closes the leader, and then the open connections. The rest of the leader's bytes is dropped.
+-- A fault closes the leader and then the open connections. The rest of the leader's bytes is dropped.
 abbrev pub on_leader_fault : {L : Type 0} → Fault → World → StepResult (MachineBy L)
 on_leader_fault e w = prepend_outputs (CloseLeader e ∷ []) (on_leader_end w)
 
@@ -178,12 +178,12 @@ abbrev pub with_leader_or_fault : {L : Type 0} → World → Result L Fault → 
 with_leader_or_fault w (Ok l) = no_output (record { leader = Some l; world = w })
 with_leader_or_fault w (Err e) = on_leader_fault e w
 
--- without a leader its bytes are passed over
+-- Without a leader its bytes are ignored.
 abbrev pub take_leader_bytes : {L : Type 0} → StreamReader L → Option L → World → List ℕ → StepResult (MachineBy L)
 take_leader_bytes side None w bytes = no_output (record { leader = None; world = w })
 take_leader_bytes side (Some l) w bytes = and_then (side.taken l w bytes) (λ a. with_leader_or_fault a.world a.leader)
 
--- a stream that ends in the middle of something is a fault
+-- A stream that ends inside a packet or an image is a fault.
 abbrev pub on_stream_end : {L : Type 0} → Result (Unit {0}) Fault → World → StepResult (MachineBy L)
 on_stream_end (Ok u) w = on_leader_end w
 on_stream_end (Err e) w = on_leader_fault e w

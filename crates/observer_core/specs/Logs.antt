@@ -1,4 +1,4 @@
--- What the log of a world says of its tree, and what a refusal leaves.
+-- The relation of a world's log to its tree, and what a refusal leaves.
 use Rattle.std.specs.Prelude.{◌≡◌, ℕ, List, ◌∷◌, ◌++◌, Some, None, Err}
 use Rattle.values.specs.declared.fault.Fault.{Fault}
 use Rattle.jute.specs.Stream.{with_more_bytes}
@@ -15,19 +15,19 @@ use Rattle.client_service.specs.Steps.{StepResult, no_output, and_then}
 use Rattle.observer_core.specs.Leader.{WorldAndLoading, Delivery, item_step, deliver_item, deliver_all, on_leader_fault}
 use Rattle.observer_core.specs.Play.{play, play_event, new_machine, primed_machine}
 
--- The tree is the base with the log applied, and the log's zxids rise up to the last zxid: it is so at the start, and
--- no event ends it.
+-- The tree is the base with the log applied, and the log's zxids ascend up to the last zxid. This holds at the start,
+-- and no event ends it.
 pub record MachinesFollowTheirLogs : Type 0 where
   pub starts : (settings : Settings) → FollowsItsLog (new_machine settings).world.replica
   pub starts_primed : (settings : Settings) → FollowsItsLog (primed_machine settings).world.replica
   pub plays : (m : Machine) (events : List Event) → FollowsItsLog m.world.replica
       → FollowsItsLog (play m events).after.world.replica
 
--- the items of a leader's stream are taken in a world, one after the other, up to the first that is refused
+-- The items of a leader's stream are taken in order, up to the first that is refused.
 abbrev pub delivery_of_items : Leader → World → List Item → StepResult (Delivery WorldAndLoading)
 delivery_of_items l w items = deliver_all item_step (record { loading = l.loading; world = w }) items
 
--- the tree, the base, the log and the epochs are as before
+-- The tree, the base, the log and the epochs are as before.
 pub record KeepsState (before after : Replica) : Type 0 where
   pub tree : after.tree ≡ before.tree
   pub base : after.base ≡ before.base
@@ -37,16 +37,16 @@ pub record KeepsState (before after : Replica) : Type 0 where
   pub current_epoch : after.learner.current_epoch ≡ before.learner.current_epoch
 
 pub record RefusalsChangeNothing : Type 0 where
-  -- a packet or part that is refused puts nothing out, changes nothing of the world, and ends the stream with its fault
+  -- A refused packet or part has no output, leaves the world, and ends the stream with its fault.
   pub item : (d : Delivery WorldAndLoading) (i : Item) (e : Fault) → item_step d.left i ≡ Err e
       → deliver_item item_step d i ≡ no_output (record { left = d.left; fault = Some e })
-  -- so where bytes of the leader bring one that is refused, what is put out and what is left are those of the items
-  -- before it, and then of the leader's loss for that fault
+  -- If bytes of the leader contain a refused item, the outputs and the state left are those of the items before it,
+  -- followed by the loss of the leader for that fault.
   pub bytes : (l : Leader) (w : World) (bytes : List ℕ) (taken others : List Item) (refused : Item) (e : Fault)
       → (items_shown_at (with_more_bytes l.place bytes)).found ≡ taken ++ refused ∷ others
       → (delivery_of_items l w taken).after.fault ≡ None
       → item_step (delivery_of_items l w taken).after.left refused ≡ Err e
       → play_event (record { leader = Some l; world = w }) (LeaderBytes bytes)
       ≡ and_then (delivery_of_items l w taken) (λ d. on_leader_fault e d.left.world)
-  -- and the loss of a leader leaves tree, base, log and epochs
+  -- The loss of a leader leaves the tree, the base, the log and the epochs.
   pub loss : (w : World) (e : Fault) → KeepsState w.replica (on_leader_fault {L = Leader} e w).after.world.replica

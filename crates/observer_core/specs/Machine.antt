@@ -1,4 +1,4 @@
--- What an observer knows: how far its leader's bytes were read, and the world.
+-- The state of an observer: that of its leader's stream, and the world.
 use Rattle.std.specs.Prelude.{Option, refl}
 use Rattle.std.specs.Coded.{Coded, code_by, coded×, coded_option}
 use Rattle.jute.specs.Stream.{Place}
@@ -6,12 +6,12 @@ use Rattle.snapshot_codec.specs.Made.{Loading}
 use Rattle.quorum_packet.specs.declared.phase.Phase.{Phase}
 use Rattle.client_service.specs.World.{World}
 
--- how far the leader's bytes were read, and how much of an image was loaded
+-- The place in the leader's stream, and the image that is being loaded.
 pub record Leader : Type 0 where
   pub place : Place Phase
   pub loading : Loading
 
--- an observer, where so much is kept of a leader's stream while there is a leader
+-- An observer. `leader` is the state L of the leader's stream, while there is a leader.
 pub record MachineBy (L : Type 0) : Type 0 where
   pub leader : Option L
   pub world : World

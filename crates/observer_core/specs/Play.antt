@@ -1,4 +1,4 @@
--- What a machine does with a list of events: the outputs, and the machine that is left.
+-- `play`: the outputs of a machine for a list of events, and the machine after them.
 use Rattle.std.specs.Prelude.{pos, List, Option, Some, None, Bool, false}
 use Rattle.std.specs.FinMap as finmap
 use Rattle.replica.specs.Replica.{Replica, new_replica, primed_replica}
@@ -15,19 +15,19 @@ use Rattle.client_service.specs.Clients.{idle_connection, with_connection, no_cl
 use Rattle.observer_core.specs.Leader.{StreamReader, part_reader, with_leader, meet_leader, take_leader_bytes, end_leader}
 use Rattle.client_service.specs.Serve.{take_client_bytes, open_client, end_client, expire_session}
 
--- clients are served once the leader has brought the replica up to date
+-- Clients are served once the leader has brought the replica up to date.
 abbrev pub is_serving_clients : World → Bool
 is_serving_clients w = is_serving w.replica
 
--- the world changes, and nothing is put out
+-- The machine with another world, and no output.
 abbrev pub with_world : {L : Type 0} → MachineBy L → World → StepResult (MachineBy L)
 with_world m w = no_output (record m { world = w })
 
--- while clients are served, a checkpoint makes the tree the base
+-- A checkpoint makes the tree the base, while clients are served.
 abbrev pub with_checkpoint : World → World
 with_checkpoint w = record w { replica = checkpoint_replica w.replica }
 
--- what an event does, by how the leader's stream is taken
+-- What an event does, for either way to read the leader's stream.
 abbrev pub play_event_by : {L : Type 0} → StreamReader L → MachineBy L → Event → StepResult (MachineBy L)
 play_event_by side m LeaderUp = meet_leader side m.leader m.world
 play_event_by side m (LeaderBytes bytes) = take_leader_bytes side m.leader m.world bytes
@@ -55,22 +55,22 @@ abbrev pub initial_machine : {L : Type 0} → Settings → Replica → Option L 
 initial_machine settings replica leader clients =
     record { leader = leader; world = record { settings = settings; replica = replica; clients = clients } }
 
--- the configured epochs, without a leader and without a client
+-- The configured epochs, no leader and no client.
 abbrev pub new_by : {L : Type 0} → StreamReader L → Settings → MachineBy L
 new_by side settings = initial_machine settings (new_replica settings.epochs) None (no_clients settings)
 
--- the connect of a client that has no session and wants the shortest timeout
+-- The connect of a client that has no session and asks for the shortest timeout.
 abbrev pub first_request : SessionRequest
 first_request = record { time_out = pos 0; session_id = pos 0; password = None }
 
--- connection 1 is open, and has the first session
+-- Connection 1 is open and has the first session.
 abbrev pub first_client : Settings → Clients
 first_client settings =
     let nobody = no_clients settings in
     with_connection 1 idle_connection
     (record nobody { sessions = (connect_session nobody.sessions 1 first_request).after })
 
--- following a leader in epoch 1, with connection 1 open
+-- The machine follows a leader in epoch 1, with connection 1 open.
 abbrev pub primed_by : {L : Type 0} → StreamReader L → Settings → MachineBy L
 primed_by side settings = initial_machine settings primed_replica (Some side.opened) (first_client settings)
 

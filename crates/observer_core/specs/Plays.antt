@@ -1,4 +1,4 @@
--- What an engine answers and leaves.
+-- What a call of the engine returns and leaves.
 use Rattle.std.specs.Prelude.{◌≡◌, List, ◌++◌, Result, Ok, Err, Option, Some, None}
 use Rattle.values.specs.Gains.{Gains}
 use Rattle.observer_core.specs.Machine.{Machine}
@@ -8,8 +8,8 @@ use Rattle.observer_core.specs.declared.engine.Stop.{Stop}
 use Rattle.observer_core.specs.declared.engine.Stop.TheVariants as stops
 use Rattle.observer_core.specs.Play.{play}
 
--- An engine without a machine is closed: it answers that, and appends nothing. Want of memory closes an engine, which
--- has then appended a front of what the events bring.
+-- An engine without a machine is closed: it returns `Closed` and appends nothing. A refused allocation closes the
+-- engine after it has appended a prefix of the outputs.
 abbrev pub PlaysEvents : Result (Unit {0}) Stop → Option Machine → List Event → List Output → List Output
     → Option Machine → Type 0
 PlaysEvents (Ok u) (Some m) events old new after = (new ≡ old ++ (play m events).outputs)

@@ -1,4 +1,4 @@
--- Rows of bytes that were worked out by hand: what comes, and what goes.
+-- Rows of bytes that were worked out by hand: events, and the outputs that they cause.
 use Rattle.std.specs.Prelude.{◌≡◌, ℕ, List, [], ◌∷◌, ◌++◌, codes}
 use Rattle.values.specs.Hex.{hex_bytes}
 use Rattle.values.specs.declared.fault.Fault.TheVariants.{OutOfOrder}
@@ -9,50 +9,50 @@ use Rattle.client_service.specs.declared.output.Output.{Output}
 use Rattle.client_service.specs.declared.output.Output.TheVariants.{ToClient, CloseLeader, CloseClient}
 use Rattle.observer_core.specs.Play.{play, new_machine, primed_machine}
 
--- an INFORM of a create of /a with the data "hi", zxid 0x100000001
+-- An INFORM of a create of /a with the data "hi", zxid 0x100000001.
 abbrev pub inform_of_create : List ℕ
 inform_of_create =
     hex_bytes (codes "00000008 0000000100000001 0000004c 0000000000000007 00000001 0000000100000001"
     ++ codes " 00000000000003e8 00000001 00000002 2f61 00000002 6869 00000001 0000001f 00000005 776f726c64"
     ++ codes " 00000006 616e796f6e65 00 00000001 ffffffff")
 
--- an INFORM of a setData of /a to null at version 1, zxid 0x100000002
+-- An INFORM of a setData of /a to null at version 1, zxid 0x100000002.
 abbrev pub inform_of_set_data : List ℕ
 inform_of_set_data =
     hex_bytes (codes "00000008 0000000100000002 0000002e 0000000000000007 00000002 0000000100000002"
     ++ codes " 00000000000007d0 00000005 00000002 2f61 ffffffff 00000001 ffffffff")
 
--- getData of /a, its first 10 bytes
+-- A getData of /a: its first 10 bytes.
 abbrev pub get_data_frame_start : List ℕ
 get_data_frame_start = hex_bytes (codes "0000000f 00000001 0000")
 
--- and the other 9
+-- The other 9 bytes.
 abbrev pub get_data_frame_end : List ℕ
 get_data_frame_end = hex_bytes (codes "0004 00000002 2f61 00")
 
--- the reply after the create
+-- The reply to the read after the create.
 abbrev pub reply_of_create : List ℕ
 reply_of_create =
     hex_bytes (codes "0000005a 00000001 0000000100000001 00000000 00000002 6869 0000000100000001 0000000100000001"
     ++ codes " 00000000000003e8 00000000000003e8 00000000 00000000 00000000 0000000000000000 00000002"
     ++ codes " 00000000 0000000100000001")
 
--- the reply after the setData
+-- The reply to the read after the setData.
 abbrev pub reply_of_set_data : List ℕ
 reply_of_set_data =
     hex_bytes (codes "00000058 00000001 0000000100000002 00000000 ffffffff 0000000100000001 0000000100000002"
     ++ codes " 00000000000003e8 00000000000007d0 00000001 00000000 00000000 0000000000000000 00000000"
     ++ codes " 00000000 0000000100000001")
 
--- exists of /a, with a watch
+-- An exists of /a with a watch.
 abbrev pub exists_watch_frame : List ℕ
 exists_watch_frame = hex_bytes (codes "0000000f 00000002 00000003 00000002 2f61 01")
 
--- its reply where there is no node, before any transaction
+-- The reply where there is no node, before any transaction.
 abbrev pub reply_of_missing : List ℕ
 reply_of_missing = hex_bytes (codes "00000010 00000002 0000000000000000 ffffff9b")
 
--- what the watch tells when the node is made
+-- The event that the watch sends when the node is created.
 abbrev pub event_of_create : List ℕ
 event_of_create = hex_bytes (codes "0000001e ffffffff ffffffffffffffff 00000000 00000001 00000003 00000002 2f61")
 
@@ -68,37 +68,37 @@ get_data_event = ClientBytes 1 (get_data_frame_start ++ get_data_frame_end)
 abbrev pub exists_watch_event : Event
 exists_watch_event = ClientBytes 1 exists_watch_frame
 
--- a primed machine answers so
+-- The outputs of a primed machine, with any settings.
 abbrev pub PrimedAnswers : List Event → List Output → Type 0
 PrimedAnswers events outputs = (settings : Settings) → (play (primed_machine settings) events).outputs ≡ outputs
 
--- a read sees the create, and later the write
+-- A read shows the create, and a later one the setData.
 pub record WorkedRows : Type 0 where
   pub create_then_get : PrimedAnswers (create_inform_event ∷ get_data_event ∷ []) (ToClient 1 reply_of_create ∷ [])
   pub set_then_get : PrimedAnswers (create_inform_event ∷ get_data_event ∷ set_data_inform_event ∷ get_data_event ∷ [])
       (ToClient 1 reply_of_create ∷ ToClient 1 reply_of_set_data ∷ [])
-  -- a request counts where its last byte comes
+  -- A request is answered when its last byte comes.
   pub cut_request : PrimedAnswers
       (ClientBytes 1 get_data_frame_start ∷ create_inform_event ∷ ClientBytes 1 get_data_frame_end ∷ [])
       (ToClient 1 reply_of_create ∷ [])
-  -- the same transaction twice is refused, and what comes then is passed over
+  -- A transaction that is sent twice is refused, and all that follows is ignored.
   pub same_zxid_twice : PrimedAnswers
       (create_inform_event ∷ create_inform_event ∷ set_data_inform_event ∷ get_data_event ∷ [])
       (CloseLeader OutOfOrder ∷ CloseClient 1 ∷ [])
-  -- a watch on a node that isn't there tells of its create, and of nothing behind it
+  -- A watch on a missing node fires for the create, and for nothing after it.
   pub watch_on_missing : PrimedAnswers (exists_watch_event ∷ create_inform_event ∷ set_data_inform_event ∷ [])
       (ToClient 1 reply_of_missing ∷ ToClient 1 event_of_create ∷ [])
   pub nothing : PrimedAnswers [] []
-  -- without a leader and a client nothing is answered
+  -- Without a leader and a client nothing is sent.
   pub idle : (settings : Settings)
       → (play (new_machine settings) (create_inform_event ∷ get_data_event ∷ [])).outputs ≡ []
-  -- a connection that begins with "ruok" is answered "imok" and closed, also where no leader was ever followed
+  -- A connection that begins with "ruok" is answered "imok" and closed, even if no leader was ever followed.
   pub ruok : (settings : Settings)
       → (play (new_machine settings) (ClientUp 2 ∷ ClientBytes 2 (codes "ruok") ∷ [])).outputs
       ≡ ToClient 2 (codes "imok") ∷ CloseClient 2 ∷ []
-  -- to "isro" it says that no client is served
+  -- The answer to "isro" says that no client is served.
   pub isro_not_serving : (settings : Settings)
       → (play (new_machine settings) (ClientUp 2 ∷ ClientBytes 2 (codes "isro") ∷ [])).outputs
       ≡ ToClient 2 (codes "null") ∷ CloseClient 2 ∷ []
-  -- a client that has a session says no word: the letters are the length of a frame that is too long
+  -- A client that has a session can't send a word: the letters are the length of a frame that is too long.
   pub word_with_a_session : PrimedAnswers (ClientBytes 1 (codes "ruok") ∷ []) (CloseClient 1 ∷ [])

@@ -1,4 +1,4 @@
-//! What an observer is set up with.
+//! The configuration of an observer.
 
 ghost use Rattle.std.specs.Prelude.{◌≡◌, ◌↔◌, IsOk, IsTrue, IfOk};
 ghost use Rattle.batcher.specs.Limits.{limit_numbers};
@@ -11,19 +11,19 @@ use settings::{Epochs, Secret, ServerId, TimeoutBounds};
 use thiserror::Error;
 use values::Blob;
 
-/// The settings of an observer, and how much it does at once.
+/// The settings of an observer, and the limits on what it does at once. No answer depends on the limits.
 #[derive(Drop)]
 pub struct Config {
     pub settings: Settings,
     pub limits: Limits,
 }
 
-/// A setting is out of its bounds.
+/// A setting is outside its bounds.
 #[derive(Clone, Copy, Debug, PartialEq, Eq, Error)]
 #[error("a setting is out of its bounds")]
 pub struct BadConfig;
 
-/// The limits where nothing is said: 4 workers, and batches of up to 256 transactions in up to 64 groups.
+/// The default limits: 4 workers, and batches of up to 256 transactions in up to 64 groups.
 pub fn default_limits() -> Limits
     ensures { result ≡ limit_numbers 4 256 64 }
 {
@@ -34,7 +34,9 @@ pub fn default_limits() -> Limits
 }
 
 impl Config {
-    /// The settings of these numbers and bytes, if each is within its bounds, with these limits.
+    /// Checks each setting against its bounds. Timeouts are in milliseconds.
+    ///
+    /// Fails with [`BadConfig`] if a setting is outside its bounds; `settings` has the bounds.
     pub fn new(
         server_id: i32,
         accepted_epoch: i32,
@@ -76,7 +78,7 @@ impl Config {
         Ok(Config::from_settings(settings, limits))
     }
 
-    /// These settings, each of which is within its bounds, with these limits.
+    /// Builds a configuration from settings that were checked already.
     pub fn from_settings(settings: Settings, limits: Limits) -> Config
         ensures settings { result.settings ≡ settings }
         ensures limits { result.limits ≡ limits }

@@ -1,4 +1,6 @@
-//! The engine: a machine that is closed by want of memory.
+//! The engine: a machine that a refused allocation closes.
+//!
+//! Laws that go over this: `Agreeing`, `WholeImages`.
 
 ghost use Rattle.std.specs.Prelude.{◌≡◌, Some, IfOk};
 ghost use Rattle.observer_core.specs.Play.{initial_machine, first_client, new_machine, primed_machine};
@@ -24,24 +26,24 @@ use std::thread::Threads;
 use thiserror::Error;
 use values::NoMemory;
 
-// The connection that is open from the start where a leader is followed from the start.
+// The connection that `primed` opens.
 const FIRST: u64 = 1;
 
 /// Why an engine stopped.
 #[derive(Clone, Copy, Debug, PartialEq, Eq, Error)]
 pub enum Stop {
-    /// A growth was refused. The engine is closed from then on.
+    /// An allocation was refused. The engine is closed from then on.
     #[error("no memory")]
     NoMemory,
     #[error("closed")]
     Closed,
 }
 
-/// An observer.
+/// An observer: events in, outputs out.
 #[derive(Drop)]
 pub struct Engine {
     machine: Machine,
-    // How much is done at once, which no answer shows.
+    // How much is done at once. No answer depends on it.
     limits: Limits,
     closed: bool,
 }
@@ -59,7 +61,7 @@ impl Model for Engine {
     ghost view = { λ e. if e.closed then None else Some e.machine };
 }
 
-// One connection that is open, and has the first session.
+// Connection 1 is open and has the first session.
 fn first_client(alloc: Global, settings: &Settings) -> Result<Clients, NoMemory>
     ensures { IfOk result (λ clients. clients ≡ first_client settings.now) }
 {
@@ -75,8 +77,10 @@ fn first_client(alloc: Global, settings: &Settings) -> Result<Clients, NoMemory>
 }
 
 impl Engine {
-    /// An observer that has followed no leader yet. Until one has brought it up to date, it closes a client that wants
-    /// a session.
+    /// An observer that hasn't followed a leader yet. Until a leader has brought it up to date, it closes every
+    /// connection that asks for a session.
+    ///
+    /// Fails only if an allocation is refused.
     pub fn new(alloc: Global, config: Config) -> Result<Engine, NoMemory>
         ensures { IfOk result (λ e. e ≡ Some (new_machine config.settings)) }
     {
@@ -86,7 +90,9 @@ impl Engine {
         Ok(Engine::started(limits, settings, replica, None, clients))
     }
 
-    /// An observer that follows a leader in epoch 1, with connection 1 open.
+    /// An observer that follows a leader in epoch 1 and serves clients, with connection 1 open and in a session.
+    ///
+    /// Fails only if an allocation is refused.
     pub fn primed(alloc: Global, config: Config) -> Result<Engine, NoMemory>
         ensures { IfOk result (λ e. e ≡ Some (primed_machine config.settings)) }
     {
@@ -100,7 +106,6 @@ impl Engine {
         Ok(Engine::started(limits, settings, replica, Some(leader), clients))
     }
 
-    // A machine that isn't closed.
     fn started(
         limits: Limits,
         settings: Settings,
@@ -122,21 +127,24 @@ impl Engine {
         }
     }
 
-    /// The data tree. Of a closed engine it is only to be dropped.
+    /// The data tree. The tree of a closed engine is unspecified.
     pub fn tree(&self) -> &Tree
         ensures { (m : TheMachine) → self.now ≡ Some m → result.now ≡ m.world.replica.tree }
     {
         self.machine.world.replica.tree()
     }
 
-    /// How far the leader was followed. Of a closed engine it is only to be dropped.
+    /// How far the leader was followed. The learner of a closed engine is unspecified.
     pub fn learner(&self) -> &Learner
         ensures { (m : TheMachine) → self.now ≡ Some m → result.now ≡ m.world.replica.learner }
     {
         self.machine.world.replica.learner()
     }
 
-    /// Lets the events happen, one after the other, and appends what goes out.
+    /// Plays the events in order and appends the outputs of each.
+    ///
+    /// Fails with [`Stop::NoMemory`] if an allocation is refused, which closes the engine and leaves a prefix of the
+    /// outputs appended; with [`Stop::Closed`] if the engine was closed before.
     pub fn feed_inline(
         &mut self,
         alloc: Global,
@@ -156,8 +164,8 @@ impl Engine {
             }
         }
     }
-    /// The same, for an engine that may have workers do a part of it: it waits for them, and they pass the gate. As yet
-    /// all is done on the calling thread.
+    /// Does what `feed_inline` does. It may hand a part to worker threads, which pass `gate` and which it waits for; as
+    /// yet it does everything on the calling thread.
     pub fn feed<G: Gate + Sync, R: Threads + Sync>(
         &mut self,
         _rt: &R,

@@ -1,8 +1,8 @@
-//! What comes to an observer.
+//! The events that an observer takes.
 
 use values::Bytes;
 
-/// What comes. A connection is named by its number.
+/// An input. A client's connection is named by its number.
 #[derive(Drop)]
 pub enum Event<'a> {
     /// The connection to the leader is open.
@@ -13,8 +13,8 @@ pub enum Event<'a> {
     ClientUp(u64),
     ClientBytes(u64, Bytes<'a>),
     ClientEnd(u64),
-    /// The session has expired.
+    /// The session with this id has expired.
     Expire(i64),
-    /// While clients are served, the tree becomes the base, and the log is emptied.
+    /// The tree becomes the base and the log is emptied, while clients are served; otherwise nothing happens.
     Checkpoint,
 }

@@ -1,4 +1,4 @@
-//! Laws of Play.
+//! Laws of `play`.
 
 ghost use Rattle.std.specs.Prelude.{◌≡◌, List, ℕ, ◌∷◌, ◌++◌};
 ghost use Rattle.observer_core.specs.Machine.{Machine};
@@ -12,13 +12,13 @@ ghost use Rattle.observer_core.specs.Apart.{ClientsAreApart};
 ghost use Rattle.observer_core.specs.WholeImages.{PartsAreWholeImages};
 ghost use Rattle.observer_core.specs.Rows.{WorkedRows};
 
-/// Two lists of events, one behind the other.
+/// Playing two lists of events one after the other is playing their concatenation.
 pub fn plays_on()
     ensures { (m : Machine) (a b : List Event)
         → play m (a ++ b) ≡ prepend_outputs (play m a).outputs (play (play m a).after b) }
 {}
 
-/// A piece of the leader's bytes, or of a client's, may be cut in two.
+/// A piece of the leader's stream, or of a client's, may be cut in two anywhere.
 pub fn cut_anywhere()
     ensures leader { (m : Machine) (a b : List ℕ) (events : List Event)
         → play m (LeaderBytes (a ++ b) ∷ events)
@@ -28,16 +28,16 @@ pub fn cut_anywhere()
         ≡ play m (ClientBytes n a ∷ ClientBytes n b ∷ events) }
 {}
 
-/// The tree is what the log makes of the base, and the log's zxids rise up to the last zxid: at the start and after
-/// every list of events, faults among them.
+/// The tree is the base with the log applied, and the log's zxids ascend up to the last zxid: at the start, and after
+/// every list of events, faults included.
 pub fn logs_are_followed()
     ensures { MachinesFollowTheirLogs }
 {
     replica::law::logs();
 }
 
-/// Images are taken part by part, and never stand beside the tree that they make: what goes out and what is left are,
-/// for every list of events, those of whole images.
+/// Images are loaded part by part, and no image is held besides the tree that it makes. For every list of events the
+/// outputs and the state left are those of taking whole images.
 pub fn parts_are_whole_images()
     ensures { PartsAreWholeImages }
 {
@@ -45,16 +45,15 @@ pub fn parts_are_whole_images()
     replica::law::images();
 }
 
-/// A packet or part that is refused changes nothing. Where bytes of the leader bring one, what goes out and what is left
-/// are those of the items before it, and then of the leader's loss for that fault; and the loss leaves tree, base, log
-/// and epochs.
+/// A packet or part that is refused changes nothing. Where bytes of the leader contain one, the outputs and the state
+/// left are those of the items before it, followed by the loss of the leader for that fault. The loss leaves the tree,
+/// the base, the log and the epochs.
 pub fn refusals_change_nothing()
     ensures { RefusalsChangeNothing }
 {}
 
-/// Whoever has a session or watches something is open, each connection's session is a guest session
-/// that hasn't ended, and no two connections have one session: at the start, and after every list of
-/// events if it was so before.
+/// Every connection that has a session or a watch is open, each connection's session is a live guest session, and no
+/// two connections share a session: at the start, and after every list of events if it was so before.
 pub fn connections_agree()
     ensures { ConnectionsAgree }
 {
@@ -62,8 +61,8 @@ pub fn connections_agree()
     watch_manager::law::firing();
 }
 
-/// Where clients aren't served nobody has a session: at the start, and after every list of events if it was so before
-/// and the connections agreed.
+/// Where clients aren't served no connection has a session: at the start, and after every list of events if it was so
+/// before and the connections agreed.
 pub fn sessions_are_served()
     ensures { SessionsAreServed }
 {
@@ -71,10 +70,10 @@ pub fn sessions_are_served()
     connections_agree();
 }
 
-/// A client that comes, sends or goes leaves the tree and the log; no frame goes to another, and none to the leader;
-/// and every other connection that isn't closed is untouched: the bytes that wait there, its session and ids, and its
-/// watches. Another one is closed only where its session is taken up: by a client that had none before, and that has
-/// this one from then on while it is open.
+/// An event of a client (it connects, sends or leaves) leaves the tree and the log. It sends no frame to another client
+/// and nothing to the leader. Every other connection that it doesn't close keeps its waiting bytes, its session, its
+/// ids and its watches. It closes another connection only if its client takes over that connection's session: the
+/// client had no session before, and has this one from then on while it is open.
 pub fn clients_are_apart()
     ensures { ClientsAreApart }
 {
@@ -83,7 +82,7 @@ pub fn clients_are_apart()
     watch_manager::law::firing();
 }
 
-/// The definitions, computed on rows of bytes that were worked out by hand.
+/// The definitions, evaluated on rows of bytes that were worked out by hand.
 pub fn worked_rows()
     ensures { WorkedRows }
 {

@@ -1,4 +1,6 @@
-//! What a leader does: it comes, sends, and goes.
+//! What a leader does: it connects, sends, and leaves.
+//!
+//! Laws that go over this: `Agreeing`, `Logs`, `Playing`, `Refusals`, `Served`, `Simulation`, `WholeImages`.
 
 ghost use Rattle.std.specs.Prelude.{map, ◌∷◌, []};
 ghost use Rattle.std.specs.List.{All};
@@ -21,7 +23,6 @@ use snapshot_codec::Loader;
 use std::alloc::Global;
 use values::{Blob, Fault, NoMemory, ReadError};
 
-// Sends a packet to the leader, as one output.
 fn send(alloc: Global, packet: &QuorumPacket, outputs: &mut Vec<Output>) -> Result<(), NoMemory>
     requires { packet_format.Writable packet.now }
     ensures { Puts result outputs.old.items (to_leader packet.now ∷ []) outputs.new.items }
@@ -32,7 +33,7 @@ fn send(alloc: Global, packet: &QuorumPacket, outputs: &mut Vec<Output>) -> Resu
     Ok(())
 }
 
-// Sends packets to the leader, in order.
+// Sends packets to the leader, in order and one output each.
 fn send_each(
     alloc: Global,
     packets: &[QuorumPacket],
@@ -47,7 +48,7 @@ fn send_each(
     Ok(())
 }
 
-// Tells at once what was taken: packets go to the leader, and events to those who watch.
+// Sends the packets for the leader, and then an event to each watcher.
 fn tell(
     alloc: Global,
     clients: &mut Clients,
@@ -64,7 +65,6 @@ fn tell(
     notify_each(alloc, events.as_slice(), outputs)
 }
 
-// Takes a packet or a part.
 #[tactic(auto, using(crate::proofs::Delivering::all_of))]
 fn receive_item(
     alloc: Global,
@@ -86,7 +86,7 @@ fn receive_item(
     }
 }
 
-// Takes the packets and parts that are whole. Answers the fault that ends the stream, if one does.
+// Takes the complete packets and parts. Returns the fault that ends the stream, if there is one.
 fn drain(
     alloc: Global,
     feed: &mut PacketFeed,
@@ -112,7 +112,7 @@ fn drain(
     }
 }
 
-// Closes all connections, in the order of their numbers.
+// Closes all connections in ascending order of their numbers.
 fn close_all(clients: &mut Clients, outputs: &mut Vec<Output>) -> Result<(), NoMemory>
     ensures { MeetsStep result outputs.old.items
         (close_all_clients clients.old)
@@ -131,7 +131,7 @@ fn disconnect(world: &mut World, outputs: &mut Vec<Output>) -> Result<(), NoMemo
     close_all(&mut world.clients, outputs)
 }
 
-// A fault closes the leader, and then the clients.
+// Closes the leader for a fault, and then all clients.
 fn close_on_fault(
     fault: Fault,
     world: &mut World,
@@ -145,7 +145,9 @@ fn close_on_fault(
     disconnect(world, outputs)
 }
 
-/// A leader is there: the observer introduces itself. While there is one already, another is passed over.
+/// A leader has connected, and the observer introduces itself. While it has a leader, another one is ignored.
+///
+/// Fails only if an allocation is refused; then a prefix of the outputs has been appended.
 pub fn meet_leader(
     alloc: Global,
     machine: &mut Machine,
@@ -167,7 +169,7 @@ pub fn meet_leader(
     send_each(alloc, replies.as_slice(), outputs)
 }
 
-// Takes a piece of the leader's stream. Answers the fault that ends it, if one does.
+// Takes a piece of the leader's stream. Returns the fault that ends the stream, if there is one.
 fn follow(
     alloc: Global,
     leader: &mut Leader,
@@ -183,7 +185,10 @@ fn follow(
     drain(alloc, &mut leader.feed, &mut leader.loader, world, outputs)
 }
 
-/// Lets the leader's bytes happen.
+/// Takes a piece of the leader's stream. A fault closes the leader and all clients. Without a leader the bytes are
+/// ignored.
+///
+/// Fails only if an allocation is refused; then a prefix of the outputs has been appended.
 pub fn take_leader_bytes(
     alloc: Global,
     machine: &mut Machine,
@@ -209,7 +214,9 @@ pub fn take_leader_bytes(
     }
 }
 
-/// The leader is gone. Where its stream breaks off in the middle of something, that is a fault.
+/// The leader is gone, and all clients are closed. A stream that ends inside a packet or an image is a fault.
+///
+/// Fails only if an allocation is refused; then a prefix of the outputs has been appended.
 pub fn end_leader(machine: &mut Machine, outputs: &mut Vec<Output>) -> Result<(), NoMemory>
     ensures { MeetsStep result outputs.old.items
         (end_leader part_reader machine.old.leader machine.old.world)

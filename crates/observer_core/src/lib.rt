@@ -1,22 +1,21 @@
 //! The observer as a machine: events in, outputs out.
 //!
-//! An [`Engine`] is fed lists of [`Event`]s and appends what they cause as [`Output`]s. What that is, says
-//! specs/Play: it speaks of a machine (specs/Machine), which is a leader's stream and a world, and of steps, each
-//! of which puts something out and leaves a world.
+//! An [`Engine`] is fed lists of [`Event`]s and appends the [`Output`]s that they cause. specs/Play defines what these
+//! are. It speaks of a machine (specs/Machine), which is the state of a leader's stream and a world, and of steps, each
+//! of which gives outputs and the world after it.
 //!
-//! A packet of the leader, or a part of an image, is a step (specs/Leader): the replica takes it, what it answers is
-//! sent, and who watches what it changed is told at once. One may be refused; then the leader and all clients are
-//! closed, the transactions that wait for a commit are forgotten, and nothing else changes. A frame of a client is a
-//! step of `client_service`, answered at the state as it is. Clients are served once the leader has brought the replica
-//! up to date, and until it goes. An event makes all the steps that came whole with it.
+//! A packet of the leader, or a part of an image, is a step (specs/Leader): the replica takes it, its answers are sent,
+//! and the watchers of what it changed are told at once. If it is refused, the leader and all clients are closed, the
+//! transactions that wait for a commit are forgotten, and nothing else changes. A frame of a client is a step of
+//! `client_service`, answered at the present state. Clients are served from the moment the leader has brought the
+//! replica up to date until the leader is gone. An event makes a step of each item that it completes.
 //!
-//! How a leader is followed, and what that does to the tree, is `replica`'s; what a client's bytes do is
-//! `client_service`'s. This crate says in which order both happen, and what goes out. specs/Plays says what
-//! `feed_inline` and `feed` answer, with want of memory in it; `feed` may have workers do a part, which no answer
-//! shows.
+//! `replica` follows the leader and keeps the tree; `client_service` does what a client's bytes ask. This crate says in
+//! which order both happen, and what is sent. specs/Plays states what `feed_inline` and `feed` return, refused
+//! allocations included. `feed` may hand a part to worker threads, and no answer depends on that.
 //!
-//! `leader` carries the leader's steps out, and `run` the events. What their private functions promise each other
-//! stands in specs/Inner, and nobody outside needs it.
+//! `leader` does the leader's steps, and `run` plays the events. specs/Inner has the contracts of their private
+//! functions; no public contract needs it.
 //!
 //! ```text
 //! // server id, two epochs, two timeouts in milliseconds, secret, limits
@@ -24,7 +23,7 @@
 //! let mut engine = Engine::primed(alloc, config)?;           // serves in epoch 1, and connection 1 is open; or: new
 //! let events = [Event::LeaderBytes(Bytes::new(inform)), Event::ClientBytes(1, Bytes::new(frame))];
 //! engine.feed_inline(alloc, &events, &mut outputs)?;         // appends Output::ToClient(1, reply); or: feed
-//! engine.learner().last_zxid(), engine.tree().node("/a")     // what it knows by then
+//! engine.learner().last_zxid(), engine.tree().node("/a")     // the state after these events
 //! ```
 #![tactic(auto)]
 

@@ -1,15 +1,15 @@
-//! The machine of the definitions, as it is held.
+//! The machine of the definitions as Rust holds it.
 
 use client_service::World;
 use quorum_packet::PacketFeed;
 use snapshot_codec::Loader;
 use std::marker::Model;
 
-/// A leader's stream.
+/// The state of a leader's stream.
 #[derive(Drop)]
 pub struct Leader {
     pub feed: PacketFeed,
-    /// The image that is being read, apart from the tree.
+    /// The image that is being loaded, separate from the tree.
     pub loader: Loader,
 }
 
@@ -25,10 +25,10 @@ impl Model for Leader {
     ghost view = { λ l. record { place = l.feed; loading = l.loader } };
 }
 
-/// An observer, all of it.
+/// The whole state of an observer.
 #[derive(Drop)]
 pub struct Machine {
-    /// The leader's stream, while there is a leader.
+    /// The state of the leader's stream, while there is a leader.
     pub leader: Option<Leader>,
     pub world: World,
 }

@@ -1,4 +1,6 @@
-//! The machine at work.
+//! The machine plays events.
+//!
+//! Laws that go over this: `Agreeing`, `Logs`, `Playing`, `Refusals`, `Served`, `WholeImages`.
 
 ghost use Rattle.observer_core.specs.Play.{play_event, play};
 ghost use Rattle.client_service.specs.Results.{MeetsStep};
@@ -45,7 +47,9 @@ fn happen(
     }
 }
 
-/// Lets the events happen, and appends what they cause.
+/// Plays the events in order and appends the outputs of each.
+///
+/// Fails only if an allocation is refused; then a prefix of the outputs has been appended.
 pub fn run(
     alloc: Global,
     machine: &mut Machine,

@@ -1,4 +1,4 @@
-//! The laws, each called once. A law that is called in a test would bring its statement, rows of bytes among it, into
+//! The laws, each called once. A law that is called in a test would bring its statement, with its rows of bytes, into
 //! the test's proof.
 use observer_core::{
     clients_are_apart, connections_agree, cut_anywhere, logs_are_followed, parts_are_whole_images,

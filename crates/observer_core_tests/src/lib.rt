@@ -1,8 +1,8 @@
 //! Tests of the engine, over the public calls of `observer_core`.
 //!
-//! The calls stand behind helper functions without clauses, and so do the bytes and the laws: what a test looks at
-//! shows when it runs, and its proof would else compute what the engine answers to these bytes. And where a function
-//! holds an engine or a list it has few ends, since each end drops what is held, and each drop is proved.
+//! The calls, the bytes and the laws are in helper functions without contracts: what a test looks at shows when it
+//! runs, and its proof would otherwise compute the engine's answer to these bytes. A function that holds an engine or a
+//! list has few ends, since each end drops it, and each drop is proved.
 #![tactic(auto)]
 
 use apply_workers::OpenGate;
@@ -32,12 +32,12 @@ pub fn blob(alloc: Global, bytes: &[u8]) -> Result<Blob, &'static str> {
     Blob::new(alloc, bytes).ok().ok_or("memory")
 }
 
-/// What comes from the leader.
+/// Bytes from the leader.
 pub fn told(bytes: &[u8]) -> Event<'_> {
     Event::LeaderBytes(Bytes::new(bytes))
 }
 
-/// What comes from the client of connection 1.
+/// Bytes from the client of connection 1.
 pub fn asked(bytes: &[u8]) -> Event<'_> {
     Event::ClientBytes(1, Bytes::new(bytes))
 }
@@ -60,7 +60,7 @@ pub fn are_replies(outputs: &[Output], wanted: &[&[u8]]) -> bool {
     outputs.len() == wanted.len()
 }
 
-/// Feeds the events, and appends what goes out. Answers whether memory was ample.
+/// Feeds the events, and appends the outputs. Returns whether no allocation was refused.
 pub fn feed(
     alloc: Global,
     engine: &mut Engine,
@@ -70,7 +70,7 @@ pub fn feed(
     engine.feed_inline(alloc, events, outputs).is_ok()
 }
 
-/// The same where workers may do a part.
+/// The same, with workers that may do a part.
 pub fn feed_with_workers<R: Threads + Sync>(
     rt: &R,
     alloc: Global,
@@ -81,12 +81,12 @@ pub fn feed_with_workers<R: Threads + Sync>(
     engine.feed(rt, alloc, events, &OpenGate, outputs).is_ok()
 }
 
-/// Whether the engine has this last zxid, and so many nodes.
+/// Whether the engine has this last zxid and this many nodes.
 pub fn ends(engine: &Engine, zxid: i64, paths: usize) -> bool {
     engine.learner().last_zxid() == zxid && engine.tree().paths() == paths
 }
 
-/// Whether there is a node of this path.
+/// Whether there is a node at this path.
 pub fn has(engine: &Engine, path: &str) -> bool {
     engine.tree().node(path).is_some()
 }

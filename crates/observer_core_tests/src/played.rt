@@ -1,4 +1,4 @@
-//! What comes, and what goes out of it.
+//! Events, and the outputs that they cause.
 use super::*;
 use crate::laws::{
     call_clients_are_apart, call_connections_agree, call_cut_anywhere, call_logs_are_followed,
@@ -10,7 +10,7 @@ use observer_core::CLIENT_FRAME_LIMIT;
 use std::test::*;
 use values::Fault;
 
-// Where the engine answers these replies, and ends so; else it is false, as it is where memory is refused.
+// Whether the engine gives these replies, and ends with this zxid and this many nodes.
 fn replies(
     alloc: Global,
     mut engine: Engine,
@@ -24,7 +24,7 @@ fn replies(
         && ends(&engine, end.0, end.1)
 }
 
-// Where the engine closes something, and ends so.
+// Whether the engine closes a connection, and ends with this zxid and this many nodes.
 fn closes(
     alloc: Global,
     mut engine: Engine,
@@ -50,7 +50,7 @@ fn plays_row(alloc: Global, engine: Engine) -> bool {
     )
 }
 
-// The same, where workers may do a part.
+// The same, with workers that may do a part.
 fn plays_row_with_workers<R: Threads + Sync>(rt: &R, alloc: Global, mut engine: Engine) -> bool {
     let events = [told(create()), asked(get())];
     let mut outputs = Vec::new(alloc);
@@ -94,7 +94,7 @@ fn feed_second(alloc: Global, engine: &mut Engine, outputs: &mut Vec<Output>) ->
     feed(alloc, engine, &[told(set()), asked(get())], outputs)
 }
 
-// A second list of events goes on where the first one ended, and its outputs come behind.
+// A second list of events continues where the first one ended, and its outputs are appended.
 fn plays_two_lists(alloc: Global, mut engine: Engine) -> bool {
     let mut outputs = Vec::new(alloc);
     feed_first(alloc, &mut engine, &mut outputs)
@@ -104,7 +104,7 @@ fn plays_two_lists(alloc: Global, mut engine: Engine) -> bool {
         && has(&engine, "/a")
 }
 
-// The second create has a zxid that was applied: all are closed, and nothing else changes.
+// The second create has a zxid that was applied already: everything is closed, and nothing else changes.
 fn plays_refusal(alloc: Global, engine: Engine) -> bool {
     let events = [told(create()), told(create()), told(set()), asked(get())];
     let wanted = [
@@ -114,7 +114,7 @@ fn plays_refusal(alloc: Global, engine: Engine) -> bool {
     closes(alloc, engine, &events, &wanted, (0x1_0000_0001, 4))
 }
 
-// A frame of the greatest length is waited for.
+// The observer waits for a frame of the greatest length.
 fn waits(alloc: Global, engine: Engine) -> bool {
     replies(alloc, engine, &[asked(b"\0\x0f\xff\xff")], &[], (0, 3))
 }
@@ -125,7 +125,7 @@ fn closes_client(alloc: Global, engine: Engine) -> bool {
     closes(alloc, engine, &events, &[Output::CloseClient(1)], (0, 3))
 }
 
-// A connection opens, and says "ruok" in two pieces.
+// A connection opens, and sends "ruok" in two pieces.
 fn answers_word(alloc: Global, engine: Engine, wanted: &[Output]) -> bool {
     let events = [
         Event::ClientUp(2),
@@ -135,7 +135,7 @@ fn answers_word(alloc: Global, engine: Engine, wanted: &[Output]) -> bool {
     closes(alloc, engine, &events, wanted, (0, 3))
 }
 
-// Connection 1 has a session, so the same letters are the length of a frame, one that is too long.
+// Connection 1 has a session, so the same letters are the length of a frame that is too long.
 fn answers_no_word(alloc: Global, engine: Engine) -> bool {
     closes(
         alloc,
@@ -146,7 +146,7 @@ fn answers_no_word(alloc: Global, engine: Engine) -> bool {
     )
 }
 
-// A connection opens and goes, and the session of connection 1 expires, which closes it.
+// A connection opens and closes, and the session of connection 1 expires, which closes that connection.
 fn expires(alloc: Global, engine: Engine) -> bool {
     let events = [
         Event::ClientUp(2),
@@ -156,7 +156,7 @@ fn expires(alloc: Global, engine: Engine) -> bool {
     closes(alloc, engine, &events, &[Output::CloseClient(1)], (0, 3))
 }
 
-// A leader that isn't there is passed over, and so is a client.
+// Bytes of a leader or a client without a connection are ignored.
 fn passes_over(alloc: Global, engine: Engine) -> bool {
     let events = [told(create()), asked(get()), Event::Checkpoint];
     replies(alloc, engine, &events, &[], (0, 3))
@@ -170,7 +170,7 @@ fn is_introduction(output: &Output) -> bool {
     }
 }
 
-// A leader comes, and goes; another one comes.
+// A leader connects and leaves, and another one connects.
 fn meets_two(alloc: Global, mut engine: Engine) -> bool {
     let events = [
         Event::LeaderUp,

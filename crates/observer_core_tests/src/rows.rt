@@ -1,6 +1,6 @@
 //! Bytes that were worked out by hand. They come from functions, so that no proof knows them.
 
-/// An INFORM of a create of /a with the data "hi", of zxid 0x100000001.
+/// An INFORM of a create of /a with the data "hi" and the zxid 0x100000001.
 pub fn create() -> &'static [u8] {
     b"\0\0\0\x08\0\0\0\x01\0\0\0\x01\0\0\0\x4c\0\0\0\0\0\0\0\x07\0\0\0\x01\
     \0\0\0\x01\0\0\0\x01\0\0\0\0\0\0\x03\xe8\0\0\0\x01\0\0\0\x02/a\0\0\0\x02hi\
@@ -19,7 +19,7 @@ pub fn reply_of_create() -> &'static [u8] {
     \0\0\0\0\0\0\0\0\0\0\0\0\0\0\0\x02\0\0\0\0\0\0\0\x01\0\0\0\x01"
 }
 
-/// An INFORM of a setData of /a to null at version 1, of zxid 0x100000002.
+/// An INFORM of a setData of /a to null at version 1, with the zxid 0x100000002.
 pub fn set() -> &'static [u8] {
     b"\0\0\0\x08\0\0\0\x01\0\0\0\x02\0\0\0\x2e\0\0\0\0\0\0\0\x07\0\0\0\x02\
     \0\0\0\x01\0\0\0\x02\0\0\0\0\0\0\x07\xd0\0\0\0\x05\0\0\0\x02/a\xff\xff\xff\xff\

@@ -1,10 +1,10 @@
-//! Which numbers and bytes make settings: those at a bound, and those one beyond it.
+//! Numbers and bytes of settings: those at a bound, and those one beyond it.
 use super::*;
 use observer_core::Settings;
 use settings::{Epochs, Secret, ServerId, TimeoutBounds};
 use std::test::*;
 
-// Whether they make settings that say the same again. The secret has this many bytes.
+// Whether they are accepted, and the settings hold them. The secret has this many bytes.
 fn takes(
     alloc: Global,
     server_id: i32,

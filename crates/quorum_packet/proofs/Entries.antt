@@ -1,4 +1,4 @@
--- What a refusal of the entries that are left says of an ACL list.
+-- A refusal of the entries that are left is a refusal of the ACL list.
 use Rattle.std.proofs.Common.{◌≡◌, ℕ, suc, ◌-◌, ◌<◌, ◌≤◌, Bool, true, false, List, [], ◌++◌, length, drop, take, Option, Some, None, Result, Ok, Err, refl, sym, ap, subst, ◌∙◌, arith, inl, inr}
 use Rattle.std.specs.Prelude.{ℤ, unwrap_or}
 use Rattle.std.proofs.Math.Seq.{take-length}
@@ -12,17 +12,17 @@ use Rattle.quorum_packet.specs.declared.unseen.Entries.{Entries}
 use Rattle.quorum_packet.specs.Unseen.{ReadFn, IsRestOf, AreUnseenEntries, acl_list, then_read, entries_left, EntryStopsAt}
 use Rattle.quorum_packet.proofs.Looking.{stands_ok, joined_fronts, drop_more, shorter}
 
--- the bytes from a place on, as a slice has them
+-- The bytes from a place on, as a slice.
 from_place : (bytes ahead : List ℕ) (start : ℕ) → ahead ≡ take (length bytes - start) (drop start bytes)
     → ahead ≡ drop start bytes
 from_place bytes ahead start is =
     is ∙ ap (λ (n : ℕ). take n (drop start bytes)) (sym (length-drop start bytes)) ∙ take-length (drop start bytes)
 
--- ---- what is left behind what was read
+-- ---- what is left after what was read
 
 module _ {A B : Type 0} (whole : ReadFn A) (left : ReadFn B) (bytes : List ℕ) (start : ℕ)
     (u : IsRestOf whole left bytes start) (ahead : List ℕ) (is : ahead ≡ drop start bytes) where
-  -- a refusal of what is left is one of the whole, whatever comes behind
+  -- A refusal of the rest is a refusal of the whole, whatever follows.
   at_left : (more : List ℕ) (e : Fault) → left (ahead ++ more) ≡ Err e → whole (bytes ++ more) ≡ Err e
   at_left more e k =
       let place : drop start (bytes ++ more) ≡ ahead ++ more = drop-append-le start bytes more u.within
@@ -33,7 +33,7 @@ module _ {A B : Type 0} (whole : ReadFn A) (left : ReadFn B) (bytes : List ℕ) 
   left_refused e k =
       subst (λ (t : List ℕ). whole t ≡ Err e) (append-nil bytes) (at_left [] e (ap left (append-nil ahead) ∙ k))
 
-  -- what was read of it is behind
+  -- The bytes that were read of the rest are before the new place.
   pub left_behind : {C : Type 0} (other : ReadFn C) (text rest : List ℕ) → ahead ≡ text ++ rest
       → ((more : List ℕ) (e : Fault) → other (rest ++ more) ≡ Err e → left (ahead ++ more) ≡ Err e)
       → (length rest ≤ length bytes) × IsRestOf whole other bytes (length bytes - length rest)
@@ -52,7 +52,7 @@ module _ {A B : Type 0} (whole : ReadFn A) (left : ReadFn B) (bytes : List ℕ) 
 
 -- ---- an entry: a number, a scheme and an id
 
--- what is left of the entries where the first one stands
+-- The rest of the entries, from the first one on.
 module _ (n : ℕ) (bytes : List ℕ) (e : Fault) where
   perms_out : int.read bytes ≡ Err e → read_n acl_format.read (suc n) bytes ≡ Err e
   unfolding read_n acl_format id_format
@@ -74,7 +74,7 @@ module _ (n : ℕ) (bytes : List ℕ) (e : Fault) where
   unfolding read_n acl_format id_format
   others_out perms b c d scheme who h k l m = rw (h, k, l, m) refl
 
-  -- what is left behind its scheme
+  -- The rest of an entry after its scheme.
   behind_scheme : (perms : ℤ) (b c scheme : List ℕ) → int.read bytes ≡ Ok (perms, b)
       → text_or_empty.read b ≡ Ok (scheme, c)
       → then_read text_or_empty.read (read_n acl_format.read n) c ≡ Err e → read_n acl_format.read (suc n) bytes ≡ Err e
@@ -84,7 +84,7 @@ module _ (n : ℕ) (bytes : List ℕ) (e : Fault) where
         | inr read ↦ others_out perms b c read.0.1 scheme read.0.0 h k read.1 read.2
       ]
 
--- ---- the steps of a look
+-- ---- the steps of a scan
 
 abbrev entries_at : List ℕ → List ℕ → ℕ → Bool → Entries
 entries_at bytes rest count scheme_seen =
@@ -104,7 +104,7 @@ module _ (bytes ahead : List ℕ) (entries : Entries) (u : AreUnseenEntries byte
   fits_ahead : IsBytes bytes → IsBytes ahead
   fits_ahead fits = subst IsBytes (sym there) (IsBytes-drop entries.start bytes fits)
 
-  -- the id is next
+  -- The id is next.
   pub id_refused : (e : Fault) → entries.scheme_seen ≡ true → text_or_empty.read ahead ≡ Err e
       → (acl_list.read bytes ≡ Err e) × EntryStopsAt entries.scheme_seen (drop entries.start bytes) e
   id_refused e at h = (
@@ -123,7 +123,7 @@ module _ (bytes ahead : List ℕ) (entries : Entries) (u : AreUnseenEntries byte
       x.1)
       (stands_ok text_or_empty name_sound.pieced ahead rest more v h) ∙ k)
 
-  -- an entry is next
+  -- An entry is next.
   module _ (some : 0 < entries.count) (at : entries.scheme_seen ≡ false) where
     one_more : suc (entries.count - 1) ≡ entries.count
     one_more = omega (arith, some)

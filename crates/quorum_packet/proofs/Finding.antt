@@ -1,4 +1,4 @@
--- What stands at the front of the bytes, shown or not.
+-- The value at the front of the bytes, whether it is an item or not.
 use Rattle.std.proofs.Common.{◌≡◌, ℕ, ◌-◌, ◌≤◌, Bool, false, cond, List, [], ◌∷◌, ◌++◌, length, drop, Option, Some, None, Result, Ok, Err, is_err, refl, sym, ap, subst, ◌∙◌, arith}
 use Rattle.std.specs.Prelude.{IfSome}
 use Rattle.values.specs.declared.fault.Fault.{Fault}
@@ -86,7 +86,7 @@ is_shown (Count n) part e = absurd cc
 is_shown (Path path) part e = absurd cc
 is_shown Close part e = absurd cc
 
--- what only moves the image on
+-- A value that only advances the image.
 pub hidden_found : (phase : Phase) (parts behind : PartPhase) (old new : List ℕ) → phase ≡ Image parts
     → ReadsPart (Ok None) parts behind old new → FindsItem (Ok None) phase (Image behind) old new
 hidden_found phase parts behind old new at r =
@@ -94,7 +94,7 @@ hidden_found phase parts behind old new at r =
     subst (λ (p : Phase). FindsItem (Ok None) p (Image behind) old new) (sym at)
     (value_found parts behind old new r.0 r.1 r.2 false n.0 None n.1)
 
--- a part
+-- A part.
 pub part_found : (phase : Phase) (parts behind : PartPhase) (old new : List ℕ) (part : ImagePart) (last : Bool)
     → phase ≡ Image parts → ReadsPart (Ok (Some part)) parts behind old new → is_end (Part part) ≡ last
     → FindsItem (Ok (Some (item.Part part))) phase (cond last Packets (Image behind)) old new
@@ -131,7 +131,7 @@ front_found phase next bytes rest found fits f =
       f.3,
     )
 
--- a packet that was read can be written
+-- A packet that was read can be written.
 writable_in : (phase : Phase) (p : QuorumPacket) → (found_format phase).Writable (OfPacket p) → packet_format.Writable p
 writable_in Packets p w = w
 writable_in (Image phase) p w = absurd w
@@ -167,7 +167,7 @@ module _ (waiting : List ℕ) (phase next : Phase) (fault : Option Fault) (old :
   ready : old ≡ place_at phase waiting
   ready = sym is ∙ ap (place_of waiting phase) (no_fault fault fine)
 
-  -- no fault came
+  -- There was no fault.
   pub is_fine : is_err old.unread ≡ false
   is_fine = ap (λ (p : Place Phase). is_err p.unread) ready
 
@@ -195,13 +195,13 @@ module _ (waiting : List ℕ) (phase next : Phase) (fault : Option Fault) (old :
       subst (λ (u : Unread). RefusesUnread e next u) (ap (unread_of waiting) (sym (no_fault fault fine)))
       (subst (λ (p : Phase). (found_format p).read waiting ≡ Err e) (sym r.1) r.0)
 
--- too few bytes wait for more
+-- Too few bytes wait for more.
 pub short_stops : (phase : Phase) (u : Unread) → RefusesUnread Short phase u
     → FindsNone (Ok tt) (record { phase = phase; unread = u }) (record { phase = phase; unread = u })
 short_stops phase (Ok bytes) h = (items_short stream_of_leader leader_streamed phase bytes h, h)
 short_stops phase (Err e) h = absurd h
 
--- another refusal ends the stream
+-- Any other refusal ends the stream.
 pub refused_stops : (phase : Phase) (u : Unread) (e : Fault) → RefusesUnread e phase u → (e ≡ Short → ⊥)
     → FindsNone (Err e) (record { phase = phase; unread = u }) (record { phase = phase; unread = Err e })
 refused_stops phase (Ok bytes) e h other = (
@@ -220,7 +220,7 @@ pub step_found : (found : Option Item) (result : Result Step ReadError) (old new
 step_found None result old new is g = subst (λ (r : Result Step ReadError). IsStepResult r old new) (sym is) g
 step_found (Some i) result old new is g = subst (λ (r : Result Step ReadError). IsStepResult r old new) (sym is) g
 
--- ---- what is shown
+-- ---- the items
 
 pub shown_next : (old new : Place Phase) (front : List Item) → FindsOne front old new
     → items_shown_at old ≡ record { found = front ++ (items_shown_at new).found; left = (items_shown_at new).left }

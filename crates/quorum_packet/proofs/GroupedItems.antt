@@ -1,5 +1,5 @@
 -- The packets and parts of a stream, grouped, are its packets and whole images. One induction on the bytes that are
--- left shows both: what comes where a packet is next, and what comes within an image.
+-- left shows both cases: where a packet comes next, and inside an image.
 use Rattle.std.proofs.Common.{◌≡◌, ℕ, zero, suc, ◌<◌, Bool, true, false, cond, List, [], ◌∷◌, ◌++◌, length, Option, Some, Result, Ok, Err, refl, sym, ap, subst, ◌∙◌, append_assoc, arith}
 use Rattle.std.proofs.lemmas.List.{append-nil}
 use Rattle.values.specs.declared.fault.Fault.{Fault}
@@ -32,7 +32,7 @@ use Rattle.quorum_packet.specs.Packet.{packet_format}
 use Rattle.quorum_packet.specs.WholeItems.{WholeItem, OnePacket, OneImage, one_packet_back, one_image_back, whole_format, is_owed, whole_items}
 use Rattle.quorum_packet.proofs.Streams.{leader_streamed, whole_streamed}
 
--- ---- what a case of a sum reads
+-- ---- reading a case of a sum
 
 module _ {A B : Type 0} (f : Format A) (to : A → B) (back : B → Option A) where
   pub read_case : (bytes rest : List ℕ) (a : A) → f.read bytes ≡ Ok (a, rest)
@@ -44,7 +44,7 @@ module _ {A B : Type 0} (f : Format A) (to : A → B) (back : B → Option A) wh
   unfolding judged_at
   refused_case bytes e h = rw h refl
 
--- the parts of an image may be read in pieces
+-- The parts of an image may be read in pieces.
 parts_streamed : IsStream part_stream
 parts_streamed = sound_streamed part_stream parts_sound
 
@@ -57,13 +57,13 @@ rest_at_start : (u : List ℕ) → IsRestOfImage SessionCount made.no_loaded_par
 unfolding image_read
 rest_at_start u more = refl
 
--- without more
+-- The same without further bytes.
 rest_now : (phase : PartPhase) (made : LoadedParts) (u v : List ℕ) → IsRestOfImage phase made u v
     → image_from phase made u ≡ image_read v
 rest_now phase made u v left =
     ap (image_from phase made) (sym (append-nil u)) ∙ left [] ∙ ap image_read (append-nil v)
 
--- to both comes the same
+-- Both sides get the same further bytes.
 rest_with : (phase : PartPhase) (made : LoadedParts) (u v bytes : List ℕ) → IsRestOfImage phase made u v
     → IsRestOfImage phase made (u ++ bytes) (v ++ bytes)
 rest_with phase made u v bytes left more =
@@ -72,14 +72,14 @@ rest_with phase made u v bytes left more =
 
 -- ---- one item before others
 
--- what both sides are, by what they come to
+-- The same, with equal items in place of both.
 same_by : (l : Loading) (i j : Items Phase Item) (k m : Items Bool WholeItem) → i ≡ j → k ≡ m → AreWholeItems l j m
     → AreWholeItems l i k
 same_by l i j k m p q s =
     subst (λ (x : Items Phase Item). AreWholeItems l x k) (sym p)
     (subst (λ (y : Items Bool WholeItem). AreWholeItems l j y) (sym q) s)
 
--- by what the items come to, grouped
+-- The same, from what the items are when they are grouped.
 grouped_as : (g : GroupedItems) (l : Loading) (i : Items Phase Item) (k : Items Bool WholeItem)
     → grouped_items l i.found ≡ g → g.found ≡ k.found → SameRest g.loaded i.left k.left → AreWholeItems l i k
 grouped_as g l i k is found rest = record {
@@ -94,7 +94,7 @@ packet_first l p i k s = record { found = ap (λ (f : List WholeItem). OnePacket
 abbrev loading_of : LoadedParts → Loading
 loading_of made = record { made = made; ended = false }
 
--- a part that isn't the last
+-- A part that isn't the last.
 inner_grouped : (l : Loading) (p : ImagePart) (next : LoadedParts) (others : List Item) → with_part l.made p ≡ Ok next
     → is_end (Part p) ≡ false → grouped_items l (item.Part p ∷ others) ≡ grouped_items (loading_of next) others
 inner_grouped l p next others makes inner = rw (makes, inner) refl
@@ -106,13 +106,13 @@ inner_first l p next i k makes inner s =
     grouped_as (grouped_items (loading_of next) i.found) l (with_first (item.Part p) i) k
     (inner_grouped l p next i.found makes inner) s.found s.rest
 
--- the end
+-- The end of the image.
 end_first : (l : Loading) (i : Items Phase Item) (k : Items Bool WholeItem) → AreWholeItems empty_loading i k
     → AreWholeItems l (with_first (item.Part part.End) i) (with_first (OneImage l.made.state) k)
 end_first l i k s =
     record { found = ap (λ (f : List WholeItem). OneImage l.made.state ∷ f) s.found; rest = s.rest }
 
--- ---- where nothing further is whole
+-- ---- no further item is complete
 
 stopped_packet : (e : Fault) (u : List ℕ)
     → AreWholeItems empty_loading (shown_items
@@ -128,7 +128,7 @@ stopped_image : (e : Fault) (phase : PartPhase) (l : Loading) (u v : List ℕ) �
 stopped_image Short phase l u v left = record { found = refl; rest = (refl, left) }
 stopped_image e phase l u v left = record { found = refl; rest = (refl, refl) }
 
--- a part that is refused
+-- A part that is refused.
 refused_grouped : (l : Loading) (p : ImagePart) (e : Fault) (others : List Item) → with_part l.made p ≡ Err e
     → grouped_items l (item.Part p ∷ others) ≡ record { found = []; loaded = Err e }
 refused_grouped l p e others refuses = rw refuses refl
@@ -143,7 +143,8 @@ refused_first l p e i v refuses other =
 
 -- ---- the claims
 
--- Nothing is loaded, and both have the same bytes left. Within an image the other side still has all its bytes.
+-- No image is being loaded, and both sides have the same bytes left. Inside an image the reader by images still has
+-- all its bytes.
 abbrev AtPacket : List ℕ → Type 0
 AtPacket u = AreWholeItems empty_loading (items_shown_at (place_at Packets u)) (items_in whole_items (place_at false u))
 
@@ -159,7 +160,7 @@ Both u = AtPacket u × InImage u
 
 -- ---- packets
 
--- an image begins after a SNAP packet, and only there
+-- An image comes after a SNAP packet, and only there.
 after_kind : (kind : Option PacketKind) (rest : List ℕ) → Both rest
     → AreWholeItems empty_loading (items_shown_at (place_at (phase_after_kind kind) rest))
     (items_in whole_items (place_at (is_owed (phase_after_kind kind)) rest))
@@ -194,7 +195,7 @@ at_packet u shorter = by (packet_format.read u) refl
 
 -- ---- parts
 
--- one value of an image was read
+-- One value of an image was read.
 module _ (u rest : List ℕ) (x : Value) (phase : PartPhase) (made : LoadedParts) (v : List ℕ)
     (read : (part_format phase).read u ≡ Ok (x, rest)) (left : IsRestOfImage phase made u v) where
   parts_there : items_shown_at (place_at (Image phase) u)
@@ -204,7 +205,7 @@ module _ (u rest : List ℕ) (x : Value) (phase : PartPhase) (made : LoadedParts
       (items_whole stream_of_leader leader_streamed (Image phase) u rest (OfImage x)
       (read_case (part_format phase) (λ v. OfImage v) value_back u rest x read))
 
-  -- the image goes on after it
+  -- The image goes on after the value.
   rest_after : (next : LoadedParts) → with_value made x ≡ Ok next → is_end x ≡ false
       → IsRestOfImage (part_after phase x) next rest v
   rest_after next p l more =
@@ -213,7 +214,7 @@ module _ (u rest : List ℕ) (x : Value) (phase : PartPhase) (made : LoadedParts
       load_read_on image_load parts_streamed phase made u rest more x read ∙ rw (p, l) refl in
       ap image_of (sym goes_on) ∙ left more
 
-  -- it was the last
+  -- It was the last value.
   whole_there : (next : LoadedParts) → with_value made x ≡ Ok next → is_end x ≡ true
       → items_in whole_items (place_at true v)
       ≡ with_first (OneImage next.state) (items_in whole_items (place_at false rest))
@@ -224,7 +225,7 @@ module _ (u rest : List ℕ) (x : Value) (phase : PartPhase) (made : LoadedParts
       items_whole whole_items whole_streamed true v rest (OneImage next.state)
       (read_case image_format (λ s. OneImage s) one_image_back v rest next.state reads)
 
-  -- it is refused
+  -- The value is refused.
   whole_refused : (e : Fault) → with_value made x ≡ Err e
       → items_in whole_items (place_at true v) ≡ no_items (place_after_fault (values (whole_format true)) true v e)
   whole_refused e p =
@@ -236,7 +237,7 @@ module _ (u rest : List ℕ) (x : Value) (phase : PartPhase) (made : LoadedParts
 
 module _ (u rest : List ℕ) (phase : PartPhase) (l : Loading) (v : List ℕ) (left : IsRestOfImage phase l.made u v)
     (both : Both rest) where
-  -- a count or a path: it isn't shown, and makes nothing
+  -- A count or a path isn't an item, and makes nothing.
   hidden : (x : Value) → (part_format phase).read u ≡ Ok (x, rest) → with_value l.made x ≡ Ok l.made
       → is_end x ≡ false
       → shown_items (with_first (OfImage x) (items_in stream_of_leader (place_at (phase_after_value phase x) rest)))
@@ -246,7 +247,7 @@ module _ (u rest : List ℕ) (phase : PartPhase) (l : Loading) (v : List ℕ) (l
       same_by l _ _ _ _ (parts_there u rest x phase l.made v read left ∙ unseen) refl
       (both.1 (part_after phase x) l v (rest_after u rest x phase l.made v read left l.made p inner))
 
-  -- a part that isn't the last
+  -- A part that isn't the last.
   module _ (p : ImagePart) (read : (part_format phase).read u ≡ Ok (Part p, rest))
       (inner : is_end (Part p) ≡ false) where
     abbrev others : Items Phase Item
@@ -271,7 +272,7 @@ module _ (u rest : List ℕ) (phase : PartPhase) (l : Loading) (v : List ℕ) (l
         (items_shown_at (place_at (cond (inner i) Packets (Image (part_after phase (Part p)))) rest))))
         refl (part_by (with_part l.made p) refl)
 
-  -- the end
+  -- The end of the image.
   end_there : (part_format phase).read u ≡ Ok (Part part.End, rest) → SameInImage u phase l v
   end_there read =
       let others = items_shown_at (place_at Packets rest) in
@@ -320,7 +321,7 @@ both u = both_within (suc (length u)) u (omega arith)
 pub packets_are_grouped : PacketsAreGrouped
 packets_are_grouped bytes = (both bytes).0
 
--- a piece comes
+-- Further bytes come.
 with_more : (l : Loading) (phase : Phase) (u v : Unread) (more : List ℕ) → SameUnread l phase u v
     → AreWholeItems l (items_shown_at (with_more_bytes (record { phase = phase; unread = u }) more))
     (items_in whole_items (with_more_bytes (record { phase = is_owed phase; unread = v }) more))

@@ -1,4 +1,4 @@
--- What a refusal of a part of a packet says of the packet.
+-- A refusal of a part of a packet is a refusal of the packet.
 use Rattle.std.proofs.Common.{◌≡◌, ℕ, zero, suc, ◌-◌, ◌*◌, ◌<◌, ◌≤◌, List, [], ◌∷◌, ◌++◌, length, drop, take, Option, Some, None, Result, Ok, Err, refl, sym, ap, subst, ◌∙◌, append_assoc, arith, inl, inr}
 use Rattle.std.specs.Prelude.{ℤ, unwrap_or, OnOk, OnErr}
 use Rattle.std.proofs.lemmas.List.{length-append, drop_at, drop-append-le, take-append-drop, append-nil}
@@ -14,21 +14,21 @@ use Rattle.quorum_packet.specs.declared.unseen.Unseen.TheVariants as unseen
 use Rattle.quorum_packet.specs.Packet.{packet_format}
 use Rattle.quorum_packet.specs.Unseen.{ReadFn, IsRestOf, AreUnseen, MayBeUnseen}
 
--- an answer is no refusal
+-- A success.
 abbrev done : {A : Type 0} → A → Result A Fault
 done x = Ok x
 
 done_not : {A : Type 0} (x : A) (e : Fault) → done x ≡ Err e → ⊥
 done_not x e h = absurd cc
 
--- a value that was read is read again, whatever comes behind
+-- A value that was read is read again, whatever follows.
 pub stands_ok : {A : Type 0} (f : Format A) → ReadsInPieces f → (bytes rest more : List ℕ) (v : A)
     → f.read bytes ≡ Ok (v, rest)
     → f.read (bytes ++ more) ≡ Ok (v, rest ++ more)
 stands_ok {A} f p bytes rest more v h =
     subst (λ (r : Result (A × List ℕ) Fault). IsStable r more (f.read (bytes ++ more))) h (p.stands bytes more)
 
--- ---- items, one behind another
+-- ---- items one after another
 
 pub times_first : {A : Type 0} (f : Format A) (n : ℕ) (bytes : List ℕ) (e : Fault) → f.read bytes ≡ Err e
     → read_n f.read (suc n) bytes ≡ Err e
@@ -45,7 +45,7 @@ no_times : {A : Type 0} (f : Format A) (bytes : List ℕ) (e : Fault) → read_n
 unfolding read_n
 no_times f bytes e h = done_not ([], bytes) e h
 
--- twice as many halves as there are pairs
+-- There are twice as many halves as pairs.
 module _ {A B : Type 0} (f : Format A) (to : A × A → B) (from : B → A × A) where
   abbrev halves : ℕ → List ℕ → Result (List A × List ℕ) Fault
   halves n bytes = read_n f.read n bytes
@@ -91,7 +91,7 @@ module _ {A B : Type 0} (f : Format A) (to : A × A → B) (from : B → A × A)
       let twice : 2 * suc n ≡ suc (suc (2 * n)) = omega arith in
       first_refused n bytes e (λ b. pairs_refused n b e) (rw twice at h)
 
--- an id has two texts
+-- An id has two texts.
 pub ids_refused : (n : ℕ) (bytes : List ℕ) (e : Fault) → read_n text_or_empty.read (2 * n) bytes ≡ Err e
     → read_n id_format.read n bytes ≡ Err e
 unfolding id_format
@@ -100,7 +100,7 @@ ids_refused n bytes e h =
 
 -- ---- the packet's fields
 
--- behind the count, a refusal of the ids is the packet's
+-- After the count, a refusal of the ids is the packet's.
 counted_refused : (ids : Option ℕ) (bytes : List ℕ) (e : Fault)
     → read_n text_or_empty.read (2 * unwrap_or ids 0) bytes ≡ Err e
     → items_at id_format.read ids bytes ≡ Err e
@@ -122,9 +122,9 @@ fields_refused bytes b1 b2 b3 b4 more kind zxid carried ids e h1 h2 h3 h4 k =
       counted_refused ids (b4 ++ more) e k,
     ) refl
 
--- ---- what wasn't looked at
+-- ---- what wasn't scanned
 
--- a front, and behind it another one
+-- A prefix of the rest after a prefix.
 pub joined_fronts : (a x b y c : List ℕ) → a ≡ x ++ b → b ≡ y ++ c → a ≡ (x ++ y) ++ c
 joined_fronts a x b y c p q = p ∙ ap (λ (t : List ℕ). x ++ t) q ∙ sym (append_assoc x y c)
 
@@ -142,7 +142,7 @@ drop_front_of bytes text rest e =
 pub shorter : (bytes text rest : List ℕ) → bytes ≡ text ++ rest → length rest ≤ length bytes
 shorter bytes text rest e = omega (arith, ap length e, length-append text rest)
 
--- a rest, and how many texts stand there
+-- The rest of the bytes, and the number of texts there.
 abbrev texts_at : List ℕ → List ℕ → ℕ → Texts
 texts_at bytes rest count = record { start = length bytes - length rest; count = count }
 
@@ -167,7 +167,7 @@ fields_unseen bytes b1 b2 b3 b4 kind zxid carried ids fits h1 h2 h3 h4 =
       },
     )
 
--- the texts of which the first stands at the front of the rest
+-- The texts of which the first is at the front of the rest.
 module _ (bytes ahead : List ℕ) (texts : Texts) (u : AreUnseen bytes texts) (some : 0 < texts.count)
     (is : ahead ≡ drop texts.start bytes) where
   at_texts : (more : List ℕ) (e : Fault) → read_n text_or_empty.read (suc (texts.count - 1)) (ahead ++ more) ≡ Err e
@@ -202,7 +202,7 @@ module _ (bytes ahead : List ℕ) (texts : Texts) (u : AreUnseen bytes texts) (s
         sym (drop_front_of bytes text rest whole),
       )
 
--- a piece behind them
+-- A further piece of the stream.
 left_more : {A B : Type 0} (whole : ReadFn A) (left : ReadFn B) (bytes piece : List ℕ) (start : ℕ)
     → IsRestOf whole left bytes start → IsRestOf whole left (bytes ++ piece) start
 left_more whole left bytes piece start h = record {
@@ -217,7 +217,7 @@ unseen_more bytes piece (Some unseen.Whole) h = tt
 unseen_more bytes piece (Some (unseen.Texts texts)) h = left_more _ _ bytes piece texts.start h
 unseen_more bytes piece (Some (unseen.Entries entries)) h = left_more _ _ bytes piece entries.start h
 
--- the same where memory may have been refused for the piece
+-- The same where an allocation may have been refused for the piece.
 pub unseen_after : {T E : Type 0} (r : Result T E) (old new piece : List ℕ) (u : Option Unseen)
     → OnOk r (new ≡ old ++ piece) → OnErr r (new ≡ old)
     → MayBeUnseen old u → MayBeUnseen new u

@@ -1,4 +1,4 @@
--- The format of packets keeps the laws of formats.
+-- The format of packets is sound.
 use Rattle.std.proofs.Common.{refl}
 use Rattle.jute.specs.Laws.{IsSound}
 use Rattle.jute.proofs.Public.{int_sound, long_sound, buffer_sound, both_sound, mapped_sound, vector_sound, id_sound}

@@ -1,4 +1,4 @@
--- The leader's stream keeps the laws of streams, in parts and as whole images.
+-- The leader's stream comes in pieces, in parts and as whole images.
 use Rattle.std.proofs.Common.{◌≡◌, ℕ, List, ◌++◌, Bool, true, false, Ok, refl, ap, ◌∙◌}
 use Rattle.std.proofs.lemmas.Grind.{flat_map-append}
 use Rattle.jute.specs.Laws.{WritesSpellings, IsLawful, IsSound}
@@ -32,13 +32,13 @@ leader_streamed = sound_streamed stream_of_leader leader_sound
 pub leader_lawful : AreLawful stream_of_leader
 leader_lawful = sound_lawful stream_of_leader leader_sound
 
--- what is shown of values, and of those behind them
+-- The items of a list of values, and of those after them.
 shown_joined : (i j : Items Phase FoundValue)
     → shown_items (joined_items i j) ≡ joined_items (shown_items i) (shown_items j)
 shown_joined i j = ap (λ (f : List Item). record { found = f; left = j.left })
     (flat_map-append shown_in i.found j.found)
 
--- what is shown doesn't depend on the cutting
+-- The items don't depend on how the stream is cut.
 pub shows_pieces : (place : Place Phase) (more : List ℕ)
     → items_shown_at (with_more_bytes place more)
     ≡ joined_items (items_shown_at place) (items_shown_at (with_more_bytes (items_shown_at place).left more))

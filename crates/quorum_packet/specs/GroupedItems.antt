@@ -1,5 +1,5 @@
--- Packets and parts as packets and whole images: the parts of an image are loaded one after another, and its end gives
--- out what was loaded.
+-- Packets and parts, grouped into packets and whole images: the parts of an image are loaded one after another, and its
+-- end gives the state that was loaded.
 use Rattle.std.specs.Prelude.{◌≡◌, ℕ, Bool, true, false, not, List, [], ◌∷◌, ◌++◌, Result, Ok, Err, if◌then◌else◌}
 use Rattle.values.specs.declared.fault.Fault.{Fault}
 use Rattle.jute.specs.Format.{◌>>=◌}
@@ -20,7 +20,7 @@ use Rattle.quorum_packet.specs.WholeItems.{WholeItem, OnePacket, OneImage, is_ow
 
 -- ---- packets and parts, grouped
 
--- the packets and images that are whole; and what is loaded after them, or the fault of the part that was refused
+-- The packets and whole images, and the image that is being loaded after them, or the fault of a part that was refused.
 pub record GroupedItems : Type 0 where
   pub found : List WholeItem
   pub loaded : Result Loading Fault
@@ -31,7 +31,7 @@ empty_loading = record { made = no_loaded_parts; ended = false }
 abbrev pub item_before : WholeItem → GroupedItems → GroupedItems
 item_before i others = record others { found = i ∷ others.found }
 
--- a part that is refused ends the list; with its end an image is whole, and nothing is loaded
+-- A part that is refused ends the list. The end of an image makes it whole, and nothing is loaded after it.
 abbrev pub grouped_part : Result Loading Fault → (Loading → GroupedItems) → GroupedItems
 grouped_part (Err e) others = record { found = []; loaded = Err e }
 grouped_part (Ok l) others =
@@ -42,18 +42,18 @@ grouped_items l [] = record { found = []; loaded = Ok l }
 grouped_items l (item.Packet p ∷ others) = item_before (OnePacket p) (grouped_items l others)
 grouped_items l (item.Part p ∷ others) = grouped_part (with_loaded l p) (λ next. grouped_items next others)
 
--- ---- a place of the stream, as it is read in parts and by whole images
+-- ---- a place in the stream, read by parts and by whole images
 
--- the state that the rest of an image makes of what was made so far, and the bytes after the image
+-- The state that the rest of an image makes, loaded on what its parts have made, and the bytes after the image.
 abbrev pub image_from : PartPhase → LoadedParts → List ℕ → Result (State × List ℕ) Fault
 image_from phase made bytes = load_from image_load phase made bytes >>= λ x. Ok (x.0.state, x.1)
 
--- some bytes are the rest of an image, and others all that came of it: whatever follows, both make the same state
+-- Whatever bytes follow: the rest of an image, loaded on what its parts have made, makes what all its bytes make.
 abbrev pub IsRestOfImage : PartPhase → LoadedParts → List ℕ → List ℕ → Type 0
 IsRestOfImage phase made rest all = (more : List ℕ) → image_from phase made (rest ++ more) ≡ image_read (all ++ more)
 
--- Where a packet is next, nothing is loaded, and both have the same bytes left. Within an image the one side has left
--- what isn't loaded yet, and the other all of the image that came.
+-- Where a packet comes next, nothing is loaded, and both sides have the same bytes left. Inside an image the reader by
+-- parts has left what isn't loaded yet, and the reader by images all bytes of the image that have come.
 abbrev pub SameBytes : Loading → Phase → List ℕ → List ℕ → Type 0
 SameBytes l Packets rest all = (l ≡ empty_loading) × (rest ≡ all)
 SameBytes l (Image phase) rest all = IsRestOfImage phase l.made rest all
@@ -67,33 +67,33 @@ abbrev pub SamePlace : Loading → Place Phase → Place Bool → Type 0
 SamePlace l place whole =
     (whole.phase ≡ is_owed place.phase) × SameUnread l place.phase place.unread whole.unread
 
--- the fault of a part that was refused is that of its image
+-- The fault of a part that was refused is that of its image.
 abbrev pub SameRest : Result Loading Fault → Place Phase → Place Bool → Type 0
 SameRest (Ok l) place whole = SamePlace l place whole
 SameRest (Err e) place whole = whole.unread ≡ Err e
 
 -- ---- the law
 
--- the packets and parts, grouped, are those packets and images, and the same is left after them
+-- The packets and parts, grouped, are these packets and images, and the same is left after them.
 pub record AreWholeItems (l : Loading) (shown : Items Phase Item) (whole : Items Bool WholeItem) : Type 0 where
   pub found : (grouped_items l shown.found).found ≡ whole.found
   pub rest : SameRest (grouped_items l shown.found).loaded shown.left whole.left
 
--- where a packet is next and nothing is loaded
+-- A packet comes next, and nothing is loaded.
 abbrev pub PacketsAreGrouped : Type 0
 PacketsAreGrouped =
     (bytes : List ℕ)
     → AreWholeItems empty_loading (items_shown_at (place_at Packets bytes))
     (items_in whole_items (place_at false bytes))
 
--- at any place, also within an image, when more comes
+-- Further bytes come, at any place, also inside an image.
 abbrev pub PiecesAreGrouped : Type 0
 PiecesAreGrouped =
     (l : Loading) (place : Place Phase) (whole : Place Bool) (more : List ℕ) → SamePlace l place whole
     → AreWholeItems l (items_shown_at (with_more_bytes place more)) (items_in whole_items (with_more_bytes whole more))
 
--- A packet comes only where no image is owed, and a part only where one is, up to its end. After the last item an image
--- is owed or not.
+-- A packet comes only where no image is owed, and a part only where one is owed, up to its end. `last` says whether an
+-- image is owed after the last item.
 abbrev pub AreInOrder : Bool → List Item → Bool → Type 0
 AreInOrder owed [] last = owed ≡ last
 AreInOrder owed (item.Packet p ∷ others) last =

@@ -1,4 +1,4 @@
--- What the bytes that wait, and the fault, if one came, stand for.
+-- The model of the waiting bytes and the fault.
 use Rattle.std.specs.Prelude.{ℕ, List, Option, Some, None, Ok, Err}
 use Rattle.values.specs.declared.fault.Fault.{Fault}
 use Rattle.jute.specs.Stream.{Unread}

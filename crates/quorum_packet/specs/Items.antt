@@ -1,5 +1,5 @@
--- The leader's stream: packets, one behind another. Behind a SNAP packet stands an image, part by part, and behind its
--- end packets again.
+-- The leader's stream is a sequence of packets. After a SNAP packet comes an image, part by part, and after its end
+-- packets again.
 use Rattle.std.specs.Prelude.{List, [], ◌∷◌, Option, Some, None, if◌then◌else◌}
 use Rattle.std.specs.List.{flat_map}
 use Rattle.jute.specs.Format.{Format, case_of}
@@ -17,7 +17,7 @@ use Rattle.quorum_packet.specs.declared.phase.Phase.TheVariants.{Packets, Image}
 use Rattle.quorum_packet.specs.Kinds.{kind_of}
 use Rattle.quorum_packet.specs.Packet.{packet_format}
 
--- what stands in the stream: a packet, or what stands in an image
+-- A value of the stream: a packet, or a value of an image.
 pub data FoundValue : Type 0 where
   OfPacket : (packet : QuorumPacket) → FoundValue
   OfImage : (value : Value) → FoundValue
@@ -34,7 +34,7 @@ abbrev pub found_format : Phase → Format FoundValue
 found_format Packets = case_of (λ p. OfPacket p) packet_back packet_format
 found_format (Image phase) = case_of (λ v. OfImage v) value_back (part_format phase)
 
--- what stands behind a packet of a kind that is listed, and of one that isn't
+-- What comes after a packet of a known kind, and of an unknown one.
 abbrev pub phase_after_kind : Option PacketKind → Phase
 phase_after_kind (Some kinds.Snap) = Image SessionCount
 phase_after_kind (Some kinds.Request) = Packets
@@ -55,7 +55,7 @@ phase_after_kind (Some kinds.LeaderInfo) = Packets
 phase_after_kind (Some kinds.AckEpoch) = Packets
 phase_after_kind None = Packets
 
--- the end of an image is the last that stands in it
+-- The end of an image is its last value.
 abbrev pub phase_after_value : PartPhase → Value → Phase
 phase_after_value phase v = if is_end v then Packets else Image (part_after phase v)
 
@@ -67,7 +67,7 @@ phase_after (Image phase) (OfImage v) = phase_after_value phase v
 abbrev pub stream_of_leader : PhasedStream Phase FoundValue
 stream_of_leader = record { reading = λ phase. values (found_format phase); after = phase_after }
 
--- packets and parts are shown; what only moves an image on isn't
+-- Packets and parts are items. A value that only advances an image isn't.
 abbrev pub shown_in : FoundValue → List Item
 shown_in (OfPacket p) = item.Packet p ∷ []
 shown_in (OfImage (Part p)) = item.Part p ∷ []
@@ -76,6 +76,6 @@ shown_in (OfImage v) = []
 abbrev pub shown_items : Items Phase FoundValue → Items Phase Item
 shown_items i = record { found = flat_map shown_in i.found; left = i.left }
 
--- the packets and parts that stand at a place, one behind another, and the place where nothing further stands
+-- The packets and parts from a place on, and the place after the last complete one.
 abbrev pub items_shown_at : Place Phase → Items Phase Item
 items_shown_at place = shown_items (items_in stream_of_leader place)

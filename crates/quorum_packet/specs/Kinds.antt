@@ -1,4 +1,4 @@
--- The codes of packets, as ZooKeeper's Leader has them.
+-- The codes of packets, as in ZooKeeper's Leader.
 use Rattle.std.specs.Prelude.{List, [], ◌∷◌, Option, ℤ, pos, find}
 use Rattle.std.specs.Ordering.{int_eq}
 use Rattle.quorum_packet.specs.declared.kind.PacketKind.{PacketKind}
@@ -28,6 +28,5 @@ packet_kinds = Request ∷ Proposal ∷ Ack ∷ Commit ∷ Ping ∷ Revalidate �
     ∷ UpToDate
     ∷ Diff ∷ Trunc ∷ Snap ∷ ObserverInfo ∷ LeaderInfo ∷ AckEpoch ∷ []
 
--- the kind with that code
 unfoldable pub kind_of : ℤ → Option PacketKind
 kind_of code = find (λ k. int_eq code (code_of k)) packet_kinds

@@ -1,4 +1,4 @@
--- What the feed's private functions answer. No public contract cites this.
+-- The contracts of the feed's private functions. No public contract cites this.
 use Rattle.std.specs.Prelude.{◌≡◌, ◌<◌, ◌≤◌, ℕ, List, [], ◌∷◌, length, drop, Option, Some, None, Result, Ok, Err, is_err, false}
 use Rattle.values.specs.declared.fault.Fault.{Fault}
 use Rattle.values.specs.declared.fault.ReadError.{ReadError}
@@ -16,21 +16,21 @@ abbrev pub items_of_option : Option Item → List Item
 items_of_option None = []
 items_of_option (Some i) = i ∷ []
 
--- what stands at a place, and the place and the phase behind it
+-- The value at a place, and the place and the phase after it.
 abbrev pub FindsItem : Result (Option Item) ReadError → Phase → Phase → List ℕ → List ℕ → Type 0
 FindsItem (Ok found) phase next old new =
     (v : FoundValue) × ((found_format phase).read old ≡ Ok (v, new)) × (next ≡ phase_after phase v)
     × (shown_in v ≡ items_of_option found)
 FindsItem (Err e) phase next old new = IsFailureOf e ((found_format phase).read old) × (new ≡ old) × (next ≡ phase)
 
--- what stands at the front of the bytes, how many it takes, and the phase behind it
+-- The value at the front of the bytes, the bytes that it takes, and the phase after it.
 abbrev pub ReadsFront : Result (Option Item × ℕ) ReadError → Phase → Phase → List ℕ → Type 0
 ReadsFront (Ok x) phase next bytes =
     (v : FoundValue) × ((found_format phase).read bytes ≡ Ok (v, drop x.1 bytes)) × (x.1 ≤ length bytes)
     × (next ≡ phase_after phase v) × (shown_in v ≡ items_of_option x.0)
 ReadsFront (Err e) phase next bytes = IsFailureOf e ((found_format phase).read bytes) × (next ≡ phase)
 
--- one that stood there was found, and shown or not
+-- A value was found at the place, and is an item or not.
 pub record FindsOne (show : List Item) (old new : Place Phase) : Type 0 where
   pub found : FoundValue
   pub first : items_in stream_of_leader old ≡ with_first found (items_in stream_of_leader new)
@@ -39,7 +39,7 @@ pub record FindsOne (show : List Item) (old new : Place Phase) : Type 0 where
   pub before_it : is_err old.unread ≡ false
   pub behind_it : is_err new.unread ≡ false
 
--- nothing further stands there, and the stream waits, or has this fault
+-- There is no further complete value, and the stream waits or has this fault.
 abbrev pub FindsNone : Result (Unit {0}) Fault → Place Phase → Place Phase → Type 0
 FindsNone (Ok u) old new = (items_in stream_of_leader old ≡ no_items new) × WaitsForMore new.phase new.unread
 FindsNone (Err e) old new = (items_in stream_of_leader old ≡ no_items new) × (new.unread ≡ Err e)
@@ -51,7 +51,7 @@ IsStepResult (Ok (step.Shown i)) old new = FindsOne (i ∷ []) old new
 IsStepResult (Err errors.NoMemory) old new = (new ≡ old) × (is_err old.unread ≡ false)
 IsStepResult (Err (errors.Fault e)) old new = FindsNone (Err e) old new
 
--- bytes wait, and what stands next is refused for this fault
+-- Bytes wait, and the next value is refused for this fault.
 abbrev pub RefusesUnread : Fault → Phase → Unread → Type 0
 RefusesUnread fault phase (Ok bytes) = (found_format phase).read bytes ≡ Err fault
 RefusesUnread fault phase (Err e) = ⊥

@@ -1,6 +1,6 @@
--- What of something unfinished wasn't looked at yet: all of it, some texts of a packet's authinfo, or some entries of
--- an ACL list, from a place on. No other part of an image needs it: what is long there is one buffer or text, of which
--- nothing is looked at until it is whole, and nothing long stands behind it.
+-- The part of an incomplete value that wasn't scanned yet: all of it, some texts of a packet's authinfo, or some
+-- entries of an ACL list, from a place on. No other value of an image needs this: its only long field is one buffer or
+-- text, which isn't scanned until it is complete, and which nothing long follows.
 use Rattle.std.specs.Prelude.{◌≡◌, ◌≤◌, ◌-◌, ◌*◌, ℕ, Bool, true, false, List, ◌++◌, length, drop, Option, Some, None, Result, Err, ℤ, if◌then◌else◌}
 use Rattle.values.specs.declared.fault.Fault.{Fault}
 use Rattle.jute.specs.Format.{Format, ◌>>=◌, int, long, buffer, text_or_empty, count_format, count_limit, read_n, vector_of, pair_of}
@@ -18,7 +18,7 @@ use Rattle.quorum_packet.specs.Packet.{packet_format}
 abbrev pub ReadFn : Type 0 → Type 0
 ReadFn A = List ℕ → Result (A × List ℕ) Fault
 
--- whatever comes behind the bytes, a refusal of what is left from a place on is one of the whole
+-- Whatever follows the bytes, a refusal of the rest from a place on is a refusal of the whole.
 pub record IsRestOf {A B : Type 0} (whole : ReadFn A) (left : ReadFn B) (bytes : List ℕ) (start : ℕ) : Type 0 where
   pub within : start ≤ length bytes
   pub refuses : (more : List ℕ) (e : Fault) → left (drop start (bytes ++ more)) ≡ Err e → whole (bytes ++ more) ≡ Err e
@@ -26,15 +26,15 @@ pub record IsRestOf {A B : Type 0} (whole : ReadFn A) (left : ReadFn B) (bytes :
 abbrev pub AreUnseen : List ℕ → Texts → Type 0
 AreUnseen bytes texts = IsRestOf packet_format.read (read_n text_or_empty.read texts.count) bytes texts.start
 
--- an ACL list of an image
+-- An ACL list of an image.
 abbrev pub acl_list : Format (ℤ × Option (List Acl))
 acl_list = pair_of long (vector_of acl_format)
 
--- a reading, and one behind it
+-- One read after another.
 abbrev pub then_read : {A B : Type 0} → ReadFn A → ReadFn B → ReadFn B
 then_read first second bytes = first bytes >>= λ x. second x.1
 
--- so many entries; of the first one the id alone is left where its scheme was seen
+-- The entries that are left. Of the first one only the id is left, if its scheme was scanned.
 abbrev pub entries_left : Bool → ℕ → ReadFn (List Acl)
 entries_left false n = read_n acl_format.read n
 entries_left true n = then_read text_or_empty.read (read_n acl_format.read (n - 1))
@@ -48,18 +48,18 @@ IsUnseen bytes unseen.Whole = Unit {0}
 IsUnseen bytes (unseen.Texts texts) = AreUnseen bytes texts
 IsUnseen bytes (unseen.Entries entries) = AreUnseenEntries bytes entries
 
--- nothing is known of what wasn't met
+-- Nothing is known of a value that wasn't looked at.
 abbrev pub MayBeUnseen : List ℕ → Option Unseen → Type 0
 MayBeUnseen bytes None = Unit {0}
 MayBeUnseen bytes (Some u) = IsUnseen bytes u
 
--- ---- how far was looked
+-- ---- how far the bytes were scanned
 
--- how many texts are left of the entries
+-- The number of texts left in the entries.
 abbrev pub texts_left : Entries → ℕ
 texts_left entries = if entries.scheme_seen then 2 * entries.count - 1 else 2 * entries.count
 
--- all of a packet was looked at, or of an ACL list
+-- All of a packet, or of an ACL list, was scanned.
 abbrev pub IsPacketSeen : Unseen → Type 0
 IsPacketSeen (unseen.Texts texts) = texts.count ≡ 0
 IsPacketSeen u = ⊥
@@ -73,15 +73,15 @@ IsAllSeen Packets u = IsPacketSeen u
 IsAllSeen (Image (Acls n)) u = IsListSeen u
 IsAllSeen (Image phase) u = Unit {0}
 
--- the fields before the texts: kind, zxid, bytes, and how many ids there are
+-- The fields before the texts: kind, zxid, data, and the number of ids.
 abbrev pub packet_fields : Format (ℤ × (ℤ × (Option (List ℕ) × Option ℕ)))
 packet_fields = pair_of int (pair_of long (pair_of buffer (count_format count_limit)))
 
--- and before the entries: the key, and how many there are
+-- The fields before the entries: the key, and the number of entries.
 abbrev pub list_fields : Format (ℤ × Option ℕ)
 list_fields = pair_of long (count_format count_limit)
 
--- Looking stopped for this fault where the first thing stands that wasn't looked at, so all that is whole was.
+-- The scan stopped with this fault at the first field that wasn't scanned, so everything complete was scanned.
 abbrev pub PacketStopsAt : List ℕ → Unseen → Fault → Type 0
 PacketStopsAt bytes unseen.Whole e = packet_fields.read bytes ≡ Err e
 PacketStopsAt bytes (unseen.Texts texts) e = text_or_empty.read (drop texts.start bytes) ≡ Err e

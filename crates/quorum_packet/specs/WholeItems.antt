@@ -1,5 +1,5 @@
--- The leader's stream as packets and whole images: an image stands first exactly where one is owed, and directly behind
--- each SNAP packet.
+-- The leader's stream as packets and whole images: an image comes first exactly if one is owed, and directly after each
+-- SNAP packet.
 use Rattle.std.specs.Prelude.{Bool, true, false, Option, Some, None}
 use Rattle.jute.specs.Format.{Format, case_of}
 use Rattle.jute.specs.Stream.{values, PhasedStream}
@@ -36,6 +36,6 @@ abbrev pub owed_after : Bool → WholeItem → Bool
 owed_after owed (OnePacket p) = is_owed (phase_after_kind (kind_of p.kind))
 owed_after owed (OneImage s) = false
 
--- the phase is whether an image is owed
+-- The phase says whether an image is owed.
 abbrev pub whole_items : PhasedStream Bool WholeItem
 whole_items = record { reading = λ owed. values (whole_format owed); after = owed_after }

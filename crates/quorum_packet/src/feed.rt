@@ -20,15 +20,15 @@ use std::alloc::Global;
 use std::marker::Model;
 use values::{ByteQueue, Fault, NoMemory, ReadError};
 
-/// What a leader sends, seen as the place up to which it was read: what stands there next, and the bytes that aren't
-/// read yet, or the fault that ended it.
+/// A reader of the leader's stream. Its model is the place in the stream: the phase, which says what comes next, and
+/// the unread bytes, or the fault that ended the stream.
 ///
-/// A packet or part that is whole when it is met is read at once. Of one that isn't, only what a piece brings is
-/// looked at until all of it is in, so the work is linear in the bytes of the stream, however it is cut.
+/// A packet or part that is complete when it is first looked at is read at once. For an incomplete one, each piece is
+/// scanned only once until all of it is in, so the work is linear in the bytes of the stream, however it is cut.
 #[derive(Drop)]
 pub struct PacketFeed {
     waiting: ByteQueue,
-    // `None`: what stands at the front wasn't met yet.
+    // `None`: the front wasn't looked at yet.
     unseen: Option<Unseen>,
     phase: Phase,
     fault: Option<Fault>,
@@ -75,7 +75,7 @@ fn phase_after_packet(packet: &QuorumPacket) -> Phase
     }
 }
 
-// What stands at the reader's place, and the phase behind it. What only moves an image on is `None`.
+// Reads the value at the reader's place, and moves the phase on. A value that only advances an image is `None`.
 fn read_found(
     alloc: Global,
     phase: &mut Phase,
@@ -102,7 +102,7 @@ fn read_found(
     }
 }
 
-// What stands at the front of the bytes, and how many it takes.
+// Reads the value at the front of the bytes, and returns the bytes that it takes.
 fn read_front(
     alloc: Global,
     phase: &mut Phase,
@@ -117,12 +117,12 @@ fn read_front(
     Ok((found, bytes.len() - left))
 }
 
-/// What a step of the feed found.
+/// The result of a step of the feed.
 #[derive(Debug, Drop)]
 pub(crate) enum Step {
-    /// Too few bytes for anything.
+    /// There are too few bytes for a value.
     Nothing,
-    /// What only moves an image on.
+    /// A value that only advances an image.
     Hidden,
     Shown(Item),
 }
@@ -139,7 +139,7 @@ impl PacketFeed {
         }
     }
 
-    /// Takes the next piece. Behind a fault it is dropped. Refused memory leaves the feed as it was.
+    /// Appends the next piece. After a fault the piece is dropped. A refused allocation leaves the feed as it was.
     pub fn feed(&mut self, piece: &[u8]) -> Result<(), NoMemory>
         ensures ok { OnOk result (self.new ≡ with_more_bytes self.old piece.now) }
         ensures err { OnErr result (self.new ≡ self.old) }
@@ -151,9 +151,10 @@ impl PacketFeed {
         self.waiting.add(piece)
     }
 
-    /// The first packet or part, or `None` where too few bytes are there for what stands next. After a fault it
-    /// answers that fault from then on. Refused memory leaves what the stream shows as it was: no packet and no part
-    /// is lost, but what only moves an image on may have been passed over.
+    /// Returns the next packet or part, or `None` if it isn't complete yet.
+    ///
+    /// A fault ends the stream, and every later call returns it again. A refused allocation loses no packet and no
+    /// part, but values that only advance an image may have been taken.
     pub fn next(&mut self, alloc: Global) -> Result<Option<Item>, ReadError>
         ensures first { AnswersNext result self.old self.new }
         ensures writable { IfOk result (λ found. IfSome found CanBeWritten) }
@@ -167,7 +168,7 @@ impl PacketFeed {
         }
     }
 
-    // What stands next, shown or not.
+    // Takes the next value, whether it is an item or not.
     fn step(&mut self, alloc: Global) -> Result<Step, ReadError>
         ensures steps { IsStepResult result self.old self.new }
         ensures writable { IfSome (item_of_step result) CanBeWritten }
@@ -195,7 +196,7 @@ impl PacketFeed {
         }
     }
 
-    // Too few bytes wait for more; another refusal ends the stream, and the bytes are dropped.
+    // Too few bytes wait for more. Any other refusal ends the stream, and the bytes are dropped.
     fn refuse(&mut self, fault: Fault) -> Result<Step, ReadError>
         requires { RefusesNext self.old fault }
         ensures steps { IsStepResult result self.old self.new }
@@ -212,8 +213,8 @@ impl PacketFeed {
         }
     }
 
-    /// Whether the stream may end where it was read up to: after a fault that fault, and `Short` where an image has
-    /// begun or is still to come, or where bytes are unread.
+    /// Whether the stream may end here. After a fault it returns that fault; `Short` if an image is awaited or
+    /// incomplete, or if bytes are unread.
     pub fn end(&self) -> Result<(), Fault>
         ensures { result ≡ end_of self.now }
     {
@@ -232,15 +233,15 @@ impl PacketFeed {
         }
     }
 
-    /// How many bytes it holds: those that are unread, and the path of a node that has begun. Behind a `next` that
-    /// answered `None` they are fewer than those of one packet, one part, or one that only moves an image on.
+    /// The number of bytes held: the unread ones, and the path of a node that is incomplete. After a `next` that
+    /// returned `None` they are fewer than those of one value of the stream.
     pub fn held(&self) -> usize
         ensures { result ≡ held_len self.now }
     {
         self.phase.kept_len() + self.unread_len()
     }
 
-    // How many bytes are unread; behind a fault none is.
+    // The number of unread bytes; 0 after a fault.
     fn unread_len(&self) -> usize
         ensures len { result ≡ unread_len self.now.unread }
         ensures fits { result < 2 ^ 63 }

@@ -1,9 +1,9 @@
-//! What stands in a leader's stream.
+//! The items of a leader's stream.
 
 use crate::packet::QuorumPacket;
 use snapshot_codec::ImagePart;
 
-/// What a leader's stream brings.
+/// An item of a leader's stream.
 #[derive(Debug, Drop)]
 pub enum Item {
     Packet(QuorumPacket),

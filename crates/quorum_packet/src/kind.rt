@@ -1,4 +1,4 @@
-//! What a packet asks for or tells.
+//! The kinds of packets.
 
 ghost use Rattle.std.specs.Prelude.{◌≡◌, Some};
 ghost use Rattle.quorum_packet.specs.Kinds.{code_of, kind_of};
@@ -6,21 +6,21 @@ ghost use Rattle.quorum_packet.specs.Kinds.{code_of, kind_of};
 /// The kinds of packets between a leader and its servers.
 #[derive(Clone, Copy, Debug, PartialEq, Eq)]
 pub enum PacketKind {
-    /// A server hands a client's request on to the leader.
+    /// A server forwards a client's request to the leader.
     Request = 1,
     /// The leader proposes a transaction.
     Proposal = 2,
-    /// A proposal, or a new leader, is acknowledged.
+    /// A server acknowledges a proposal, or a new leader.
     Ack = 3,
     /// A proposal is committed.
     Commit = 4,
-    /// The leader asks whether the server is there, and the server answers.
+    /// The leader asks whether the server is alive, and the server answers.
     Ping = 5,
-    /// A session is to be confirmed.
+    /// A server asks the leader to confirm a session.
     Revalidate = 6,
-    /// A server asks to be brought up to what was committed so far.
+    /// A server asks for everything that was committed so far.
     Sync = 7,
-    /// A transaction is proposed and committed in one.
+    /// A transaction is proposed and committed in one packet.
     Inform = 8,
     /// The leader's epoch begins.
     NewLeader = 10,
@@ -30,7 +30,7 @@ pub enum PacketKind {
     UpToDate = 12,
     /// The transactions that the server lacks follow.
     Diff = 13,
-    /// The server is to forget the transactions above a zxid.
+    /// The server is to drop the transactions above a zxid.
     Trunc = 14,
     /// An image of the leader's state follows.
     Snap = 15,
@@ -43,7 +43,7 @@ pub enum PacketKind {
 }
 
 impl PacketKind {
-    /// The kind with that code; `None` for a code that isn't listed.
+    /// The kind with this code; `None` for an unknown code.
     #[tactic(auto, unfolding(crate::specs::Kinds::kind_of))]
     pub fn from_code(code: i32) -> Option<PacketKind>
         ensures { result ≡ kind_of code }
@@ -70,7 +70,7 @@ impl PacketKind {
         }
     }
 
-    /// The code by which a packet names its kind.
+    /// The code of the kind.
     #[tactic(auto, unfolding(crate::specs::Kinds::kind_of))]
     pub fn code(self) -> i32
         ensures code { result ≡ code_of self }

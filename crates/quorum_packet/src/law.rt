@@ -10,9 +10,9 @@ ghost use Rattle.quorum_packet.specs.Packet.{packet_format};
 ghost use Rattle.quorum_packet.specs.WholeItems.{WholeItem, whole_items};
 ghost use Rattle.quorum_packet.specs.declared.phase.Phase.{Phase};
 
-/// A packet is read exactly where its spelling stands, and a refusal names the first field that no bytes at its
-/// place spell. What stands in a stream, packets and the parts of images, is the longest list whose spellings, joined,
-/// are a front of its bytes, however it is cut; and so is what is shown of it.
+/// A packet is read exactly if the bytes spell one, and a refusal names the first field that no bytes at its place
+/// spell. The values of a stream, packets and the values of images, are the longest list whose concatenated spellings
+/// are a prefix of its bytes, however the bytes are cut. So are the items among them.
 pub fn leader_stream()
     ensures packet { IsSound packet_format }
     ensures pieces { ComesInPieces stream_of_leader }
@@ -25,8 +25,8 @@ pub fn leader_stream()
         → AreItems stream_of_leader phase bytes i → items_in stream_of_leader (place_at phase bytes) ≡ i }
 {}
 
-/// The packets and whole images of a stream are the longest list whose spellings, joined, are a front of its bytes,
-/// however it is cut. An image stands first exactly where one is owed, and directly behind each SNAP packet.
+/// The packets and whole images of a stream are the longest list whose concatenated spellings are a prefix of its
+/// bytes, however they are cut. An image comes first exactly if one is owed, and directly after each SNAP packet.
 pub fn whole_items()
     ensures pieces { ComesInPieces whole_items }
     ensures found { (owed : Bool) (bytes : List ℕ) → IsBytes bytes
@@ -35,10 +35,10 @@ pub fn whole_items()
         → AreItems whole_items owed bytes i → items_in whole_items (place_at owed bytes) ≡ i }
 {}
 
-/// The packets and parts of a stream, grouped, are its packets and whole images: the parts are loaded one after another
-/// from the empty loading on, and the end of an image gives out the state that they made. The same is left after them,
-/// or the same fault; a part that is refused has the fault of its image. It is so where a packet is next, and at any
-/// place of the stream as more comes. Parts come exactly where an image is owed.
+/// The packets and parts of a stream, grouped, are its packets and whole images: the parts are loaded one after
+/// another, with nothing loaded at first, and the end of an image gives the state that they made. The same bytes are
+/// left after them, or the same fault; a part that is refused has the fault of its image. This holds where a packet
+/// comes next, and at any place of the stream when further bytes come. Parts come exactly where an image is owed.
 pub fn grouped_items()
     ensures packets { PacketsAreGrouped }
     ensures pieces { PiecesAreGrouped }

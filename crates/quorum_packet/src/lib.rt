@@ -1,14 +1,14 @@
 //! Packets between a leader and its servers (zookeeper.jute of ZooKeeper 3.4), and the leader's stream.
 //!
-//! Behind a SNAP packet stands an image of the leader's state, which is read in parts. A `PacketFeed` takes the
-//! leader's bytes in whatever pieces they come, and gives the packets and parts that are whole. They don't depend on
-//! the cutting. A fault ends the stream: it is answered from then on. The work is linear in the bytes, since of a
-//! packet or part that comes in pieces only what a piece brings is looked at.
+//! After a SNAP packet comes an image of the leader's state, which is read in parts. A `PacketFeed` takes the leader's
+//! bytes in whatever pieces they come, and returns the complete packets and parts. They don't depend on how the bytes
+//! were cut. A fault ends the stream, and is returned from then on. The work is linear in the bytes: of a packet or
+//! part that comes in pieces, each piece is scanned once.
 //!
 //! ```text
 //! feed.feed(piece)?;
 //! while let Some(item) = feed.next(alloc)? { .. }  // Item::Packet or Item::Part
-//! feed.held()                                      // how many bytes wait for more
+//! feed.held()                                      // the number of bytes that wait for more
 //! feed.end()                                       // whether the stream may end here
 //! ```
 #![tactic(auto)]

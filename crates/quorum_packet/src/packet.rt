@@ -10,15 +10,15 @@ use jute::{
 use std::alloc::Global;
 use values::{Blob, Listed, NoMemory, ReadError};
 
-/// The QuorumPacket of zookeeper.jute: what a leader and its servers send to each other.
+/// The QuorumPacket of zookeeper.jute, which a leader and its servers send to each other.
 #[derive(Debug, Drop)]
 pub struct QuorumPacket {
-    /// The code of its kind; there are packets with codes that aren't listed.
+    /// The code of its kind; it may be an unknown one.
     pub kind: i32,
     pub zxid: i64,
-    /// What it carries; `None` is null.
+    /// The data; `None` is null.
     pub bytes: Option<Blob>,
-    /// Whose request it is; `None` is null.
+    /// The ids of the client whose request this is; `None` is null.
     pub authinfo: Option<Listed<Id>>,
 }
 
@@ -59,8 +59,7 @@ impl WriteRecord for QuorumPacket {
     }
 }
 
-/// Writes the packet behind what stands there. Where memory is refused, a front of its bytes may stand
-/// behind the old ones.
+/// Appends the packet to `out`. A refused allocation leaves a prefix of its bytes appended.
 pub fn write_packet(packet: &QuorumPacket, out: &mut Vec<u8>) -> Result<(), NoMemory>
     requires { packet_format.Writable packet.now }
     ensures { Puts result out.old.items (packet_format.written packet.now) out.new.items }

@@ -1,21 +1,21 @@
-//! What stands next in a leader's stream.
+//! What comes next in a leader's stream.
 
 ghost use Rattle.std.specs.Prelude.{◌≡◌, ◌<◌, ◌^◌};
 ghost use Rattle.quorum_packet.specs.Feed.{kept_len};
 
 use snapshot_codec::PartPhase;
 
-/// What stands next in a leader's stream.
+/// What comes next in a leader's stream.
 #[derive(Debug, Drop)]
 pub enum Phase {
     /// A packet.
     Packets,
-    /// What stands there in the image that follows a SNAP packet.
+    /// The next value of the image that follows a SNAP packet.
     Image(PartPhase),
 }
 
 impl Phase {
-    /// How many bytes it keeps of a part that has begun: those of a node's path.
+    /// The number of bytes kept of an incomplete part: those of a node's path.
     pub fn kept_len(&self) -> usize
         ensures len { result ≡ kept_len self.now }
         ensures fits { result < 2 ^ 63 }

@@ -1,4 +1,4 @@
-//! What of something unfinished wasn't looked at yet, so that no byte is looked at anew at each piece.
+//! The part of an incomplete value that wasn't scanned yet, so that no byte is scanned again for each piece.
 
 ghost use Rattle.std.specs.Prelude.{◌≡◌, ◌<◌, Err, IfOk, IfErr, IfSome, OnOk, drop};
 ghost use Rattle.jute.specs.Format.{text_or_empty};
@@ -13,15 +13,15 @@ use jute::{Reader, read_name};
 use snapshot_codec::PartPhase;
 use values::Fault;
 
-/// The texts of a packet's authinfo from a place on: where the first one begins, and how many there are.
+/// The texts of a packet's authinfo that weren't scanned: the place of the first one, and their number.
 #[derive(Clone, Copy, Debug)]
 pub struct Texts {
     start: usize,
     count: u64,
 }
 
-/// The entries of an ACL list from a place on: where it begins, how many there are, and whether the first one was
-/// looked at up to its id.
+/// The entries of an ACL list that weren't scanned: the place of the first one, their number, and whether the first one
+/// was scanned up to its id.
 #[derive(Clone, Copy, Debug)]
 pub struct Entries {
     start: usize,
@@ -29,18 +29,18 @@ pub struct Entries {
     scheme_seen: bool,
 }
 
-/// What wasn't looked at of something that was met and found unfinished.
+/// The part that wasn't scanned of a value that was found incomplete.
 #[derive(Clone, Copy, Debug)]
 pub enum Unseen {
     /// All of it.
     Whole,
-    /// Some texts of a packet, behind its other fields.
+    /// Some texts of a packet, after its other fields.
     Texts(Texts),
-    /// Some entries of an ACL list, behind its other fields.
+    /// Some entries of an ACL list, after its other fields.
     Entries(Entries),
 }
 
-// Looks at the fields before the texts.
+// Scans the fields before the texts.
 #[tactic(auto, unfolding(crate::specs::Packet::packet_format, jute::specs::Format::vector_at))]
 fn scan_fields(bytes: &[u8]) -> Result<Texts, Fault>
     ensures ok { IfOk result (AreUnseen bytes.now) }
@@ -58,7 +58,7 @@ fn scan_fields(bytes: &[u8]) -> Result<Texts, Fault>
     })
 }
 
-// Looks at the texts that are whole.
+// Scans the complete texts.
 fn scan_texts(bytes: &[u8], texts: &mut Texts) -> Result<(), Fault>
     requires { AreUnseen bytes.now texts.old }
     ensures kept { AreUnseen bytes.now texts.new }
@@ -75,7 +75,7 @@ fn scan_texts(bytes: &[u8], texts: &mut Texts) -> Result<(), Fault>
     Ok(())
 }
 
-// Looks at what is in of the packet at the front. It answers the packet's refusal, if there is one.
+// Scans the available bytes of the packet at the front. Returns the packet's refusal, if there is one.
 fn scan_packet(bytes: &[u8], unseen: &mut Unseen) -> Result<(), Fault>
     requires { IsUnseen bytes.now unseen.old }
     ensures kept { IsUnseen bytes.now unseen.new }
@@ -95,7 +95,7 @@ fn scan_packet(bytes: &[u8], unseen: &mut Unseen) -> Result<(), Fault>
     looked
 }
 
-// Looks at the fields before the entries.
+// Scans the fields before the entries.
 #[tactic(auto, unfolding(jute::specs::Format::vector_at))]
 fn scan_list_fields(bytes: &[u8]) -> Result<Entries, Fault>
     ensures ok { IfOk result (AreUnseenEntries bytes.now) }
@@ -112,7 +112,7 @@ fn scan_list_fields(bytes: &[u8]) -> Result<Entries, Fault>
     })
 }
 
-// Looks at the next text of the entries, and at the number before a scheme.
+// Scans the next text of the entries, and the number before a scheme.
 fn scan_entry(bytes: &[u8], entries: &mut Entries) -> Result<(), Fault>
     requires unseen { AreUnseenEntries bytes.now entries.old }
     requires some { 0 < entries.old.count }
@@ -141,7 +141,7 @@ fn scan_entry(bytes: &[u8], entries: &mut Entries) -> Result<(), Fault>
     Ok(())
 }
 
-// Looks at the entries that are whole.
+// Scans the complete entries.
 fn scan_entries(bytes: &[u8], entries: &mut Entries) -> Result<(), Fault>
     requires { AreUnseenEntries bytes.now entries.old }
     ensures kept { AreUnseenEntries bytes.now entries.new }
@@ -155,7 +155,7 @@ fn scan_entries(bytes: &[u8], entries: &mut Entries) -> Result<(), Fault>
     Ok(())
 }
 
-// Looks at what is in of the ACL list at the front. It answers the list's refusal, if there is one.
+// Scans the available bytes of the ACL list at the front. Returns the list's refusal, if there is one.
 fn scan_list(bytes: &[u8], unseen: &mut Unseen) -> Result<(), Fault>
     requires { IsUnseen bytes.now unseen.old }
     ensures kept { IsUnseen bytes.now unseen.new }
@@ -175,7 +175,7 @@ fn scan_list(bytes: &[u8], unseen: &mut Unseen) -> Result<(), Fault>
     looked
 }
 
-/// Looks at what came of what stands at the front, if it was met before. It answers its refusal, if there is one.
+/// Scans the new bytes of the value at the front, if it was looked at before. Returns its refusal, if there is one.
 #[tactic(auto, unfolding(jute::specs::Format::judged_at))]
 pub fn scan_new_bytes(phase: &Phase, bytes: &[u8], unseen: &mut Option<Unseen>) -> Result<(), Fault>
     requires { MayBeUnseen bytes.now unseen.old }

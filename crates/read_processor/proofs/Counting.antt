@@ -1,4 +1,4 @@
--- Counts of lists, up to what a frame holds.
+-- The length of lists in bytes, counted up to what a frame holds.
 use Rattle.std.proofs.Common.{◌≡◌, ℕ, ◌+◌, ◌≤◌, ◌<◌, List, [], ◌∷◌, length, map, Option, Some, None, String, Global, string_bytes, sym, ap, subst, ◌∙◌, arith}
 use Rattle.std.specs.List.{flat_map}
 use Rattle.std.proofs.lemmas.List.{length-append}
@@ -9,19 +9,19 @@ use Rattle.client_records.specs.Fields.{names_format}
 use Rattle.read_processor.specs.Limits.{body_limit}
 use Rattle.read_processor.specs.Inner.Counts.{CountsBytes}
 
--- a count stands in front of what is counted
+-- A count is written before what it counts.
 pub counted_length : (n : ℕ) (bytes : List ℕ) → length (with_count n bytes) ≡ 4 + length bytes
 unfolding number_bytes
 counted_length n bytes = simp length-append (omega arith)
 
--- nothing is counted of what is too long
+-- There is no count of bytes that are too many.
 pub passed : (result : Option ℕ) (n : ℕ) → result ≡ None → body_limit < n → CountsBytes result n
 passed result n is h = subst (λ (r : Option ℕ). CountsBytes r n) (sym is) h
 
 abbrev pub spelled : String Global → List ℕ
 spelled t = text_or_empty.written (string_bytes t)
 
--- what the texts of a set are written as, behind their count
+-- The bytes of the texts of a set, with their count.
 abbrev pub all_spelled : List (String Global) → List ℕ
 all_spelled all = names_format.written (map string_bytes all)
 
@@ -30,7 +30,7 @@ one_more : (t : String Global) (left : List (String Global))
 one_more t left =
     ap (λ (l : List ℕ). length l) (flat_map-cons spelled t left) ∙ length-append (spelled t) (flat_map spelled left)
 
--- the bytes of the texts that are left, and so many more, are those of all
+-- The bytes counted so far and those of the texts left are the bytes of all.
 pub record Left (count : ℕ) (left all : List (String Global)) : Type 0 where
   pub sums : count + length (flat_map spelled left) ≡ length (all_spelled all)
   pub within : count ≤ body_limit
@@ -43,7 +43,7 @@ all_left all = record {
   within = omega arith;
 }
 
--- the next text is counted
+-- The next text is counted.
 pub one_less : {count next : ℕ} {t : String Global} {left all : List (String Global)} → Left count (t ∷ left) all
     → CountsBytes (Some next) (count + length (spelled t)) → Left next left all
 one_less {t = t} {left = left} l n = record {
@@ -51,12 +51,12 @@ one_less {t = t} {left = left} l n = record {
   within = omega (arith, n.0, n.1);
 }
 
--- the next text is one too many
+-- The next text exceeds the limit.
 pub too_many : {count : ℕ} {t : String Global} {left all : List (String Global)} → Left count (t ∷ left) all
     → CountsBytes None (count + length (spelled t)) → CountsBytes None (length (all_spelled all))
 too_many {t = t} {left = left} l h = omega (arith, l.sums, h, one_more t left)
 
--- no text is left
+-- No text is left.
 pub none_left : {count : ℕ} {all : List (String Global)} → Left count [] all
     → CountsBytes (Some count) (length (all_spelled all))
 none_left l = (omega (arith, l.sums), omega (arith, l.sums, l.within))

@@ -1,4 +1,4 @@
--- The room in front of a body is filled.
+-- Filling the room before a body.
 use Rattle.std.proofs.Common.{◌≡◌, ℕ, ◌+◌, ◌-◌, ◌≤◌, ◌<◌, List, [], ◌++◌, length, take, drop, Some, None, w32, to_z, pos, sym, ap, ◌∙◌, append_assoc, arith, rules}
 use Rattle.std.proofs.lemmas.List.{drop_all, take_all, drop_at, take_at, drop-drop, length-append, length-drop, append-nil}
 use Rattle.std.proofs.lemmas.Int.{to_z_pos}
@@ -17,7 +17,7 @@ fits text h = search rules
 pub too_long : (text : List ℕ) → body_limit < length text → fitting_body text ≡ None
 too_long text h = search rules
 
--- four bytes were written in front of xs, which made ys, and then some behind them, which made zs of its end
+-- Four bytes were written at the front of xs, which gave ys, and then some after them, whose end of ys became zs.
 module _ (n : ℕ) (xs ys zs first more : List ℕ)
     (four : length first ≡ 4) (long : 4 + n ≤ length xs)
     (y : ys ≡ first ++ drop 4 xs) (z : zs ≡ more ++ drop n (mid_of 4 (length ys - 4) ys)) where
@@ -46,7 +46,7 @@ headed_length : (h : ReplyHeader) (body : List ℕ) → length (with_header h bo
 unfolding reply_header number_bytes
 headed_length h body = simp length-append (omega arith)
 
--- the room in front of old was filled: new, which is as long
+-- The room at the front of `old` was filled; `new` has the same length.
 module _ (h : ReplyHeader) (old new : List ℕ) (len : ℕ) (all : length old ≡ len) (room : 20 ≤ len)
     (small : len ≤ 20 + body_limit)
     (n : new ≡ (number_bytes w32 (to_z w32 (len - 4)) ++ reply_header.written h) ++ drop 20 old) where
@@ -64,7 +64,7 @@ module _ (h : ReplyHeader) (old new : List ℕ) (len : ℕ) (all : length old �
       n ∙ append_assoc (number_bytes w32 (to_z w32 (len - 4))) (reply_header.written h) (drop 20 old)
       ∙ ap (λ z. number_bytes w32 z ++ text) shown
 
-  -- the vector holds what was written
+  -- The vector holds what was written.
   pub filled_whole : {out : List ℕ} → out ≡ take len (new ++ drop (length new) old) → out ≡ frame_bytes text
   filled_whole o =
       let long = ap (λ (l : List ℕ). length l) whole ∙ counted_length (length text) text ∙ omega (arith, size, room) in

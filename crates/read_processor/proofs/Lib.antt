@@ -1,8 +1,8 @@
--- counts of lists
+-- The length of lists.
 pub mod Counting
--- bodies, and the room in front of them
+-- Bodies, and the room before them.
 pub mod Filling
--- which responses may be written, and how long they are
+-- The responses that may be written, and their lengths.
 pub mod Writing
--- looks that were worked out by hand
+-- Looks that were worked out by hand.
 pub mod Rows

@@ -1,4 +1,4 @@
--- The worked looks and watches: the node is found, and what it shows is evaluated.
+-- The worked looks and watches: the node is found, and its reply is evaluated.
 use Rattle.std.proofs.Common.{◌≡◌, ℕ, List, [], ◌∷◌, Option, Some, refl, ap, ◌∙◌}
 use Rattle.std.specs.Prelude.{codes}
 use Rattle.std.specs.FinSet as set
@@ -15,7 +15,7 @@ use Rattle.read_processor.specs.declared.request.Request.TheVariants.{Exists, Ge
 use Rattle.read_processor.specs.Look.{look_at_node, shown_look}
 use Rattle.read_processor.specs.Rows.{WorkedLooks, WorkedWatches, path_without_watch, readable_node, reader_id, exists_bytes, get_data_bytes}
 
--- the numbers that the node shows, by how many children it has
+-- The Stat of the node, given its number of children.
 abbrev numbers : ℕ → Stat
 numbers children = shown_stat readable_node.stat (java_int children) (java_int 2)
 

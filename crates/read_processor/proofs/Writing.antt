@@ -1,4 +1,4 @@
--- Which responses may be written, and how long they are.
+-- The responses that may be written, and their lengths.
 use Rattle.std.proofs.Common.{◌≡◌, ℕ, ◌+◌, ◌≤◌, ◌<◌, ◌^◌, List, [], ◌∷◌, length, All, Option, Some, None, refl, ap, ◌∙◌, arith, rules}
 use Rattle.std.specs.List.{flat_map}
 use Rattle.std.proofs.lemmas.List.{length-append}
@@ -20,7 +20,7 @@ use Rattle.read_processor.proofs.Counting.{counted_length}
 
 -- ---- lists
 
--- a format whose short bytes may be written, and that has no empty ones
+-- A format without empty spellings, whose short values may be written.
 record Plain {A : Type 0} (F : Format A) : Type 0 where
   some : (a : A) → 0 < length (F.written a)
   writable : (a : A) → length (F.written a) < 2 ^ 31 → F.Writable a

@@ -1,4 +1,4 @@
--- How an event is shown to a client (WatcherEvent of zookeeper.jute).
+-- The notification of an event (WatcherEvent of zookeeper.jute).
 use Rattle.std.specs.Prelude.{ℕ, List, Some}
 use Rattle.client_records.specs.Responses.{watcher_event}
 use Rattle.client_records.specs.declared.codes.TheConstants.{SYNC_CONNECTED}
@@ -7,7 +7,7 @@ use Rattle.watch_manager.specs.declared.event.Event.{Event}
 use Rattle.read_processor.specs.declared.shown.Look.{Look}
 use Rattle.read_processor.specs.Look.{shown_look}
 
--- what happened, that the client is connected, and the path that it watched
+-- The kind of the event, the state "connected", and the path that the client watches.
 abbrev pub event_body : Event → List ℕ
 event_body event =
     watcher_event.written

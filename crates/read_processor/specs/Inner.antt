@@ -1,3 +1,3 @@
--- What the contracts of private functions cite, and nobody else has to believe.
+-- What the contracts of private functions cite. No caller depends on this.
 pub mod Counts
 pub mod Room

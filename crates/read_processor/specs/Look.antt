@@ -1,4 +1,4 @@
--- What a read shows of a state, to a client that has shown these ids (ZooKeeper Programmer's Guide).
+-- The answer to a read of a state by a client with these ids (ZooKeeper Programmer's Guide).
 use Rattle.std.specs.Prelude.{ℕ, ℤ, pos, List, [], ◌∷◌, Option, Some, None, Bool, true, false, not, ◌&&◌, ◌==◌, if◌then◌else◌, nat_eq}
 use Rattle.std.specs.List.{list_any, starts_with}
 use Rattle.std.specs.FinMap as finmap
@@ -15,7 +15,7 @@ use Rattle.read_processor.specs.declared.shown.Look.{Look}
 use Rattle.read_processor.specs.declared.request.Request.{Request}
 use Rattle.read_processor.specs.declared.request.Request.TheVariants.{Exists, GetData, GetAcl, GetChildren, GetChildren2}
 
--- ---- what a request asks for
+-- ---- requests
 
 abbrev pub requested_path : Request → Option (List ℕ)
 requested_path (Exists r) = r.path
@@ -24,11 +24,11 @@ requested_path (GetAcl r) = r.path
 requested_path (GetChildren r) = r.path
 requested_path (GetChildren2 r) = r.path
 
--- a path that may be asked for begins with a slash and has no NUL
+-- A path that may be read begins with a slash and has no NUL.
 abbrev pub is_request_path : List ℕ → Bool
 is_request_path path = starts_with nat_eq path (47 ∷ []) && not (list_any (λ b. b == 0) path)
 
--- exists and getACL ask for no permission
+-- An exists and a getACL need no permission.
 abbrev pub wants_read : Request → Bool
 wants_read (Exists r) = false
 wants_read (GetData r) = true
@@ -36,7 +36,7 @@ wants_read (GetAcl r) = false
 wants_read (GetChildren r) = true
 wants_read (GetChildren2 r) = true
 
--- ---- what a reply's body shows of a node
+-- ---- the bodies that show a node
 
 abbrev pub exists_body : Node → List ℕ
 exists_body node = exists_response.written (record { stat = stat_of node })
@@ -47,7 +47,7 @@ get_data_body node = get_data_response.written (record { bytes = node.bytes; sta
 abbrev pub get_acl_body : Node → List ℕ
 get_acl_body node = get_acl_response.written (record { acl = node.acl; stat = stat_of node })
 
--- children are named in ascending bytes
+-- The children are listed in ascending order of their names' bytes.
 abbrev pub get_children_body : Node → List ℕ
 get_children_body node = get_children_response.written (record { children = sorted_names node.children })
 
@@ -64,7 +64,7 @@ reply_body (GetChildren2 r) node = get_children2_body node
 
 -- ---- the look: an error, or 0 and a body
 
--- a number, and no body
+-- An error code, or 0, without a body.
 abbrev pub without_body : ℤ → Look
 without_body error = record { error = error; body = Some [] }
 

@@ -1,4 +1,4 @@
--- Who may read a node (ZooKeeper Programmer's Guide, access control lists).
+-- The permission to read a node (ZooKeeper Programmer's Guide, access control lists).
 use Rattle.std.specs.Prelude.{ℕ, List, length, Bool, not, ◌&&◌, ◌||◌, ◌==◌, bit_and, codes, nat_eq}
 use Rattle.std.specs.Int.{w32, cast_unsigned}
 use Rattle.std.specs.List.{list_any}
@@ -16,14 +16,14 @@ is_same_id a b = is_same_text a.scheme b.scheme && is_same_text a.id b.id
 abbrev pub is_everybody : Id → Bool
 is_everybody id = is_same_text id.scheme (codes "world") && is_same_text id.id (codes "anyone")
 
--- it has the bit of READ
+-- The entry has the bit READ.
 abbrev pub lets_read : Acl → Bool
 lets_read acl = not (bit_and (cast_unsigned w32 acl.perms) READ == 0)
 
--- the entry has that bit, and stands for one of the ids or for everybody
+-- The entry has that bit, and its id is one of the given ids or `world:anyone`.
 abbrev pub grants_read : List Id → Acl → Bool
 grants_read ids acl = lets_read acl && (list_any (is_same_id acl.id) ids || is_everybody acl.id)
 
--- an empty list lets everybody read
+-- An empty list lets every client read.
 abbrev pub may_read : List Id → List Acl → Bool
 may_read ids acls = length acls == 0 || list_any (grants_read ids) acls

@@ -1,5 +1,5 @@
--- What a client that comes back is told, and what it goes on watching (SetWatches of zookeeper.jute). It names the
--- paths that it watched on an older connection, and the last zxid that it was told of.
+-- The answer to a SetWatches of zookeeper.jute. A client that reconnects lists the paths that it watched on an older
+-- connection, and names the last zxid that it has seen.
 use Rattle.std.specs.Prelude.{ℕ, ℤ, List, ◌++◌, Option, Some, None, Bool, ◌&&◌, is_some, int_lt, if◌then◌else◌}
 use Rattle.std.specs.List.{filter_map, list_all}
 use Rattle.std.specs.Option.{option_map}
@@ -19,7 +19,7 @@ use Rattle.read_processor.specs.declared.renewal.Renewal.{Renewal}
 
 -- ---- one path
 
--- what a client missed since the zxid at a path of one of its lists, as the node there tells
+-- The event that a client has missed since the zxid at a path of one of its lists, judged by the node there.
 abbrev pub missed_kind : WatchList → ℤ → Option Node → Option EventKind
 missed_kind Data since None = Some NodeDeleted
 missed_kind Data since (Some node) = if int_lt since node.stat.mzxid then Some NodeDataChanged else None
@@ -28,7 +28,7 @@ missed_kind Exist since (Some node) = Some NodeCreated
 missed_kind Child since None = Some NodeDeleted
 missed_kind Child since (Some node) = if int_lt since node.stat.pzxid then Some NodeChildrenChanged else None
 
--- who waits for a node to be made watches its data
+-- A watch for the creation of a node is a data watch.
 abbrev pub watch_at : WatchList → List ℕ → Watch
 watch_at Data path = watch.Data path
 watch_at Exist path = watch.Data path
@@ -37,7 +37,7 @@ watch_at Child path = watch.Child path
 abbrev pub missed_kind_at : State → ℤ → WatchList → List ℕ → Option EventKind
 missed_kind_at s since list path = missed_kind list since (finmap.get s.nodes path)
 
--- a path gives the event that was missed there, or else its watch
+-- The event that was missed at a path; without one the path gives its watch.
 abbrev pub event_at : State → ℤ → WatchList → List ℕ → Option Event
 event_at s since list path = option_map (λ kind. record { kind = kind; path = path }) (missed_kind_at s since list path)
 
@@ -46,14 +46,14 @@ kept_watch_at s since list path = if is_some (missed_kind_at s since list path) 
 
 -- ---- the three lists
 
--- what the paths give, in the order of the lists
+-- The results for the paths, in the order of the lists.
 abbrev pub of_all_lists : {A : Type 0} → (WatchList → List ℕ → Option A) → SetWatches → List A
 of_all_lists gives asked =
     filter_map (gives Data) asked.data_watches
     ++ filter_map (gives Exist) asked.exist_watches
     ++ filter_map (gives Child) asked.child_watches
 
--- each path may be asked for
+-- Every path may be read.
 abbrev pub are_request_paths : SetWatches → Bool
 are_request_paths asked =
     list_all is_request_path asked.data_watches

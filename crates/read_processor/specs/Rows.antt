@@ -1,4 +1,4 @@
--- Looks that were worked out by hand, and watches, at any state that has the node.
+-- Looks and watches that were worked out by hand, in any state that has the node.
 use Rattle.std.specs.Prelude.{◌≡◌, ℕ, pos, List, [], ◌∷◌, ◌++◌, Some, None, true, false, codes}
 use Rattle.std.specs.FinMap as finmap
 use Rattle.std.specs.FinSet as set
@@ -19,7 +19,7 @@ use Rattle.read_processor.specs.Renewal.{renew_watches}
 abbrev pub reader_id : Id
 reader_id = record { scheme = codes "digest"; id = codes "ann:QQ==" }
 
--- a node with the data "hi", which one id may read
+-- A node with the data "hi", which one id may read.
 abbrev pub readable_node : Node
 readable_node = record {
   bytes = Some (codes "hi");
@@ -43,21 +43,21 @@ stat_of_node =
     codes "0000000100000001 0000000100000002 00000000000003e8 00000000000007d0 00000001 00000000 00000000"
     ++ codes " 0000000000000000 00000002 00000000 0000000100000001"
 
--- what the replies to exists and to getData have behind their headers
+-- The bytes of the replies to exists and getData after their headers.
 abbrev pub exists_bytes : List ℕ
 exists_bytes = hex_bytes stat_of_node
 
 abbrev pub get_data_bytes : List ℕ
 get_data_bytes = hex_bytes (codes "00000002 6869 " ++ stat_of_node)
 
--- the state has the node at /a, and none at /q
+-- The state has the node at /a, and none at /q.
 abbrev pub HoldsNode : State → Type 0
 HoldsNode s = (finmap.get s.nodes (codes "/a") ≡ Some readable_node) × (finmap.get s.nodes (codes "/q") ≡ None)
 
 abbrev pub path_without_watch : List ℕ → PathAndWatch
 path_without_watch path = record { path = Some path; watch = false }
 
--- the same, at each state that holds the node
+-- The claim at each state that holds the node.
 abbrev pub AtEachState : (State → Type 0) → Type 0
 AtEachState P = (s : State) → HoldsNode s → P s
 
@@ -66,7 +66,7 @@ pub record WorkedLooks : Type 0 where
       ≡ shown_look get_data_bytes)
   pub not_read : AtEachState (λ s. look_at_state s [] (GetData (path_without_watch (codes "/a")))
       ≡ without_body NO_AUTH)
-  -- no permission is asked for
+  -- No permission is needed.
   pub exists : AtEachState (λ s. look_at_state s [] (Exists (path_without_watch (codes "/a")))
       ≡ shown_look exists_bytes)
   pub missing : AtEachState (λ s. look_at_state s [] (GetData (path_without_watch (codes "/q"))) ≡ without_body NO_NODE)
@@ -78,8 +78,8 @@ pub record WorkedLooks : Type 0 where
 abbrev pub path_with_watch : List ℕ → PathAndWatch
 path_with_watch path = record { path = Some path; watch = true }
 
--- A client that was told of all up to the node's pzxid had read these nodes, found these absent, and read the children
--- of these.
+-- A client that has seen everything up to the node's pzxid. It has read the nodes in `read`, found those in `absent`
+-- missing, and listed the children of those in `parents`.
 abbrev pub set_watches_of : List (List ℕ) → List (List ℕ) → List (List ℕ) → SetWatches
 set_watches_of read absent parents = record {
   relative_zxid = pos 4294967297;
@@ -91,14 +91,14 @@ set_watches_of read absent parents = record {
 pub record WorkedWatches : Type 0 where
   pub waits : watch_of (Exists (path_with_watch (codes "/q"))) NO_NODE ≡ Some (Data (codes "/q"))
   pub missing : watch_of (GetData (path_with_watch (codes "/q"))) NO_NODE ≡ None
-  -- The node's data changed since, its children didn't, and /q isn't there yet.
+  -- The node's data changed since then, its children didn't, and /q isn't there yet.
   pub renewed : AtEachState (λ s.
       renew_watches s (set_watches_of (codes "/a" ∷ []) (codes "/q" ∷ []) (codes "/a" ∷ []))
       ≡ Some (record {
         events = record { kind = NodeDataChanged; path = codes "/a" } ∷ [];
         watches = Data (codes "/q") ∷ Child (codes "/a") ∷ [];
       }))
-  -- a path that stands twice is told twice
+  -- A path that is listed twice gives two events.
   pub twice : AtEachState (λ s.
       renew_watches s (set_watches_of [] (codes "/a" ∷ codes "/a" ∷ []) [])
       ≡ Some (record {

@@ -1,4 +1,4 @@
--- Which watch a read leaves (ZooKeeper Programmer's Guide, "Watches").
+-- The watch that a read leaves (ZooKeeper Programmer's Guide, "Watches").
 use Rattle.std.specs.Prelude.{ℕ, ℤ, List, Option, None, ◌||◌, if◌then◌else◌}
 use Rattle.std.specs.Option.{option_map}
 use Rattle.std.specs.Ordering.{int_eq}
@@ -10,11 +10,11 @@ use Rattle.read_processor.specs.declared.request.Request.TheVariants.{Exists, Ge
 use Rattle.read_processor.specs.declared.watch.Watch.{Watch}
 use Rattle.read_processor.specs.declared.watch.Watch.TheVariants.{Data, Child}
 
--- the watch at the path, if one is asked for
+-- The watch at the path, if the request asks for one.
 abbrev pub asked_watch : (List ℕ → Watch) → PathAndWatch → Option Watch
 asked_watch kind r = if r.watch then option_map kind r.path else None
 
--- Exists may wait for a node that isn't there. The others leave a watch on a node that they have read.
+-- An exists may leave a watch on a missing node. The other reads leave one on a node that they have read.
 abbrev pub watch_of : Request → ℤ → Option Watch
 watch_of (Exists r) error = if int_eq error OK || int_eq error NO_NODE then asked_watch Data r else None
 watch_of (GetData r) error = if int_eq error OK then asked_watch Data r else None

@@ -1,5 +1,5 @@
-//! What the body of each reply shows of a node. Data, names and entries may be longer than a frame holds, so their
-//! lengths are tested before anything is written.
+//! The body of each reply that shows a node. Data, names and entries may be longer than a frame holds, so their lengths
+//! are tested before anything is written.
 
 ghost use Rattle.std.specs.Prelude.{◌≡◌, ◌<◌, ◌^◌, IfOk};
 ghost use Rattle.node_map.specs.Stats.{length_or_zero};
@@ -16,7 +16,6 @@ use jute::{Acl, WriteRecord};
 use std::alloc::Global;
 use values::{Blob, Bytes, NoMemory};
 
-// A node's bytes, borrowed.
 fn borrow_bytes(bytes: &Option<Blob>) -> Option<Bytes<'_>>
     ensures { result ≡ bytes.now }
 {
@@ -26,7 +25,7 @@ fn borrow_bytes(bytes: &Option<Blob>) -> Option<Bytes<'_>>
     }
 }
 
-// How many bytes are lent; null has none.
+// The length of borrowed bytes; 0 for null.
 fn lent_len(bytes: &Option<Bytes<'_>>) -> usize
     ensures length { result ≡ length_or_zero bytes.now }
     ensures small { result < 2 ^ 63 }
@@ -60,7 +59,7 @@ fn get_data(alloc: Global, node: &Node) -> Result<Option<Body>, NoMemory>
     )
 }
 
-// A node's numbers with the entries of its list.
+// A node's stat with the entries of its access control list.
 fn get_entries(alloc: Global, node: &Node, entries: &[Acl]) -> Result<Option<Body>, NoMemory>
     requires { entries.now ≡ node.now.acl }
     ensures { IfOk result (λ body. body ≡ fitting_body (get_acl_body node.now)) }
@@ -77,7 +76,7 @@ fn get_entries(alloc: Global, node: &Node, entries: &[Acl]) -> Result<Option<Bod
     )
 }
 
-// The open list has entries for as long as they are written.
+// The entries of the open list live only until they are written.
 fn get_acl(alloc: Global, node: &Node) -> Result<Option<Body>, NoMemory>
     ensures { IfOk result (λ body. body ≡ fitting_body (get_acl_body node.now)) }
 {
@@ -111,7 +110,8 @@ fn get_children2(alloc: Global, node: &Node) -> Result<Option<Body>, NoMemory>
     Ok(Some(body.with_stat(&stat)?))
 }
 
-/// The body of the reply that shows the node.
+/// The body of the reply that shows the node; None if it is too long for a frame. Fails only if an allocation is
+/// refused.
 pub fn body_of(alloc: Global, request: &Request<'_>, node: &Node) -> Result<Option<Body>, NoMemory>
     ensures { IfOk result (λ body. body ≡ fitting_body (reply_body request.now node.now)) }
 {

@@ -1,4 +1,4 @@
-//! The body of a reply, behind room for what stands in front of it.
+//! The body of a reply, after room for a frame's length and a header.
 
 ghost use Rattle.std.specs.Prelude.{◌≡◌, ◌≤◌, ◌<◌, ◌^◌, ◌++◌, [], length, map, drop, IfOk, String, string_bytes};
 ghost use Rattle.jute.specs.Format.{int, long};
@@ -16,14 +16,14 @@ use std::collections::btree_set::Iter;
 use std::marker::Model;
 use values::{Blob, NoMemory};
 
-// The bytes of a frame's length and of a reply's header.
+// The bytes of a frame's length and of a reply's header: 4 and 16.
 const ROOM: usize = 20;
 
-// The most bytes of a body: what a frame holds behind the header.
+// The longest body in bytes: what a frame holds after the header.
 pub const BODY_LIMIT: usize = 2_147_483_631;
 
-/// The body of a reply. There is room in front for the frame's length and the header, so that the
-/// frame is made without a copy.
+/// The body of a reply. There is room before it for the frame's length and the header, so the frame is made without a
+/// copy.
 #[derive(Drop)]
 pub struct Body {
     bytes: Vec<u8>,
@@ -40,7 +40,8 @@ impl Model for Body {
     ghost invariant = { λ b. HasHeaderRoom b.bytes.items };
 }
 
-// Writes an int over the bytes that stand in front. It is lent, since a number that is passed comes back as its bits.
+// Overwrites the first 4 bytes with an int. The number is borrowed, since a number passed by value comes back as its
+// bits.
 #[tactic(auto, unfolding(jute::specs::Format::number_bytes))]
 fn fill_int(bytes: &mut [u8], number: &i32)
     requires { 4 ≤ length bytes.old }
@@ -49,7 +50,7 @@ fn fill_int(bytes: &mut [u8], number: &i32)
     BigEndian::write_i32(bytes, *number);
 }
 
-// Writes a long over the bytes that stand in front.
+// Overwrites the first 8 bytes with a long.
 #[tactic(auto, unfolding(jute::specs::Format::number_bytes))]
 fn fill_long(bytes: &mut [u8], number: &i64)
     requires { 8 ≤ length bytes.old }
@@ -58,7 +59,7 @@ fn fill_long(bytes: &mut [u8], number: &i64)
     BigEndian::write_i64(bytes, *number);
 }
 
-// Writes the end of a header over the bytes that stand in front.
+// Overwrites the first 12 bytes with the end of a header: the zxid and the error.
 #[tactic(auto, unfolding(jute::specs::Format::number_bytes))]
 fn fill_end(bytes: &mut [u8], header: &ReplyHeader)
     requires { 12 ≤ length bytes.old }
@@ -69,7 +70,7 @@ fn fill_end(bytes: &mut [u8], header: &ReplyHeader)
     fill_int(&mut bytes[8..], &header.err);
 }
 
-// Writes a header over the bytes that stand in front.
+// Overwrites the first 16 bytes with a header.
 fn fill_header(bytes: &mut [u8], header: &ReplyHeader)
     requires { 16 ≤ length bytes.old }
     ensures { bytes.new ≡ reply_header.written header.now ++ drop 16 bytes.old }
@@ -78,7 +79,7 @@ fn fill_header(bytes: &mut [u8], header: &ReplyHeader)
     fill_end(&mut bytes[4..], header);
 }
 
-// Fills the room in front.
+// Fills the room before the body.
 fn fill(bytes: &mut [u8], size: i32, header: &ReplyHeader)
     requires { 20 ≤ length bytes.old }
     ensures { bytes.new ≡
@@ -88,7 +89,7 @@ fn fill(bytes: &mut [u8], size: i32, header: &ReplyHeader)
     fill_header(&mut bytes[4..], header);
 }
 
-// Room, and as many bytes behind it in reserve.
+// The room, and capacity for that many bytes after it.
 fn room(alloc: Global, more: usize) -> Result<Vec<u8>, NoMemory>
     requires { more ≤ body_limit }
     ensures { IfOk result (λ bytes. length bytes.items ≡ 20) }
@@ -99,7 +100,7 @@ fn room(alloc: Global, more: usize) -> Result<Vec<u8>, NoMemory>
 }
 
 impl Body {
-    /// No bytes.
+    /// An empty body.
     pub fn empty(alloc: Global) -> Result<Body, NoMemory>
         ensures { IfOk result (λ body. body ≡ []) }
     {
@@ -108,7 +109,7 @@ impl Body {
         })
     }
 
-    /// What a record's bytes are, if they aren't too many for a frame.
+    /// The bytes of a record; None if they are too many for a frame. Fails only if an allocation is refused.
     pub fn of<T: WriteRecord>(alloc: Global, response: &T) -> Result<Option<Body>, NoMemory>
         requires writable { T.format.Writable response.now }
         requires small { length (T.format.written response.now) < 2 ^ 63 }
@@ -123,7 +124,7 @@ impl Body {
         Ok(Some(Body { bytes }))
     }
 
-    // The names of a set in its order, with so many bytes in reserve behind the room.
+    // The names of a set in its order, with capacity for that many bytes after the room.
     pub(crate) fn of_names(
         alloc: Global,
         size: usize,
@@ -138,7 +139,7 @@ impl Body {
         Ok(Body { bytes })
     }
 
-    // A Stat behind what is there.
+    // Appends a Stat to the body.
     #[tactic(auto, unfolding(jute::specs::Format::number_bytes, jute::specs::Records::stat_format))]
     pub(crate) fn with_stat(self, numbers: &Stat) -> Result<Body, NoMemory>
         requires { length (self ++ stat_format.written numbers.now) ≤ body_limit }
@@ -149,7 +150,7 @@ impl Body {
         Ok(Body { bytes })
     }
 
-    /// The frame of a reply with this header. It takes no memory.
+    /// The frame of a reply with this header. Allocates nothing.
     pub fn into_frame(self, header: &ReplyHeader) -> Blob
         ensures { result ≡ frame_bytes (with_header header.now self) }
     {

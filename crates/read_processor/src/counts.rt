@@ -1,5 +1,5 @@
-//! How many bytes lists take, counted before they are written. A count ends where it passes what a frame holds, since a
-//! tree may hold more than any number counts.
+//! The length of lists in bytes, counted before they are written. A count stops when it exceeds what a frame holds,
+//! since a tree may hold more than any number counts.
 
 ghost use Rattle.std.specs.Prelude.{◌≤◌, ◌+◌, length, map, Some, String, string_bytes};
 ghost use Rattle.jute.specs.Format.{text_or_empty, vector_of, or_null};
@@ -12,7 +12,7 @@ use crate::body::BODY_LIMIT;
 use jute::Acl;
 use std::collections::btree_set::Iter;
 
-// So many bytes more.
+// Adds this many bytes.
 pub fn with_bytes(count: usize, more: usize) -> Option<usize>
     requires { count ≤ body_limit }
     ensures { CountsBytes result (count + more) }
@@ -23,7 +23,7 @@ pub fn with_bytes(count: usize, more: usize) -> Option<usize>
     Some(count + more)
 }
 
-// A text more, behind its length.
+// Adds a text with its length prefix.
 #[tactic(auto, unfolding(jute::specs::Format::number_bytes))]
 fn with_text(count: usize, text: &str) -> Option<usize>
     requires { count ≤ body_limit }
@@ -33,7 +33,6 @@ fn with_text(count: usize, text: &str) -> Option<usize>
     with_bytes(behind_length, text.len())
 }
 
-// An entry of an access control list more.
 #[tactic(auto, unfolding(jute::specs::Format::number_bytes, jute::specs::Owned::acl_format, jute::specs::Owned::id_format))]
 fn with_acl(count: usize, entry: &Acl) -> Option<usize>
     requires { count ≤ body_limit }
@@ -44,7 +43,7 @@ fn with_acl(count: usize, entry: &Acl) -> Option<usize>
     with_text(behind_scheme, entry.id.id.as_str())
 }
 
-// An access control list, behind its count.
+// The length of an access control list in bytes, with its count; None if it exceeds `BODY_LIMIT`.
 pub fn acls_len(entries: &[Acl]) -> Option<usize>
     ensures { CountsBytes result (length ((vector_of acl_format).written (Some entries.now))) }
 {
@@ -55,7 +54,7 @@ pub fn acls_len(entries: &[Acl]) -> Option<usize>
     Some(count)
 }
 
-// Names, behind their count.
+// The length of names in bytes, with their count; None if it exceeds `BODY_LIMIT`.
 pub fn names_len(texts: Iter<'_, String>) -> Option<usize>
     ensures { CountsBytes result (length (names_format.written (map string_bytes texts.entry))) }
 {

@@ -2,7 +2,7 @@
 
 ghost use Rattle.read_processor.specs.Rows.{WorkedLooks, WorkedWatches};
 
-/// The definitions, evaluated, give what was worked out by hand.
+/// The definitions, evaluated on looks and watches that were worked out by hand.
 pub fn worked_looks()
     ensures looks { WorkedLooks }
     ensures watches { WorkedWatches }

@@ -1,13 +1,12 @@
 //! Reads of the tree, for clients.
 //!
-//! `look` shows what a request asks of the tree: an error's number, or 0 and the body of a reply. The body is made
-//! once, with room in front, and `Look::into_frame` fills in the length and the header there: nothing is copied but
-//! out of the tree. specs/Look says what is shown to whom, specs/Permissions who may read a node, and specs/Reply how
-//! a look is sent.
+//! `look` gives the answer to a read: an error code, or 0 and the body of a reply. The body is made once, with room
+//! before it, and `Look::into_frame` fills the length and the header in there, so the only copy is the one out of the
+//! tree. specs/Look defines the answers, specs/Permissions who may read a node, and specs/Reply the frame.
 //!
-//! A read may leave a watch, which `watch_of` names (specs/Watch), and an event is sent as a look is (specs/Events). A
-//! client that comes back says what it watched; `renew` gives what it missed and what it goes on watching
-//! (specs/Renewal).
+//! A read may leave a watch, which `watch_of` returns (specs/Watch), and an event is sent in the same form as a reply
+//! (specs/Events). A client that reconnects sends the watches that it had; `renew` returns the events that it missed
+//! and the watches to set again (specs/Renewal).
 //!
 //! ```text
 //! let request = Request::GetData(asked);

@@ -1,4 +1,4 @@
-//! Who may read a node.
+//! The permission to read a node.
 
 ghost use Rattle.std.specs.Prelude.{◌≡◌};
 ghost use Rattle.std.specs.List.{list_any};
@@ -8,14 +8,13 @@ use jute::codes::READ;
 use jute::{Acl, Id};
 use txn_codec::AclList;
 
-// Whether the permissions have the one to read.
 fn lets_read(acl: &Acl) -> bool
     ensures { result ≡ lets_read acl.now }
 {
     acl.perms.cast_unsigned() & READ != 0
 }
 
-// Whether the id stands for everybody.
+// Whether the id is `world:anyone`.
 fn is_everybody(id: &Id) -> bool
     ensures { result ≡ is_everybody id.now }
 {
@@ -28,28 +27,27 @@ fn is_same_id(a: &Id, b: &Id) -> bool
     a.scheme.as_str() == b.scheme.as_str() && a.id.as_str() == b.id.as_str()
 }
 
-// Whether an id is one of these.
 fn is_shown(ids: &[Id], id: &Id) -> bool
     ensures { result ≡ list_any (is_same_id id.now) ids.now }
 {
     ids.iter().any(|shown| is_same_id(id, shown))
 }
 
-// Whether who has shown these ids may read by this entry.
+// Whether the entry grants READ to a client with these ids.
 fn grants_read(ids: &[Id], acl: &Acl) -> bool
     ensures { result ≡ grants_read ids.now acl.now }
 {
     lets_read(acl) && (is_shown(ids, &acl.id) || is_everybody(&acl.id))
 }
 
-// Whether one of these entries lets them read.
+// Whether one of the entries grants READ to a client with these ids.
 fn any_grants_read(ids: &[Id], acls: &[Acl]) -> bool
     ensures { result ≡ list_any (grants_read ids.now) acls.now }
 {
     acls.iter().any(|acl| grants_read(ids, acl))
 }
 
-/// Whether who has shown these ids may read a node with this list. The open list lets everybody read.
+/// Whether a client with these ids may read a node with this access control list. The open list lets every client read.
 pub fn may_read(ids: &[Id], acl: &AclList) -> bool
     ensures { result ≡ may_read ids.now acl.now }
 {

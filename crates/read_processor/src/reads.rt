@@ -14,14 +14,14 @@ use jute::codes::{BAD_ARGUMENTS, NO_AUTH, NO_NODE};
 use std::alloc::Global;
 use values::{NoMemory, Str};
 
-/// Whether a path may be asked for.
+/// Whether a path may be read: it begins with a slash and has no NUL.
 pub fn is_readable_path(path: &[u8]) -> bool
     ensures { result ≡ is_request_path path.now }
 {
     path.starts_with(b"/") && !path.contains(&0)
 }
 
-// The path that a request asks for; `None` is null.
+// The path of a request; `None` is null.
 fn path_of<'a, 'b>(request: &'b Request<'a>) -> &'b Option<Str<'a>>
     ensures { result.now ≡ requested_path request.now }
 {
@@ -34,7 +34,7 @@ fn path_of<'a, 'b>(request: &'b Request<'a>) -> &'b Option<Str<'a>>
     }
 }
 
-// Whether a request asks for the permission to read.
+// Whether a request needs the READ permission.
 fn wants_read(request: &Request<'_>) -> bool
     ensures { result ≡ wants_read request.now }
 {
@@ -82,7 +82,7 @@ fn look_at_path(
     look_at_node(alloc, ids, request, tree.node(path.as_str()))
 }
 
-/// What a read shows of the tree, to a client that has shown these ids.
+/// The answer to a read by a client with these ids. Fails only if an allocation is refused.
 pub fn look(alloc: Global, tree: &Tree, ids: &[Id], request: &Request<'_>) -> Result<Look, NoMemory>
     ensures { IfOk result (λ shown. shown ≡ look_at_state tree.now ids.now request.now) }
 {

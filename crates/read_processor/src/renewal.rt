@@ -1,4 +1,4 @@
-//! The watches of a client that comes back: what it missed, and what it goes on watching.
+//! The watches of a client that reconnects: the events that it missed, and the watches to set again.
 
 ghost use Rattle.std.specs.Prelude.{◌≡◌, ◌++◌, ◌∷◌, [], OnOk, IfOk};
 ghost use Rattle.std.specs.List.{filter_map, list_all};
@@ -14,28 +14,28 @@ use std::alloc::Global;
 use values::{Listed, NoMemory, Str, Text};
 use watch_manager::{Event, EventKind};
 
-/// What a client that comes back is told, and what it goes on watching.
+/// The answer to a SetWatches.
 #[derive(Drop)]
 pub struct Renewal<'a> {
-    /// What it missed, in the order of its lists.
+    /// The events that the client missed, in the order of its lists.
     pub events: Listed<Event>,
-    /// What it didn't miss, in the order of its lists.
+    /// The watches to set again, in the order of its lists.
     pub watches: Listed<Watch<'a>>,
 }
 
 /// The lists of a SetWatches.
 #[derive(Clone, Copy)]
 pub enum WatchList {
-    /// Paths whose nodes the client read.
+    /// Paths whose nodes the client has read.
     Data,
-    /// Paths at which it found no node.
+    /// Paths where it found no node.
     Exist,
-    /// Paths whose children it read.
+    /// Paths whose children it has listed.
     Child,
 }
 
-// What a client missed since the zxid at a path of the list, as the node there tells. The zxid is lent, since a number
-// that is passed comes back as its bits.
+// The event that the client has missed since the zxid at a path of the list, judged by the node there. The zxid is
+// borrowed, since a number passed by value comes back as its bits.
 fn kind_missed(list: WatchList, since: &i64, node: Option<&Node>) -> Option<EventKind>
     ensures { result ≡ missed_kind list since.now (option_copied node.entry) }
 {
@@ -52,7 +52,6 @@ fn kind_missed(list: WatchList, since: &i64, node: Option<&Node>) -> Option<Even
     }
 }
 
-// The watch by which a path of the list is watched.
 fn watch_at<'a>(list: WatchList, path: &Name<'a>) -> Watch<'a>
     ensures { result ≡ watch_at list path.now }
 {
@@ -63,7 +62,7 @@ fn watch_at<'a>(list: WatchList, path: &Name<'a>) -> Watch<'a>
     }
 }
 
-// What was found so far.
+// The events and watches found so far.
 #[derive(Drop)]
 struct Found<'a> {
     events: Vec<Event>,
@@ -71,7 +70,7 @@ struct Found<'a> {
 }
 
 impl<'a> Found<'a> {
-    // Adds what a path gives: the event that was missed there, or else its watch.
+    // Adds the event that was missed at a path, or else its watch.
     fn add(
         &mut self,
         alloc: Global,
@@ -97,7 +96,7 @@ impl<'a> Found<'a> {
         Ok(())
     }
 
-    // Adds what the paths of one list give.
+    // Adds the events and watches of one list.
     fn add_all(
         &mut self,
         alloc: Global,
@@ -118,7 +117,7 @@ impl<'a> Found<'a> {
     }
 }
 
-// Whether all the paths may be asked for.
+// Whether all the paths may be read.
 fn all_asked(paths: &[Name<'_>]) -> bool
     ensures { result ≡ list_all is_request_path paths.now }
 {
@@ -127,7 +126,7 @@ fn all_asked(paths: &[Name<'_>]) -> bool
         .all(|path| is_readable_path(path.as_str().as_bytes()))
 }
 
-// Whether the paths of all lists may be asked for.
+// Whether the paths of all lists may be read.
 fn are_asked(asked: &SetWatches<'_>) -> bool
     ensures { result ≡ are_request_paths asked.now }
 {
@@ -136,8 +135,8 @@ fn are_asked(asked: &SetWatches<'_>) -> bool
         && all_asked(asked.child_watches.as_slice())
 }
 
-/// What a client that comes back missed, and the watches that are to be set for it; `None` where a path of its lists
-/// may not be asked for, as one that doesn't begin with a slash.
+/// The events that a reconnected client missed, and the watches to set for it; `None` if a path of its lists may not be
+/// read, for example one that doesn't begin with a slash. Fails with `NoMemory` if an allocation is refused.
 pub fn renew<'a>(
     alloc: Global,
     tree: &Tree,

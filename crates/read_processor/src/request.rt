@@ -1,4 +1,4 @@
-//! What a client asks of the tree.
+//! The reads of the tree.
 
 use client_records::{GetAclRequest, PathAndWatch};
 use values::Str;

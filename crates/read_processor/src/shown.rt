@@ -1,4 +1,4 @@
-//! What a read shows.
+//! The answer to a read.
 
 ghost use Rattle.std.specs.Prelude.{◌≡◌, IfOk};
 ghost use Rattle.read_processor.specs.Events.{look_of_event};
@@ -13,17 +13,17 @@ use std::alloc::Global;
 use values::{Blob, NoMemory, Str};
 use watch_manager::Event;
 
-/// What a read shows.
+/// The answer to a read.
 #[derive(Drop)]
 pub struct Look {
-    /// An error's number, or 0.
+    /// ZooKeeper's error code, or 0.
     pub error: i32,
-    /// The body of the reply; `None` where it is longer than a frame holds.
+    /// The body of the reply; `None` if it is longer than a frame holds.
     pub body: Option<Body>,
 }
 
 impl Look {
-    /// An error's number, or 0, without a body.
+    /// ZooKeeper's error code, or 0, without a body. Fails only if an allocation is refused.
     pub fn without_body(alloc: Global, error: i32) -> Result<Look, NoMemory>
         ensures { IfOk result (λ look. look ≡ without_body error) }
     {
@@ -34,8 +34,8 @@ impl Look {
         })
     }
 
-    /// What tells a client of an event. It answers no request, so its frame has `NOTIFICATION_XID` and
-    /// the zxid -1.
+    /// The notification of an event. It answers no request, so its frame has the xid `NOTIFICATION_XID` and the zxid
+    /// -1. Fails only if an allocation is refused.
     pub fn of_event(alloc: Global, event: &Event) -> Result<Look, NoMemory>
         ensures { IfOk result (λ look. look ≡ look_of_event event.now) }
     {
@@ -57,7 +57,7 @@ impl Look {
         Ok(Look { error: OK, body })
     }
 
-    /// The frame of the reply, if its body isn't too long for one. It takes no memory.
+    /// The frame of the reply; None if its body is too long. Allocates nothing.
     pub fn into_frame(self, xid: i32, zxid: i64) -> Option<Blob>
         ensures { result ≡ reply_frame xid zxid self }
     {

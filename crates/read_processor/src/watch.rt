@@ -9,10 +9,10 @@ use client_records::codes::OK;
 use jute::codes::NO_NODE;
 use values::Str;
 
-/// A watch that a client asks for: the table in which it stands, and the text that the client named.
+/// A watch that a client asks for: its table, and the path as the client wrote it.
 #[derive(Drop)]
 pub enum Watch<'a> {
-    /// On a node, or on one that isn't there yet.
+    /// On a node, or on a node that isn't there yet.
     Data(Str<'a>),
     /// On the names of a node's children.
     Child(Str<'a>),
@@ -45,8 +45,8 @@ fn child_watch<'a>(request: &PathAndWatch<'a>) -> Option<Watch<'a>>
     Some(Watch::Child(path))
 }
 
-/// The watch that a read leaves, if it asks for one and its look has this error: exists leaves one where it found a
-/// node or none, the other reads only where they showed one, and getACL never. It takes no memory.
+/// The watch that a read leaves, if it asks for one and its answer has this error. An exists leaves one if it found a
+/// node or no node, another read only if it succeeded, and a getACL never. Allocates nothing.
 pub fn watch_of<'a>(request: &Request<'a>, error: i32) -> Option<Watch<'a>>
     ensures { result ≡ watch_of request.now error }
 {

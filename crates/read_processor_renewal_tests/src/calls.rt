@@ -1,4 +1,4 @@
-//! A tree of one node, and what is asked of it.
+//! A tree of one node, and requests for it.
 
 use client_records::{Name, SetWatches};
 use data_tree::Tree;
@@ -8,12 +8,12 @@ use std::test::Fail;
 use txn_codec::{Body, Create, Operation, Path, Txn, TxnHeader};
 use values::{Listed, NoMemory};
 
-// The tree from which every log starts. It says nothing of the tree, so that nothing is computed from it in a proof.
+// The tree that every log starts from. It has no contract, so that no proof computes anything from the tree.
 fn fresh(alloc: Global) -> Result<Tree, Fail> {
     Ok(Tree::fresh(alloc)?)
 }
 
-/// The tree from which every log starts, with the node /a made at this zxid.
+/// The tree that every log starts from, with the node /a created at this zxid.
 pub fn tree_with_a(alloc: Global, zxid: i64) -> Result<Tree, Fail> {
     let header = TxnHeader {
         client_id: 7,

@@ -1,6 +1,6 @@
-//! Tests of watches that clients ask for, over `read_processor`'s public calls alone. They stand in a crate of their
-//! own, since a crate that has tests is proved twice; and the calls stand in functions without clauses, so that a
-//! test's own proof is short.
+//! Tests of the watches that clients ask for, over `read_processor`'s public calls alone. They are a crate of their
+//! own, since a crate with tests is proved twice. The calls are in functions without contracts, so that a test's own
+//! proof is short.
 #![tactic(auto)]
 
 #[cfg(test)]

@@ -1,4 +1,4 @@
-//! What a client that comes back is told.
+//! The answer to a SetWatches.
 
 use crate::calls::{asked, shown, tree_with_a};
 use client_records::SetWatches;
@@ -12,7 +12,7 @@ use watch_manager::{Event, EventKind};
 
 const ZXID: i64 = 0x1_0000_0001;
 
-// What a client that comes back is told and what it goes on watching, in words.
+// The events that a reconnected client gets and the watches set for it, in words.
 fn renewed(alloc: Global, tree: &Tree, asked: &SetWatches<'_>) -> Result<String, Fail> {
     let mut text = String::new(alloc);
     let Some(renewal) = renew(alloc, tree, asked)? else {
@@ -30,7 +30,7 @@ fn renewed(alloc: Global, tree: &Tree, asked: &SetWatches<'_>) -> Result<String,
     Ok(text)
 }
 
-// The frame that tells of an event, in hexadecimal digits.
+// The frame of an event, in hexadecimal digits.
 fn frame_of(alloc: Global, kind: EventKind, path: &str) -> Result<String, Fail> {
     let path = Text::new(alloc, path)?;
     let look = Look::of_event(alloc, &Event { kind, path })?;
@@ -38,8 +38,8 @@ fn frame_of(alloc: Global, kind: EventKind, path: &str) -> Result<String, Fail> 
     Ok(hex::encode(alloc, frame.as_slice())?)
 }
 
-// Whether that is what a client is told that had one path in each list: of a node it read, of one that was missing, and
-// of one whose children it read.
+// Whether these are the events and watches of a client that had one path in each list: a node that it has read, one
+// that was missing, and one whose children it has listed.
 fn is_renewed(
     alloc: Global,
     tree: &Tree,

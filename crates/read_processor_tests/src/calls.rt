@@ -1,4 +1,4 @@
-//! Trees that hexadecimal digits stand for, and calls of `look` on them.
+//! Trees given in hexadecimal digits, and calls of `look` on them.
 
 use client_records::{GetAclRequest, PathAndWatch, RequestKind};
 use data_tree::Tree;
@@ -9,7 +9,7 @@ use std::test::Fail;
 use txn_codec::decode_txn;
 use values::{Blob, Str, Text};
 
-// The bytes that words of hexadecimal digits stand for.
+// The bytes of words of hexadecimal digits.
 fn bytes_of(alloc: Global, parts: &[&str]) -> Result<Vec<u8>, Fail> {
     let mut bytes = Vec::new(alloc);
     for part in parts {
@@ -20,12 +20,12 @@ fn bytes_of(alloc: Global, parts: &[&str]) -> Result<Vec<u8>, Fail> {
     Ok(bytes)
 }
 
-// The tree from which every log starts. It says nothing of the tree, so that nothing is computed from it in a proof.
+// The tree that every log starts from. It has no contract, so that no proof computes anything from the tree.
 fn fresh(alloc: Global) -> Result<Tree, Fail> {
     Ok(Tree::fresh(alloc)?)
 }
 
-/// The tree from which every log starts, with these transactions applied.
+/// The tree that every log starts from, with these transactions applied.
 pub fn tree_after(alloc: Global, transactions: &[&str]) -> Result<Tree, Fail> {
     let mut tree = fresh(alloc)?;
     for words in transactions {
@@ -38,7 +38,7 @@ pub fn tree_after(alloc: Global, transactions: &[&str]) -> Result<Tree, Fail> {
     Ok(tree)
 }
 
-// A path, and no watch.
+// A path, without a watch.
 fn asked(path: &str) -> PathAndWatch<'_> {
     PathAndWatch {
         path: Some(Str::new(path)),
@@ -46,7 +46,7 @@ fn asked(path: &str) -> PathAndWatch<'_> {
     }
 }
 
-/// A read of this kind, without a watch; an exists where the kind is no other read.
+/// A read of this kind, without a watch; an exists, if the kind isn't another read.
 pub fn read_of(kind: RequestKind, path: &str) -> Request<'_> {
     match kind {
         RequestKind::GetData => Request::GetData(asked(path)),
@@ -67,7 +67,7 @@ pub fn id_of(alloc: Global, scheme: &str, id: &str) -> Result<Id, Fail> {
     })
 }
 
-// What a read shows behind these transactions.
+// The answer to a read after these transactions.
 fn shown(alloc: Global, transactions: &[&str], request: &Request<'_>) -> Result<Look, Fail> {
     let tree = tree_after(alloc, transactions)?;
     Ok(look(alloc, &tree, &[], request)?)
@@ -84,7 +84,8 @@ fn frame_of(
     Ok(look.into_frame(1, zxid).ok_or("a frame")?)
 }
 
-/// Whether a read of the path is answered so at this zxid, behind these transactions, in words of hexadecimal digits.
+/// Whether the reply to a read of the path after these transactions, at this zxid, is this, in words of hexadecimal
+/// digits.
 pub fn is_answered(
     alloc: Global,
     transactions: &[&str],

@@ -1,4 +1,4 @@
-//! Errors of reads, and who may read.
+//! Errors of reads, and the permission to read.
 
 use crate::calls::{error_of, id_of, read_of, tree_after};
 use client_records::{GetAclRequest, PathAndWatch, RequestKind};
@@ -9,17 +9,17 @@ use std::alloc::Global;
 use std::slice;
 use std::test::Fail;
 
-/// Session 7 makes /s, which the digest id of super may read and nobody else.
+/// Session 7 creates /s, which only the digest id of super may read.
 const CREATE_S: &str = "0000000000000007 00000001 0000000100000001 00000000000003e8 00000001 \
     00000002 2f73 00000001 78 00000001 00000001 00000006 646967657374 00000022 \
     73757065723a78514a6d784c4d69484777617142767374357936726b42364851733d 00 ffffffff";
 
-/// /w has an entry for everybody, with every permission but the one to read.
+/// The node /w has an entry for every client, with every permission except READ.
 const CREATE_W: &str = "0000000000000007 00000001 0000000100000001 00000000000003e8 00000001 \
     00000002 2f77 00000001 78 00000001 0000001e 00000005 776f726c64 00000006 616e796f6e65 \
     00 ffffffff";
 
-/// /o has an empty list.
+/// The node /o has an empty list.
 const CREATE_O: &str = "0000000000000007 00000001 0000000100000001 00000000000003e8 00000001 \
     00000002 2f6f 00000001 78 00000000 00 ffffffff";
 
@@ -43,13 +43,13 @@ fn errors(alloc: Global, tree: &Tree, ids: &[Id], path: &str) -> Result<[i32; 5]
     Ok(errors)
 }
 
-// The same behind a transaction, for a client that has shown no id.
+// The same after a transaction, for a client without ids.
 fn errors_of(alloc: Global, transaction: &str, path: &str) -> Result<[i32; 5], Fail> {
     let tree = tree_after(alloc, &[transaction])?;
     errors(alloc, &tree, &[], path)
 }
 
-// The same of /s, for a client that has shown one id.
+// The same for /s, and a client with one id.
 fn errors_with(alloc: Global, scheme: &str, id: &str) -> Result<[i32; 5], Fail> {
     let tree = tree_after(alloc, &[CREATE_S])?;
     let id = id_of(alloc, scheme, id)?;
@@ -70,10 +70,10 @@ fn errors_of_null(alloc: Global) -> Result<[i32; 2], Fail> {
     ])
 }
 
-// exists and getACL need no permission.
+// An exists and a getACL need no permission.
 const REFUSED: [i32; 5] = [0, -102, 0, -102, -102];
 
-/// A slash behind a path makes it another one; what may not be asked for begins with no slash, or has a NUL.
+/// A path with a slash at its end is another one. A path that may not be read begins with no slash, or has a NUL.
 #[test]
 fn what_is_missing_or_cannot_be_asked_for(rt: HostRuntime) -> Result<(), Fail> {
     let rows = [

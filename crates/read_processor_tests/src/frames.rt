@@ -1,4 +1,4 @@
-//! Frames of answers.
+//! Frames of replies.
 
 use crate::calls::is_answered;
 use client_records::RequestKind;
@@ -7,14 +7,14 @@ use std::alloc::Global;
 use std::test::Fail;
 use values::Blob;
 
-/// The Stat of the root of a fresh tree: its one child was made without a transaction.
+/// The Stat of the root of a fresh tree: its one child is a preset node.
 const ROOT: &str = "0000000000000000 0000000000000000 0000000000000000 0000000000000000 \
     00000000 ffffffff 00000000 0000000000000000 00000000 00000001 0000000000000000";
 
-/// The header of an answer's frame, without an error, behind its length.
+/// The header of a reply's frame, without an error, after its length.
 const NO_ERROR: &str = "00000001 0000000000000000 00000000";
 
-/// Session 7 makes /a with the data "hi", for everybody.
+/// Session 7 creates /a with the data "hi", for every client.
 const CREATE_A: &str = "0000000000000007 00000001 0000000100000001 00000000000003e8 00000001 \
     00000002 2f61 00000002 6869 00000001 0000001f 00000005 776f726c64 00000006 616e796f6e65 \
     00 00000001";
@@ -23,11 +23,11 @@ const CREATE_A: &str = "0000000000000007 00000001 0000000100000001 0000000000000
 const SET_A: &str = "0000000000000007 00000002 0000000100000002 00000000000007d0 00000005 \
     00000002 2f61 ffffffff 00000001";
 
-/// Session 7 makes /é.
+/// Session 7 creates /é.
 const CREATE_E: &str = "0000000000000007 00000001 0000000100000001 00000000000003e8 00000001 \
     00000003 2fc3a9 ffffffff ffffffff 00 ffffffff";
 
-// Whether a read of the root is answered so before any transaction.
+// Whether this is the reply to a read of the root before any transaction.
 fn is_first(alloc: Global, kind: RequestKind, parts: &[&str]) -> Result<bool, Fail> {
     is_answered(alloc, &[], kind, "/", 0, parts)
 }
@@ -48,7 +48,7 @@ fn the_root_is_shown(rt: HostRuntime) -> Result<(), Fail> {
     Ok(())
 }
 
-/// Bytes ascend: a letter outside of ASCII comes last.
+/// The children are ordered by bytes: a letter outside of ASCII comes last.
 #[test]
 fn children_stand_in_order(rt: HostRuntime) -> Result<(), Fail> {
     let wanted = [
@@ -86,7 +86,7 @@ fn null_is_shown(rt: HostRuntime) -> Result<(), Fail> {
     Ok(())
 }
 
-// The frame of the answer to request 1 at zxid 0, of an error or of none, without a body.
+// The frame of the reply to request 1 at zxid 0, with an error or none, without a body.
 fn without_body(alloc: Global, error: i32) -> Result<Blob, Fail> {
     let look = Look::without_body(alloc, error)?;
     Ok(look.into_frame(1, 0).ok_or("a frame")?)

@@ -1,5 +1,5 @@
-//! Tests of `read_processor`. They stand apart, since a crate with tests is proved twice; and calls stand in functions
-//! without clauses, so that a test's own proof is short.
+//! Tests of `read_processor`. They are a crate of their own, since a crate with tests is proved twice. Calls are in
+//! functions without contracts, so that a test's own proof is short.
 #![tactic(auto)]
 
 #[cfg(test)]

@@ -1,4 +1,4 @@
--- From what an engine was fed to what is printed.
+-- From feeding an engine to the output.
 use Rattle.std.proofs.Common.{◌≡◌, ℕ, List, [], ◌++◌, Option, Some, None, Result, Ok, Err, refl, sym, ap, ◌∙◌, subst, append_assoc, inl, inr, true≢false}
 use Rattle.std.specs.List.{flat_map}
 use Rattle.std.specs.Io.KnownBytes.{Appends, Keeps}
@@ -24,7 +24,7 @@ appends_both (Some x) None c xs ys p q = absurd p
 appends_both (Some x) (Some y) None xs ys p q = absurd q
 appends_both (Some x) (Some y) (Some z) xs ys p q = q ∙ ap (λ l. l ++ ys) p ∙ append_assoc x xs ys
 
--- the outputs of an engine that was fed are the first of all
+-- The outputs of an engine that was fed are the first of all.
 first_at : (fed : Result (Unit {0}) Stop) (m : Machine) (events : List Event) (outputs : List Output)
     (after : Option Machine) → PlaysEvents fed (Some m) events [] outputs after
     → Gains [] (play m events).outputs outputs
@@ -45,7 +45,7 @@ pub fed_first : (fed : Result (Unit {0}) Stop) (engine : Option Machine) (m : Ma
 fed_first fed engine m events old outputs after is_engine none p =
     first_at fed m events outputs after (plays_from fed engine m events old outputs after is_engine none p)
 
--- where no memory was refused they are all, and the machine is the one that is left
+-- If no allocation was refused they are all, and the machine is the one that is left.
 all_at : (fed : Result (Unit {0}) Stop) (m : Machine) (events : List Event) (outputs : List Output)
     (after : Option Machine) → IsOk fed → PlaysEvents fed (Some m) events [] outputs after
     → (outputs ≡ (play m events).outputs)
@@ -60,7 +60,7 @@ pub fed_all : (fed : Result (Unit {0}) Stop) (engine : Option Machine) (m : Mach
 fed_all fed engine m events old outputs after is_engine none p ok =
     all_at fed m events outputs after ok (plays_from fed engine m events old outputs after is_engine none p)
 
--- the lines of all outputs are those of the first ones
+-- The lines of all outputs are those of the first ones.
 pub all_written : {a b : Option (List ℕ)} (outputs : List Output) → Appends a b (flat_map output_line outputs)
     → WritesFront a b outputs
 all_written outputs lines = record { front = outputs; first = gains_all [] outputs outputs refl; written = lines }
@@ -69,7 +69,7 @@ pub on_ok_both : {T E P Q R : Type 0} (r : Result T E) → (P → Q → R) → O
 on_ok_both (Ok x) f p q = f p q
 on_ok_both (Err e) f p q = tt
 
--- the first of the first
+-- The first of the first outputs.
 pub first_of_first : {a b : Option (List ℕ)} {outputs all : List Output} → WritesFront a b outputs
     → Gains [] all outputs → WritesFront a b all
 first_of_first w f = record {
@@ -106,7 +106,7 @@ front_kept script a b c p q =
       })
     ]
 
--- what was printed stays
+-- What was printed stays.
 pub ends_kept : (ending : Ending) (text : List ℕ) (a b c : Option (List ℕ)) → EndsReplay ending text a b → Keeps b c
     → EndsReplay ending text a c
 ends_kept Done text a b c p q = (p.0, p.1, appends_kept a b c (printed_lines (replay_of p.0)) p.2 q)

@@ -6,12 +6,12 @@ use Rattle.replay.specs.declared.command.Source.TheVariants.{Input, File}
 use Rattle.replay.specs.declared.command.Command.{Command}
 use Rattle.replay.specs.declared.command.Command.TheVariants.{Replay, Audit}
 
--- where a script of this name is read from: `-` is standard input
+-- The source of a script with this name: `-` is standard input.
 abbrev pub source_of : List ℕ → Source
 source_of name = if bytes_eq name (codes "-") then Input else File name
 
--- `replay` and the name of a script; `audit`, the name of a script and a path; and no word at all replays standard
--- input. Nothing else is a command line.
+-- The word `replay` and the name of a script; or `audit`, the name of a script and a path; no word at all replays
+-- standard input. Nothing else is a command line.
 abbrev pub command_of : List (List ℕ) → Option Command
 command_of [] = Some (Replay Input)
 command_of (command ∷ []) = None

@@ -1,4 +1,4 @@
--- What an end is told by: the exit status, and a line of standard error.
+-- The exit status of an ending, and its line on standard error.
 use Rattle.std.specs.Prelude.{ℕ, List, [], ◌∷◌, ◌++◌, codes, decimal}
 use Rattle.replay.specs.declared.ending.Ending.{Ending}
 use Rattle.replay.specs.declared.ending.Ending.TheVariants.{Done, BadLine, Failed, NoMemory, NotClean, NoNode}

@@ -10,7 +10,7 @@ use Rattle.values.specs.Hex.{hex_digits}
 abbrev pub line_end : List ℕ
 line_end = 10 ∷ []
 
--- what an output prints, without the end of the line
+-- The line of an output, without its line feed.
 abbrev pub output_text : Output → List ℕ
 output_text (ToLeader bytes) = codes "L " ++ hex_digits bytes
 output_text (ToClient client bytes) = codes "C " ++ decimal client ++ codes " " ++ hex_digits bytes
@@ -20,15 +20,15 @@ output_text (CloseClient client) = codes "C " ++ decimal client ++ codes " close
 abbrev pub output_line : Output → List ℕ
 output_line output = output_text output ++ line_end
 
--- the 64 bits of two's complement as a number in lower-case hexadecimal digits, without zeros in front
+-- The 64 bits of two's complement as a number in lower-case hexadecimal digits, without leading zeros.
 abbrev pub hex_digits_of : ℤ → List ℕ
 hex_digits_of number = radix_digits 16 false (cast_unsigned w64 number)
 
--- the last line: the last zxid and the number of paths
+-- The last line: the last zxid and the number of paths.
 abbrev pub end_line : ℤ → ℕ → List ℕ
 end_line zxid paths = codes "end zxid=0x" ++ hex_digits_of zxid ++ codes " paths=" ++ decimal paths ++ line_end
 
--- the one line of an audit: the counted cversion and pzxid
+-- The one line of an audit: the counted cversion and pzxid.
 abbrev pub count_line : ℤ → ℤ → List ℕ
 count_line cversion pzxid =
     codes "cversion=" ++ signed_decimal cversion ++ codes " pzxid=0x" ++ hex_digits_of pzxid ++ line_end

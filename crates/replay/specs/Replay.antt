@@ -1,4 +1,4 @@
--- What a replay of a text prints.
+-- The output of a replay of a text.
 use Rattle.std.specs.Prelude.{◌≡◌, ℕ, List, [], ◌++◌, map, Option, Ok, Err, ◌⊎◌, if◌then◌else◌}
 use Rattle.std.specs.List.{flat_map}
 use Rattle.std.specs.FinMap as finmap
@@ -30,7 +30,6 @@ event_of_script (ClientEnd client) = events.ClientEnd client
 event_of_script (Expire session) = events.Expire session
 event_of_script Checkpoint = events.Checkpoint
 
--- what the script sets up
 abbrev pub settings_of : Script → Settings
 settings_of script = record {
   server_id = script.server_id;
@@ -39,38 +38,38 @@ settings_of script = record {
   secret = script.secret;
 }
 
--- the observer at the start
+-- The observer at the start.
 abbrev pub machine_of : Script → Machine
 machine_of script = if script.primed then primed_machine (settings_of script) else new_machine (settings_of script)
 
--- what happens when the script's events come to the observer that its settings set up
+-- The result of feeding the script's events to the observer that it sets up.
 abbrev pub replay_of : Script → StepResult Machine
 replay_of script = play (machine_of script) (map event_of_script script.events)
 
 abbrev pub end_line_of : Machine → List ℕ
 end_line_of m = end_line m.world.replica.learner.last_zxid (finmap.len m.world.replica.tree.nodes)
 
--- a line for each output, and the end line
+-- A line for each output, and the end line.
 abbrev pub printed_lines : StepResult Machine → List ℕ
 printed_lines all = flat_map output_line all.outputs ++ end_line_of all.after
 
--- the lines of the first outputs were written
+-- The lines of the first outputs were written.
 pub record WritesFront (old new : Option (List ℕ)) (outputs : List Output) : Type 0 where
   pub front : List Output
   pub first : Gains [] outputs front
   pub written : Appends old new (flat_map output_line front)
 
--- all that a script causes was printed
+-- All outputs of a script were printed.
 abbrev pub PrintsAll : Script → Option (List ℕ) → Option (List ℕ) → Type 0
 PrintsAll script old new = Appends old new (printed_lines (replay_of script))
 
--- nothing was printed, or the lines of the first outputs
+-- Nothing was printed, or the lines of the first outputs.
 abbrev pub PrintsFront : Script → Option (List ℕ) → Option (List ℕ) → Type 0
 PrintsFront script old new = Keeps old new ⊎ WritesFront old new (replay_of script).outputs
 
--- What was printed, by the way in which the replay of a text ended: the lines of all outputs and the end line;
--- nothing, where the text is no script; where memory was refused nothing, or the lines of the first outputs; and where
--- a read or a write failed nothing, unless the text is a script.
+-- The output, by how the replay of a text ended: the lines of all outputs and the end line; nothing, if the text isn't
+-- a script; after a refused allocation nothing, or the lines of the first outputs; and after a failed read or write
+-- nothing, unless the text is a script.
 abbrev pub EndsReplay : Ending → List ℕ → Option (List ℕ) → Option (List ℕ) → Type 0
 EndsReplay Done text old new = (script : Script) × (script_of text ≡ Ok script) × PrintsAll script old new
 EndsReplay (BadLine number) text old new = (script_of text ≡ Err number) × Keeps old new
@@ -80,6 +79,6 @@ EndsReplay NoMemory text old new =
 EndsReplay NotClean text old new = ⊥
 EndsReplay NoNode text old new = ⊥
 
--- the same by the exit status
+-- The same by the exit status.
 abbrev pub EndsReplayWith : ℕ → List ℕ → Option (List ℕ) → Option (List ℕ) → Type 0
 EndsReplayWith status text old new = (ending : Ending) × (status ≡ status_of ending) × EndsReplay ending text old new

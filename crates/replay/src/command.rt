@@ -5,25 +5,24 @@ ghost use Rattle.replay.specs.Command.{source_of, command_of};
 
 use values::Str;
 
-/// Where a script is read from.
+/// The source of a script.
 #[derive(Drop)]
 pub enum Source<'a> {
     /// Standard input.
     Input,
-    /// The file of this name.
+    /// The file with this name.
     File(Str<'a>),
 }
 
-/// What a command line asks for.
+/// The command of a command line.
 #[derive(Drop)]
 pub enum Command<'a> {
-    /// A script is replayed.
+    /// Replay a script.
     Replay(Source<'a>),
-    /// The node at this path is audited, after a script.
+    /// Audit the node at this path, after a script.
     Audit(Source<'a>, Str<'a>),
 }
 
-// Where a script of this name is read from.
 fn source_of(name: &str) -> Source<'_>
     ensures { result ≡ source_of name.now }
 {
@@ -33,7 +32,7 @@ fn source_of(name: &str) -> Source<'_>
     Source::File(Str::new(name))
 }
 
-/// What the words after the program's name ask for, if they are a command line.
+/// Parses the words after the program's name; None if they aren't a command line.
 pub fn command_of(words: &[String]) -> Option<Command<'_>>
     ensures { result ≡ command_of (map string_bytes words.now) }
 {

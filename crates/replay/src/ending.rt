@@ -1,4 +1,4 @@
-//! How a replay, or an audit, ends.
+//! The end of a replay or an audit.
 
 ghost use Rattle.std.specs.Prelude.{◌≡◌, IsOk, OnOk};
 ghost use Rattle.std.specs.Io.KnownBytes.{Appends};
@@ -7,16 +7,16 @@ ghost use Rattle.replay.specs.Ending.{status_of, message_of};
 use std::io;
 use std::io::Write;
 
-/// How a replay, or an audit, ended.
+/// How a replay or an audit ended.
 #[derive(Clone, Copy, Debug, PartialEq, Eq)]
 pub enum Ending {
-    /// All was fed and printed.
+    /// Everything was fed and printed.
     Done,
-    /// The text is no script: the number of its first bad line.
+    /// The text isn't a script; this is the number of its first bad line.
     BadLine(u64),
-    /// A file could not be opened or read, or the output could not be written.
+    /// A file couldn't be opened or read, or the output couldn't be written.
     Failed,
-    /// A growth was refused.
+    /// An allocation was refused.
     NoMemory,
     /// The log isn't clean, or doesn't begin with the fresh tree: it has no count.
     NotClean,
@@ -39,7 +39,7 @@ impl Ending {
         }
     }
 
-    /// Writes what standard error is told: nothing where all went well, else one line.
+    /// Writes the message for standard error: nothing after success, and one line otherwise.
     pub fn tell<E: Write>(self, writer: &mut E) -> io::Result<()>
         ensures written { OnOk result
             (Appends (E.contents writer.old) (E.contents writer.new) (message_of self)) }

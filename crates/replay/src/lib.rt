@@ -1,9 +1,9 @@
-//! A replay: a script is read, its events are fed to an observer, and what goes out is printed.
+//! A replay: a script is read, its events are fed to an observer, and the outputs are printed.
 //!
-//! `command_of` says what a command line asks for. `replay_on` reads the script to its end, replays it and tells
-//! standard error what went wrong; its answer is the exit status. It works over any reader and writers, so what is
-//! printed is proved of the bytes that stand behind them (`specs/Replay.antt`: which outputs, `specs/Lines.antt`: which
-//! line each is, `specs/Ending.antt`: which status and which message).
+//! `command_of` parses a command line. `replay_on` reads the script to its end, replays it, and writes what went wrong
+//! to standard error; it returns the exit status. It works over any reader and writers, so what it prints is proved for
+//! the bytes that it reads: `specs/Replay.antt` defines the outputs, `specs/Lines.antt` the line of each, and
+//! `specs/Ending.antt` the status and the message.
 //!
 //! ```
 //! let mut reader = b"primed\nclient 1 ffffffff".as_slice();

@@ -34,7 +34,7 @@ fn put_signed(out: &mut Vec<u8>, number: i32) -> Result<(), NoMemory>
     }
 }
 
-// As the 64 bits of two's complement, without zeros in front.
+// Appends the 64 bits of two's complement as a hexadecimal number, without leading zeros.
 fn put_hex_number(out: &mut Vec<u8>, number: i64) -> Result<(), NoMemory>
     ensures { OnOk result (out.new.items ≡ out.old.items ++ hex_digits_of number) }
 {
@@ -45,7 +45,7 @@ fn put_hex_number(out: &mut Vec<u8>, number: i64) -> Result<(), NoMemory>
     }
 }
 
-/// Appends the line of an output. Where memory is refused, a part of it may stand there.
+/// Appends the line of an output. A refused allocation leaves a part of it appended.
 pub fn put_output(out: &mut Vec<u8>, output: &Output) -> Result<(), NoMemory>
     ensures { OnOk result (out.new.items ≡ out.old.items ++ output_line output.now) }
 {

@@ -1,4 +1,4 @@
-//! A script, fed to an observer.
+//! A script that is fed to an observer.
 
 ghost use Rattle.std.specs.Prelude.{◌≡◌, ◌++◌, Some, Err, IsOk, IfOk, IfSome, OnOk, map, if◌then◌else◌};
 ghost use Rattle.std.specs.List.{flat_map};
@@ -17,12 +17,12 @@ use std::alloc::Global;
 use std::io::{ErrorKind, Read, Write};
 use values::{Bytes, NoMemory};
 
-/// Why a replay could not be printed to its end.
+/// The reason why a replay couldn't be printed to its end.
 #[derive(Clone, Copy, Debug, PartialEq, Eq)]
 pub enum PrintError {
-    /// The output could not be written.
+    /// The output couldn't be written.
     Unwritable,
-    /// A growth was refused.
+    /// An allocation was refused.
     NoMemory,
 }
 
@@ -34,7 +34,7 @@ impl From<NoMemory> for PrintError {
     }
 }
 
-/// The event that a line of a script says.
+/// The event of a script's line.
 pub fn event_of(event: &ScriptEvent) -> Event<'_>
     ensures { result ≡ event_of_script event.now }
 {
@@ -63,7 +63,7 @@ fn events_of(alloc: Global, script: &[ScriptEvent]) -> Result<Vec<Event<'_>>, No
     Ok(events)
 }
 
-/// The observer that a script sets up.
+/// The observer that a script sets up. Fails only if an allocation is refused.
 pub fn engine_of(alloc: Global, primed: bool, settings: Settings) -> Result<Engine, NoMemory>
     ensures { IfOk result
         (λ e. e ≡ Some (if primed then primed_machine settings else new_machine settings)) }
@@ -76,7 +76,7 @@ pub fn engine_of(alloc: Global, primed: bool, settings: Settings) -> Result<Engi
     }
 }
 
-// Prints the line of an output. `line` is room for it.
+// Prints the line of an output. `line` is a buffer for it.
 fn print_output<W: Write>(
     line: &mut Vec<u8>,
     output: &Output,
@@ -111,7 +111,6 @@ fn print_outputs<W: Write>(
     Ok(())
 }
 
-// Prints the last line.
 fn print_end<W: Write>(
     line: &mut Vec<u8>,
     engine: &Engine,
@@ -129,7 +128,7 @@ fn print_end<W: Write>(
     }
 }
 
-// Prints the lines of the outputs and, where all was fed, the last line.
+// Prints the lines of the outputs and, if everything was fed, the last line.
 fn print_fed<W: Write>(
     alloc: Global,
     engine: &Engine,
@@ -152,7 +151,7 @@ fn print_fed<W: Write>(
     }
 }
 
-// Feeds the events to an observer, and prints what goes out. The observer is dropped at the one end of this function,
+// Feeds the events to an observer, and prints the outputs. The observer is dropped at the single end of this function,
 // and nowhere else: each drop of it is proved anew.
 fn feed<W: Write>(
     alloc: Global,
@@ -170,7 +169,7 @@ fn feed<W: Write>(
     print_fed(alloc, &engine, fed, outputs.as_slice(), writer)
 }
 
-// Feeds a script's events to its observer, and prints what goes out.
+// Feeds a script's events to its observer, and prints the outputs.
 fn play_script<W: Write>(alloc: Global, script: Script, writer: &mut W) -> Result<(), PrintError>
     ensures ok { OnOk result (PrintsAll script (W.contents writer.old) (W.contents writer.new)) }
     ensures no_memory { result ≡ Err print_errors.NoMemory
@@ -195,7 +194,7 @@ fn play_script<W: Write>(alloc: Global, script: Script, writer: &mut W) -> Resul
     feed(alloc, engine, events.as_slice(), writer)
 }
 
-/// Replays a text, and prints what goes out.
+/// Replays a text, and prints the outputs.
 pub fn replay_text<W: Write>(alloc: Global, text: &[u8], writer: &mut W) -> Ending
     ensures { EndsReplay result text.now (W.contents writer.old) (W.contents writer.new) }
 {
@@ -211,7 +210,7 @@ pub fn replay_text<W: Write>(alloc: Global, text: &[u8], writer: &mut W) -> Endi
     }
 }
 
-/// Reads a script to its end, replays it, and prints what goes out. A script that is read in part is not replayed.
+/// Reads a script to its end, replays it, and prints the outputs. A script that is read only in part isn't replayed.
 pub fn replay<R: Read, W: Write>(alloc: Global, reader: &mut R, writer: &mut W) -> Ending
     ensures { IfSome (R.remaining reader.old)
         (λ text. EndsReplay result text (W.contents writer.old) (W.contents writer.new)) }
@@ -231,8 +230,7 @@ pub fn replay<R: Read, W: Write>(alloc: Global, reader: &mut R, writer: &mut W) 
     }
 }
 
-/// Replays a script that is read: prints what goes out, and tells standard error what went wrong. Answers the exit
-/// status.
+/// Replays a script: prints the outputs, and writes what went wrong to standard error. Returns the exit status.
 pub fn replay_on<R: Read, W: Write, E: Write>(
     alloc: Global,
     reader: &mut R,
@@ -245,7 +243,7 @@ pub fn replay_on<R: Read, W: Write, E: Write>(
 {
     let ending = replay(alloc, reader, writer);
     if ending != Ending::Done {
-        // Where standard error can't be written, the status tells it alone.
+        // If standard error can't be written, only the status tells the failure.
         let _ = ending.tell(errors);
     }
     ending.status()

@@ -1,7 +1,7 @@
-//! The observer's program: replays and audits scripts, and serves.
+//! The observer's program: it replays and audits scripts, and serves.
 //!
-//! A script's events are fed to an observer, and what goes out is printed, or what its log made of a node's children.
-//! `serve` follows a leader and serves clients over sockets.
+//! A replay feeds a script's events to an observer and prints the outputs; an audit prints the count of a node's
+//! children from the observer's log. `serve` follows a leader and serves clients over sockets.
 #![tactic(auto)]
 
 ghost use Rattle.std.specs.Prelude.{◌≡◌, ◌≢◌, IfSome, None};
@@ -18,7 +18,7 @@ use std::io::{BufWriter, Error, ErrorKind, Read};
 use std::process::ExitCode;
 use std::{env, fs};
 
-// Where no script was read.
+// Ends the program when no script was read.
 fn fail(rt: &HostRuntime, ending: Ending) -> u8
     ensures { result ≡ status_of ending }
 {
@@ -33,7 +33,7 @@ fn usage(rt: &HostRuntime) -> u8
     2
 }
 
-// What a failed call of the system ends with.
+// The ending after a failed system call.
 fn ending_of(error: &Error) -> Ending
     ensures no_memory { error_kind error.now ≡ ErrorKind.OutOfMemory → result ≡ Ending.NoMemory }
     ensures failed { error_kind error.now ≢ ErrorKind.OutOfMemory → result ≡ Ending.Failed }
@@ -45,7 +45,7 @@ fn ending_of(error: &Error) -> Ending
     }
 }
 
-// Answers the exit status; no contract sees what stands on standard output.
+// Returns the exit status; no contract is about the bytes on standard output.
 fn replay_from<R: Read>(rt: &HostRuntime, reader: &mut R) -> u8
     ensures { IfSome (R.remaining reader.old) (λ text. EndsReplayWith result text None None) }
 {
@@ -55,7 +55,7 @@ fn replay_from<R: Read>(rt: &HostRuntime, reader: &mut R) -> u8
     }
 }
 
-// The same of an audit.
+// The same for an audit.
 fn audit_from<R: Read>(rt: &HostRuntime, reader: &mut R, path: &str) -> u8
     ensures { IfSome (R.remaining reader.old) (λ text. AuditEndsWith result text path.now None None) }
 {
@@ -94,7 +94,7 @@ fn words(rt: &HostRuntime) -> Result<Vec<String>, Error> {
     Ok(words)
 }
 
-// Where the words can't be told.
+// Ends the program when the words can't be read.
 fn wordless(rt: &HostRuntime, error: &Error) -> u8 {
     match ending_of(error) {
         Ending::NoMemory => fail(rt, Ending::NoMemory),
@@ -103,7 +103,7 @@ fn wordless(rt: &HostRuntime, error: &Error) -> u8 {
     }
 }
 
-// Does what the words ask for, where that needs no threads.
+// Runs a command that needs no threads.
 fn run(rt: &HostRuntime, words: &[String]) -> u8 {
     match command_of(words) {
         Some(Command::Replay(source)) => replay_source(rt, source),

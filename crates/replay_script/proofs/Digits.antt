@@ -10,7 +10,7 @@ use Rattle.values.specs.Maybe.{◌>>=◌}
 use Rattle.values.specs.Hex.{digit_value, bytes_of_digits, without_blanks, hex_digit, hex_digits}
 use Rattle.values.specs.Gains.{Puts}
 
--- the bytes that digits spell behind the value of one that waits for its second
+-- The bytes that digits spell after the value of a digit that waits for its second.
 abbrev pub bytes_behind : Option ℕ → List ℕ → Option (List ℕ)
 bytes_behind None text = bytes_of_digits text
 bytes_behind (Some h) [] = None
@@ -19,18 +19,18 @@ bytes_behind (Some h) (low ∷ text) = do
   bytes ← bytes_of_digits text
   Some ((h * 16 + l) ∷ bytes)
 
--- bytes with others in front
+-- Bytes with others before them.
 abbrev pub onto : List ℕ → Option (List ℕ) → Option (List ℕ)
 onto front bytes = option_map (λ bs. front ++ bs) bytes
 
--- a first digit waits
+-- A first digit waits.
 pub bytes_behind_first : (high h : ℕ) (text : List ℕ) → digit_value high ≡ Some h
     → bytes_behind None (high ∷ text) ≡ bytes_behind (Some h) text
 bytes_behind_first high h [] e = refl
 bytes_behind_first high h (low ∷ text) e =
     ap (λ d. d >>= (λ h. digit_value low >>= (λ l. bytes_of_digits text >>= (λ bytes. Some ((h * 16 + l) ∷ bytes))))) e
 
--- a second one makes a byte
+-- A second digit makes a byte.
 pub bytes_behind_second : (front : List ℕ) (h low l : ℕ) (text : List ℕ) → digit_value low ≡ Some l
     → onto front (bytes_behind (Some h) (low ∷ text)) ≡ onto (front ++ (h * 16 + l) ∷ []) (bytes_behind None text)
 bytes_behind_second front h low l text e =
@@ -41,7 +41,7 @@ bytes_behind_second front h low l text e =
       | Some bs ↦ ap Some (sym (append_assoc front ((h * 16 + l) ∷ []) bs))
     ]
 
--- nothing is spelled where one is no digit
+-- No bytes are spelled if one byte isn't a digit.
 pub bytes_behind_none : (waiting : Option ℕ) (b : ℕ) (text : List ℕ) → digit_value b ≡ None
     → bytes_behind waiting (b ∷ text) ≡ None
 bytes_behind_none None b [] e = refl
@@ -50,7 +50,7 @@ bytes_behind_none None b (low ∷ text) e =
 bytes_behind_none (Some h) b text e =
     ap (λ d. d >>= (λ l. bytes_of_digits text >>= (λ bytes. Some ((h * 16 + l) ∷ bytes)))) e
 
--- what is no blank stays
+-- A byte that isn't a blank stays.
 pub without_blanks_kept : (text : List ℕ) (i : ℕ) → i < length text → get_or text i 0 ≢ 32
     → without_blanks (drop i text) ≡ get_or text i 0 ∷ without_blanks (drop (i + 1) text)
 without_blanks_kept text i h ne =
@@ -59,7 +59,7 @@ without_blanks_kept text i h ne =
     ∙ ap (λ blank. cond (not blank) (get_or text i 0 ∷ without_blanks (drop (i + 1) text))
     (without_blanks (drop (i + 1) text))) e
 
--- a blank is passed over
+-- A blank is skipped.
 pub without_blanks_passed : (text : List ℕ) (i : ℕ) → i < length text → get_or text i 0 ≡ 32
     → without_blanks (drop i text) ≡ without_blanks (drop (i + 1) text)
 without_blanks_passed text i h eq =
@@ -68,7 +68,7 @@ without_blanks_passed text i h eq =
     ∙ ap (λ blank. cond (not blank) (get_or text i 0 ∷ without_blanks (drop (i + 1) text))
     (without_blanks (drop (i + 1) text))) e
 
--- what is spelled behind `front` from place i on, where a first digit stands there
+-- The bytes spelled after `front` from place i on, where a first digit is there.
 pub first_read : (text front items : List ℕ) (i d : ℕ) (waits waits' : Option ℕ) (whole : Option (List ℕ))
     → i < length text → get_or text i 0 ≢ 32 → digit_value (get_or text i 0) ≡ Some d → waits ≡ None → waits' ≡ Some d
     → items ≡ front → onto front (bytes_behind waits (without_blanks (drop i text))) ≡ whole
@@ -82,7 +82,7 @@ first_read text front items i d waits waits' whole h ne digit none some same e =
     ∙ sym (ap (λ w. onto front (bytes_behind w (without_blanks (drop i text)))) none)
     ∙ e
 
--- and where a second one does
+-- The same where a second digit is there.
 pub second_read : (text front items : List ℕ) (i first d : ℕ) (waits waits' : Option ℕ) (whole : Option (List ℕ))
     → i < length text → get_or text i 0 ≢ 32 → digit_value (get_or text i 0) ≡ Some d → waits ≡ Some first
     → waits' ≡ None
@@ -99,7 +99,7 @@ second_read text front items i first d waits waits' whole h ne digit some none m
 
 -- ---- written
 
--- where memory was refused behind some bytes, the digits of these stand there
+-- After a refused allocation the digits of the bytes so far are there.
 pub digits_so_far : {U E : Type 0} (r : Result U E) (old bytes new : List ℕ) (i : ℕ) → IsErr r
     → new ≡ old ++ hex_digits (take i bytes) → Puts r old (hex_digits bytes) new
 digits_so_far (Ok u) old bytes new i err e = absurd cc

@@ -5,7 +5,7 @@ use Rattle.std.specs.Char.{is_ascii_digit}
 use Rattle.std.proofs.lemmas.Bool.Decides.{nat_tests}
 use Rattle.replay_script.specs.Number.{number_after, number_up_to, if_at_most}
 
--- a number that is too large stays so, whatever follows it
+-- A number that is too large stays too large, whatever follows it.
 pub up_to-too_large : (limit n : ℕ) (bs : List ℕ) → limit < n → if_at_most limit (number_after n bs) ≡ None
 up_to-too_large limit n [] h = grind (arith, nat_tests)
 up_to-too_large limit n (b ∷ bs) h =
@@ -14,7 +14,7 @@ up_to-too_large limit n (b ∷ bs) h =
       | false ↦ refl
     ]
 
--- so it is at the digit that makes it too large
+-- This is so at the digit that makes it too large.
 pub too_large_at : (limit n i : ℕ) (text : List ℕ) → i < length text → is_ascii_digit (get_or text i 0) ≡ true
     → limit < n * 10 + (get_or text i 0 - 48) → if_at_most limit (number_after n (drop i text)) ≡ None
 too_large_at limit n i text h digit large =
@@ -23,7 +23,7 @@ too_large_at limit n i text h digit large =
     digit
     ∙ up_to-too_large limit (n * 10 + (get_or text i 0 - 48)) (drop (i + 1) text) large
 
--- a text that is not empty spells what its digits spell
+-- A text that isn't empty spells what its digits spell.
 pub none_spelled : (limit : ℕ) (text : List ℕ) → if_at_most limit (number_after 0 text) ≡ None
     → number_up_to limit text ≡ None
 none_spelled limit [] h = refl

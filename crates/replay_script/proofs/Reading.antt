@@ -16,7 +16,7 @@ use Rattle.replay_script.specs.declared.parser.ScriptError.TheVariants.{BadLine}
 take_whole : (xs : List ℕ) (n : ℕ) → length xs ≤ n → take n xs ≡ xs
 take_whole xs n h = grind (arith, common_steps)
 
--- the lines behind a cut
+-- The lines after a cut.
 abbrev pub lines_behind : Option (List ℕ) → List (List ℕ)
 lines_behind None = []
 lines_behind (Some text) = lines_of text
@@ -30,17 +30,17 @@ cut_line text false e =
     slice_split_none (λ b. b == 10) text (λ k d h. fails_before_first (λ b. b == 10) text k d (omega arith))
     ∙ ap (λ t. t ∷ []) (sym (take_whole text (position_or_len (λ b. b == 10) text) all))
 
--- a text is its first line and the lines behind it
+-- A text is its first line and the lines after it.
 pub lines_of_cut : (text : List ℕ) → lines_of text ≡ (cut_at 10 text).front ∷ lines_behind (cut_at 10 text).behind
 lines_of_cut text = cut_line text (nat_lt (position_or_len (λ b. b == 10) text) (length text)) refl
 
--- what is read with the next line
+-- The result with the next line.
 pub script_behind_cut : (count : ℕ) (kept : PartialScript) (text : List ℕ)
     → script_after count kept (lines_of text) ≡ or_bad (count + 1) (with_text kept (cut_at 10 text).front)
     (λ more. script_after (count + 1) more (lines_behind (cut_at 10 text).behind))
 script_behind_cut count kept text = ap (script_after count kept) (lines_of_cut text)
 
--- what stands behind a cut is shorter
+-- The text after a cut is shorter.
 abbrev pub length_behind : Option (List ℕ) → ℕ
 length_behind None = 0
 length_behind (Some text) = length text + 1
@@ -56,7 +56,7 @@ shorter text false e = omega arith
 pub length_behind_cut : (text : List ℕ) → length_behind (cut_at 10 text).behind ≤ length text
 length_behind_cut text = shorter text (nat_lt (position_or_len (λ b. b == 10) text) (length text)) refl
 
--- one more line is read
+-- One more line is read.
 pub reads : (count : ℕ) (kept : PartialScript) (rest : Option (List ℕ)) (bytes : List ℕ) (cut : Cut) (front : List ℕ)
     (after : Option PartialScript) → rest ≡ Some bytes → cut ≡ cut_at 10 bytes → front ≡ cut.front
     → with_text kept front ≡ after
@@ -71,7 +71,7 @@ reads count kept rest bytes cut front after is_some is_cut is_front is_after =
     (sym is_front)
     ∙ ap (λ o. or_bad (count + 1) o (λ more. script_after (count + 1) more (lines_behind cut.behind))) is_after
 
--- the number of a bad line is the one that is named
+-- The number of the bad line is the one that is returned.
 pub named : (found : Result Script ℕ) (m n : ℕ)
     → ◌≡◌ {A = Result Script ScriptError} (Err (BadLine m)) (Err (BadLine n)) → found ≡ Err m → found ≡ Err n
 named found m n e h = cc

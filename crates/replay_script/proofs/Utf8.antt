@@ -1,4 +1,4 @@
--- UTF-8, as a fact and as a test.
+-- UTF-8, as a predicate and as a test.
 use Rattle.std.proofs.Common.{◌≡◌, ℕ, Bool, true, false, List, refl}
 use Rattle.std.specs.Prelude.{IsUtf8}
 use Rattle.std.specs.Str.{is_utf8}

@@ -1,10 +1,10 @@
--- A text, cut at the first place of a byte.
+-- Cutting a text at the first occurrence of a byte.
 use Rattle.std.specs.Prelude.{ℕ, ◌+◌, ◌==◌, List, drop, position}
 use Rattle.std.specs.List.{before_first}
 use Rattle.std.specs.Option.{option_map}
 use Rattle.replay_script.specs.declared.cut.Cut.{Cut}
 
--- what stands before the first place of a byte (the whole text where it has none), and what stands behind it
+-- The text before the first occurrence of a byte (the whole text if there is none), and the text after it.
 abbrev pub cut_at : ℕ → List ℕ → Cut
 cut_at byte text =
     record {

@@ -1,4 +1,4 @@
--- What a line of a script says.
+-- The meaning of a script's line.
 use Rattle.std.specs.Prelude.{ℕ, ◌^◌, ◌-◌, ◌==◌, List, [], ◌∷◌, length, Option, Some, None, if◌then◌else◌, codes}
 use Rattle.std.specs.Int.{w64, cast_signed}
 use Rattle.std.specs.Option.{option_map}
@@ -20,7 +20,7 @@ use Rattle.replay_script.specs.declared.event.Keyword.TheVariants as words
 use Rattle.replay_script.specs.declared.event.Coming.{Coming}
 use Rattle.replay_script.specs.declared.event.Coming.TheVariants.{Up, Bytes, End}
 
--- the words that a line begins with
+-- The words that a line begins with.
 abbrev pub keyword_of : List ℕ → Option Keyword
 keyword_of word =
     if bytes_eq word (codes "server") then Some words.Server
@@ -34,7 +34,7 @@ keyword_of word =
     else (if bytes_eq word (codes "checkpoint") then Some words.Checkpoint
     else None))))))))
 
--- `up`, `end`, or the bytes that come
+-- The texts `up` and `end`, or the bytes that come.
 abbrev pub coming_of : List ℕ → Option Coming
 coming_of text =
     if bytes_eq text (codes "up") then Some Up
@@ -51,7 +51,7 @@ client_event client Up = ClientUp client
 client_event client (Bytes bytes) = ClientBytes client bytes
 client_event client End = ClientEnd client
 
--- `N up`, `N HEX` or `N end`
+-- The texts `N up`, `N HEX` and `N end`.
 abbrev pub client_of : List ℕ → Option ScriptEvent
 client_of text = do
   let words = cut_at 32 text
@@ -60,7 +60,7 @@ client_of text = do
   coming ← coming_of behind
   Some (client_event client coming)
 
--- a session's id of 8 bytes, in two's complement
+-- A session's id of 8 bytes, in two's complement.
 abbrev pub expire_of : List ℕ → Option ScriptEvent
 expire_of text = do
   bytes ← bytes_of_hex text
@@ -86,7 +86,7 @@ secret_setting text = do
   bytes ← bytes_of_hex text
   option_map Secret (settings.secret_of bytes)
 
--- what a word says with nothing behind it
+-- The meaning of a word with nothing after it.
 abbrev pub line_of_keyword : Keyword → Option Line
 line_of_keyword words.Primed = Some (Header Primed)
 line_of_keyword words.Checkpoint = Some (Happening Checkpoint)
@@ -98,7 +98,7 @@ line_of_keyword words.Leader = None
 line_of_keyword words.Client = None
 line_of_keyword words.Expire = None
 
--- what a word says with a blank and a text behind it
+-- The meaning of a word with a blank and a text after it.
 abbrev pub line_with_text : Keyword → List ℕ → Option Line
 line_with_text words.Server text = option_map Header (server_setting text)
 line_with_text words.Epochs text = option_map Header (epochs_setting text)
@@ -110,13 +110,13 @@ line_with_text words.Expire text = option_map Happening (expire_of text)
 line_with_text words.Primed text = None
 line_with_text words.Checkpoint text = None
 
--- what a word says with this behind it
+-- The meaning of a word with this after it.
 abbrev pub line_of_words : Keyword → Option (List ℕ) → Option Line
 line_of_words word None = line_of_keyword word
 line_of_words word (Some text) = line_with_text word text
 
--- What a line says, and nothing where it is not a line of the language. Every line is UTF-8: one that is not empty
--- and no comment has ASCII alone.
+-- The meaning of a line; none if it isn't valid. Every valid line is UTF-8: one that isn't empty and isn't a comment is
+-- ASCII.
 abbrev pub line_of : List ℕ → Option Line
 line_of [] = Some Blank
 line_of (b ∷ bs) =

@@ -1,4 +1,4 @@
--- Some lines and texts, and what they mean.
+-- Some lines and texts, and their meaning.
 use Rattle.std.specs.Prelude.{◌≡◌, ℕ, ℤ, pos, negsuc, false, List, [], ◌∷◌, ◌++◌, Some, None, Ok, Err, codes}
 use Rattle.settings.specs.Settings.{epoch_pair, timeout_pair, default_epochs, default_timeouts, default_secret}
 use Rattle.replay_script.specs.Line.{line_of}
@@ -51,7 +51,7 @@ pub record BadLines : Type 0 where
 abbrev pub with_newline : List ℕ → List ℕ
 with_newline line = line ++ 10 ∷ []
 
--- the script of this server id and these events, with the defaults of all else
+-- The script with this server id and these events, and the defaults otherwise.
 abbrev pub script_of_server : ℤ → List ScriptEvent → Script
 script_of_server id events = record {
   server_id = id;
@@ -66,7 +66,7 @@ pub record WholeTexts : Type 0 where
   pub nothing : script_of [] ≡ Ok (script_of_server (pos 1) [])
   pub one_event : script_of (with_newline (codes "server 3") ++ with_newline (codes "leader up")) ≡ Ok
       (script_of_server (pos 3) (LeaderUp ∷ []))
-  -- the first bad line is named: the third, where a setting stands twice
+  -- The number of the first bad line is 3: it repeats a setting.
   pub twice : script_of (with_newline (codes "primed") ++ with_newline [] ++ codes "primed") ≡ Err 3
-  -- and the second, where one stands behind an event
+  -- The number is 2: the line is a setting after an event.
   pub late : script_of (with_newline (codes "checkpoint") ++ with_newline (codes "server 3") ++ codes "what") ≡ Err 2

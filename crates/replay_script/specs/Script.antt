@@ -1,4 +1,4 @@
--- Which script a text is.
+-- The script of a text.
 use Rattle.std.specs.Prelude.{ℕ, ◌+◌, ◌==◌, ◌&&◌, not, Bool, true, false, List, [], ◌∷◌, ◌++◌, Option, Some, None, is_some, Result, Ok, Err, unwrap_or, if◌then◌else◌}
 use Rattle.std.specs.List.{slice_split}
 use Rattle.settings.specs.Settings.{default_server_id, default_epochs, default_timeouts, default_secret}
@@ -11,18 +11,18 @@ use Rattle.replay_script.specs.declared.event.Line.TheVariants.{Blank, Header, H
 use Rattle.replay_script.specs.declared.script.Script.{Script}
 use Rattle.replay_script.specs.declared.script.Settings.{Settings}
 
--- lines end with LF, which the last one may lack
+-- Lines end with LF; the last one may lack it.
 abbrev pub lines_of : List ℕ → List (List ℕ)
 lines_of text = slice_split (λ b. b == 10) text
 
--- ---- what lines say together
+-- ---- the meaning of lines together
 
--- the settings, as far as a line has set them, and the events in order
+-- The settings, as far as a line has set them, and the events in order.
 pub record PartialScript : Type 0 where
   pub settings : Settings
   pub events : List ScriptEvent
 
--- what no line says
+-- Before any line.
 abbrev pub empty_script : PartialScript
 empty_script = record {
   settings = record { server = None; epochs = None; timeouts = None; secret = None; primed = false };
@@ -47,7 +47,7 @@ abbrev pub is_empty : {A : Type 0} → List A → Bool
 is_empty [] = true
 is_empty (x ∷ xs) = false
 
--- a setting stands once, and before each event
+-- A setting occurs once, and before each event.
 abbrev pub is_line_allowed : PartialScript → Line → Bool
 is_line_allowed kept Blank = true
 is_line_allowed kept (Header setting) = is_empty kept.events && not (is_set setting kept.settings)
@@ -58,7 +58,7 @@ with_line kept Blank = kept
 with_line kept (Header setting) = record kept { settings = with_setting kept.settings setting }
 with_line kept (Happening event) = record kept { events = kept.events ++ event ∷ [] }
 
--- nothing, where this is no line of the language, or may not stand here
+-- None, if this isn't a valid line, or isn't allowed here.
 abbrev pub with_read : PartialScript → Option Line → Option PartialScript
 with_read kept None = None
 with_read kept (Some line) = if is_line_allowed kept line then Some (with_line kept line) else None
@@ -66,7 +66,7 @@ with_read kept (Some line) = if is_line_allowed kept line then Some (with_line k
 abbrev pub with_text : PartialScript → List ℕ → Option PartialScript
 with_text kept text = with_read kept (line_of text)
 
--- with the defaults of what no line sets
+-- With defaults for what no line sets.
 abbrev pub script_with : PartialScript → Script
 script_with kept =
     let settings = kept.settings in
@@ -79,13 +79,13 @@ script_with kept =
       events = kept.events;
     }
 
--- ---- the script of a text, or the number of its first bad line, which are counted from 1
+-- ---- the script of a text, or the number of its first bad line, counted from 1
 
 abbrev pub or_bad : ℕ → Option PartialScript → (PartialScript → Result Script ℕ) → Result Script ℕ
 or_bad number None next = Err number
 or_bad number (Some kept) next = next kept
 
--- a fold over the lines, of which `count` were read before
+-- A fold over the lines, of which `count` were read before.
 abbrev pub script_after : ℕ → PartialScript → List (List ℕ) → Result Script ℕ
 script_after count kept [] = Ok (script_with kept)
 script_after count kept (text ∷ texts) =

@@ -1,16 +1,16 @@
-//! A text, cut at the first place of a byte.
+//! Cutting a text at the first occurrence of a byte.
 
 ghost use Rattle.std.specs.Prelude.{◌≡◌, ◌==◌, position};
 ghost use Rattle.replay_script.specs.Cut.{cut_at};
 
 use values::Bytes;
 
-/// A text in two.
+/// The two parts of a text.
 #[derive(Drop)]
 pub struct Cut<'a> {
-    /// What stands before the first place of the byte, or the whole text.
+    /// The text before the first occurrence of the byte, or the whole text.
     pub front: Bytes<'a>,
-    /// What stands behind that place, if there is one.
+    /// The text after that occurrence, if there is one.
     pub behind: Option<Bytes<'a>>,
 }
 
@@ -20,7 +20,7 @@ fn place_of(byte: u8, text: &[u8]) -> Option<usize>
     text.iter().position(|b| *b == byte)
 }
 
-/// Cuts a text at the first place of a byte.
+/// Cuts a text at the first occurrence of a byte.
 pub fn cut_at(byte: u8, text: &[u8]) -> Cut<'_>
     ensures { result ≡ cut_at byte text.now }
 {

@@ -10,7 +10,7 @@ use std::alloc::Global;
 use std::marker::Model;
 use values::{Listed, NoMemory};
 
-/// What the lines of a script have said so far.
+/// The settings and events of the lines read so far.
 #[derive(Drop)]
 pub struct Draft {
     settings: Settings,
@@ -94,8 +94,8 @@ impl Draft {
         Ok(())
     }
 
-    /// Takes the next line, and answers whether it is a line of the language that may stand there. Where memory is
-    /// refused the draft is only to be dropped.
+    /// Takes the next line, and returns whether it is a valid line that is allowed here. After a refused allocation the
+    /// draft is unspecified, and the caller drops it.
     pub fn take_line(&mut self, alloc: Global, text: &[u8]) -> Result<bool, NoMemory>
         ensures { IfOk result
             (λ taken. with_text self.old text.now ≡ (if taken then Some self.new else None)) }
@@ -112,7 +112,7 @@ impl Draft {
         }
     }
 
-    /// The script, with the defaults of what no line has set.
+    /// The script, with defaults for what no line has set.
     pub fn finish(self, alloc: Global) -> Script
         ensures { result ≡ script_with self }
     {

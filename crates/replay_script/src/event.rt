@@ -1,4 +1,4 @@
-//! What a script says.
+//! The lines of a script.
 
 use settings::{Epochs, Secret, ServerId, TimeoutBounds};
 use values::Blob;
@@ -18,13 +18,13 @@ pub enum ScriptEvent {
     ClientBytes(u64, Blob),
     /// `client N end`
     ClientEnd(u64),
-    /// `expire HEX`: the session of this id has expired.
+    /// `expire HEX`: the session with this id has expired.
     Expire(i64),
     /// `checkpoint`
     Checkpoint,
 }
 
-/// What a header line sets.
+/// A header line.
 #[derive(Debug, Drop)]
 pub enum Setting {
     /// `server N`
@@ -39,7 +39,7 @@ pub enum Setting {
     Primed,
 }
 
-/// What a line says.
+/// A line of a script.
 #[derive(Debug, Drop)]
 pub enum Line {
     /// An empty line, or one that begins with `#`.
@@ -62,7 +62,7 @@ pub enum Keyword {
     Checkpoint,
 }
 
-/// What comes from a peer: its connection opens, bytes come, or it ends.
+/// What comes from a peer: its connection opens, sends bytes, or ends.
 #[derive(Drop)]
 pub enum Coming {
     Up,

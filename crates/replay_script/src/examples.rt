@@ -1,13 +1,13 @@
-//! What some lines and texts mean by the definitions, each worked out by the checker.
+//! The meaning of some lines and texts, evaluated from the definitions by the checker.
 
 ghost use Rattle.replay_script.specs.Rows.{GoodLines, BadLines, WholeTexts};
 
-/// Lines of the language.
+/// Valid lines.
 pub fn lines()
     ensures { GoodLines }
 {}
 
-/// Lines that are not of the language.
+/// Invalid lines.
 pub fn bad_lines()
     ensures { BadLines }
 {}

@@ -19,8 +19,8 @@ fn digit_of(byte: u8) -> Option<u8>
     }
 }
 
-/// The bytes that a text spells, two hexadecimal digits for each, if it spells at least one. Digits are of either
-/// case, and blanks are passed over.
+/// The bytes that a text spells, two hexadecimal digits for each; None if it spells none. Digits are of either case,
+/// and blanks are ignored. Fails only if an allocation is refused.
 pub fn read_hex(alloc: Global, text: &[u8]) -> Result<Option<Blob>, NoMemory>
     ensures { IfOk result (λ found. found ≡ bytes_of_hex text.now) }
 {
@@ -58,7 +58,7 @@ fn digit(value: u8) -> u8
     }
 }
 
-/// Appends bytes in lower-case hexadecimal digits. Where memory is refused, some of the digits may stand there.
+/// Appends bytes in lower-case hexadecimal digits. A refused allocation leaves some of the digits appended.
 pub fn put_hex(out: &mut Vec<u8>, bytes: &[u8]) -> Result<(), NoMemory>
     ensures { Puts result out.old.items (hex_digits bytes.now) out.new.items }
 {

@@ -1,8 +1,8 @@
-//! The script of a replay: a text whose lines are settings of an observer and events that come to it.
+//! The script of a replay: a text whose lines are settings of an observer and events for it.
 //!
-//! `parse` reads a whole text. A line is cut off at its line feed (`cut`), what it says is read (`line`, with `number`
-//! and `hex` for its words), and a draft keeps what all lines said so far (`draft`), refuses a setting that stands
-//! twice or behind an event, and becomes the script at the end, with the defaults of what no line has set.
+//! `parse` reads a whole text. A line is cut off at its line feed (`cut`) and read (`line`, with `number` and `hex` for
+//! its words). A draft collects the lines (`draft`), refuses a setting that occurs twice or after an event, and becomes
+//! the script at the end, with defaults for what no line has set.
 //!
 //! ```
 //! let script = parse(alloc, b"server 3\nleader up\n")?;   // server_id 3, all else by default, and one event
@@ -12,7 +12,7 @@
 //! };
 //! ```
 //!
-//! Which script a text is stands in `specs/Script.antt`, what a line says in `specs/Line.antt`; `specs/Rows.antt` has
+//! `specs/Script.antt` defines the script of a text, `specs/Line.antt` the meaning of a line; `specs/Rows.antt` has
 //! lines and texts that were worked out by hand.
 #![tactic(auto)]
 

@@ -177,7 +177,7 @@ fn is_text(bytes: &[u8]) -> bool
     }
 }
 
-/// What a line says, if it is a line of the language.
+/// The meaning of a line, or None if it isn't valid. Fails only if an allocation is refused.
 pub fn line_of(alloc: Global, text: &[u8]) -> Result<Option<Line>, NoMemory>
     ensures { IfOk result (λ line. line ≡ line_of text.now) }
 {

@@ -7,7 +7,7 @@ use crate::cut::cut_at;
 
 const INT_MAX: u32 = i32::MAX as u32;
 
-/// The number that a text spells in decimal digits, if it spells one that is not above the limit.
+/// The number that a text spells in decimal digits; None if it spells none, or one above the limit.
 pub fn number_up_to(limit: u32, text: &[u8]) -> Option<u32>
     ensures { result ≡ number_up_to limit text.now }
 {
@@ -27,7 +27,7 @@ pub fn number_up_to(limit: u32, text: &[u8]) -> Option<u32>
     Some(number as u32)
 }
 
-/// The number that a text spells, if it is that of an int.
+/// The number that a text spells, if it fits an int.
 pub fn int_of(text: &[u8]) -> Option<i32>
     ensures { result ≡ int_of text.now }
 {
@@ -35,7 +35,7 @@ pub fn int_of(text: &[u8]) -> Option<i32>
     Some(number as i32)
 }
 
-/// Two ints, one blank between them.
+/// Two ints with one blank between them.
 pub fn ints_of(text: &[u8]) -> Option<(i32, i32)>
     ensures { result ≡ ints_of text.now }
 {

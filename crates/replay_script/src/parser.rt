@@ -11,10 +11,10 @@ use std::alloc::Global;
 use thiserror::Error;
 use values::{Bytes, NoMemory};
 
-/// Why a text is no script.
+/// The reason why a text isn't a script.
 #[derive(Clone, Copy, Debug, PartialEq, Eq, Error)]
 pub enum ScriptError {
-    /// A growth was refused.
+    /// An allocation was refused.
     #[error("no memory")]
     NoMemory,
     /// The number of the first bad line; every line counts, from 1.
@@ -30,7 +30,7 @@ impl From<NoMemory> for ScriptError {
     }
 }
 
-/// Reads a script.
+/// Reads a script. Fails with [`ScriptError`].
 pub fn parse(alloc: Global, text: &[u8]) -> Result<Script, ScriptError>
     ensures script { IfOk result (λ script. script_of text.now ≡ Ok script) }
     ensures bad_line { (number : ℕ) → result ≡ Err (ScriptError.BadLine number)

@@ -11,12 +11,12 @@ pub struct Script {
     pub epochs: Epochs,
     pub timeouts: TimeoutBounds,
     pub secret: Secret,
-    /// Whether the observer is to serve from the start.
+    /// Whether the observer serves from the start.
     pub primed: bool,
     pub events: Listed<ScriptEvent>,
 }
 
-/// What header lines have set so far.
+/// The settings of the header lines so far.
 #[derive(Drop)]
 pub struct Settings {
     pub server: Option<ServerId>,

@@ -1,7 +1,7 @@
 //! Tests of scripts and of replays, over the public calls of `replay_script` and `replay`.
 //!
-//! The calls stand behind helper functions without clauses: a test looks at what a call answers when it runs, so its
-//! proof needs to know nothing of that.
+//! The calls are in helper functions without contracts: a test looks at the result of a call when it runs, so its proof
+//! needn't know it.
 #![tactic(auto)]
 
 use auditing::audit_on;
@@ -56,7 +56,7 @@ pub fn audited<R: Read, W: Write, E: Write>(
     audit_on(alloc, reader, path, writer, errors)
 }
 
-/// What a source names: a file, and `-` for standard input.
+/// The name of a source: a file's, and `-` for standard input.
 pub fn file_of(source: Source<'_>) -> &str {
     match source {
         Source::Input => "-",
@@ -64,7 +64,7 @@ pub fn file_of(source: Source<'_>) -> &str {
     }
 }
 
-/// What a command line names: what is replayed or audited, and the path of an audit. Each is empty where there is none.
+/// The script of a command line, replayed or audited, and the path of an audit. Each is empty if there is none.
 pub fn named(words: &[String]) -> (&str, &str) {
     match command_of(words) {
         None => ("", ""),

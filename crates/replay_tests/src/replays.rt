@@ -37,7 +37,7 @@ impl Write for Full {
     }
 }
 
-// A writer whose bytes never arrive.
+// A writer whose bytes are lost.
 #[derive(Drop)]
 struct Lost;
 

@@ -1,4 +1,4 @@
--- What is taken: one act behind the other, and what is left of a refused item.
+-- Taking an item: its acts in order, and what a refused item leaves.
 use Rattle.std.proofs.Common.{◌≡◌, List, [], ◌∷◌, ◌++◌, Option, Some, None, Result, Ok, Err, false, refl, sym, ap, subst, ◌∙◌, slice_get, length, ◌-◌, suc, arith, ◌⊎◌, inl, inr}
 use Rattle.std.specs.Prelude.{IfOk}
 use Rattle.std.specs.List.{AllByRecursion, flat_map}
@@ -27,9 +27,9 @@ use Rattle.replica.specs.Taking.{ItemEffect, nothing_loaded, no_effect, last_txn
 use Rattle.replica.specs.Inner.{with_triggers, is_part_load, IsPartAlone}
 use Rattle.replica.specs.declared.item_outcome.ItemOutcome.{ItemOutcome}
 
--- ---- a part stands alone
+-- ---- a part is the only act of its item
 
--- where a part is the first that is left, nothing was done before it
+-- Where a part is the first act that is left, no act was done before it.
 abbrev pub Kept : List Act → Loading → Replica → Loading → Replica → Type 0
 Kept (act.LoadPart p ∷ acts) loading r first-loading first = (loading ≡ first-loading) × (r ≡ first)
 Kept acts loading r first-loading first = Unit {0}
@@ -53,7 +53,7 @@ others-kept [] loading r first-loading first h = tt
 others-kept (act.LoadPart p ∷ acts) loading r first-loading first h = cc (h.0)
 others-kept (a ∷ acts) loading r first-loading first h = tt
 
--- no part stands behind the first act
+-- No part comes after the first act.
 rest-others : (a : Act) (acts : List Act) → IsPartAlone (a ∷ acts) → AllByRecursion IsOther acts
 rest-others (act.LoadPart p) acts h = subst (AllByRecursion IsOther) (sym h) tt
 rest-others a acts h = h.1
@@ -68,9 +68,9 @@ pub kept-rest : (acts : List Act) (a : Act) (rest : List Act) → acts ≡ a ∷
 kept-rest acts a rest e h loading r first-loading first =
     others-kept rest loading r first-loading first (rest-others a rest (subst IsPartAlone e h))
 
--- ---- one act behind the other
+-- ---- one act after another
 
--- one more was carried out
+-- One more act was carried out.
 pub carried-on : (t u : ItemEffect) (acts : List Act) (a : Act) (rest : List Act) (whole : Result ItemEffect Fault)
     → acts ≡ a ∷ rest → carry_out_all t acts ≡ whole → carry_out t a ≡ Ok u → carry_out_all u rest ≡ whole
 carried-on t u acts a rest whole is e one =
@@ -81,14 +81,14 @@ pub carried-none : (t : ItemEffect) (acts : List Act) (whole : Result ItemEffect
     → carry_out_all t acts ≡ whole → whole ≡ Ok t
 carried-none t acts whole is e = sym e ∙ ap (carry_out_all t) is
 
--- only a part is refused
+-- Only a part is refused.
 only-a-part : (a : Act) (t : ItemEffect) (rest : List Act) (first-loading : Loading) (first : Replica) (e : Fault)
     → Kept (a ∷ rest) t.loading t.replica first-loading first → carry_out t a ≡ Err e
     → (t.loading ≡ first-loading) × (t.replica ≡ first)
 only-a-part (act.LoadPart p) t rest first-loading first e k refused = k
 only-a-part a t rest first-loading first e k refused = cc
 
--- one was refused: so is the whole, and nothing changed
+-- An act was refused: so is the item, and nothing changed.
 pub carried-refused : (t u : ItemEffect) (acts : List Act) (a : Act) (rest : List Act) (whole : Result ItemEffect Fault)
     (first-loading : Loading) (first : Replica) (e : Fault) → acts ≡ a ∷ rest → carry_out_all t acts ≡ whole
     → Kept acts t.loading t.replica first-loading first → carry_out t a ≡ Err e → u ≡ t
@@ -119,7 +119,7 @@ last-is (u ∷ v ∷ log) t e =
     let at : length (u ∷ v ∷ log) - 1 ≡ suc (length (v ∷ log) - 1) = omega arith in
     last-is (v ∷ log) t (e ∙ ap (slice_get (u ∷ v ∷ log)) at)
 
--- it was meant on the tree
+-- It was applied to the tree.
 pub applied-last : (r : Replica) (triggers : List Trigger) (log : List Txn) (t : Txn) (tree : State) (outcome : Outcome)
     → log ≡ r.learner.log → Some t ≡ slice_get log (length log - 1) → tree ≡ (effect_of_txn r.tree t).state
     → outcome ≡ answer_of (effect_of_txn r.tree t)
@@ -131,7 +131,7 @@ applied-last r triggers log t tree outcome is last state answer =
     ∙ ap (λ (s : State). with_triggers (effect_of_txn r.tree t).triggers (record r { tree = s })) (sym state)
     ∙ ap (λ (o : Outcome). with_triggers o.triggers (record r { tree = tree })) (sym answer)
 
--- ---- what is learnt tells that a part stands alone
+-- ---- a part that is learnt is the only act of its item
 
 other-of : (a : Act) → is_only_act a ≡ false → IsOther a
 other-of (act.LoadPart p) h = cc
@@ -141,7 +141,7 @@ others-of : (acts : List Act) → AllByRecursion (λ a. is_only_act a ≡ false)
 others-of [] h = tt
 others-of (a ∷ acts) h = (other-of a h.0, others-of acts h.1)
 
--- a part is all that is to be done, and leaves the learner
+-- A part is the only act, and leaves the learner.
 abbrev OnlyAPart : List Act → Learner → Learner → Type 0
 OnlyAPart acts l after = (p : ImagePart) × (acts ≡ act.LoadPart p ∷ []) × (after ≡ l)
 
@@ -204,7 +204,7 @@ module _ (tells : ActsAccountForLog) (loading : Loading) (r : Replica) (i : Item
   pub item-alone : IsPartAlone acts
   item-alone = tells-alone acts r.learner learnt.learner (tells.tells r.learner i x is)
 
-  -- what was learnt is carried out
+  -- What was learnt is carried out.
   carried-out : take_item loading r i ≡ carry_out_all (no_effect loading learnt) acts
   carried-out =
       ap (λ (y : Result LearnerStep Fault). y >>= λ x. carry_out_all (no_effect loading (with_learner r x)) x.acts) is
@@ -277,7 +277,7 @@ pub item-written : (tells : ActsAccountForLog) (loading : Loading) (r : Replica)
 item-written tells loading r i (Ok b) loading-after r-after t w = subst Written t (take-written tells loading r i w)
 item-written tells loading r i (Err e) loading-after r-after t w = tt
 
--- ---- what introduces the replica
+-- ---- the packet that introduces the replica
 
 pub sent-written : (acts : List Act) → AllByRecursion CanBeDone acts → AreWritable (flat_map packets_of_act acts)
 sent-written [] h = tt

@@ -21,7 +21,7 @@ use Rattle.replica.specs.Replica.{Replica}
 use Rattle.replica.specs.Taking.{ItemEffect, nothing_loaded, no_effect, last_txn, apply_to_tree, carry_out_all, take_item, is_serving_in, checkpoint_if}
 use Rattle.replica.specs.Laws.{FollowsItsLog, LogsAreFollowed}
 
--- ---- one transaction more
+-- ---- one more transaction
 
 after-push : (s : State) (log : List Txn) (t : Txn)
     → state_after s (log ++ t ∷ []) ≡ (effect_of_txn (state_after s log) t).state
@@ -35,12 +35,12 @@ last-push (u ∷ v ∷ log) t = last-push (v ∷ log) t
 
 -- ---- what is carried out
 
--- the replica that is left follows
+-- The replica after a result that isn't refused follows its log.
 abbrev Follows : Result ItemEffect Fault → Type 0
 Follows (Ok t) = FollowsItsLog t.replica
 Follows (Err e) = Unit {0}
 
--- what doesn't stand alone leaves the replica
+-- Acts that needn't be the only one leave the replica.
 stays : (t : ItemEffect) (acts : List Act) → AllByRecursion (λ a. is_only_act a ≡ false) acts → FollowsItsLog t.replica
     → Follows (carry_out_all t acts)
 stays t [] h f = f
@@ -94,7 +94,7 @@ module _ (loading : Loading) (r : Replica) (l : Learner) (is : r.tree ≡ state_
   done (act.Truncate zxid ∷ a ∷ acts) tell = stays begun (act.Truncate zxid ∷ a ∷ acts) tell.2 (same-log tell.0)
   done (act.LoadImage ∷ a ∷ acts) tell = stays begun (act.LoadImage ∷ a ∷ acts) tell.2 (same-log tell.0)
 
--- ---- all of it
+-- ---- every item
 
 module _ (learners : LearnersFollow) (tells : ActsAccountForLog) where
   takes-follow : (loading : Loading) (r : Replica) (i : Item) → FollowsItsLog r → Follows (take_item loading r i)

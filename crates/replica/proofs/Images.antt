@@ -28,13 +28,13 @@ use Rattle.replica.specs.Replica.{Replica}
 use Rattle.replica.specs.Taking.{ItemEffect, nothing_loaded, no_effect, last_txn, apply_to_tree, rebuild_tree, carry_out_all, with_learner, take_item, loading_of, take_whole}
 use Rattle.replica.specs.Laws.{awaits_image_in, awaits_image, with_given_loading, ImagesComeInParts}
 
--- what is learnt is done
+-- The acts that were learnt are done.
 abbrev carried : Loading → Replica → Result LearnerStep Fault → Result ItemEffect Fault
 carried loading r learnt = learnt >>= λ x. carry_out_all (no_effect loading (with_learner r x)) x.acts
 
 -- ---- packets
 
--- what doesn't concern an image leaves alone what is loaded
+-- Acts that don't concern an image leave the image that is being loaded.
 apart : (loading : Loading) (t : ItemEffect) (acts : List Act) → AllByRecursion (λ a. is_of_image a ≡ false) acts
     → carry_out_all (with_given_loading loading t) acts
     ≡ (carry_out_all t acts >>= λ u. Ok (with_given_loading loading u))

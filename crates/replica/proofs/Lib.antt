@@ -1,8 +1,8 @@
--- the tree is the base with the log applied
+-- The tree is the base with the log applied.
 pub mod Following
--- images, part by part
+-- Images, part by part.
 pub mod Images
--- what is taken
+-- Taking an item.
 pub mod Carrying
--- clients that are served stay so
+-- Clients that are served stay served.
 pub mod Serving

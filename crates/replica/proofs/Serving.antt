@@ -1,4 +1,4 @@
--- Clients that are served stay so, whatever is taken.
+-- Clients that are served stay served, whatever item is taken.
 use Rattle.std.proofs.Common.{◌≡◌, List, [], ◌∷◌, ◌++◌, Option, Some, None, Result, Ok, Err, true, refl, ap, subst, ◌∙◌, ◌⊎◌, inl, inr}
 use Rattle.values.specs.declared.fault.Fault.{Fault}
 use Rattle.jute.specs.Format.{◌>>=◌}
@@ -14,12 +14,12 @@ use Rattle.learner_sync.specs.declared.phase.Phase.TheVariants as phase
 use Rattle.replica.specs.Taking.{ItemEffect, nothing_loaded, no_effect, last_txn, apply_to_tree, with_image_state, rebuild_tree, carry_out_all, with_learner, is_serving_in, is_serving}
 use Rattle.replica.specs.Laws.{ServingStays}
 
--- clients are served by what is left, if it isn't refused
+-- After a result that isn't refused clients are served.
 abbrev Serves : Result ItemEffect Fault → Type 0
 Serves (Ok t) = is_serving t.replica ≡ true
 Serves (Err e) = Unit {0}
 
--- no act changes what the learner knows
+-- No act changes whether clients are served.
 carried-serves : (t : ItemEffect) (acts : List Act) → is_serving t.replica ≡ true → Serves (carry_out_all t acts)
 carried-serves t [] s = s
 carried-serves t (act.Send p ∷ acts) s = carried-serves (record t { replies = t.replies ++ p ∷ [] }) acts s
@@ -45,7 +45,7 @@ carried-serves t (act.Truncate zxid ∷ acts) s = carried-serves (rebuild_tree t
 carried-serves t (act.Epochs ∷ acts) s = carried-serves t acts s
 carried-serves t (act.ServeFrom ∷ acts) s = carried-serves t acts s
 
--- what is learnt leaves the phase
+-- Learning leaves the phase.
 phase-of : (ph : Phase) → is_serving_in ph ≡ true → ph ≡ phase.Serving
 phase-of phase.Serving s = refl
 phase-of ph s = cc

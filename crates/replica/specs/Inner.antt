@@ -1,4 +1,4 @@
--- What private calls promise.
+-- The contracts of the private functions.
 use Rattle.std.specs.Prelude.{◌≡◌, Bool, true, false, List, [], ◌∷◌, Result, Ok, Err}
 use Rattle.std.specs.List.{AllByRecursion}
 use Rattle.values.specs.declared.fault.Fault.{Fault}
@@ -12,17 +12,17 @@ use Rattle.learner_sync.specs.declared.act.Act.TheVariants as act
 use Rattle.replica.specs.Replica.{Replica}
 use Rattle.replica.specs.Taking.{ItemEffect, nothing_loaded, carry_out}
 
--- a replica, and what watchers are told
+-- A replica and the triggers so far.
 abbrev pub with_triggers : List Trigger → Replica → ItemEffect
 with_triggers triggers r = record { replies = []; triggers = triggers; loading = nothing_loaded; replica = r }
 
--- what is to be done, and the replica that knows more; or the replica is as it was
+-- The acts, and the replica with the learner after the item; or the replica is as it was.
 abbrev pub UpdatesLearner : Result (List Act) ReadError → Result LearnerStep Fault → Replica → Replica → Type 0
 UpdatesLearner (Ok acts) learned old new =
     (learned ≡ Ok (record { acts = acts; after = new.learner })) × (new ≡ record old { learner = new.learner })
 UpdatesLearner (Err e) learned old new = IsFailureOf e learned × (new ≡ old)
 
--- one act was carried out; or it is refused for its fault, and nothing changed
+-- One act was carried out; or it is refused for its fault, and nothing changed.
 abbrev pub CarriesOutAct : Result (Unit {0}) ReadError → Act → ItemEffect → ItemEffect → Type 0
 CarriesOutAct (Ok u) a old new = carry_out old a ≡ Ok new
 CarriesOutAct (Err (errors.Fault e)) a old new = (carry_out old a ≡ Err e) × (new ≡ old)
@@ -32,7 +32,7 @@ abbrev pub is_part_load : Act → Bool
 is_part_load (act.LoadPart p) = true
 is_part_load a = false
 
--- a part to load is all that is to be done
+-- A part to load is the only act.
 abbrev pub IsPartAlone : List Act → Type 0
 IsPartAlone (act.LoadPart p ∷ acts) = acts ≡ []
 IsPartAlone acts = AllByRecursion (λ a. is_part_load a ≡ false) acts

@@ -1,4 +1,4 @@
--- What holds of every replica, at the start and whatever its leader sends.
+-- What holds for every replica, at the start and whatever its leader sends.
 use Rattle.std.specs.Prelude.{◌≡◌, ℤ, Bool, true, false, Some, Ok}
 use Rattle.settings.specs.Settings.{EpochPair}
 use Rattle.jute.specs.Format.{◌>>=◌}
@@ -21,12 +21,12 @@ use Rattle.replica.specs.Taking.{ItemEffect, no_effect, nothing_loaded, take_ite
 
 -- ---- the tree and the log
 
--- The tree is what the log makes of the base, and the log's zxids rise up to the last zxid.
+-- The tree is the base with the log applied, and the log's zxids ascend up to the last zxid.
 pub record FollowsItsLog (r : Replica) : Type 0 where
   pub tree : r.tree ≡ state_after r.base r.learner.log
   pub learner : LearnerFollows r.learner
 
--- it is so at the start, and nothing that a leader does ends it
+-- This holds at the start, and nothing that a leader does ends it.
 pub record LogsAreFollowed : Type 0 where
   pub made : (epochs : EpochPair) → FollowsItsLog (new_replica epochs)
   pub primed : FollowsItsLog primed_replica
@@ -39,7 +39,7 @@ pub record LogsAreFollowed : Type 0 where
 
 -- ---- images
 
--- an image may come: one was announced, or it is passed over
+-- An image may come: one was announced, or it will be dropped.
 abbrev pub awaits_image_in : Phase → Bool
 awaits_image_in phase.Hello = false
 awaits_image_in phase.Sync = false
@@ -48,32 +48,32 @@ awaits_image_in phase = true
 abbrev pub awaits_image : Replica → Bool
 awaits_image r = awaits_image_in r.learner.phase
 
--- what is taken of an image, whatever else was loaded before
+-- What is taken of an image, whatever was loaded before.
 abbrev pub with_given_loading : Loading → ItemEffect → ItemEffect
 with_given_loading loading t = record t { loading = loading }
 
--- an image behind its packet is loaded part by part, apart from the tree; its end does what the whole image does
+-- An image that was announced is loaded part by part, apart from the tree; its end does what the whole image does.
 pub record ImagesComeInParts : Type 0 where
-  -- a packet leaves alone what is loaded
+  -- A packet leaves the image that is being loaded.
   pub packets : (loading : Loading) (r : Replica) (p : QuorumPacket)
       → take_item loading r (item.Packet p) ≡ (take_whole r (OnePacket p) >>= λ t. Ok (with_given_loading loading t))
-  -- behind a SNAP packet an image may come
+  -- After a SNAP packet an image may come.
   pub announced : (loading : Loading) (r : Replica) (p : QuorumPacket) (t : ItemEffect)
       → kind_of p.kind ≡ Some kinds.Snap
       → take_item loading r (item.Packet p) ≡ Ok t → awaits_image t.replica ≡ true
-  -- a part before the end changes nothing but what is loaded
+  -- A part before the end changes only the image that is being loaded.
   pub inner : (loading : Loading) (r : Replica) (p : ImagePart) → awaits_image r ≡ true → is_end (Part p) ≡ false
       → take_item loading r (item.Part p) ≡ (with_loaded loading p >>= λ loaded. Ok (no_effect loaded r))
-  -- and the end is where the image takes effect
+  -- The image takes effect at its end.
   pub ends : (loading : Loading) (r : Replica) → awaits_image r ≡ true
       → take_item loading r (item.Part part.End) ≡ take_whole r (OneImage loading.made.state)
-  -- which leaves nothing loaded
+  -- After the end no image is being loaded.
   pub unloads : (loading : Loading) (r : Replica) (t : ItemEffect) → awaits_image r ≡ true
       → take_item loading r (item.Part part.End) ≡ Ok t → t.loading ≡ nothing_loaded
 
 -- ---- serving
 
--- clients that are served stay so, until the leader goes
+-- Clients that are served stay served until the leader is gone.
 abbrev pub ServingStays : Type 0
 ServingStays =
     (loading : Loading) (r : Replica) (i : Item) (t : ItemEffect) → is_serving r ≡ true → take_item loading r i ≡ Ok t

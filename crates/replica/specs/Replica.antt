@@ -7,18 +7,18 @@ use Rattle.data_tree.specs.Meaning.{fresh_state}
 use Rattle.learner_sync.specs.Learner.{Learner, new_learner, primed_learner}
 
 pub record Replica : Type 0 where
-  -- how far the leader was followed
+  -- How far the leader was followed.
   pub learner : Learner
-  -- the state to which the log leads back
+  -- The state that the log starts from.
   pub base : State
-  -- what a read shows
+  -- The tree that reads show.
   pub tree : State
 
--- before any leader
+-- Before any leader.
 abbrev pub new_replica : EpochPair → Replica
 new_replica epochs = record { learner = new_learner epochs; base = fresh_state; tree = fresh_state }
 
--- one that serves, in the first epoch
+-- A replica that serves in epoch 1.
 abbrev pub primed_replica : Replica
 primed_replica = record { learner = primed_learner; base = fresh_state; tree = fresh_state }
 

@@ -1,5 +1,5 @@
--- What a replica does because of its leader: it takes packets and the parts of images, and answers what goes to the
--- leader and what changed in the tree.
+-- What a replica does for its leader: it takes packets and the parts of images, and gives packets for the leader and
+-- the triggers of what changed in the tree.
 use Rattle.std.specs.Prelude.{◌≡◌, ℤ, Bool, true, false, List, [], ◌∷◌, ◌++◌, Option, Some, None, Result, Ok, Err}
 use Rattle.std.specs.List.{flat_map}
 use Rattle.std.specs.FinMap as finmap
@@ -25,17 +25,17 @@ use Rattle.learner_sync.specs.declared.phase.Phase.TheVariants as phase
 use Rattle.replica.specs.Replica.{Replica}
 use Rattle.replica.specs.declared.item_outcome.ItemOutcome.{ItemOutcome}
 
--- what was taken brings this
+-- What an item causes, and the state after it.
 pub record ItemEffect : Type 0 where
-  -- packets for the leader, in order
+  -- Packets to send to the leader, in order.
   pub replies : List QuorumPacket
-  -- what watchers are told, in order
+  -- Triggers for the watchers, in order.
   pub triggers : List Trigger
-  -- how much of an image is loaded
+  -- The image that is being loaded.
   pub loading : Loading
   pub replica : Replica
 
--- nothing of an image
+-- No image is being loaded.
 abbrev pub nothing_loaded : Loading
 nothing_loaded = record { made = no_loaded_parts; ended = false }
 
@@ -49,23 +49,23 @@ last_txn [] = None
 last_txn (t ∷ []) = Some t
 last_txn (t ∷ u ∷ log) = last_txn (u ∷ log)
 
--- a transaction is meant on the tree; an item brings one at most
+-- A transaction is applied to the tree; an item has one at most.
 abbrev pub apply_to_tree : ItemEffect → Option Txn → ItemEffect
 apply_to_tree t None = t
 apply_to_tree t (Some txn) =
     let meant = effect_of_txn t.replica.tree txn in
     record t { triggers = meant.triggers; replica = record t.replica { tree = meant.state } }
 
--- the image takes the tree's place, and is the base
+-- The image replaces the tree and is the base.
 abbrev pub with_image_state : ItemEffect → State → ItemEffect
 with_image_state t state =
     record t { loading = nothing_loaded; replica = record t.replica { base = state; tree = state } }
 
--- the tree is the base with the log applied
+-- The tree is the base with the log applied.
 abbrev pub rebuild_tree : ItemEffect → ItemEffect
 rebuild_tree t = record t { replica = record t.replica { tree = state_after t.replica.base t.replica.learner.log } }
 
--- only a part that is to be loaded can be refused
+-- Only a part to load can be refused.
 abbrev pub carry_out : ItemEffect → Act → Result ItemEffect Fault
 carry_out t (act.Send packet) = Ok (record t { replies = t.replies ++ packet ∷ [] })
 carry_out t act.Apply = Ok (apply_to_tree t (last_txn t.replica.learner.log))
@@ -76,7 +76,7 @@ carry_out t (act.Truncate zxid) = Ok (rebuild_tree t)
 carry_out t act.Epochs = Ok t
 carry_out t act.ServeFrom = Ok t
 
--- one behind the other
+-- The acts in order.
 abbrev pub carry_out_all : ItemEffect → List Act → Result ItemEffect Fault
 carry_out_all t [] = Ok t
 carry_out_all t (a ∷ others) = carry_out t a >>= λ u. carry_out_all u others
@@ -86,26 +86,26 @@ carry_out_all t (a ∷ others) = carry_out t a >>= λ u. carry_out_all u others
 abbrev pub with_learner : Replica → LearnerStep → Replica
 with_learner r x = record r { learner = x.after }
 
--- what is learnt of a packet or part is done at once
+-- The acts that are learnt from a packet or part are done at once.
 abbrev pub take_item : Loading → Replica → Item → Result ItemEffect Fault
 take_item loading r i = learn_item r.learner i >>= λ x. carry_out_all (no_effect loading (with_learner r x)) x.acts
 
--- an image that is loaded but for its end
+-- An image of which all but the end is loaded.
 abbrev pub loading_of : State → Loading
 loading_of state = record { made = record { state = state; lists = finmap.empty }; ended = false }
 
--- the same of packets and whole images: an image does what its end does where it is loaded
+-- The same for packets and whole images. An image does what its end does after its parts were loaded.
 abbrev pub take_whole : Replica → WholeItem → Result ItemEffect Fault
 take_whole r (OnePacket p) = take_item nothing_loaded r (item.Packet p)
 take_whole r (OneImage state) = take_item (loading_of state) r (item.Part part.End)
 
--- ---- a leader comes, and goes
+-- ---- a leader connects, and leaves
 
 abbrev pub packets_of_act : Act → List QuorumPacket
 packets_of_act (act.Send packet) = packet ∷ []
 packets_of_act a = []
 
--- the replica introduces itself
+-- The replica introduces itself.
 abbrev pub follow_leader : Replica → ℤ → ItemEffect
 follow_leader r server_id =
     let x = start_following r.learner server_id in
@@ -120,11 +120,11 @@ abbrev pub is_serving_in : Phase → Bool
 is_serving_in phase.Serving = true
 is_serving_in phase = false
 
--- clients are served once the leader has brought the replica up to date
+-- Clients are served once the leader has brought the replica up to date.
 abbrev pub is_serving : Replica → Bool
 is_serving r = is_serving_in r.learner.phase
 
--- what is served becomes the base
+-- The tree that is served becomes the base.
 abbrev pub checkpoint_if : Bool → Replica → Replica
 checkpoint_if true r = record r { learner = checkpoint_learner r.learner; base = r.tree }
 checkpoint_if false r = r
@@ -132,10 +132,10 @@ checkpoint_if false r = r
 abbrev pub checkpoint_replica : Replica → Replica
 checkpoint_replica r = checkpoint_if (is_serving r) r
 
--- ---- what calls answer and leave
+-- ---- the contract of `take`
 
--- An item was taken. Or it is refused for its fault, and loader and replica are as they were. Where memory is refused
--- they are only to be dropped.
+-- An item was taken. Or it is refused for its fault, and the loader and the replica are as they were. After a refused
+-- allocation both are unspecified.
 abbrev pub TakesItem : Result ItemOutcome ReadError → Result ItemEffect Fault → Loading → Replica → Loading → Replica
     → Type 0
 TakesItem (Ok brought) taken loading r loading-after r-after =

@@ -1,14 +1,14 @@
-//! What an item of the leader's stream brings.
+//! What an item of the leader's stream causes.
 
 use data_tree::Trigger;
 use quorum_packet::QuorumPacket;
 use values::Listed;
 
-/// What an item of the leader's stream brings.
+/// What an item of the leader's stream causes.
 #[derive(Debug, Drop)]
 pub struct ItemOutcome {
-    /// Packets for the leader, in order.
+    /// Packets to send to the leader, in order.
     pub replies: Listed<QuorumPacket>,
-    /// What watchers are told, in order.
+    /// Triggers for the watchers, in order.
     pub triggers: Listed<Trigger>,
 }

@@ -2,7 +2,7 @@
 
 ghost use Rattle.replica.specs.Laws.{LogsAreFollowed, ImagesComeInParts, ServingStays};
 
-/// The tree is the base with the log applied: at the start, and whatever is taken.
+/// The tree is the base with the log applied: at the start, and whatever the leader sends.
 pub fn logs()
     ensures { LogsAreFollowed }
 {
@@ -17,7 +17,7 @@ pub fn images()
     learner_sync::law::acts();
 }
 
-/// Clients that are served stay so, until the leader goes.
+/// Clients that are served stay served until the leader is gone.
 pub fn serving()
     ensures { ServingStays }
 {

@@ -1,4 +1,6 @@
-//! A tree that follows a leader.
+//! The replica: a tree that follows a leader.
+//!
+//! Laws that go over this: `Carrying`, `Following`, `Images`, `Serving`.
 
 ghost use Rattle.std.specs.Prelude.{◌≡◌, IfOk, OnOk};
 ghost use Rattle.std.specs.List.{AllByRecursion};
@@ -14,7 +16,7 @@ use std::alloc::Global;
 use std::marker::Model;
 use values::{Listed, NoMemory};
 
-/// A tree that follows a leader, with the base to which its log leads back.
+/// A tree that follows a leader, with the base that its log starts from.
 #[derive(Drop)]
 pub struct Replica {
     pub(crate) learner: Learner,
@@ -35,7 +37,8 @@ impl Model for Replica {
 }
 
 impl Replica {
-    /// One that followed no leader yet: the tree before any transaction.
+    /// A replica that hasn't followed a leader yet: the tree before any transaction. Fails only if an allocation is
+    /// refused.
     pub fn new(alloc: Global, epochs: Epochs) -> Result<Replica, NoMemory>
         ensures { IfOk result (λ r. r ≡ new_replica epochs) }
     {
@@ -46,7 +49,7 @@ impl Replica {
         })
     }
 
-    /// One that serves in the first epoch.
+    /// A replica that serves in epoch 1. Fails only if an allocation is refused.
     pub fn primed(alloc: Global) -> Result<Replica, NoMemory>
         ensures { IfOk result (λ r. r ≡ primed_replica) }
     {
@@ -64,7 +67,7 @@ impl Replica {
         &self.learner
     }
 
-    /// What a read shows.
+    /// The tree that reads show.
     pub fn tree(&self) -> &Tree
         ensures { result.now ≡ self.now.tree }
     {
@@ -86,7 +89,8 @@ impl Replica {
         }
     }
 
-    /// A leader is there: the packets by which the replica introduces itself.
+    /// A leader has connected. Returns the packet by which the replica introduces itself, or none while it has a
+    /// leader.
     pub fn start(
         &mut self,
         alloc: Global,
@@ -107,21 +111,22 @@ impl Replica {
         Ok(Listed::from_vec(replies))
     }
 
-    /// The leader is gone, or what it sent was refused.
+    /// The leader is gone, or what it sent was refused. The tree stays.
     pub fn end(&mut self)
         ensures { self.new ≡ without_leader self.old }
     {
         self.learner.end();
     }
 
-    /// While clients are served, the tree is the new base, and the log is empty. Otherwise nothing happens.
+    /// Makes the tree the new base and empties the log, while clients are served; otherwise does nothing. Fails only if
+    /// an allocation is refused.
     pub fn checkpoint(&mut self, alloc: Global) -> Result<(), NoMemory>
         ensures { OnOk result (self.new ≡ checkpoint_replica self.old) }
     {
         if !self.is_serving() {
             return Ok(());
         }
-        // The old base goes before the new one is made, so that both are never there.
+        // The old base is dropped before the new one is made, so that the two never take memory together.
         self.base = Tree::empty(alloc);
         self.base = self.tree.copy()?;
         self.learner.checkpoint();

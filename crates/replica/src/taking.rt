@@ -1,4 +1,6 @@
 //! The items of a leader's stream.
+//!
+//! Laws that go over this: `Carrying`, `Following`, `Images`, `Serving`.
 
 ghost use Rattle.std.specs.Prelude.{◌≡◌, OnOk, IfOk};
 ghost use Rattle.std.specs.List.{AllByRecursion};
@@ -20,14 +22,13 @@ use std::mem;
 use values::{Listed, NoMemory, ReadError};
 
 impl Replica {
-    // What is learnt of an item.
     fn learn(&mut self, alloc: Global, item: Item) -> Result<Listed<Act>, ReadError>
         ensures { UpdatesLearner result (learn_item self.old.learner item) self.old self.new }
     {
         self.learner.step(alloc, item)
     }
 
-    // The log's last transaction is meant on the tree.
+    // Applies the log's last transaction to the tree.
     fn apply_last(&mut self, alloc: Global, triggers: &mut Listed<Trigger>) -> Result<(), NoMemory>
         ensures { OnOk result
             (apply_to_tree (with_triggers triggers.old self.old) (last_txn self.old.learner.log)
@@ -41,7 +42,7 @@ impl Replica {
         Ok(())
     }
 
-    // What was loaded takes the tree's place, and is the base.
+    // The loaded image replaces the tree and is the new base.
     fn load_image(&mut self, alloc: Global, loader: &mut Loader) -> Result<(), NoMemory>
         ensures replica { OnOk result
             (self.new ≡ record self.old { base = loader.old.made.state; tree = loader.old.made.state }) }
@@ -50,22 +51,22 @@ impl Replica {
         match loader.part(alloc, ImagePart::End) {
             Ok(()) => {
                 let loaded = mem::replace(loader, Loader::new(alloc));
-                // Tree and base go before the new base is made, so that no more than two trees are there.
+                // Tree and base are dropped before the new base is made, so that no more than two trees take memory.
                 self.base = Tree::empty(alloc);
                 self.tree = loaded.finish();
                 self.base = self.tree.copy()?;
                 return Ok(());
             }
-            // The end goes with all parts: nothing but memory is refused.
+            // The end of an image fits all parts before it, so only an allocation can be refused.
             Err(_) => return Err(NoMemory),
         }
     }
 
-    // The tree is made of the base and the log.
+    // Rebuilds the tree from the base and the log.
     fn rebuild(&mut self, alloc: Global) -> Result<(), NoMemory>
         ensures { OnOk result (self.new ≡ record self.old { tree = state_after self.old.base self.old.learner.log }) }
     {
-        // The old tree goes first, so that no more than two are there.
+        // The old tree is dropped first, so that no more than two take memory.
         self.tree = Tree::empty(alloc);
         let mut tree = self.base.copy()?;
         for txn in self.learner.since_base() {
@@ -75,7 +76,6 @@ impl Replica {
         Ok(())
     }
 
-    // Does one thing that was learnt.
     fn carry_out(
         &mut self,
         alloc: Global,
@@ -102,7 +102,7 @@ impl Replica {
         }
     }
 
-    // Does what was learnt, in order.
+    // Does the acts in order.
     fn carry_out_all(
         &mut self,
         alloc: Global,
@@ -124,9 +124,12 @@ impl Replica {
         })
     }
 
-    /// Takes the next item of the leader's stream. The faults are those of `Learner::step`, and `BadImage` where a part
-    /// doesn't go with those before it. A refused item leaves loader and replica as they were. Where memory is refused,
-    /// they are only to be dropped.
+    /// Takes the next item of the leader's stream, and returns the packets for the leader and the triggers for
+    /// watchers.
+    ///
+    /// The faults are those of `Learner::step`, and `BadImage` if a part doesn't fit those before it. A refused item
+    /// leaves the loader and the replica as they were. After a refused allocation both are unspecified, and the caller
+    /// drops them.
     pub fn take(
         &mut self,
         alloc: Global,

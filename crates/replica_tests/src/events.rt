@@ -1,4 +1,4 @@
-//! What happens to a replica, and what is seen of it then.
+//! The events of a replica, and the view of it afterwards.
 
 use jute::{put_int, put_long};
 use quorum_packet::{Item, PacketKind, QuorumPacket};
@@ -8,22 +8,22 @@ use snapshot_codec::{ImagePart, ImageSession, Loader};
 use std::alloc::Global;
 use values::{Blob, Fault, NoMemory, ReadError};
 
-/// What happens to a replica. A zxid is told by its counter, and is of the first epoch.
+/// An event of a replica. A zxid is given by its counter, and is of epoch 1.
 #[derive(Clone, Copy)]
 pub enum Event {
-    /// A leader is there.
+    /// A leader connects.
     Comes,
-    /// It greets, in the first epoch.
+    /// It makes the handshake, in epoch 1.
     Greets,
-    /// It is gone.
+    /// It leaves.
     Goes,
     /// The tree becomes the base.
     Checkpoint,
     /// A packet of this kind and zxid, without data.
     Packet(PacketKind, u32),
-    /// An INFORM whose transaction makes this session, with this zxid.
+    /// An INFORM whose transaction creates this session, with this zxid.
     Session(i64, u32),
-    /// A part of an image that has this session.
+    /// A part of an image with this session.
     Part(i64),
     /// The end of an image.
     End,
@@ -36,29 +36,29 @@ pub enum Start {
     Primed,
 }
 
-/// What is seen of a replica behind some events.
+/// The view of a replica after some events.
 #[derive(Drop)]
 pub struct Seen {
-    /// How many packets each event sent that wasn't refused.
+    /// The number of packets sent by each event that wasn't refused.
     pub sent: Vec<usize>,
-    /// The fault for which the last refused one was refused.
+    /// The fault of the last event that was refused.
     pub refused: Option<Fault>,
     pub is_serving: bool,
     pub last_zxid: i64,
-    /// How many transactions the log has.
+    /// The number of transactions in the log.
     pub logged: usize,
-    /// How many nodes the tree has.
+    /// The number of nodes in the tree.
     pub nodes: usize,
     /// The tree's sessions, in their order.
     pub sessions: Vec<i64>,
 }
 
-/// The zxid of the first epoch with this counter.
+/// The zxid with this counter in epoch 1.
 pub fn at(counter: u32) -> i64 {
     0x1_0000_0000 + i64::from(counter)
 }
 
-// A packet for nobody's request.
+// A packet without authinfo.
 fn packet(kind: PacketKind, zxid: i64, bytes: Option<Blob>) -> Item {
     Item::Packet(QuorumPacket {
         kind: kind.code(),
@@ -68,7 +68,7 @@ fn packet(kind: PacketKind, zxid: i64, bytes: Option<Blob>) -> Item {
     })
 }
 
-// An INFORM whose transaction makes this session.
+// An INFORM whose transaction creates this session.
 fn session_comes(alloc: Global, session: i64, zxid: i64) -> Result<Item, NoMemory> {
     let mut bytes = Vec::new(alloc);
     put_long(&mut bytes, session)?;
@@ -80,13 +80,13 @@ fn session_comes(alloc: Global, session: i64, zxid: i64) -> Result<Item, NoMemor
     Ok(packet(PacketKind::Inform, zxid, Some(Blob::from_vec(bytes))))
 }
 
-// A leader of the first epoch says who it is, and which version of the protocol it speaks.
+// A leader of epoch 1 names its epoch and the version of the protocol.
 fn greeting(alloc: Global) -> Result<Item, NoMemory> {
     let version = Blob::new(alloc, b"\0\x01\0\0")?;
     Ok(packet(PacketKind::LeaderInfo, at(0), Some(version)))
 }
 
-// How many packets are sent because of the event.
+// The number of packets sent for the event.
 fn happen(
     alloc: Global,
     replica: &mut Replica,
@@ -121,7 +121,7 @@ fn sessions(alloc: Global, replica: &Replica) -> Result<Vec<i64>, NoMemory> {
     Ok(sessions)
 }
 
-// Does the events, one behind the other, and looks at what is there then.
+// Plays the events in order, and returns the view of the replica.
 fn play(
     alloc: Global,
     replica: &mut Replica,
@@ -148,7 +148,7 @@ fn play(
     })
 }
 
-/// What is seen of a replica that starts so, behind these events.
+/// The view of a replica that starts like this, after these events.
 pub fn after(alloc: Global, start: Start, events: &[Event]) -> Result<Seen, NoMemory> {
     let mut replica = match start {
         Start::New => Replica::new(alloc, Epochs::default())?,

@@ -1,4 +1,4 @@
-//! Packets, one behind the other.
+//! Packets, one after another.
 
 use crate::events::{Event, Start, after, at};
 use quorum_packet::PacketKind;
@@ -12,7 +12,7 @@ fn a_leader_comes_and_goes(rt: HostRuntime) -> Result<(), Fail> {
     Ok(())
 }
 
-// A leader greets, and sends a DIFF and a session.
+// The handshake of a leader, a DIFF and a session.
 const FOLLOWED: [Event; 4] = [
     Event::Comes,
     Event::Greets,
@@ -20,7 +20,7 @@ const FOLLOWED: [Event; 4] = [
     Event::Session(7, 1),
 ];
 
-// It says that all is there, too.
+// The leader says that the replica is up to date, too.
 const SERVED: [Event; 5] = [
     Event::Comes,
     Event::Greets,
@@ -44,7 +44,7 @@ fn clients_are_served_when_all_is_there(rt: HostRuntime) -> Result<(), Fail> {
     Ok(())
 }
 
-// A session that is the base's, and two more.
+// A session of the base, and two more.
 const THREE: [Event; 4] = [
     Event::Session(7, 1),
     Event::Checkpoint,
@@ -52,7 +52,7 @@ const THREE: [Event; 4] = [
     Event::Session(9, 3),
 ];
 
-// The leader goes behind them, and the next one asks for a truncation.
+// The leader leaves after them, and the next one asks for a truncation.
 const TRUNCATED: [Event; 8] = [
     Event::Session(7, 1),
     Event::Checkpoint,

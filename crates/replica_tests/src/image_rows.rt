@@ -5,7 +5,7 @@ use quorum_packet::PacketKind;
 use std::test::Fail;
 use values::Fault;
 
-// A leader greets, and sends a part of an image.
+// The handshake of a leader, and a part of an image.
 const BEGUN: [Event; 4] = [
     Event::Comes,
     Event::Greets,
@@ -33,12 +33,12 @@ const ENDED: [Event; 5] = [
 #[test]
 fn an_image_takes_effect_at_its_end(rt: HostRuntime) -> Result<(), Fail> {
     let ended = after(rt.alloc(), Start::New, &ENDED)?;
-    // The fresh tree is gone, and the image has no node.
+    // The fresh tree is replaced, and the image has no node.
     assert!(rt; ended.sessions.as_slice() == [9i64].as_slice() && ended.nodes == 0);
     Ok(())
 }
 
-// Another image comes behind it.
+// Another image comes after it.
 const ANOTHER: [Event; 7] = [
     Event::Comes,
     Event::Greets,
@@ -63,7 +63,7 @@ fn without_a_leader_an_image_is_passed_over(rt: HostRuntime) -> Result<(), Fail>
     Ok(())
 }
 
-// The session stands in the image already.
+// The session occurs in the image already.
 const DOUBLED: [Event; 5] = [
     Event::Comes,
     Event::Greets,

@@ -1,5 +1,5 @@
-//! Tests of `replica`, over its public calls. They stand apart, since a crate with tests is proved twice; and only
-//! `after` holds a replica, since each early end of a function that holds one is another drop of it to prove.
+//! Tests of `replica`, over its public calls. They are a crate of their own, since a crate with tests is proved twice.
+//! Only `after` holds a replica, since each early end of a function that holds one is another drop of it to prove.
 #![tactic(auto)]
 
 #[cfg(test)]

@@ -1,4 +1,4 @@
--- The lines in which it is recorded what came, as a script has them.
+-- The lines of a record, in the form of a script.
 use Rattle.std.specs.Prelude.{ℕ, ℤ, zero, suc, List, [], ◌∷◌, ◌++◌, codes, decimal}
 use Rattle.std.specs.Int.{w64, cast_unsigned, to_be_bytes}
 use Rattle.values.specs.Hex.{hex_digits}
@@ -8,11 +8,11 @@ use Rattle.intake.specs.declared.message.Message.TheVariants.{Up, Bytes, End, Ch
 abbrev pub line_end : List ℕ
 line_end = 10 ∷ []
 
--- a session's id, in 16 digits
+-- A session's id, in 16 hexadecimal digits.
 unfoldable pub session_digits : ℤ → List ℕ
 session_digits session = hex_digits (to_be_bytes w64 (cast_unsigned w64 session))
 
--- who sends it: the leader at port 0, a client by its number
+-- The sender: the leader at port 0, a client by its number.
 abbrev pub port_words : ℕ → List ℕ
 port_words zero = codes "leader "
 port_words (suc n) = codes "client " ++ decimal (suc n) ++ codes " "

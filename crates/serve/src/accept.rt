@@ -1,4 +1,4 @@
-//! The thread that takes connections.
+//! The thread that accepts connections.
 
 use intake::Waker as HubWaker;
 use mio::net::TcpListener;
@@ -19,16 +19,16 @@ const STOP: usize = 1;
 // How many connections may wait for the hub.
 const RING_LEN: usize = 1024;
 
-// The longest wait for a connection, in milliseconds: a wake that is lost costs no more than this.
+// The longest wait for a connection, in milliseconds; a wake that is lost costs no more than this.
 const LONGEST_WAIT: u64 = 1000;
 
-// How long it waits where the system has no descriptor left, or the hub no room, in milliseconds.
+// The pause when the system has no descriptor left, or the hub no room, in milliseconds.
 const PAUSE: u64 = 10;
 
-/// What the acceptor and the hub share.
+/// The state that the acceptor and the hub share.
 #[derive(Drop)]
 pub struct Door {
-    // How many connections of clients are open.
+    // The number of open client connections.
     open: AtomicU64,
     most: Option<u64>,
     stopped: AtomicBool,
@@ -49,15 +49,15 @@ impl Door {
         fits
     }
 
-    /// Counts a connection that has gone.
+    /// Counts a connection that has ended.
     pub fn leave(&self) {
         self.open.fetch_sub(1, Ordering::SeqCst);
     }
 
-    /// No connection is taken from now on.
+    /// Ends accepting connections.
     pub fn stop(&self) {
         self.stopped.store(true, Ordering::SeqCst);
-        // A waker that fails leaves the thread its longest wait.
+        // If the waker fails, the thread stops after its longest wait.
         let _ = self.waker.wake();
     }
 
@@ -66,7 +66,7 @@ impl Door {
     }
 }
 
-/// What the thread that takes connections has.
+/// The state of the thread that accepts connections.
 pub struct Acceptor {
     listener: TcpListener,
     poll: Poll,
@@ -99,7 +99,7 @@ pub struct Accepting {
     pub door: Arc<Door, Global>,
 }
 
-/// Makes ready to take connections, at most so many at a time.
+/// Prepares to accept connections, at most `most` at a time.
 pub fn open_door(
     net: &impl Net,
     alloc: Global,
@@ -137,7 +137,7 @@ pub fn open_door(
 }
 
 impl Acceptor {
-    // Hands a connection to the hub. Where the hub has no room it waits, unless it is to stop.
+    // Hands a connection to the hub. While the hub has no room it waits, unless it is to stop.
     fn hand_over<R: Wait + Clock>(&mut self, rt: &R, hub: &HubWaker, stream: TcpStream) {
         let mut stream = stream;
         for _ in rt.forever() {
@@ -154,12 +154,12 @@ impl Acceptor {
         hub.wake();
     }
 
-    // Takes the next connection, or waits for one.
+    // Accepts the next connection, or waits for one.
     fn accept_next<R: Wait + Clock>(&mut self, rt: &R, hub: &HubWaker) {
         match self.listener.accept() {
             Ok((stream, _)) => {
                 if self.door.enter() {
-                    // Without it an answer may wait for an acknowledgement, and that is all.
+                    // If this fails, an answer may wait for an acknowledgement, and nothing worse.
                     let _ = stream.set_nodelay(true);
                     self.hand_over(rt, hub, TcpStream::from(stream));
                 }
@@ -167,19 +167,19 @@ impl Acceptor {
             Err(error) => match error.kind() {
                 ErrorKind::WouldBlock => self.wait(),
                 ErrorKind::Interrupted | ErrorKind::ConnectionAborted => {}
-                // Such as out of descriptors: connections end, so there will be some again.
+                // For example, no descriptor is left. Connections will end and free some.
                 _ => thread::sleep(rt, Duration::from_millis(PAUSE)),
             },
         }
     }
 
     fn wait(&mut self) {
-        // Where the wait fails, the next look does what it would have waited for.
+        // If the wait fails, the next call accepts the connections for which it would have waited.
         let _ = self.poll.poll(&mut self.events, Some(Duration::from_millis(LONGEST_WAIT)));
     }
 }
 
-/// Takes connections until it is told to stop, and wakes the hub for each.
+/// Accepts connections until it is told to stop, and wakes the hub for each.
 pub fn accept_all<R: Wait + Clock>(rt: &R, acceptor: Acceptor, hub: &HubWaker) {
     let mut acceptor = acceptor;
     for _ in rt.forever() {

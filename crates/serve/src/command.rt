@@ -13,14 +13,14 @@ use std::sync::Wait;
 use std::thread::Threads;
 use std::time::Clock;
 
-// Connects to the leader. Its answers are small, so none waits for an acknowledgement.
+// Connects to the leader without delay (TCP_NODELAY): the observer's packets are small, and none is to wait for an
+// acknowledgement.
 fn connect<R: Net<Stream = TcpStream>>(rt: &R, address: &Address<'_>) -> io::Result<TcpStream> {
     let stream = TcpStream::connect(rt, (address.host, address.port))?;
     stream.set_nodelay(true)?;
     Ok(stream)
 }
 
-// Listens for clients.
 fn listen<R: Net>(rt: &R, address: &Address<'_>) -> io::Result<TcpListener> {
     let mut found = (address.host, address.port).to_socket_addrs(rt)?;
     match found.next() {
@@ -29,7 +29,7 @@ fn listen<R: Net>(rt: &R, address: &Address<'_>) -> io::Result<TcpListener> {
     }
 }
 
-// Opens the sockets, says at which port clients are served, and serves them.
+// Opens the sockets, prints the port for clients, and serves.
 fn run<
     R: Threads
         + Wait
@@ -66,12 +66,12 @@ fn run<
 }
 
 fn tell<R: Eprint>(rt: &R, failure: Failure) -> u8 {
-    // Where standard error can't be written, the status tells it alone.
+    // If standard error can't be written, only the status tells the failure.
     let _ = eprintln!(rt; "{failure}");
     failure.status()
 }
 
-/// Serves as the words after `serve` ask, and answers the exit status. Where it isn't 0, standard error is told why.
+/// Serves as the words after `serve` ask, and returns the exit status. If it isn't 0, the reason is on standard error.
 pub fn serve<
     R: Threads
         + Wait

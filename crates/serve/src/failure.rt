@@ -1,4 +1,4 @@
-//! Why a server could not be started, or has ended.
+//! Failures of a server.
 
 use std::alloc::{AllocError, AllocFailed};
 use std::io;
@@ -6,16 +6,16 @@ use std::io::ErrorKind;
 use thiserror::Error;
 use values::NoMemory;
 
-/// Why a server could not be started, or has ended before its leader did.
+/// The reason why a server couldn't be started, or ended before its leader did.
 #[derive(Clone, Copy, Debug, PartialEq, Eq, Error)]
 pub enum Failure {
-    /// The command line is none.
+    /// The command line is invalid.
     #[error("usage")]
     Usage,
-    /// A socket or a file could not be opened, or a file not be written.
+    /// A socket or a file couldn't be opened, or a file couldn't be written.
     #[error("cannot open")]
     Failed,
-    /// A growth was refused.
+    /// An allocation was refused.
     #[error("no memory")]
     NoMemory,
 }

@@ -1,4 +1,4 @@
-//! What the main thread does: it has the desk, and the threads of the connections.
+//! The main thread: it has the desk, and the threads of the connections.
 
 use crate::accept::Door;
 use crate::failure::Failure;
@@ -27,7 +27,7 @@ pub const CAPACITY: usize = 64;
 // The stack of a connection's thread, in bytes.
 const STACK: usize = 128 * 1024;
 
-// The hub's longest wait, in milliseconds: a wake that is lost costs no more than this.
+// The hub's longest wait, in milliseconds; a wake that is lost costs no more than this.
 const LONGEST_WAIT: u64 = 1000;
 
 // How many new connections are taken between two turns.
@@ -58,11 +58,10 @@ pub struct Hub<L, W> {
     door: Arc<Door, Global>,
     journal: Journal<L>,
     record: Record<W>,
-    // The leader's thread ended for want of memory.
+    // The leader's thread ended because an allocation was refused.
     wants_memory: bool,
 }
 
-// Starts the thread of the leader's connection.
 fn start_leader<R: Threads + Wait + Net + Clock + Copy + Send + 'static>(
     rt: &R,
     alloc: Global,
@@ -84,10 +83,9 @@ fn start_leader<R: Threads + Wait + Net + Clock + Copy + Send + 'static>(
     Ok(Leader { handle, bell })
 }
 
-// A port on its way to its thread. Where no thread can be started, it is still here.
+// A port that is handed to its thread. If no thread can be started, the port is still in here.
 type Handed = Arc<Mutex<Option<Port>>, Global>;
 
-// Starts the thread of a client's connection.
 fn start_client<R: Threads + Wait + Net + Clock + Copy + Send + 'static>(
     rt: &R,
     alloc: Global,
@@ -132,12 +130,13 @@ impl<L: Log, W: Write + Drop> Hub<L, W> {
         }
     }
 
-    /// What wakes this thread where it waits.
+    /// The waker of this thread.
     pub fn waker(&self) -> Result<Arc<HubWaker, Global>, NoMemory> {
         self.desk.waker()
     }
 
-    /// Follows the leader at the other end of the stream, which has port 0: so this comes first.
+    /// Follows the leader at the other end of the stream. The leader has port 0, so this is called before any client is
+    /// added.
     pub fn follow<R: Threads + Wait + Net + Clock + Copy + Send + 'static>(
         &mut self,
         rt: &R,
@@ -152,7 +151,6 @@ impl<L: Log, W: Write + Drop> Hub<L, W> {
         Ok(())
     }
 
-    // Serves a new connection.
     fn add_client<R: Threads + Wait + Net + Clock + Copy + Send + 'static>(
         &mut self,
         rt: &R,
@@ -183,7 +181,7 @@ impl<L: Log, W: Write + Drop> Hub<L, W> {
         }
     }
 
-    // Starts a client's thread, and keeps it under its number.
+    // Starts a client's thread, and stores it under its number.
     fn run_client<R: Threads + Wait + Net + Clock + Copy + Send + 'static>(
         &mut self,
         rt: &R,
@@ -200,7 +198,7 @@ impl<L: Log, W: Write + Drop> Hub<L, W> {
         }
     }
 
-    // Serves the connections that were taken since. Answers whether there was one.
+    // Serves the connections that were accepted since the last call, and returns whether there was one.
     fn take_new<R: Threads + Wait + Net + Clock + Copy + Send + 'static>(
         &mut self,
         rt: &R,
@@ -235,7 +233,7 @@ impl<L: Log, W: Write + Drop> Hub<L, W> {
         }
     }
 
-    // A turn of the desk, and what is told of it.
+    // Makes a turn of the desk, records it, and tells the threads.
     fn turn<R: Threads + Sync>(&mut self, rt: &R) -> Result<usize, NoMemory> {
         let turned = self.desk.turn(rt, &OpenGate);
         self.record.add(self.desk.fresh());
@@ -270,7 +268,8 @@ impl<L: Log, W: Write + Drop> Hub<L, W> {
         self.door.leave();
     }
 
-    // Joins the threads whose end the last turn took. All are rung first, so that none waits for the others.
+    // Joins the threads whose `End` the last turn took. All bells are rung first, so that no thread waits for the
+    // others.
     fn join_ended<R: Threads>(&mut self, rt: &R) {
         self.ring_each(self.desk.ended());
         for place in 0..self.desk.ended().len() {
@@ -305,7 +304,7 @@ impl<L: Log, W: Write + Drop> Hub<L, W> {
         Ok(())
     }
 
-    // Ends the clients' connections: each thread comes to the end of its stream, and its end is taken.
+    // Ends the clients' connections: each thread reaches the end of its stream, and its `End` is taken.
     fn end_clients<R: Threads + Wait + Sync>(&mut self, rt: &R) -> Result<(), NoMemory> {
         for client in self.clients.values() {
             client.bell.stop();
@@ -341,7 +340,7 @@ impl<L: Log, W: Write + Drop> Hub<L, W> {
         }
     }
 
-    /// Ends all connections and joins their threads, once serving has ended so and no connection is taken any more.
+    /// Ends all connections and joins their threads, once serving has ended and no connection is accepted any more.
     pub fn end<R: Threads + Wait + Sync>(
         &mut self,
         rt: &R,

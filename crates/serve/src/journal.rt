@@ -1,4 +1,4 @@
-//! What happens, told in a line each.
+//! The log lines of a server, one for each event.
 
 use crate::failure::Failure;
 use intake::{Desk, Message};
@@ -9,13 +9,13 @@ use std::alloc::Global;
 use std::net::SocketAddr;
 use values::{Blob, Fault};
 
-/// Tells what happens, where the logger takes it.
+/// Writes what happens to the logger.
 #[derive(Drop)]
 pub struct Journal<L> {
     alloc: Global,
     log: L,
     phase: Phase,
-    // The leader's first packets, until the one that says how the observer is brought up to date.
+    // Reads the leader's first packets, until the one that says how the observer is brought up to date.
     greeting: Option<PacketFeed>,
     synchronisation: &'static str,
 }
@@ -45,7 +45,7 @@ impl<L: Log> Journal<L> {
         &self.log
     }
 
-    /// A client's connection was taken.
+    /// A client's connection was accepted.
     pub fn client_came(&self, number: usize, address: Option<SocketAddr>) {
         match address {
             Some(address) => info!(self.log; target: "client", "{number} connected from {address}"),
@@ -53,7 +53,7 @@ impl<L: Log> Journal<L> {
         }
     }
 
-    /// A client's connection could not be served.
+    /// A client's connection couldn't be served.
     pub fn client_refused(&self, error: Failure) {
         warn!(self.log; target: "client", "a connection was closed at once: {error}");
     }
@@ -114,7 +114,7 @@ impl<L: Log> Journal<L> {
         }
     }
 
-    // Tells how far the leader is followed, where that has changed.
+    // Logs how far the leader is followed, if that has changed.
     fn phase(&mut self, learner: &Learner) {
         let phase = learner.phase();
         if phase == self.phase {
@@ -137,7 +137,7 @@ impl<L: Log> Journal<L> {
         self.phase = phase;
     }
 
-    /// A turn was done.
+    /// A turn was made.
     pub fn turned(&mut self, desk: &Desk) {
         for (port, message) in desk.fresh() {
             self.message(*port, message);

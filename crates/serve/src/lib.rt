@@ -1,4 +1,4 @@
-//! An observer that people connect to: it follows a leader over a socket, and serves clients over sockets.
+//! A server: it follows a leader over a socket, and serves clients over sockets.
 #![tactic(auto)]
 
 mod accept;

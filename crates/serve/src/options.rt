@@ -1,4 +1,4 @@
-//! What a command line of `serve` asks for.
+//! The command line of `serve`.
 
 use batcher::Limits;
 use settings::ServerId;
@@ -10,20 +10,20 @@ pub struct Address<'a> {
     pub port: u16,
 }
 
-/// What `serve` is told.
+/// The options of `serve`.
 #[derive(Clone, Copy)]
 pub struct Options<'a> {
-    /// Where the leader listens.
+    /// The address at which the leader listens.
     pub leader: Address<'a>,
-    /// Where clients are listened for. At port 0 the system picks one.
+    /// The address at which to listen for clients. With port 0 the system picks a port.
     pub client: Address<'a>,
     pub server_id: ServerId,
     pub limits: Limits,
     /// How many clients may be connected at a time.
     pub max_clients: Option<u64>,
-    /// The file in which what comes is recorded.
+    /// The file for the record of what comes.
     pub record: Option<&'a str>,
-    /// Whether standard error is told what happens.
+    /// Whether to log to standard error.
     pub log: bool,
 }
 
@@ -169,7 +169,7 @@ impl<'a> Given<'a> {
     }
 }
 
-// A number of things, or how many there are where nothing is said.
+// A count, or the default if the option is missing.
 fn count(text: Option<&str>, default: usize) -> Option<usize> {
     match text {
         None => Some(default),
@@ -177,7 +177,7 @@ fn count(text: Option<&str>, default: usize) -> Option<usize> {
     }
 }
 
-// The options that were given, if each is known, comes once and has its value.
+// The options given, if each is known, occurs once and has its value.
 fn given_in(words: &[String]) -> Option<Given<'_>> {
     let mut given = Given::default();
     let mut open = None;
@@ -208,8 +208,8 @@ fn given_in(words: &[String]) -> Option<Given<'_>> {
     Some(given)
 }
 
-/// What the words after `serve` ask for, if they are right: each option is known, comes once and has its
-/// value, each number is within its bounds, and both ports are there.
+/// Parses the words after `serve`. Returns None unless each option is known, occurs once and has its value, each number
+/// is within its bounds, and both ports are given.
 pub fn options_of(words: &[String]) -> Option<Options<'_>> {
     let given = given_in(words)?;
     Some(Options {

@@ -1,4 +1,4 @@
-//! A record of what came, as a script that a replay takes.
+//! A record of what comes, as a script for `replay`.
 
 ghost use Rattle.std.specs.Prelude.{◌≡◌, ◌++◌, OnOk};
 ghost use Rattle.serve.specs.Lines.{port_words, session_digits, message_line};
@@ -17,7 +17,7 @@ fn put(out: &mut Vec<u8>, text: &[u8]) -> Result<(), NoMemory>
     Ok(())
 }
 
-// Who sends: the leader, or a client by its number.
+// Appends the sender: the leader, or a client by its number.
 fn put_port(out: &mut Vec<u8>, port: usize) -> Result<(), NoMemory>
     ensures { OnOk result (out.new.items ≡ out.old.items ++ port_words port) }
 {
@@ -30,7 +30,6 @@ fn put_port(out: &mut Vec<u8>, port: usize) -> Result<(), NoMemory>
     }
 }
 
-// Appends a session's id.
 #[tactic(auto, unfolding(crate::specs::Lines::session_digits))]
 fn put_session(out: &mut Vec<u8>, session: i64) -> Result<(), NoMemory>
     ensures { OnOk result (out.new.items ≡ out.old.items ++ session_digits session) }
@@ -38,7 +37,7 @@ fn put_session(out: &mut Vec<u8>, session: i64) -> Result<(), NoMemory>
     put_hex(out, &session.to_be_bytes())
 }
 
-/// Appends the line of a message. Where memory is refused, a part of it may be there.
+/// Appends the line of a message. A refused allocation leaves a part of it appended.
 pub fn put_message(out: &mut Vec<u8>, port: usize, message: &Message) -> Result<(), NoMemory>
     ensures { OnOk result (out.new.items ≡ out.old.items ++ message_line port message.now) }
 {
@@ -65,7 +64,7 @@ pub fn put_message(out: &mut Vec<u8>, port: usize, message: &Message) -> Result<
     }
 }
 
-/// What is recorded, as long as it can be written.
+/// The record, as long as it can be written.
 #[derive(Drop)]
 pub struct Record<W> {
     lines: Vec<u8>,
@@ -74,7 +73,7 @@ pub struct Record<W> {
 }
 
 impl<W: Write + Drop> Record<W> {
-    /// A record, or none where there is no writer.
+    /// A record, or none if there is no writer.
     pub fn new(alloc: Global, writer: Option<W>) -> Record<W> {
         Record {
             lines: Vec::new(alloc),
@@ -83,12 +82,12 @@ impl<W: Write + Drop> Record<W> {
         }
     }
 
-    /// Whether all that was to be recorded is.
+    /// Whether everything was recorded.
     pub fn is_whole(&self) -> bool {
         self.is_whole
     }
 
-    // Writes the lines, and gives the record up where they can't be written.
+    // Writes the lines, and ends the record if they can't be written.
     fn write_lines(&mut self, made: Result<(), NoMemory>) {
         let Some(mut writer) = self.writer.take() else {
             return;

@@ -1,4 +1,4 @@
-//! The server over sockets that are open.
+//! The server, once its sockets are open.
 
 use crate::accept::{Accepting, Acceptor, Door, accept_all, open_door};
 use crate::failure::Failure;
@@ -21,7 +21,7 @@ use std::thread::Threads;
 use std::time::Clock;
 use std::{fs, io, thread};
 
-// The observer's settings: what no option sets is as in a script that sets nothing.
+// The observer's settings. Those without an option have the defaults of a script.
 fn config_of(alloc: Global, options: &Options<'_>) -> Config {
     let settings = Settings {
         server_id: options.server_id,
@@ -32,7 +32,7 @@ fn config_of(alloc: Global, options: &Options<'_>) -> Config {
     Config::from_settings(settings, options.limits)
 }
 
-/// What logs to standard error, or drops what it is given.
+/// A logger to standard error, or one that drops everything.
 pub fn logger<R: Eprint + Copy>(rt: &R, is_on: bool) -> Logged<R, Console<R>> {
     let most = if is_on {
         LevelFilter::Info
@@ -42,7 +42,7 @@ pub fn logger<R: Eprint + Copy>(rt: &R, is_on: bool) -> Logged<R, Console<R>> {
     Logged::new(*rt, most, Console(*rt))
 }
 
-// The file in which what comes is recorded, if it is.
+// The file for the record, if there is one.
 fn record_file<R: Files>(rt: &R, name: Option<&str>) -> io::Result<Option<R::File>> {
     match name {
         None => Ok(None),
@@ -77,7 +77,7 @@ fn serve_hub<
     hub.end(rt, served)
 }
 
-// Serves over a desk of its own. The desk is dropped with the hub, at the one end of this function, and nowhere else:
+// Serves with a desk of its own. The desk is dropped with the hub, at the single end of this function and nowhere else:
 // each drop of an observer is proved anew.
 fn serve_with<
     R: Threads + Wait + Net + Clock + Copy + Send + Sync + 'static,
@@ -104,7 +104,7 @@ fn serve_with<
     serve_hub(rt, &mut hub, leader, acceptor, &door)
 }
 
-/// The same as `serve_on`, with why it has ended.
+/// The same as `serve_on`, with the reason why it ended.
 pub fn try_serve_on<
     R: Threads + Wait + Net + Clock + Files + Eprint + Copy + Send + Sync + 'static,
 >(
@@ -121,9 +121,9 @@ pub fn try_serve_on<
     serve_with(rt, alloc, options, leader, listener, journal, record)
 }
 
-/// Follows the leader and serves clients until the leader's connection ends, and answers the exit status: 0 then, 3
-/// where something could not be opened or recorded, 4 where memory was refused. Each thread that it started has ended
-/// by then, and each connection is closed.
+/// Follows the leader and serves clients until the leader's connection ends. Returns the exit status: 0 then, 3 if
+/// something couldn't be opened or recorded, 4 if an allocation was refused. By then each thread that it started has
+/// ended, and each connection is closed.
 pub fn serve_on<R: Threads + Wait + Net + Clock + Files + Eprint + Copy + Send + Sync + 'static>(
     rt: &R,
     alloc: Global,

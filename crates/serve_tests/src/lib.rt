@@ -1,4 +1,4 @@
-//! Tests of `serve`: over sockets, over streams in memory, and of what is recorded.
+//! Tests of `serve`: over sockets, over streams in memory, and of records.
 #![tactic(auto)]
 
 #[cfg(test)]

@@ -16,7 +16,7 @@ use std::thread::{Builder, Threads};
 use std::time::{Clock, Duration};
 use std::{io, thread};
 
-// Reads so many bytes, and answers whether they are these.
+// Reads this many bytes, and returns whether they are the expected ones.
 fn reads(stream: &TcpStream, wanted: &[u8]) -> io::Result<bool> {
     let mut found = [0u8; 128];
     let length = wanted.len().min(found.len());
@@ -30,7 +30,7 @@ fn writes(stream: &TcpStream, bytes: &[u8]) -> io::Result<()> {
     writer.write_all(bytes)
 }
 
-// Leads one observer through its handshake and a create. Answers whether all that it sent was right.
+// Leads one observer through its handshake and a create. Returns whether everything that it sent was right.
 fn lead(stream: &TcpStream) -> io::Result<bool> {
     let mut is_right = reads(stream, observer_info())?;
     writes(stream, leader_info())?;
@@ -50,7 +50,8 @@ fn connection<R: Net<Stream = TcpStream>>(rt: &R, port: u16) -> io::Result<TcpSt
     Ok(stream)
 }
 
-// Opens a session, and asks until the node is there, at most so often. Answers whether it got the reply that is wanted.
+// Opens a session, and reads the node until it is there, this many times at most. Returns whether it got the expected
+// reply.
 fn ask<R: Net<Stream = TcpStream> + Clock>(rt: &R, port: u16) -> io::Result<bool> {
     let stream = connection(rt, port)?;
     writes(&stream, connect())?;
@@ -61,7 +62,7 @@ fn ask<R: Net<Stream = TcpStream> + Clock>(rt: &R, port: u16) -> io::Result<bool
         writes(&stream, get())?;
         let mut header = [0u8; 4];
         reader.read_exact(&mut header)?;
-        // A reply without a body says that there is no such node yet.
+        // A reply without a body: the node isn't there yet.
         if header != [0, 0, 0, 90] {
             let mut rest = [0u8; 16];
             reader.read_exact(&mut rest)?;
@@ -74,7 +75,7 @@ fn ask<R: Net<Stream = TcpStream> + Clock>(rt: &R, port: u16) -> io::Result<bool
     Ok(false)
 }
 
-// The leader's thread: takes one observer, leads it, and goes when a client has asked it.
+// The leader's thread: it takes one observer, leads it, and leaves when a client has read the node.
 fn lead_one<R: Net<Stream = TcpStream> + Clock>(rt: &R, listener: TcpListener, port: u16) -> bool {
     let Ok((stream, _)) = listener.accept() else {
         return false;
@@ -83,8 +84,7 @@ fn lead_one<R: Net<Stream = TcpStream> + Clock>(rt: &R, listener: TcpListener, p
     is_led && ask(rt, port).unwrap_or(false)
 }
 
-// Serves, as the words ask for, what a leader and a client of its own do. Answers the exit status, and whether both got
-// what they wanted.
+// Serves a leader and a client, as the words ask. Returns the exit status, and whether both got what they expected.
 fn serve_one<
     R: Threads
         + Wait

@@ -14,7 +14,7 @@ use std::thread::{Builder, Threads};
 use std::time::{Clock, Duration};
 use values::Blob;
 
-// How a session goes: which read and which write fails, how many bytes a read and a write take, and how many messages
+// The way of a session: the read and the write that fail, how many bytes a read and a write take, and how many messages
 // have room.
 #[derive(Clone, Copy)]
 struct Way {
@@ -33,23 +33,23 @@ const WELL: Way = Way {
     asks: 1,
 };
 
-// What the desk took of the session's port, and what was written.
+// The messages that the desk took of the session's port, and the bytes that were written.
 #[derive(Drop)]
 struct Seen {
     ups: usize,
     ends: usize,
-    // How many messages had bytes, and all these bytes.
+    // The number of messages with bytes, and all these bytes.
     pieces: usize,
     bytes: Vec<u8>,
-    // The most whole frames of a message that begins with one.
+    // The most whole frames in a message that begins with one.
     most_frames: usize,
-    // Messages that the session sent after its end.
+    // The number of messages that the session sent after its `End`.
     left: usize,
     written: Vec<u8>,
     late: u64,
 }
 
-// How many whole frames of the length of `get` the bytes have.
+// The number of whole frames with the length of `get` in the bytes.
 fn frames_in(bytes: &[u8]) -> usize {
     whole_frames(bytes, 1000)
         .checked_div(get().len())
@@ -85,7 +85,7 @@ impl Seen {
     }
 }
 
-// Has the desk's leader make /a, and end.
+// Has the desk's leader create /a, and end.
 fn lead<R: Threads + Sync>(rt: &R, alloc: Global, desk: &mut Desk) -> Result<(), Fail> {
     let mut leader = desk.add_port(64)?;
     let is_sent = leader
@@ -100,7 +100,7 @@ fn lead<R: Threads + Sync>(rt: &R, alloc: Global, desk: &mut Desk) -> Result<(),
     Ok(())
 }
 
-// Requests, as many as are asked for.
+// This many requests.
 fn requests(alloc: Global, count: u64) -> Result<Vec<u8>, Fail> {
     let mut bytes = Vec::new(alloc);
     for _ in 0..count {
@@ -109,7 +109,7 @@ fn requests(alloc: Global, count: u64) -> Result<Vec<u8>, Fail> {
     Ok(bytes)
 }
 
-// Takes what the session sends, until its end.
+// Takes the messages of the session, until its `End`.
 fn take_all<R: Threads + Wait + Sync>(
     rt: &R,
     desk: &mut Desk,
@@ -130,7 +130,7 @@ fn take_all<R: Threads + Wait + Sync>(
     Err(Fail::from("no end"))
 }
 
-// The client's side of a session that goes this way.
+// The client's side of a session with this way.
 fn source_of(alloc: Global, way: Way, shared: &Arc<Shared, Global>) -> Result<Source, Fail> {
     Ok(Source {
         bytes: requests(alloc, way.asks)?,
@@ -176,7 +176,7 @@ fn run_at<R: Threads + Wait + Clock + Copy + Send + Sync + 'static>(
     taken
 }
 
-// Runs a session at a desk whose observer follows a leader that has made /a.
+// Runs a session at a desk whose observer follows a leader that has created /a.
 fn run_led<R: Threads + Wait + Clock + Copy + Send + Sync + 'static>(
     rt: &R,
     alloc: Global,
@@ -189,7 +189,7 @@ fn run_led<R: Threads + Wait + Clock + Copy + Send + Sync + 'static>(
     run_at(rt, alloc, way, desk, shared, seen)
 }
 
-// A session that goes this way.
+// Runs a session with this way.
 fn run<R: Threads + Wait + Clock + Copy + Send + Sync + 'static>(
     rt: &R,
     alloc: Global,
@@ -209,12 +209,12 @@ fn run<R: Threads + Wait + Clock + Copy + Send + Sync + 'static>(
     Ok(seen)
 }
 
-// Whether the session sent itself on and off once each, and nothing after its end.
+// Whether the session sent `Up` and `End` once each, and nothing after its `End`.
 fn is_framed(seen: &Seen) -> bool {
     seen.ups == 1 && seen.ends == 1 && seen.left == 0 && seen.late == 0
 }
 
-// Whether what was written is a front of so many answers, or all of them.
+// Whether the bytes written are a prefix of this many answers, or all of them.
 fn are_answers(written: &[u8], count: usize) -> bool {
     let whole = got();
     if written.len() > whole.len().saturating_mul(count) {
@@ -241,7 +241,7 @@ fn a_client_is_answered(rt: HostRuntime) -> Result<(), Fail> {
 
 #[test]
 fn each_read_fails_in_turn(rt: HostRuntime) -> Result<(), Fail> {
-    // 19 bytes, 5 a read: four reads, and one of the end.
+    // 19 bytes at 5 a read are four reads, and one of the end.
     for read_fails in 1..=5 {
         let way = Way {
             read_fails,

@@ -1,4 +1,4 @@
-//! Which words are a command line.
+//! Command lines, valid and invalid.
 
 use serve::options_of;
 use std::alloc::Global;
@@ -13,7 +13,7 @@ fn words(alloc: Global, line: &str) -> Result<Vec<String>, Fail> {
     Ok(words)
 }
 
-// Whether the line is one.
+// Whether the line is valid.
 fn is_line(alloc: Global, line: &str) -> Result<bool, Fail> {
     let words = words(alloc, line)?;
     Ok(options_of(words.as_slice()).is_some())

@@ -1,4 +1,4 @@
-//! What is recorded is a script.
+//! A record is a script.
 
 use intake::Message;
 use serve::{Record, put_message};

@@ -1,4 +1,4 @@
-//! Streams in memory, of which the k-th read or write fails.
+//! Streams in memory whose k-th read or write fails.
 
 use std::alloc::Global;
 use std::io;
@@ -6,20 +6,20 @@ use std::io::{ErrorKind, Read, Write};
 use std::sync::atomic::{AtomicU64, Ordering};
 use std::sync::{Arc, Mutex, Wait};
 
-/// What was written so far, and how.
+/// The bytes written so far, and how they were written.
 #[derive(Drop)]
 pub struct Sink {
     pub bytes: Vec<u8>,
     pub writes: u64,
-    /// How many writes came after the one that failed.
+    /// The number of writes after the one that failed.
     pub late: u64,
 }
 
-/// What a reader and a writer share.
+/// The state that a reader and a writer share.
 #[derive(Drop)]
 pub struct Shared {
     pub sink: Mutex<Sink>,
-    // How many bytes were written.
+    // The number of bytes written.
     written: AtomicU64,
 }
 
@@ -36,15 +36,15 @@ impl Shared {
     }
 }
 
-/// Gives bytes, at most so many a read, and the end once so many were written. Before that, it would block. One read
-/// may fail.
+/// Gives bytes, a limited number for each read, and the end of the stream once enough bytes were written. Before that,
+/// it would block. One read may fail.
 pub struct Source {
     pub bytes: Vec<u8>,
     pub at: usize,
     pub most: usize,
-    /// How many bytes are to be written before the end.
+    /// The number of bytes to be written before the end.
     pub answers: u64,
-    /// Which read fails, from 1 on; 0 for none.
+    /// The number of the read that fails, from 1 on; 0 for none.
     pub fails_at: u64,
     pub reads: u64,
     pub shared: Arc<Shared, Global>,
@@ -94,11 +94,11 @@ impl Read for Source {
     }
 }
 
-/// Takes at most so many bytes a write. One write may fail.
+/// Takes a limited number of bytes for each write. One write may fail.
 pub struct Target<R> {
     pub rt: R,
     pub most: usize,
-    /// Which write fails, from 1 on; 0 for none.
+    /// The number of the write that fails, from 1 on; 0 for none.
     pub fails_at: u64,
     pub shared: Arc<Shared, Global>,
 }

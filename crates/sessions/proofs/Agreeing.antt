@@ -1,4 +1,4 @@
--- What keeps sessions and connections in agreement.
+-- The steps that keep sessions and connections in agreement.
 use Rattle.std.proofs.Common.{◌≡◌, ◌⊎◌, inl, inr, ℕ, ◌+◌, ◌^◌, ◌<◌, ◌≤◌, ℤ, false, List, [], ◌∷◌, ◌++◌, length, Option, Some, None, refl, sym, ap, subst, ◌∙◌, arith, length-append}
 use Rattle.std.specs.Prelude.{IsTrue, is_some}
 use Rattle.std.specs.Ordering.{eq_by_cmp, nat_cmp, int_cmp}
@@ -16,7 +16,7 @@ use Rattle.sessions.specs.Agreement.{IsOpenedBy, SessionsAgree, SessionsAreApart
 use Rattle.sessions.proofs.Maps.{none-some, some-some, apart, other, same_or_other, inserted, inserted_elsewhere, removed_elsewhere, at_inserted, at_removed, remove_absent, remove_inserted, insert_inserted, remove_past_insert}
 use Rattle.sessions.proofs.Numbers.{counters_apart}
 
--- a connection that has this session
+-- A connection that has this session.
 abbrev pub Has : ℤ → ConnectedClients → ℕ → Type 0
 Has session connections n = (ids : List Id)
     × (finmap.get connections n ≡ Some (record { session = session; ids = ids }))
@@ -87,14 +87,14 @@ closed s n c a here = record {
         (a.opened c.session (Some n) (a.guests n c here))
     from session o (inr b) = a.opened session o b.1
 
--- a connection that has no session is taken out in vain
+-- Removing a connection that has no session changes nothing.
 pub unclosed : (s : SessionTable) (n : ℕ) → finmap.get s.connections n ≡ None
     → record s { connections = finmap.remove s.connections n } ≡ close_connection s n
 unclosed s n none =
     (λ i. record s { connections = remove_absent nat_cmp_total exact_unsigned s.connections n none i })
     ∙ ap (close_as s n) (sym none)
 
--- the connection of a guest session closes
+-- The connection of a guest session closes.
 pub closing : (s : SessionTable) (session : ℤ) (n : ℕ) → SessionsAgree s → finmap.get s.guests session ≡ Some (Some n)
     → close_connection s n ≡ record s {
       guests = finmap.insert s.guests session None;
@@ -134,7 +134,7 @@ ends s session a free = record {
   ids = a.ids;
 }
 
--- what is no session ends in vain
+-- Expiring an id that isn't a session's changes nothing.
 pub expires_nothing : (s : SessionTable) (session : ℤ) → finmap.get s.guests session ≡ None
     → expire_guest s session ≡ record { closed = None; after = record s { guests = finmap.remove s.guests session } }
 expires_nothing s session none =
@@ -145,7 +145,7 @@ expires_nothing s session none =
           { guests = sym (remove_absent int_cmp_total exact_signed s.guests session none) i };
     })
 
--- a guest session ends, and its connection closes
+-- A guest session ends, and its connection closes.
 pub ends_closing : (s : SessionTable) (session : ℤ) (n : ℕ) → SessionsAgree s
     → finmap.get s.guests session ≡ Some (Some n)
     → SessionsAgree (record s { guests = finmap.remove s.guests session; connections = finmap.remove s.connections n })
@@ -231,14 +231,14 @@ joins s n session a none free opened = record {
 
 -- ---- a session is given back
 
--- two connections, since one has a session and the other has none
+-- The two connections differ, since one has a session and the other has none.
 older_apart : (s : SessionTable) (session : ℤ) (n older : ℕ) → SessionsAgree s → finmap.get s.connections n ≡ None
     → finmap.get s.guests session ≡ Some (Some older) → older ≡ n → ⊥
 older_apart s session n older a none has same =
     let at = a.connections session older has in
     none-some (record { session = session; ids = at.0 }) (sym none ∙ sym (ap (finmap.get s.connections) same) ∙ at.1)
 
--- where an older connection has it
+-- An older connection has it.
 pub rejoins_older : (s : SessionTable) (n : ℕ) (request : SessionRequest) (older : ℕ) → SessionsAgree s
     → finmap.get s.connections n ≡ None → finmap.get s.guests request.session_id ≡ Some (Some older)
     → reopen_session s n request ≡ record {
@@ -292,7 +292,7 @@ joins_older s n session older a none has =
     (λ m e. none-some m (some-some (sym (inserted int_cmp_total exact_signed s.guests session None) ∙ e)))
     (a.opened session (Some older) has))
 
--- where no connection has it
+-- No connection has it.
 pub rejoins_free : (s : SessionTable) (n : ℕ) (request : SessionRequest)
     → finmap.get s.guests request.session_id ≡ Some None
     → reopen_session s n request ≡ record {
@@ -317,7 +317,7 @@ has_none None known not = absurd (true≢false (sym known))
 has_none (Some None) known not = refl
 has_none (Some (Some n)) known not = absurd (not n refl)
 
--- ---- an id is shown
+-- ---- an id is added
 
 pub shows : (s : SessionTable) (n : ℕ) (c : ConnectedClient) (id : Id) → SessionsAgree s
     → finmap.get s.connections n ≡ Some c
@@ -384,7 +384,7 @@ counts s a below = record {
 pub next : (server_id : ℤ) (counter : ℕ) → IsOpenedBy server_id (counter + 1) (session_id_of server_id (counter + 1))
 next server_id counter = record { own = counter + 1; first = omega arith; last = omega arith; is = refl }
 
--- no session has that counter yet
+-- No session has that counter yet.
 pub fresh : (s : SessionTable) → SessionsAgree s → s.counter + 1 < 2 ^ 56
     → finmap.get s.guests (session_id_of s.terms.server_id (s.counter + 1)) ≡ None
 fresh s a below = by (finmap.get s.guests (session_id_of s.terms.server_id (s.counter + 1))) refl

@@ -1,4 +1,4 @@
--- What holds of each case holds of the whole.
+-- A claim that holds in each case of a conditional holds for the conditional.
 use Rattle.std.proofs.Common.{◌≡◌, Bool, true, false, ◌&&◌, refl}
 use Rattle.std.specs.Prelude.{if◌then◌else◌}
 

@@ -1,4 +1,4 @@
--- A session that has ended is valid for nobody, whatever comes.
+-- A session that has ended is never valid again.
 use Rattle.std.proofs.Common.{◌≡◌, ◌⊎◌, inl, inr, ℕ, ◌+◌, ◌^◌, ◌<◌, ◌≤◌, ◌==◌, ℤ, pos, true, false, ◌&&◌, List, length, Option, Some, None, refl, sym, ap, subst, ◌∙◌, arith}
 use Rattle.std.specs.Prelude.{nat_lt, is_some}
 use Rattle.std.specs.List.{list_any}
@@ -18,7 +18,7 @@ use Rattle.sessions.proofs.Numbers.{counters_apart}
 use Rattle.sessions.proofs.Agreeing.{raised, expires_closing, rejoins_free, rejoins_older}
 use Rattle.sessions.proofs.Kept.{below}
 
--- ---- what is no session stays none where another one is put, and where any one is taken out
+-- ---- an id that isn't a session's stays one where another id is inserted, and where any id is removed
 
 put_other : (guests : Guests) (k : ℤ) (v : Option ℕ) (session : ℤ) → finmap.get guests session ≡ None
     → (session ≡ k → ⊥)
@@ -35,7 +35,7 @@ taken guests k session none = by (same_or_other int_cmp_total exact_signed sessi
     by (inl e) = ap (finmap.get (finmap.remove guests k)) e ∙ removed int_cmp_total exact_signed guests k
     by (inr f) = removed_elsewhere int_cmp_total exact_signed guests k session f ∙ none
 
--- a session that is known isn't one that has ended
+-- A known session isn't one that has ended.
 not_known : (guests : Guests) (k session : ℤ) (o : Option ℕ) → finmap.get guests k ≡ Some o
     → finmap.get guests session ≡ None → session ≡ k → ⊥
 not_known guests k session o known none e = none-some o (sym none ∙ ap (finmap.get guests) e ∙ known)
@@ -90,7 +90,7 @@ shows_by s n (Some text) session h = shows_in s n (digest_id text) (finmap.get s
 
 -- ---- connect
 
--- a session that was opened isn't the next one
+-- A session that was opened before isn't the next one.
 not_next : (s : SessionTable) (session : ℤ) → SessionsAgree s → s.counter + 1 < 2 ^ 56
     → IsOpenedBy s.terms.server_id s.counter session
     → session ≡ session_id_of s.terms.server_id (s.counter + 1) → ⊥

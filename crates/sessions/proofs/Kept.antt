@@ -53,7 +53,7 @@ shows_by s n (Some text) a = shows_in s n (digest_id text) (finmap.get s.connect
 
 -- ---- connect
 
--- the next counter is one, too
+-- The next counter is below the limit, too.
 pub below : (s : SessionTable) → SessionsAgree s → (s.counter == greatest_counter) ≡ false → s.counter + 1 < 2 ^ 56
 below s a e = let small : s.counter < 2 ^ 56 = a.counter in let other : s.counter ≡ greatest_counter → ⊥ =
     eqb-false s.counter greatest_counter e in at_most s.counter small other
@@ -103,7 +103,7 @@ agreement_is_kept = record {
   expires = λ s session a. expires_as s session (finmap.get s.guests session) refl a;
 }
 
--- ---- what an answer tells
+-- ---- what a response tells
 
 abbrev Tells : ℕ → ConnectResult → Type 0
 Tells n x = session_of_connection x.after n ≡ nonzero_session x.connected.response.session_id

@@ -1,18 +1,18 @@
--- A map as a finite map
+-- A map as a finite map.
 pub mod Maps
--- Session ids
+-- Session ids.
 pub mod Numbers
--- What keeps sessions and connections in agreement
+-- The steps that keep sessions and connections in agreement.
 pub mod Agreeing
--- What "digest" and bytes show
+-- The text of the scheme "digest".
 pub mod Texts
--- Cases of definitions
+-- Cases of definitions.
 pub mod Cases
--- Agreement after each step
+-- Agreement after each step.
 pub mod Kept
--- What a step leaves of other connections
+-- A step leaves other connections.
 pub mod Others
--- What stays of a session that has ended
+-- A session that has ended stays ended.
 pub mod Ended
--- How many entries a map has
+-- The number of entries of a map.
 pub mod Counting

@@ -1,4 +1,4 @@
--- A map read as a finite map, and what a finite map has at a key after a change.
+-- A map read as a finite map, and the value of a finite map at a key after a change.
 use Rattle.std.proofs.Common.{◌≡◌, ◌⊎◌, inl, inr, Bool, true, false, cond, List, [], ◌∷◌, Option, Some, None, refl, sym, ap, ◌∙◌}
 use Rattle.std.specs.BTreeMap as tree
 use Rattle.std.specs.BTreeMap.{BTreeMap, is_at}
@@ -122,7 +122,7 @@ module _ {K X : Type 0} {R : K → K → Ordering} (o : IsTotalOrder R) (exact :
       by q (inr e) = inserted_elsewhere (finmap.insert m k w) k v q e ∙ inserted_elsewhere m k w q e
           ∙ sym (inserted_elsewhere m k v q e)
 
-  -- changes at two keys
+  -- Changes at two keys.
   pub remove_past_insert : (m : finmap.FinMap R X) (k : K) (v : X) (j : K) → eq_by_cmp R j k ≡ false
       → finmap.remove (finmap.insert m k v) j ≡ finmap.insert (finmap.remove m j) k v
   remove_past_insert m k v j apart = finmap.same_map o exact _ _ (λ q. by q (same_or_other o exact q j))
@@ -141,7 +141,7 @@ module _ {K X : Type 0} {R : K → K → Ordering} (o : IsTotalOrder R) (exact :
           ∙ sym (ap (finmap.get (finmap.insert (finmap.remove m j) k v)) e)
       by q (inr e) = removed_elsewhere (finmap.insert m k v) j q e ∙ else_at q e (same_or_other o exact q k)
 
-  -- ---- what a value at a key tells of the map before the change
+  -- ---- what a value at a key says about the map before the change
 
   pub at_inserted : (m : finmap.FinMap R X) (k : K) (v : X) (q : K) (x : X)
       → finmap.get (finmap.insert m k v) q ≡ Some x

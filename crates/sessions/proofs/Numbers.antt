@@ -1,4 +1,4 @@
--- Two counters of a server name two sessions.
+-- Two counters of a server give two session ids.
 use Rattle.std.proofs.Common.{◌≡◌, ℕ, ◌+◌, ◌*◌, ◌^◌, ◌<◌, ℤ, pos, negsuc, Bool, true, false, refl, sym, ap, ◌∙◌, arith, w64}
 use Rattle.std.specs.Prelude.{IsTrue, unsigned_abs}
 use Rattle.std.specs.Int.{cast_unsigned}
@@ -36,7 +36,7 @@ positive (negsuc n) h = grind arith
 not_zero : (high counter : ℕ) → 0 < high → high * 2 ^ 56 + counter ≡ 0 → ⊥
 not_zero high counter p e = omega arith
 
--- no session is 0
+-- No session has the id 0.
 pub never_zero : (server_id : ℤ) (counter : ℕ) → IsTrue (is_server_id server_id) → counter < 2 ^ 56
     → int_eq (session_id_of server_id counter) (pos 0) ≡ false
 unfolding session_id_of

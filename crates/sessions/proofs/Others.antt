@@ -1,4 +1,4 @@
--- What a step leaves of other connections.
+-- A step leaves other connections.
 use Rattle.std.proofs.Common.{◌≡◌, ◌≢◌, ℕ, ◌+◌, ◌==◌, ℤ, pos, false, List, [], length, Option, Some, None, refl, sym, ap, ◌∙◌}
 use Rattle.std.specs.Prelude.{nat_lt}
 use Rattle.std.specs.List.{list_any}
@@ -15,7 +15,7 @@ use Rattle.sessions.specs.Agreement.{OtherConnectionsStay}
 use Rattle.sessions.proofs.Cases.{at_if}
 use Rattle.sessions.proofs.Maps.{other, inserted_elsewhere, removed_elsewhere}
 
--- the connection is as it was
+-- The connection is as it was.
 abbrev Stays : SessionTable → ℕ → SessionTable → Type 0
 Stays s m new = finmap.get new.connections m ≡ finmap.get s.connections m
 

@@ -1,4 +1,4 @@
--- What "digest" and bytes show, as a test told it.
+-- The text of the scheme "digest", from the tests in the code.
 use Rattle.std.proofs.Common.{◌≡◌, ℕ, Bool, true, false, not, ◌&&◌, List, Some, None, refl, sym, ap}
 use Rattle.std.specs.Prelude.{IsUtf8, codes, if◌then◌else◌}
 use Rattle.std.specs.Str.{bytes_eq, is_utf8}
@@ -21,7 +21,7 @@ not_text_at : (bytes : List ℕ) (b : Bool) → is_utf8 bytes ≡ b → (IsUtf8 
 not_text_at bytes true e h = absurd (h (IsUtf8-from_is_utf8 bytes e))
 not_text_at bytes false e h = refl
 
--- bytes that are no text show nothing
+-- Bytes that aren't UTF-8 give no text.
 pub shows_nothing : (scheme bytes : List ℕ) → (IsUtf8 bytes → ⊥) → None ≡ digest_text (Some scheme) (Some bytes)
 shows_nothing scheme bytes h =
     at_none (bytes_eq scheme (codes "digest")) (is_utf8 bytes) bytes (not_text_at bytes (is_utf8 bytes) refl h)

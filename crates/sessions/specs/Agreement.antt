@@ -1,4 +1,4 @@
--- How sessions and connections hang together.
+-- How sessions and connections refer to each other.
 use Rattle.std.specs.Prelude.{◌≡◌, ◌≢◌, ℕ, ◌<◌, ◌≤◌, ◌^◌, ℤ, pos, List, length, Option, None, Some, IsTrue, false, if◌then◌else◌}
 use Rattle.std.specs.Ordering.{int_eq}
 use Rattle.std.specs.FinMap as finmap
@@ -9,7 +9,7 @@ use Rattle.sessions.specs.declared.request.SessionRequest.{SessionRequest}
 use Rattle.sessions.specs.State.{SessionSettings, ConnectedClient, SessionTable}
 use Rattle.sessions.specs.Sessions.{ids_limit, no_sessions, session_of_connection, is_valid, connect_session, add_auth, close_connection, expire_guest}
 
--- the session was opened by this server with one of its counters so far
+-- The server has opened the session with one of its counters so far.
 pub record IsOpenedBy (server_id : ℤ) (counter : ℕ) (session : ℤ) : Type 0 where
   pub own : ℕ
   pub first : 0 < own
@@ -20,26 +20,26 @@ pub record IsOpenedBy (server_id : ℤ) (counter : ℕ) (session : ℤ) : Type 0
 pub record SessionsAgree (s : SessionTable) : Type 0 where
   pub server_id : IsTrue (is_server_id s.terms.server_id)
   pub counter : s.counter < 2 ^ 56
-  -- each connection's session is a guest session, and that session's connection is this one
+  -- Each connection's session is a live guest session, and that session's connection is this one.
   pub guests : (n : ℕ) (c : ConnectedClient) → finmap.get s.connections n ≡ Some c
       → finmap.get s.guests c.session ≡ Some (Some n)
-  -- a guest session's connection has that session
+  -- A guest session's connection has that session.
   pub connections : (session : ℤ) (n : ℕ) → finmap.get s.guests session ≡ Some (Some n)
       → (ids : List Id) × (finmap.get s.connections n ≡ Some (record { session = session; ids = ids }))
-  -- each guest session was opened here
+  -- Each guest session was opened by this server.
   pub opened : (session : ℤ) (o : Option ℕ) → finmap.get s.guests session ≡ Some o
       → IsOpenedBy s.terms.server_id s.counter session
-  -- no connection has shown too many ids
+  -- No connection has more ids than the limit.
   pub ids : (n : ℕ) (c : ConnectedClient) → finmap.get s.connections n ≡ Some c → length c.ids ≤ ids_limit
 
--- no two connections have one session
+-- No two connections have one session.
 abbrev pub SessionsAreApart : Type 0
 SessionsAreApart = (s : SessionTable) → SessionsAgree s → (m n : ℕ) (c d : ConnectedClient)
     → finmap.get s.connections m ≡ Some c → finmap.get s.connections n ≡ Some d → c.session ≡ d.session → m ≡ n
 
 -- ---- laws
 
--- at the start sessions and connections agree, and they do after each step
+-- Sessions and connections agree at the start, and after each step.
 pub record AgreementIsKept : Type 0 where
   pub starts : (terms : SessionSettings) → IsTrue (is_server_id terms.server_id) → SessionsAgree (no_sessions terms)
   pub connects : (s : SessionTable) (n : ℕ) (request : SessionRequest) → SessionsAgree s
@@ -50,7 +50,8 @@ pub record AgreementIsKept : Type 0 where
   pub closes : (s : SessionTable) (n : ℕ) → SessionsAgree s → SessionsAgree (close_connection s n)
   pub expires : (s : SessionTable) (session : ℤ) → SessionsAgree s → SessionsAgree (expire_guest s session).after
 
--- a step of one connection leaves the session and the ids of every other, save of one that it answers as closed
+-- A step of one connection leaves the session and the ids of every other, except of the one that it returns to be
+-- closed.
 pub record OtherConnectionsStay : Type 0 where
   pub connects : (s : SessionTable) (n : ℕ) (request : SessionRequest) (m : ℕ) → m ≢ n
       → (connect_session s n request).connected.older ≢ Some m
@@ -62,23 +63,23 @@ pub record OtherConnectionsStay : Type 0 where
   pub expires : (s : SessionTable) (session : ℤ) (m : ℕ) → (expire_guest s session).closed ≢ Some m
       → finmap.get (expire_guest s session).after.connections m ≡ finmap.get s.connections m
 
--- the session of this id, where 0 is none's
+-- The session of this id; the id 0 is no session's.
 abbrev pub nonzero_session : ℤ → Option ℤ
 nonzero_session session = if int_eq session (pos 0) then None else Some session
 
--- no session is 0, so the answer's session tells whether the connection has one now
+-- No session has the id 0, so the response's session id tells whether the connection has a session now.
 abbrev pub ResponsesNameSessions : Type 0
 ResponsesNameSessions = (s : SessionTable) (n : ℕ) (request : SessionRequest) → SessionsAgree s
     → finmap.get s.connections n ≡ None
     → session_of_connection (connect_session s n request).after n
     ≡ nonzero_session (connect_session s n request).connected.response.session_id
 
--- a session of this server that has ended
+-- A session of this server that has ended.
 pub record IsEnded (s : SessionTable) (session : ℤ) : Type 0 where
   pub opened : IsOpenedBy s.terms.server_id s.counter session
   pub none : finmap.get s.guests session ≡ None
 
--- A session that has ended is valid for nobody, whatever comes.
+-- A session that has ended is never valid again.
 pub record EndedSessionsStayEnded : Type 0 where
   pub ends : (s : SessionTable) (session : ℤ) (o : Option ℕ) → SessionsAgree s → finmap.get s.guests session ≡ Some o
       → IsEnded (expire_guest s session).after session

@@ -1,4 +1,4 @@
--- What names a session, what shows that it is one's own, and the id that a client shows of itself.
+-- Session ids, the passwords of sessions, and digest ids.
 use Rattle.std.specs.Prelude.{ℕ, ◌+◌, ◌*◌, ◌^◌, ◌==◌, ℤ, List, ◌++◌, take, codes, unsigned_abs}
 use Rattle.std.specs.Int.{w64, cast_signed, cast_unsigned, to_be_bytes}
 use Rattle.std.specs.List.{before_first}
@@ -7,12 +7,12 @@ use Rattle.base64.specs.Engines.{standard}
 use Rattle.base64.specs.GeneralPurpose.{encode_of}
 use Rattle.jute.specs.declared.owned.Id.{Id}
 
--- ---- the id of a session: the server's number is the high byte, and behind it stands a counter
+-- ---- the id of a session: the high byte is the server id, the 7 bytes below are a counter
 
 abbrev pub session_number : ℤ → ℕ → ℕ
 session_number server_id counter = unsigned_abs server_id * 2 ^ 56 + counter
 
--- read as two's complement
+-- The number is read as two's complement.
 unfoldable pub session_id_of : ℤ → ℕ → ℤ
 session_id_of server_id counter = cast_signed w64 (session_number server_id counter)
 
@@ -26,7 +26,7 @@ password_of secret id = take 16 (sha1 (secret ++ id_bytes id))
 
 -- ---- the digest id of "user:password": the user, a colon, and SHA-1 of all the bytes in base64
 
--- what stands before the first colon; all of it, where there is none
+-- The bytes before the first colon, or all of them if there is none.
 abbrev pub user_of : List ℕ → List ℕ
 user_of bytes = before_first (λ b. b == 58) bytes
 

@@ -1,16 +1,16 @@
--- What the private functions answer and leave. No public contract cites this.
+-- The contracts of the private functions. No public contract cites this.
 use Rattle.std.specs.Prelude.{ℕ, ℤ, Option, None, Some}
 use Rattle.std.specs.FinMap as finmap
 use Rattle.jute.specs.declared.owned.Id.{Id}
 use Rattle.sessions.specs.State.{ConnectedClient, Guests, ConnectedClients}
 use Rattle.sessions.specs.Sessions.{with_id}
 
--- a session that is known gets another connection, or none
+-- Gives a known session another connection, or none.
 abbrev pub with_guest_connection : Guests → ℤ → Option ℕ → Option (Option ℕ) → Guests
 with_guest_connection guests session connection None = guests
 with_guest_connection guests session connection (Some o) = finmap.insert guests session connection
 
--- an open connection shows an id
+-- Adds an id to a connection that has a session.
 abbrev pub with_shown_id : ConnectedClients → ℕ → Id → Option ConnectedClient → ConnectedClients
 with_shown_id connections n id None = connections
 with_shown_id connections n id (Some c) = finmap.insert connections n (with_id c id)

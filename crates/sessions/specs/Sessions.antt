@@ -1,4 +1,4 @@
--- What connecting, showing an id, closing and ending do to the sessions that an observer knows.
+-- What connecting, adding an id, closing and ending do to the sessions that an observer knows.
 use Rattle.std.specs.Prelude.{ℕ, ◌+◌, ◌-◌, ◌^◌, ◌==◌, ◌&&◌, nat_lt, ℤ, pos, int_lt, List, [], ◌∷◌, ◌++◌, length, replicate, codes, Option, None, Some, Bool, true, false, if◌then◌else◌}
 use Rattle.std.specs.Ordering.{int_eq}
 use Rattle.std.specs.List.{list_any}
@@ -12,17 +12,17 @@ use Rattle.sessions.specs.declared.request.Connected.{Connected}
 use Rattle.sessions.specs.Credentials.{session_id_of, password_of, digest_id}
 use Rattle.sessions.specs.State.{SessionSettings, ConnectedClient, SessionTable, session_table_of}
 
--- before any connection
+-- Before any connection.
 abbrev pub no_sessions : SessionSettings → SessionTable
 no_sessions terms = session_table_of terms 0 finmap.empty finmap.empty
 
--- ---- what is asked
+-- ---- queries
 
 abbrev pub session_in : Option ConnectedClient → Option ℤ
 session_in None = None
 session_in (Some c) = Some c.session
 
--- the connection's session, if it has one
+-- The session of the connection, if it has one.
 abbrev pub session_of_connection : SessionTable → ℕ → Option ℤ
 session_of_connection s n = session_in (finmap.get s.connections n)
 
@@ -30,7 +30,7 @@ abbrev pub ids_in : Option ConnectedClient → List Id
 ids_in None = []
 ids_in (Some c) = c.ids
 
--- the ids that the connection has shown, in order
+-- The ids of the connection, in the order in which they were added.
 abbrev pub ids_of : SessionTable → ℕ → List Id
 ids_of s n = ids_in (finmap.get s.connections n)
 
@@ -38,7 +38,6 @@ abbrev pub connection_in : Option (Option ℕ) → Option ℕ
 connection_in None = None
 connection_in (Some o) = o
 
--- the connection that has the session now
 abbrev pub connection_of : SessionTable → ℤ → Option ℕ
 connection_of s session = connection_in (finmap.get s.guests session)
 
@@ -59,7 +58,7 @@ close_if_some s (Some n) = close_connection s n
 -- ---- expire: a guest session ends, and its connection closes
 
 pub record ExpireResult : Type 0 where
-  -- the connection that is closed
+  -- The connection to close.
   pub closed : Option ℕ
   pub after : SessionTable
 
@@ -93,18 +92,18 @@ session_response terms session time_out =
       password = password_of terms.secret session;
     }
 
--- a refusal is all zeros, and the caller closes the connection
+-- A refusal is all zeros, and the caller closes the connection.
 abbrev pub refusal_response : SessionResponse
 refusal_response = record { time_out = pos 0; session_id = pos 0; password = replicate 16 0 }
 
 abbrev pub refused_connect : SessionTable → ConnectResult
 refused_connect s = record { connected = record { response = refusal_response; older = None }; after = s }
 
--- a connection that has shown no id yet
+-- A connection without ids.
 abbrev pub new_connection : ℤ → ConnectedClient
 new_connection session = record { session = session; ids = [] }
 
--- the connection has the session from now on
+-- The connection has the session from now on.
 abbrev pub with_session_connected : SessionTable → ℕ → ℤ → SessionTable
 with_session_connected s n session = record s {
   guests = finmap.insert s.guests session (Some n);
@@ -122,7 +121,7 @@ accepted_connect s n session time_out older =
 abbrev pub greatest_counter : ℕ
 greatest_counter = 2 ^ 56 - 1
 
--- a new guest session, with the next counter, while there is one
+-- A new guest session with the next counter, unless the counters are used up.
 abbrev pub open_new : SessionTable → ℕ → ℤ → ConnectResult
 open_new s n time_out =
     if s.counter == greatest_counter then refused_connect s
@@ -134,13 +133,13 @@ abbrev pub is_password : List ℕ → Option (List ℕ) → Bool
 is_password own None = false
 is_password own (Some given) = bytes_eq given own
 
--- a guest session, with its own password
+-- A live guest session, with its own password.
 abbrev pub is_valid : SessionTable → SessionRequest → Bool
 is_valid s request =
     finmap.contains_key s.guests request.session_id && is_password
     (password_of s.terms.secret request.session_id) request.password
 
--- an older connection of the session is closed first
+-- An older connection of the session is closed first.
 abbrev pub reopen_session : SessionTable → ℕ → SessionRequest → ConnectResult
 reopen_session s n request =
     let older = connection_of s request.session_id in
@@ -155,21 +154,21 @@ connect_session s n request =
 -- ---- auth
 
 pub record AuthResult : Type 0 where
-  -- false where it is refused, and the caller closes the connection
+  -- False for a refusal; then the caller closes the connection.
   pub is_accepted : Bool
   pub after : SessionTable
 
 abbrev pub is_same_id : Id → Id → Bool
 is_same_id a b = bytes_eq a.scheme b.scheme && bytes_eq a.id b.id
 
--- the most ids that a connection may show
+-- The most ids that a connection may add.
 abbrev pub ids_limit : ℕ
 ids_limit = 1024
 
 abbrev pub with_id : ConnectedClient → Id → ConnectedClient
 with_id c id = record c { ids = c.ids ++ id ∷ [] }
 
--- an id that was shown already is no second one
+-- An id that the connection has already isn't added twice.
 abbrev pub show_in : SessionTable → ℕ → Id → Option ConnectedClient → AuthResult
 show_in s n id None = record { is_accepted = false; after = s }
 show_in s n id (Some c) =
@@ -181,7 +180,7 @@ show_in s n id (Some c) =
 abbrev pub add_id : SessionTable → ℕ → Id → AuthResult
 add_id s n id = show_in s n id (finmap.get s.connections n)
 
--- what is shown by the scheme "digest" and a text; nothing by another scheme, or by null, or by bytes that are no text
+-- The text of the scheme "digest"; none for any other scheme, for null, and for bytes that aren't UTF-8.
 abbrev pub digest_text : Option (List ℕ) → Option (List ℕ) → Option (List ℕ)
 digest_text None bytes = None
 digest_text (Some scheme) None = None

@@ -6,28 +6,28 @@ use Rattle.std.specs.FinMap as finmap
 use Rattle.settings.specs.Settings.{TimeoutPair}
 use Rattle.jute.specs.declared.owned.Id.{Id}
 
--- what sessions are opened with
+-- The settings that new sessions depend on.
 pub record SessionSettings : Type 0 where
   pub server_id : ℤ
   pub timeouts : TimeoutPair
   pub secret : List ℕ
 
--- a connection that has a session, and the ids that it has shown
+-- A connection that has a session, and the ids that it has added.
 pub record ConnectedClient : Type 0 where
   pub session : ℤ
   pub ids : List Id
 
--- the guest sessions that haven't ended, each with the connection that has it now, if there is one
+-- The live guest sessions, each with the connection that has it now, if there is one.
 abbrev pub Guests : Type 0
 Guests = finmap.FinMap int_cmp (Option ℕ)
 
--- the connections that have a session, by their numbers
+-- The connections that have a session, by number.
 abbrev pub ConnectedClients : Type 0
 ConnectedClients = finmap.FinMap nat_cmp ConnectedClient
 
 pub record SessionTable : Type 0 where
   pub terms : SessionSettings
-  -- how many sessions were opened
+  -- The number of sessions opened so far.
   pub counter : ℕ
   pub guests : Guests
   pub connections : ConnectedClients

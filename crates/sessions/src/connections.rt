@@ -1,4 +1,6 @@
 //! The connections that have a session.
+//!
+//! Laws that go over this: `Agreeing`, `Kept`, `Others`.
 
 ghost use Rattle.std.specs.Prelude.{◌≡◌, OnOk, OnErr};
 ghost use Rattle.std.specs.Option.{option_copied};
@@ -12,7 +14,7 @@ use std::collections::BTreeMap;
 use std::marker::Model;
 use values::NoMemory;
 
-/// A connection's session, and the ids that it has shown.
+/// A connection's session, and the ids that it has added.
 #[derive(Drop)]
 pub struct Connection {
     session: i64,
@@ -42,7 +44,6 @@ impl Connection {
         self.ids.as_slice()
     }
 
-    // Shows an id.
     fn show(&mut self, id: Id) -> Result<(), NoMemory>
         ensures ok { OnOk result (self.new ≡ with_id self.old id) }
         ensures err { OnErr result (self.new ≡ self.old) }
@@ -52,7 +53,7 @@ impl Connection {
     }
 }
 
-/// The connections that have a session, by their numbers.
+/// The connections that have a session, by number.
 #[derive(Drop)]
 pub struct Connections {
     map: BTreeMap<u64, Connection>,
@@ -70,7 +71,7 @@ impl Model for Connections {
 }
 
 impl Connections {
-    /// No connection, which takes no memory.
+    /// No connection. Allocates nothing.
     pub fn new(alloc: Global) -> Connections
         ensures { result ≡ finmap.empty }
     {
@@ -79,7 +80,7 @@ impl Connections {
         }
     }
 
-    /// Gives the connection the session; it has shown no id.
+    /// Gives the connection the session, without ids. A refused allocation changes nothing.
     pub fn add(&mut self, alloc: Global, number: u64, session: i64) -> Result<(), NoMemory>
         ensures ok { OnOk result
             (self.new ≡ finmap.insert self.old number (new_connection session)) }
@@ -93,7 +94,7 @@ impl Connections {
         Ok(())
     }
 
-    /// How many connections there are.
+    /// The number of connections that have a session.
     pub fn count(&self) -> usize
         ensures { result ≡ finmap.len self.now }
     {
@@ -107,7 +108,7 @@ impl Connections {
         self.map.get(&number)
     }
 
-    /// Shows an id at a connection that has a session.
+    /// Adds an id to a connection that has a session. A refused allocation changes nothing.
     pub fn show(&mut self, number: u64, id: Id) -> Result<(), NoMemory>
         ensures ok { let connection = finmap.get self.old number in
             OnOk result (self.new ≡ with_shown_id self.old number id connection) }
@@ -119,7 +120,7 @@ impl Connections {
         }
     }
 
-    /// Takes the connection out, and answers it, if it had a session.
+    /// Removes the connection and returns it; None if it has no session.
     pub fn take(&mut self, number: u64) -> Option<Connection>
         ensures was { result ≡ finmap.get self.old number }
         ensures removed { self.new ≡ finmap.remove self.old number }
@@ -127,7 +128,7 @@ impl Connections {
         self.map.remove(&number)
     }
 
-    /// Drops the connection.
+    /// Drops the connection and its ids.
     pub fn close(&mut self, number: u64)
         ensures { self.new ≡ finmap.remove self.old number }
     {

@@ -1,4 +1,6 @@
 //! Session ids, their passwords, and digest ids.
+//!
+//! Laws that go over this: `Agreeing`, `Ended`, `Kept`, `Numbers`, `Others`.
 
 ghost use Rattle.std.specs.Prelude.{◌≡◌, ◌<◌, ◌^◌, IfOk};
 ghost use Rattle.sessions.specs.Credentials.{session_id_of, password_of, user_of, digest_id};
@@ -11,7 +13,7 @@ use sha1::Sha1;
 use std::alloc::Global;
 use values::{NoMemory, Text};
 
-/// How many sessions one server may name: the counter stands below its number.
+/// The number of sessions that one server can open: the counter is the 7 bytes below the server id.
 pub const COUNTERS: u64 = 0x0100_0000_0000_0000;
 
 /// The id of the session that the server opens with this counter.
@@ -23,7 +25,7 @@ pub fn session_id(server_id: ServerId, counter: u64) -> i64
     (high * COUNTERS + counter).cast_signed()
 }
 
-/// The password of the session, by which only the observer that has the secret can name it.
+/// The 16-byte password of the session. Without the observer's secret it can't be computed.
 pub fn password(secret: &Secret, session: i64) -> [u8; PASSWORD_LEN]
     ensures { result ≡ password_of secret.now session }
 {
@@ -36,7 +38,7 @@ pub fn password(secret: &Secret, session: i64) -> [u8; PASSWORD_LEN]
     password
 }
 
-// What stands before the first colon; all of it, where there is none.
+// The text before the first colon, or the whole text if it has none.
 fn user_of(text: &str) -> &str
     ensures { result.now ≡ user_of text.now }
 {
@@ -46,7 +48,7 @@ fn user_of(text: &str) -> &str
     }
 }
 
-/// The id that "user:password" shows.
+/// The digest id of "user:password". Fails only if an allocation is refused.
 pub fn digest_id(alloc: Global, text: &str) -> Result<Id, NoMemory>
     ensures { IfOk result (λ id. id ≡ digest_id text.now) }
 {

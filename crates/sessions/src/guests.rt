@@ -1,4 +1,6 @@
 //! The guest sessions, each with its connection.
+//!
+//! Laws that go over this: `Agreeing`, `Ended`.
 
 ghost use Rattle.std.specs.Prelude.{◌≡◌, OnOk, OnErr, Some};
 ghost use Rattle.std.specs.FinMap as finmap;
@@ -11,7 +13,7 @@ use std::marker::Model;
 use std::mem;
 use values::NoMemory;
 
-/// The guest sessions that haven't ended, each with the connection that has it now, if there is one.
+/// The live guest sessions, each with the connection that has it now, if there is one.
 #[derive(Drop)]
 pub struct Guests {
     map: BTreeMap<i64, Option<u64>>,
@@ -29,7 +31,7 @@ impl Model for Guests {
 }
 
 impl Guests {
-    /// No session, which takes no memory.
+    /// No session. Allocates nothing.
     pub fn new(alloc: Global) -> Guests
         ensures { result ≡ finmap.empty }
     {
@@ -38,7 +40,7 @@ impl Guests {
         }
     }
 
-    /// Adds a session that the connection has.
+    /// Adds a session with its connection. A refused allocation changes nothing.
     pub fn add(&mut self, session: i64, connection: u64) -> Result<(), NoMemory>
         ensures ok { OnOk result (self.new ≡ finmap.insert self.old session (Some connection)) }
         ensures err { OnErr result (self.new ≡ self.old) }
@@ -53,7 +55,7 @@ impl Guests {
         self.map.contains_key(&session)
     }
 
-    /// Gives a session that is known another connection, or none, and answers the connection that had it.
+    /// Gives a known session another connection, or none, and returns the one that it had.
     pub fn replace(&mut self, session: i64, connection: Option<u64>) -> Option<u64>
         ensures older { result ≡ connection_in (finmap.get self.old session) }
         ensures new { let known = finmap.get self.old session in
@@ -65,7 +67,7 @@ impl Guests {
         }
     }
 
-    /// Takes a session out, and answers its connection, if there was that session.
+    /// Removes a session and returns its connection. The outer None means that there was no such session.
     pub fn remove(&mut self, session: i64) -> Option<Option<u64>>
         ensures was { result ≡ finmap.get self.old session }
         ensures removed { self.new ≡ finmap.remove self.old session }

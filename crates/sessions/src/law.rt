@@ -2,21 +2,21 @@
 
 ghost use Rattle.sessions.specs.Agreement.{SessionsAreApart, AgreementIsKept, EndedSessionsStayEnded, OtherConnectionsStay, ResponsesNameSessions};
 
-/// Sessions and connections agree from the start on; where they do, no two connections have one session, and an answer
-/// to a connect tells whether the connection has a session now.
+/// Sessions and connections agree from the start on. Where they do, no two connections have one session, and the
+/// response to a connect tells whether the connection has a session now.
 pub fn sessions_and_connections_agree()
     ensures kept { AgreementIsKept }
     ensures apart { SessionsAreApart }
     ensures told { ResponsesNameSessions }
 {}
 
-/// A step of one connection leaves the session and the ids of every other one, save of the one that it answers as
+/// A step of one connection leaves the session and the ids of every other one, except of the one that it returns to be
 /// closed.
 pub fn others_stay()
     ensures { OtherConnectionsStay }
 {}
 
-/// A session that has ended is valid for nobody, whatever comes after it: no id is given twice.
+/// A session that has ended is never valid again: no id is given twice.
 pub fn ended_sessions_stay_ended()
     ensures { EndedSessionsStayEnded }
 {}

@@ -1,22 +1,22 @@
-//! Sessions of clients: which of them this observer has opened, which connection has which, and which ids a connection
-//! has shown.
+//! Sessions of clients: the sessions that this observer has opened, the connection that has each, and the ids that a
+//! connection has added.
 //!
-//! A session is a guest's: this observer opened it, and no other server knows it. Its id has the server's number as its
-//! high byte, and behind it a counter from 1 on; its password is made of the observer's secret and the id, so that none
-//! is kept. A session outlives its connection: who comes again with id and password has it again, and an older
-//! connection of it is closed.
+//! All sessions are guest sessions: this observer opened them, and no other server knows them. The high byte of a
+//! session id is the server id, and the 7 bytes below are a counter from 1 on. The password is computed from the
+//! observer's secret and the session id, so no password is stored. A session outlives its connection: a client that
+//! reconnects with id and password has it again, and an older connection of the session is closed.
 //!
 //! ```text
 //! let mut sessions = Sessions::new(alloc, server_id, timeouts, secret);
-//! let connected = sessions.connect(alloc, 1, &request)?;      // opens a session, or gives one back, or refuses
+//! let connected = sessions.connect(alloc, 1, &request)?;      // opens a session, reopens one, or refuses
 //! sessions.auth(alloc, 1, Some("digest"), Some(b"user:password"))?;
 //! sessions.ids(1)                                             // the digest id of the user
 //! sessions.close(1);                                          // the session stays
-//! sessions.expire(id)                                         // the session ends; None, as no connection has it
+//! sessions.expire(id)                                         // the session ends; None, since no connection has it
 //! ```
 //!
-//! Whether a client may connect at all (clients are served, and the client has seen nothing that is still to come) is
-//! judged by the caller, before `connect`.
+//! Whether a client may connect at all is judged by the caller before `connect`: clients have to be served, and the
+//! client mustn't have seen a zxid above this replica's.
 #![tactic(auto)]
 
 mod connections;

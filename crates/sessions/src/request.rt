@@ -1,32 +1,33 @@
-//! What a client asks for as it connects, and what it is answered.
+//! The request of a connecting client, and the response.
 
 use values::Bytes;
 
-/// The bytes of a session's password.
+/// The length of a session's password, in bytes.
 pub const PASSWORD_LEN: usize = 16;
 
-/// What a client asks for as it connects: the fields of a ConnectRequest that tell which session it wants.
+/// The fields of a ConnectRequest that say which session the client wants.
 #[derive(Drop)]
 pub struct SessionRequest<'a> {
-    /// In milliseconds.
+    /// The timeout that the client asks for, in milliseconds.
     pub time_out: i32,
-    /// 0 for a new session.
+    /// The id of the session to reopen, or 0 for a new session.
     pub session_id: i64,
-    /// None where it is null.
+    /// The password of the session; None for a null buffer.
     pub password: Option<Bytes<'a>>,
 }
 
-/// What a client is answered: the fields of a ConnectResponse. All are zeros where it is refused, and then the caller
-/// closes the connection; no session is 0.
+/// The fields of a ConnectResponse. All zeros are a refusal, after which the caller closes the connection; no session
+/// has the id 0.
 #[derive(Clone, Copy)]
 pub struct SessionResponse {
-    /// In milliseconds.
+    /// The timeout of the session, in milliseconds.
     pub time_out: i32,
     pub session_id: i64,
     pub password: [u8; PASSWORD_LEN],
 }
 
-/// The answer, and the older connection of the session, which has no session any more and is to be closed before it.
+/// The response, and the older connection of the session. The older connection has lost the session, and the caller
+/// closes it before it sends the response.
 #[derive(Clone, Copy)]
 pub struct Connected {
     pub response: SessionResponse,

@@ -1,4 +1,6 @@
-//! Sessions, and who has them.
+//! Sessions, and the connections that have them.
+//!
+//! Laws that go over this: `Agreeing`, `Ended`, `Kept`, `Others`.
 
 ghost use Rattle.std.specs.Prelude.{◌≡◌, OnErr, IfOk, IfNone, IsTrue, None, nat_lt, length};
 ghost use Rattle.std.specs.Option.{option_copied};
@@ -17,16 +19,16 @@ use std::alloc::Global;
 use std::marker::Model;
 use values::NoMemory;
 
-/// The most ids that a connection may show.
+/// The most ids that a connection may add.
 pub const IDS_LIMIT: usize = 1024;
 
-/// The guest sessions of an observer, and for each connection its session and the ids that it has shown.
+/// The guest sessions of an observer, and for each connection its session and its ids.
 #[derive(Drop)]
 pub struct Sessions {
     server_id: ServerId,
     timeouts: TimeoutBounds,
     secret: Secret,
-    // How many sessions were opened.
+    // The number of sessions opened so far.
     counter: u64,
     guests: Guests,
     connections: Connections,
@@ -47,7 +49,7 @@ impl Model for Sessions {
         s.counter s.guests s.connections) };
 }
 
-// A timeout within the bounds, in milliseconds.
+// The timeout, in milliseconds, moved into the bounds.
 fn clamp_timeout(bounds: TimeoutBounds, time_out: i32) -> i32
     ensures { result ≡ clamped_timeout bounds time_out }
 {
@@ -60,7 +62,6 @@ fn clamp_timeout(bounds: TimeoutBounds, time_out: i32) -> i32
     time_out
 }
 
-// The answer to a client that gets no session.
 fn refused_connect() -> Connected
     ensures { result ≡ record { response = refusal_response; older = None } }
 {
@@ -74,7 +75,7 @@ fn refused_connect() -> Connected
     }
 }
 
-// The text that is shown by the scheme "digest".
+// The text of the scheme "digest"; None for any other scheme and for bytes that aren't UTF-8.
 fn digest_text<'a>(scheme: Option<&str>, bytes: Option<&'a [u8]>) -> Option<&'a str>
     ensures { let given = option_copied scheme.entry in
         option_copied result ≡ digest_text given (option_copied bytes.entry) }
@@ -94,7 +95,7 @@ fn digest_text<'a>(scheme: Option<&str>, bytes: Option<&'a [u8]>) -> Option<&'a 
     }
 }
 
-// Whether one id more may be shown beside these.
+// Whether one more id may be added to these.
 fn has_room(ids: &[Id]) -> bool
     ensures { result ≡ nat_lt (length ids.now) ids_limit }
 {
@@ -102,7 +103,7 @@ fn has_room(ids: &[Id]) -> bool
 }
 
 impl Sessions {
-    /// No session, which takes no memory.
+    /// No session. `timeouts` are in milliseconds. Allocates nothing.
     pub fn new(
         alloc: Global,
         server_id: ServerId,
@@ -111,7 +112,7 @@ impl Sessions {
     ) -> Sessions
         ensures { result ≡ no_sessions (session_settings_of server_id timeouts secret) }
     {
-        // The contract of `number` tells the prover the number's bounds, which the invariant rests on.
+        // The contract of `number` tells the prover the bounds of the server id, which the invariant needs.
         let _number = server_id.number();
         Sessions {
             server_id,
@@ -123,7 +124,7 @@ impl Sessions {
         }
     }
 
-    /// The connection's session, if it has one.
+    /// The session of the connection, if it has one.
     pub fn session(&self, connection: u64) -> Option<i64>
         ensures session { result ≡ session_of_connection self.now connection }
         ensures none { IfNone result (finmap.get self.now.connections connection ≡ None) }
@@ -135,14 +136,14 @@ impl Sessions {
         }
     }
 
-    /// How many connections have a session.
+    /// The number of connections that have a session.
     pub fn count(&self) -> usize
         ensures { result ≡ finmap.len self.now.connections }
     {
         self.connections.count()
     }
 
-    /// The ids that the connection has shown, in order.
+    /// The ids of the connection, in the order in which they were added.
     pub fn ids(&self, connection: u64) -> &[Id]
         ensures { result.now ≡ ids_of self.now connection }
     {
@@ -152,7 +153,7 @@ impl Sessions {
         }
     }
 
-    // What a client is answered that has the session from now on.
+    // The response to a client that has the session from now on.
     fn response_for(&self, session: i64, time_out: i32) -> SessionResponse
         ensures { result ≡ session_response self.now.terms session time_out }
     {
@@ -163,7 +164,6 @@ impl Sessions {
         }
     }
 
-    // Opens a new session.
     fn open_new(
         &mut self,
         alloc: Global,
@@ -212,7 +212,7 @@ impl Sessions {
         }
     }
 
-    // Gives a session back.
+    // Gives the session to this connection and takes it from an older one.
     fn reopen(
         &mut self,
         alloc: Global,
@@ -234,7 +234,8 @@ impl Sessions {
         Ok(Connected { response, older })
     }
 
-    /// Connects a connection that has no session. It has one afterwards, unless the answer is a refusal.
+    /// Gives a connection that has no session a new one, or the one that the request names. A refusal is a response
+    /// with all fields 0. A refused allocation changes nothing.
     pub fn connect(
         &mut self,
         alloc: Global,
@@ -255,7 +256,7 @@ impl Sessions {
         self.reopen(alloc, connection, request)
     }
 
-    // Shows an id.
+    // Adds an id.
     fn show(&mut self, connection: u64, id: Id) -> Result<bool, NoMemory>
         ensures ok { IfOk result (λ is_accepted. add_id self.old connection id
             ≡ record { is_accepted = is_accepted; after = self.new }) }
@@ -274,8 +275,9 @@ impl Sessions {
         Ok(true)
     }
 
-    /// Shows the digest id of the bytes "user:password". False where that is refused: another scheme or none, bytes
-    /// that are null or no UTF-8, one id more than `IDS_LIMIT`, or a connection without a session.
+    /// Adds the digest id of the bytes "user:password" to a connection. Returns false if that is refused: the scheme
+    /// isn't "digest", the bytes are null or not UTF-8, the connection has `IDS_LIMIT` ids already, or it has no
+    /// session.
     pub fn auth(
         &mut self,
         alloc: Global,
@@ -307,7 +309,8 @@ impl Sessions {
         }
     }
 
-    /// Ends a guest session, and drops and answers its connection, which is to be closed. Nothing else has that id.
+    /// Ends a guest session and drops its connection, which is returned for the caller to close. An id that isn't a
+    /// session's does nothing.
     pub fn expire(&mut self, session: i64) -> Option<u64>
         ensures { expire_guest self.old session ≡ record { closed = result; after = self.new } }
     {

@@ -13,7 +13,7 @@ const FIRST_PASSWORD: &[u8; 16] =
 
 const SECOND: i64 = 0x0300_0000_0000_0002;
 
-// An answer in words: timeout, id, password, and the older connection.
+// A response in words: timeout, id, password, and the older connection.
 fn text_of(alloc: Global, connected: &Connected) -> Result<String, Fail> {
     let response = &connected.response;
     let time_out = response.time_out;
@@ -25,7 +25,7 @@ fn text_of(alloc: Global, connected: &Connected) -> Result<String, Fail> {
     }
 }
 
-// What a connection is answered that asks for this; nothing where it has a session.
+// The response to a connect with these fields; nothing if the connection has a session.
 fn connect(
     alloc: Global,
     sessions: &mut Sessions,
@@ -54,7 +54,7 @@ fn open(alloc: Global, sessions: &mut Sessions, connection: u64) -> Result<Strin
     connect(alloc, sessions, connection, 10_000, 0, Some(&[0; 16]))
 }
 
-// The last bytes of the sessions of connections 1, 2 and 3, as hexadecimal digits; 00 where there is none.
+// The last bytes of the sessions of connections 1, 2 and 3, as hexadecimal digits; 00 if there is none.
 fn seats(alloc: Global, sessions: &Sessions) -> Result<String, Fail> {
     let mut bytes = Vec::new(alloc);
     for connection in [1, 2, 3] {
@@ -72,7 +72,7 @@ fn two_sessions(alloc: Global) -> Result<Sessions, Fail> {
     Ok(sessions)
 }
 
-// What two connections of a server are answered, and who has sessions then.
+// The responses to two connections of a server, and the sessions of the connections afterwards.
 fn first_two(alloc: Global, server_id: i32) -> Result<String, Fail> {
     let mut sessions = sessions_of(alloc, server_id)?;
     let mut text = open(alloc, &mut sessions, 1)?;
@@ -101,7 +101,7 @@ fn new_sessions_count_up(rt: HostRuntime) -> Result<(), Fail> {
     Ok(())
 }
 
-// What a session's first connection is answered that asks for this timeout.
+// The response to a session's first connection that asks for this timeout.
 fn timed(alloc: Global, time_out: i32) -> Result<String, Fail> {
     let mut sessions = sessions_of(alloc, 3)?;
     connect(alloc, &mut sessions, 1, time_out, 0, None)
@@ -137,7 +137,8 @@ fn timeouts_stay_within_their_bounds(rt: HostRuntime) -> Result<(), Fail> {
     Ok(())
 }
 
-// What connection 3 is answered that asks for a session, beside two on connections 1 and 2, and who has sessions then.
+// The response to connection 3 that asks for a session, besides two on connections 1 and 2, and the sessions of the
+// connections afterwards.
 fn third(alloc: Global, session_id: i64, password: Option<&[u8]>) -> Result<String, Fail> {
     let mut sessions = two_sessions(alloc)?;
     let mut text = connect(alloc, &mut sessions, 3, 10_000, session_id, password)?;
@@ -175,17 +176,16 @@ fn an_older_connection_gives_way(rt: HostRuntime) -> Result<(), Fail> {
     Ok(())
 }
 
-// Closes a connection.
 fn close(sessions: &mut Sessions, connection: u64) {
     sessions.close(connection);
 }
 
-// Ends a session, and answers its connection; 0 where there is none.
+// Ends a session and returns its connection; 0 if there is none.
 fn expire(sessions: &mut Sessions, session: i64) -> u64 {
     sessions.expire(session).unwrap_or(0)
 }
 
-// What connection 3 is answered that asks for the first session.
+// The response to connection 3 that asks for the first session.
 fn ask_for_first(alloc: Global, sessions: &mut Sessions) -> Result<String, Fail> {
     connect(alloc, sessions, 3, 10_000, FIRST, Some(FIRST_PASSWORD))
 }
@@ -198,7 +198,7 @@ fn closed(alloc: Global) -> Result<String, Fail> {
     ask_for_first(alloc, &mut sessions)
 }
 
-// The connections that are closed as a session ends that there isn't, then the first one, and then the first one again.
+// The connections that are closed when an unknown session ends, then the first one, and then the first one again.
 fn ended(alloc: Global) -> Result<[u64; 3], Fail> {
     let mut sessions = two_sessions(alloc)?;
     let nobody = expire(&mut sessions, 5);

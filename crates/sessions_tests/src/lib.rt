@@ -1,5 +1,5 @@
-//! Tests of clients' sessions, over public calls alone. They stand in a crate of their own, since a crate that has
-//! tests is proved twice; and most calls stand in functions without clauses, so that a test's own proof is short.
+//! Tests of clients' sessions, over public calls alone. They are a crate of their own, since a crate with tests is
+//! proved twice. Most calls are in functions without contracts, so that a test's own proof is short.
 #![tactic(auto)]
 
 #[cfg(test)]
@@ -12,7 +12,7 @@ use settings::{Secret, ServerId, TimeoutBounds};
 use std::alloc::Global;
 use values::{Blob, NoMemory};
 
-/// The sessions of a server (of server 1, where the number is no server's) with the secret "secret", and timeouts from
+/// The sessions of a server (server 1, if the number isn't a server id) with the secret "secret", and timeouts from
 /// 4,000 to 40,000 milliseconds.
 pub fn sessions_of(alloc: Global, server_id: i32) -> Result<Sessions, NoMemory> {
     let server_id = ServerId::new(server_id).unwrap_or(ServerId::default());

@@ -1,4 +1,4 @@
-//! Ids that connections show. Digests were made by another SHA-1 and base64.
+//! The ids of connections. Digests were made by another SHA-1 and base64.
 
 use crate::sessions_of;
 use sessions::{SessionRequest, Sessions};
@@ -22,7 +22,7 @@ fn opened(alloc: Global) -> Result<Sessions, Fail> {
     }
 }
 
-// The ids that connection 1 has shown, one after another.
+// The ids of connection 1, one after another.
 fn ids(alloc: Global, sessions: &Sessions) -> Result<String, Fail> {
     let mut text = String::new(alloc);
     for id in sessions.ids(1) {
@@ -34,7 +34,7 @@ fn ids(alloc: Global, sessions: &Sessions) -> Result<String, Fail> {
     Ok(text)
 }
 
-// Whether what connection 1 shows is accepted.
+// Whether connection 1 may add this.
 fn auth(
     alloc: Global,
     sessions: &mut Sessions,
@@ -44,19 +44,19 @@ fn auth(
     Ok(sessions.auth(alloc, 1, scheme, bytes)?)
 }
 
-// Shows a digest id at connection 1.
+// Adds a digest id to connection 1.
 fn show(alloc: Global, sessions: &mut Sessions, text: &str) -> Result<bool, Fail> {
     auth(alloc, sessions, Some("digest"), Some(text.as_bytes()))
 }
 
-// Connection 1 of server 3, which has shown super:admin.
+// Connection 1 of server 3, with the id super:admin.
 fn admin(alloc: Global) -> Result<Sessions, Fail> {
     let mut sessions = opened(alloc)?;
     show(alloc, &mut sessions, "super:admin")?;
     Ok(sessions)
 }
 
-// The ids that connection 1 has shown beside super:admin, and whether the last of them was accepted.
+// The ids of connection 1 besides super:admin, and whether the last of them was accepted.
 fn shown(alloc: Global, scheme: Option<&str>, bytes: Option<&[u8]>) -> Result<String, Fail> {
     let mut sessions = admin(alloc)?;
     let is_accepted = auth(alloc, &mut sessions, scheme, bytes)?;
@@ -99,7 +99,7 @@ fn what_is_no_digest_id_is_refused(rt: HostRuntime) -> Result<(), Fail> {
     Ok(())
 }
 
-// How many of so many users are accepted, and then whether the first is again.
+// How many of this many users are accepted, and then whether the first is accepted again.
 fn users(alloc: Global, count: u32) -> Result<(u32, bool), Fail> {
     let mut sessions = opened(alloc)?;
     let mut accepted: u32 = 0;
@@ -119,12 +119,11 @@ fn a_connection_shows_1024_ids(rt: HostRuntime) -> Result<(), Fail> {
     Ok(())
 }
 
-// Closes connection 1.
 fn close(sessions: &mut Sessions) {
     sessions.close(1);
 }
 
-// A connection closes, and another of its number shows nothing; without a session none is shown.
+// A connection closes, and another one of its number has no id; without a session none is added.
 fn closed(alloc: Global) -> Result<(bool, bool), Fail> {
     let mut sessions = admin(alloc)?;
     close(&mut sessions);

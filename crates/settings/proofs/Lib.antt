@@ -1,2 +1,2 @@
--- a setting that was made is the one that was asked for
+-- A setting that was made is the one asked for.
 pub mod Making

@@ -1,4 +1,4 @@
--- A setting that was made, and one that was not.
+-- A setting that was made, and one that wasn't.
 use Rattle.std.proofs.Common.{◌≡◌, Bool, true, false, Option, None, Some, cond, refl}
 
 not_made : {A : Type 0} (x : A) (r : Option A) → r ≡ None → r ≡ Some x → ⊥
@@ -7,7 +7,7 @@ not_made x r none some = cc
 same : {A : Type 0} (v x : A) (r : Option A) → r ≡ Some v → r ≡ Some x → x ≡ v
 same v x r e some = cc
 
--- it is within its bounds, and the one that was asked for
+-- It is within its bounds, and the one asked for.
 pub made : {A : Type 0} (is_within : Bool) (v x : A) (r : Option A)
     → r ≡ cond is_within (Some v) None → r ≡ Some x → (is_within ≡ true) × (x ≡ v)
 made true v x r e some = (refl, same v x r e some)

@@ -1,7 +1,7 @@
--- What an observer may be set up with, and what it is set up with where nothing is said.
+-- The valid settings of an observer, and the defaults.
 use Rattle.std.specs.Prelude.{ℕ, ℤ, pos, Bool, ◌&&◌, List, [], length, Option, Some, None, nat_le, int_le, if◌then◌else◌}
 
--- the greatest epoch that a leader was accepted with, and the epoch of the last leader that was followed
+-- The accepted epoch, and the epoch of the last leader that was followed.
 pub record EpochPair : Type 0 where
   pub accepted : ℤ
   pub current : ℤ
@@ -9,7 +9,7 @@ pub record EpochPair : Type 0 where
 abbrev pub epoch_pair : ℤ → ℤ → EpochPair
 epoch_pair accepted current = record { accepted = accepted; current = current }
 
--- the least and the greatest timeout of a session, in milliseconds
+-- The least and the greatest timeout of a session, in milliseconds.
 pub record TimeoutPair : Type 0 where
   pub least : ℤ
   pub greatest : ℤ
@@ -34,7 +34,7 @@ secret_limit = 64
 abbrev pub is_secret : List ℕ → Bool
 is_secret bytes = nat_le (length bytes) secret_limit
 
--- ---- the settings that are made of numbers and bytes: none, where these are out of their bounds
+-- ---- the settings made of numbers and bytes; none if these are out of bounds
 
 abbrev pub server_id_of : ℤ → Option ℤ
 server_id_of number = if is_server_id number then Some number else None

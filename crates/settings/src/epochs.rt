@@ -1,12 +1,11 @@
-//! Two epochs.
+//! The two epochs.
 
 ghost use Rattle.std.specs.Prelude.{◌≡◌, IsTrue};
 ghost use Rattle.settings.specs.Settings.{EpochPair, epoch_pair, are_epochs, epochs_of, default_epochs};
 
 use std::marker::Model;
 
-/// The greatest epoch that a leader was accepted with, and the epoch of the last leader that was followed; each is at
-/// least 0.
+/// The accepted epoch and the current epoch, which is that of the last leader that was followed; each is at least 0.
 #[derive(Clone, Copy, Debug)]
 pub struct Epochs {
     accepted: i32,
@@ -24,7 +23,7 @@ impl Model for Epochs {
 }
 
 impl Epochs {
-    /// These epochs, if they are some.
+    /// Returns these epochs, or None if one is below 0.
     pub fn new(accepted: i32, current: i32) -> Option<Epochs>
         ensures { result ≡ epochs_of accepted current }
     {

@@ -1,6 +1,6 @@
-//! What an observer is set up with. Each setting is a type whose values are within their bounds, since its constructor
-//! answers nothing else; so the bounds are looked at once, where a setting comes in, and nobody behind asks again. What
-//! is set where nothing is said stands here too, as `default` and `Secret::empty`.
+//! The settings of an observer. Each setting is a type whose values are within their bounds, since its constructor
+//! returns no others; so the bounds are checked once, where a setting comes in, and nowhere else. The defaults are here
+//! too, as `default` and `Secret::empty`.
 //!
 //! ```
 //! let server = ServerId::new(3);                     // Some: 1 to 255
@@ -8,8 +8,8 @@
 //! let epochs = Epochs::default();                    // 0 and 0
 //! ```
 //!
-//! In a contract a server id is seen as its number, a secret as its bytes, and epochs and timeouts as the pair of their
-//! numbers.
+//! In a contract the model of a server id is its number, that of a secret its bytes, and that of epochs and timeouts
+//! the pair of their numbers.
 #![tactic(auto)]
 
 mod epochs;

@@ -1,4 +1,4 @@
-//! What passwords are made of.
+//! The secret that passwords are computed from.
 
 ghost use Rattle.std.specs.Prelude.{◌≡◌, ℕ, List, IsTrue};
 ghost use Rattle.settings.specs.Settings.{is_secret, secret_of, default_secret};
@@ -7,10 +7,10 @@ use std::alloc::{AllocError, Global};
 use std::marker::Model;
 use values::Blob;
 
-/// The most bytes of a secret.
+/// The longest secret, in bytes.
 pub const SECRET_LIMIT: usize = 64;
 
-/// What the passwords of sessions are made of: at most 64 bytes.
+/// The secret that the passwords of sessions are computed from: at most 64 bytes.
 #[derive(Debug, Drop)]
 pub struct Secret {
     bytes: Blob,
@@ -35,7 +35,7 @@ impl Clone for Secret {
 }
 
 impl Secret {
-    /// The secret of these bytes, if they are one.
+    /// Returns the secret of these bytes, or None if they are too many.
     pub fn new(bytes: Blob) -> Option<Secret>
         ensures { result ≡ secret_of bytes }
     {
@@ -45,7 +45,7 @@ impl Secret {
         Some(Secret { bytes })
     }
 
-    /// The empty one, which stands where nothing else is said.
+    /// The empty secret, which is the default.
     pub fn empty(alloc: Global) -> Secret
         ensures { result ≡ default_secret }
     {

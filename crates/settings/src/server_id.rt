@@ -1,12 +1,12 @@
-//! The number of a server.
+//! The id of a server.
 
 ghost use Rattle.std.specs.Prelude.{◌≡◌, ℤ, IsTrue};
 ghost use Rattle.settings.specs.Settings.{is_server_id, server_id_of, default_server_id};
 
 use std::marker::Model;
 
-/// The number of a server among those that serve one tree, from 1 to 255. It is the high byte of the sessions that
-/// the server opens.
+/// The id of a server among those that serve one tree, from 1 to 255. It is the high byte of the session ids that the
+/// server gives.
 #[derive(Clone, Copy, Debug)]
 pub struct ServerId {
     number: i32,
@@ -23,7 +23,7 @@ impl Model for ServerId {
 }
 
 impl ServerId {
-    /// The server of this number, if it is one.
+    /// Returns the server id, or None if it is out of bounds.
     pub fn new(number: i32) -> Option<ServerId>
         ensures { result ≡ server_id_of number }
     {

@@ -23,7 +23,7 @@ impl Model for TimeoutBounds {
 }
 
 impl TimeoutBounds {
-    /// These bounds, if they are some.
+    /// Returns these bounds, or None if they are invalid.
     pub fn new(least: i32, greatest: i32) -> Option<TimeoutBounds>
         ensures { result ≡ timeouts_of least greatest }
     {

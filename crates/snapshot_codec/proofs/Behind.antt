@@ -1,9 +1,9 @@
--- A loop that puts one item behind another: what is there, and what is left.
+-- A loop that appends one item after another: the bytes so far, and the items left.
 use Rattle.std.proofs.Common.{◌≡◌, ℕ, List, ◌∷◌, ◌++◌, ◌↔◌, sym, ap, subst, ◌∙◌, append_assoc}
 use Rattle.std.specs.List.{flat_map, AllByRecursion}
 
 module _ {A : Type 0} (w : A → List ℕ) (F : A → Type 0) (old : List ℕ) (all : List A) where
-  -- the items that are left go behind what is there, and they fit where all do
+  -- Appending the items left completes the whole, and they fit exactly if all do.
   abbrev pub Left : List ℕ → List A → Type 0
   Left now rest = (now ++ flat_map w rest ≡ old ++ flat_map w all) × (AllByRecursion F rest ↔ AllByRecursion F all)
 

@@ -1,4 +1,4 @@
--- A map in the order of the walk, which takes the nodes one by one in ascending bytes.
+-- A map in the order of the walk, filled with the nodes one by one in ascending order of their bytes.
 use Rattle.std.proofs.Common.{◌≡◌, T, List, [], ◌∷◌, ◌++◌, length, None, refl, sym, ap, subst, ◌∙◌, arith, append_assoc}
 use Rattle.std.specs.FinMap as finmap
 use Rattle.std.specs.FinMap.{find, is_sorted, from_entries_push}
@@ -14,7 +14,7 @@ no_entries [] e = refl
 no_entries (x ∷ xs) e = absurd (omega arith)
 
 module _ (nodes : Nodes) where
-  -- the rows are those of the nodes before the rest
+  -- The rows are those of the nodes before the rest.
   abbrev pub SoFar : List (Bytes × Node) → List (Bytes × Node) → Type 0
   SoFar rows rest =
       (ahead : List (Bytes × Node)) × (finmap.entries nodes ≡ ahead ++ rest)

@@ -1,4 +1,4 @@
--- The formats of the parts keep the laws of formats, and no refusal of a part waits for more bytes.
+-- The formats of the parts are sound, and no part is refused for want of bytes.
 use Rattle.std.proofs.Common.{◌≡◌, ℕ, List, [], ◌∷◌, Option, Some, None, Result, Ok, Err, Bool, true, false, cond, refl, sym, ap, ◌∙◌, is_some}
 use Rattle.std.specs.FinMap as finmap
 use Rattle.std.specs.Str.{bytes_eq}
@@ -22,7 +22,7 @@ use Rattle.snapshot_codec.specs.declared.part.ImagePart.TheVariants as part
 use Rattle.snapshot_codec.specs.declared.part.PartPhase.{PartPhase}
 use Rattle.snapshot_codec.specs.declared.part.PartPhase.TheVariants.{SessionCount, Sessions, AclCount, Acls, Root, Nodes, Body, Signature}
 
--- ---- what was judged is given back
+-- ---- a judged value is written back
 
 abbrev Good : Value → Result Value Fault
 Good v = Ok v

@@ -95,7 +95,7 @@ module _ (lists : Lists) where
       no_roots [] k = tt
       no_roots (f ∷ fs) k = (k.0.0, no_roots fs k.1)
 
--- the sections of a whole state's image
+-- The sections of a whole state's image.
 pub sections : (s : State) → IsWhole s
     → ((sessions_bytes (finmap.entries s.sessions) ++ table_bytes (lists_of s.nodes))
     ++ nodes_bytes (lists_of s.nodes) (walk_of s.nodes)) ++ end_bytes
@@ -182,7 +182,7 @@ module _ (s : State) where
   pub fit_nodes : FitsImage s → FitNodes table (walk_of s.nodes)
   fit_nodes h = all_both PathFits BodyFits (walk_of s.nodes) h.1.paths h.1.nodes
 
--- ---- what is written, call by call
+-- ---- the bytes written by each call
 
 module _ (s : State) (rows : List (Bytes × Node)) (is : rows ≡ walk_of s.nodes) where
   pub put_all : (ids : List (ℤ × ℤ)) (zero one two three four all : List ℕ) → IsWhole s

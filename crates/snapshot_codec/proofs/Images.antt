@@ -1,5 +1,5 @@
--- What is read as an image is spelled so, and what is spelled so is read; and a refusal names the first field against
--- it.
+-- What is read as an image was spelled so, and a spelling is read; a refusal names the first field that isn't spelled,
+-- or the first part that doesn't fit.
 use Rattle.std.proofs.Common.{◌≡◌, ℕ, ◌≤◌, ◌-◌, true, false, cond, List, [], ◌∷◌, ◌++◌, length, drop, Option, Some, None, is_some, Result, Ok, Err, refl, sym, ap, subst, ◌∙◌, append_assoc, arith, inl, inr}
 use mathlib.Core.Bool.{true≢false}
 use Rattle.std.specs.Prelude.{ℤ, negsuc}
@@ -146,7 +146,7 @@ module _ (made : LoadedParts) (front : List ImagePart) (f : FitsBehind made fron
             (gained rows_in front p ((n.path, n) ∷ []) refl),
       )
 
-  -- a part that is taken goes with those before it
+  -- A part that is taken fits those before it.
   pub part_goes : (p : ImagePart) (next : LoadedParts) → with_part made p ≡ Ok next → Goes p next
   part_goes (part.Session s) next e = session_goes s.id s.timeout next e
   part_goes (part.Acl a) next e = acl_goes a.key a.list next e
@@ -172,7 +172,7 @@ module _ (made : LoadedParts) (front : List ImagePart) (f : FitsBehind made fron
         (is_root n.path) rows n.path place) refl,
   )
 
-  -- and one that goes with them is taken
+  -- A part that fits those before it is taken.
   pub part_taken : (p : ImagePart) → IsAllowedAfter front p → (next : LoadedParts) × (with_part made p ≡ Ok next)
   part_taken (part.Session s) h = (
     record made { state = with_session made.state s.id s.timeout },
@@ -187,7 +187,7 @@ module _ (made : LoadedParts) (front : List ImagePart) (f : FitsBehind made fron
       (t.0, ap (with_listed_node made n) (named_same n.acl) ∙ t.1)
   part_taken part.End h = (made, refl)
 
--- a part is refused for one reason
+-- A part is refused for one reason only.
 node_fault : (made : LoadedParts) (n : ImageNode) (named : Option (List Acl)) (e : Fault)
     → with_listed_node made n named ≡ Err e → BadImage ≡ e
 node_fault made n None e h = cc
@@ -205,9 +205,9 @@ part_fault made (part.Acl a) e h =
 part_fault made (part.Node n) e h = node_fault made n (list_at_key made.lists n.acl) e h
 part_fault made part.End e h = absurd (not_refused made e h)
 
--- ---- all of them
+-- ---- all the parts
 
--- what was taken goes together
+-- The parts taken fit one another.
 order_of : (vs : List Value) (old new : LoadedParts) (front : List ImagePart) → FitsBehind old front
     → made_of image_load old vs ≡ Ok new
     → AreAllowedAfter front (flat_map parts_in vs) × FitsBehind new (front ++ flat_map parts_in vs)
@@ -227,7 +227,7 @@ order_of (Part p ∷ vs) old new front f e =
       subst (λ (ps : List ImagePart). FitsBehind new ps) (append_assoc front (p ∷ []) (flat_map parts_in vs)) others.1,
     )
 
--- and what goes together is taken
+-- Parts that fit one another are taken.
 made_by : (vs : List Value) (old : LoadedParts) (front : List ImagePart) → FitsBehind old front
     → AreAllowedAfter front (flat_map parts_in vs)
     → (new : LoadedParts) × (made_of image_load old vs ≡ Ok new)
@@ -343,7 +343,7 @@ image_streamed = record {
 
 -- ---- refusals
 
--- the next value is refused exactly where it is out
+-- The next value is refused exactly if it doesn't fit.
 out_of : (made : LoadedParts) (front : List ImagePart) (v : Value) (e : Fault) → FitsBehind made front
     → with_value made v ≡ Err e → (e ≡ BadImage) × IsRefusedAfter front v
 out_of made front (Count n) e f h = absurd (not_refused made e h)
@@ -427,7 +427,7 @@ image_answers bytes e a = ap (λ (q : Result (LoadedParts × List ℕ) Fault). q
 pub image_named : NamesFaults image_format
 image_named = record { names = image_names; answers = image_answers }
 
--- what was refused for another reason than too few bytes begins no image
+-- Bytes that were refused for any fault but `Short` begin no image.
 pub begins_none : (bytes more text rest : List ℕ) (s : State) (e : Fault) → image_read bytes ≡ Err e → (e ≡ Short → ⊥)
     → bytes ++ more ≡ text ++ rest → SpellsImage s text → ⊥
 begins_none bytes more text rest s e h other same sp =
@@ -438,7 +438,7 @@ begins_none bytes more text rest s e h other same sp =
     by (inl short) = other short
     by (inr stands) = not_refused (s, rest) e (sym (ap image_read same ∙ image_again s text rest sp) ∙ stands)
 
--- ---- how many bytes it takes
+-- ---- the length of an image
 
 pub image_uses : (bytes rest : List ℕ) (s : State) → IsBytes bytes → image_read bytes ≡ Ok (s, rest)
     → (length rest ≤ length bytes) × (image_read bytes ≡ Ok (s, drop (length bytes - length rest) bytes))

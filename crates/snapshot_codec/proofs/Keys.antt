@@ -1,4 +1,4 @@
--- The key of the open list, and the others.
+-- The key of the open list, and the other keys.
 use Rattle.std.proofs.Common.{◌≡◌, Bool, true, false, refl, ap, of_z, w64}
 use Rattle.std.specs.Prelude.{ℤ, negsuc}
 use Rattle.std.specs.FinMap as finmap
@@ -14,7 +14,7 @@ not_open key other = by (int_eq key (negsuc 0)) (Decides-int_eq key (negsuc 0)).
     by true is = absurd (other (ap (of_z w64) (is refl)))
     by false is = refl
 
--- any other key names its entry's list
+-- Any other key refers to its entry's list.
 pub list_at : (lists : AclLists) (key : ℤ) → (of_z w64 key ≡ 18446744073709551615 → ⊥)
     → list_at_key lists key ≡ finmap.get lists key
 list_at lists key other = rw (not_open key other) refl

@@ -1,4 +1,4 @@
--- What is within the limits fits the formats of the phases in which it is written, and its bytes spell it.
+-- Values within the limits fit the formats of their phases, and their bytes spell them.
 use Rattle.std.proofs.Common.{◌≡◌, ℕ, suc, ◌-◌, ◌≤◌, ℤ, Bool, true, false, cond, ◌==◌, T, List, [], ◌∷◌, ◌++◌, map, length, Some, is_some, Ok, Err, refl, sym, ap, subst, ◌∙◌, arith, true≢false}
 use Rattle.std.specs.declared.cmp.Ordering.TheVariants.{Less}
 use Rattle.std.specs.FinMap as finmap
@@ -51,7 +51,7 @@ stand_written (v ∷ vs) phase h =
       ),
     )
 
--- ---- sessions and lists, as many as were counted
+-- ---- sessions and lists, as many as counted
 
 pub not_zero : (n : ℕ) → (suc n == 0) ≡ false
 not_zero n = by (suc n == 0) refl

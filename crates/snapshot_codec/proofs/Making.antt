@@ -1,4 +1,4 @@
--- What the parts make of a state, one by one, is what the conditions say of all of them.
+-- The state that the parts make one by one is the one that the conditions on all parts describe.
 use Rattle.std.proofs.Common.{◌≡◌, ℕ, Bool, true, false, not, cond, eqb, ◌&&◌, ◌||◌, List, [], ◌∷◌, ◌++◌, Option, Some, None, is_some, refl, sym, ap, subst, ◌∙◌}
 use mathlib.Core.Bool.{true≢false}
 use Rattle.std.specs.Prelude.{ℤ, pos, negsuc, if◌then◌else◌}
@@ -46,7 +46,7 @@ is_none (Some a) e = absurd (true≢false e)
 pub none_is : {A : Type 0} (o : Option A) → o ≡ None → is_some o ≡ false
 none_is o e = ap is_some e
 
--- ---- what is looked up
+-- ---- look-ups
 
 module _ (lists : Lists) (rows : Rows) (path : Bytes) where
   same_some : (row : Option ImageNode) (node : Option Node) → AreAt lists rows path row node
@@ -62,7 +62,7 @@ module _ (lists : Lists) (rows : Rows) (path : Bytes) where
   some_node (Some r) None h e = absurd h
   some_node None found h e = absurd (true≢false (sym e))
 
--- the parts so far; and no path without a row has a child among the rows
+-- The parts so far; and no path without a row has a child among the rows.
 pub record Fits (made : LoadedParts) (sessions : SessionEntries) (lists : Lists) (rows : Rows) : Type 0 where
   pub state : IsMadeOf made.state sessions lists rows
   pub table : (key : ℤ) → finmap.get made.lists key ≡ find int_cmp key lists
@@ -89,7 +89,7 @@ session_fits made sessions lists rows id timeout f none = record {
 
 -- ---- an ACL list
 
--- what a key names stays when an entry with another key comes
+-- The list of a key stays when an entry with another key comes.
 named_more : (lists : Lists) (key : ℤ) (list : List Acl) (asked : ℤ) (found : List Acl) → find int_cmp key lists ≡ None
     → list_named lists asked ≡ Some found → list_named (lists ++ (key, list) ∷ []) asked ≡ Some found
 named_more lists key list asked found none e = by (int_eq asked (negsuc 0)) (eq_by_cmp int_cmp asked key) refl e
@@ -145,7 +145,7 @@ pair_tie : (session owner : ℤ) (q path : Bytes) → eq_by_cmp pair_cmp (sessio
     ≡ (eq_by_cmp int_cmp session owner && eq_by_cmp path_cmp q path)
 pair_tie session owner q path = tied_then (int_cmp session owner) (path_cmp q path)
 
--- the pairs at another path are those from before
+-- The pairs at another path are those from before.
 other_path : (pairs : OwnerPairs) (owner session : ℤ) (path q : Bytes) → eq_by_cmp path_cmp q path ≡ false
     → set.contains (with_pair pairs owner path) (session, q) ≡ set.contains pairs (session, q)
 other_path pairs owner session path q apart = by (int_eq owner (pos 0))
@@ -162,7 +162,7 @@ other_path pairs owner session path q apart = by (int_eq owner (pos 0))
         ∙ ap (λ b. b || set.contains pairs (session, q)) (pair_tie session owner q path
         ∙ ap (λ b. eq_by_cmp int_cmp session owner && b) apart ∙ drop_and (eq_by_cmp int_cmp session owner))
 
--- at a path that had no pair there is the owner's, if it has one
+-- At a path that had no pair there is the owner's, if it has one.
 own_path : (pairs : OwnerPairs) (owner session : ℤ) (path : Bytes) → set.contains pairs (session, path) ≡ false
     → set.contains (with_pair pairs owner path) (session, path) ≡ (not (int_eq session (pos 0)) && int_eq owner session)
 own_path pairs owner session path none = by (int_eq owner (pos 0)) refl
@@ -258,7 +258,7 @@ module _ (made : LoadedParts) (sessions : SessionEntries) (lists : Lists) where
   of_has_place true rows path h = ap no_rows h
   of_has_place false rows path h = λ i. not (is_some (h.0 i)) && h.1 i
 
--- the names below a path, with one more row
+-- The names below a path, with one more row.
 below_more : (rows : Rows) (path : Bytes) (row : ImageNode) (q name : Bytes)
     → list_any (is_child q name) (rows ++ (path, row) ∷ []) ≡ (list_any (is_child q name) rows
     || (is_child q name (path, row) || false))
@@ -289,7 +289,7 @@ module _ (made : LoadedParts) (sessions : SessionEntries) (lists : Lists) (rows 
   abbrev pub after : LoadedParts
   after = record made { state = with_node state path fresh }
 
-  -- what was at the path before
+  -- The pair at the path before.
   own_pair : finmap.get state.nodes path ≡ None → (session : ℤ)
       → set.contains (with_node state path fresh).pairs (session, path) ≡ is_owner session (Some fresh)
   own_pair none session =
@@ -387,7 +387,7 @@ module _ (made : LoadedParts) (sessions : SessionEntries) (lists : Lists) (rows 
         || ((not b && (eq_by_cmp path_cmp q (parent_of path) && eq_by_cmp path_cmp name (name_of path)))
         || false)) other
 
-    -- a path without a row isn't the parent
+    -- A path without a row isn't the parent.
     apart : (q : Bytes) → find path_cmp q rows ≡ None → eq_by_cmp path_cmp q (parent_of path) ≡ false
     apart q none = by (eq_by_cmp path_cmp q (parent_of path)) refl
       where

@@ -1,4 +1,4 @@
--- What is written of a node.
+-- The bytes of a node.
 use Rattle.std.proofs.Common.{◌≡◌, ℕ, List, ◌++◌, ap, ◌∙◌, append_assoc}
 use Rattle.std.specs.Prelude.{FitsSigned}
 use Rattle.std.specs.Int.{w32, w64}
@@ -15,7 +15,7 @@ pub stat_fits : (s : StatPersisted) → FitsSigned w64 s.czxid → FitsSigned w6
 unfolding stat_persisted
 stat_fits s a b c d e f g h i = (a, (b, (c, (d, (e, (f, (g, (h, i))))))))
 
--- four fields, one behind the other
+-- Four fields, one after the other.
 pub four : (old a b c d one two three all : List ℕ) → one ≡ old ++ a → two ≡ one ++ b → three ≡ two ++ c
     → all ≡ three ++ d → all ≡ old ++ (a ++ (b ++ (c ++ d)))
 four old a b c d one two three all e f g h =

@@ -1,4 +1,4 @@
--- A value that was read in a phase, and what it does to a loading.
+-- A value that was read in a phase, and its effect on a loading.
 use Rattle.std.proofs.Common.{◌≡◌, ℕ, ◌<◌, true, false, List, length, Option, Some, None, Result, Ok, Err, refl, sym, ap, subst, ◌∙◌, inl, inr}
 use Rattle.std.specs.Prelude.{ℤ}
 use Rattle.values.specs.declared.fault.Fault.{Fault}
@@ -35,7 +35,7 @@ shown_as at phase next v old new shown is read to shows = (
   shows,
 )
 
--- what is refused for a fault is refused so too
+-- Two reads that are refused for the same fault.
 pub fails_too : {A B : Type 0} (e : ReadError) (a : Result A Fault) (b : Result B Fault) → IsFailureOf e a
     → ((d : Fault) → a ≡ Err d → b ≡ Err d) → IsFailureOf e b
 fails_too errors.NoMemory a b h f = tt
@@ -82,11 +82,11 @@ module _ (phase next : PartPhase) (made : LoadedParts) (old new : List ℕ) wher
   hidden_by Close read shows = load_read image_load streamed phase made old new Close read
   hidden_by (Part part) read shows = absurd cc
 
-  -- nothing is shown
+  -- A value that isn't a part.
   pub hidden : ReadsPart (Ok None) phase next old new → load_from image_load phase made old ≡ left made
   hidden r = hidden_by r.0 r.1 r.3 ∙ ap (λ (p : PartPhase). load_from image_load p made new) (sym r.2)
 
-  -- a part
+  -- A part.
   taken : (part : ImagePart) → ReadsPart (Ok (Some part)) phase next old new
       → load_from image_load phase made old
       ≡ (with_part made part >>= λ after. unless_last (is_end (Part part)) after new (left after))
@@ -122,7 +122,7 @@ module _ (phase next : PartPhase) (made : LoadedParts) (old new : List ℕ) wher
         | inr never ↦ absurd (not_refused (record { made = never.0; ended = is_end (Part part) }) e never.2)
       ]
 
-  -- all that a part does
+  -- All effects of a part.
   pub loads_part : (q : Result (Unit {0}) ReadError) (part : ImagePart) (before after : Loading)
       → ReadsPart (Ok (Some part)) phase next old new → TakesPart q part before after → before.made ≡ made
       → LoadsNext q phase made old next after new
@@ -146,7 +146,7 @@ value_refused phase next made old new e after r =
 
 -- ---- a whole image
 
--- what is left to load is what was to be loaded, or it was loaded
+-- Loading the rest gives the same result, or everything was loaded.
 abbrev pub LoadsOn : Loading → PartPhase → List ℕ → List ℕ → Type 0
 LoadsOn loading phase ahead bytes =
     unless_last loading.ended loading.made ahead (load_from image_load phase loading.made ahead)

@@ -1,4 +1,4 @@
--- The worked images: the entries of each map as a list, and then what is written of these.
+-- The worked images: the entries of each map as a list, and then the bytes written for them.
 use Rattle.std.proofs.Common.{◌≡◌, ℕ, ℤ, pos, List, [], ◌∷◌, ◌++◌, map, codes, length, refl, sym, ap, ◌∙◌, arith}
 use Rattle.std.specs.declared.cmp.Ordering.{Ordering}
 use Rattle.std.specs.Cmp.{IsTotalOrder, int_cmp_total}
@@ -37,7 +37,7 @@ module _ {K X : Type 0} (R : K → K → Ordering) where
   entries_put o (e ∷ es) =
       finmap.entries-insert o (finmap.from_entries {R = R} es) e.0 e.1 ∙ ap (put R e.0 e.1) (entries_put o es)
 
--- the nodes that were put, in the order of the walk
+-- The inserted nodes, in the order of the walk.
 walk_put : (es : List (Bytes × Node)) → walk_of (finmap.from_entries es) ≡ put_all walk_cmp (put_all path_cmp es)
 walk_put es =
     entries_put walk_cmp walk_total (finmap.entries (finmap.from_entries {R = path_cmp} es))

@@ -1,4 +1,4 @@
--- The table of ACL lists: what one more list leaves, and what it finds.
+-- The table of ACL lists: adding a list, and finding one.
 use Rattle.std.proofs.Common.{◌≡◌, ◌≢◌, ℕ, suc, ◌+◌, ◌<◌, ◌≤◌, ℤ, pos, negsuc, Bool, true, false, cond, ◌||◌, List, [], ◌∷◌, ◌++◌, map, length, Option, Some, None, is_some, Result, Ok, Err, refl, sym, ap, subst, ◌∙◌, arith, true≢false, append-nil, is_ok}
 use Rattle.std.specs.declared.cmp.Ordering.{Ordering}
 use Rattle.std.specs.declared.cmp.Ordering.TheVariants.{Less, Equal, Greater}
@@ -35,7 +35,7 @@ use Rattle.snapshot_codec.specs.declared.write_error.WriteError.{WriteError}
 use Rattle.snapshot_codec.specs.declared.write_error.WriteError.TheVariants.{NotWhole, NoMemory}
 use Rattle.snapshot_codec.proofs.Written.{list_decides, has_key, keyed_with}
 
--- ---- maps by what is seen of their keys
+-- ---- maps by the model of their keys
 
 module _ {K X L Y : Type 0} (S : L → L → Ordering) (f : K → L) (g : X → Y) where
   abbrev pub seen : List (K × X) → List (L × Y)
@@ -73,7 +73,7 @@ module _ {K X : Type 0} (f : K → List ℕ) where
       ∙ find-put path_cmp path_total q (f k) v (seen path_cmp f (λ x. x) es)
       ∙ ap (cond (eq_by_cmp path_cmp q (f k)) (Some v)) (find-lookup q es)
 
--- ---- the bytes of a list stand for it
+-- ---- the bytes of a list determine it
 
 pub lists_sound : IsSound (vector_of acl_format)
 lists_sound = vector_sound acl_format acl_sound
@@ -116,7 +116,7 @@ not_same a b other = by (is_same_list a b) refl
     by true e = absurd (other ((list_decides a b).0 e))
     by false e = refl
 
--- a list that stands under a key fits, where all do
+-- A list with a key fits, if all lists do.
 abbrev Fit : ℤ × List Acl → Type 0
 Fit l = (pair_of long (vector_of acl_format)).Fits (l.0, Some l.1)
 
@@ -130,7 +130,7 @@ keyed_fits (e ∷ es) asked h some = by (keyed_fits es asked h.1) (is_same_list 
     by later true same k = subst (λ (l : List Acl). FitsList l) ((list_decides e.1 asked).0 same) h.0.1
     by later false same k = later k
 
--- ---- how many lists there are
+-- ---- the number of lists
 
 pub many_fit : (n : ℕ) → n ≤ count_limit → (count_format count_limit).Fits (Some n)
 many_fit n le = (rw (le-leb n count_limit le) refl, record { sfits = omega arith })
@@ -160,13 +160,13 @@ all_front P (x ∷ xs) ys h = (h.0, all_front P xs ys h.1)
 abbrev more : Lists → List Acl → Lists
 more lists list = lists ++ (pos (suc (length lists)), list) ∷ []
 
--- a list that has no key gets one
+-- A list that has no key gets one.
 grown : (lists : Lists) (list : List Acl) → list ≢ open_acl → key_in lists list ≡ None
     → with_list lists list ≡ more lists list
 grown lists list other none =
     (λ i. cond (not_same list open_acl other i || is_some (none i)) lists (more lists list))
 
--- the key that a look-up finds
+-- The key that a look-up finds.
 pub key_found : (lists : Lists) (list : List Acl) (key : ℤ) → list ≢ open_acl → key_in lists list ≡ Some key
     → key ≡ key_of lists list
 key_found lists list key other is =
@@ -228,7 +228,7 @@ module _ (old new : KeyTable) (lists : Lists) (list : List Acl) where
               (sym (ap is_eq (tied_itself path_total (list_bytes asked)))
               ∙ ap (λ (l : List Acl). eq_by_cmp path_cmp (list_bytes asked) (list_bytes l)) (sym same) ∙ e))))
 
--- ---- what doesn't fit
+-- ---- a list that doesn't fit
 
 pub too_long : (lists : Lists) (list : List Acl) → list ≢ open_acl → (FitsList list → ⊥)
     → FitLists (with_list lists list) → ⊥
@@ -247,7 +247,7 @@ too_many lists list other none full h =
     (subst (λ (l : Lists). (count_format count_limit).Fits (Some (length l))) (grown lists list other none) h.0)) in
     absurd (omega arith)
 
--- lists only grow
+-- Lists only grow.
 pub fit_before : (lists : Lists) (list : List Acl) → FitLists (with_list lists list) → FitLists lists
 fit_before lists list = by (has_key lists list)
   where
@@ -261,9 +261,9 @@ fit_before lists list = by (has_key lists list)
       all_front Fit lists ((pos (suc (length lists)), list) ∷ []) h.1,
     )
 
--- ---- what the calls answer
+-- ---- the contracts of the calls
 
--- what a look-up by a list's bytes finds is its key
+-- The look-up by a list's bytes finds its key.
 pub looked : (table : KeyTable) (lists : Lists) (list : List Acl) (slice : List ℕ) (found : Option ℤ)
     → IsTable table lists → FitsList list → slice ≡ list_bytes list
     → found ≡ tree.get_by (λ k. path_cmp slice k.items) table.keys → found ≡ key_in lists list
@@ -286,7 +286,7 @@ tables_err NotWhole lists x rest all new is bad =
     λ h. bad (fit_earlier rest (with_list lists x.1.acl) (subst (λ (l : Lists). FitLists l) (sym is) h))
 tables_err NoMemory lists x rest all new is bad = tt
 
--- no list of a node is too long, where all that have keys fit
+-- No list of a node is too long, if all that have keys fit.
 pub key_err : (e : WriteError) (table : KeyTable) (lists : Lists) (list : List Acl) (bytes old new : List ℕ)
     (Fits : Type 0) → IsTable table lists → has_key lists list ≡ true → NamesKey (Err e) lists list
     → WritesBytes (Err e) bytes old new Fits

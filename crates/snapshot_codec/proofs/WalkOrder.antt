@@ -1,4 +1,4 @@
--- The walk over the nodes of a tree: each node stands in it once, and behind its parent.
+-- The walk over the nodes of a tree: each node occurs in it once, and after its parent.
 use Rattle.std.specs.Prelude.{nat_lt}
 use Rattle.std.proofs.Common.{◌≡◌, ◌<◌, ltb→lt, ℕ, suc, pred, Bool, true, false, not, cond, ◌&&◌, ◌||◌, ◌==◌, T, List, [], ◌∷◌, ◌++◌, Some, None, is_some, refl, sym, ap, subst, ◌∙◌, arith, if◌then◌else◌, true≢false}
 use Rattle.std.specs.declared.cmp.Ordering.{Ordering}
@@ -64,7 +64,7 @@ module _ {K X : Type 0} {R : K → K → Ordering} (o : IsTotalOrder R) where
       (less (R q e.0) (first (is_lt (R q e.0)) (below_all R q es) h))
       ∙ find_below q es (second (is_lt (R q e.0)) (below_all R q es) h)
 
-  -- a key isn't found before its place
+  -- A key isn't found before its place.
   pub before_none : (ahead : List (K × X)) (x : K × X) (bs : List (K × X)) → T (is_sorted R (ahead ++ x ∷ bs))
       → find R x.0 ahead ≡ None
   before_none [] x bs h = refl
@@ -74,7 +74,7 @@ module _ {K X : Type 0} {R : K → K → Ordering} (o : IsTotalOrder R) where
       (first (below_all R a.0 (ahead ++ x ∷ bs)) (is_sorted R (ahead ++ x ∷ bs)) h)))
       ∙ before_none ahead x bs (second (below_all R a.0 (ahead ++ x ∷ bs)) (is_sorted R (ahead ++ x ∷ bs)) h)
 
-  -- a lesser key that is there is found before
+  -- A smaller key that is there is found before.
   pub before_some : (q : K) (ahead : List (K × X)) (x : K × X) (bs : List (K × X)) → T (is_sorted R (ahead ++ x ∷ bs))
       → R q x.0 ≡ Less → is_some (find R q (ahead ++ x ∷ bs)) ≡ true → is_some (find R q ahead) ≡ true
   before_some q [] x bs h l some =
@@ -115,7 +115,7 @@ rank_exact a b = by (a == 47) (b == 47) refl refl
     by false true e f h = absurd (omega arith)
     by false false e f h = ap pred h
 
--- bytes that tie are the same
+-- Bytes of equal rank are equal.
 pub rank_exact_cmp : (a b : ℕ) → on byte_rank nat_cmp a b ≡ Equal → a ≡ b
 rank_exact_cmp a b e = rank_exact a b (nat_cmp-IsAntisymmetric (byte_rank a) (byte_rank b) e)
 
@@ -156,7 +156,7 @@ prefix_less [] b t = refl
 prefix_less (x ∷ p) b t =
     ap (λ r. ordering_then r (walk_cmp p (p ++ b ∷ t))) (tied_itself rank_total x) ∙ prefix_less p b t
 
--- no path stands before "/"
+-- No path comes before "/".
 pub none_before_root : (path : Bytes) → is_path path ≡ true → walk_cmp path root_path ≡ Less → ⊥
 none_before_root [] is l = true≢false (sym is)
 none_before_root (b ∷ t) is l = by (nat_lt (byte_rank b) 0) refl l

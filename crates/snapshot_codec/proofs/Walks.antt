@@ -1,4 +1,4 @@
--- The order of the walk keeps what is below a node together.
+-- The order of the walk keeps everything below a node together.
 use Rattle.std.proofs.Common.{◌≡◌, ℕ, Bool, true, false, cond, ◌==◌, T, List, [], ◌∷◌, ◌++◌, map, refl, sym, ap, subst, ◌∙◌, arith, ltb→lt, ◌<◌}
 use Rattle.std.specs.Prelude.{nat_lt}
 use Rattle.std.specs.declared.cmp.Ordering.{Ordering}
@@ -19,7 +19,7 @@ use Rattle.snapshot_codec.proofs.WalkOrder.{first, second, less, less_at, rank_e
 is_less : (o : Ordering) → o ≡ Less → T (is_lt o)
 is_less o e = subst (λ (x : Ordering). T (is_lt x)) (sym e) tt
 
--- a byte that isn't greater than a slash is one
+-- A byte that isn't above the slash is the slash.
 only_slash : (c : ℕ) (y t : Bytes) → walk_cmp (c ∷ y) (47 ∷ t) ≡ Less → c ≡ 47
 only_slash c y t l = by (nat_lt (byte_rank c) 0) (byte_rank c == 0) refl refl l
   where

@@ -1,4 +1,4 @@
--- What an image makes is whole.
+-- The state that an image makes is whole.
 use Rattle.std.proofs.Common.{◌≡◌, ℕ, Bool, true, false, not, cond, eqb, ◌&&◌, ◌||◌, List, [], ◌∷◌, ◌++◌, Option, Some, None, is_some, Result, Ok, Err, refl, sym, ap, subst, ◌∙◌, append_assoc, ◌⊎◌, inl, inr}
 use mathlib.Core.Bool.{true≢false}
 use Rattle.std.specs.Cmp.{tied_itself}
@@ -37,7 +37,7 @@ use Rattle.snapshot_codec.proofs.Formats.{path_is, root_is}
 use Rattle.snapshot_codec.proofs.Images.{gained, kept}
 use Rattle.snapshot_codec.proofs.Making.{no_rows}
 
--- ---- a path is that of its name below its parent
+-- ---- a path is made of its parent and its name
 
 pub all_behind : (text : Bytes) → has_slash text ≡ false → after_last_slash text ≡ text
 all_behind [] none = refl
@@ -67,7 +67,7 @@ and_false : (b : Bool) → (b && false) ≡ false
 and_false true = refl
 and_false false = refl
 
--- no name is empty
+-- No name is empty.
 no_double : (text : Bytes) → is_path (47 ∷ 47 ∷ text) ≡ true → ⊥
 no_double text e = true≢false (sym e ∙ and_false (list_all (λ b. not (eqb b 0)) (47 ∷ text)))
 
@@ -105,18 +105,18 @@ child_is path e =
     child_by (before_last_slash path) (after_last_slash path) (subst (λ (t : Bytes). is_path t ≡ true) (sym cut) e)
     ∙ cut
 
--- ---- what stands in a phase
+-- ---- the values of a phase
 
 ArePaths : Rows → Type 0
 ArePaths [] = Unit {0}
 ArePaths (r ∷ rows) = (is_path r.0 ≡ true) × ArePaths rows
 
--- the path that a phase keeps is one
+-- The path that a phase holds is valid.
 abbrev Keeps : PartPhase → Type 0
 Keeps (Body path) = is_path path ≡ true
 Keeps phase = Unit {0}
 
--- a node has to come
+-- A node has to come.
 abbrev waits : PartPhase → Bool
 waits Nodes = false
 waits Signature = false
@@ -201,7 +201,7 @@ step_of (Body path) v text s k =
     subst (Step (Body path)) (ok_is (node_value path s.0) v s.1) ((k, tt), tt, λ w. inl refl)
 step_of Signature v text s k = end_step s.0 v s.1
 
--- ---- all of it
+-- ---- the whole image
 
 paths_more : (r s : Rows) → ArePaths r → ArePaths s → ArePaths (r ++ s)
 unfolding ArePaths
@@ -393,7 +393,7 @@ module _ (s : State) (ids : SessionEntries) (named : Lists) (rows : Rows) (made 
           ap (λ b. is_child (parent_of path) (name_of path) x || b) (later k)
           ∙ or_true (is_child (parent_of path) (name_of path) x)
 
-  -- a child that is listed stands among the rows
+  -- A child that is listed is among the rows.
   child_found : (path name : Bytes) (x : Bytes × ImageNode) → is_path x.0 ≡ true → is_child path name x ≡ true
       → child_of path name ≡ x.0
   child_found path name x is e =
@@ -440,7 +440,7 @@ module _ (s : State) (ids : SessionEntries) (named : Lists) (rows : Rows) (made 
       there (child_of path name)
       ∙ any_found rows path name paths (sym (listed path name (listed_some name (finmap.get s.nodes path) e)) ∙ e)
 
-  -- each path is a row's, and each name is of a row's path
+  -- Each path is a row's, and each name is that of a row's path.
   path_found : (r : Rows) (path : Bytes) → ArePaths r → is_some (find path_cmp path r) ≡ true → is_path path ≡ true
   unfolding ArePaths
   path_found [] path all e = absurd (true≢false (sym e))

@@ -1,4 +1,4 @@
--- What is written of a whole state is an image of it.
+-- The bytes written for a whole state are an image of it.
 use Rattle.std.specs.Prelude.{int_lt}
 use Rattle.std.proofs.Common.{◌≡◌, ℕ, suc, ◌+◌, ◌<◌, ℤ, pos, negsuc, Bool, true, false, not, cond, ◌&&◌, ◌||◌, T, List, [], ◌∷◌, ◌++◌, map, length, Option, Some, None, is_some, refl, sym, ap, subst, ◌∙◌, arith, true≢false, append_assoc, append-nil, lt→ltb}
 use Rattle.std.specs.declared.cmp.Ordering.TheVariants.{Less, Equal, Greater}
@@ -113,7 +113,7 @@ same_acl_decides a b = (
 pub list_decides : (a b : List Acl) → (is_same_list a b ≡ true → a ≡ b) × (a ≡ b → is_same_list a b ≡ true)
 list_decides = pointwise_decides same_acl_decides
 
--- the keys stand in order from one on
+-- The keys are in order from one on.
 Numbered : ℕ → Lists → Type 0
 Numbered n [] = Unit {0}
 Numbered n (e ∷ es) = (e.0 ≡ pos (suc n)) × Numbered (suc n) es
@@ -155,7 +155,7 @@ sorted_numbered n (e ∷ es) h =
     (below_numbered (suc n) (suc n) es (let m : suc n < suc (suc n) = omega arith in m) h.1))
     (sorted_numbered (suc n) es h.1)
 
--- a key that was found names the list
+-- A key that was found refers to the list.
 abbrev Names : ℕ → Lists → List Acl → ℤ → Type 0
 Names n es list key = (find int_cmp key es ≡ Some list) × (m : ℕ) × (n < suc m) × (key ≡ pos (suc m))
 
@@ -190,7 +190,7 @@ key_names n (e ∷ es) list h some =
           g.3,
         )
 
--- a list has a key, or is the open one
+-- A list has a key, or is the open one.
 abbrev pub has_key : Lists → List Acl → Bool
 has_key lists list = is_same_list list open_acl || is_some (key_in lists list)
 
@@ -222,7 +222,7 @@ pub or_on : (a b : Bool) → b ≡ true → (a || b) ≡ true
 or_on true b e = refl
 or_on false b e = e
 
--- what one more list leaves
+-- The lists with one more.
 with_more : (es : Lists) (list : List Acl) → Lists
 with_more es list = es ++ (pos (suc (length es)), list) ∷ []
 
@@ -292,7 +292,7 @@ named lists list h k = by (is_same_list list open_acl) refl k
         ap (λ (b : Bool). cond b (Some open_acl) (find int_cmp (unwrap_or (key_in lists list) (negsuc 0)) lists))
         (ap (λ (z : ℤ). int_eq z (negsuc 0)) g.3 ∙ not_open g.1) ∙ g.0
 
--- ---- each part goes with those before it
+-- ---- each part fits those before it
 
 each_append : (xs ys front : List ImagePart) → AreAllowedAfter front xs → AreAllowedAfter (front ++ xs) ys
     → AreAllowedAfter front (xs ++ ys)
@@ -324,7 +324,7 @@ each_by f front ys (x ∷ xs) h = (
 
 -- ---- a whole state
 
--- what is found among the nodes, and among their parts
+-- A node that is found, and its part.
 Alike : Lists → Option Node → Option ImageNode → Type 0
 Alike lists None None = Unit {0}
 Alike lists (Some n) (Some r) = (r.bytes ≡ n.bytes) × (r.stat ≡ n.stat) × (r.acl ≡ key_of lists n.acl)

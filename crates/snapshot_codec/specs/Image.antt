@@ -1,4 +1,4 @@
--- Which bytes are an image of which state.
+-- The relation between a state and the bytes of its image.
 use Rattle.std.specs.Prelude.{◌≡◌, ℕ, ℤ, negsuc, Bool, true, false, not, ◌&&◌, List, [], ◌∷◌, ◌++◌, Option, Some, None, is_some, Result, Ok, ◌⊎◌, if◌then◌else◌}
 use Rattle.std.specs.FinMap as finmap
 use Rattle.std.specs.FinMap.{find}
@@ -44,7 +44,7 @@ abbrev pub sessions_in : ImagePart → SessionEntries
 sessions_in (part.Session s) = (s.id, s.timeout) ∷ []
 sessions_in p = []
 
--- null stands for the open list
+-- Null means the open list.
 abbrev pub lists_in : ImagePart → Lists
 lists_in (part.Acl a) = (a.key, acl_or_open a.list) ∷ []
 lists_in p = []
@@ -53,18 +53,18 @@ abbrev pub rows_in : ImagePart → Rows
 rows_in (part.Node n) = (n.path, n) ∷ []
 rows_in p = []
 
--- the first entry that has the key; -1 names the open list, and no entry's
+-- The first entry that has the key. The key -1 is the open list's, and no entry's.
 abbrev pub list_named : Lists → ℤ → Option (List Acl)
 list_named lists key = if int_eq key (negsuc 0) then Some open_acl else find int_cmp key lists
 
 -- ---- their order
 
--- the root is the first node; any other path is new, and its parent stands before it
+-- The root is the first node. Any other path is new, and its parent comes before it.
 abbrev pub HasPlace : Bool → Rows → Bytes → Type 0
 HasPlace true rows path = rows ≡ []
 HasPlace false rows path = (find path_cmp path rows ≡ None) × (is_some (find path_cmp (parent_of path) rows) ≡ true)
 
--- a part goes with those before it
+-- A part fits those before it.
 abbrev pub IsAllowedWith : SessionEntries → Lists → Rows → ImagePart → Type 0
 IsAllowedWith sessions lists rows (part.Session s) = find int_cmp s.id sessions ≡ None
 IsAllowedWith sessions lists rows (part.Acl a) = find int_cmp a.key lists ≡ None
@@ -75,26 +75,26 @@ IsAllowedWith sessions lists rows part.End = Unit {0}
 abbrev pub IsAllowedAfter : List ImagePart → ImagePart → Type 0
 IsAllowedAfter front p = IsAllowedWith (flat_map sessions_in front) (flat_map lists_in front) (flat_map rows_in front) p
 
--- each goes with the front and those of its own list before it
+-- Each part fits those before it, in `front` and in its own list.
 abbrev pub AreAllowedAfter : List ImagePart → List ImagePart → Type 0
 AreAllowedAfter front [] = Unit {0}
 AreAllowedAfter front (p ∷ ps) = IsAllowedAfter front p × AreAllowedAfter (front ++ p ∷ []) ps
 
 -- ---- the state that they make
 
--- whether a path is that of the child with the name
+-- Whether a path is that of the child with the name.
 abbrev pub is_child : Bytes → Bytes → Bytes × ImageNode → Bool
 is_child path name row =
     not (is_root row.0) && (eq_by_cmp path_cmp path (parent_of row.0) && eq_by_cmp path_cmp name (name_of row.0))
 
--- the node has what stands behind its path, the list that its key names, and the names of the paths below it
+-- The node has the fields of its row, the list with its key, and the names of the paths below it.
 pub record IsNodeOf (lists : Lists) (rows : Rows) (path : Bytes) (row : ImageNode) (node : Node) : Type 0 where
   pub bytes : node.bytes ≡ row.bytes
   pub stat : node.stat ≡ row.stat
   pub acl : list_named lists row.acl ≡ Some node.acl
   pub children : (name : Bytes) → set.contains node.children name ≡ list_any (is_child path name) rows
 
--- there is a node exactly where a path stands
+-- There is a node exactly if there is a row for the path.
 abbrev pub AreAt : Lists → Rows → Bytes → Option ImageNode → Option Node → Type 0
 AreAt lists rows path None None = Unit {0}
 AreAt lists rows path (Some row) (Some node) = IsNodeOf lists rows path row node
@@ -103,7 +103,7 @@ AreAt lists rows path row found = ⊥
 pub record IsMadeOf (s : State) (sessions : SessionEntries) (lists : Lists) (rows : Rows) : Type 0 where
   pub timeouts : (id : ℤ) → finmap.get s.sessions id ≡ find int_cmp id sessions
   pub nodes : (path : Bytes) → AreAt lists rows path (find path_cmp path rows) (finmap.get s.nodes path)
-  -- each node with an owner gives the pair of the owner and the path
+  -- Each node with an owner gives the pair of the owner and the path.
   pub owners : AreOwned s.nodes s.pairs
 
 abbrev pub IsMadeOfParts : State → List ImagePart → Type 0
@@ -111,7 +111,7 @@ IsMadeOfParts s ps = IsMadeOf s (flat_map sessions_in ps) (flat_map lists_in ps)
 
 -- ---- the image
 
--- values stand there, from the first count to the end; their parts go with one another, and the state is made of them
+-- The bytes spell values from the first count to the end. Their parts fit one another, and make the state.
 pub record SpellsImage (s : State) (text : List ℕ) : Type 0 where
   pub found : List Value
   pub end : PartPhase
@@ -120,13 +120,13 @@ pub record SpellsImage (s : State) (text : List ℕ) : Type 0 where
   pub order : AreAllowedAfter [] (flat_map parts_in found)
   pub made : IsMadeOfParts s (flat_map parts_in found)
 
--- a part that doesn't go with those before it
+-- A part that doesn't fit those before it.
 abbrev pub IsRefusedAfter : List ImagePart → Value → Type 0
 IsRefusedAfter front (Part p) = ¬ IsAllowedAfter front p
 IsRefusedAfter front v = ⊥
 
--- What stands at the front is as it should be, and isn't the end. The next field is against its spelling; or a whole
--- part stands there, and doesn't go with those before it.
+-- The values at the front are valid, and don't include the end. Then the next field isn't spelled, or the next part is
+-- complete and doesn't fit those before it.
 pub record AgainstImage (e : Fault) (bytes : List ℕ) : Type 0 where
   pub found : List Value
   pub end : PartPhase
@@ -137,7 +137,7 @@ pub record AgainstImage (e : Fault) (bytes : List ℕ) : Type 0 where
   pub next : (part_format end).against e rest
       ⊎ ((e ≡ BadImage) × SpellsFront (part_format end) (λ v behind. IsRefusedAfter (flat_map parts_in found) v) rest)
 
--- the loading of its parts
+-- The loading of its parts.
 unfoldable pub image_read : List ℕ → Result (State × List ℕ) Fault
 image_read bytes = load_from image_load SessionCount no_loaded_parts bytes >>= λ x. Ok (x.0.state, x.1)
 

@@ -1,4 +1,4 @@
--- What the parts of an image make, one by one, and why a part is refused: it doesn't go with the parts before it.
+-- The state that the parts of an image make, one by one. A part is refused if it doesn't fit the parts before it.
 use Rattle.std.specs.Prelude.{refl, ℤ, negsuc, Bool, List, Option, Some, None, is_some, Result, Ok, Err, if◌then◌else◌}
 use Rattle.std.specs.Coded.{Coded, code_by, coded×, coded_bool}
 use Rattle.std.specs.FinMap as finmap
@@ -21,7 +21,7 @@ use Rattle.snapshot_codec.specs.declared.part.ImagePart.{ImagePart}
 use Rattle.snapshot_codec.specs.declared.part.ImagePart.TheVariants as part
 use Rattle.snapshot_codec.specs.declared.part.PartPhase.{PartPhase}
 
--- a state, and the ACL lists that nodes may name
+-- A state, and the ACL lists that nodes may refer to.
 pub record LoadedParts : Type 0 where
   pub state : State
   pub lists : AclLists
@@ -29,7 +29,7 @@ pub record LoadedParts : Type 0 where
 abbrev pub no_loaded_parts : LoadedParts
 no_loaded_parts = record { state = empty_state; lists = finmap.empty }
 
--- -1 names the open list
+-- The key -1 is the open list's.
 abbrev pub list_at_key : AclLists → ℤ → Option (List Acl)
 list_at_key lists key = if int_eq key (negsuc 0) then Some open_acl else finmap.get lists key
 
@@ -42,7 +42,7 @@ with_listed_node made node (Some acl) =
     if has_place made.state.nodes node.path
     then Ok (record made { state = with_node made.state node.path (node_with node acl) }) else Err BadImage
 
--- an id, a key and a path are new, a key that a node names is there, and so is a parent
+-- An id, a key and a path have to be new; the key and the parent of a node have to be there.
 abbrev pub with_part : LoadedParts → ImagePart → Result LoadedParts Fault
 with_part made (part.Session s) =
     if is_some (finmap.get made.state.sessions s.id) then Err BadImage
@@ -59,7 +59,7 @@ with_value made (Path path) = Ok made
 with_value made Close = Ok made
 with_value made (Part p) = with_part made p
 
--- an image as a value that is read in parts
+-- An image as a value that is read in parts.
 abbrev pub image_load : LoadRules PartPhase Value LoadedParts
 image_load = record { stream = part_stream; takes = with_value; is_last = is_end }
 

@@ -1,6 +1,6 @@
--- An image in parts: the count of its sessions, and the sessions; the count of its ACL lists, and the lists with their
--- keys; the nodes, each a path and what stands behind it, until the path "/"; and the signature. A phase has one
--- format. It keeps what it needs of a part that has begun: how many are left, and the path of a node.
+-- An image in parts: the number of its sessions, and the sessions; the number of its ACL lists, and the lists with
+-- their keys; the nodes, each a path and its other fields, until the path "/"; and the signature. A phase has one
+-- format. It holds the state of an incomplete section: how many items are left, or the path of a node.
 use Rattle.std.specs.Prelude.{◌≡◌, ℕ, ℤ, Bool, true, false, List, [], ◌∷◌, Option, Some, None, Result, Ok, Err, if◌then◌else◌, ◌==◌, ◌-◌, codes}
 use Rattle.std.specs.Str.{bytes_eq}
 use Rattle.values.specs.declared.fault.Fault.{Fault}
@@ -17,15 +17,15 @@ use Rattle.snapshot_codec.specs.declared.part.ImagePart.TheVariants as part
 use Rattle.snapshot_codec.specs.declared.part.PartPhase.{PartPhase}
 use Rattle.snapshot_codec.specs.declared.part.PartPhase.TheVariants.{SessionCount, Sessions, AclCount, Acls, Root, Nodes, Body, Signature}
 
--- what stands in an image: a part, or what only moves the phase on
+-- A value of an image: a part, or a value that only moves the phase on.
 pub data Value : Type 0 where
   Count : (n : ℕ) → Value
   Path : (path : List ℕ) → Value
-  -- the path "/" behind the last node
+  -- The path "/" after the last node.
   Close : Value
   Part : (part : ImagePart) → Value
 
--- what is shown: parts alone
+-- The part, if the value is one.
 abbrev pub part_in : Value → Option ImagePart
 part_in (Part p) = Some p
 part_in v = None
@@ -34,9 +34,9 @@ abbrev pub is_end : Value → Bool
 is_end (Part part.End) = true
 is_end v = false
 
--- ---- what the fields stand for
+-- ---- the meaning of the fields
 
--- there is no null count
+-- There is no null count.
 abbrev pub count_value : Option ℕ → Result Value Fault
 count_value None = Err BadLength
 count_value (Some n) = Ok (Count n)
@@ -53,8 +53,8 @@ path_value text = checked_path text >>= λ path. Ok (Path path)
 abbrev pub root_path : List ℕ
 root_path = codes "/"
 
--- The first path is empty, and the root's. "/" would end the nodes before there is one; any other path is refused with
--- its node, which has no parent.
+-- The first path is empty, and the root's. A "/" would end the nodes before there is one. Any other path is refused
+-- with its node, which has no parent.
 abbrev pub root_text_value : List ℕ → Result Value Fault
 root_text_value [] = Ok (Path root_path)
 root_text_value (b ∷ bytes) = if is_root (b ∷ bytes) then Err BadImage else path_value (b ∷ bytes)
@@ -77,7 +77,7 @@ abbrev pub signature_value : Option (List ℕ) → Result Value Fault
 signature_value None = Err BadImage
 signature_value (Some text) = if bytes_eq text signature_text then Ok (Part part.End) else Err BadImage
 
--- ---- and back
+-- ---- the fields of a value
 
 abbrev pub count_back : Value → Option (Option ℕ)
 count_back (Count n) = Some (Some n)
@@ -113,7 +113,7 @@ signature_back v = None
 abbrev pub counted_parts : Format Value
 counted_parts = judged_format count_value count_back (count_format count_limit)
 
--- what stands behind the path of a node: its bytes, the key of its list, and its numbers
+-- The fields of a node after its path: its data, the key of its list, and its stat.
 abbrev pub node_body : Format (Option (List ℕ) × (ℤ × StatPersisted))
 node_body = pair_of buffer (pair_of long stat_persisted)
 
@@ -154,10 +154,10 @@ part_after phase (Part (part.Acl a)) = after_acl phase
 part_after phase (Part (part.Node n)) = Nodes
 part_after phase (Part part.End) = SessionCount
 
--- images, one behind another, in parts
+-- Images in parts, one after another.
 abbrev pub part_stream : PhasedStream PartPhase Value
 part_stream = record { reading = λ phase. values (part_format phase); after = part_after }
 
--- a node has begun
+-- A node was begun.
 abbrev pub IsBody : PartPhase → Type 0
 IsBody phase = (path : List ℕ) × (phase ≡ Body path)

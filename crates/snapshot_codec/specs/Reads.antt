@@ -1,4 +1,4 @@
--- What reading and loading do, and what they leave.
+-- The contracts of reading and loading.
 use Rattle.std.specs.Prelude.{◌≡◌, ◌<◌, ◌≤◌, ℕ, List, Option, Some, None, Result, Ok, Err, drop, length}
 use Rattle.values.specs.declared.fault.ReadError.{ReadError}
 use Rattle.jute.specs.Loading.{load_from, unless_last}
@@ -10,29 +10,29 @@ use Rattle.snapshot_codec.specs.Parts.{Value, Path, Close, part_format, part_aft
 use Rattle.snapshot_codec.specs.declared.part.ImagePart.{ImagePart}
 use Rattle.snapshot_codec.specs.declared.part.PartPhase.{PartPhase}
 
--- The value that stood there was read, and the phase moved on; a part is shown, and nothing of another value. Or the
--- value is refused, and place and phase are as they were.
+-- The value was read, and the phase moved on; a part is returned, any other value isn't. Or the value is refused, and
+-- place and phase are as they were.
 abbrev pub ReadsPart : Result (Option ImagePart) ReadError → PartPhase → PartPhase → List ℕ → List ℕ → Type 0
 ReadsPart (Ok shown) phase next old new =
     (v : Value) × ((part_format phase).read old ≡ Ok (v, new)) × (next ≡ part_after phase v) × (part_in v ≡ shown)
 ReadsPart (Err e) phase next old new = IsFailureOf e ((part_format phase).read old) × (new ≡ old) × (next ≡ phase)
 
--- the part was taken; or it is refused, and the loader is as it was
+-- The part was taken; or it is refused, and the loader is as it was.
 abbrev pub TakesPart : Result (Unit {0}) ReadError → ImagePart → Loading → Loading → Type 0
 TakesPart (Ok u) part old new = with_loaded old part ≡ Ok new
 TakesPart (Err e) part old new = IsFailureOf e (with_loaded old part) × (new ≡ old)
 
--- a state, and how many bytes its image took
+-- A state, and the number of bytes that its image takes.
 abbrev pub ReadsImage : Result (State × ℕ) ReadError → List ℕ → Type 0
 ReadsImage (Ok x) bytes = (image_read bytes ≡ Ok (x.0, drop x.1 bytes)) × (x.1 ≤ length bytes)
 ReadsImage (Err e) bytes = IsFailureOf e (image_read bytes)
 
--- what stands where the path of a further node may
+-- The value for the path of a further node, or for the path "/".
 abbrev pub path_or_close : Option (List ℕ) → Value
 path_or_close None = Close
 path_or_close (Some path) = Path path
 
--- What stood next was loaded: what was to be loaded is what is left to load, unless it was the last. Or it is refused.
+-- The next value was loaded: loading the rest gives the same result, unless it was the last value. Or it is refused.
 abbrev pub LoadsNext : Result (Unit {0}) ReadError → PartPhase → LoadedParts → List ℕ → PartPhase → Loading → List ℕ
     → Type 0
 LoadsNext (Ok u) phase made old next loading new =

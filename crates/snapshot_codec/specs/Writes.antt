@@ -1,4 +1,4 @@
--- What the functions that write an image answer, and what they put behind other bytes.
+-- The contracts of the functions that write an image.
 use Rattle.std.specs.Prelude.{◌≡◌, ◌≢◌, ℕ, ℤ, List, [], ◌++◌, map, length, Some, Result, Ok, Err, if◌then◌else◌}
 use Rattle.std.specs.Borrow.{Bor}
 use Rattle.std.specs.BTreeMap as tree
@@ -21,9 +21,9 @@ use Rattle.snapshot_codec.specs.declared.key_table.KeyTable.{KeyTable}
 use Rattle.snapshot_codec.specs.declared.write_error.WriteError.{WriteError}
 use Rattle.snapshot_codec.specs.declared.write_error.WriteError.TheVariants.{NotWhole, NoMemory}
 
--- ---- behind other bytes
+-- ---- appending
 
--- all that was to be written stands behind the old bytes, and fits; or it doesn't
+-- The bytes were appended, and they fit; or they don't fit.
 abbrev pub WritesBytes : Result (Unit {0}) WriteError → List ℕ → List ℕ → List ℕ → Type 0 → Type 0
 WritesBytes (Ok u) bytes old new Fits = (new ≡ old ++ bytes) × Fits
 WritesBytes (Err NotWhole) bytes old new Fits = ¬ Fits
@@ -61,7 +61,7 @@ keyed_bytes l = (pair_of long (vector_of acl_format)).written (l.0, Some l.1)
 abbrev pub table_bytes : Lists → List ℕ
 table_bytes lists = (count_format count_limit).written (Some (length lists)) ++ flat_map keyed_bytes lists
 
--- the table has these lists, and finds each by its bytes
+-- The table has these lists, and finds each by its bytes.
 pub record IsTable (table : KeyTable) (lists : Lists) : Type 0 where
   pub found : (list : List Acl) → FitsList list
       → tree.get_by (λ k. slice_cmp nat_cmp (list_bytes list) k.items) table.keys ≡ key_in lists list
@@ -69,7 +69,7 @@ pub record IsTable (table : KeyTable) (lists : Lists) : Type 0 where
   pub written : table.written.items ≡ flat_map keyed_bytes lists
   pub fit : FitLists lists
 
--- one more list was added, if it has no key yet
+-- One more list was added, if it had no key yet.
 abbrev pub AddsList : Result (Unit {0}) WriteError → Lists → List Acl → KeyTable → Type 0
 AddsList (Ok u) lists list new = IsTable new (with_list lists list)
 AddsList (Err NotWhole) lists list new = ¬ FitLists (with_list lists list)
@@ -80,7 +80,7 @@ MakesTable (Ok table) lists = IsTable table lists
 MakesTable (Err NotWhole) lists = ¬ FitLists lists
 MakesTable (Err NoMemory) lists = Unit {0}
 
--- the key, which is a long; or the list doesn't fit
+-- The key, which is a long; or the list doesn't fit.
 abbrev pub NamesKey : Result ℤ WriteError → Lists → List Acl → Type 0
 NamesKey (Ok key) lists list = key ≡ key_of lists list
 NamesKey (Err NotWhole) lists list = (list ≢ open_acl) × ¬ FitsList list
@@ -88,14 +88,14 @@ NamesKey (Err NoMemory) lists list = Unit {0}
 
 -- ---- nodes
 
--- the nodes of the rows
+-- The nodes of the rows.
 abbrev pub shown_rows : List (WalkPath × Bor Node) → List (Bytes × Node)
 shown_rows rows = map (λ e. (e.0.text.now, e.1.now)) rows
 
 abbrev pub FitsNode : Bytes → Node → ℤ → Type 0
 FitsNode path node key = text_format.Fits (Some path) × node_body.Fits (node.bytes, (key, node.stat))
 
--- the root's path is written empty
+-- The root's path is written as the empty path.
 abbrev pub node_bytes : Bytes → Node → ℤ → List ℕ
 node_bytes path node key =
     text_format.written (Some (if is_root path then [] else path)) ++ node_body.written (node.bytes, (key, node.stat))

@@ -1,5 +1,5 @@
--- The image that is written of a state: its sessions in ascending id; the ACL lists of its nodes but the open one, each
--- under a key; the nodes in the order of a walk; and the end.
+-- The image that is written for a state: its sessions in ascending order of their ids; the ACL lists of its nodes
+-- except the open one, each under a key; the nodes in the order of a walk; and the end.
 use Rattle.std.specs.Prelude.{ℕ, suc, ℤ, pos, negsuc, Bool, ◌&&◌, ◌||◌, ◌==◌, List, [], ◌∷◌, ◌++◌, map, length, Option, Some, None, is_some, if◌then◌else◌}
 use Rattle.std.specs.Cmp.Lexicographic.{pointwise, slice_cmp}
 use Rattle.std.specs.FinMap as finmap
@@ -25,15 +25,15 @@ use Rattle.snapshot_codec.specs.declared.part.PartPhase.TheVariants.{SessionCoun
 
 -- ---- the walk
 
--- ascending bytes, but that a slash stands before every other byte
+-- Ascending bytes, with the slash before every other byte.
 abbrev pub byte_rank : ℕ → ℕ
 byte_rank b = if b == 47 then 0 else suc b
 
 abbrev pub walk_cmp : Bytes → Bytes → Ordering
 walk_cmp = slice_cmp (on byte_rank nat_cmp)
 
--- The nodes depth first: a parent stands before what is below it, and all that is below one child before the next one,
--- children in ascending bytes.
+-- The nodes in depth-first order: a parent comes before everything below it, and everything below one child before the
+-- next child. Children are in ascending order of their bytes.
 abbrev pub walk_of : Nodes → List (Bytes × Node)
 walk_of nodes = finmap.entries (finmap.from_entries {R = walk_cmp} (finmap.entries nodes))
 
@@ -45,22 +45,22 @@ is_same_acl a b = int_eq a.perms b.perms && (bytes_eq a.id.scheme b.id.scheme &&
 abbrev pub is_same_list : List Acl → List Acl → Bool
 is_same_list = pointwise is_same_acl
 
--- the lists under their keys
+-- The lists with their keys.
 abbrev pub Lists : Type 0
 Lists = List (ℤ × List Acl)
 
--- the first key under which the list stands
+-- The first key of the list.
 abbrev pub key_in : Lists → List Acl → Option ℤ
 key_in [] list = None
 key_in (e ∷ es) list = if is_same_list e.1 list then Some e.0 else key_in es list
 
--- a list that has no key yet gets the next one; the open list gets none
+-- A list that has no key yet gets the next one; the open list gets none.
 abbrev pub with_list : Lists → List Acl → Lists
 with_list lists list =
     if is_same_list list open_acl || is_some (key_in lists list) then lists
     else lists ++ (pos (suc (length lists)), list) ∷ []
 
--- the keys are 1, 2, .. in the order in which the lists are first used
+-- The keys count from 1 in the order in which the lists are first used.
 abbrev pub lists_from : Lists → List (Bytes × Node) → Lists
 lists_from lists [] = lists
 lists_from lists (e ∷ es) = lists_from (with_list lists e.1.acl) es
@@ -68,7 +68,7 @@ lists_from lists (e ∷ es) = lists_from (with_list lists e.1.acl) es
 abbrev pub lists_of : Nodes → Lists
 lists_of nodes = lists_from [] (walk_of nodes)
 
--- -1 names the open list
+-- The key -1 is the open list's.
 abbrev pub key_of : Lists → List Acl → ℤ
 key_of lists list = if is_same_list list open_acl then negsuc 0 else unwrap_or (key_in lists list) (negsuc 0)
 
@@ -97,7 +97,7 @@ values_of s =
 
 -- ---- the bytes
 
--- each value in the format of its phase
+-- Each value in the format of its phase.
 abbrev pub bytes_from : PartPhase → List Value → List ℕ
 bytes_from phase [] = []
 bytes_from phase (v ∷ vs) = (part_format phase).written v ++ bytes_from (part_after phase v) vs
@@ -105,9 +105,9 @@ bytes_from phase (v ∷ vs) = (part_format phase).written v ++ bytes_from (part_
 abbrev pub image_bytes : State → List ℕ
 image_bytes s = bytes_from SessionCount (values_of s)
 
--- ---- what may be written
+-- ---- the limits
 
--- no count, session, list, path or node passes a limit of its format
+-- No count, session, list, path or node exceeds a limit of its format.
 pub record IsWithinLimits (ids : List (ℤ × ℤ)) (keyed : Lists) (walked : List (Bytes × Node)) : Type 0 where
   pub session_count : (count_format count_limit).Fits (Some (length ids))
   pub sessions : AllByRecursion (pair_of long int).Fits ids
@@ -116,6 +116,6 @@ pub record IsWithinLimits (ids : List (ℤ × ℤ)) (keyed : Lists) (walked : Li
   pub paths : AllByRecursion (λ (e : Bytes × Node). text_format.Fits (Some e.0)) walked
   pub nodes : AllByRecursion (λ (e : Bytes × Node). node_body.Fits (e.1.bytes, (key_of keyed e.1.acl, e.1.stat))) walked
 
--- the tree is whole, and passes no limit
+-- The tree is whole, and exceeds no limit.
 abbrev pub FitsImage : State → Type 0
 FitsImage s = IsWhole s × IsWithinLimits (finmap.entries s.sessions) (lists_of s.nodes) (walk_of s.nodes)

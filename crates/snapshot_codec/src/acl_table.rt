@@ -16,7 +16,7 @@ use values::NoMemory;
 /// The key of the open list, which every image has.
 const OPEN_KEY: i64 = -1;
 
-/// The ACL lists that nodes may name.
+/// The ACL lists that nodes may refer to.
 #[derive(Drop)]
 pub struct AclTable {
     map: BTreeMap<i64, AclList>,
@@ -41,7 +41,7 @@ fn copy(list: &AclList) -> Result<AclList, NoMemory>
 }
 
 impl AclTable {
-    /// No list but the open one, which takes no memory.
+    /// No list but the open one. Allocates nothing.
     pub fn new(alloc: Global) -> AclTable
         ensures { result ≡ finmap.empty }
     {
@@ -50,7 +50,6 @@ impl AclTable {
         }
     }
 
-    // The list of the entry with the key.
     fn get(&self, key: i64) -> Option<&AclList>
         ensures { option_copied result ≡ finmap.get self.now key }
     {
@@ -64,7 +63,7 @@ impl AclTable {
         self.get(key).is_some()
     }
 
-    /// Adds an entry in place of another one with the key. Refused, it leaves the table as it was.
+    /// Inserts an entry; it replaces another one with the same key. A refused allocation leaves the table as it was.
     pub fn insert(&mut self, key: i64, list: AclList) -> Result<(), NoMemory>
         ensures ok { OnOk result (self.new ≡ finmap.insert self.old key list) }
         ensures err { OnErr result (self.new ≡ self.old) }
@@ -73,7 +72,7 @@ impl AclTable {
         Ok(())
     }
 
-    /// A copy of the list that the key names, if it names one.
+    /// A copy of the list with this key, or None if there is none. Fails only if an allocation is refused.
     pub fn list(&self, key: i64) -> Result<Option<AclList>, NoMemory>
         ensures { IfOk result (λ list. list ≡ list_at_key self.now key) }
     {

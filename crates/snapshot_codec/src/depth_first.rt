@@ -1,4 +1,4 @@
-//! The nodes of a tree depth first.
+//! The nodes of a tree in depth-first order.
 
 ghost use Rattle.std.specs.Prelude.{◌≡◌, IfOk, Some};
 ghost use Rattle.std.specs.Cmp.{eq_by_cmp_equiv, partial_order_from_total};
@@ -16,7 +16,7 @@ use std::cmp::Ordering;
 use std::collections::BTreeMap;
 use values::NoMemory;
 
-// Where a byte stands among the bytes of paths.
+// The rank of a byte in the order of paths.
 fn rank(byte: u8) -> u16
     ensures { result ≡ byte_rank byte }
 {
@@ -26,7 +26,7 @@ fn rank(byte: u8) -> u16
     byte as u16 + 1
 }
 
-// Which path stands first in a walk.
+// The order of two paths in a walk.
 fn walk_order(left: &[u8], right: &[u8]) -> Ordering
     ensures { result ≡ walk_cmp left.now right.now }
 {
@@ -47,8 +47,8 @@ fn walk_order(left: &[u8], right: &[u8]) -> Ordering
     Ordering::Equal
 }
 
-/// A path in the order of a walk: ascending bytes, but that a slash stands before every other byte. So all that is
-/// below a node stands behind it, before the next node.
+/// A path in the order of a walk: ascending bytes, with the slash before every other byte. So everything below a node
+/// comes after it and before the next node.
 #[derive(Clone, Copy)]
 pub struct WalkPath<'a> {
     pub text: &'a str,
@@ -92,7 +92,7 @@ impl<'a> Ord for WalkPath<'a> {
     }
 }
 
-/// The nodes of the tree under their paths, in the order of a walk.
+/// The nodes of the tree by path, in the order of a walk. Fails only if an allocation is refused.
 pub fn depth_first(alloc: Global, tree: &Tree) -> Result<BTreeMap<WalkPath<'_>, &Node>, NoMemory>
     ensures { IfOk result (λ rows. shown_rows rows.entries ≡ walk_of tree.now.nodes) }
 {

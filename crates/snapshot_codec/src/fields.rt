@@ -1,4 +1,4 @@
-//! What stands in each phase of an image.
+//! The values that each phase of an image reads.
 
 ghost use Rattle.std.specs.Prelude.{◌≡◌};
 ghost use Rattle.jute.specs.Reads.{ReadsOwned};
@@ -16,7 +16,7 @@ use values::{Blob, Fault, ReadError};
 /// The text that ends an image.
 pub const SIGNATURE: &str = "BenWasHere";
 
-/// Reads how many sessions or ACL lists follow; null is `BadLength`.
+/// Reads the number of sessions or ACL lists that follow; null is `BadLength`.
 #[tactic(auto, unfolding(jute::specs::Format::judged_at))]
 pub fn read_count(reader: &mut Reader<'_>) -> Result<u32, ReadError>
     ensures { ReadsOwned (part_format SessionCount).read (λ n. Count n) result reader.old reader.new }
@@ -55,7 +55,7 @@ pub fn read_acl(alloc: Global, reader: &mut Reader<'_>) -> Result<ImageAcl, Read
     Ok(ImageAcl { key, list })
 }
 
-/// Reads the path of the first node, which is empty. A null one is `BadPath`, "/" is `BadImage`.
+/// Reads the path of the first node, which is empty. A null path is `BadPath`, and "/" is `BadImage`.
 #[tactic(auto, unfolding(jute::specs::Format::judged_at))]
 pub fn read_root(alloc: Global, reader: &mut Reader<'_>) -> Result<Path, ReadError>
     ensures { ReadsOwned (part_format Root).read (λ p. PathValue p) result reader.old reader.new }
@@ -76,8 +76,7 @@ pub fn read_root(alloc: Global, reader: &mut Reader<'_>) -> Result<Path, ReadErr
     Ok(path)
 }
 
-/// Reads the path of a further node; `None` is the path "/", which stands behind the last one. A null one is
-/// `BadPath`.
+/// Reads the path of a further node; `None` is the path "/", which comes after the last node. A null path is `BadPath`.
 #[tactic(auto, unfolding(jute::specs::Format::judged_at))]
 pub fn read_next(alloc: Global, reader: &mut Reader<'_>) -> Result<Option<Path>, ReadError>
     ensures { ReadsOwned (part_format Nodes).read path_or_close result reader.old reader.new }
@@ -95,7 +94,7 @@ pub fn read_next(alloc: Global, reader: &mut Reader<'_>) -> Result<Option<Path>,
     Ok(Some(path))
 }
 
-/// What stands behind the path of a node.
+/// The fields of a node after its path.
 #[derive(Debug, Drop)]
 pub struct NodeBody {
     pub bytes: Option<Blob>,
@@ -104,7 +103,7 @@ pub struct NodeBody {
 }
 
 impl NodeBody {
-    /// The node that has it at the path.
+    /// The node with these fields at the path.
     pub fn at(self, path: Path) -> ImageNode
         ensures { result ≡ record { path = path; bytes = self.bytes; acl = self.acl; stat = self.stat } }
     {
@@ -117,7 +116,7 @@ impl NodeBody {
     }
 }
 
-/// Reads what stands behind the path of a node. The bytes are copied last: a node that isn't whole yet costs no copy.
+/// Reads the fields of a node after its path. The data is copied last, so an incomplete node costs no copy.
 pub fn read_body(alloc: Global, reader: &mut Reader<'_>) -> Result<NodeBody, ReadError>
     ensures { ReadsOwned node_body.read (λ b. (b.bytes, (b.acl, b.stat))) result reader.old reader.new }
 {
@@ -133,7 +132,7 @@ pub fn read_body(alloc: Global, reader: &mut Reader<'_>) -> Result<NodeBody, Rea
     Ok(NodeBody { bytes, acl, stat })
 }
 
-/// Reads the text that ends an image; another one, and null, is `BadImage`.
+/// Reads the text that ends an image; any other text, and null, is `BadImage`.
 #[tactic(auto, unfolding(jute::specs::Format::judged_at))]
 pub fn read_signature(reader: &mut Reader<'_>) -> Result<(), ReadError>
     ensures { ReadsOwned (part_format Signature).read (λ u. Part part.End) result reader.old reader.new }
@@ -149,7 +148,7 @@ pub fn read_signature(reader: &mut Reader<'_>) -> Result<(), ReadError>
     Ok(())
 }
 
-/// So many sessions, or what stands behind them.
+/// The phase in which this many sessions are left.
 pub fn sessions_from(count: u32) -> PartPhase
     ensures { result ≡ sessions_from count }
 {
@@ -159,7 +158,7 @@ pub fn sessions_from(count: u32) -> PartPhase
     PartPhase::Sessions(count)
 }
 
-/// So many ACL lists, or what stands behind them.
+/// The phase in which this many ACL lists are left.
 pub fn acls_from(count: u32) -> PartPhase
     ensures { result ≡ acls_from count }
 {

@@ -1,4 +1,4 @@
-//! What is within the limits of an image.
+//! The limits of an image.
 
 ghost use Rattle.std.specs.Prelude.{◌↔◌, IsTrue, Some};
 ghost use Rattle.jute.specs.Format.{buffer, text_format, vector_of};
@@ -14,7 +14,7 @@ pub fn fits_text(text: &str) -> bool
     text.as_bytes().len() <= BUFFER_LIMIT as usize
 }
 
-/// Whether a node's bytes are within the limit.
+/// Whether a node's data is within the limit.
 pub fn fits_bytes(bytes: &Option<Blob>) -> bool
     ensures { IsTrue result ↔ buffer.Fits bytes.now }
 {

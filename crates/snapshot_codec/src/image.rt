@@ -1,4 +1,4 @@
-//! Images that are all there.
+//! Whole images.
 
 ghost use Rattle.std.specs.Prelude.{◌≡◌, false};
 ghost use Rattle.jute.specs.Reads.{ReadsOwned};
@@ -32,7 +32,7 @@ impl Model for Image {
 }
 
 impl Image {
-    /// The tree of which it is the image. It takes no memory.
+    /// The tree that the image is of. Allocates nothing.
     pub fn into_tree(self) -> Tree
         ensures { result ≡ self }
     {
@@ -40,7 +40,6 @@ impl Image {
     }
 }
 
-// Loads what stands next.
 fn load_next(
     alloc: Global,
     loader: &mut Loader,
@@ -73,9 +72,11 @@ fn load_image(alloc: Global, reader: &mut Reader<'_>) -> Result<Image, ReadError
     })
 }
 
-/// Reads the image at the front of the bytes, and says how many of them it takes. Its faults are those of its parts,
-/// the first one first: `Short`, `BadLength`, `BadText` and `BadPath` of a field at its last byte, and `BadImage` of a
-/// part that doesn't go with those before it, at the part's last byte.
+/// Reads the image at the front of the bytes, and returns it with the bytes that it takes.
+///
+/// The faults are those of its parts, the first one first: `Short`, `BadLength`, `BadText` and `BadPath` of a field,
+/// found at the field's last byte, and `BadImage` of a part that doesn't fit the parts before it, found at the part's
+/// last byte. Fails with `NoMemory` if an allocation is refused.
 pub fn read_image(alloc: Global, bytes: &[u8]) -> Result<(Image, usize), ReadError>
     ensures { ReadsImage result bytes.now }
 {

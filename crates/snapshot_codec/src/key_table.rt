@@ -16,10 +16,10 @@ use std::collections::BTreeMap;
 use txn_codec::AclList;
 use values::NoMemory;
 
-/// The key that names the open list, which stands in no image.
+/// The key of the open list, which isn't written in an image.
 const OPEN_KEY: i64 = -1;
 
-// How a list is written, if it is within the limits.
+// The bytes of a list, if it is within the limits.
 fn list_bytes(alloc: Global, list: &[Acl]) -> Result<Vec<u8>, WriteError>
     ensures { GivesList result list.now }
 {
@@ -32,10 +32,11 @@ fn list_bytes(alloc: Global, list: &[Acl]) -> Result<Vec<u8>, WriteError>
     Ok(bytes)
 }
 
-/// The lists that nodes use, but the open one, each once. Their keys are 1, 2, .. in the order in which they are added.
+/// The lists that nodes use, except the open one, each once. Their keys count from 1 in the order in which the lists
+/// are added.
 #[derive(Drop)]
 pub struct KeyTable {
-    // Each list as it is written, with its key.
+    // The key of each list, by the list's bytes.
     keys: BTreeMap<Vec<u8>, i64>,
     // The keys with their lists, as they are written.
     written: Vec<u8>,
@@ -64,8 +65,8 @@ impl KeyTable {
         Ok(())
     }
 
-    /// The lists of the nodes, in the order in which they are first used. It is `NotWhole` where one of them, or how
-    /// many they are, passes a limit.
+    /// The lists of the nodes, in the order of their first use. Fails with `NotWhole` if one of them, or their number,
+    /// exceeds a limit.
     pub fn of(alloc: Global, rows: &BTreeMap<WalkPath<'_>, &Node>) -> Result<KeyTable, WriteError>
         ensures { MakesTable result (lists_from [] (shown_rows rows.now.entries)) }
     {
@@ -93,7 +94,7 @@ impl KeyTable {
         }
     }
 
-    /// Writes how many lists there are, and the keys with their lists.
+    /// Appends the number of lists, and the keys with their lists.
     pub fn put(&self, out: &mut Vec<u8>) -> Result<(), NoMemory>
         requires { btree_map_len self.now.keys ≤ count_limit }
         ensures { (lists : Lists) → IsTable self.now lists

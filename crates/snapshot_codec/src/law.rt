@@ -15,19 +15,18 @@ ghost use Rattle.snapshot_codec.specs.Rows.{WorkedImages};
 ghost use Rattle.snapshot_codec.specs.Walks.{IsWalk};
 ghost use Rattle.snapshot_codec.specs.Written.{walk_of};
 
-/// What stands in a phase is read exactly where its spelling stands, however the bytes are cut, and a refusal names the
-/// first field that no bytes at its place spell. No part is refused for want of bytes.
+/// A value of a phase is read exactly if the bytes spell one, however they are cut, and a refusal names the first field
+/// that no bytes at its place spell. No part is refused for want of bytes.
 pub fn image_parts()
     ensures sound { AreSound part_stream }
     ensures pieces { ComesInPieces part_stream }
     ensures goes_on { NeverWaits image_load }
 {}
 
-/// What is read as an image is spelled so, and what is spelled so is read, whatever follows and however it is cut. A
-/// refusal names the first field against the image, or the first part that doesn't go with those before it, and what is
-/// against it is refused so. What was refused for another reason than too few bytes begins no image. A state that has
-/// an image is whole. What is written of a whole state within the limits is its image, and so is read again, whatever
-/// follows.
+/// What is read as an image was spelled so, and a spelling is read, whatever follows and however the bytes are cut. A
+/// read is refused exactly for the first field that isn't spelled, or the first part that doesn't fit those before it.
+/// Bytes that were refused for any fault but `Short` begin no image. A state that has an image is whole. The bytes
+/// written for a whole state within the limits are its image, so they are read back, whatever follows.
 pub fn images()
     ensures taken { TakesSpellings image_format }
     ensures again { (s : State) (text rest : List ℕ) → SpellsImage s text
@@ -45,13 +44,13 @@ pub fn images()
     data_tree::law::names();
 }
 
-/// In an image each node stands once, a parent before its children, and what is below a node directly behind it.
+/// In an image each node occurs once, a parent before its children, and everything below a node directly after it.
 pub fn walks()
     ensures { (nodes : Nodes) → IsWalk nodes (walk_of nodes) }
 {}
 
-/// Images that were worked out by hand: what is written of the fresh tree, in which order nodes stand, and which keys
-/// their lists have.
+/// Images that were worked out by hand: the bytes written for the fresh tree, the order of the nodes, and the keys of
+/// their lists.
 pub fn worked_images()
     ensures { WorkedImages }
 {}

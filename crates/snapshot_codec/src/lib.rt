@@ -1,10 +1,10 @@
-//! The image of a snapshot: sessions, ACL lists and nodes, as a leader sends them to one that is too far behind.
+//! The image of a snapshot: sessions, ACL lists and nodes, as a leader sends them to a server that lags too far.
 //!
-//! An image is read in parts, so that it never stands whole in memory beside the tree that it makes: `read_part` reads
-//! what stands next at a place, and a `Loader` takes each part into a tree. `read_image` does both for bytes that are
-//! all there. `specs/Parts.antt` says how the parts are spelled, `specs/Made.antt` what they make, and
-//! `specs/Image.antt`, as a relation, which bytes are an image of which state. `write_image` writes a tree's image,
-//! which `specs/Written.antt` defines. The laws in `law` tie them: what is written is read again, and gives the tree.
+//! An image is read in parts, so it is never in memory as a whole besides the tree that it makes: `read_part` reads the
+//! next value at a place, and a `Loader` takes each part into a tree. `read_image` does both for the bytes of a whole
+//! image. `specs/Parts.antt` defines how the parts are spelled, `specs/Made.antt` what they make, and
+//! `specs/Image.antt`, as a relation, the bytes that are an image of a state. `write_image` writes the image of a tree,
+//! which `specs/Written.antt` defines. The laws in `law` relate them: what is written is read back and gives the tree.
 //!
 //! ```text
 //! let (image, used) = read_image(alloc, bytes)?;     // or: part by part
@@ -16,7 +16,7 @@
 //!     }
 //! }
 //! let tree = loader.finish();
-//! let bytes = write_image(alloc, &tree)?;            // NotWhole where the tree has no image
+//! let bytes = write_image(alloc, &tree)?;            // NotWhole if the tree has no image
 //! ```
 #![tactic(auto)]
 

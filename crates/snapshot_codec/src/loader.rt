@@ -1,4 +1,4 @@
-//! A tree that is made of the parts of an image.
+//! A tree that is built from the parts of an image.
 
 ghost use Rattle.std.specs.Prelude.{◌≡◌, IsTrue, false};
 ghost use Rattle.snapshot_codec.specs.Made.{no_loaded_parts, node_with};
@@ -14,7 +14,7 @@ use std::marker::Model;
 use txn_codec::AclList;
 use values::{Blob, Fault, ReadError};
 
-/// A tree that is made of the parts of an image, one by one, in the order in which they stand there.
+/// A tree that is built from the parts of an image, one by one and in their order.
 #[derive(Drop)]
 pub struct Loader {
     tree: Tree,
@@ -35,7 +35,7 @@ impl Model for Loader {
 }
 
 impl Loader {
-    /// Where an image begins. It takes no memory.
+    /// The start of an image. Allocates nothing.
     pub fn new(alloc: Global) -> Loader
         ensures { result ≡ record { made = no_loaded_parts; ended = false } }
     {
@@ -46,9 +46,9 @@ impl Loader {
         }
     }
 
-    /// Takes a part. It is `BadImage` where it doesn't go with the parts before it: its session, its ACL key or its
-    /// path stands there already; the key that a node names doesn't, or a node's parent; or the first node isn't "/". A
-    /// refused part leaves the loader as it was.
+    /// Takes the next part. The fault is `BadImage` if it doesn't fit the parts before it: its session, its ACL key or
+    /// its path occurred already; its node refers to a key or a parent that didn't occur; or the first node isn't "/".
+    /// A refused part leaves the loader as it was. Fails with `NoMemory` if an allocation is refused.
     pub fn part(&mut self, alloc: Global, part: ImagePart) -> Result<(), ReadError>
         ensures { TakesPart result part self.old self.new }
     {
@@ -94,7 +94,7 @@ impl Loader {
         self.ended
     }
 
-    /// The tree, where the last part was the end. It takes no memory.
+    /// The tree, once the last part was the end. Allocates nothing.
     pub fn finish(self) -> Tree
         requires { IsTrue self.ended }
         ensures { result ≡ self.made.state }

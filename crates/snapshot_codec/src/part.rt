@@ -14,21 +14,21 @@ pub struct ImageSession {
     pub timeout: i32,
 }
 
-/// An ACL list of an image, and the key by which nodes name it.
+/// An ACL list of an image, and the key by which nodes refer to it.
 #[derive(Debug, Drop)]
 pub struct ImageAcl {
     pub key: i64,
-    /// `None` is null, which stands for the open list.
+    /// `None` is null, which means the open list.
     pub list: Option<Listed<Acl>>,
 }
 
-/// A node of an image, without its children, which stand behind it.
+/// A node of an image, without its children, which follow it.
 #[derive(Debug, Drop)]
 pub struct ImageNode {
     pub path: Path,
     /// `None` is null.
     pub bytes: Option<Blob>,
-    /// The key of its ACL list; -1 names the open list.
+    /// The key of its ACL list; -1 is the open list's.
     pub acl: i64,
     pub stat: StatPersisted,
 }
@@ -51,22 +51,22 @@ impl ImagePart {
     }
 }
 
-/// What stands next in an image.
+/// What comes next in an image.
 #[derive(Debug, Drop)]
 pub enum PartPhase {
-    /// How many sessions there are.
+    /// The number of sessions.
     SessionCount,
-    /// So many sessions, at least one.
+    /// This many sessions, at least one.
     Sessions(u32),
-    /// How many ACL lists there are.
+    /// The number of ACL lists.
     AclCount,
-    /// So many ACL lists, at least one.
+    /// This many ACL lists, at least one.
     Acls(u32),
     /// The path of the first node, which is the root.
     Root,
-    /// The path of a further node, or "/" behind the last one.
+    /// The path of a further node, or "/" after the last one.
     Nodes,
-    /// What stands behind the path of a node.
+    /// The fields of the node with this path.
     Body(Path),
     /// The text that ends an image.
     Signature,

@@ -1,4 +1,4 @@
-//! The parts of an image, from the front of a byte text.
+//! Reading the parts of an image from the front of bytes.
 
 ghost use Rattle.std.specs.Prelude.{◌≡◌};
 ghost use Rattle.snapshot_codec.specs.Parts.{IsBody};
@@ -14,10 +14,11 @@ use std::alloc::Global;
 use std::mem;
 use values::ReadError;
 
-/// Reads what stands next in an image, and moves the phase on. It answers a part; a count, a path and the "/" behind
-/// the last node only move the phase on, and are `None`. Its faults are those of the fields, the first one first:
-/// `Short`, `BadLength`, `BadText`, `BadPath`, and `BadImage` for a first path "/" and for another signature. A refused
-/// read leaves the place and the phase.
+/// Reads the next value of an image, and moves the phase on. It returns a part, or `None` for a value that only moves
+/// the phase on: a count, a path, and the "/" after the last node.
+///
+/// The faults are those of the fields, the first one first: `Short`, `BadLength`, `BadText`, `BadPath`, and `BadImage`
+/// for a first path "/" and for a wrong signature. A refused read leaves the place and the phase.
 pub fn read_part(
     alloc: Global,
     phase: &mut PartPhase,
@@ -69,7 +70,7 @@ pub fn read_part(
     }
 }
 
-// Reads what stands behind the path that the phase keeps.
+// Reads the fields of the node whose path the phase holds.
 fn read_node(
     alloc: Global,
     phase: &mut PartPhase,

@@ -1,4 +1,4 @@
-//! Why an image could not be written.
+//! The errors of writing an image.
 
 ghost use Rattle.std.specs.Prelude.{◌≡◌};
 ghost use Rattle.snapshot_codec.specs.declared.write_error.WriteError.TheVariants as errors;
@@ -7,13 +7,13 @@ use std::alloc::{AllocError, AllocFailed};
 use thiserror::Error;
 use values::NoMemory;
 
-/// Why an image could not be written.
+/// The reason why an image could not be written.
 #[derive(Clone, Copy, Debug, PartialEq, Eq, Error)]
 pub enum WriteError {
-    /// The tree isn't whole, or passes a limit of the format.
+    /// The tree isn't whole, or exceeds a limit of the format.
     #[error("the tree has no image")]
     NotWhole,
-    /// A growth was refused.
+    /// An allocation was refused.
     #[error("no memory")]
     NoMemory,
 }

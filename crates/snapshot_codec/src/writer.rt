@@ -18,7 +18,7 @@ use jute::{COUNT_LIMIT, StatPersisted, WriteRecord, put_blob, put_int, put_long,
 use std::alloc::Global;
 use std::collections::BTreeMap;
 
-// Writes how many sessions there are, and the sessions.
+// Appends the number of sessions, and the sessions.
 fn put_sessions(out: &mut Vec<u8>, sessions: &Timeouts) -> Result<(), WriteError>
     ensures { WritesBytes result (sessions_bytes (finmap.entries sessions.now)) out.old.items out.new.items
         (FitSessions (finmap.entries sessions.now)) }
@@ -46,7 +46,7 @@ fn written_path(path: &str) -> &str
     path
 }
 
-// The numbers of a node, each of which is within the bounds of its type.
+// A copy of a node's stat. Its contract tells the prover that each field is within the bounds of its type.
 fn numbers(stat: &StatPersisted) -> StatPersisted
     ensures same { result ≡ stat.now }
     ensures fit { stat_persisted.Fits stat.now }
@@ -64,7 +64,7 @@ fn numbers(stat: &StatPersisted) -> StatPersisted
     }
 }
 
-// Writes a node: its path, which is empty at the root, its bytes, the key of its list, and its numbers.
+// Appends a node: its path, its data, the key of its list, and its stat.
 fn put_node(out: &mut Vec<u8>, path: &str, node: &Node, key: &i64) -> Result<(), WriteError>
     ensures { WritesBytes result (node_bytes path.now node.now key.now) out.old.items out.new.items
         (FitsNode path.now node.now key.now) }
@@ -79,7 +79,6 @@ fn put_node(out: &mut Vec<u8>, path: &str, node: &Node, key: &i64) -> Result<(),
     Ok(())
 }
 
-// Writes the nodes.
 fn put_nodes(
     alloc: Global,
     out: &mut Vec<u8>,
@@ -98,11 +97,13 @@ fn put_nodes(
     Ok(())
 }
 
-/// Writes the image of a tree: its sessions in ascending id; the ACL lists of its nodes but the open one, under keys 1,
-/// 2, .. in the order in which they are first used; the nodes depth first, children in ascending bytes; and the end.
-/// It is `NotWhole` exactly where the tree isn't whole, or passes a limit of the format: 1,048,576 sessions, ACL lists,
-/// and entries of a list; 4,194,304 bytes of a text, and of a node's data. Beside the image, it takes the memory of a
-/// path's and a node's address for each node, and of each list once.
+/// Writes the image of a tree: its sessions in ascending order of their ids; the ACL lists of its nodes except the open
+/// one, whose keys count from 1 in the order of their first use; the nodes in depth-first order, children in ascending
+/// order of their bytes; and the end.
+///
+/// Fails with `NotWhole` exactly if the tree isn't whole, or exceeds a limit of the format: 1,048,576 sessions, ACL
+/// lists, or entries of a list; 4,194,304 bytes of a text, or of a node's data. Fails with `NoMemory` if an allocation
+/// is refused. Besides the image it allocates a path's and a node's address for each node, and each list once.
 pub fn write_image(alloc: Global, tree: &Tree) -> Result<Vec<u8>, WriteError>
     ensures written { IfOk result (λ bytes. bytes.items ≡ image_bytes tree.now) }
     ensures fits { OnOk result (FitsImage tree.now) }

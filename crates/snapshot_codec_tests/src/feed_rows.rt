@@ -8,10 +8,10 @@ use std::alloc::Global;
 use std::test::Fail;
 use values::{Fault, NoMemory, ReadError};
 
-/// A SNAP packet of zxid 1, without bytes and ids.
+/// A SNAP packet with zxid 1, without data and ids.
 const SNAP: &[u8] = b"\0\0\0\x0f\0\0\0\0\0\0\0\x01\xff\xff\xff\xff\xff\xff\xff\xff";
 
-/// An UPTODATE of zxid 2, without bytes and ids.
+/// An UPTODATE with zxid 2, without data and ids.
 const UP_TO_DATE: &[u8] = b"\0\0\0\x0c\0\0\0\0\0\0\0\x02\xff\xff\xff\xff\xff\xff\xff\xff";
 
 /// An image of a session, a list and two nodes.
@@ -30,7 +30,7 @@ fn stream(alloc: Global) -> Result<Vec<u8>, NoMemory> {
     joined(alloc, &[SNAP, image.as_slice(), UP_TO_DATE])
 }
 
-// What is told of an item: the code of its kind and its zxid, or which part it is with its id, key or bytes.
+// An item as two numbers: the code of its kind and its zxid, or the number of its part with its id, key or length.
 fn outline(item: &Item) -> (i32, i64) {
     match item {
         Item::Packet(packet) => (packet.kind, packet.zxid),
@@ -41,8 +41,8 @@ fn outline(item: &Item) -> (i32, i64) {
     }
 }
 
-/// What stands in the stream: the SNAP, the session, the list, the root of the open list, the node of list 5, the end,
-/// and the UPTODATE.
+/// The items of the stream: the SNAP, the session, the list, the root with the open list, the node with list 5, the
+/// end, and the UPTODATE.
 const OUTLINES: [(i32, i64); 7] = [
     (15, 1),
     (-1, 9),
@@ -53,7 +53,7 @@ const OUTLINES: [(i32, i64); 7] = [
     (12, 2),
 ];
 
-// Takes what is whole, behind what was taken.
+// Takes the complete items, and appends them.
 fn take_all(
     alloc: Global,
     feed: &mut PacketFeed,
@@ -68,7 +68,7 @@ fn take_all(
     Ok(())
 }
 
-// What a stream brings that comes in two pieces, and how many bytes are held between them.
+// The items of a stream that comes in two pieces, and the number of bytes held between them.
 fn taken_in_two(
     alloc: Global,
     front: &[u8],
@@ -84,8 +84,8 @@ fn taken_in_two(
     Ok((taken, held))
 }
 
-/// However a stream is cut in two, it brings the same. Between the pieces less than one part is held; the longest one
-/// is the second node, of 79 bytes.
+/// However a stream is cut in two, its items are the same. Between the pieces less than one part is held; the longest
+/// one is the second node, with 79 bytes.
 #[test]
 fn an_image_cut_at_each_byte(rt: HostRuntime) -> Result<(), Fail> {
     let bytes = stream(rt.alloc())?;
@@ -98,7 +98,7 @@ fn an_image_cut_at_each_byte(rt: HostRuntime) -> Result<(), Fail> {
     Ok(())
 }
 
-// Feeds the bytes one by one, and takes what is whole behind each.
+// Feeds the bytes one by one, and takes the complete items after each.
 fn taken_by_bytes(
     alloc: Global,
     feed: &mut PacketFeed,
@@ -123,7 +123,7 @@ fn an_image_byte_by_byte(rt: HostRuntime) -> Result<(), Fail> {
     Ok(())
 }
 
-/// What is held behind a piece: the bytes that wait, and the path of a node that has begun.
+/// The bytes held after a piece: those that wait, and the path of a node that is incomplete.
 #[test]
 fn held_bytes(rt: HostRuntime) -> Result<(), Fail> {
     let mut feed = PacketFeed::new(rt.alloc());
@@ -151,7 +151,7 @@ fn held_bytes(rt: HostRuntime) -> Result<(), Fail> {
     Ok(())
 }
 
-/// A signature that is another text ends the stream at its last byte, whatever comes behind.
+/// A wrong signature ends the stream at its last byte, whatever follows.
 #[test]
 fn a_fault_in_an_image_stays(rt: HostRuntime) -> Result<(), Fail> {
     let mut feed = PacketFeed::new(rt.alloc());
@@ -187,7 +187,7 @@ fn a_list_is_refused_at_its_text(rt: HostRuntime) -> Result<(), Fail> {
     )?;
     let taken = taken_by_bytes(rt.alloc(), &mut feed, bytes.as_slice())?;
     assert!(rt; taken.as_slice() == [(15, 1)].as_slice());
-    // a key, a count, a number, and texts of one byte and of one that still lacks a byte
+    // A key, a count, a number, a text of one byte, and a text that still lacks a byte.
     assert_eq!(rt; feed.held(), 8 + 4 + 4 + 5 + 5);
     feed.feed(b"\xff")?;
     let refused = feed.next(rt.alloc()).err();

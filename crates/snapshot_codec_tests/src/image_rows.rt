@@ -30,7 +30,7 @@ fn fault_of(alloc: Global, pieces: &[&[u8]]) -> Result<Option<Fault>, Fail> {
     }
 }
 
-// Whether the pieces are refused for the fault at their last byte, and cut before it for want of bytes.
+// Whether the pieces are refused for the fault at their last byte, and for want of bytes if they are cut before it.
 fn is_refused(alloc: Global, pieces: &[&[u8]], fault: Fault) -> Result<bool, Fail> {
     let bytes = joined(alloc, pieces)?;
     let cut = bytes.len().saturating_sub(1);
@@ -118,7 +118,7 @@ fn other_orders_and_keys(rt: HostRuntime) -> Result<(), Fail> {
 
 // Pieces of images, and the fault for which their last byte is refused.
 const REFUSED: [(&[&[u8]], Fault); 16] = [
-    // the signature is another text, null, or no UTF-8
+    // The signature is another text, null, or not UTF-8.
     (
         &[NONE, NONE, ROOT, BARE, CLOSE, b"\0\0\0\x0aBonWasHere"],
         Fault::BadImage,
@@ -128,18 +128,18 @@ const REFUSED: [(&[&[u8]], Fault); 16] = [
         &[NONE, NONE, ROOT, BARE, CLOSE, b"\0\0\0\x01\xff"],
         Fault::BadText,
     ),
-    // a session, a key or a path stands there already
+    // A session, a key or a path occurs already.
     (&[TWO, SESSION, SESSION], Fault::BadImage),
     (&[NONE, TWO, READ_5, READ_5], Fault::BadImage),
     (&[NONE, TWO, OPEN, OPEN], Fault::BadImage),
     (&[NONE, NONE, ROOT, BARE, A, BARE, A, BARE], Fault::BadImage),
-    // a node has no parent, or the key of no list
+    // A node has no parent, or the key of no list.
     (&[NONE, NONE, ROOT, BARE, C, BARE], Fault::BadImage),
     (&[NONE, NONE, ROOT, BARE, A, OWNED], Fault::BadImage),
-    // the first node isn't the root, or there is none
+    // The first node isn't the root, or there is none.
     (&[NONE, NONE, A, BARE], Fault::BadImage),
     (&[NONE, NONE, CLOSE], Fault::BadImage),
-    // a count or a path is null, or a path behind the root is empty
+    // A count or a path is null, or a path after the root is empty.
     (&[NULL], Fault::BadLength),
     (&[NONE, NULL], Fault::BadLength),
     (&[NONE, NONE, NULL], Fault::BadPath),

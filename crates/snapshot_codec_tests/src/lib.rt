@@ -1,4 +1,4 @@
-//! Tests of `snapshot_codec`. They stand apart, since a crate with tests is proved twice.
+//! Tests of `snapshot_codec`. They are a crate of their own, since a crate with tests is proved twice.
 #![tactic(auto)]
 
 #[cfg(test)]
@@ -15,7 +15,7 @@ mod written_rows;
 use std::alloc::Global;
 use values::NoMemory;
 
-/// The bytes of the pieces, one behind the other.
+/// The bytes of the pieces, one after the other.
 pub fn joined(alloc: Global, pieces: &[&[u8]]) -> Result<Vec<u8>, NoMemory> {
     let mut bytes = Vec::new(alloc);
     for piece in pieces {

@@ -25,7 +25,7 @@ fn load_all(alloc: Global, loader: &mut Loader, bytes: &[u8]) -> Result<u32, Rea
     Ok(0)
 }
 
-// How many parts an image has; and of the tree that they make, how many nodes there are, and the timeout of session 9.
+// The number of parts of an image, and for the tree that they make the number of nodes and the timeout of session 9.
 fn loaded(alloc: Global, bytes: &[u8]) -> Result<(u32, usize, Option<i32>), Fail> {
     let mut loader = Loader::new(alloc);
     let parts = load_all(alloc, &mut loader, bytes)?;
@@ -43,7 +43,7 @@ fn loaded_in_parts(rt: HostRuntime) -> Result<(), Fail> {
     Ok(())
 }
 
-// A session that is loaded twice.
+// Loading a session twice.
 fn second_answer(alloc: Global, loader: &mut Loader) -> Result<bool, ReadError> {
     let session = ImageSession {
         id: 9,

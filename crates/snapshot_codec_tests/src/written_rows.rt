@@ -15,12 +15,12 @@ use std::test::Fail;
 use txn_codec::{AclList, Path};
 use values::{Blob, NoMemory};
 
-// What is written of a tree.
+// The image written for a tree.
 fn image_of(alloc: Global, tree: &Tree) -> Result<Vec<u8>, Fail> {
     Ok(write_image(alloc, tree)?)
 }
 
-// What is written of the tree that an image makes.
+// The image written for the tree that an image makes.
 fn written_again(alloc: Global, bytes: &[u8]) -> Result<Vec<u8>, Fail> {
     let (image, _) = read_image(alloc, bytes)?;
     image_of(alloc, &image.into_tree())
@@ -36,7 +36,7 @@ fn worked_images(rt: HostRuntime) -> Result<(), Fail> {
     Ok(())
 }
 
-/// The session of the least id, with timeout 1.
+/// The session with the least id, with timeout 1.
 const LEAST: &[u8] = b"\x80\0\0\0\0\0\0\0\0\0\0\x01";
 
 // An image of two sessions and a root.
@@ -47,7 +47,7 @@ fn with_sessions(alloc: Global, first: &[u8], second: &[u8]) -> Result<Vec<u8>, 
     )
 }
 
-// Sessions stand in ascending id, and the least is below 0.
+// Sessions are in ascending order of their ids, and the least is below 0.
 #[test]
 fn sessions_in_order(rt: HostRuntime) -> Result<(), Fail> {
     let alloc = rt.alloc();
@@ -57,8 +57,8 @@ fn sessions_in_order(rt: HostRuntime) -> Result<(), Fail> {
     Ok(())
 }
 
-// What is below a node stands behind it, before the next node; the list that is used first has the key 1, one that no
-// node uses is gone, and nodes with one list name one key.
+// Everything below a node comes after it, before the next node. The list that is used first has the key 1, a list that
+// no node uses is dropped, and nodes with one list have one key.
 #[test]
 fn nodes_depth_first(rt: HostRuntime) -> Result<(), Fail> {
     let alloc = rt.alloc();
@@ -101,7 +101,7 @@ fn one_key_a_list(rt: HostRuntime) -> Result<(), Fail> {
     Ok(())
 }
 
-// A null list is the open one under any key, and is written as no list and the key -1.
+// A null list is the open one under any key. It is written as no list and the key -1.
 #[test]
 fn null_lists(rt: HostRuntime) -> Result<(), Fail> {
     let alloc = rt.alloc();
@@ -137,7 +137,7 @@ fn longest(alloc: Global) -> Result<Vec<u8>, Fail> {
     Ok(bytes)
 }
 
-// A tree of nothing but a root that has the bytes.
+// A tree with only a root, which has the data.
 fn root_of(alloc: Global, bytes: &[u8]) -> Result<Tree, Fail> {
     let stat = StatPersisted {
         czxid: 0,

@@ -42,7 +42,7 @@ operation_at_end kinds.Multi = sound_at_end _ (operation_sound kinds.Multi)
 operation_at_end kinds.CreateSession = sound_at_end _ (operation_sound kinds.CreateSession)
 operation_at_end kinds.CloseSession = sound_at_end _ (operation_sound kinds.CloseSession)
 
--- an operation that is spelled behind a type is of that type
+-- An operation that is spelled after a type is of that type.
 operation_tells : (last : Format ℤ) (k : TxnKind) (o : Operation) (text : List ℕ)
     → (operation_format last k).Spells o text
     → operation_kind o ≡ k
@@ -97,7 +97,7 @@ single_tells : (k : TxnKind) (o : Operation) (b : Body) (text : List ℕ) → bo
     → (operation_format int_or_end k).Spells o text → body_kind b ≡ k
 single_tells k o b text is s = ap body_kind (sym is) ∙ operation_tells int_or_end k o text s
 
--- a body that is spelled behind a type is of that type
+-- A body that is spelled after a type is of that type.
 content_tells : (k : TxnKind) (b : Body) (text : List ℕ) → (body_content k).Spells b text → body_kind b ≡ k
 content_tells kinds.Create b text s = single_tells kinds.Create s.0 b text (ok_is (bodies.Single s.0) b s.1) s.2
 content_tells kinds.Delete b text s = single_tells kinds.Delete s.0 b text (ok_is (bodies.Single s.0) b s.1) s.2

@@ -1,12 +1,12 @@
--- names between slashes, read byte by byte
+-- Names between slashes, read byte by byte.
 pub mod Names
--- where a text is cut at its last slash
+-- The parts of a text before and after its last slash.
 pub mod Slashes
--- fields and records are sound
+-- Fields and records are sound.
 pub mod Spelled
--- operations, parts, bodies and transactions are sound
+-- Operations, parts, bodies and transactions are sound.
 pub mod Bodies
--- what decode_txn answers, and which field a refusal names
+-- The results of `decode_txn`, and the field that a refusal names.
 pub mod Naming
--- what was decoded is within the limits
+-- A decoded transaction is within the limits.
 pub mod Limits

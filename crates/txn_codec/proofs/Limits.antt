@@ -1,4 +1,4 @@
--- What was decoded is within the limits, and what it makes or removes has a parent.
+-- A decoded transaction is within the limits, and each node that it creates or deletes has a parent.
 use Rattle.std.proofs.Common.{ℕ, List, [], ◌∷◌, Some, Result, Ok, Err}
 use Rattle.std.specs.Prelude.{IfOk, IsTrue}
 use Rattle.std.specs.List.{AllByRecursion}
@@ -40,7 +40,7 @@ body_parents (bodies.Multi ps) h = All-from_recursion HasParent ps (parts_parent
 body_parents (bodies.CreateSession z) h = tt
 body_parents bodies.CloseSession h = tt
 
--- ---- what the code says
+-- ---- the tests of the code
 
 pub decoded_fits : (bytes : List ℕ) (r : Result Txn ReadError) → IfOk r (λ t. txn_format.Spells t bytes)
     → IfOk r (λ t. txn_format.Fits t)

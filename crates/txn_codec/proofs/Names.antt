@@ -3,7 +3,8 @@ use Rattle.std.proofs.Common.{◌≡◌, ℕ, Bool, true, false, not, eqb, ◌&&
 use Rattle.std.specs.List.{list_all, slice_split, onto_first}
 use Rattle.txn_codec.specs.Paths.{is_name, are_names}
 
--- what may stand behind a slash (the flag), or inside a name: no NUL, and no slash behind a slash or at the end
+-- The bytes that may follow a slash (the flag is true), or continue a name: no NUL, and no slash after a slash or at
+-- the end.
 abbrev pub goes_on : Bool → List ℕ → Bool
 goes_on after_slash [] = not after_slash
 goes_on after_slash (b ∷ bytes) = cond (eqb b 0 || (after_slash && eqb b 47)) false (goes_on (eqb b 47) bytes)
@@ -14,7 +15,7 @@ is_slash b = eqb b 47
 abbrev has_no_nul : List ℕ → Bool
 has_no_nul text = list_all (λ b. not (eqb b 0)) text
 
--- the parts, of which the first goes on before the text
+-- The first part continues a name, and the others are names.
 abbrev behind_first : List (List ℕ) → List (List ℕ)
 behind_first [] = []
 behind_first (part ∷ parts) = parts
@@ -33,7 +34,7 @@ onto true b (part ∷ parts) = refl
 onto false b [] = refl
 onto false b (part ∷ parts) = refl
 
--- a byte before what goes on as it should
+-- A byte before a text that may follow.
 step : (nul slash after : Bool) (b : ℕ) (parts : List (List ℕ)) (fine : Bool)
     → cond (nul || (after && slash)) false (fine && names_in slash parts)
     ≡ ((not nul && fine) && names_in after (cond slash ([] ∷ parts) (onto_first b parts)))
@@ -51,6 +52,6 @@ goes_on_is after (b ∷ text) =
     ap (λ (v : Bool). cond (eqb b 0 || (after && eqb b 47)) false v) (goes_on_is (eqb b 47) text)
     ∙ step (eqb b 0) (eqb b 47) after b (slice_split is_slash text) (has_no_nul text)
 
--- behind a slash these are names
+-- After a slash these are names.
 pub names_go_on : (text : List ℕ) → goes_on true text ≡ are_names text
 names_go_on text = goes_on_is true text

@@ -1,4 +1,4 @@
--- What decode_txn answers, and which field a refusal names.
+-- The results of `decode_txn`, and the field that a refusal names.
 use Rattle.std.proofs.Common.{◌≡◌, ℕ, true, false, cond, eqb, List, [], length, Result, Ok, Err, refl, sym, ap, subst, ◌∙◌, inl, inr}
 use Rattle.std.specs.Prelude.{◌≢◌, IfOk, IfErr}
 use Rattle.values.specs.declared.fault.Fault.{Fault}
@@ -14,7 +14,7 @@ use Rattle.txn_codec.specs.Refusals.{AgainstTxn, HasTrailing, IfFault}
 use Rattle.txn_codec.specs.Spelling.{txn_format, value_of_whole}
 use Rattle.txn_codec.proofs.Bodies.{txn_at_end}
 
--- ---- what is read, and what is spelled
+-- ---- read and spelled transactions
 
 pub spelled_again : (bytes : List ℕ) (t : Txn) → txn_format.Spells t bytes → value_of_whole txn_format bytes ≡ Ok t
 spelled_again bytes t s = whole_again txn_format bytes t (txn_at_end.again t bytes s)
@@ -31,7 +31,7 @@ refused_spells bytes e h t s = not_refused t e (sym (spelled_again bytes t s) �
 left_over : (rest : List ℕ) → eqb (length rest) 0 ≡ false → rest ≢ []
 left_over rest h none = let empty : eqb (length rest) 0 ≡ true = ap (λ (l : List ℕ). eqb (length l) 0) none in absurd cc
 
--- where a transaction was read, no field is against its spelling
+-- Where a transaction was read, every field is spelled.
 fine_read : (bytes rest : List ℕ) (t : Txn) → txn_format.read bytes ≡ Ok (t, rest) → (e : Fault)
     → txn_format.against e bytes → ⊥
 fine_read bytes rest t h e against = not_refused (t, rest) e (sym h ∙ txn_at_end.named.answers bytes e against)
@@ -76,7 +76,7 @@ naming_answers bytes e fits (inl h) = field_answers bytes e h
 naming_answers bytes e fits (inr h) = trailing_answers (value_of_whole txn_format bytes) bytes fits refl h.1
     ∙ ap (λ (d : Fault). Err d) (sym h.0)
 
--- ---- what the code says
+-- ---- the contracts of the code
 
 pub decoded : (bytes : List ℕ) (r : Result Txn ReadError) → IsBytes bytes
     → ReadsOwnedWhole (value_of_whole txn_format bytes) r

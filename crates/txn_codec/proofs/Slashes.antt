@@ -1,4 +1,4 @@
--- Where a text is cut at its last slash.
+-- The parts of a text before and after its last slash.
 use Rattle.std.proofs.Common.{◌≡◌, ◌≢◌, ℕ, suc, ◌<◌, Bool, true, false, eqb, ◌||◌, List, [], ◌∷◌, ◌++◌, length, get_or, take, drop, Some, None, refl, sym, ap, ◌∙◌, arith}
 use Rattle.std.proofs.lemmas.Bool.{ne_eqb}
 use Rattle.std.proofs.lemmas.List.{take-append-drop}
@@ -40,7 +40,7 @@ pub cut_after : (front back : List ℕ) → has_slash back ≡ false → after_l
 cut_after [] back none = all_after back none
 cut_after (b ∷ front) back none = rw (slash_in front back, or-true (eqb b 47), cut_after front back none) refl
 
--- what `rsplit_once` says of its parts
+-- The contract of `rsplit_once` for its parts.
 pub is_cut : (text : List ℕ) (i j : ℕ) → RFindsChar 47 text (Some (i, j)) → (text ≡ take i text ++ 47 ∷ drop j text)
     × (has_slash (drop j text) ≡ false)
 is_cut text i j found = (

@@ -28,7 +28,7 @@ pub path_sound : (test : List ℕ → Bool) → IsSound (path_by test)
 path_sound test = judged_sound (tested_text test) (λ p. Some (Some p)) text_format
     (λ t p e. ap (λ (x : Option (List ℕ)). Some x) (sym (tested_is test t p e).1)) text_sound
 
--- ---- a number that may be left out
+-- ---- a number that may be missing
 
 last_takes : (bytes : List ℕ) (z : ℤ) (rest : List ℕ) → IsBytes bytes → last_at bytes ≡ Ok (z, rest)
     → TakesSpelling int_or_end bytes z rest
@@ -76,7 +76,7 @@ code_step true z j k rest is more e =
     is refl ∙ ap code_of same
 code_step false z j k rest is more e = more e
 
--- the type that is found has the code
+-- The type that is found has the code.
 code_found : (z : ℤ) (ks : List TxnKind) (k : TxnKind) → ok_or (find (λ j. int_eq z (code_of j)) ks) BadTxnType ≡ Ok k
     → z ≡ code_of k
 code_found z [] k e = absurd cc

@@ -26,7 +26,7 @@ abbrev pub txn_kinds : List TxnKind
 txn_kinds = kinds.Create ∷ kinds.Delete ∷ kinds.SetData ∷ kinds.SetAcl ∷ kinds.Check ∷ kinds.Multi ∷ kinds.CreateSession
     ∷ kinds.CloseSession ∷ kinds.Error ∷ []
 
--- the type with that code; every other code is refused
+-- The type with this code; any other code is refused.
 abbrev pub kind_of : ℤ → Result TxnKind Fault
 kind_of code = ok_or (find (λ k. int_eq code (code_of k)) txn_kinds) BadTxnType
 
@@ -44,7 +44,7 @@ body_kind (bodies.Multi ps) = kinds.Multi
 body_kind (bodies.CreateSession timeout) = kinds.CreateSession
 body_kind bodies.CloseSession = kinds.CloseSession
 
--- whether a part of a multi may be of that type
+-- Whether a part of a multi may have this type.
 abbrev pub is_part_kind : TxnKind → Bool
 is_part_kind kinds.Create = true
 is_part_kind kinds.Delete = true

@@ -1,4 +1,4 @@
--- Which nodes a transaction may make and remove: all but "/".
+-- The nodes that a transaction may create and delete: all but "/".
 use Rattle.std.specs.Prelude.{IsTrue, All}
 use Rattle.txn_codec.specs.declared.txn.Operation.{Operation}
 use Rattle.txn_codec.specs.declared.txn.Operation.TheVariants as operations
@@ -6,7 +6,7 @@ use Rattle.txn_codec.specs.declared.txn.Body.{Body}
 use Rattle.txn_codec.specs.declared.txn.Body.TheVariants as bodies
 use Rattle.txn_codec.specs.Paths.{is_child_path}
 
--- the node that is made or removed has a parent
+-- The node that is created or deleted has a parent.
 abbrev pub HasParent : Operation → Type 0
 HasParent (operations.Create c) = IsTrue (is_child_path c.path)
 HasParent (operations.Delete p) = IsTrue (is_child_path p)
@@ -14,7 +14,7 @@ HasParent (operations.SetData s) = Unit {0}
 HasParent (operations.Check c) = Unit {0}
 HasParent (operations.Error e) = Unit {0}
 
--- each node that is made or removed has a parent
+-- Each node that is created or deleted has a parent.
 abbrev pub HaveParents : Body → Type 0
 HaveParents (bodies.Single o) = HasParent o
 HaveParents (bodies.SetAcl s) = Unit {0}

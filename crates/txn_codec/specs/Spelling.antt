@@ -1,4 +1,4 @@
--- How transactions are spelled (zookeeper.jute), by jute's combinators of formats.
+-- The spellings of transactions (zookeeper.jute), by jute's combinators of formats.
 use Rattle.std.specs.Prelude.{◌≡◌, ◌≢◌, ℕ, ℤ, negsuc, List, [], ◌∷◌, Option, Some, None, Result, Ok, Err, Bool, ◌⊎◌, if◌then◌else◌}
 use Rattle.values.specs.declared.fault.Fault.{Fault}
 use Rattle.values.specs.declared.fault.Fault.TheVariants.{BadPath, BadTxnType}
@@ -24,7 +24,7 @@ use Rattle.txn_codec.specs.Kinds.{kind_of, code_of, part_kind_of, operation_kind
 
 -- ---- fields
 
--- a text that passes a test; null passes none
+-- A text that passes a test; null passes none.
 abbrev pub tested_text : (List ℕ → Bool) → Option (List ℕ) → Result (List ℕ) Fault
 tested_text test None = Err BadPath
 tested_text test (Some p) = if test p then Ok p else Err BadPath
@@ -35,7 +35,7 @@ path_by test = judged_format (tested_text test) (λ p. Some (Some p)) text_forma
 abbrev pub path_format : Format (List ℕ)
 path_format = path_by is_path
 
--- the path of a node that has a parent
+-- The path of a node that has a parent.
 abbrev pub child_path : Format (List ℕ)
 child_path = path_by is_child_path
 
@@ -43,7 +43,7 @@ abbrev pub last_at : List ℕ → Result (ℤ × List ℕ) Fault
 last_at [] = Ok (negsuc 0, [])
 last_at (b ∷ bytes) = int.read (b ∷ bytes)
 
--- a number at the end of a text, where nothing stands for -1
+-- A number at the end of the bytes; a missing one means -1.
 abbrev pub int_or_end : Format ℤ
 int_or_end = record {
   Spells = λ z bytes. int.Spells z bytes ⊎ ((z ≡ negsuc 0) × (bytes ≡ []));
@@ -54,22 +54,22 @@ int_or_end = record {
   against = λ e bytes. int.against e bytes × (bytes ≢ []);
 }
 
--- the last field of a create: it may be left out of one that stands alone
+-- The last field of a create, which may be missing outside a multi.
 abbrev pub last_field : Place → Format ℤ
 last_field Alone = int_or_end
 last_field Part = int
 
--- a type, by its code
+-- A type, by its code.
 abbrev pub kind_format : Format TxnKind
 kind_format = judged_format kind_of (λ k. Some (code_of k)) int
 
--- a type that a part of a multi may have
+-- A type that a part of a multi may have.
 abbrev pub part_kind : Format TxnKind
 part_kind = judged_format part_kind_of (λ k. Some k) kind_format
 
 -- ---- records
 
--- CreateTxn, or with a last field that may be left out CreateTxnV0
+-- A CreateTxn; with a last field that may be missing also a CreateTxnV0.
 abbrev pub create_with : Format ℤ → Format Create
 create_with last = mapped_format
     (λ v. record { path = v.0; bytes = v.1.0; acl = v.1.1.0; ephemeral = v.1.1.1.0; parent_cversion = v.1.1.1.1 })
@@ -101,7 +101,7 @@ txn_header = mapped_format
     (λ h. (h.client_id, (h.cxid, (h.zxid, h.time))))
     (pair_of long (pair_of int (pair_of long long)))
 
--- ---- operations, behind their type; a create's last field is as given
+-- ---- operations after their type; a create's last field is a parameter
 
 abbrev pub as_create : Operation → Option Create
 as_create (operations.Create c) = Some c
@@ -134,7 +134,7 @@ operation_format last kinds.Multi = refusal_format BadTxnType
 operation_format last kinds.CreateSession = refusal_format BadTxnType
 operation_format last kinds.CloseSession = refusal_format BadTxnType
 
--- the format in which an operation is written behind its type
+-- The format in which an operation is written after its type.
 abbrev pub format_of_operation : Operation → Format Operation
 format_of_operation o = operation_format int (operation_kind o)
 
@@ -143,11 +143,11 @@ format_of_operation o = operation_format int (operation_kind o)
 abbrev pub multi_part : Format Operation
 multi_part = tagged_format part_kind operation_kind (λ k. held_in_buffer (operation_format int k))
 
--- null stands for no parts
+-- Null is an empty list.
 abbrev pub multi_parts : Format (List Operation)
 multi_parts = or_null (vector_of multi_part)
 
--- ---- bodies: a type, and what stands behind it
+-- ---- bodies: a type, and the fields after it
 
 abbrev pub as_single : Body → Option Operation
 as_single (bodies.Single o) = Some o
@@ -183,7 +183,7 @@ body_content kinds.Multi = case_of bodies.Multi as_multi multi_parts
 body_content kinds.CreateSession = case_of bodies.CreateSession as_session int
 body_content kinds.CloseSession = case_of (λ none. bodies.CloseSession) as_close empty_format
 
--- the format in which a body is written behind its type
+-- The format in which a body is written after its type.
 abbrev pub format_of_body : Body → Format Body
 format_of_body b = body_content (body_kind b)
 
@@ -196,6 +196,6 @@ abbrev pub txn_format : Format Txn
 txn_format = mapped_format (λ v. record { header = v.0; body = v.1 }) (λ t. (t.header, t.body))
     (pair_of txn_header body_format)
 
--- a value that is all of a text
+-- A value that is spelled by all of the bytes.
 abbrev pub value_of_whole : {A : Type 0} → Format A → List ℕ → Result A Fault
 value_of_whole f bytes = whole_by f.read bytes

@@ -1,4 +1,4 @@
-//! Who may do what with a node.
+//! Access control lists.
 
 ghost use Rattle.std.specs.Prelude.{◌≡◌, ◌≢◌, ◌↔◌, IfOk, IfSome, IfNone, IsTrue, codes};
 ghost use Rattle.jute.specs.Codes.{open_acl};
@@ -10,10 +10,11 @@ use std::alloc::AllocError;
 use std::marker::Model;
 use values::{Listed, NoMemory};
 
-/// A node's access control list, seen as its entries. The open list, which nearly every node has, takes no memory.
+/// A node's access control list; its model is the list of entries. The open list, which nearly every node has, takes no
+/// memory.
 #[derive(Drop)]
 pub struct AclList {
-    // `None` stands for the open list.
+    // `None` is the open list.
     entries: Option<Listed<Acl>>,
 }
 
@@ -30,7 +31,7 @@ impl Model for AclList {
     ghost invariant = { λ l. l.entries ≢ Some open_acl };
 }
 
-// Whether the id is world:anyone.
+// Whether the id is `world:anyone`.
 fn is_anyone(id: &Id) -> bool
     ensures { IsTrue result ↔ (id.now ≡ record { scheme = codes "world"; id = codes "anyone" }) }
 {
@@ -56,14 +57,14 @@ fn are_open(entries: &[Acl]) -> bool
 }
 
 impl AclList {
-    /// The list that grants everyone everything.
+    /// The list that grants every client everything.
     pub fn open() -> AclList
         ensures { result ≡ open_acl }
     {
         AclList { entries: None }
     }
 
-    /// The list of these entries; null stands for the open list. It takes no memory.
+    /// The list of these entries; null is the open list. Allocates nothing.
     pub fn new(acl: Option<Listed<Acl>>) -> AclList
         ensures { result ≡ acl_or_open acl }
     {
@@ -78,7 +79,7 @@ impl AclList {
         }
     }
 
-    /// The list of a copy of the entries; null stands for the open list.
+    /// The list of a copy of the entries; null is the open list. Fails only if an allocation is refused.
     pub fn of(acl: &Option<Listed<Acl>>) -> Result<AclList, NoMemory>
         ensures { IfOk result (λ list. list ≡ acl_or_open acl.now) }
     {

@@ -54,7 +54,6 @@ fn read_kind(reader: &mut Reader<'_>) -> Result<TxnKind, ReadError>
     Ok(kind)
 }
 
-// The type of a part of a multi.
 #[tactic(auto, unfolding(jute::specs::Format::judged_at))]
 fn read_part_kind(reader: &mut Reader<'_>) -> Result<TxnKind, ReadError>
     ensures { ReadsOwned part_kind.read (λ k. k) result reader.old reader.new }
@@ -84,7 +83,7 @@ impl<'a> ReadRecord<'a> for TxnHeader {
     }
 }
 
-// The last field of a create; of one that stands alone it may be left out, which means -1.
+// The last field of a create. In an operation outside a multi it may be missing, which means -1.
 fn read_parent_cversion(place: Place, reader: &mut Reader<'_>) -> Result<i32, ReadError>
     ensures { ReadsOwned (last_field place).read (λ z. z) result reader.old reader.new }
 {
@@ -163,7 +162,7 @@ impl<'a> ReadRecord<'a> for Check {
     }
 }
 
-// An operation of that type, alone or in a multi.
+// An operation of this type, alone or in a multi.
 #[tactic(auto, unfolding(jute::specs::Format::judged_at))]
 fn read_operation(
     alloc: Global,
@@ -185,7 +184,7 @@ fn read_operation(
     }
 }
 
-// All of a text as an operation of that type.
+// All of the bytes as an operation of this type.
 #[tactic(auto, unfolding(jute::specs::Sums::whole_value))]
 fn read_held(alloc: Global, kind: TxnKind, bytes: &[u8]) -> Result<Operation, ReadError>
     ensures { ReadsOwnedWhole (value_of_whole (operation_format int kind) bytes.now) result }
@@ -198,7 +197,7 @@ fn read_held(alloc: Global, kind: TxnKind, bytes: &[u8]) -> Result<Operation, Re
     Ok(operation)
 }
 
-// A buffer that holds an operation of that type.
+// A buffer that holds an operation of this type.
 #[tactic(auto, unfolding(jute::specs::Format::judged_at))]
 fn read_buffered(
     alloc: Global,
@@ -230,7 +229,7 @@ impl<'a> ReadRecord<'a> for Operation {
     }
 }
 
-// The parts of a multi; null stands for none.
+// The parts of a multi; null is an empty list.
 #[tactic(auto, unfolding(jute::specs::Format::judged_at))]
 fn read_parts(alloc: Global, reader: &mut Reader<'_>) -> Result<Listed<Operation>, ReadError>
     ensures { ReadsOwned multi_parts.read (λ p. p) result reader.old reader.new }
@@ -241,7 +240,7 @@ fn read_parts(alloc: Global, reader: &mut Reader<'_>) -> Result<Listed<Operation
     }
 }
 
-// What stands behind a transaction's type.
+// The fields after a transaction's type.
 #[tactic(auto, unfolding(jute::specs::Format::judged_at))]
 fn read_content(alloc: Global, kind: TxnKind, reader: &mut Reader<'_>) -> Result<Body, ReadError>
     ensures { ReadsOwned (body_content kind).read (λ b. b) result reader.old reader.new }
@@ -289,24 +288,24 @@ fn read_whole(alloc: Global, bytes: &[u8]) -> Result<Txn, ReadError>
     Ok(txn)
 }
 
-/// The transaction that the bytes spell, all of the bytes: a TxnHeader and the body of its type
-/// (zookeeper.jute). A refusal is the fault of the first field that is against the spelling.
+/// Decodes a transaction from all of the bytes: a TxnHeader and the body of its type (zookeeper.jute). The fault is
+/// that of the first field that isn't spelled, or `TrailingBytes`. Fails with `NoMemory` if an allocation is refused.
 pub fn decode_txn(alloc: Global, bytes: &[u8]) -> Result<Txn, ReadError>
-    // What is read is spelled so.
+    // What is read was spelled so.
     ensures found { IfOk result (λ t. txn_format.Spells t bytes.now) }
-    // What is spelled so is read, unless memory runs out.
+    // A spelling is read, unless an allocation is refused.
     ensures only { (t : TheTxn) → txn_format.Spells t bytes.now → ReadsOwnedWhole (Ok t) result }
-    // Which fault it is.
+    // The result is that of the definition.
     ensures exact { ReadsOwnedWhole (value_of_whole txn_format bytes.now) result }
-    // A refusal comes only where the bytes spell no transaction ..
+    // The bytes of a refusal spell no transaction.
     ensures none { IfErr result (λ e. IfFault e (λ fault.
         (t : TheTxn) → txn_format.Spells t bytes.now → ⊥)) }
-    // .. and names the first field that is against the spelling, and no other fault.
+    // A refusal names the first field that isn't spelled.
     ensures named { IfErr result (λ e. IfFault e (λ fault. AgainstTxn fault bytes.now)) }
-    // What is read is within the limits, so it may be written and is then read again.
+    // What is read is within the limits, so it may be written and is read back.
     ensures fits { IfOk result (λ t. txn_format.Fits t) }
     ensures writable { IfOk result (λ t. txn_format.Writable t) }
-    // A node that is made or removed is not "/".
+    // A node that is created or deleted isn't "/".
     ensures parents { IfOk result (λ t. HaveParents t.body) }
 {
     read_whole(alloc, bytes)

@@ -90,7 +90,7 @@ impl WriteRecord for Check {
     }
 }
 
-// How many bytes stand behind an operation's type, or in a part's buffer.
+// The length in bytes of an operation after its type, or in a part's buffer.
 #[tactic(auto, unfolding(jute::specs::Format::number_bytes))]
 fn operation_len(operation: &Operation) -> usize
     requires writable { (format_of_operation operation.now).Writable operation.now }
@@ -106,7 +106,7 @@ fn operation_len(operation: &Operation) -> usize
     }
 }
 
-// What stands behind an operation's type, or in a part's buffer.
+// Appends an operation without its type.
 fn put_operation(out: &mut Vec<u8>, operation: &Operation) -> Result<(), NoMemory>
     requires { (format_of_operation operation.now).Writable operation.now }
     ensures { Puts result out.old.items
@@ -121,7 +121,7 @@ fn put_operation(out: &mut Vec<u8>, operation: &Operation) -> Result<(), NoMemor
     }
 }
 
-// A buffer that holds the operation.
+// Appends a buffer that holds the operation.
 fn put_buffered(out: &mut Vec<u8>, operation: &Operation) -> Result<(), NoMemory>
     requires { (held_in_buffer (format_of_operation operation.now)).Writable operation.now }
     ensures { Puts result out.old.items
@@ -131,7 +131,6 @@ fn put_buffered(out: &mut Vec<u8>, operation: &Operation) -> Result<(), NoMemory
     put_operation(out, operation)
 }
 
-// The code of a type.
 fn put_kind(out: &mut Vec<u8>, kind: TxnKind) -> Result<(), NoMemory>
     ensures { Puts result out.old.items (kind_format.written kind) out.new.items }
 {
@@ -146,14 +145,14 @@ impl WriteRecord for Operation {
         8 + operation_len(self)
     }
 
-    // A part of a multi: its type, and a buffer with the operation.
+    // Appends a part of a multi: its type, and a buffer with the operation.
     fn write(&self, out: &mut Vec<u8>) -> Result<(), NoMemory> {
         put_kind(out, self.kind())?;
         put_buffered(out, self)
     }
 }
 
-// How many bytes stand behind a transaction's type.
+// The length in bytes of a transaction after its type.
 #[tactic(auto, unfolding(jute::specs::Format::number_bytes))]
 fn content_len(body: &Body) -> usize
     requires writable { (format_of_body body.now).Writable body.now }
@@ -169,7 +168,7 @@ fn content_len(body: &Body) -> usize
     }
 }
 
-// The parts of a multi, behind their count.
+// Appends the parts of a multi with their count.
 fn put_parts(out: &mut Vec<u8>, parts: &Listed<Operation>) -> Result<(), NoMemory>
     requires { parts_format.Writable parts.now }
     ensures { Puts result out.old.items (parts_format.written parts.now) out.new.items }
@@ -178,7 +177,7 @@ fn put_parts(out: &mut Vec<u8>, parts: &Listed<Operation>) -> Result<(), NoMemor
     put_items(out, parts.as_slice())
 }
 
-// What stands behind a transaction's type.
+// Appends the fields after a transaction's type.
 fn put_content(out: &mut Vec<u8>, body: &Body) -> Result<(), NoMemory>
     requires { (format_of_body body.now).Writable body.now }
     ensures { Puts result out.old.items ((format_of_body body.now).written body.now) out.new.items }
@@ -207,8 +206,8 @@ impl WriteRecord for Txn {
     }
 }
 
-/// Writes the transaction behind what `out` holds, in its one written spelling: a create always as
-/// a CreateTxn, and a multi without parts with a count of 0.
+/// Appends the transaction to `out` in its one written spelling: a create always as a CreateTxn, and a multi without
+/// parts with a count of 0. A refused allocation leaves a prefix of the bytes appended.
 pub fn encode_txn(txn: &Txn, out: &mut Vec<u8>) -> Result<(), NoMemory>
     requires { txn_format.Writable txn.now }
     ensures { Puts result out.old.items (txn_format.written txn.now) out.new.items }

@@ -8,9 +8,9 @@ use values::Fault;
 /// The type of a transaction, or of a part of a multi (the operation codes of `ZooDefs.OpCode`).
 #[derive(Clone, Copy, Debug, PartialEq, Eq)]
 pub enum TxnKind {
-    /// A node is made.
+    /// A node is created.
     Create = 1,
-    /// A node is removed.
+    /// A node is deleted.
     Delete = 2,
     /// A node's data is replaced.
     SetData = 5,
@@ -29,7 +29,7 @@ pub enum TxnKind {
 }
 
 impl TxnKind {
-    /// The type with this code; another code is `BadTxnType`.
+    /// The type with this code. The fault is `BadTxnType` for any other code.
     pub fn from_code(code: i32) -> Result<TxnKind, Fault>
         ensures { result ≡ kind_of code }
     {
@@ -54,7 +54,7 @@ impl TxnKind {
         self as i32
     }
 
-    // The type, where a part of a multi may be of it; another one is `BadTxnType`.
+    // The type, if a part of a multi may have it. The fault is `BadTxnType` for any other type.
     pub(crate) fn of_part(self) -> Result<TxnKind, Fault>
         ensures { result ≡ part_kind_of self }
     {

@@ -7,9 +7,9 @@ ghost use Rattle.txn_codec.specs.Refusals.{AgainstTxn};
 ghost use Rattle.txn_codec.specs.Spelling.{path_format, child_path, kind_format, part_kind, create_format, set_data, set_acl, check_format, txn_header, multi_part, multi_parts, body_format, txn_format, value_of_whole};
 ghost use Rattle.txn_codec.specs.declared.txn.Txn.{Txn as TheTxn};
 
-/// What is read is spelled so, what is spelled is read, and what is written is a spelling. So what
-/// was written within the limits is read again. A refusal names the first field that is against its
-/// spelling, and what is so named is what reading answers.
+/// Every format here is sound: what is read was spelled so, a spelling is read, and what is written is a spelling. So a
+/// value within the limits that was written is read back. A read is refused exactly for the first field that isn't
+/// spelled.
 pub fn transactions()
     ensures path { IsSound path_format }
     ensures child_path { IsSound child_path }

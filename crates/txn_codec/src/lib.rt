@@ -1,9 +1,9 @@
 //! Transactions of ZooKeeper's log (zookeeper.jute of ZooKeeper 3.4), decoded and encoded.
 //!
-//! A transaction is a header and the body of its type; a multi's parts are operations, each in a buffer of its own. Its
-//! paths are checked: a `Path` begins with a slash, and no name in it is empty or has a NUL. `decode_txn` takes all the
-//! bytes that it is given, or names the first fault in their order; `specs/Spelling.antt` says which bytes spell what,
-//! in one table for operations and one for bodies.
+//! A transaction is a header and the body of its type; a multi's parts are operations, each in a buffer of its own.
+//! Paths are checked: a `Path` begins with a slash, and no name in it is empty or has a NUL. `decode_txn` decodes all
+//! of the given bytes, or returns the first fault in their order. `specs/Spelling.antt` defines the spellings in one
+//! table for operations and one for bodies.
 //!
 //! ```text
 //! let txn = decode_txn(alloc, bytes)?;

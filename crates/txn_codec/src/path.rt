@@ -1,4 +1,4 @@
-//! Paths that are checked.
+//! Checked paths.
 
 ghost use Rattle.std.specs.Prelude.{◌≡◌, List, ℕ, string_bytes, IsTrue, IfOk};
 ghost use Rattle.jute.specs.Reads.{ReadsOwnedWhole};
@@ -8,7 +8,7 @@ use std::alloc::Global;
 use std::marker::Model;
 use values::{Fault, NoMemory, ReadError};
 
-/// A path of a node: "/", or names that are not empty, each behind a slash, without NUL (ZooKeeper Programmer's Guide).
+/// A path of a node: "/", or non-empty names without NUL, each after a slash (ZooKeeper Programmer's Guide).
 #[derive(Clone, Debug, Drop)]
 pub struct Path {
     text: String,
@@ -53,7 +53,7 @@ pub fn is_path(text: &[u8]) -> bool
     matches!(text, [b'/']) || is_child_path(text)
 }
 
-/// What stands before the last slash; the parent of "/a" and of "/" is "/".
+/// The text before the last slash; the parent of "/a" and of "/" is "/".
 pub fn parent_of(path: &str) -> &str
     ensures { result.now ≡ parent_of path.now }
 {
@@ -68,7 +68,7 @@ pub fn parent_of(path: &str) -> &str
     }
 }
 
-/// What stands behind the last slash; the name of "/" is empty.
+/// The text after the last slash; the name of "/" is empty.
 pub fn name_of(path: &str) -> &str
     ensures { result.now ≡ name_of path.now }
 {
@@ -78,7 +78,7 @@ pub fn name_of(path: &str) -> &str
     }
 }
 
-/// The path of the child with the name; the child "a" of "/" is "/a".
+/// The path of the child with this name; the child "a" of "/" is "/a". Fails only if an allocation is refused.
 pub fn child_of(alloc: Global, path: &str, name: &str) -> Result<String, NoMemory>
     ensures { IfOk result (λ text. string_bytes text ≡ child_of path.now name.now) }
 {
@@ -91,7 +91,8 @@ pub fn child_of(alloc: Global, path: &str, name: &str) -> Result<String, NoMemor
 }
 
 impl Path {
-    /// The text as a path; a text that is not one is `BadPath`.
+    /// Checks that the text is a path. The fault is `BadPath` if it isn't. Fails with `NoMemory` if an allocation is
+    /// refused.
     pub fn new(alloc: Global, text: &str) -> Result<Path, ReadError>
         ensures { ReadsOwnedWhole (checked_path text.now) result }
     {
@@ -103,7 +104,7 @@ impl Path {
         })
     }
 
-    // The text as the path of a node that has a parent.
+    // Checks that the text is a path other than "/".
     pub(crate) fn new_child(alloc: Global, text: &str) -> Result<Path, ReadError>
         ensures { ReadsOwnedWhole (checked_child_path text.now) result }
     {
@@ -123,14 +124,14 @@ impl Path {
         self.text.as_str()
     }
 
-    /// What stands before the last slash; the parent of "/a" and of "/" is "/".
+    /// The text before the last slash; the parent of "/a" and of "/" is "/".
     pub fn parent(&self) -> &str
         ensures { result.now ≡ parent_of self.now }
     {
         parent_of(self.as_str())
     }
 
-    /// What stands behind the last slash; the name of "/" is empty.
+    /// The text after the last slash; the name of "/" is empty.
     pub fn name(&self) -> &str
         ensures { result.now ≡ name_of self.now }
     {

@@ -1,9 +1,9 @@
-//! Where an operation stands.
+//! The place of an operation.
 
-/// Where an operation stands.
+/// The place of an operation.
 #[derive(Clone, Copy, Debug)]
 pub enum Place {
-    /// Behind a transaction's header.
+    /// After a transaction's header.
     Alone,
     /// In a part of a multi.
     Part,

@@ -9,28 +9,28 @@ use jute::Acl;
 use std::alloc::AllocError;
 use values::{Blob, Listed};
 
-/// Who asked for a transaction, and its place in the order of all (TxnHeader); the type is the body's.
+/// The origin of a transaction, and its place in the order of all (TxnHeader). The type is the body's.
 #[derive(Clone, Copy, Debug, PartialEq, Eq)]
 pub struct TxnHeader {
-    /// The session that asked.
+    /// The session that sent the request.
     pub client_id: i64,
     /// The session's own number of its request.
     pub cxid: i32,
     /// The transaction's number: the epoch in the upper 32 bits, a counter in the lower.
     pub zxid: i64,
-    /// When the leader took it, in milliseconds since 1970.
+    /// The time at which the leader took the request, in milliseconds since 1970.
     pub time: i64,
 }
 
-/// A node is made (CreateTxn; a CreateTxnV0 has no `parent_cversion`, which stands for -1).
+/// A node is created (CreateTxn; a CreateTxnV0 has no `parent_cversion`, which means -1).
 #[derive(Clone, Debug, Drop)]
 pub struct Create {
     pub path: Path,
     pub bytes: Option<Blob>,
     pub acl: Option<Listed<Acl>>,
-    /// The node goes with the session that made it.
+    /// The node is deleted with the session that created it.
     pub ephemeral: bool,
-    /// The parent's cversion behind the create; -1 counts it up by one.
+    /// The parent's cversion after the create; -1 counts it up by one.
     pub parent_cversion: i32,
 }
 
@@ -39,7 +39,7 @@ pub struct Create {
 pub struct SetData {
     pub path: Path,
     pub bytes: Option<Blob>,
-    /// The node's version behind the write.
+    /// The node's version after the write.
     pub version: i32,
 }
 
@@ -48,7 +48,7 @@ pub struct SetData {
 pub struct SetAcl {
     pub path: Path,
     pub acl: Option<Listed<Acl>>,
-    /// The node's aversion behind the write.
+    /// The node's aversion after the write.
     pub version: i32,
 }
 
@@ -59,11 +59,11 @@ pub struct Check {
     pub version: i32,
 }
 
-/// What stands alone, or as a part of a multi.
+/// An operation of a transaction, or of a part of a multi.
 #[derive(Debug, Drop)]
 pub enum Operation {
     Create(Create),
-    /// A node is removed (DeleteTxn).
+    /// A node is deleted (DeleteTxn).
     Delete(Path),
     SetData(SetData),
     Check(Check),
@@ -80,7 +80,7 @@ pub enum Body {
     Multi(Listed<Operation>),
     /// A session begins, with this timeout in milliseconds (CreateSessionTxn).
     CreateSession(i32),
-    /// The session that asked ends.
+    /// The session of the header ends.
     CloseSession,
 }
 
@@ -107,7 +107,7 @@ impl Operation {
 }
 
 impl Body {
-    /// Its type, as it stands in the header (TxnHeader).
+    /// Its type, as in the header (TxnHeader).
     pub fn kind(&self) -> TxnKind
         ensures { result ≡ body_kind self.now }
     {

@@ -1,5 +1,5 @@
-//! Tests of `txn_codec`: paths, transactions, and the records of their parts. They stand apart, since a crate with
-//! tests is proved twice.
+//! Tests of `txn_codec`: paths, transactions, and the records of their parts. They are a crate of their own, since a
+//! crate with tests is proved twice.
 #![tactic(auto)]
 
 #[cfg(test)]

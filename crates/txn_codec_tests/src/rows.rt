@@ -3,7 +3,7 @@
 use std::alloc::Global;
 use std::test::Fail;
 
-/// The bytes that hexadecimal words stand for.
+/// The bytes of hexadecimal words.
 pub fn bytes_of(alloc: Global, words: &str) -> Result<Vec<u8>, Fail> {
     let mut bytes = Vec::new(alloc);
     for word in words.split(' ') {
@@ -12,7 +12,7 @@ pub fn bytes_of(alloc: Global, words: &str) -> Result<Vec<u8>, Fail> {
     Ok(bytes)
 }
 
-/// What a row says.
+/// The fields of a row.
 #[derive(Drop)]
 pub struct Row<'a> {
     pub name: &'a str,
@@ -21,7 +21,7 @@ pub struct Row<'a> {
 }
 
 impl<'a> Row<'a> {
-    /// The bytes that are expected, or the row's own, where that word stands.
+    /// The expected bytes, or the row's own if it has this word in their place.
     pub fn bytes_or(&self, alloc: Global, same: &str) -> Result<Vec<u8>, Fail> {
         if self.expected == same {
             return Ok(self.bytes.clone()?);
@@ -30,7 +30,7 @@ impl<'a> Row<'a> {
     }
 }
 
-/// The row that stands in a line.
+/// The row of a line.
 pub fn row_of<'a>(alloc: Global, line: &'a str) -> Result<Row<'a>, Fail> {
     let (name, rest) = line.split_once(" | ").ok_or("a name")?;
     let (digits, expected) = rest.split_once(" | ").ok_or("what is expected")?;

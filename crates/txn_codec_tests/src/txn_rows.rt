@@ -1,4 +1,4 @@
-//! Transactions. A row tells its name, the bytes, and what is expected of them; bytes are hexadecimal.
+//! Transactions. A row has its name, the bytes, and what is expected of them; bytes are hexadecimal.
 
 use crate::rows::{bytes_of, row_of};
 use jute::{ReadRecord, Reader, WriteRecord};
@@ -10,7 +10,7 @@ use values::{Fault, ReadError};
 // Session 7, its request 1, zxid 0x100000001, at 1000.
 const HEADER: &str = "00000000 00000007 00000001 00000001 00000001 00000000 000003e8";
 
-// Session 7 makes /a with the data "hi", for world:anyone.
+// Session 7 creates /a with the data "hi", for world:anyone.
 const CREATE: &str =
     "00000001 00000002 2f610000 00026869 00000001 0000001f 00000005 776f726c 64000000 06616e79 6f6e6500 00000001";
 
@@ -59,14 +59,14 @@ a part with a bad path | 0000000e 00000001 00000002 00000006 00000002 2f2f | Bad
 a part with a byte too many | 0000000e 00000001 ffffffff 00000005 ffffff9b 00 | TrailingBytes
 a create of the old form in a multi | 0000000e 00000001 00000001 0000000f 00000002 2f6d0000 0000ffff ffff00 | Short";
 
-// The bytes, behind the header.
+// The bytes, after the header.
 fn behind_header(alloc: Global, body: &[u8]) -> Result<Vec<u8>, Fail> {
     let mut bytes = bytes_of(alloc, HEADER)?;
     bytes.extend_from_slice(body)?;
     Ok(bytes)
 }
 
-// What is written of a copy of the transaction that the bytes spell.
+// The bytes written for a copy of the transaction that the bytes spell.
 fn written_again(alloc: Global, bytes: &[u8]) -> Result<Vec<u8>, Fail> {
     let txn = decode_txn(alloc, bytes)?;
     let copy = txn.clone()?;
@@ -75,7 +75,7 @@ fn written_again(alloc: Global, bytes: &[u8]) -> Result<Vec<u8>, Fail> {
     Ok(out)
 }
 
-// Whether what is written of a row's transaction is what the row says.
+// Whether the bytes written for a row's transaction are those of the row.
 fn is_written_again(alloc: Global, line: &str) -> Result<bool, Fail> {
     let row = row_of(alloc, line)?;
     let body = row.bytes_or(alloc, "the same")?;
@@ -91,7 +91,7 @@ fn transactions_are_written_again(rt: HostRuntime) -> Result<(), Fail> {
     Ok(())
 }
 
-// Why the bytes spell no transaction.
+// The reason why the bytes spell no transaction.
 fn refusal_of(alloc: Global, bytes: &[u8]) -> Option<ReadError> {
     decode_txn(alloc, bytes).err()
 }
@@ -102,7 +102,7 @@ fn fault_of(alloc: Global, body: &[u8]) -> Result<String, Fail> {
     Ok(format!(in alloc; "{error}")?)
 }
 
-// Whether a row's fault is the one that it says.
+// Whether a row's fault is the expected one.
 fn is_named(alloc: Global, line: &str) -> Result<bool, Fail> {
     let row = row_of(alloc, line)?;
     Ok(fault_of(alloc, &row.bytes)?.as_str() == row.expected)
@@ -116,7 +116,7 @@ fn first_fault_is_named(rt: HostRuntime) -> Result<(), Fail> {
     Ok(())
 }
 
-// The bytes of the transaction that makes /a.
+// The bytes of the transaction that creates /a.
 fn create_bytes(alloc: Global) -> Result<Vec<u8>, Fail> {
     behind_header(alloc, &bytes_of(alloc, CREATE)?)
 }
@@ -126,7 +126,7 @@ fn txn_of(alloc: Global, bytes: &[u8]) -> Result<Txn, Fail> {
     Ok(decode_txn(alloc, bytes)?)
 }
 
-// What is written of the header that stands at the front.
+// The bytes written for the header at the front.
 fn header_written_again(alloc: Global, bytes: &[u8]) -> Result<Vec<u8>, Fail> {
     let mut reader = Reader::new(bytes);
     let header = TxnHeader::read(alloc, &mut reader)?;
@@ -143,7 +143,7 @@ fn header_is_read_and_written(rt: HostRuntime) -> Result<(), Fail> {
     Ok(())
 }
 
-// Whether the transaction makes /a with its data, and isn't of an ephemeral.
+// Whether the transaction creates /a with its data, and not as an ephemeral node.
 fn makes_a(txn: &Txn) -> bool {
     let Body::Single(Operation::Create(create)) = &txn.body else {
         return false;
@@ -151,7 +151,7 @@ fn makes_a(txn: &Txn) -> bool {
     create.path.as_str() == "/a" && create.parent_cversion == 1 && !create.ephemeral
 }
 
-// The bytes that a create carries.
+// The data of a create.
 fn bytes_in(txn: &Txn) -> Option<&[u8]> {
     match &txn.body {
         Body::Single(Operation::Create(create)) => create.bytes.as_ref().map(|b| b.as_slice()),

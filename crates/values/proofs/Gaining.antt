@@ -9,7 +9,7 @@ gains_nothing old items = record { front = []; rest = items; gained = sym (appen
 pub gains_all : {A : Type 0} (old items new : List A) → new ≡ old ++ items → Gains old items new
 gains_all old items new e = record { front = items; rest = []; gained = e; of = sym (append-nil items) }
 
--- a front of the first items is one of all
+-- A prefix of the first items is one of all.
 pub gains_first : {A : Type 0} {old a new : List A} (b : List A) → Gains old a new → Gains old (a ++ b) new
 gains_first {a = a} b g = record {
   front = g.front;
@@ -19,7 +19,7 @@ gains_first {a = a} b g = record {
   of = ap (λ (x : List _). x ++ b) g.of ∙ append_assoc g.front g.rest b;
 }
 
--- behind the first items, all of which were put
+-- After the first items, all of which were appended.
 pub gains_behind : {A : Type 0} {mid b new : List A} (old a : List A) → mid ≡ old ++ a → Gains mid b new
     → Gains old (a ++ b) new
 gains_behind {b = b} old a e g = record {
@@ -29,13 +29,13 @@ gains_behind {b = b} old a e g = record {
   of = ap (λ (x : List _). a ++ x) g.of ∙ sym (append_assoc a g.front g.rest);
 }
 
--- all the first items were put, and then the others or a front of them
+-- All the first items were appended, and then the others or a prefix of them.
 pub puts_behind : {A U E : Type 0} (old a mid b new : List A) (r : Result U E) → mid ≡ old ++ a → Puts r mid b new
     → Puts r old (a ++ b) new
 puts_behind old a mid b new (Ok u) e h = h ∙ ap (λ (x : List _). x ++ b) e ∙ append_assoc old a b
 puts_behind old a mid b new (Err d) e h = gains_behind old a e h
 
--- the same items, said otherwise
+-- The same items, given in another way.
 pub puts_same : {A U E : Type 0} (old a b new : List A) (r : Result U E) → a ≡ b → Puts r old a new → Puts r old b new
 puts_same old a b new r e h = subst (λ (x : List _). Puts r old x new) e h
 

@@ -1,4 +1,4 @@
--- what a list has gained, step by step
+-- What a list has gained, step by step.
 pub mod Gaining
--- a key put into a set and taken out again. Public
+-- A key inserted into a set and removed again. Public.
 pub mod SetSteps

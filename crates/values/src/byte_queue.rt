@@ -1,4 +1,4 @@
-//! Bytes on their way from a connection to a reader.
+//! Bytes between a connection and a reader.
 
 ghost use Rattle.std.specs.Prelude.{◌≡◌, ◌≤◌, ◌++◌, ◌↔◌, [], IsTrue, OnOk, OnErr, length, drop};
 
@@ -6,20 +6,20 @@ use crate::fault::NoMemory;
 use std::alloc::Global;
 use std::marker::Model;
 
-/// Bytes that wait to be read, seen as their list: pieces are added at the end, and what was read is dropped at
+/// Bytes that wait to be read. Its model is their list: pieces are added at the end, and what was read is dropped at
 /// the front.
 ///
-/// What was dropped stays in the buffer until it is more than what waits, and then the rest moves to the buffer's
-/// start. So at most as many bytes are moved as are dropped, however small the pieces are, and the buffer holds at
-/// most twice what waits. When nothing waits any more, a buffer above `KEPT` bytes is given up, so that a connection
-/// on which one long frame came holds no more than any other once it idles.
+/// Dropped bytes stay in the buffer until they are more than the waiting ones; then the rest moves to the buffer's
+/// start. So at most as many bytes are moved as are dropped, however small the pieces are, and the buffer has at most
+/// twice the length of the waiting bytes. When none waits any more, a buffer above `KEPT` bytes is freed, so an idle
+/// connection holds no more memory after a long frame than any other.
 #[derive(Debug, Drop)]
 pub struct ByteQueue {
     buffer: Vec<u8>,
     start: usize,
 }
 
-/// The longest buffer, in bytes, that an empty queue keeps for what comes next.
+/// The longest buffer, in bytes, that an empty queue keeps.
 const KEPT: usize = 512;
 
 impl Model for ByteQueue {
@@ -42,7 +42,7 @@ impl ByteQueue {
         }
     }
 
-    /// Adds a piece at the end. Refused memory leaves the queue as it was.
+    /// Adds a piece at the end. A refused allocation leaves the queue as it was.
     pub fn add(&mut self, piece: &[u8]) -> Result<(), NoMemory>
         ensures ok { OnOk result (self.new ≡ self.old ++ piece.now) }
         ensures err { OnErr result (self.new ≡ self.old) }

@@ -1,4 +1,4 @@
-//! Why a field could not be read, and want of memory.
+//! The reasons why a field can't be read, and refused allocations.
 
 ghost use Rattle.std.specs.Prelude.{◌≡◌};
 ghost use Rattle.values.specs.declared.fault.ReadError.TheVariants as errors;
@@ -7,7 +7,7 @@ ghost use Rattle.values.specs.Faults.{fault_number, fault_word};
 use std::alloc::{AllocError, AllocFailed};
 use thiserror::Error;
 
-/// What is wrong with the leader's bytes, as `F1` to `F12` in this order.
+/// What is wrong with the leader's bytes: `F1` to `F12`, in this order.
 #[derive(Clone, Copy, Debug, PartialEq, Eq, Error)]
 #[error("{}", self.word())]
 pub enum Fault {
@@ -15,37 +15,37 @@ pub enum Fault {
     Short = 1,
     /// A length or count is below -1 or above its limit.
     BadLength,
-    /// A text that is not UTF-8.
+    /// A text isn't UTF-8.
     BadText,
-    /// A path that is not one.
+    /// A path isn't valid.
     BadPath,
-    /// A transaction, or a part of one, of a type that is not listed.
+    /// A transaction, or a part of one, has an unknown type.
     BadTxnType,
-    /// Bytes stand behind a transaction's body or a part's body.
+    /// Bytes follow a transaction's body or a part's body.
     TrailingBytes,
-    /// A zxid that is not above the one before it.
+    /// A zxid isn't above the one before it.
     OutOfOrder,
-    /// A commit that does not name the oldest open proposal.
+    /// A commit doesn't name the oldest open proposal.
     CommitMismatch,
-    /// A truncation below the base.
+    /// A truncation is below the base.
     CannotTruncate,
-    /// An image that does not hang together.
+    /// The parts of an image don't fit together.
     BadImage,
-    /// A leader whose epoch is below the accepted one.
+    /// A leader's epoch is below the accepted one.
     EpochTooSmall,
-    /// Another packet than the one that is waited for.
+    /// A packet isn't one of those awaited.
     UnexpectedPacket,
 }
 
 impl Fault {
-    /// The number by which the fault is named, from 1 to 12.
+    /// The number of the fault, from 1 to 12.
     pub fn number(self) -> u8
         ensures { result ≡ fault_number self }
     {
         self as u8
     }
 
-    /// The word by which the fault is named, which is its variant's.
+    /// The word for the fault, which is its variant's name.
     pub fn word(self) -> &'static str
         ensures { result.now ≡ fault_word self }
     {
@@ -66,7 +66,7 @@ impl Fault {
     }
 }
 
-/// A growth was refused: the only error of a call that can only want memory.
+/// An allocation was refused. This is the only error of a call that can fail in no other way.
 #[derive(Clone, Copy, Debug, PartialEq, Eq, Error)]
 #[error("no memory")]
 pub struct NoMemory;
@@ -83,10 +83,10 @@ impl<T: Drop> From<AllocFailed<T>> for NoMemory {
     }
 }
 
-/// Why a value that is kept in memory could not be read.
+/// The reason why a value that is allocated couldn't be read.
 #[derive(Clone, Copy, Debug, PartialEq, Eq, Error)]
 pub enum ReadError {
-    /// A growth was refused.
+    /// An allocation was refused.
     #[error("no memory")]
     NoMemory,
     #[error("{0}")]

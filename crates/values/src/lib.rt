@@ -1,8 +1,8 @@
-//! Values that every layer speaks of: texts, bytes and lists that are seen as the list of what they hold, bytes that
-//! wait, and why something was refused.
+//! Values that every layer uses: texts, bytes and lists whose models are the lists of their elements, bytes that wait,
+//! and reasons for refusals.
 //!
-//! A record whose fields are such values is its own meaning: two records are equal in a contract exactly where they
-//! hold the same. `Text`, `Blob` and `Listed` own what they hold; `Str` and `Bytes` borrow it.
+//! A record whose fields are such values is its own model: two records are equal in a contract exactly if they hold the
+//! same. `Text`, `Blob` and `Listed` own their elements; `Str` and `Bytes` borrow them.
 #![tactic(auto)]
 
 mod byte_queue;

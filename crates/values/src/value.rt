@@ -1,4 +1,4 @@
-//! Texts, bytes and lists, each seen as the list of what it holds.
+//! Texts, bytes and lists; the model of each is the list of its elements.
 
 ghost use Rattle.std.specs.Prelude.{◌≡◌, ◌↔◌, List, [], ℕ, nat_eq, length, IfOk, OnOk, OnErr, IsTrue, string_bytes};
 ghost use Rattle.std.specs.Cmp.{partial_equiv_from_equiv};
@@ -81,7 +81,7 @@ impl Model for Text {
 }
 
 impl Text {
-    /// A copy of the text.
+    /// A copy of the text. Fails only if an allocation is refused.
     pub fn new(alloc: Global, text: &str) -> Result<Text, NoMemory>
         ensures { IfOk result (λ t. t ≡ text.now) }
     {
@@ -151,7 +151,7 @@ impl<'a> Eq for Str<'a> {
     ghost laws = { nat_list_eq_equiv };
 }
 
-/// Bytes that it owns.
+/// Owned bytes.
 #[derive(Clone, Debug, Drop)]
 pub struct Blob {
     bytes: Vec<u8>,
@@ -171,7 +171,7 @@ impl Blob {
         Blob { bytes }
     }
 
-    /// A copy of the bytes.
+    /// A copy of the bytes. Fails only if an allocation is refused.
     pub fn new(alloc: Global, bytes: &[u8]) -> Result<Blob, NoMemory>
         ensures { IfOk result (λ b. b ≡ bytes.now) }
     {
@@ -180,7 +180,8 @@ impl Blob {
         })
     }
 
-    /// Makes it a copy of the other: in the memory that it has, where both are equally long.
+    /// Makes this a copy of the other. It reuses its memory if both are equally long. A refused allocation changes
+    /// nothing.
     pub fn copy_from(&mut self, other: &Blob) -> Result<(), NoMemory>
         ensures ok { OnOk result (self.new ≡ other.now) }
         ensures err { OnErr result (self.new ≡ self.old) }

@@ -1,4 +1,4 @@
--- Lists in ascending order: what one more value makes of them, and when two are equal.
+-- Lists in ascending order: inserting one more value, and equality of two lists.
 use Rattle.std.proofs.Common.{◌≡◌, Bool, true, false, cond, ◌||◌, List, [], ◌∷◌, ◌++◌, map, length, Some, None, refl, sym, ap, ◌∙◌, arith, append-nil, append_assoc}
 use Rattle.std.specs.declared.cmp.Ordering.{Ordering}
 use Rattle.std.specs.declared.cmp.Ordering.TheVariants.{Less, Equal, Greater}
@@ -29,7 +29,7 @@ any-push test (x ∷ ks) k =
     or_swap true false c = refl
     or_swap false b c = refl
 
--- a map of entries that are in order has just these entries
+-- A map built from sorted entries has exactly these entries.
 module _ {K X : Type 0} {R : K → K → Ordering} (o : IsTotalOrder R) where
   pub entries-empty : finmap.entries (finmap.empty {X = X} {R = R}) ≡ []
   entries-empty = no_entries (finmap.entries (finmap.empty {R = R}))
@@ -70,13 +70,13 @@ module _ {K : Type 0} {R : K → K → Ordering} (o : IsTotalOrder R) where
       by later Equal = refl
       by later Greater = ap (λ ks. e.0 ∷ ks) later
 
-  -- the last value is put in its place
+  -- The last value is inserted in its place.
   pub ascending-cons : (k : K) (ks : List K) → sorted_distinct R (k ∷ ks) ≡ insert_key R (sorted_distinct R ks) k
   ascending-cons k ks =
       ap unmarked (finmap.entries-insert o (finmap.from_entries {R = R} (marked ks)) k (tt {0}))
       ∙ unmarked-put k (finmap.entries (finmap.from_entries {R = R} (marked ks)))
 
-  -- so the list can be computed
+  -- A computation of the list.
   abbrev pub placed : List K → List K
   placed [] = []
   placed (k ∷ ks) = insert_key R (placed ks) k
@@ -97,7 +97,7 @@ module _ {K : Type 0} {R : K → K → Ordering} (o : IsTotalOrder R) where
       by false y = refl
 
   module _ (exact : CmpEqualImpliesEq R) where
-    -- what holds the same values is the same in order
+    -- Two lists with the same values are the same when sorted.
     pub same_ascending : (xs ys : List K)
         → ((q : K) → list_any (eq_by_cmp R q) xs ≡ list_any (eq_by_cmp R q) ys)
         → sorted_distinct R xs ≡ sorted_distinct R ys
@@ -106,7 +106,7 @@ module _ {K : Type 0} {R : K → K → Ordering} (o : IsTotalOrder R) where
         ∙ ap (λ b. cond b (Some (tt {0})) None) (same q)
         ∙ sym (finmap.get-from_entries o (marked ys) q ∙ find-marked q ys)))
 
-    -- the order in which values come makes no difference
+    -- The order of the values makes no difference.
     pub insert-ascending : (ks : List K) (k : K)
         → insert_key R (sorted_distinct R ks) k ≡ sorted_distinct R (ks ++ k ∷ [])
     insert-ascending ks k =

@@ -50,7 +50,7 @@ keys-remove k s n u =
     by true b = refl
     by false b = refl
 
--- numbers as entries
+-- Numbers as entries.
 abbrev marked : List ℕ → List (ℕ × Unit {0})
 marked ns = map (λ (n : ℕ). (n, tt {0})) ns
 
@@ -97,7 +97,7 @@ same_marked xs ys same = finmap.same_map nat_cmp_total exact_unsigned _ _ (λ q.
         by true y = refl
         by false y = refl
 
--- a sorted list of numbers lists its set in order
+-- A sorted list of numbers is its set in order.
 pub items-sorted : (ns : List ℕ) → IsStrictlySortedBy nat_cmp ns → sorted_connections (set_of ns) ≡ ns
 items-sorted ns s =
     ap (λ m. finmap.keys m)

@@ -1,4 +1,4 @@
--- Firing, evaluated on watches that are listed.
+-- Firing, evaluated on watches given as a list.
 use Rattle.std.proofs.Common.{◌≡◌, ℕ, List, [], ◌∷◌, ◌++◌, Bool, true, false, cond, not, ◌||◌, ◌&&◌, refl, sym, ap, ◌∙◌, map}
 use Rattle.std.specs.declared.cmp.Ordering.TheVariants.{Less}
 use Rattle.std.specs.List.{list_any, filter, AllByRecursion}
@@ -23,11 +23,11 @@ use Rattle.watch_manager.proofs.Watchers.{any-watcher, contains-watchers, contai
 abbrev Listed : Type 0
 Listed = List (Bytes × ℕ)
 
--- who watches the path, as the list has it
+-- The connections that watch the path, in the order of the list.
 abbrev pub at : Bytes → Listed → List ℕ
 at path ps = map (λ (p : Bytes × ℕ). p.1) (filter (λ (p : Bytes × ℕ). same_path path p.0) ps)
 
--- the others on the list
+-- The watches on other paths.
 abbrev pub but : Bytes → Listed → Listed
 but path ps = filter (λ (p : Bytes × ℕ). not (same_path path p.0)) ps
 
@@ -57,7 +57,7 @@ child_after child (Deleted path) = but path child
 child_after child (DataChanged path) = child
 child_after child (ChildrenChanged path) = but path child
 
--- the list has the path's connections in ascending number
+-- The list has the path's connections in ascending order of their numbers.
 abbrev pub InOrder : Listed → Listed → Trigger → Type 0
 InOrder own child (Created path) = Rises (at path own)
 InOrder own child (Deleted path) = Rises (at path own) × Rises (at path child)

@@ -1,4 +1,4 @@
--- Who watches a path, as the map by path says.
+-- The watchers of a path, found in the map by path.
 use Rattle.std.proofs.Common.{◌≡◌, ℕ, List, ap, sym, ◌∙◌, Option, IfSome, IfNone, Some, None}
 use Rattle.std.specs.Cmp.{nat_cmp_total}
 use Rattle.std.proofs.lemmas.Map.Lookups.{exact_unsigned, exact_bytes}

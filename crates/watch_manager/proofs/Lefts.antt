@@ -1,4 +1,4 @@
--- What is left of a table without the watches on some paths.
+-- A table without the watches on some paths.
 use Rattle.std.proofs.Common.{◌≡◌, ℕ, Bool, true, false, not, ◌||◌, ◌&&◌, refl, sym, ap, ◌∙◌}
 use mathlib.Core.Bool.{and-true, and-false}
 use Rattle.std.specs.Ordering.{nat_cmp}
@@ -32,7 +32,7 @@ contains-watchers_left used pairs path c =
     ∙ contains-but_on used pairs (path, c)
     ∙ ap (λ b. b && not (set.contains used path)) (sym (contains-watchers path pairs c))
 
--- nobody watches a path whose watches are used up
+-- No connection watches a path whose watches are used up.
 pub used_path : (used : Names) (pairs : WatchPairs) (path : Bytes) → set.contains used path ≡ true
     → set.empty ≡ watchers_of path (watches_elsewhere used pairs)
 used_path used pairs path here = set.same_set nat_cmp_total exact_unsigned _ _ (λ c.
@@ -40,14 +40,14 @@ used_path used pairs path here = set.same_set nat_cmp_total exact_unsigned _ _ (
     ∙ sym (contains-watchers_left used pairs path c ∙ ap (λ b. set.contains (watchers_of path pairs) c && not b) here
     ∙ and-false (set.contains (watchers_of path pairs) c)))
 
--- the others are watched as before
+-- Other paths are watched as before.
 pub other_path : (used : Names) (pairs : WatchPairs) (path : Bytes) → set.contains used path ≡ false
     → watchers_of path pairs ≡ watchers_of path (watches_elsewhere used pairs)
 other_path used pairs path none = set.same_set nat_cmp_total exact_unsigned _ _ (λ c.
     sym (contains-watchers_left used pairs path c ∙ ap (λ b. set.contains (watchers_of path pairs) c && not b) none
     ∙ and-true (set.contains (watchers_of path pairs) c)))
 
--- one more path
+-- One more path.
 pub but_on-insert : (used : Names) (pairs : WatchPairs) (path : Bytes)
     → watches_elsewhere (set.insert used path) pairs ≡ without_watches_on path (watches_elsewhere used pairs)
 but_on-insert used pairs path = set.same_set watch_total watch_exact _ _ (λ q.

@@ -1,26 +1,26 @@
--- The order of watches is total, and ties only what is equal. Public
+-- The order of watches is total, and ties only equal watches. Public.
 pub mod Totals
--- A map from numbers as a finite map
+-- A map from numbers as a finite map.
 mod ConnMaps
--- A set of connections as a finite set of numbers
+-- A set of connections as a finite set of numbers.
 mod ConnSets
--- Who watches a path, and what is left without a path or a connection. Public
+-- The watchers of a path, and a table without a path or a connection. Public.
 pub mod Watchers
--- Who watches a path, as the map by path says
+-- The watchers of a path, found in the map by path.
 mod Found
--- A table by path and by connection
+-- A table by path and by connection.
 mod Tables
--- What is left of a table without the watches on some paths
+-- A table without the watches on some paths.
 mod Lefts
--- Firing, evaluated on watches that are listed
+-- Firing, evaluated on watches given as a list.
 mod Evaluating
--- Where nobody is told, no watch is used up
+-- Where no event is sent, no watch is used up.
 mod Silent
--- Who is told, and how often
+-- The connections that get an event, and how often.
 mod Told
--- What others keep
+-- The watches of other connections.
 mod Others
--- Lists in ascending order. Public
+-- Lists in ascending order. Public.
 pub mod Ascending
--- The watches of a table, listed
+-- The watches of a table, listed.
 mod Listing

@@ -40,7 +40,7 @@ second_ties Less b e = absurd (subst (λ r. T (is_eq r)) (sym e) tt)
 second_ties Equal b e = e
 second_ties Greater b e = absurd (subst (λ r. T (is_eq r)) (sym e) tt)
 
--- it ties only what is equal
+-- It ties only equal watches.
 pub watched_exact : CmpEqualImpliesEq watched_cmp
 watched_exact x y tie = by x.table y.table tie
   where
@@ -61,7 +61,7 @@ watched_exact x y tie = by x.table y.table tie
     by Child Child e =
         ap (watched_in Child) (same (first_ties (watch_cmp (x.path, x.conn) (y.path, y.conn)) (nat_cmp 1 1) e))
 
--- ---- which watches are listed
+-- ---- the watches that are listed
 
 and_or : (a b k : Bool) → ((a && k) || (b && k)) ≡ ((a || b) && k)
 and_or true true true = refl
@@ -73,7 +73,7 @@ and_or false b k = refl
 abbrev same_table : Watched → Table → Bool
 same_table q table = eq_by_cmp nat_cmp (table_rank q.table) (table_rank table)
 
--- a pair stands in the table
+-- The pair is in the table.
 any-watched_in : (table : Table) (pairs : List (Bytes × ℕ)) (q : Watched)
     → list_any (eq_by_cmp watched_cmp q) (map (watched_in table) pairs)
     ≡ (list_any (eq_by_cmp watch_cmp (q.path, q.conn)) pairs && same_table q table)
@@ -100,7 +100,7 @@ at_path path (c ∷ cs) q =
     and_comm false true = refl
     and_comm false false = refl
 
--- the connections of a set, in order or not
+-- The connections of a set, sorted or not.
 any-in_number : (path : Bytes) (conns : ConnectionSet) (q : Bytes × ℕ)
     → list_any (eq_by_cmp watch_cmp q) (map (λ (c : ℕ). (path, c)) (sorted_connections conns))
     ≡ list_any (eq_by_cmp watch_cmp q) (map (λ (c : ℕ). (path, c)) (set.items conns))
@@ -136,7 +136,7 @@ any-rows_of table (e ∷ es) q =
     (sym (list_any-append (eq_by_cmp watch_cmp (q.path, q.conn)) (map (λ (c : ℕ). (e.0, c)) (set.items e.1))
     (all_pairs es)))
 
--- the rows of a table are its watches
+-- The rows of a table are its watches.
 any-table : (table : Table) (es : List (Bytes × ConnectionSet)) (watches : WatchPairs)
     → set.from_list (all_pairs es) ≡ watches
     → (q : Watched) → list_any (eq_by_cmp watched_cmp q) (rows_of table es)
@@ -149,7 +149,7 @@ any-table table es watches are q =
     ∙ set.contains-items watches (q.path, q.conn))
     ∙ sym (any-watched_in table (set.items watches) q)
 
--- the paths of entries that are in order
+-- The paths of sorted entries.
 pub sorted_bytes : {X Z : Type 0} (es : List (String Z × X)) → IsStrictlySortedBy string_cmp (keys_of es)
     → IsStrictlySortedBy path_cmp (keys_of (by_bytes es))
 unfolding IsStrictlySortedBy
@@ -163,7 +163,7 @@ sorted_bytes {X} {Z} (e ∷ es) s = (each es s.0, sorted_bytes es s.1)
 
 -- ---- a table, added path by path
 
--- the rest leads where all the watches lead
+-- Adding the rest gives the list of all the watches.
 pub record Adding (table : Table) (watches : WatchPairs) (old now : List Watched) (rest : List (Bytes × ConnectionSet))
     : Type 0 where
   pub all : List (Bytes × ConnectionSet)

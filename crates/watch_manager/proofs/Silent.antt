@@ -1,4 +1,4 @@
--- Where nobody is told, no watch is used up.
+-- Where no event is sent, no watch is used up.
 use Rattle.std.proofs.Common.{◌≡◌, ℕ, List, [], ◌∷◌, ◌++◌, Bool, true, cond, not, length, refl, sym, ap, ◌∙◌, arith}
 use Rattle.std.specs.List.{list_any, filter}
 use Rattle.std.specs.Ordering.{eq_by_cmp, nat_cmp}

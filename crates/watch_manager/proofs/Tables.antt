@@ -88,7 +88,7 @@ contains-without_paths c (p ∷ ps) pairs q d =
     by false y true z = refl
     by false y false z = refl
 
--- What is taken out at one key only where it is there.
+-- Removal at one key only where the pair is there.
 there : (t b c : Bool) → (t ≡ true → b ≡ c) → (b && not (t && c)) ≡ (b && not t)
 there true b c same = ap (λ x. x && not c) (same refl) ∙ by c ∙ sym (and-false b)
   where
@@ -97,7 +97,7 @@ there true b c same = ap (λ x. x && not c) (same refl) ∙ by c ∙ sym (and-fa
     by false = refl
 there false b c same = refl
 
--- the path is taken out at each connection that watches it
+-- The path is removed at each connection that watches it.
 pub agree-without_path : (pairs : WatchPairs) (turn : ConnPairs) (p : Bytes) (conns : ConnectionSet)
     → AgreeOn pairs turn
     → conns ≡ watchers_of p pairs → AgreeOn (without_watches_on p pairs)
@@ -117,7 +117,7 @@ agree-without_path pairs turn p conns agree is q d =
         ∙ ap (λ s. set.contains s d) is
         ∙ contains-watchers p pairs d
 
--- a path that nobody watches
+-- A path that no connection watches.
 pub unwatched : (p : Bytes) (pairs : WatchPairs) → watchers_of p pairs ≡ set.empty → pairs ≡ without_watches_on p pairs
 unwatched p pairs none =
     set.same_set watch_total watch_exact _ _ (λ r. by r.0 r.1 (same_path p r.0) refl
@@ -132,7 +132,7 @@ unwatched p pairs none =
         out ∙ ap (λ b. b && false) (sym out)
     by q d false e = sym (and-true (set.contains pairs (q, d)))
 
--- the connection is taken out at each path that it watches
+-- The connection is removed at each path that it watches.
 pub are_dropped : (pairs : WatchPairs) (turn : ConnPairs) (c : ℕ) (paths : Names) → AgreeOn pairs turn
     → ((p : Bytes) → set.contains paths p ≡ set.contains turn (c, p))
     → without_watched_paths c (sorted_names paths) pairs ≡ without_connection c pairs
@@ -159,7 +159,7 @@ agree-without_connection pairs turn c agree q d =
     ∙ sym (set.contains-retain turn (λ (p : ℕ × Bytes). not (same_connection c p.0)) (d, q)
     (λ x tie. ap (λ (p : ℕ × Bytes). not (same_connection c p.0)) (sym (conn_exact (d, q) x tie))))
 
--- a connection that watches nothing
+-- A connection that watches nothing.
 pub watches_nothing : (pairs : WatchPairs) (turn : ConnPairs) (c : ℕ) → AgreeOn pairs turn
     → ((p : Bytes) → set.contains turn (c, p) ≡ false) → pairs ≡ without_connection c pairs
 watches_nothing pairs turn c agree none =

@@ -1,4 +1,4 @@
--- Who is told, and how often.
+-- The connections that get an event, and how often.
 use Rattle.std.proofs.Common.{◌≡◌, ℕ, List, [], ◌∷◌, ◌++◌, Bool, true, false, cond, not, ◌||◌, ◌&&◌, T, refl, sym, ap, subst, ◌∙◌, map}
 use mathlib.Core.Bool.{true≢false}
 use Rattle.std.proofs.Math.Bool.{or-true}
@@ -28,7 +28,7 @@ use Rattle.ephemerals.proofs.Ascending.{any-ascending}
 use Rattle.ephemerals.proofs.Grouped.{front_holds, rest_holds}
 use Rattle.watch_manager.proofs.Watchers.{contains-watchers, contains-without_path, contains-without_connection}
 
--- lists of which each element has a property
+-- Lists in which each element has a property.
 all_append : {A : Type 0} (P : A → Type 0) (xs ys : List A) → AllByRecursion P xs → AllByRecursion P ys
     → AllByRecursion P (xs ++ ys)
 all_append P [] ys h k = k
@@ -65,14 +65,14 @@ all_members test (n ∷ ns) h = (
   all_members test ns (λ q t. h q (ap (λ b. eq_by_cmp nat_cmp q n || b) t ∙ or-true (eq_by_cmp nat_cmp q n))),
 )
 
--- what all members of a set have, each of them has in the list
+-- A property of all members of a set holds for each element of its list.
 in_number-all : (test : ℕ → Bool) (conns : ConnectionSet) → ((q : ℕ) → set.contains conns q ≡ true → test q ≡ true)
     → AllByRecursion (λ q. test q ≡ true) (sorted_connections conns)
 in_number-all test conns h =
     all_members test (sorted_connections conns) (λ q t. h q
     (set.contains-items conns q ∙ sym (any-ascending nat_cmp_total (set.items conns) q) ∙ t))
 
--- what a list of connections has, who is told has
+-- A property of each connection in a list holds for each that gets an event.
 told-all : (test : ℕ → Bool) (kind : EventKind) (path : Bytes) (ns : List ℕ) → AllByRecursion (λ q. test q ≡ true) ns
     → AllByRecursion (λ (e : ℕ × Event). test e.0 ≡ true) (events_for kind path ns)
 told-all test kind path [] h = tt
@@ -132,7 +132,7 @@ pub dropped-all : (test : ℕ → Bool) (w : WatchTables) (conn : ℕ)
     → WatchersPass test (without_watches_of conn w)
 dropped-all test w conn h = (without_connection-all test conn w.own h.0, without_connection-all test conn w.child h.1)
 
--- a set's list has each connection once
+-- The list of a set has each connection once.
 less : (r : Ordering) → T (is_lt r) → r ≡ Less
 less Less h = refl
 less Equal h = absurd h
@@ -183,7 +183,7 @@ map-append : (xs ys : List (ℕ × Event)) → map (λ (e : ℕ × Event). e.0) 
 map-append [] ys = refl
 map-append (x ∷ xs) ys = ap (λ ns. x.0 ∷ ns) (map-append xs ys)
 
--- who is passed over is none of those who were told
+-- A connection that is skipped isn't among those that get the event.
 apart_from : (already : ConnectionSet) (n : ℕ) (ms : List ℕ) → set.contains already n ≡ true
     → AllByRecursion (λ m. not (set.contains already m) ≡ true) ms
     → AllByRecursion (λ m. same_connection n m ≡ false) ms

@@ -1,4 +1,4 @@
--- The orders of pairs are total, and tie only what is equal.
+-- The orders of pairs are total, and tie only equal pairs.
 use Rattle.std.proofs.Common.{ℕ}
 use Rattle.std.specs.Cmp.{IsTotalOrder, then_total, on_total, nat_cmp_total}
 use Rattle.std.specs.Ordering.{nat_cmp}

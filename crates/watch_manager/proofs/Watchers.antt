@@ -1,4 +1,4 @@
--- Who watches a path, and what is left without a path or a connection.
+-- The watchers of a path, and a table without a path or a connection.
 use Rattle.std.proofs.Common.{◌≡◌, ℕ, List, [], ◌∷◌, Bool, true, false, cond, not, ◌||◌, ◌&&◌, refl, sym, ap, ◌∙◌, map}
 use Rattle.std.specs.List.{list_any, filter}
 use Rattle.std.specs.Ordering.{eq_by_cmp, nat_cmp}
@@ -45,7 +45,7 @@ contains-without_connection conn pairs q =
     set.contains-retain pairs (λ (p : Bytes × ℕ). not (same_connection conn p.1)) q
     (λ x tie. ap (λ (p : Bytes × ℕ). not (same_connection conn p.1)) (sym (watch_exact q x tie)))
 
--- a set with the members that watch
+-- A set that has exactly the watchers as members.
 pub are_watchers : (path : Bytes) (pairs : WatchPairs) (conns : ConnectionSet)
     → ((c : ℕ) → set.contains conns c ≡ set.contains pairs (path, c)) → conns ≡ watchers_of path pairs
 are_watchers path pairs conns is =

@@ -1,4 +1,4 @@
--- What the types' private fields stand for, and what private loops do. No caller has to believe it.
+-- The meaning of the types' private fields, and the contracts of private loops. No caller depends on this.
 pub mod Grouped
 pub mod Telling
 pub mod Listing

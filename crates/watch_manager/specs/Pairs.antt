@@ -1,4 +1,4 @@
--- Watches as pairs of a path and the connection that is told.
+-- Watches as pairs of a path and the connection that gets the event.
 use Rattle.std.specs.Prelude.{ℕ, List, Bool, not, map}
 use Rattle.std.specs.List.{filter}
 use Rattle.std.specs.declared.cmp.Ordering.{Ordering}
@@ -7,16 +7,16 @@ use Rattle.std.specs.FinMap as finmap
 use Rattle.std.specs.FinSet as set
 use Rattle.ephemerals.specs.Orders.{Bytes, path_cmp}
 
--- connections by their numbers
+-- Connections, ordered by number.
 abbrev pub ConnectionSet : Type 0
 ConnectionSet = set.FinSet nat_cmp
 
--- in ascending number
+-- The connections in ascending order of their numbers.
 abbrev pub sorted_connections : ConnectionSet → List ℕ
 sorted_connections conns = finmap.keys
     (finmap.from_entries {R = nat_cmp} (map (λ (conn : ℕ). (conn, tt {0})) (set.items conns)))
 
--- ascending path, then ascending connection
+-- By path, then by connection.
 abbrev pub watch_cmp : Bytes × ℕ → Bytes × ℕ → Ordering
 watch_cmp = then_cmp (on (λ (p : Bytes × ℕ). p.0) path_cmp) (on (λ (p : Bytes × ℕ). p.1) nat_cmp)
 
@@ -29,15 +29,13 @@ same_path a b = eq_by_cmp path_cmp a b
 abbrev pub same_connection : ℕ → ℕ → Bool
 same_connection a b = eq_by_cmp nat_cmp a b
 
--- the connections that watch the path
+-- The connections that watch the path.
 abbrev pub watchers_of : Bytes → WatchPairs → ConnectionSet
 watchers_of path pairs =
     set.from_list (map (λ (p : Bytes × ℕ). p.1) (filter (λ (p : Bytes × ℕ). same_path path p.0) (set.items pairs)))
 
--- all watches but those on the path
 abbrev pub without_watches_on : Bytes → WatchPairs → WatchPairs
 without_watches_on path pairs = set.retain pairs (λ (p : Bytes × ℕ). not (same_path path p.0))
 
--- all watches but those of the connection
 abbrev pub without_connection : ℕ → WatchPairs → WatchPairs
 without_connection conn pairs = set.retain pairs (λ (p : Bytes × ℕ). not (same_connection conn p.1))

@@ -1,4 +1,4 @@
--- Rows that were worked out by hand: who watches what, what changes, and whom that tells what.
+-- Rows that were worked out by hand: watches, triggers, and the events that they cause.
 use Rattle.std.specs.Prelude.{◌≡◌, ℕ, List, [], ◌∷◌, codes}
 use Rattle.std.specs.FinSet as set
 use Rattle.ephemerals.specs.Orders.{Bytes}
@@ -27,11 +27,10 @@ path_a_f = codes "/a/f"
 abbrev pub path_b_g : Bytes
 path_b_g = codes "/b/g"
 
--- these data watches and child watches
+-- These data watches and child watches.
 abbrev pub watches_on : List (Bytes × ℕ) → List (Bytes × ℕ) → WatchTables
 watches_on own child = record { own = set.from_list own; child = set.from_list child }
 
--- the connection is told this
 abbrev pub event_for : ℕ → EventKind → Bytes → ℕ × Event
 event_for conn kind path = (conn, record { kind = kind; path = path })
 
@@ -39,7 +38,8 @@ abbrev pub result_without_watches : List (ℕ × Event) → FireResult
 result_without_watches events = record { events = events; left = no_watch }
 
 pub record WorkedRows : Type 0 where
-  -- A delete of /a, and a second create and delete. Connection 1 has a data and a child watch on /a, and is told once.
+  -- A delete of /a, and a second create and delete. Connection 1 has a data and a child watch on /a, and gets one
+  -- event.
   pub one_shot_delete :
       fire (watches_on ((path_a, 1) ∷ []) ((root_path, 2) ∷ (path_a, 1) ∷ (path_a, 2) ∷ []))
       (Deleted path_a ∷ ChildrenChanged root_path ∷ Created path_a ∷ ChildrenChanged root_path ∷ Deleted path_a
@@ -53,7 +53,7 @@ pub record WorkedRows : Type 0 where
       ∷ ChildrenChanged path_b ∷ [])
       ≡ result_without_watches (event_for 1 NodeChildrenChanged path_a ∷ event_for 1 NodeDeleted path_a_f ∷ event_for 1
       NodeChildrenChanged path_b ∷ [])
-  -- A create of /a, which connection 1 has waited for.
+  -- A create of /a, on which connection 1 has a watch.
   pub created :
       fire (watches_on ((path_a, 1) ∷ []) []) (Created path_a ∷ ChildrenChanged root_path ∷ []) ≡ result_without_watches
       (event_for 1 NodeCreated path_a ∷ [])

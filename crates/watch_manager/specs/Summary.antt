@@ -10,22 +10,22 @@ use Rattle.watch_manager.specs.declared.watched.Table.{Table}
 use Rattle.watch_manager.specs.declared.watched.Table.TheVariants.{Own, Child}
 use Rattle.watch_manager.specs.declared.watched.Watched.{Watched}
 
--- the data watches first
+-- Data watches come first.
 abbrev pub table_rank : Table → ℕ
 table_rank Own = 0
 table_rank Child = 1
 
--- ascending path, then ascending connection, then the data watch before the child watch
+-- By path, then by connection, and the data watch before the child watch.
 abbrev pub watched_cmp : Watched → Watched → Ordering
 watched_cmp =
     then_cmp (then_cmp (on (λ (w : Watched). w.path) path_cmp) (on (λ (w : Watched). w.conn) nat_cmp))
     (on (λ (w : Watched). table_rank w.table) nat_cmp)
 
--- the pair as a watch of this table
+-- The pair as a watch of this table.
 abbrev pub watched_in : Table → Bytes × ℕ → Watched
 watched_in table pair = record { path = pair.0; conn = pair.1; table = table }
 
--- each watch of both tables once, in ascending order
+-- Each watch of both tables once, in ascending order.
 abbrev pub summary : WatchTables → List Watched
 summary w = sorted_distinct watched_cmp
     (map (watched_in Own) (set.items w.own) ++ map (watched_in Child) (set.items w.child))

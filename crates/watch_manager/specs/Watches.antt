@@ -1,4 +1,4 @@
--- What watchers are told, and which watches that uses up (ZooKeeper Programmer's Guide, "Watches").
+-- The events that watchers get, and the watches that this uses up (ZooKeeper Programmer's Guide, "Watches").
 use Rattle.std.specs.Prelude.{ℕ, List, [], ◌∷◌, ◌++◌, not, map}
 use Rattle.std.specs.List.{filter}
 use Rattle.std.specs.FinSet as set
@@ -11,15 +11,15 @@ use Rattle.watch_manager.specs.declared.event.Event.{Event}
 use Rattle.watch_manager.specs.declared.event.EventKind.{EventKind}
 use Rattle.watch_manager.specs.declared.event.EventKind.TheVariants.{NodeCreated, NodeDeleted, NodeDataChanged, NodeChildrenChanged}
 
--- each of the connections is told that this happened at the path
+-- Each of the connections gets an event of this kind at the path.
 abbrev pub events_for : EventKind → Bytes → List ℕ → List (ℕ × Event)
 events_for kind path conns = map (λ (conn : ℕ). (conn, record { kind = kind; path = path })) conns
 
--- in ascending number, but those that were told already
+-- In ascending order of their numbers, without those that got the event already.
 abbrev pub connections_not_told : ConnectionSet → ConnectionSet → List ℕ
 connections_not_told already conns = filter (λ (conn : ℕ). not (set.contains already conn)) (sorted_connections conns)
 
--- what a change tells those who watch
+-- The events of a trigger for its watchers.
 abbrev pub events_of_trigger : WatchTables → Trigger → List (ℕ × Event)
 events_of_trigger w (Created path) = events_for NodeCreated path (sorted_connections (watchers_of path w.own))
 events_of_trigger w (Deleted path) =
@@ -29,19 +29,20 @@ events_of_trigger w (DataChanged path) = events_for NodeDataChanged path (sorted
 events_of_trigger w (ChildrenChanged path) =
     events_for NodeChildrenChanged path (sorted_connections (watchers_of path w.child))
 
--- the watches after it: those that it told, or passed over, are used up
+-- The watches after a trigger. Those on which it fires are used up, even where the connection has got the event
+-- already.
 abbrev pub watches_after : WatchTables → Trigger → WatchTables
 watches_after w (Created path) = record w { own = without_watches_on path w.own }
 watches_after w (Deleted path) = record { own = without_watches_on path w.own; child = without_watches_on path w.child }
 watches_after w (DataChanged path) = record w { own = without_watches_on path w.own }
 watches_after w (ChildrenChanged path) = record w { child = without_watches_on path w.child }
 
--- connections with what they are told, in order, and the watches that are left
+-- Connections with their events, in order, and the watches left.
 pub record FireResult : Type 0 where
   pub events : List (ℕ × Event)
   pub left : WatchTables
 
--- one change after the other
+-- The triggers one after the other.
 abbrev pub fire : WatchTables → List Trigger → FireResult
 fire w [] = record { events = []; left = w }
 fire w (trigger ∷ triggers) =

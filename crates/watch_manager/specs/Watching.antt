@@ -4,7 +4,7 @@ use Rattle.std.specs.Coded.{Coded, code_by, coded×, coded_ℕ, coded_list}
 use Rattle.std.specs.FinSet as set
 use Rattle.watch_manager.specs.Pairs.{WatchPairs, watch_cmp, without_connection}
 
--- the data watches and the child watches
+-- The data watches and the child watches.
 pub record WatchTables : Type 0 where
   pub own : WatchPairs
   pub child : WatchPairs
@@ -12,7 +12,7 @@ pub record WatchTables : Type 0 where
 abbrev pub no_watch : WatchTables
 no_watch = record { own = set.empty; child = set.empty }
 
--- a connection that has gone takes its watches with it
+-- A connection that closes loses its watches.
 abbrev pub without_watches_of : ℕ → WatchTables → WatchTables
 without_watches_of conn w = record { own = without_connection conn w.own; child = without_connection conn w.child }
 

@@ -1,4 +1,4 @@
-//! For each connection the paths that it watches.
+//! The watches by connection: for each connection the paths that it watches.
 
 ghost use Rattle.std.specs.Prelude.{◌≡◌, List, ℕ, OnOk, OnErr, IfSome, IfNone, IsTrue, false};
 ghost use Rattle.std.specs.FinSet as set;
@@ -12,7 +12,7 @@ use std::collections::BTreeMap;
 use std::marker::Model;
 use values::NoMemory;
 
-/// Pairs of a connection and a path, kept as a set of paths for each connection.
+/// Pairs of a connection and a path, stored as a set of paths for each connection.
 #[derive(Drop)]
 pub struct ByConn {
     map: BTreeMap<u64, TextSet>,
@@ -31,7 +31,7 @@ impl Model for ByConn {
 }
 
 impl ByConn {
-    /// No pair, which takes no memory.
+    /// No pair. Allocates nothing.
     pub fn new(alloc: Global) -> ByConn
         ensures { result ≡ set.empty }
     {
@@ -40,7 +40,7 @@ impl ByConn {
         }
     }
 
-    /// Adds a pair.
+    /// Adds a pair. A refused allocation changes nothing.
     pub fn insert(&mut self, alloc: Global, conn: u64, path: &str) -> Result<(), NoMemory>
         ensures ok { OnOk result (self.new ≡ set.insert self.old (conn, path.now)) }
         ensures err { OnErr result (self.new ≡ self.old) }
@@ -60,7 +60,7 @@ impl ByConn {
         }
     }
 
-    // Takes a pair out, and says whether the connection has a set that is empty now.
+    // Removes a pair and returns whether the connection's set is empty now.
     fn remove_pair(&mut self, conn: u64, path: &str) -> bool
         ensures removed { self.new ≡ set.remove self.old (conn, path.now) }
         ensures emptied { IsTrue result →
@@ -83,7 +83,7 @@ impl ByConn {
         self.map.remove(&conn);
     }
 
-    /// Takes a pair out.
+    /// Removes a pair.
     pub fn remove(&mut self, conn: u64, path: &str)
         ensures { self.new ≡ set.remove self.old (conn, path.now) }
     {
@@ -92,7 +92,7 @@ impl ByConn {
         }
     }
 
-    /// Takes out the path at each of the connections.
+    /// Removes the path from each of the connections.
     pub fn remove_all(&mut self, conns: &ConnSet, path: &str)
         ensures { self.new ≡ without_conns path.now (sorted_connections conns.now) self.old }
     {
@@ -101,7 +101,7 @@ impl ByConn {
         }
     }
 
-    /// Takes out all pairs of a connection, and answers its paths where there is a set of them.
+    /// Removes all pairs of a connection and returns its paths; None if it watches nothing.
     pub fn take(&mut self, conn: u64) -> Option<TextSet>
         ensures paths { IfSome result
             (λ paths. (p : List ℕ) → set.contains paths p ≡ set.contains self.old (conn, p)) }

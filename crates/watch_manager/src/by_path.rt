@@ -1,4 +1,4 @@
-//! For each path the connections that watch it.
+//! The watches by path: for each path the connections that watch it.
 
 ghost use Rattle.std.specs.Prelude.{◌≡◌, ℕ, OnOk, OnErr, IfOk, IfSome, IfNone, IsTrue, not, false, String};
 ghost use Rattle.std.specs.FinSet as set;
@@ -16,7 +16,7 @@ use std::collections::btree_map::Iter;
 use std::marker::Model;
 use values::NoMemory;
 
-/// Pairs of a path and a connection, kept as a set of connections for each path.
+/// Pairs of a path and a connection, stored as a set of connections for each path.
 #[derive(Drop)]
 pub struct ByPath {
     map: BTreeMap<String, ConnSet>,
@@ -36,7 +36,7 @@ impl Model for ByPath {
 }
 
 impl ByPath {
-    /// No pair, which takes no memory.
+    /// No pair. Allocates nothing.
     pub fn new(alloc: Global) -> ByPath
         ensures { result ≡ set.empty }
     {
@@ -45,7 +45,7 @@ impl ByPath {
         }
     }
 
-    /// The connections that watch the path, where there is a set of them.
+    /// The connections that watch the path; None if no connection does.
     pub fn of(&self, path: &str) -> Option<&ConnSet>
         ensures some { IfSome result (λ conns. conns.now ≡ watchers_of path.now self.now) }
         ensures none { IfNone result (watchers_of path.now self.now ≡ set.empty) }
@@ -56,7 +56,7 @@ impl ByPath {
         }
     }
 
-    /// The paths with a set of connections, in ascending bytes, each with that set.
+    /// The watched paths in ascending order of their bytes, each with its connections.
     pub fn iter(&self) -> Iter<'_, String, ConnSet>
         ensures pairs { set.from_list (all_pairs (by_bytes result)) ≡ self.now }
         ensures runs { ShowsInOrder (deref_pair {K = String Global} {X = ConnectionSet}) }
@@ -64,7 +64,7 @@ impl ByPath {
         self.map.iter()
     }
 
-    /// Adds a pair, and says whether it is new.
+    /// Adds a pair and returns whether it is new. A refused allocation changes nothing.
     pub fn insert(&mut self, alloc: Global, path: &str, conn: u64) -> Result<bool, NoMemory>
         ensures ok { OnOk result (self.new ≡ set.insert self.old (path.now, conn)) }
         ensures added { IfOk result
@@ -82,7 +82,7 @@ impl ByPath {
         }
     }
 
-    // Takes a pair out, and says whether the path has a set that is empty now.
+    // Removes a pair and returns whether the path's set is empty now.
     fn remove_pair(&mut self, path: &str, conn: u64) -> bool
         ensures removed { self.new ≡ set.remove self.old (path.now, conn) }
         ensures emptied { IsTrue result →
@@ -97,7 +97,7 @@ impl ByPath {
         }
     }
 
-    // Frees the set of a path that nobody watches.
+    // Frees the set of a path that no connection watches.
     fn forget(&mut self, path: &str)
         requires { (c : ℕ) → set.contains self.old (path.now, c) ≡ false }
         ensures { self.new ≡ self.old }
@@ -105,7 +105,7 @@ impl ByPath {
         self.map.remove(path);
     }
 
-    /// Takes a pair out.
+    /// Removes a pair.
     pub fn remove(&mut self, path: &str, conn: u64)
         ensures { self.new ≡ set.remove self.old (path.now, conn) }
     {
@@ -114,7 +114,7 @@ impl ByPath {
         }
     }
 
-    /// Takes out the connection at each of the paths.
+    /// Removes the connection from each of the paths.
     pub fn remove_all(&mut self, paths: &TextSet, conn: u64)
         ensures { self.new ≡ without_watched_paths conn (sorted_names paths.now) self.old }
     {
@@ -123,7 +123,7 @@ impl ByPath {
         }
     }
 
-    /// Takes out all pairs of a path, and answers its connections where there is a set of them.
+    /// Removes all pairs of a path and returns its connections; None if no connection watches it.
     pub fn take(&mut self, path: &str) -> Option<ConnSet>
         ensures conns { IfSome result (λ conns. conns ≡ watchers_of path.now self.old) }
         ensures none { IfNone result (watchers_of path.now self.old ≡ set.empty) }

@@ -11,7 +11,7 @@ use std::collections::btree_set::Iter;
 use std::marker::Model;
 use values::NoMemory;
 
-/// A set of connections, in ascending number.
+/// A set of connections, ordered by number.
 #[derive(Drop)]
 pub struct ConnSet {
     conns: BTreeSet<u64>,
@@ -30,7 +30,7 @@ impl Model for ConnSet {
 }
 
 impl ConnSet {
-    /// No connection, which takes no memory.
+    /// No connection. Allocates nothing.
     pub fn new(alloc: Global) -> ConnSet
         ensures { result ≡ set.empty }
     {
@@ -39,21 +39,21 @@ impl ConnSet {
         }
     }
 
-    /// Whether there is no connection.
+    /// Whether the set is empty.
     pub fn is_empty(&self) -> bool
         ensures { IsTrue result ↔ (self.now ≡ set.empty) }
     {
         self.conns.is_empty()
     }
 
-    /// Whether the connection is there.
+    /// Whether the connection is in the set.
     pub fn contains(&self, conn: u64) -> bool
         ensures { result ≡ set.contains self.now conn }
     {
         self.conns.contains(&conn)
     }
 
-    /// Adds a connection, and says whether it is new.
+    /// Adds a connection and returns whether it is new. A refused allocation changes nothing.
     pub fn insert(&mut self, conn: u64) -> Result<bool, NoMemory>
         ensures ok { OnOk result (self.new ≡ set.insert self.old conn) }
         ensures added { IfOk result (λ added. added ≡ not (set.contains self.old conn)) }
@@ -62,14 +62,14 @@ impl ConnSet {
         Ok(self.conns.insert(conn)?)
     }
 
-    /// Takes a connection out.
+    /// Removes a connection.
     pub fn remove(&mut self, conn: u64)
         ensures { self.new ≡ set.remove self.old conn }
     {
         self.conns.remove(&conn);
     }
 
-    /// The connections in ascending number.
+    /// The connections in ascending order of their numbers.
     pub fn iter(&self) -> Iter<'_, u64>
         ensures conns { result ≡ sorted_connections self.now }
         ensures runs { ShowsInOrder (deref {X = ℕ}) }

@@ -1,25 +1,25 @@
-//! What a client is told.
+//! The events that clients are told.
 
 ghost use Rattle.std.specs.Prelude.{◌≡◌};
 ghost use Rattle.watch_manager.specs.Events.{event_number};
 
 use values::Text;
 
-/// What happened at a watched path.
+/// The kind of a change at a watched path.
 #[derive(Clone, Copy)]
 pub enum EventKind {
-    /// The node was made.
+    /// The node was created.
     NodeCreated,
-    /// The node was removed.
+    /// The node was deleted.
     NodeDeleted,
-    /// The node's bytes were replaced.
+    /// The node's data was replaced.
     NodeDataChanged,
     /// The node gained or lost a child.
     NodeChildrenChanged,
 }
 
 impl EventKind {
-    /// The type by which a WatcherEvent names it, from 1 to 4.
+    /// The type in a WatcherEvent, from 1 to 4.
     pub fn number(self) -> i32
         ensures { result ≡ event_number self }
     {
@@ -32,7 +32,7 @@ impl EventKind {
     }
 }
 
-/// What happened, and at which path.
+/// The kind of a change, and its path.
 #[derive(Drop)]
 pub struct Event {
     pub kind: EventKind,

@@ -3,9 +3,9 @@
 ghost use Rattle.watch_manager.specs.Laws.{ConnectionsAreToldOnce, OnlyWatchersAreTold, NoEventKeepsWatches, DroppedWatchesNothing, OthersKeepWatches};
 ghost use Rattle.watch_manager.specs.Rows.{WorkedRows};
 
-/// A change tells a connection at most once, and only those are told who watch something. Where nobody is told,
-/// no watch is used up. Neither firing nor dropping a connection makes anybody watch anew, and a connection that was
-/// dropped watches nothing. What one connection does leaves the watches of every other.
+/// A change sends a connection at most one event, and only connections that watch something get one. Where no event is
+/// sent, no watch is used up. Neither firing nor dropping a connection adds a watch, and a connection that was dropped
+/// watches nothing. What one connection does leaves the watches of every other.
 pub fn firing()
     ensures once { ConnectionsAreToldOnce }
     ensures watchers { OnlyWatchersAreTold }
@@ -14,7 +14,7 @@ pub fn firing()
     ensures others { OthersKeepWatches }
 {}
 
-/// Rows that were worked out by hand.
+/// The definitions, evaluated on rows that were worked out by hand.
 pub fn worked_rows()
     ensures { WorkedRows }
 {}

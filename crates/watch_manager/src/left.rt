@@ -1,4 +1,4 @@
-//! What is left of a table while changes are told.
+//! The unused watches of a table while triggers fire.
 
 ghost use Rattle.std.specs.Prelude.{◌≡◌, OnOk};
 ghost use Rattle.std.specs.FinSet as set;
@@ -11,8 +11,8 @@ use std::alloc::Global;
 use std::marker::Model;
 use values::NoMemory;
 
-/// The watches of a table that earlier changes have not used up. The table itself stays as it is, so that memory may
-/// still be refused.
+/// The watches of a table that earlier triggers haven't used up. The table itself isn't changed, so a refused
+/// allocation loses no watch.
 #[derive(Drop)]
 pub struct UnusedWatches<'a> {
     table: &'a WatchTable,

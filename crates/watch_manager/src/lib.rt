@@ -1,8 +1,8 @@
-//! The watches of clients: which connection is told when a path changes, at most once for each watch.
+//! The watches of clients: the connections that are sent an event when a path changes, at most one for each watch.
 //!
 //! There are two tables, of data watches and of child watches (ZooKeeper Programmer's Guide, "Watches"). Each is a
-//! finite set of pairs of a path and a connection. `fire` is given what transactions told, uses up the watches on it,
-//! and answers whom to tell what: `specs/Watches.antt` says it as a definition, and `fire` is proved to be that.
+//! finite set of pairs of a path and a connection. `fire` takes the triggers of transactions, uses up the watches on
+//! them, and returns each event with its connection. `specs/Watches.antt` defines this, and `fire` is proved to do it.
 //!
 //! ```text
 //! let mut watches = Watches::new(alloc);

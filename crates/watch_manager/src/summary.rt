@@ -1,4 +1,4 @@
-//! The watches of both tables, listed.
+//! The watches of both tables as a list.
 
 ghost use Rattle.std.specs.Prelude.{◌≡◌, IfOk, OnOk, map};
 ghost use Rattle.std.specs.FinSet as set;
@@ -32,7 +32,7 @@ fn add_conns<'a>(
     Ok(())
 }
 
-/// Adds the watches of a table.
+/// Adds the watches of a table. Fails only if an allocation is refused.
 pub fn add_table<'a>(
     rows: &mut BTreeSet<Watched<'a>>,
     watches: &'a WatchTable,
@@ -47,7 +47,7 @@ pub fn add_table<'a>(
     Ok(())
 }
 
-/// The watches in their order.
+/// The watches as a list, in their order. Fails only if an allocation is refused.
 pub fn in_order<'a>(
     alloc: Global,
     rows: BTreeSet<Watched<'a>>,

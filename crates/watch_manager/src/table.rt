@@ -1,4 +1,6 @@
 //! One table of watches.
+//!
+//! Laws that go over this: `Others`, `Silent`, `Told`.
 
 ghost use Rattle.std.specs.Prelude.{◌≡◌, OnOk, OnErr, IfSome, IfNone, String};
 ghost use Rattle.std.specs.FinSet as set;
@@ -14,8 +16,8 @@ use std::collections::btree_map::Iter;
 use std::marker::Model;
 use values::NoMemory;
 
-/// Pairs of a path and a connection, kept by path and by connection: what fires is found by its path, and what goes
-/// with a connection by the connection.
+/// Pairs of a path and a connection, stored by path and by connection: a trigger finds its watches by path, and a
+/// closed connection loses its watches by connection.
 #[derive(Drop)]
 pub struct WatchTable {
     by_path: ByPath,
@@ -38,7 +40,7 @@ impl Model for WatchTable {
 }
 
 impl WatchTable {
-    /// No watch, which takes no memory.
+    /// No watch. Allocates nothing.
     pub fn new(alloc: Global) -> WatchTable
         ensures { result ≡ set.empty }
     {
@@ -48,7 +50,7 @@ impl WatchTable {
         }
     }
 
-    /// The connections that watch the path, where there is a set of them.
+    /// The connections that watch the path; None if no connection does.
     pub fn watchers(&self, path: &str) -> Option<&ConnSet>
         ensures some { IfSome result (λ conns. conns.now ≡ watchers_of path.now self.now) }
         ensures none { IfNone result (watchers_of path.now self.now ≡ set.empty) }
@@ -56,7 +58,7 @@ impl WatchTable {
         self.by_path.of(path)
     }
 
-    /// The paths that are watched, in ascending bytes, each with its connections.
+    /// The watched paths in ascending order of their bytes, each with its connections.
     pub fn iter(&self) -> Iter<'_, String, ConnSet>
         ensures pairs { set.from_list (all_pairs (by_bytes result)) ≡ self.now }
         ensures runs { ShowsInOrder (deref_pair {K = String Global} {X = ConnectionSet}) }
@@ -64,7 +66,7 @@ impl WatchTable {
         self.by_path.iter()
     }
 
-    /// Sets a watch, which may be set already.
+    /// Sets a watch; it may be set already. A refused allocation changes nothing.
     pub fn set(&mut self, alloc: Global, conn: u64, path: &str) -> Result<(), NoMemory>
         ensures ok { OnOk result (self.new ≡ set.insert self.old (path.now, conn)) }
         ensures err { OnErr result (self.new ≡ self.old) }
@@ -81,7 +83,7 @@ impl WatchTable {
         }
     }
 
-    /// Takes out the watches on a path, which takes no memory.
+    /// Removes the watches on a path. Allocates nothing.
     pub fn use_up(&mut self, path: &str)
         ensures { self.new ≡ without_watches_on path.now self.old }
     {
@@ -91,7 +93,7 @@ impl WatchTable {
         }
     }
 
-    /// Takes out the watches of a connection, which takes no memory.
+    /// Removes the watches of a connection. Allocates nothing.
     pub fn drop_conn(&mut self, conn: u64)
         ensures { self.new ≡ without_connection conn self.old }
     {

@@ -1,4 +1,6 @@
-//! Whom a change tells what.
+//! The events of a trigger, and the connections that get them.
+//!
+//! Laws that go over this: `Silent`, `Told`.
 
 ghost use Rattle.std.specs.Prelude.{◌≡◌, ◌++◌, OnOk};
 ghost use Rattle.watch_manager.specs.Watches.{events_for, connections_not_told, events_of_trigger, watches_after};
@@ -12,7 +14,7 @@ use data_tree::Trigger;
 use std::alloc::Global;
 use values::{NoMemory, Text};
 
-// Tells each of the connections.
+// Adds an event for each of the connections.
 fn tell_each(
     events: &mut Vec<(u64, Event)>,
     alloc: Global,
@@ -30,7 +32,7 @@ fn tell_each(
     Ok(())
 }
 
-// Tells each of the connections, but those that were told already.
+// Adds an event for each of the connections except those that have one already.
 fn tell_others(
     events: &mut Vec<(u64, Event)>,
     alloc: Global,
@@ -51,7 +53,7 @@ fn tell_others(
     Ok(())
 }
 
-// Tells those who watch the path in one table, whose watches that uses up.
+// Adds an event for each connection that watches the path in one table, and uses up these watches.
 fn tell_table(
     events: &mut Vec<(u64, Event)>,
     alloc: Global,
@@ -67,7 +69,7 @@ fn tell_table(
     table.use_up(alloc, path)
 }
 
-/// Adds what a change tells, with the watches that are left in each table, and uses up those watches there.
+/// Adds the events of a trigger, from the watches left in each table, and uses up these watches.
 pub fn tell(
     events: &mut Vec<(u64, Event)>,
     alloc: Global,

@@ -1,4 +1,4 @@
-//! A watch of either table, as it is listed.
+//! A watch of either table, as an element of the list.
 
 ghost use Rattle.std.specs.Prelude.{◌≡◌, Some};
 ghost use Rattle.std.specs.Cmp.{eq_by_cmp_equiv, partial_order_from_total, partial_equiv_from_equiv};
@@ -11,7 +11,7 @@ ghost use Rattle.watch_manager.specs.Totals.{watched_total};
 use std::cmp::Ordering;
 use values::Str;
 
-/// Which table a watch stands in.
+/// The table that a watch is in.
 #[derive(Clone, Copy)]
 pub enum Table {
     /// The data watches.
@@ -21,7 +21,7 @@ pub enum Table {
 }
 
 impl Table {
-    // The data watches come first.
+    // Data watches come first.
     fn rank(self) -> u8
         ensures { result ≡ table_rank self }
     {
@@ -32,8 +32,8 @@ impl Table {
     }
 }
 
-/// A watch: the connection that is told, and when. Watches are in the order of their paths, then of their connections,
-/// and a data watch stands before a child watch.
+/// A watch: its path, its connection and its table. Watches are ordered by path, then by connection, and a data watch
+/// comes before a child watch.
 #[derive(Drop)]
 pub struct Watched<'a> {
     pub path: Str<'a>,
@@ -41,7 +41,6 @@ pub struct Watched<'a> {
     pub table: Table,
 }
 
-// Which watch stands first.
 fn watched_order(left: &Watched<'_>, right: &Watched<'_>) -> Ordering
     ensures { result ≡ watched_cmp left.now right.now }
 {

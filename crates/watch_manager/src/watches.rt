@@ -1,4 +1,6 @@
 //! The watches of all connections.
+//!
+//! Laws that go over this: `Silent`, `Told`.
 
 ghost use Rattle.std.specs.Prelude.{◌≡◌, OnOk, OnErr, IfOk};
 ghost use Rattle.std.specs.FinSet as set;
@@ -18,8 +20,8 @@ use std::collections::BTreeSet;
 use std::marker::Model;
 use values::NoMemory;
 
-/// Which connection watches which path: data watches and child watches. A watch is set at most once, and goes when it
-/// fires or when its connection goes.
+/// The data watches and child watches of all connections. A watch is set at most once, and is removed when it fires or
+/// when its connection closes.
 #[derive(Drop)]
 pub struct Watches {
     // The data watches.
@@ -38,7 +40,7 @@ impl Model for Watches {
 }
 
 impl Watches {
-    /// No watch, which takes no memory.
+    /// No watch. Allocates nothing.
     pub fn new(alloc: Global) -> Watches
         ensures { result ≡ no_watch }
     {
@@ -48,7 +50,8 @@ impl Watches {
         }
     }
 
-    /// Sets a data watch, which may be set already. Any text may be watched, also one that is no path.
+    /// Sets a data watch; it may be set already. Any text may be watched, even if it isn't a path. A refused allocation
+    /// changes nothing.
     pub fn set_data(&mut self, alloc: Global, conn: u64, path: &str) -> Result<(), NoMemory>
         ensures ok { OnOk result
             (self.new ≡ record self.old { own = set.insert self.old.own (path.now, conn) }) }
@@ -57,7 +60,8 @@ impl Watches {
         self.own.set(alloc, conn, path)
     }
 
-    /// Sets a child watch, which may be set already. Any text may be watched, also one that is no path.
+    /// Sets a child watch; it may be set already. Any text may be watched, even if it isn't a path. A refused
+    /// allocation changes nothing.
     pub fn set_child(&mut self, alloc: Global, conn: u64, path: &str) -> Result<(), NoMemory>
         ensures ok { OnOk result
             (self.new ≡ record self.old { child = set.insert self.old.child (path.now, conn) }) }
@@ -66,7 +70,7 @@ impl Watches {
         self.child.set(alloc, conn, path)
     }
 
-    /// Drops all watches of a connection, which takes no memory.
+    /// Drops all watches of a connection. Allocates nothing.
     pub fn drop_conn(&mut self, conn: u64)
         ensures { self.new ≡ without_watches_of conn self.old }
     {
@@ -74,8 +78,8 @@ impl Watches {
         self.child.drop_conn(conn);
     }
 
-    /// All watches in their order: ascending path, then ascending connection, and the data watch before the child
-    /// watch. The paths are borrowed, so none is copied.
+    /// All watches in ascending order of path, then of connection, with a data watch before a child watch. The paths
+    /// are borrowed and not copied. Fails only if an allocation is refused.
     pub fn summary(&self, alloc: Global) -> Result<Vec<Watched<'_>>, NoMemory>
         ensures { IfOk result (λ rows. rows.items ≡ summary self.now) }
     {
@@ -85,7 +89,7 @@ impl Watches {
         in_order(alloc, rows)
     }
 
-    // What the changes tell, one after the other.
+    // The events of the triggers, in order.
     fn tell_all(&self, alloc: Global, triggers: &[Trigger]) -> Result<Vec<(u64, Event)>, NoMemory>
         ensures { IfOk result
             (λ events. events.items ≡ (fire self.now triggers.now).events) }
@@ -99,7 +103,7 @@ impl Watches {
         Ok(events)
     }
 
-    // Uses up what a change tells.
+    // Uses up the watches on which a trigger fires.
     fn use_up(&mut self, trigger: &Trigger)
         ensures { self.new ≡ watches_after self.old trigger.now }
     {
@@ -114,7 +118,7 @@ impl Watches {
         }
     }
 
-    // Uses up what the changes tell.
+    // Uses up the watches on which the triggers fire.
     fn use_up_all(&mut self, triggers: &[Trigger])
         ensures { self.new ≡ (fire self.old triggers.now).left }
     {
@@ -123,8 +127,8 @@ impl Watches {
         }
     }
 
-    /// What changes of the tree tell, one after the other, and to whom: each event with its connection. Those watches
-    /// are used up. All events are made before the first watch goes: refused, this changes nothing.
+    /// Fires the triggers in order: returns each event with its connection, and uses up the watches. All events are
+    /// made before the first watch is removed, so a refused allocation changes nothing.
     pub fn fire(
         &mut self,
         alloc: Global,
@@ -136,7 +140,7 @@ impl Watches {
         ensures err { OnErr result (self.new ≡ self.old) }
     {
         let events = self.tell_all(alloc, triggers)?;
-        // Where nobody is told, nobody watches.
+        // Without an event no watch is used up.
         if events.is_empty() {
             return Ok(events);
         }

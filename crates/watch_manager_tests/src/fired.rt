@@ -1,4 +1,4 @@
-//! Who is told what, and which watches that uses up.
+//! The events of triggers, and the watches that they use up.
 
 use crate::trigger_of;
 use std::alloc::Global;
@@ -18,7 +18,7 @@ fn watching(alloc: Global, watches: &[(char, u64, &str)]) -> Result<Watches, Fai
     Ok(all)
 }
 
-// What the changes tell, as connection, number of the event and path.
+// The events of the changes, as connection, number of the event, and path.
 fn told(alloc: Global, watches: &mut Watches, changes: &[(char, &str)]) -> Result<String, Fail> {
     let mut triggers = Vec::new(alloc);
     for (sign, path) in changes {
@@ -34,7 +34,6 @@ fn told(alloc: Global, watches: &mut Watches, changes: &[(char, &str)]) -> Resul
     Ok(text)
 }
 
-// Drops a connection.
 fn drop_conn(watches: &mut Watches, conn: u64) {
     watches.drop_conn(conn);
 }

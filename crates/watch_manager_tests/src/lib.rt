@@ -1,5 +1,5 @@
-//! Tests of the watches, over public calls alone. They stand in a crate of their own, since a crate that has tests is
-//! proved twice; and the calls stand in functions without clauses, so that a test's own proof is short.
+//! Tests of the watches, over public calls alone. They are a crate of their own, since a crate with tests is proved
+//! twice. The calls are in functions without contracts, so that a test's own proof is short.
 #![tactic(auto)]
 
 #[cfg(test)]
@@ -9,7 +9,7 @@ use data_tree::Trigger;
 use std::alloc::Global;
 use values::{NoMemory, Text};
 
-/// The change that a sign stands for: "+" a create, "-" a delete, "=" new data, and any other a child more or less.
+/// The trigger of a sign: "+" a create, "-" a delete, "=" new data, and any other a change of the children.
 pub fn trigger_of(alloc: Global, sign: char, path: &str) -> Result<Trigger, NoMemory> {
     let path = Text::new(alloc, path)?;
     Ok(match sign {

@@ -1,4 +1,4 @@
--- How the fields of a seat and of a board hang together.
+-- The relation between the fields of a seat or a board and their models.
 use Rattle.std.specs.Prelude.{◌≡◌, ℕ, ◌+◌, ◌-◌, ◌<◌, ◌≤◌, ◌^◌, Bool, true, cond, List, [], ◌∷◌, ◌++◌, map, drop, length, slice_index, Option, None}
 use Rattle.apply_board.specs.declared.view.View.{View}
 use Rattle.apply_board.specs.declared.group.Group.{Group}
@@ -6,11 +6,11 @@ use Rattle.apply_board.specs.Sitting.{BoardId, Sitting}
 use Rattle.apply_board.specs.Board.{Moment}
 
 module _ {W F : Type 0} where
-  -- the slots that a seat holds: those of the numbers that it claimed and didn't give, emptied
+  -- The slots that a seat holds: those of the numbers that it claimed and didn't give, emptied.
   abbrev pub held_by : View W F → List (ℕ × Option (Group W F))
   held_by v = map (λ k. (k, None)) (drop (length v.given) v.claimed)
 
-  -- a seat that was not taken in: the fields say what its view does, and it had this view at some moment
+  -- A seat that wasn't joined: the fields agree with its view, and it had this view at some moment.
   pub record IsSitting (gives : W → F → Type 0) (slots : ℕ) (v : View W F) (hand : List (ℕ × Option (Group W F)))
       (spent : Bool) (made : ℕ) : Type 0 where
     pub seated : v.seated ≡ true
@@ -23,7 +23,7 @@ module _ {W F : Type 0} where
     pub history : Moment gives v
 
 module _ {W F : Type 0} where
-  -- what the opener's seat v knows once this seat was taken in, which took in none itself
+  -- The opener's view v after this seat, into which none was joined, was joined into it.
   abbrev pub with_sitting : View W F → Sitting W F → View W F
   with_sitting v seat = record v {
     gathered = v.gathered ++ seat.view.given;
@@ -31,12 +31,12 @@ module _ {W F : Type 0} where
     unjoined = v.unjoined - 1;
   }
 
-  -- and once these were, one after the other
+  -- The same after these seats were joined, one after the other.
   abbrev pub with_sittings : View W F → List (Sitting W F) → View W F
   with_sittings v [] = v
   with_sittings v (seat ∷ seats) = with_sittings (with_sitting v seat) seats
 
--- there is a word more than slots, and room to list what lies in these
+-- There is one more word than slots, and capacity to list the contents of the slots.
 pub record IsRoomy {A : Type 0} (board : BoardId) (groups : List A) (capacity : ℕ) : Type 0 where
   pub empty : groups ≡ []
   pub room : board.slots ≤ capacity

@@ -1,4 +1,4 @@
--- What a draft of a batch holds.
+-- The state of a draft of a batch.
 use Rattle.std.specs.Prelude.{◌≡◌, List, length, map}
 use Rattle.std.specs.List.{zip}
 use Rattle.std.specs.BTreeMap.{get_by_text}
@@ -8,15 +8,14 @@ use Rattle.data_tree.specs.Commuting.{GroupedTxn}
 use Rattle.batcher.specs.declared.draft.Draft.{Draft}
 use Rattle.batcher.specs.Groups.{group_with, txn_groups_of}
 
--- its transactions
 abbrev pub txns_in : Draft → List Txn
 txns_in draft = map (λ t. t.now) draft.txns.items
 
--- with their groups
+-- The transactions with their groups.
 abbrev pub tagged_in : Draft → List GroupedTxn
 tagged_in draft = zip draft.numbers.items (txns_in draft)
 
--- the groups, and what is kept to find them, are those of its transactions
+-- The groups, and the index that finds them, are those of its transactions.
 pub record IsDraft (draft : Draft) : Type 0 where
   pub numbers : length draft.numbers.items ≡ length (txns_in draft)
   pub owners : (path : Bytes) → get_by_text draft.owners path ≡ group_with (tagged_in draft) path

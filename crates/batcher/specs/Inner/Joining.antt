@@ -1,4 +1,4 @@
--- A transaction that comes into a group.
+-- A transaction that gets a group.
 use Rattle.std.specs.Prelude.{ℕ, zero, suc, List, [], ◌∷◌, ◌++◌, Option, Some, None, ◌==◌, if◌then◌else◌}
 use Rattle.std.specs.FinSet as set
 use Rattle.ephemerals.specs.Orders.{Bytes}
@@ -6,30 +6,30 @@ use Rattle.batcher.specs.Class.{TxnGroup, empty_group}
 use Rattle.batcher.specs.declared.met.Met.{Met}
 use Rattle.batcher.specs.declared.met.Met.TheVariants.{Nothing, Group, Several}
 
--- the group gains the transaction at the place, with these paths
+-- The group with the transaction at the place, and with these paths.
 abbrev pub with_txn_at : TxnGroup → ℕ → List Bytes → TxnGroup
 with_txn_at class place paths =
     record { members = class.members ++ place ∷ []; paths = set.union class.paths (set.from_list paths) }
 
--- the group of this number gains a transaction; behind the last group it is a new one
+-- The group of this number gets a transaction; a number after the last group's makes a new group.
 abbrev pub with_member : List TxnGroup → ℕ → ℕ → List Bytes → List TxnGroup
 with_member [] k place paths = with_txn_at empty_group place paths ∷ []
 with_member (c ∷ cs) zero place paths = with_txn_at c place paths ∷ cs
 with_member (c ∷ cs) (suc k) place paths = c ∷ with_member cs k place paths
 
--- what was met, and what has one path more
+-- The groups met so far, and the owner of one more path.
 abbrev pub met_with : Met → Option ℕ → Met
 met_with met None = met
 met_with Nothing (Some k) = Group k
 met_with (Group j) (Some k) = if k == j then Group j else Several
 met_with Several (Some k) = Several
 
--- what was met, and what has each of the paths
+-- The groups met so far, and the owner of each of the paths.
 abbrev pub all_met : (Bytes → Option ℕ) → Met → List Bytes → Met
 all_met owner met [] = met
 all_met owner met (p ∷ ps) = all_met owner (met_with met (owner p)) ps
 
--- the group that was met, or a new one; nothing, where several were met
+-- The group that was met, or a new one; nothing if several were met.
 abbrev pub met_group : ℕ → Met → Option ℕ
 met_group new Nothing = Some new
 met_group new (Group k) = Some k

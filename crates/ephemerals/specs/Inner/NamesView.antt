@@ -1,4 +1,4 @@
--- What a sorted list of texts stands for.
+-- The model of a sorted list of texts.
 use Rattle.std.specs.Prelude.{List, map, string_bytes}
 use Rattle.std.specs.FinSet as set
 use Rattle.std.specs.declared.string.String.{String}

@@ -1,4 +1,4 @@
--- What the sets of paths by session stand for.
+-- The model of the sets of paths by session.
 use Rattle.std.specs.Prelude.{ℤ, List, [], ◌∷◌, ◌++◌, map}
 use Rattle.std.specs.FinSet as set
 use Rattle.ephemerals.specs.Orders.{Bytes, Names, OwnerPairs}

@@ -1,4 +1,4 @@
--- What the sets of sessions by path stand for.
+-- The model of the sets of sessions by path.
 use Rattle.std.specs.Prelude.{ℤ, List, map}
 use Rattle.std.specs.Ordering.{int_cmp}
 use Rattle.std.specs.FinMap as finmap
@@ -7,11 +7,11 @@ use Rattle.std.specs.declared.string.String.{String}
 use Rattle.ephemerals.specs.Orders.{Bytes, path_cmp, OwnerPairs, SessionIds}
 use Rattle.ephemerals.specs.Grouped as grouped
 
--- pairs of a path and a session
+-- Pairs of a path and a session.
 abbrev pub PathPairs : Type 0
 PathPairs = set.FinSet (grouped.pair_cmp path_cmp int_cmp)
 
--- the session before the path
+-- The session before the path.
 abbrev pub swapped_pairs : PathPairs → OwnerPairs
 swapped_pairs pairs = set.from_list (map (λ (p : Bytes × ℤ). (p.1, p.0)) (set.items pairs))
 

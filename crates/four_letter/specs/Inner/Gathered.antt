@@ -11,32 +11,32 @@ use Rattle.four_letter.specs.Texts.{session_line}
 use Rattle.four_letter.specs.declared.figures.WatchRow.{WatchRow}
 use denote.Ref.{Bor}
 
--- paths, each with its sessions
+-- Paths, each with its sessions.
 abbrev pub SessionsByPath : Type 0
 SessionsByPath = List (Bytes × List ℤ)
 
--- the entries of a map
+-- The entries of a map.
 abbrev pub sessions_by_path : List (Bor (List ℕ) × BTreeSet ℤ) → SessionsByPath
 sessions_by_path entries = map (λ (e : Bor (List ℕ) × BTreeSet ℤ). (e.0.now, e.1.keys)) entries
 
--- the path of the watch has one more session, and all else stays
+-- The path of the watch has one more session, and everything else stays.
 abbrev pub AddsSession : WatchRow → SessionsByPath → SessionsByPath → Type 0
 AddsSession row old new =
     (q : Bytes) → find path_cmp q new
     ≡ (if eq_by_cmp path_cmp q row.path
     then Some (insert_key int_cmp (unwrap_or (find path_cmp row.path old) []) row.session) else find path_cmp q old)
 
--- the session of each row of the path
+-- The session of each row of the path.
 abbrev pub sessions_on : Bytes → List WatchRow → List ℤ
 sessions_on path rows =
     map (λ (r : WatchRow). r.session) (filter (λ (r : WatchRow). same_path path r.path) rows)
 
--- sessions in order, where there are any
+-- The sessions in order, if there are any.
 abbrev pub sorted_sessions : List ℤ → Option (List ℤ)
 sorted_sessions [] = None
 sorted_sessions (session ∷ sessions) = Some (sorted_distinct int_cmp (session ∷ sessions))
 
--- at each path stand its sessions
+-- Each path has its sessions.
 abbrev pub GathersSessions : List WatchRow → SessionsByPath → Type 0
 GathersSessions rows all = (q : Bytes) → find path_cmp q all ≡ sorted_sessions (sessions_on q rows)
 

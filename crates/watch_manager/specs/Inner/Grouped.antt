@@ -1,4 +1,4 @@
--- Watches, kept as a set for each path and for each connection.
+-- Watches, stored as a set for each path and for each connection.
 use Rattle.std.specs.Prelude.{◌≡◌, ℕ, List, [], ◌∷◌, not}
 use Rattle.std.specs.declared.string.String.{String}
 use Rattle.std.specs.Ordering.{nat_cmp}
@@ -8,7 +8,7 @@ use Rattle.ephemerals.specs.Orders.{Bytes, path_cmp, Names}
 pub use Rattle.ephemerals.specs.Grouped.{pair_cmp, pairs_of, by_bytes}
 use Rattle.watch_manager.specs.Pairs.{ConnectionSet, WatchPairs, same_connection}
 
--- pairs of a connection and a path
+-- Pairs of a connection and a path.
 abbrev pub ConnPairs : Type 0
 ConnPairs = set.FinSet (pair_cmp nat_cmp path_cmp)
 
@@ -18,21 +18,21 @@ conn_pairs es = pairs_of (finmap.from_entries {R = nat_cmp} es)
 abbrev pub watch_pairs_of : {Z : Type 0} → List (String Z × ConnectionSet) → WatchPairs
 watch_pairs_of es = pairs_of (finmap.from_entries {R = path_cmp} (by_bytes es))
 
--- the same watches, by path and by connection
+-- Both hold the same watches, one by path and one by connection.
 abbrev pub AgreeOn : WatchPairs → ConnPairs → Type 0
 AgreeOn by_path by_conn =
     (path : Bytes) (conn : ℕ) → set.contains by_path (path, conn) ≡ set.contains by_conn (conn, path)
 
--- without the path at each of the connections
+-- Without the path at each of the connections.
 abbrev pub without_conns : Bytes → List ℕ → ConnPairs → ConnPairs
 without_conns path [] pairs = pairs
 without_conns path (conn ∷ conns) pairs = without_conns path conns (set.remove pairs (conn, path))
 
--- without the connection at each of the paths
+-- Without the connection at each of the paths.
 abbrev pub without_watched_paths : ℕ → List Bytes → WatchPairs → WatchPairs
 without_watched_paths conn [] pairs = pairs
 without_watched_paths conn (path ∷ paths) pairs = without_watched_paths conn paths (set.remove pairs (path, conn))
 
--- without the pairs of the connection
+-- Without the pairs of the connection.
 abbrev pub without_key : ℕ → ConnPairs → ConnPairs
 without_key conn pairs = set.retain pairs (λ (p : ℕ × Bytes). not (same_connection conn p.0))

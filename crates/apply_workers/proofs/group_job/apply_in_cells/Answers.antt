@@ -6,7 +6,7 @@ use Rattle.apply_workers.proofs.Loops.{goes_on, moved_on, next_place}
 use Rattle.apply_workers.proofs.Stopping.{stopped_at_once, one_more, stopped_there}
 use Rattle.apply_workers.proofs.group_job.apply_in_cells.Goals as goal
 
--- where the call answers no Ok it is refused
+-- A call that doesn't return Ok is refused.
 refused : {A E P : Type 0} (r : Result A E) → ((a : A) → r ≡ Ok a → ⊥) → OnErr r P → P
 refused (Ok a) not left = absurd (not a refl)
 refused (Err e) not left = left

@@ -4,7 +4,7 @@ use Rattle.auditing.specs.Auditing.{EndsAudit}
 use Rattle.auditing.proofs.Feeding.{ends_kept}
 use Rattle.auditing.proofs.auditing.audit.Goals as goal
 
--- what was read is the text, and flushing keeps what was printed
+-- The bytes that were read are the text, and flushing keeps the output.
 pub returns-in-Ok : goal.returns-in-Ok
 returns-in-Ok g c =
     let old = g.W.Write.contents c.args.writer.now in

@@ -4,7 +4,7 @@ use Rattle.client_service.specs.Serve.{serve_all, frames_of_client}
 use Rattle.client_service.proofs.Steps.{SoFar}
 use Rattle.client_service.proofs.client.serve_all.Given as goal
 
--- what is left to serve leads to what was to be served
+-- Serving what is left completes what was to be served.
 abbrev pub invariant-frame : goal.invariant-frame
 invariant-frame l =
     SoFar l.fn.outputs.items (serve_all l.serving l.number l.fn.world

@@ -3,7 +3,7 @@ use Rattle.std.specs.Vec.Iter.{into_iter_items}
 use Rattle.client_service.specs.Serve.{watch_row_of, watch_rows}
 use Rattle.client_service.proofs.word.watch_rows.Given as goal
 
--- the rows so far, and those of the watches that are left, are all
+-- The rows so far, and those of the watches that are left, are all the rows.
 abbrev pub invariant-loop-watched : goal.invariant-loop-watched
 invariant-loop-watched l =
     (goal.iterator-loop-watched).can_next l.watched-iterator

@@ -4,7 +4,7 @@ use Rattle.observer_core.specs.Leader.{item_step, take_items}
 use Rattle.client_service.proofs.Steps.{SoFar}
 use Rattle.observer_core.proofs.leader.drain.Given as goal
 
--- what is left to deliver leads to what was to be delivered
+-- Delivering what is left completes what was to be delivered.
 abbrev pub invariant-loop-item : goal.invariant-loop-item
 invariant-loop-item l =
     SoFar l.fn.outputs.items (take_items item_step (record { loading = l.fn.loader; world = l.fn.world })

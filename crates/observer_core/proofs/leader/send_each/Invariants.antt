@@ -3,7 +3,7 @@ use Rattle.observer_core.specs.Leader.{to_leader}
 use Rattle.client_service.proofs.Steps.{SoFar, putting}
 use Rattle.observer_core.proofs.leader.send_each.Given as goal
 
--- what is left to send leads to what was to be sent
+-- Sending what is left completes what was to be sent.
 abbrev pub invariant-loop-packet : goal.invariant-loop-packet
 invariant-loop-packet l =
     SoFar l.fn.outputs.items (putting (map to_leader l.packets)) l.outputs.items

@@ -5,7 +5,7 @@ use Rattle.std.specs.Io.KnownBytes.{Appends}
 use Rattle.replay.specs.Lines.{output_line}
 use Rattle.replay.proofs.replaying.print_outputs.Goals as goal
 
--- the lines so far were written
+-- The lines so far were written.
 pub returns-in_err-print_output-clause-no_memory :
     goal.returns-in_err-print_output-clause-no_memory
 returns-in_err-print_output-clause-no_memory g c =

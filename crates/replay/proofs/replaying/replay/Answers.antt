@@ -3,7 +3,7 @@ use Rattle.replay.specs.Replay.{EndsReplay}
 use Rattle.replay.proofs.Printing.{ends_kept, if_some}
 use Rattle.replay.proofs.replaying.replay.Goals as goal
 
--- what was read is the text, and flushing keeps what was printed
+-- The bytes that were read are the text, and flushing keeps the output.
 pub returns-in-Ok : goal.returns-in-Ok
 returns-in-Ok g c =
     let old = g.W.Write.contents c.args.writer.now in

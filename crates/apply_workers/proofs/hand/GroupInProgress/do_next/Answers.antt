@@ -4,7 +4,7 @@ use Rattle.apply_workers.specs.Hands.{GroupProgress, group_state_of}
 use Rattle.apply_workers.proofs.Shown.{took_next}
 use Rattle.apply_workers.proofs.hand.GroupInProgress.do_next.Goals as goal
 
--- what was done is the next transaction of the group k
+-- The transaction that was applied is the next one of group k.
 took : (c : goal.In_ok-push) (k : ℕ)
     → (true ≡ has_work c.args.worker (group_state_of c.args.txns.now k c.args.group.now c.args.self.now))
     × (group_state_of c.args.txns.now k c.args.group.now

@@ -5,7 +5,7 @@ use Rattle.data_tree.specs.Whole.{IsWhole}
 use Rattle.data_tree.proofs.Placing.{each_ok}
 use Rattle.data_tree.proofs.tree.Tree.is_whole.Goals as goal
 
--- where all else is right, nodes and names decide
+-- Where everything else is valid, the links between nodes and names decide.
 whole_by_links : (s : State) → has_node s.nodes (codes "/") ≡ true → AreNamed s.nodes → AreOwned s.nodes s.pairs
     → (linked : Bool) → (IsTrue linked ↔ AreLinked s.nodes) → (IsTrue linked ↔ IsWhole s)
 whole_by_links s root named owners linked links = (

@@ -14,7 +14,7 @@ use Rattle.ephemerals.proofs.PathMaps.{seen, get-seen, seen-insert}
 use Rattle.ephemerals.proofs.PathSets.{insert_through, insert_first}
 use Rattle.ephemerals.proofs.by_path.ByPath.insert.Goals as goal
 
--- the set of a path that was written back as it was
+-- The set of a path, written back unchanged.
 kept : {Z : Type 0} (m n : BTreeMap (String Z) SessionIds) (path : Bytes) (old new : SessionIds)
     → n.entries ≡ set_value (query path) m.entries new → Some old ≡ lookup (query path) m.entries → new ≡ old
     → path_pairs n.entries ≡ path_pairs m.entries

@@ -14,7 +14,7 @@ use Rattle.ephemerals.proofs.PairSets.{pairs-insert_through, pairs-insert_first,
 use Rattle.std.proofs.lemmas.Bool.{not-false, not-true}
 use Rattle.ephemerals.proofs.by_session.BySession.insert.Goals as goal
 
--- the set of a session that was written back as it was
+-- The set of a session, written back unchanged.
 kept : (m n : BTreeMap ℤ Names) (k : ℤ) (old new : Names) → n.entries ≡ set_value (is_at (int_cmp k)) m.entries new
     → Some old ≡ tree.get int_cmp m k → new ≡ old → pairs_of n.entries ≡ pairs_of m.entries
 kept m n k old new written found is =

@@ -6,7 +6,7 @@ use Rattle.ephemerals.specs.Orders.{Bytes, OwnerPairs}
 use Rattle.ephemerals.proofs.Totals.{pair_total, pair_exact}
 use Rattle.ephemerals.proofs.owners.Ephemerals.insert.Goals as goal
 
--- what was added at a key that is the path, and taken out at the path again
+-- A pair that was added at a key that is the path, and removed at the path again.
 undone : (k : ℤ) (key path : Bytes) (old added new : OwnerPairs) → key ≡ path → set.contains old (k, key) ≡ false
     → added ≡ set.insert old (k, key) → new ≡ set.remove added (k, path) → new ≡ old
 undone k key path old added new is none put out =

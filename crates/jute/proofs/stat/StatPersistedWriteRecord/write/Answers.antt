@@ -6,7 +6,7 @@ use Rattle.jute.specs.declared.stat.StatPersisted.{StatPersisted}
 use Rattle.jute.proofs.Writing.{fails}
 use Rattle.jute.proofs.stat.StatPersistedWriteRecord.write.Goals as goal
 
--- the fields in the groups in which they are written
+-- The fields in the groups in which they are written.
 grouped : (s : StatPersisted) → four_longs s.czxid s.mzxid s.ctime
     s.mtime ++ (three_ints s.version s.cversion s.aversion
     ++ (long.written s.ephemeral_owner ++ long.written s.pzxid)) ≡ stat_persisted.written s

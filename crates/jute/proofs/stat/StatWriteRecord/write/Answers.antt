@@ -6,7 +6,7 @@ use Rattle.jute.specs.declared.stat.Stat.{Stat}
 use Rattle.jute.proofs.Writing.{fails}
 use Rattle.jute.proofs.stat.StatWriteRecord.write.Goals as goal
 
--- the fields in the groups in which they are written
+-- The fields in the groups in which they are written.
 grouped : (s : Stat) → four_longs s.czxid s.mzxid s.ctime s.mtime ++ (three_ints s.version s.cversion s.aversion
     ++ (long.written s.ephemeral_owner ++ (int.written s.data_length ++ (int.written s.num_children ++ long.written
     s.pzxid)))) ≡ stat_format.written s

@@ -6,7 +6,7 @@ use Rattle.settings.proofs.Making.{made}
 use Rattle.client_service.specs.declared.world.Settings.{Settings}
 use Rattle.observer_core.proofs.config.Config.new.Goals as goal
 
--- numbers are passed by their bits
+-- Signed numbers are passed as their bits.
 two_passed : {A : Type 0} (r : Option A) (f : ℤ → ℤ → Option A) (a b : ℤ) → FitsSigned w32 a → FitsSigned w32 b
     → r ≡ f (to_z w32 (of_z w32 a)) (to_z w32 (of_z w32 b)) → r ≡ f a b
 two_passed r f a b fits fits' e = e ∙ ap (λ n. f n (to_z w32 (of_z w32 b))) (to_z-of_z fits)

@@ -4,7 +4,7 @@ use Rattle.quorum_packet.specs.Feed.{unread_len}
 use Rattle.quorum_packet.specs.Items.{items_shown_at}
 use Rattle.quorum_packet.proofs.feed.PacketFeed.next.Given as goal
 
--- what is shown from here on is what is shown from the start
+-- The items from here on are the items from the start.
 abbrev pub invariant-loop-item : goal.invariant-loop-item
 invariant-loop-item l = record {
   same : items_shown_at l.self ≡ items_shown_at l.fn.self;

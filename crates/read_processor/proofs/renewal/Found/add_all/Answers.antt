@@ -5,7 +5,7 @@ use Rattle.std.proofs.lemmas.List.Elements.{filter_map-append}
 use Rattle.read_processor.specs.Renewal.{event_at, kept_watch_at}
 use Rattle.read_processor.proofs.renewal.Found.add_all.Goals as goal
 
--- what the item at i gives is added, and the items behind it are left
+-- The result for item i is added, and the items after it are left.
 one_more : {A B : Type 0} (gives : A → Option B) (xs : List A) (i : ℕ) (x : A) (old new : List B)
     → i < length xs → x ≡ get_or xs i x → new ≡ old ++ filter_map gives (x ∷ [])
     → new ++ filter_map gives (drop (i + 1) xs) ≡ old ++ filter_map gives (drop i xs)

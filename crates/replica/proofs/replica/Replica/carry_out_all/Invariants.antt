@@ -5,7 +5,7 @@ use Rattle.replica.specs.Inner.{IsPartAlone}
 use Rattle.replica.proofs.Carrying.{Kept}
 use Rattle.replica.proofs.replica.Replica.carry_out_all.Given as goal
 
--- what is left to do leads to what was to be done, and no part is left behind the first act
+-- Doing the acts that are left completes what was to be done, and no part is left after the first act.
 abbrev pub invariant-loop-act : goal.invariant-loop-act
 invariant-loop-act l =
     record {

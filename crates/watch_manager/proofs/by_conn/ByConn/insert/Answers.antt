@@ -15,7 +15,7 @@ use Rattle.watch_manager.proofs.ConnMaps.{seen, get-seen, seen-insert}
 use Rattle.ephemerals.proofs.Grouped.{insert_through, insert_first}
 use Rattle.watch_manager.proofs.by_conn.ByConn.insert.Goals as goal
 
--- the set of a connection that was written back as it was
+-- The set of a connection, written back unchanged.
 kept : (m n : BTreeMap ℕ Names) (k : ℕ) (old new : Names) → n.entries ≡ set_value (is_at (nat_cmp k)) m.entries new
     → Some old ≡ tree.get nat_cmp m k → new ≡ old → conn_pairs n.entries ≡ conn_pairs m.entries
 kept m n k old new written found is =

@@ -17,7 +17,7 @@ use Rattle.ephemerals.proofs.PathMaps.{seen, get-seen, seen-insert}
 use Rattle.ephemerals.proofs.Grouped.{insert_through, insert_first, contains-found}
 use Rattle.watch_manager.proofs.by_path.ByPath.insert.Goals as goal
 
--- the set of a path that was written back as it was
+-- The set of a path, written back unchanged.
 kept : {Z : Type 0} (m n : BTreeMap (String Z) ConnectionSet) (path : Bytes) (old new : ConnectionSet)
     → n.entries ≡ set_value (query path) m.entries new → Some old ≡ lookup (query path) m.entries → new ≡ old
     → watch_pairs_of n.entries ≡ watch_pairs_of m.entries
