@@ -11,8 +11,7 @@ use Rattle.jute.specs.Frame.{frame_format}
 use Rattle.jute.specs.Laws.{IsBytes}
 use Rattle.jute.specs.Stream.{items_in, place_at, with_first, no_items, Items, Unread}
 use Rattle.jute.proofs.Public.{items_whole, items_short, items_refused, shorter_rest, refused_other}
-use Rattle.four_letter.specs.declared.word.Word.{Word}
-use Rattle.client_service.specs.World.{OpenConnection, OpenConnections, World}
+use Rattle.client_service.specs.World.{OpenConnection, World}
 use Rattle.client_service.specs.Steps.{StepResult, prepend_outputs, no_output, and_then, fold_steps}
 use Rattle.client_service.specs.Serve.{close_client, serve_frame, serve_all, word_at, is_closed, wait_if_open, wait_at, tell_or_serve, take_client_bytes, frames_of_client, client_frame_limit}
 use Rattle.client_service.specs.Inner.{rest_at, with_rest}
@@ -62,7 +61,7 @@ closed_is n w e = ap not e
 pub open_is : (n : ℕ) (w : World) → finmap.contains_key w.clients.connections n ≡ true → is_closed n w ≡ false
 open_is n w e = ap not e
 
-none_of : {A : Type 0} (o : Option A) → is_some o ≡ false → o ≡ None
+pub none_of : {A : Type 0} (o : Option A) → is_some o ≡ false → o ≡ None
 none_of None e = refl
 none_of (Some x) e = absurd (true≢false e)
 
@@ -138,26 +137,3 @@ module _ (serving : Bool) (n : ℕ) (w : World) (o : Option OpenConnection) (byt
       by (Some k) e = ap (λ (x : Option (List ℕ)). tell_or_serve serving n
           (record w { clients = record w.clients { connections = with_rest w.clients.connections n (Some k) [] } })
           (unwrap_or x [] ++ bytes) (word_at n w (unwrap_or x [] ++ bytes))) e
-
--- The waiting bytes are taken out of the connection and joined with those that come.
-pub taken_to_hand : (serving : Bool) (n : ℕ) (u w : World) → u ≡ w → (waiting came seen bytes none : List ℕ)
-    (left : OpenConnections) (o : Option Word) →
-    let open_ = u.clients.connections in
-    let v : World = record u { clients = record u.clients { connections = left } } in
-    Some waiting ≡ rest_at (finmap.get open_ n) → left ≡ with_rest open_ n (finmap.get open_ n) none → none ≡ []
-    → came ≡ waiting ++ bytes → seen ≡ came → o ≡ word_at n v seen
-    → take_client_bytes serving n w (finmap.get w.clients.connections n) bytes ≡ tell_or_serve serving n v came o
-taken_to_hand serving n u w is waiting came seen bytes none left o was now empty joined all says =
-    ap (λ (x : World). take_client_bytes serving n x (finmap.get x.clients.connections n) bytes) (sym is)
-    ∙ at_open serving n u (finmap.get open_ n) bytes waiting (sym was)
-    ∙ ap (λ (k : OpenConnections). tell_or_serve serving n (with_open k) (waiting ++ bytes)
-    (word_at n u (waiting ++ bytes)))
-    (sym (now ∙ ap (with_rest open_ n (finmap.get open_ n)) empty))
-    ∙ ap (λ (b : List ℕ). tell_or_serve serving n (with_open left) b (word_at n (with_open left) b)) (sym joined)
-    ∙ ap (tell_or_serve serving n (with_open left) came) (sym (says ∙ ap (word_at n (with_open left)) all))
-  where
-    open_ : OpenConnections
-    open_ = u.clients.connections
-
-    with_open : OpenConnections → World
-    with_open k = record u { clients = record u.clients { connections = k } }

@@ -5,6 +5,7 @@ use Rattle.values.specs.Gains.{Gains}
 use Rattle.values.proofs.Gaining.{gains_first, gains_behind}
 use Rattle.client_service.specs.declared.output.Output.{Output}
 use Rattle.values.specs.declared.fault.NoMemory.{NoMemory}
+pub use Rattle.client_service.specs.Results.{SoFar}
 use Rattle.client_service.specs.Results.{MeetsStep}
 use Rattle.client_service.specs.Steps.{StepResult, prepend_outputs, no_output, and_then, fold_steps}
 
@@ -42,13 +43,6 @@ module _ {S A : Type 0} (is_end : S → Bool) (step : S → A → StepResult S) 
           (run (step s a).after xs).outputs (run (run (step s a).after xs).after ys)
 
 -- ---- what a loop keeps
-
--- `SoFar`: the outputs so far are a prefix of the whole, and `left` leads to the rest.
-pub record SoFar {S : Type 0} (old : List Output) (whole : StepResult S) (now : List Output)
-    (left : StepResult S) : Type 0 where
-  pub front : List Output
-  pub put : now ≡ old ++ front
-  pub leads : prepend_outputs front left ≡ whole
 
 module _ {S : Type 0} where
   pub begins : (old : List Output) (whole : StepResult S) → SoFar old whole old whole

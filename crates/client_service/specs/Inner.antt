@@ -1,11 +1,22 @@
 -- The contracts of the private functions. No public contract cites this.
-use Rattle.std.specs.Prelude.{◌≡◌, ℕ, List, Result, Ok, Err, Option, Some, None, length, drop, ◌<◌, ◌≤◌}
+use Rattle.std.specs.Prelude.{◌≡◌, ℕ, ℤ, List, Result, Ok, Err, Option, Some, None, Bool, length, drop, ◌<◌, ◌≤◌, if◌then◌else◌}
 use Rattle.std.specs.FinMap as finmap
 use Rattle.std.specs.Borrow.{Bor}
 use Rattle.values.specs.declared.fault.Fault.{Fault}
+use Rattle.sessions.specs.Sessions.{session_of_connection}
+use Rattle.four_letter.specs.declared.word.Word.{Word}
+use Rattle.client_frames.specs.Call.{call_in}
+use Rattle.client_frames.specs.declared.call.CallBody.TheVariants as bodies
+use Rattle.read_processor.specs.declared.request.Request.{Request}
+use Rattle.read_processor.specs.declared.request.Request.TheVariants as requests
 use Rattle.jute.specs.Stream.{place_at, items_in, with_first, no_items}
-use Rattle.client_service.specs.World.{OpenConnection, OpenConnections}
-use Rattle.client_service.specs.Serve.{frames_of_client}
+use Rattle.client_service.specs.declared.asked.ReadKind.{ReadKind}
+use Rattle.client_service.specs.declared.asked.ReadKind.TheVariants.{Exists, GetData, GetAcl, GetChildren, GetChildren2}
+use Rattle.client_service.specs.World.{OpenConnection, OpenConnections, World}
+use Rattle.client_service.specs.Steps.{StepResult, no_output}
+use Rattle.client_service.specs.Clients.{is_open}
+use Rattle.client_service.specs.Serve.{frames_of_client, close_client, tell_word}
+use Rattle.client_service.specs.Runs.{AskedRead}
 
 -- The first frame and the bytes that it takes; or no frame is complete; or its length is out of bounds.
 abbrev pub IsFirstFrame : Result (Option (Bor (List ℕ) × ℕ)) Fault → List ℕ → Type 0
@@ -26,3 +37,33 @@ rest_at (Some connection) = Some connection.rest
 abbrev pub with_rest : OpenConnections → ℕ → Option OpenConnection → List ℕ → OpenConnections
 with_rest connections n None rest = connections
 with_rest connections n (Some connection) rest = finmap.insert connections n (record connection { rest = rest })
+
+abbrev pub world_with_rest : ℕ → List ℕ → World → World
+world_with_rest n rest w = record w {
+  clients = record w.clients {
+    connections = with_rest w.clients.connections n (finmap.get w.clients.connections n) rest;
+  };
+}
+
+-- The request of this type. A getACL leaves no watch.
+abbrev pub request_of : ReadKind → Option (List ℕ) → Bool → Request
+request_of Exists path watch = requests.Exists (record { path = path; watch = watch })
+request_of GetData path watch = requests.GetData (record { path = path; watch = watch })
+request_of GetAcl path watch = requests.GetAcl (record { path = path })
+request_of GetChildren path watch = requests.GetChildren (record { path = path; watch = watch })
+request_of GetChildren2 path watch = requests.GetChildren2 (record { path = path; watch = watch })
+
+-- The read that a frame asks for, of a connection that has a session.
+pub record IsReadIn (n : ℕ) (w : World) (frame : List ℕ) (read : AskedRead) : Type 0 where
+  pub session : ℤ
+  pub joined : session_of_connection w.clients.sessions n ≡ Some session
+  pub asked : call_in frame ≡ Ok (record { xid = read.xid; body = bodies.Read read.request })
+  pub number : read.number ≡ n
+
+-- ---- after the reads that wait were answered, which may have closed the connection
+
+abbrev pub close_if_open : ℕ → World → StepResult World
+close_if_open n w = if is_open n w.clients then close_client n w else no_output w
+
+abbrev pub tell_if_open : Bool → ℕ → Word → World → StepResult World
+tell_if_open serving n word w = if is_open n w.clients then tell_word serving n w word else no_output w

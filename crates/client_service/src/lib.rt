@@ -29,21 +29,27 @@
 //! ```
 #![tactic(auto)]
 
+mod asked;
 mod client;
 mod clients;
 mod connections;
 mod joining;
+mod law;
 mod notice;
 mod output;
 mod reading;
 mod sending;
 mod session;
+mod settling;
 mod word;
 mod world;
 
+pub use asked::AskedRead;
 pub use client::{CLIENT_FRAME_LIMIT, end_client, open_client, take_client_bytes};
 pub use clients::Clients;
+pub use law::runs_of_reads;
 pub use notice::notify_each;
 pub use output::Output;
 pub use session::expire_session;
+pub use settling::settle_reads;
 pub use world::{Settings, World};

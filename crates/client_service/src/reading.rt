@@ -2,21 +2,24 @@
 //!
 //! Laws of `observer_core` that go over this: `Agreeing`, `Apart`, `Closing`, `Passing`, `Taking`, `Unmoved`.
 
-ghost use Rattle.std.specs.Prelude.{◌≡◌, OnOk, Some};
+ghost use Rattle.std.specs.Prelude.{◌≡◌, IfOk, IfSome, OnOk, Some};
 ghost use Rattle.read_processor.specs.Renewal.{renew_watches};
 ghost use Rattle.client_service.specs.Serve.{with_watch, with_each_watch, with_watch_if, with_watching, answer_read, answer_set_watches};
 ghost use Rattle.client_service.specs.Results.{MeetsStep};
+ghost use Rattle.client_service.specs.Inner.{IsReadIn};
 
+use crate::asked::AskedRead;
 use crate::notice::notify_all;
 use crate::output::Output;
 use crate::sending::{answer, answer_without_body};
 use crate::world::World;
+use client_frames::{Call, CallBody, read_call};
 use client_records::SetWatches;
 use client_records::codes::OK;
 use jute::codes::BAD_ARGUMENTS;
 use read_processor::{Renewal, Request, Watch, look, renew, watch_of};
 use std::alloc::Global;
-use values::NoMemory;
+use values::{NoMemory, ReadError};
 use watch_manager::Watches;
 
 // Sets a watch; it may be set already.
@@ -34,7 +37,8 @@ fn set_watch(
     }
 }
 
-fn set_watch_if(
+/// Sets a watch that a read leaves; does nothing for None.
+pub fn set_watch_if(
     alloc: Global,
     number: u64,
     watches: &mut Watches,
@@ -60,6 +64,36 @@ fn set_watches(
         set_watch(alloc, number, watches, watch)?;
     }
     Ok(())
+}
+
+fn read_of_call(alloc: Global, number: u64, call: &Call<'_>) -> Result<Option<AskedRead>, NoMemory>
+    ensures number { IfOk result (λ found. IfSome found (λ read. read.number ≡ number)) }
+    ensures call { IfOk result
+        (λ found. IfSome found (λ read. call.now ≡ record { xid = read.xid; body = CallBody.Read read.request })) }
+{
+    match &call.body {
+        CallBody::Read(request) => Ok(Some(AskedRead::of(alloc, number, call.xid, request)?)),
+        _ => Ok(None),
+    }
+}
+
+/// The read that a frame asks for; None if its connection has no session, or if it asks for anything else.
+pub fn read_in(
+    alloc: Global,
+    number: u64,
+    world: &World,
+    frame: &[u8],
+) -> Result<Option<AskedRead>, NoMemory>
+    ensures { IfOk result (λ found. IfSome found (IsReadIn number world.now frame.now)) }
+{
+    let Some(_session) = world.clients.sessions.session(number) else {
+        return Ok(None);
+    };
+    match read_call(alloc, frame) {
+        Ok(call) => read_of_call(alloc, number, &call),
+        Err(ReadError::NoMemory) => Err(NoMemory),
+        Err(ReadError::Fault(_)) => Ok(None),
+    }
 }
 
 /// Answers a read at the present state, and leaves its watch.

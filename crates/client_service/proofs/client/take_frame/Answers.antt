@@ -1,0 +1,29 @@
+use Rattle.std.proofs.Common.{ℕ, List, sym, ap, ◌∙◌}
+use Rattle.client_service.specs.Steps.{and_then}
+use Rattle.client_service.specs.Runs.{AskedRead, answer_all_asked, serve_if_open}
+use Rattle.client_service.proofs.Steps.{begins, same_left}
+use Rattle.client_service.proofs.Running.{settled_first}
+use Rattle.client_service.proofs.client.take_frame.Goals as goal
+
+pub returns-in-Some : goal.returns-in-Some
+returns-in-Some g c =
+    let is = rw c.in-Some.is at c.in_ok-read.ensures in
+    let asked = c.args.asked.now.items in
+    let w = c.args.world.now in
+    let whole = and_then (answer_all_asked asked w) (serve_if_open c.args.serving c.args.number c.args.frame.now) in
+    same_left c.args.outputs.now.items whole c.args.outputs.now.items whole
+    (answer_all_asked c.push.new.self.items w)
+    (ap (λ (n : ℕ). and_then (answer_all_asked asked w) (serve_if_open c.args.serving n c.args.frame.now))
+    (sym is.number)
+    ∙ c.runs_of_reads.ensures.waits c.args.serving asked w c.in-Some.read is.session c.args.frame.now
+    (rw is.number is.joined) is.asked
+    ∙ ap (λ (others : List AskedRead). answer_all_asked others w) (sym c.in_ok-push.ensures.items))
+    (begins c.args.outputs.now.items whole)
+
+pub returns : goal.returns
+returns g c =
+    settled_first c.serve_if_open.result c.args.outputs.now.items c.settle_reads.new.outputs.items
+    c.serve_if_open.new.outputs.items (answer_all_asked c.args.asked.now.items c.args.world.now)
+    (serve_if_open c.args.serving c.args.number c.args.frame.now) c.settle_reads.new.world
+    c.settle_reads.new.asked.items c.serve_if_open.new.world c.in_ok-settle_reads.ensures.answered
+    c.in_ok-settle_reads.ensures.none_left c.serve_if_open.ensures
