@@ -26,8 +26,10 @@ mod group;
 pub mod law;
 mod limits;
 mod met;
+mod threshold;
 
 pub use batch::Batch;
 pub use cutting::{cut, cut_front};
 pub use group::Group;
 pub use limits::{BadLimit, Limits};
+pub use threshold::SpreadThreshold;
