@@ -54,7 +54,8 @@ impl<'a> LentBatch<'a> {
 
     /// The groups, in the order in which they were opened.
     pub fn groups(&self) -> &'a [Group]
-        ensures { result.now ≡ groups_of self.now }
+        ensures groups { result.now ≡ groups_of self.now }
+        ensures batch { IsTrue (is_batch self.now) }
     {
         self.groups
     }
