@@ -1,3 +1,4 @@
+pub mod Asking
 pub mod Events
 pub mod Inner
 pub mod Limits

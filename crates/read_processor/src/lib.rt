@@ -4,6 +4,8 @@
 //! before it, and `Look::into_frame` fills the length and the header in there, so the only copy is the one out of the
 //! tree. specs/Look defines the answers, specs/Permissions who may read a node, and specs/Reply the frame.
 //!
+//! `look_each` answers several reads of one tree; an `Ask` is a read with the ids of its client (specs/Asking).
+//!
 //! A read may leave a watch, which `watch_of` returns (specs/Watch), and an event is sent in the same form as a reply
 //! (specs/Events). A client that reconnects sends the watches that it had; `renew` returns the events that it missed
 //! and the watches to set again (specs/Renewal).
@@ -22,6 +24,7 @@
 //! ```
 #![tactic(auto)]
 
+mod asking;
 mod bodies;
 mod body;
 mod counts;
@@ -33,6 +36,7 @@ mod request;
 mod shown;
 mod watch;
 
+pub use asking::{Ask, look_each};
 pub use body::Body;
 pub use law::worked_looks;
 pub use reads::look;
