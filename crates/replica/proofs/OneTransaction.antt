@@ -17,7 +17,8 @@ use Rattle.quorum_packet.specs.declared.kind.PacketKind.{PacketKind}
 use Rattle.quorum_packet.specs.declared.kind.PacketKind.TheVariants as kinds
 use Rattle.quorum_packet.specs.declared.packet.QuorumPacket.{QuorumPacket}
 use Rattle.learner_sync.specs.Learner.{Learner}
-use Rattle.learner_sync.specs.Learn.{LearnerStep, no_acts, single_act, carried_bytes, zxid_floor, with_applied, apply_txn, learn_inform, learn_proposal, commit_of, packet_in_hello, packet_in_sync, packet_in_replay, packet_in_serving, packet_in_phase, learn_item}
+use Rattle.learner_sync.specs.Learn.{LearnerStep, no_acts, single_act, zxid_floor, with_applied, apply_txn, learn_inform, learn_proposal, commit_of, message_in_hello, message_in_sync, message_in_replay, message_in_serving, message_in_phase, learn_item}
+use Rattle.learner_sync.specs.Messages.{carried_bytes, message_of_kind, message_of_packet}
 use Rattle.learner_sync.specs.declared.act.Act.{Act}
 use Rattle.learner_sync.specs.declared.act.Act.TheVariants as act
 use Rattle.learner_sync.specs.declared.phase.Phase.{Phase}
@@ -80,31 +81,31 @@ commit-one l (t ∷ others) zxid = by (int_eq t.header.zxid zxid)
 -- ---- each kind, in each phase
 
 module _ (l : Learner) (p : QuorumPacket) where
-  replay-one : (k : Option PacketKind) → is_kind_of_txns k ≡ true → Holds l (packet_in_replay k l p)
+  replay-one : (k : Option PacketKind) → is_kind_of_txns k ≡ true → Holds l (message_in_replay l (message_of_kind k p))
   replay-one (Some kinds.Inform) b = inform-one l (carried_bytes p.bytes)
   replay-one (Some kinds.Proposal) b = propose-one l (carried_bytes p.bytes)
   replay-one (Some kinds.Commit) b = commit-one l l.proposals p.zxid
   replay-one k b = cc b
 
-  serving-one : (k : Option PacketKind) → is_kind_of_txns k ≡ true → Holds l (packet_in_serving k l p)
+  serving-one : (k : Option PacketKind) → is_kind_of_txns k ≡ true → Holds l (message_in_serving l (message_of_kind k p))
   serving-one (Some kinds.Inform) b = inform-one l (carried_bytes p.bytes)
   serving-one (Some kinds.Proposal) b = same l l refl
   serving-one (Some kinds.Commit) b = same l l refl
   serving-one k b = cc b
 
-  hello-one : (k : Option PacketKind) → is_kind_of_txns k ≡ true → Holds l (packet_in_hello k l p)
+  hello-one : (k : Option PacketKind) → is_kind_of_txns k ≡ true → Holds l (message_in_hello l (message_of_kind k p))
   hello-one (Some kinds.Inform) b = tt
   hello-one (Some kinds.Proposal) b = tt
   hello-one (Some kinds.Commit) b = tt
   hello-one k b = cc b
 
-  sync-one : (k : Option PacketKind) → is_kind_of_txns k ≡ true → Holds l (packet_in_sync k l p)
+  sync-one : (k : Option PacketKind) → is_kind_of_txns k ≡ true → Holds l (message_in_sync l (message_of_kind k p))
   sync-one (Some kinds.Inform) b = tt
   sync-one (Some kinds.Proposal) b = tt
   sync-one (Some kinds.Commit) b = tt
   sync-one k b = cc b
 
-  packet-one : (h : Phase) → is_kind_of_txns (kind_of p.kind) ≡ true → Holds l (packet_in_phase h l p)
+  packet-one : (h : Phase) → is_kind_of_txns (kind_of p.kind) ≡ true → Holds l (message_in_phase h l (message_of_packet p))
   packet-one phase.Down b = same l l refl
   packet-one phase.Hello b = hello-one (kind_of p.kind) b
   packet-one phase.Sync b = sync-one (kind_of p.kind) b
