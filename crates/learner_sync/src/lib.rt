@@ -21,6 +21,7 @@ mod handshake;
 pub mod law;
 mod learner;
 mod logged;
+mod message;
 mod phase;
 mod record;
 mod replay;

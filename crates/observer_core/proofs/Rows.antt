@@ -212,12 +212,12 @@ one_packet p = record { found = item.Packet p ∷ []; left = place_at Packets []
 
 create_found : items_shown_at (place_at Packets inform_of_create) ≡ one_packet
     (packet_of (pos 4294967297) (txn_format.written create_txn))
-unfolding items_within packet_format kind_of judged_at buffer_at vector_at read_n number_bytes acl_format id_format
+unfolding items_within packet_format judged_at buffer_at vector_at read_n number_bytes acl_format id_format
 create_found = refl
 
 set_found : items_shown_at (place_at Packets inform_of_set_data)
     ≡ one_packet (packet_of (pos 4294967298) (txn_format.written set_txn))
-unfolding items_within packet_format kind_of judged_at buffer_at vector_at read_n number_bytes
+unfolding items_within packet_format judged_at buffer_at vector_at read_n number_bytes
 set_found = refl
 
 -- ---- the client's frames

@@ -1,7 +1,7 @@
 use Rattle.std.proofs.Common.{ap, ◌∙◌, subst, length}
 use Rattle.apply_board.specs.Closing.{AreHome}
 use Rattle.apply_workers.proofs.Crews.{ready_fits, back}
-use Rattle.apply_workers.proofs.crew.run.Goals as goal
+use Rattle.apply_workers.proofs.crew.run_on.Goals as goal
 
 pub run_workers-requires-after_bounds : goal.run_workers-requires-after_bounds
 run_workers-requires-after_bounds g c κs within = ready_fits _ _ c.in_ok-crew.crew.items c.in_ok-crew.ensures
