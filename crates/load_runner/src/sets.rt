@@ -45,7 +45,7 @@ impl Load {
         if is_read {
             self.ask(alloc, &path)?;
         }
-        let body = set_data(alloc, path)?;
+        let body = set_data(alloc, path, CONTENT)?;
         self.tell(alloc, body)
     }
 

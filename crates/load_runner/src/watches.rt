@@ -62,7 +62,7 @@ impl Load {
     // The leader sends a setData of a node.
     fn set_node(&mut self, alloc: Global, node: u32) -> Result<()> {
         let path = parent_path(alloc, node)?;
-        let body = set_data(alloc, path)?;
+        let body = set_data(alloc, path, CONTENT)?;
         self.tell(alloc, body)
     }
 
