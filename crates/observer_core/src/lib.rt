@@ -30,6 +30,7 @@
 mod config;
 mod engine;
 mod event;
+mod gathering;
 mod law;
 mod leader;
 mod machine;

@@ -16,7 +16,8 @@
 //! replica.end();                                                       // it has left, or an item was refused
 //! ```
 //!
-//! `specs/Taking.antt` and `specs/Gathering.antt` define what each call does, and the laws in `law` hold for every replica.
+//! `specs/Taking.antt` and `specs/Gathering.antt` define what each call does, and the laws in `law` hold for every
+//! replica.
 #![tactic(auto)]
 
 mod gathering;
