@@ -5,7 +5,7 @@ use Rattle.jute.specs.Owned.{acl_format}
 use Rattle.jute.specs.Laws.{IsSound}
 use Rattle.jute.proofs.Public.{int_sound, long_sound, boolean_sound, buffer_sound, text_sound, name_sound, acl_sound, stat_sound, null_vector_sound, both_sound, mapped_sound}
 use Rattle.client_records.specs.Fields.{names_format}
-use Rattle.client_records.specs.Requests.{connect_request, path_and_watch, get_acl_request, set_watches, auth_packet}
+use Rattle.client_records.specs.Requests.{connect_request, path_and_watch, path_alone, set_watches, auth_packet}
 use Rattle.client_records.specs.Responses.{connect_response, exists_response, get_data_response, get_children_response, get_children2_response, get_acl_response, watcher_event}
 
 names_sound : IsSound names_format
@@ -24,9 +24,9 @@ pub path_and_watch_sound : IsSound path_and_watch
 unfolding path_and_watch
 path_and_watch_sound = mapped_sound _ _ _ (λ v. refl) (λ r. refl) (both_sound _ _ text_sound boolean_sound)
 
-pub get_acl_request_sound : IsSound get_acl_request
-unfolding get_acl_request
-get_acl_request_sound = mapped_sound _ _ _ (λ v. refl) (λ r. refl) text_sound
+pub path_alone_sound : IsSound path_alone
+unfolding path_alone
+path_alone_sound = mapped_sound _ _ _ (λ v. refl) (λ r. refl) text_sound
 
 pub set_watches_sound : IsSound set_watches
 unfolding set_watches

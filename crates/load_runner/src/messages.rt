@@ -5,7 +5,7 @@ ghost use Rattle.txn_codec.specs.Spelling.{body_format};
 
 use anyhow::{Result, ensure};
 use client_records::codes::PING_XID;
-use client_records::{ConnectRequest, PathAndWatch, RequestKind};
+use client_records::{ConnectRequest, PathAndWatch, ReadKind, RequestKind};
 use jute::codes::open_list;
 use jute::{RequestHeader, WriteRecord, put_bytes};
 use quorum_packet::{PacketKind, QuorumPacket, write_packet};
@@ -119,7 +119,7 @@ pub fn write_inform(alloc: Global, txn: &Txn, out: &mut Vec<u8>) -> Result<()>
 #[tactic(auto, unfolding(jute::specs::Records::request_header, client_records::specs::Requests::path_and_watch))]
 pub fn write_read(
     alloc: Global,
-    kind: RequestKind,
+    kind: ReadKind,
     path: &Path,
     watch: bool,
     out: &mut Vec<u8>,
@@ -129,7 +129,7 @@ pub fn write_read(
     let mut frame = Vec::new(alloc);
     let header = RequestHeader {
         xid: 1,
-        kind: kind.code(),
+        kind: RequestKind::Read(kind).code(),
     };
     header.write(&mut frame)?;
     let request = PathAndWatch {

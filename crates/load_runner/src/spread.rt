@@ -5,7 +5,7 @@ ghost use Rattle.std.specs.Prelude.{◌≤◌};
 use crate::load::{CONNECTION, Load, add_count};
 use crate::messages::{CONTENT, child_path, create, parent_path, set_data, write_read};
 use anyhow::{Result, ensure};
-use client_records::RequestKind;
+use client_records::ReadKind;
 use observer_core::Event;
 use std::alloc::Global;
 use std::rt::Clock;
@@ -102,7 +102,7 @@ impl Load {
         &mut self,
         rt: &R,
         alloc: Global,
-        request: RequestKind,
+        request: ReadKind,
         sizes: &Spread,
         is_spread: bool,
     ) -> Result<()>
@@ -132,14 +132,14 @@ impl Load {
         self.make_children_of_all(alloc, sizes.parents, sizes.children, CONTENT)?;
         match sizes.kind {
             Kind::Creates | Kind::Sets => self.send_txns(rt, alloc, sizes, is_spread),
-            Kind::Reads => self.send_reads(rt, alloc, RequestKind::GetData, sizes, is_spread),
-            Kind::Lists => self.send_reads(rt, alloc, RequestKind::GetChildren, sizes, is_spread),
+            Kind::Reads => self.send_reads(rt, alloc, ReadKind::GetData, sizes, is_spread),
+            Kind::Lists => self.send_reads(rt, alloc, ReadKind::GetChildren, sizes, is_spread),
         }
     }
 }
 
 // The frames that read the parents in turn.
-fn frames_of_reads(alloc: Global, request: RequestKind, sizes: &Spread) -> Result<Vec<u8>>
+fn frames_of_reads(alloc: Global, request: ReadKind, sizes: &Spread) -> Result<Vec<u8>>
     requires { 1 ≤ sizes.now.parents }
 {
     let mut frames = Vec::new(alloc);

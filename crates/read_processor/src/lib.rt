@@ -2,7 +2,8 @@
 //!
 //! `look` gives the answer to a read: an error code, or 0 and the body of a reply. The body is made once, with room
 //! before it, and `Look::into_frame` fills the length and the header in there, so the only copy is the one out of the
-//! tree. specs/Look defines the answers, specs/Permissions who may read a node, and specs/Reply the frame.
+//! tree. specs/Look defines the answers, specs/Permissions who may read a node, and specs/Reply the frame. What the
+//! kinds of reads differ in is in one place: a row and a body for each (`kinds`, specs/Kinds).
 //!
 //! `look_each` answers several reads of one tree; an `Ask` is a read with the ids of its client (specs/Asking).
 //!
@@ -11,7 +12,7 @@
 //! and the watches to set again (specs/Renewal).
 //!
 //! ```text
-//! let request = Request::GetData(asked);
+//! let request = Request { kind: ReadKind::GetData, path, watch };
 //! let look = look(alloc, &tree, ids, &request)?;
 //! let watch = watch_of(&request, look.error);
 //! match look.into_frame(xid, last_zxid) {
@@ -25,9 +26,9 @@
 #![tactic(auto)]
 
 mod asking;
-mod bodies;
 mod body;
 mod counts;
+mod kinds;
 mod law;
 mod permissions;
 mod reads;
@@ -38,6 +39,7 @@ mod watch;
 
 pub use asking::{Ask, look_each};
 pub use body::Body;
+pub use kinds::{ReadRow, WatchTable, may_watch, read_row};
 pub use law::worked_looks;
 pub use reads::look;
 pub use renewal::{Renewal, renew};

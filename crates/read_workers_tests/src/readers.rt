@@ -2,7 +2,7 @@
 ghost use Rattle.std.specs.Prelude.{◌≤◌};
 
 use apply_workers::{Gate, OpenGate};
-use client_records::PathAndWatch;
+use client_records::ReadKind;
 use data_tree::Tree;
 use read_processor::{Ask, Look, Request};
 use read_workers::{look_all, look_run};
@@ -40,10 +40,11 @@ impl Gate for Holding {
 }
 
 fn exists(path: &str) -> Ask<'_> {
-    let request = Request::Exists(PathAndWatch {
+    let request = Request {
+        kind: ReadKind::Exists,
         path: Some(Str::new(path)),
         watch: false,
-    });
+    };
     Ask { ids: &[], request }
 }
 

@@ -1,4 +1,4 @@
-use Rattle.client_records.proofs.Records.{connect_request_sound, path_and_watch_sound, get_acl_request_sound, set_watches_sound, auth_packet_sound, connect_response_sound, exists_response_sound, get_data_response_sound, get_children_response_sound, get_children2_response_sound, get_acl_response_sound, watcher_event_sound}
+use Rattle.client_records.proofs.Records.{connect_request_sound, path_and_watch_sound, path_alone_sound, set_watches_sound, auth_packet_sound, connect_response_sound, exists_response_sound, get_data_response_sound, get_children_response_sound, get_children2_response_sound, get_acl_response_sound, watcher_event_sound}
 use Rattle.client_records.proofs.law.records.Goals as goal
 
 pub returns : goal.returns
@@ -8,7 +8,7 @@ returns c = record {
   get_data_request = path_and_watch_sound;
   get_children_request = path_and_watch_sound;
   get_children2_request = path_and_watch_sound;
-  get_acl_request = get_acl_request_sound;
+  get_acl_request = path_alone_sound;
   set_watches = set_watches_sound;
   auth_packet = auth_packet_sound;
   connect_response = connect_response_sound;

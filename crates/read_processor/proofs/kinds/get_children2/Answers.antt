@@ -8,7 +8,7 @@ use Rattle.client_records.specs.Fields.{names_format}
 use Rattle.client_records.specs.Responses.{get_children2_response}
 use Rattle.read_processor.proofs.Filling.{fits, too_long}
 use Rattle.read_processor.proofs.Writing.{stat_length, stat_writable}
-use Rattle.read_processor.proofs.bodies.get_children2.Goals as goal
+use Rattle.read_processor.proofs.kinds.get_children2.Goals as goal
 
 abbrev children : Node → List ℕ
 children node = names_format.written (sorted_names node.children)

@@ -1,8 +1,8 @@
 use Rattle.std.proofs.Common.{◌≡◌, List, ℕ, Some, ap, sym, ◌∙◌}
 use Rattle.client_records.specs.Responses.{get_children_response}
-use Rattle.read_processor.specs.Look.{get_children_body}
+use Rattle.read_processor.specs.Kinds.{get_children_body}
 use Rattle.read_processor.proofs.Filling.{fits, too_long}
-use Rattle.read_processor.proofs.bodies.get_children.Goals as goal
+use Rattle.read_processor.proofs.kinds.get_children.Goals as goal
 
 pub returns-in_default : goal.returns-in_default
 unfolding get_children_response

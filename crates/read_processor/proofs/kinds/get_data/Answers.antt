@@ -1,10 +1,10 @@
 use Rattle.std.proofs.Common.{arith, sym}
 use Rattle.node_map.specs.Stats.{stat_of}
 use Rattle.client_records.specs.declared.response.GetDataResponse.{GetDataResponse}
-use Rattle.read_processor.specs.Look.{get_data_body}
+use Rattle.read_processor.specs.Kinds.{get_data_body}
 use Rattle.read_processor.proofs.Filling.{too_long}
 use Rattle.read_processor.proofs.Writing.{get_data_length, get_data_writable}
-use Rattle.read_processor.proofs.bodies.get_data.Goals as goal
+use Rattle.read_processor.proofs.kinds.get_data.Goals as goal
 
 pub returns-then-lent_len-gt-BODY_LIMIT : goal.returns-then-lent_len-gt-BODY_LIMIT
 returns-then-lent_len-gt-BODY_LIMIT c =

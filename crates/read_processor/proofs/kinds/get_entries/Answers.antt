@@ -1,10 +1,10 @@
 use Rattle.std.proofs.Common.{arith, sym}
 use Rattle.node_map.specs.Stats.{stat_of}
 use Rattle.client_records.specs.declared.response.GetAclResponse.{GetAclResponse}
-use Rattle.read_processor.specs.Look.{get_acl_body}
+use Rattle.read_processor.specs.Kinds.{get_acl_body}
 use Rattle.read_processor.proofs.Filling.{too_long}
 use Rattle.read_processor.proofs.Writing.{get_acl_length, get_acl_writable}
-use Rattle.read_processor.proofs.bodies.get_entries.Goals as goal
+use Rattle.read_processor.proofs.kinds.get_entries.Goals as goal
 
 pub returns-in_default : goal.returns-in_default
 returns-in_default c =

@@ -1,20 +1,77 @@
-//! The body of each reply that shows a node. Data, names and entries may be longer than a frame holds, so their lengths
-//! are tested before anything is written.
+//! The kinds of reads: what each needs, which watch it leaves, and the body that shows a node. Data, names and entries
+//! may be longer than a frame holds, so their lengths are tested before anything is written.
 
 ghost use Rattle.std.specs.Prelude.{◌≡◌, ◌<◌, ◌^◌, IfOk};
 ghost use Rattle.node_map.specs.Stats.{length_or_zero};
 ghost use Rattle.read_processor.specs.Limits.{fitting_body};
-ghost use Rattle.read_processor.specs.Look.{exists_body, get_data_body, get_acl_body, get_children_body, get_children2_body, reply_body};
+ghost use Rattle.read_processor.specs.Kinds.{read_row, may_watch, exists_body, get_data_body, get_acl_body, get_children_body, get_children2_body, reply_body};
 
 use crate::body::{BODY_LIMIT, Body};
 use crate::counts::{acls_len, names_len, with_bytes};
-use crate::request::Request;
-use client_records::{Acls, ExistsResponse, GetAclResponse, GetDataResponse};
+use client_records::{Acls, ExistsResponse, GetAclResponse, GetDataResponse, ReadKind};
 use data_tree::Node;
 use jute::codes::open_list;
 use jute::{Acl, WriteRecord};
 use std::alloc::Global;
 use values::{Blob, Bytes, NoMemory};
+
+/// The watches of one kind.
+#[derive(Clone, Copy)]
+pub enum WatchTable {
+    /// On nodes, or on nodes that aren't there yet.
+    Data,
+    /// On the names of nodes' children.
+    Child,
+}
+
+/// What reads of one kind need and leave.
+#[derive(Clone, Copy)]
+pub struct ReadRow {
+    /// Whether the client needs the READ permission on the node.
+    pub needs_read: bool,
+    /// The table of the watch that the client may ask for; `None` if the request has no place for one.
+    pub watch: Option<WatchTable>,
+    /// Whether the watch is left also if there is no node.
+    pub watches_missing: bool,
+}
+
+/// What reads of this kind need and leave.
+pub fn read_row(kind: ReadKind) -> ReadRow
+    ensures { result ≡ read_row kind }
+{
+    match kind {
+        ReadKind::Exists => ReadRow {
+            needs_read: false,
+            watch: Some(WatchTable::Data),
+            watches_missing: true,
+        },
+        ReadKind::GetData => ReadRow {
+            needs_read: true,
+            watch: Some(WatchTable::Data),
+            watches_missing: false,
+        },
+        ReadKind::GetAcl => ReadRow {
+            needs_read: false,
+            watch: None,
+            watches_missing: false,
+        },
+        ReadKind::GetChildren | ReadKind::GetChildren2 => ReadRow {
+            needs_read: true,
+            watch: Some(WatchTable::Child),
+            watches_missing: false,
+        },
+    }
+}
+
+/// Whether a client may ask for a watch with a read of this kind, so that the request says whether it does.
+pub fn may_watch(kind: ReadKind) -> bool
+    ensures { result ≡ may_watch kind }
+{
+    match read_row(kind).watch {
+        None => false,
+        Some(_) => true,
+    }
+}
 
 fn borrow_bytes(bytes: &Option<Blob>) -> Option<Bytes<'_>>
     ensures { result ≡ bytes.now }
@@ -112,14 +169,14 @@ fn get_children2(alloc: Global, node: &Node) -> Result<Option<Body>, NoMemory>
 
 /// The body of the reply that shows the node; None if it is too long for a frame. Fails only if an allocation is
 /// refused.
-pub fn body_of(alloc: Global, request: &Request<'_>, node: &Node) -> Result<Option<Body>, NoMemory>
-    ensures { IfOk result (λ body. body ≡ fitting_body (reply_body request.now node.now)) }
+pub fn body_of(alloc: Global, kind: ReadKind, node: &Node) -> Result<Option<Body>, NoMemory>
+    ensures { IfOk result (λ body. body ≡ fitting_body (reply_body kind node.now)) }
 {
-    match request {
-        Request::Exists(_) => exists(alloc, node),
-        Request::GetData(_) => get_data(alloc, node),
-        Request::GetAcl(_) => get_acl(alloc, node),
-        Request::GetChildren(_) => get_children(alloc, node),
-        Request::GetChildren2(_) => get_children2(alloc, node),
+    match kind {
+        ReadKind::Exists => exists(alloc, node),
+        ReadKind::GetData => get_data(alloc, node),
+        ReadKind::GetAcl => get_acl(alloc, node),
+        ReadKind::GetChildren => get_children(alloc, node),
+        ReadKind::GetChildren2 => get_children2(alloc, node),
     }
 }
