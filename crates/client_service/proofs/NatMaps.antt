@@ -20,7 +20,7 @@ use mathlib.Core.Bool.{true≢false}
 pub same_key : (k : ℕ) → eq_by_cmp nat_cmp k k ≡ true
 same_key k = ap is_eq (tied_itself nat_cmp_total k)
 
-eq_is : (r : Ordering) → is_eq r ≡ true → r ≡ Equal
+pub eq_is : (r : Ordering) → is_eq r ≡ true → r ≡ Equal
 eq_is Less e = absurd (true≢false (sym e))
 eq_is Equal e = refl
 eq_is Greater e = absurd (true≢false (sym e))

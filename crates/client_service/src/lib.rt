@@ -33,6 +33,7 @@ mod client;
 mod clients;
 mod connections;
 mod joining;
+mod law;
 mod notice;
 mod output;
 mod reading;
@@ -43,6 +44,7 @@ mod world;
 
 pub use client::{CLIENT_FRAME_LIMIT, end_client, open_client, take_client_bytes};
 pub use clients::Clients;
+pub use law::runs_of_reads;
 pub use notice::notify_each;
 pub use output::Output;
 pub use session::expire_session;

@@ -1,5 +1,4 @@
--- The worked rows, step by step: what the bytes read as, the state after each transaction, and the reply to each
--- request.
+-- The worked rows: what the bytes read as, the state after each transaction, and the reply to each request.
 use Rattle.std.proofs.Common.{◌≡◌, ◌≤◌, ℕ, List, [], ◌∷◌, ◌++◌, length, map, take, not, Option, Some, None, Result, Ok, Bool, true, false, cond, refl, sym, ap, ◌∙◌, arith, rules}
 use Rattle.std.specs.Prelude.{ℤ, pos, negsuc, codes, is_some}
 use Rattle.std.specs.List.{AllByRecursion}
@@ -207,7 +206,6 @@ written_there = simp (finmap.get-insert {X = Node} nat_list_cmp_total)
 abbrev packet_of : ℤ → List ℕ → QuorumPacket
 packet_of zxid bytes = record { kind = pos 8; zxid = zxid; bytes = Some bytes; authinfo = None }
 
--- One packet, and nothing after it.
 abbrev one_packet : QuorumPacket → Items Phase Item
 one_packet p = record { found = item.Packet p ∷ []; left = place_at Packets [] }
 
@@ -354,7 +352,6 @@ no_ids_first : (settings : Settings) → ids_of (first_client settings).sessions
 no_ids_first settings = ap ids_in
     (get-inserted {X = SessionConnection} finmap.empty 1 (new_connection (first_session settings)))
 
--- A replica that serves in epoch 1.
 abbrev replica_at : ℤ → List Txn → State → Replica
 replica_at zxid log s = record {
   learner = record {
@@ -387,7 +384,6 @@ beginning = record { place = place_at Packets []; loading = nothing_loaded }
 abbrev pub following : Settings → ℤ → List Txn → State → List ℕ → Machine
 following settings zxid log s rest = record { leader = Some beginning; world = world_at settings zxid log s rest }
 
--- No image is being loaded.
 abbrev led : World → WorldAndLoading
 led w = record { loading = nothing_loaded; world = w }
 
@@ -413,7 +409,6 @@ one_delivered w r =
     prepend_outputs (h.outputs ++ []) (with_leader_or_fault h.after.left.world
     (leader_at h.after.left.loading (place_after (place_at Packets []) h.after.fault)))
 
--- One INFORM comes.
 inform_comes : (again : ReadAgain) (settings : Settings) (last : ℤ) (log : List Txn) (s : State) (clients : Clients)
     (bytes : List ℕ) (zxid : ℤ) (t : Txn) → txn_format.Fits t →
     let w = world_with settings last log s clients in

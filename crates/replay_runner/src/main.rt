@@ -11,6 +11,7 @@ ghost use Rattle.replay.specs.Replay.{EndsReplayWith};
 ghost use Rattle.auditing.specs.Auditing.{EndsAuditWith as AuditEndsWith};
 
 use auditing::audit_on;
+use batcher::Limits;
 use replay::{Command, Ending, Source, command_of, replay_on};
 use serve::serve;
 use std::alloc::AllocError;
@@ -46,11 +47,18 @@ fn ending_of(error: &Error) -> Ending
 }
 
 // Returns the exit status; no contract is about the bytes on standard output.
-fn replay_from<R: Read>(rt: &HostRuntime, reader: &mut R) -> u8
+fn replay_from<R: Read>(rt: &HostRuntime, limits: Limits, reader: &mut R) -> u8
     ensures { IfSome (R.remaining reader.old) (λ text. EndsReplayWith result text None None) }
 {
     match BufWriter::new(rt.alloc(), rt.stdout()) {
-        Ok(mut writer) => replay_on(rt.alloc(), reader, &mut writer, &mut rt.stderr()),
+        Ok(mut writer) => replay_on(
+            rt,
+            rt.alloc(),
+            limits,
+            reader,
+            &mut writer,
+            &mut rt.stderr(),
+        ),
         Err(_) => fail(rt, Ending::NoMemory),
     }
 }
@@ -65,11 +73,11 @@ fn audit_from<R: Read>(rt: &HostRuntime, reader: &mut R, path: &str) -> u8
     }
 }
 
-fn replay_source(rt: &HostRuntime, source: Source<'_>) -> u8 {
+fn replay_source(rt: &HostRuntime, source: Source<'_>, limits: Limits) -> u8 {
     match source {
-        Source::Input => replay_from(rt, &mut rt.stdin()),
+        Source::Input => replay_from(rt, limits, &mut rt.stdin()),
         Source::File(name) => match fs::File::open(rt, name.as_str()) {
-            Ok(mut file) => replay_from(rt, &mut file),
+            Ok(mut file) => replay_from(rt, limits, &mut file),
             Err(error) => fail(rt, ending_of(&error)),
         },
     }
@@ -103,10 +111,10 @@ fn wordless(rt: &HostRuntime, error: &Error) -> u8 {
     }
 }
 
-// Runs a command that needs no threads.
+// Runs a command that needs no sockets.
 fn run(rt: &HostRuntime, words: &[String]) -> u8 {
     match command_of(words) {
-        Some(Command::Replay(source)) => replay_source(rt, source),
+        Some(Command::Replay { source, limits }) => replay_source(rt, source, limits),
         Some(Command::Audit(source, path)) => audit_source(rt, source, path.as_str()),
         None => usage(rt),
     }

@@ -1,0 +1,68 @@
+-- Reads that wait for their answers: a run of reads, with nothing else to be done between them.
+use Rattle.std.specs.Prelude.{◌≡◌, ℕ, ℤ, List, [], ◌∷◌, ◌++◌, map, Some, Ok, Bool, false, if◌then◌else◌}
+use Rattle.jute.specs.Stream.{Items, with_first}
+use Rattle.sessions.specs.Sessions.{session_of_connection, ids_of}
+use Rattle.read_processor.specs.declared.request.Request.{Request}
+use Rattle.read_processor.specs.declared.shown.Look.{Look}
+use Rattle.read_processor.specs.Look.{look_at_state}
+use Rattle.read_processor.specs.Watch.{watch_of}
+use Rattle.client_frames.specs.Call.{call_in}
+use Rattle.client_frames.specs.declared.call.CallBody.TheVariants as bodies
+use Rattle.client_service.specs.World.{World}
+use Rattle.client_service.specs.Steps.{StepResult, no_output, and_then, fold_steps}
+use Rattle.client_service.specs.Clients.{is_open}
+use Rattle.client_service.specs.Serve.{with_watch_if, with_watching, send_reply, answer_read, serve_all, wait_at}
+
+-- A read that a connection asked for, with the xid of its reply.
+pub record AskedRead : Type 0 where
+  pub number : ℕ
+  pub xid : ℤ
+  pub request : Request
+
+-- A read is answered at the present state, if its connection is open by then.
+abbrev pub answer_asked : World → AskedRead → StepResult World
+answer_asked w a = if is_open a.number w.clients then answer_read a.number w a.xid a.request else no_output w
+
+-- All are answered, in the order in which they were asked.
+abbrev pub answer_all_asked : List AskedRead → World → StepResult World
+answer_all_asked asked w = fold_steps (λ (w : World). false) answer_asked w asked
+
+-- ---- what they show is looked up first
+
+-- What a read shows of a world.
+abbrev pub look_asked : World → AskedRead → Look
+look_asked w a = look_at_state w.replica.tree (ids_of w.clients.sessions a.number) a.request
+
+-- A read that shows this leaves its watch and is answered, if its connection is open.
+abbrev pub show_asked : World → AskedRead → Look → StepResult World
+show_asked w a seen =
+    if is_open a.number w.clients
+    then send_reply a.number
+    (with_watching w (with_watch_if a.number w.clients.watches (watch_of a.request seen.error))) a.xid seen
+    else no_output w
+
+abbrev pub show_all_asked : List AskedRead → List Look → World → StepResult World
+show_all_asked [] looks w = no_output w
+show_all_asked (a ∷ asked) [] w = no_output w
+show_all_asked (a ∷ asked) (seen ∷ looks) w = and_then (show_asked w a seen) (show_all_asked asked looks)
+
+-- ---- laws
+
+-- Reads that wait are answered as if each had been answered when it was asked.
+pub record RunsAreReads : Type 0 where
+  -- What all of them show may be looked up before the first is answered.
+  pub looks : (asked : List AskedRead) (w : World)
+      → answer_all_asked asked w ≡ show_all_asked asked (map (look_asked w) asked) w
+  -- The bytes of a frame that isn't complete may be kept before or after.
+  pub rests : (asked : List AskedRead) (n : ℕ) (rest : List ℕ) (w : World)
+      → and_then (wait_at n (Ok rest) w) (answer_all_asked asked)
+      ≡ and_then (answer_all_asked asked w) (wait_at n (Ok rest))
+  -- The read of a frame may wait with those asked before it.
+  pub waits :
+      (serving : Bool) (asked : List AskedRead) (w : World) (n : ℕ) (session : ℤ) (frame : List ℕ)
+      (others : Items (Unit {0}) (List ℕ)) (xid : ℤ) (r : Request)
+      → session_of_connection w.clients.sessions n ≡ Some session
+      → call_in frame ≡ Ok (record { xid = xid; body = bodies.Read r })
+      → and_then (answer_all_asked asked w) (λ u. serve_all serving n u (with_first frame others))
+      ≡ and_then (answer_all_asked (asked ++ record { number = n; xid = xid; request = r } ∷ []) w)
+      (λ u. serve_all serving n u others)
