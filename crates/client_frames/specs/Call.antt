@@ -6,6 +6,8 @@ use Rattle.jute.specs.Records.{request_header}
 use Rattle.client_records.specs.declared.kind.ReadKind.{ReadKind}
 use Rattle.client_records.specs.declared.kind.RequestKind.{RequestKind}
 use Rattle.client_records.specs.declared.kind.RequestKind.TheVariants as kinds
+use Rattle.client_records.specs.declared.request.PathAlone.{PathAlone}
+use Rattle.client_records.specs.declared.request.PathAndWatch.{PathAndWatch}
 use Rattle.client_records.specs.Kinds.{kind_of}
 use Rattle.client_records.specs.Requests.{path_and_watch, path_alone, set_watches, auth_packet}
 use Rattle.read_processor.specs.declared.request.Request.{Request}
@@ -27,12 +29,18 @@ body_or_unreadable body (Some found) = body found
 abbrev pub read_as : {A : Type 0} → (A → Request) → Option A → CallBody
 read_as request found = body_or_unreadable (λ r. Read (request r)) found
 
+abbrev pub read_with_flag : ReadKind → PathAndWatch → Request
+read_with_flag kind r = record { kind = kind; path = r.path; watch = r.watch }
+
+abbrev pub read_without_flag : ReadKind → PathAlone → Request
+read_without_flag kind r = record { kind = kind; path = r.path; watch = false }
+
 -- A read's path and, where a client may ask for a watch, whether it does.
 abbrev pub body_of_read : ReadKind → List ℕ → CallBody
 body_of_read kind bytes =
     if may_watch kind
-    then read_as (λ r. record { kind = kind; path = r.path; watch = r.watch }) (value_if_read (path_and_watch.read bytes))
-    else read_as (λ r. record { kind = kind; path = r.path; watch = false }) (value_if_read (path_alone.read bytes))
+    then read_as (read_with_flag kind) (value_if_read (path_and_watch.read bytes))
+    else read_as (read_without_flag kind) (value_if_read (path_alone.read bytes))
 
 -- The body of a change isn't read.
 abbrev pub call_body : Option RequestKind → List ℕ → CallBody

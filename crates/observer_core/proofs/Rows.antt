@@ -19,10 +19,8 @@ use Rattle.jute.specs.Codes.{open_acl}
 use Rattle.jute.specs.Frame.{frame_at}
 use Rattle.jute.specs.Owned.{id_format, acl_format}
 use Rattle.jute.specs.Records.{stat_format, request_header, reply_header}
-use Rattle.client_records.specs.declared.kind.ReadKind.{ReadKind}
 use Rattle.client_records.specs.declared.kind.ReadKind.TheVariants.{Exists, GetData}
 use Rattle.client_records.specs.declared.kind.RequestKind.TheVariants as kinds
-use Rattle.client_records.specs.declared.request.PathAndWatch.{PathAndWatch}
 use Rattle.client_records.specs.Kinds.{kind_of as request_kind_of}
 use Rattle.client_records.specs.Requests.{path_and_watch}
 use Rattle.client_records.specs.Responses.{get_data_response, watcher_event}
@@ -79,7 +77,7 @@ use Rattle.values.specs.Hex.{hex_bytes}
 use Rattle.observer_core.specs.Rows.{inform_of_create, inform_of_set_data, get_data_frame_start, get_data_frame_end, reply_of_create, reply_of_set_data, exists_watch_frame, reply_of_missing, event_of_create, create_inform_event, set_data_inform_event, get_data_event, exists_watch_event}
 use Rattle.client_service.specs.World.{OpenConnection, OpenConnections, Clients, World}
 use Rattle.observer_core.specs.Machine.{Leader, Machine}
-use Rattle.client_frames.specs.Call.{call_in, call_after_header, call_body, read_as, value_if_read}
+use Rattle.client_frames.specs.Call.{call_in, call_after_header, call_body, read_as, read_with_flag, value_if_read}
 use Rattle.client_service.specs.Steps.{StepResult, prepend_outputs, no_output, fold_steps}
 use Rattle.client_service.specs.Clients.{without_client, close_clients, sent_to, notices_of}
 use Rattle.replica.specs.Replica.{Replica}
@@ -270,9 +268,6 @@ set_replied : reply_by (pos 4294967298) written_node 0 ≡ Some reply_of_set_dat
 unfolding reply_header get_data_response stat_format number_bytes
 set_replied = refl
 
-abbrev of_kind : ReadKind → PathAndWatch → Request
-of_kind kind r = record { kind = kind; path = r.path; watch = r.watch }
-
 abbrev wanted : Request
 wanted = record { kind = GetData; path = Some (codes "/a"); watch = false }
 
@@ -283,7 +278,7 @@ call_read : call_in get_frame ≡ Ok asking
 call_read =
     ap call_after_header header_read
     ∙ ap (λ k. Ok (record { xid = pos 1; body = call_body k get_body })) kind_read
-    ∙ ap (λ r. Ok (record { xid = pos 1; body = read_as (of_kind GetData) (value_if_read r) })) body_read
+    ∙ ap (λ r. Ok (record { xid = pos 1; body = read_as (read_with_flag GetData) (value_if_read r) })) body_read
 
 -- A reply is sent, and its watch is set.
 abbrev shown_by : World → Look → StepResult World
@@ -623,7 +618,7 @@ exists_read : call_in exists_frame ≡ Ok (record { xid = pos 2; body = Read wat
 exists_read =
     ap call_after_header exists_header
     ∙ ap (λ k. Ok (record { xid = pos 2; body = call_body k exists_body })) exists_kind
-    ∙ ap (λ r. Ok (record { xid = pos 2; body = read_as (of_kind Exists) (value_if_read r) })) exists_body_read
+    ∙ ap (λ r. Ok (record { xid = pos 2; body = read_as (read_with_flag Exists) (value_if_read r) })) exists_body_read
 
 nothing_there : finmap.get fresh_state.nodes (codes "/a") ≡ None
 nothing_there = simp (finmap.get-insert {X = Node} nat_list_cmp_total, finmap.get-empty {X = Node} (slice_cmp nat_cmp))
