@@ -85,10 +85,12 @@ fn feed_two_groups<R: Threads + Sync, G: Gate + Sync>(
     let parents = creates(alloc, &["/a", "/b"], 1)?;
     let children = creates(alloc, &["/a/x", "/a/y", "/b/z"], 3)?;
     let first = [told(parents.as_slice()), asked(ASKED)];
-    Ok(engine.feed(rt, alloc, &first, &OpenGate, outputs).is_ok()
-        && engine
-            .feed(rt, alloc, &[told(children.as_slice())], gate, outputs)
-            .is_ok())
+    Ok(
+        engine.feed(rt, alloc, &first, &OpenGate, outputs).is_ok()
+            && engine
+                .feed(rt, alloc, &[told(children.as_slice())], gate, outputs)
+                .is_ok(),
+    )
 }
 
 // The child version, the number of children and the zxid of the last change of the children.

@@ -57,7 +57,10 @@ fn a_script_is_replayed(rt: HostRuntime) {
     let mut out = Vec::new(rt.alloc());
     let mut errors = Vec::new(rt.alloc());
     let mut reader = SCRIPT;
-    assert_eq!(rt; replayed(&rt, rt.alloc(), &mut reader, &mut out, &mut errors), 0);
+    assert_eq!(rt;
+        replayed(&rt, rt.alloc(), &mut reader, &mut out, &mut errors),
+        0
+    );
     assert_eq!(rt;
         out.as_slice(),
         b"C 1 close\nend zxid=0x0 paths=3\n".as_slice()
@@ -70,7 +73,10 @@ fn a_read_fails_midway(rt: HostRuntime) {
     let mut out = Vec::new(rt.alloc());
     let mut errors = Vec::new(rt.alloc());
     let mut reader = Torn { bytes: b"what\n" };
-    assert_eq!(rt; replayed(&rt, rt.alloc(), &mut reader, &mut out, &mut errors), 3);
+    assert_eq!(rt;
+        replayed(&rt, rt.alloc(), &mut reader, &mut out, &mut errors),
+        3
+    );
     assert!(rt; out.is_empty());
     assert_eq!(rt; errors.as_slice(), b"cannot open\n".as_slice());
 }
@@ -95,7 +101,10 @@ fn the_output_cannot_be_written(rt: HostRuntime) {
 fn errors_cannot_be_told(rt: HostRuntime) {
     let mut out = Vec::new(rt.alloc());
     let mut reader = b"what".as_slice();
-    assert_eq!(rt; replayed(&rt, rt.alloc(), &mut reader, &mut out, &mut Full), 1);
+    assert_eq!(rt;
+        replayed(&rt, rt.alloc(), &mut reader, &mut out, &mut Full),
+        1
+    );
 }
 
 #[test]
@@ -166,7 +175,10 @@ fn options_of_a_replay(rt: HostRuntime) -> Result<(), Fail> {
         ("replay a --workers 1", Some((1, 256))),
         ("replay a --batch 4096", Some((4, 4096))),
         ("replay a --workers 64 --batch 1", Some((64, 1))),
-        ("replay - --batch 007 --workers 00000000000000000000000002", Some((2, 7))),
+        (
+            "replay - --batch 007 --workers 00000000000000000000000002",
+            Some((2, 7)),
+        ),
         ("replay a --workers", None),
         ("replay a --batch 1 --workers", None),
         ("replay a --workers 2 --workers 2", None),
