@@ -7,7 +7,9 @@ The program measures itself by the clock, without making the transactions and th
 long it worked. All loads take turns, several times, and the least time of each is taken; what is compared is done in one
 run of this script. What a load prints must be what it asks for. Batches have 256 transactions, in 64 groups, where nothing
 else is said. Plain are transactions that are moved out of a queue, done one after the other and dropped, each with its outcome;
-kept ones are the same, but dropped with their outcomes 256 at a time, as those of a batch are; lent ones stay in their list. The
+kept ones are the same, but dropped with their outcomes 256 at a time, as those of a batch are; lent ones stay in their list. In a
+second part lists that stay are applied as an engine would: inline, which is one after the other with all outcomes kept, and by
+workers, however little work they are; they are compared with lent ones, each of whose outcomes is dropped at once. The
 machine's load, and how much of its processors' time others were given (steal), is printed before and after. The exit status is
 0 where every figure is met that has a bound.
 """
@@ -32,6 +34,9 @@ PAYING = 1024
 WORKS, WORK_TIMES = 65_536, 16
 WORKERS = (1, 2, 4)
 PER_SECOND, PLAIN, SPEEDUP, MICROSECOND = 1_000_000, 1.3, 1.5, 1000
+# Lists of several lengths of sets of several sizes, to find from which size on several workers pay.
+SWEEP_LENGTHS, SWEEP_SIZES = (256, 1024), (1024, 4096, 16_384, 65_536)
+ONE_WORKER, LARGE = 1 / 0.97, 1.7
 
 
 class Load:
@@ -81,6 +86,12 @@ class Txns:
     def batch(self, workers):
         return Load(["batch"] + self.words + [workers, self.length], self.done, self.batches, self.groups)
 
+    def inline(self):
+        return Load(["inline"] + self.words + [self.length], self.done, 0, 0)
+
+    def listed(self, workers):
+        return Load(["list"] + self.words + [workers, self.length], self.done, 0, 0)
+
 
 def small():
     return {
@@ -99,8 +110,52 @@ def multis(length):
     return f"multis, batches of {length}"
 
 
+def lists():
+    """Returns the lists by name, and whether they are so much work that several workers have to pay."""
+    found = {name: (txns, False) for name, txns in small().items()}
+    for length in SWEEP_LENGTHS:
+        for size in SWEEP_SIZES:
+            times = max(1, SWEEP_SIZES[-1] // size // 4)
+            found[f"{length:,} sets of {size:,} bytes"] = (Txns("sets", 1024, size, times, length), size == SWEEP_SIZES[-1])
+    found[f"{PAYING:,} multis"] = (Txns("multis", LONG_MULTIS, LONG, LONG_TIMES, PAYING), True)
+    return found
+
+
 def boards():
     return {it: Load(["board", WORKS, WORK_TIMES, it], WORKS * WORK_TIMES, 0, 0) for it in WORKERS}
+
+
+def lists_measured(program, rounds):
+    """Runs the loads of lists in turns. Returns for each its transactions, whether it is large, and its loads: lent, inline, by workers."""
+    loads = {}
+    for name, (txns, is_large) in lists().items():
+        loads[name] = (txns, is_large, txns.lent(), txns.inline(), {it: txns.listed(it) for it in WORKERS})
+    for _ in range(rounds):
+        for _, _, lent, inline, by in loads.values():
+            for load in [lent, inline] + list(by.values()):
+                load.once(program)
+    return loads
+
+
+def lists_table(loads):
+    """Prints nanoseconds a transaction, and how many times as fast each way is as one after the other without a list of outcomes."""
+    ways = "".join(f"{it:>11}" for it in ["lent", "inline"] + [f"{it} workers" for it in WORKERS])
+    ratios = "".join(f"{it:>11}" for it in ["inline"] + [f"{it} workers" for it in WORKERS])
+    print(f"{'':<28}{'nanoseconds a transaction':>55}{'times as fast as lent ones':>44}")
+    print(f"{'lists':<28}{ways}{ratios}")
+    for name, (txns, _, lent, inline, by) in loads.items():
+        all_ways = [lent, inline] + [by[it] for it in WORKERS]
+        times = "".join(f"{it.worked / txns.done:>11,.0f}" for it in all_ways)
+        print(f"{name:<28}{times}" + "".join(f"{lent.worked / it.worked:>11.2f}" for it in all_ways[1:]))
+
+
+def lists_figures(loads):
+    found = []
+    for name, (_, is_large, _, inline, by) in loads.items():
+        found.append((f"list of {name}: one worker's time against inline", by[1].worked / inline.worked, ONE_WORKER, True))
+        found.append((f"list of {name}: times as fast with 4 workers as with one", by[1].worked / by[4].worked,
+                      LARGE if is_large else None, False))
+    return found
 
 
 def measured(program, rounds):
@@ -173,14 +228,22 @@ def jiffies():
 def main():
     parser = argparse.ArgumentParser(description=__doc__, formatter_class=argparse.RawDescriptionHelpFormatter)
     parser.add_argument("--rounds", type=int, default=5, help="how often each load is run (5)")
+    parser.add_argument("--only", choices=("batches", "lists"), help="one part alone")
     parser.add_argument("program")
     options = parser.parse_args()
     machine("before")
     before = jiffies()
-    loads, seats = measured(os.path.abspath(options.program), options.rounds)
+    program, found = os.path.abspath(options.program), []
+    if options.only != "lists":
+        loads, seats = measured(program, options.rounds)
+        table(loads)
+        found += figures(loads, seats)
+    if options.only != "batches":
+        loads = lists_measured(program, options.rounds)
+        lists_table(loads)
+        found += lists_figures(loads)
     after = jiffies()
-    table(loads)
-    passes = [verdict(*it) for it in figures(loads, seats)]
+    passes = [verdict(*it) for it in found]
     machine("after")
     print(f"steal meanwhile: {100 * (after[1] - before[1]) / max(1, after[0] - before[0]):.1f}%")
     return 0 if all(passes) else 1

@@ -2,7 +2,7 @@
 """Runs a program on the worked rows of this folder and compares every byte that it writes.
 
     tests/rows/run.py PROGRAM [ARG ..]
-    tests/rows/run.py --only multi PROGRAM      rows with that in their name
+    tests/rows/run.py --only multi PROGRAM      runs with that in their name
 
 A row is NAME.script and NAME.expected, which is what `PROGRAM ARG .. replay NAME.script` writes to standard output. The
 rows lie in folders by what they show, and no two have one name. In examples/ are the outputs of the scripts in the
@@ -15,10 +15,15 @@ The comments at the head of a script say what the row shows, and three kinds of 
     # stderr line 4: bad line       the one line that standard error has; without it none
 
 Lines count in a bad script, so a comment there is replaced and never added. Rows that are too long for a file are made
-by made.py. The last line printed is `N passed, M failed`; the exit status is 0 where no row failed and there was one at
-least.
+by made.py.
+
+A replay prints the same whatever its limits, so each row that isn't an audit is run again with the options of LIMITS,
+and a few with those of WORKERS too. Beside the rows, wrong command lines are tried. Each run counts: the last line
+printed is `N passed, M failed`; the exit status is 0 where none failed and there was one at least.
 """
 import argparse
+import concurrent.futures
+import os
 import pathlib
 import shutil
 import subprocess
@@ -31,6 +36,36 @@ import made  # noqa: E402
 HERE = pathlib.Path(__file__).resolve().parent
 EXAMPLES = HERE.parent.parent / "examples"
 SECONDS = 60
+
+# The options of a replay by which each row is run beside the run without options.
+LIMITS = ("--workers 1 --batch 1", "--workers 3 --batch 2", "--workers 64 --batch 4096")
+# The rows that are run by these numbers of workers too, with batches as they are by default.
+SHARED = ("close-session", "create-then-get", "multi-meets-two", "set-then-get", "two-groups")
+WORKERS = ("--workers 1", "--workers 2", "--workers 64")
+
+# What isn't a command line. There is no such file, so a program that opened it first would end with another status.
+NO_FILE = "no-such-file.script"
+WRONG_LINES = (
+    "replay",
+    "replay --workers 1",
+    f"replay {NO_FILE} --workers",
+    f"replay {NO_FILE} --batch 1 --workers",
+    f"replay {NO_FILE} --workers 2 --workers 2",
+    f"replay {NO_FILE} --batch 2 --workers 2 --batch 2",
+    f"replay {NO_FILE} --workers 0",
+    f"replay {NO_FILE} --workers 65",
+    f"replay {NO_FILE} --workers 18446744073709551617",
+    f"replay {NO_FILE} --batch 0",
+    f"replay {NO_FILE} --batch 4097",
+    f"replay {NO_FILE} --batch 18446744073709551617",
+    f"replay {NO_FILE} --workers +1",
+    f"replay {NO_FILE} --workers 0x1",
+    f"replay {NO_FILE} --batch one",
+    f"replay {NO_FILE} --groups 2",
+    f"replay {NO_FILE} more",
+    f"audit {NO_FILE}",
+    f"audit {NO_FILE} / --workers 1",
+)
 
 
 def directives(script):
@@ -58,14 +93,11 @@ def first_difference(wanted, got):
     return f"wanted {len(ours)} lines, got {len(theirs)}"
 
 
-def faults(words, path):
-    """Runs one row and returns what is wrong, in lines; none where it holds."""
-    audited, status, complaint = directives(path.read_bytes())
-    command = ["replay", str(path)] if audited is None else ["audit", str(path), audited]
-    wanted = path.with_suffix(".expected").read_bytes()
+def faults(command, wanted, status, complaint):
+    """Runs a command and returns what is wrong, in lines; none where it prints and ends as it has to."""
     how = {"stdin": subprocess.DEVNULL, "stdout": subprocess.PIPE, "stderr": subprocess.PIPE}
     try:
-        done = subprocess.run(words + command, timeout=SECONDS, **how)
+        done = subprocess.run(command, timeout=SECONDS, **how)
     except OSError as failed:
         return [f"can't start the program: {failed}"]
     except subprocess.TimeoutExpired:
@@ -80,6 +112,22 @@ def faults(words, path):
     return found
 
 
+def runs_of_row(words, path):
+    """Returns each run of a row: its name, and what `faults` is given."""
+    audited, status, complaint = directives(path.read_bytes())
+    wanted = path.with_suffix(".expected").read_bytes()
+    if audited is not None:
+        return [(path.stem, [*words, "audit", str(path), audited], wanted, status, complaint)]
+    options = ["", *LIMITS, *(WORKERS if path.stem in SHARED else ())]
+    plain = [*words, "replay", str(path)]
+    return [(f"{path.stem} {it}".strip(), plain + it.split(), wanted, status, complaint) for it in options]
+
+
+def runs_of_wrong_lines(words):
+    """Returns the runs of what isn't a command line."""
+    return [(f"usage of {it}", [*words, *it.split()], b"", 2, b"usage\n") for it in WRONG_LINES]
+
+
 def make(room):
     """Writes the rows that made.py makes into a folder, and those whose scripts are examples."""
     for name, script, wanted in made.rows():
@@ -91,23 +139,26 @@ def make(room):
 
 
 def run(words, only, room):
-    """Runs the rows with that in their name. Returns how many held, and how many failed."""
+    """Makes the runs with that in their name, as many side by side as there are processors. Returns how many held, and
+    how many failed."""
     make(room)
-    passed = failed = 0
     rows = sorted([*HERE.glob("*/*.script"), *room.glob("*.script")], key=lambda it: it.stem)
-    for path in (it for it in rows if only in it.stem):
-        found = faults(words, path)
-        passed, failed = passed + (not found), failed + bool(found)
-        if found:
-            print(f"FAIL {path.stem}")
-        for line in found:
-            print(f"  {line}")
+    runs = [it for path in rows for it in runs_of_row(words, path)] + runs_of_wrong_lines(words)
+    runs = [it for it in runs if only in it[0]]
+    passed = failed = 0
+    with concurrent.futures.ThreadPoolExecutor(os.cpu_count()) as pool:
+        for (name, *_), found in zip(runs, pool.map(lambda it: faults(*it[1:]), runs)):
+            passed, failed = passed + (not found), failed + bool(found)
+            if found:
+                print(f"FAIL {name}")
+            for line in found:
+                print(f"  {line}")
     return passed, failed
 
 
 def main():
     parser = argparse.ArgumentParser(description=__doc__, formatter_class=argparse.RawDescriptionHelpFormatter)
-    parser.add_argument("--only", default="", help="a part of a row's name")
+    parser.add_argument("--only", default="", help="a part of a run's name: the row, and the options it is run with")
     parser.add_argument("program", help="the program, and what stands before `replay`")
     parser.add_argument("arguments", nargs=argparse.REMAINDER)
     args = parser.parse_args()

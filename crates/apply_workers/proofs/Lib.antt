@@ -19,3 +19,5 @@ pub mod Shown
 pub mod Sharing
 -- Groups that are stopped.
 pub mod Stopping
+-- Lists of transactions that are applied in parts.
+pub mod AppendedLists

@@ -2,29 +2,17 @@
 ghost use Rattle.std.specs.Prelude.{◌≡◌, ◌↔◌, ◌<◌, ◌≤◌, IfOk, OnOk, IsTrue, Some, slice_get};
 ghost use Rattle.data_tree.specs.Meaning.{state_after, outcomes_of_txns};
 
-use crate::crew::run;
+use crate::crew::run_on;
 use crate::gate::Gate;
 use crate::home::{all_done, home};
 use crate::home_law::groups_come_home;
+use crate::starts::{AllStart, Starts};
 use crate::taking::{take_each, works};
-use batcher::{Batch, Group};
+use batcher::{Batch, Group, LentBatch};
 use data_tree::{Outcome, Tree};
 use std::alloc::Global;
 use std::thread::Threads;
-use txn_codec::Txn;
 use values::NoMemory;
-
-/// Applies the transactions to the tree, one after the other.
-pub fn apply_each(alloc: Global, tree: &mut Tree, txns: &[Txn]) -> Result<Vec<Outcome>, NoMemory>
-    ensures tree { OnOk result (tree.new ≡ state_after tree.old txns.now) }
-    ensures outcomes { IfOk result (λ v. v.items ≡ outcomes_of_txns tree.old txns.now) }
-{
-    let mut outcomes = Vec::new(alloc);
-    for txn in txns {
-        outcomes.push(tree.apply(alloc, txn)?)?;
-    }
-    Ok(outcomes)
-}
 
 // Whether the group's first transaction is at the place.
 fn begins_at(group: &Group, place: usize) -> bool
@@ -41,7 +29,7 @@ fn begins_at(group: &Group, place: usize) -> bool
 fn apply_alone<G: Gate>(
     alloc: Global,
     tree: &mut Tree,
-    batch: &Batch,
+    batch: &LentBatch<'_>,
     gate: &G,
 ) -> Result<Vec<Outcome>, NoMemory>
     ensures tree { OnOk result (tree.new ≡ state_after tree.old batch.now) }
@@ -63,6 +51,33 @@ fn apply_alone<G: Gate>(
     Ok(outcomes)
 }
 
+/// Applies a batch as [`apply_batch_on`] does.
+pub fn apply_lent<G: Gate + Sync, R: Threads + Sync, S: Starts>(
+    rt: &R,
+    alloc: Global,
+    tree: &mut Tree,
+    batch: &LentBatch<'_>,
+    workers: usize,
+    gate: &G,
+    starts: &S,
+) -> Result<Vec<Outcome>, NoMemory>
+    requires { (1 ≤ workers) × (workers ≤ 64) }
+    ensures tree { OnOk result (tree.new ≡ state_after tree.old batch.now) }
+    ensures outcomes { IfOk result (λ v. v.items ≡ outcomes_of_txns tree.old batch.now) }
+{
+    // More workers than groups would have nothing to do.
+    let most = workers.min(batch.groups().len());
+    if most <= 1 || batch.is_barrier() {
+        return apply_alone(alloc, tree, batch, gate);
+    }
+    groups_come_home();
+    let cells = take_each(alloc, tree, batch.groups())?;
+    let works = works(alloc, batch, cells)?;
+    let groups = run_on(rt, alloc, works, most, gate, starts)?;
+    let done = all_done(alloc, groups)?;
+    home(alloc, tree, batch, done)
+}
+
 /// Applies a batch by up to `workers` workers (1 to 64), each group on its own cells, and returns the outcomes in the
 /// order of the transactions. Tree and outcomes are those of applying the transactions one after the other, however
 /// many workers there are. It waits for the workers; the first one is the calling thread. With one worker, or one
@@ -80,14 +95,23 @@ pub fn apply_batch<G: Gate + Sync, R: Threads + Sync>(
     ensures tree { OnOk result (tree.new ≡ state_after tree.old batch) }
     ensures outcomes { IfOk result (λ v. v.items ≡ outcomes_of_txns tree.old batch) }
 {
-    // More workers than groups would have nothing to do.
-    let most = workers.min(batch.groups().len());
-    if most <= 1 || batch.is_barrier() {
-        return apply_alone(alloc, tree, &batch, gate);
-    }
-    groups_come_home();
-    let cells = take_each(alloc, tree, batch.groups())?;
-    let groups = run(rt, alloc, works(alloc, &batch, cells)?, most, gate)?;
-    let done = all_done(alloc, groups)?;
-    home(alloc, tree, &batch, done)
+    apply_batch_on(rt, alloc, tree, batch, workers, gate, &AllStart)
+}
+
+/// The same, with only those of the workers' threads started that may be. Whichever these are, tree and outcomes are
+/// the same.
+pub fn apply_batch_on<G: Gate + Sync, R: Threads + Sync, S: Starts>(
+    rt: &R,
+    alloc: Global,
+    tree: &mut Tree,
+    batch: Batch,
+    workers: usize,
+    gate: &G,
+    starts: &S,
+) -> Result<Vec<Outcome>, NoMemory>
+    requires { (1 ≤ workers) × (workers ≤ 64) }
+    ensures tree { OnOk result (tree.new ≡ state_after tree.old batch) }
+    ensures outcomes { IfOk result (λ v. v.items ≡ outcomes_of_txns tree.old batch) }
+{
+    apply_lent(rt, alloc, tree, &batch.lend(), workers, gate, starts)
 }

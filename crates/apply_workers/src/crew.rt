@@ -7,6 +7,7 @@ ghost use Rattle.apply_workers.specs.Inner.{AreReady, AreWorked};
 
 use crate::gate::Gate;
 use crate::job::{Job, work};
+use crate::starts::{AllStart, Starts};
 use apply_board::{Board, Group, Seat, Yields};
 use std::alloc::Global;
 use std::thread;
@@ -76,6 +77,20 @@ fn run_workers<
     Ok(seats)
 }
 
+// The number of workers, the calling thread among them, if each of the others' threads is started that may be.
+fn workers_on<S: Starts>(workers: usize, starts: &S) -> usize
+    requires { 0 < workers }
+    ensures { 0 < result }
+{
+    let mut count = 1usize;
+    for worker in 1..workers {
+        if starts.may_start(worker) {
+            count += 1;
+        }
+    }
+    count
+}
+
 /// Does the works with up to that many workers, each work once, and returns the results in the order of the works.
 /// Worker 0 is the calling thread. If a thread can't be started, fewer work.
 pub fn run<
@@ -94,8 +109,31 @@ pub fn run<
     ensures count { IfOk result (λ v. length v.items ≡ length works.items) }
     ensures home { IfOk result (λ v. AreHome W.gives works.items v.items) }
 {
+    run_on(rt, alloc, works, workers, gate, &AllStart)
+}
+
+/// The same, with only those of the workers' threads started that may be. The workers that there are have the numbers
+/// from 0 on.
+pub fn run_on<
+    W: Job<F> + Drop + Send + Sync,
+    F: Drop + Send + Sync,
+    G: Gate + Sync,
+    R: Threads + Sync,
+    S: Starts,
+>(
+    rt: &R,
+    alloc: Global,
+    works: Vec<W>,
+    workers: usize,
+    gate: &G,
+    starts: &S,
+) -> Result<Vec<Group<W, F>>, NoMemory>
+    requires { 0 < workers }
+    ensures count { IfOk result (λ v. length v.items ≡ length works.items) }
+    ensures home { IfOk result (λ v. AreHome W.gives works.items v.items) }
+{
     let (board, opener) = Board::open(alloc, works)?;
-    let crew = make_workers(alloc, &board, opener, workers)?;
+    let crew = make_workers(alloc, &board, opener, workers_on(workers, starts))?;
     let seats = run_workers(rt, &board, crew, gate)?;
     Ok(board.close(seats))
 }

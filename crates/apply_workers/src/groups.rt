@@ -8,10 +8,10 @@ ghost use Rattle.apply_workers.specs.Schedule.{try_step as stepped};
 ghost use Rattle.apply_workers.specs.Underway.{unstarted_batch};
 ghost use Rattle.apply_workers.specs.declared.step.Step.TheVariants.{Claim};
 
-use crate::batch::apply_each;
 use crate::hand::GroupInProgress;
 use crate::home::{Done, home};
 use crate::law::groups_are_taken;
+use crate::list::apply_list_inline;
 use crate::step::Step;
 use crate::taking::take_each;
 use batcher::Batch;
@@ -203,10 +203,10 @@ impl Groups {
     {
         let Groups { batch, hands, .. } = self;
         if batch.is_barrier() {
-            return apply_each(alloc, tree, batch.txns());
+            return apply_list_inline(alloc, tree, batch.txns());
         }
         batcher::law::groups();
         let done = finish_each(alloc, &batch, hands)?;
-        home(alloc, tree, &batch, done)
+        home(alloc, tree, &batch.lend(), done)
     }
 }

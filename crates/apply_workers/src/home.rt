@@ -7,7 +7,7 @@ ghost use Rattle.apply_workers.specs.Inner.{put_at, finished_groups};
 
 use crate::group_work::{Finished, Work};
 use apply_board::Group;
-use batcher::Batch;
+use batcher::LentBatch;
 use data_tree::{Cells, Outcome, Tree};
 use std::alloc::Global;
 use txn_codec::{Body, Txn};
@@ -99,7 +99,7 @@ fn put_at(all: &mut Vec<Outcome>, places: &[usize], share: Listed<Outcome>)
 // The list of which each group has its share.
 fn in_order(
     alloc: Global,
-    batch: &Batch,
+    batch: &LentBatch<'_>,
     shares: Vec<Listed<Outcome>>,
 ) -> Result<Vec<Outcome>, NoMemory>
     requires groups { is_barrier_alone batch.now ≡ false }
@@ -122,7 +122,7 @@ fn in_order(
 pub fn home(
     alloc: Global,
     tree: &mut Tree,
-    batch: &Batch,
+    batch: &LentBatch<'_>,
     done: Done,
 ) -> Result<Vec<Outcome>, NoMemory>
     requires groups { is_barrier_alone batch.now ≡ false }

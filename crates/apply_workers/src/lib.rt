@@ -1,7 +1,8 @@
 //! Workers at a board: each claims works, does them and gives the results back, until all are claimed.
 //!
 //! `work` is the loop of one worker. `run` has a list of works done by several workers, each on a thread of its own,
-//! and returns the results in the order of the works. A `Gate` is passed after each claim and before its work.
+//! and returns the results in the order of the works. A `Gate` is passed after each claim and before its work. `run_on`
+//! asks a `Starts` first which threads it may start.
 //!
 //! `specs/Schedule.antt` defines, step by step, what workers do with the groups of a batch. The law
 //! `law::every_schedule` says that the result is that of the batch, whatever `Step`s are taken.
@@ -15,6 +16,10 @@
 //! outcomes are put in the batch's order. State and outcomes are those of applying the transactions one after the
 //! other, since groups have no cell in common (the law `groups_come_home`). A single worker moves no cells: it applies
 //! the transactions to the tree, and passes the gate for each group at the group's first transaction.
+//!
+//! `apply_list` applies a list of any length: it cuts batches from it, which borrow their transactions, and applies each
+//! as `apply_batch` does. What is less work than a threshold is applied to the tree itself, as `apply_list_inline` does
+//! with the whole list.
 //!
 //! ```text
 //! let batch = cut(alloc, txns, &limits)?;
@@ -35,11 +40,14 @@ mod home_law;
 mod inline;
 mod job;
 pub mod law;
+mod list;
+mod starts;
 mod step;
 mod taking;
+mod work_size;
 
-pub use batch::apply_batch;
-pub use crew::run;
+pub use batch::{apply_batch, apply_batch_on};
+pub use crew::{run, run_on};
 pub use gate::{Gate, OpenGate};
 pub use group_work::{Finished, Work};
 pub use groups::Groups;
@@ -47,4 +55,6 @@ pub use holder::Holder;
 pub use home_law::groups_come_home;
 pub use inline::apply_inline;
 pub use job::{Job, work};
+pub use list::{apply_list, apply_list_inline};
+pub use starts::{AllStart, Starts};
 pub use step::Step;

@@ -6,7 +6,7 @@ ghost use Rattle.apply_workers.specs.Taking.{cells_of_each, without_group_cells}
 ghost use Rattle.apply_workers.specs.Works.{cells_of, txns_of};
 
 use crate::group_work::Work;
-use batcher::{Batch, Group};
+use batcher::{Group, LentBatch};
 use data_tree::{Cells, Tree};
 use std::alloc::Global;
 use values::NoMemory;
@@ -26,7 +26,7 @@ pub fn take_each(alloc: Global, tree: &mut Tree, groups: &[Group]) -> Result<Vec
 /// The groups' works, each on its cells.
 pub fn works<'a>(
     alloc: Global,
-    batch: &'a Batch,
+    batch: &LentBatch<'a>,
     cells: Vec<Cells>,
 ) -> Result<Vec<Work<'a>>, NoMemory>
     requires { length cells.items ≡ length (groups_of batch.now) }

@@ -1,5 +1,7 @@
 //! A batch has the state and the outcomes of its transactions one after the other, however many workers there are.
-use crate::words::{answers, batches_of, one_by_one, sizes, state, tree_behind};
+use crate::words::{
+    CLOSE_SESSION, TWO_GROUPS, answers, batches_of, one_by_one, sizes, state, tree_behind,
+};
 use apply_workers::{OpenGate, Step, apply_batch, apply_inline};
 use batcher::{Batch, Limits, cut};
 use batcher_tests::read_txn;
@@ -156,15 +158,8 @@ fn timeout_by_steps(alloc: Global) -> Result<Option<i32>, Fail> {
 #[test]
 fn groups_are_done_apart(rt: HostRuntime) -> Result<(), Fail> {
     let alloc = rt.alloc();
-    assert!(rt;
-        is_so(
-            &rt,
-            alloc,
-            ("/a /b", "/a/x /a/y /b/z"),
-            "3 ",
-            "0+/a/x~/a;0+/a/y~/a;0+/b/z~/b;8 a b zookeeper; x y; z; -1 2,2,2 1,1,3",
-        )?
-    );
+    let (words, wanted) = TWO_GROUPS;
+    assert!(rt; is_so(&rt, alloc, words, "3 ", wanted)?);
     assert!(rt;
         is_so(
             &rt,
@@ -195,15 +190,8 @@ fn what_meets_two_groups_begins_the_next_batch(rt: HostRuntime) -> Result<(), Fa
 #[test]
 fn a_barrier_is_done_on_the_tree(rt: HostRuntime) -> Result<(), Fail> {
     let alloc = rt.alloc();
-    assert!(rt;
-        is_so(
-            &rt,
-            alloc,
-            ("open /a /b !/a/e !/a/f !/b/g", "/a/x close /b/y"),
-            "1 1 1 ",
-            "0+/a/x~/a;0-/a/e~/a-/a/f~/a-/b/g~/b;0+/b/y~/b;7 a b zookeeper; x; y; -1 5,1,2 3,1,3",
-        )?
-    );
+    let (words, wanted) = CLOSE_SESSION;
+    assert!(rt; is_so(&rt, alloc, words, "1 1 1 ", wanted)?);
     Ok(())
 }
 

@@ -7,6 +7,10 @@ mod batches;
 #[cfg(test)]
 mod large;
 #[cfg(test)]
+mod lists;
+#[cfg(test)]
+mod refusals;
+#[cfg(test)]
 mod schedules;
 #[cfg(test)]
 mod threads;

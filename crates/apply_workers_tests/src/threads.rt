@@ -2,7 +2,9 @@
 ghost use Rattle.std.specs.Prelude.{◌≤◌};
 
 use crate::words::{answers, batch_of, tree_behind};
-use apply_workers::{Gate, apply_batch};
+use apply_workers::{Gate, apply_batch, apply_list};
+use batcher::{Limits, SpreadThreshold};
+use batcher_tests::read_txns;
 use data_tree::Outcome;
 use std::alloc::Global;
 use std::sync::atomic::{AtomicU64, Ordering};
@@ -50,13 +52,37 @@ fn done<R: Threads + Sync, G: Gate + Sync>(
     Ok(apply_batch(rt, alloc, &mut tree, batch, workers, gate)?)
 }
 
-// The outcomes by two workers while one group is held until this many others were passed; or the word "missed".
+// The same, applied as a list.
+fn listed<R: Threads + Sync, G: Gate + Sync>(
+    rt: &R,
+    alloc: Global,
+    words: &str,
+    workers: usize,
+    gate: &G,
+) -> Result<Vec<Outcome>, Fail> {
+    let txns = read_txns(alloc, words)?;
+    let limits = Limits::new(workers, 256, 64)?;
+    let mut tree = tree_behind(alloc, "/a /b /c")?;
+    Ok(apply_list(
+        rt,
+        alloc,
+        &mut tree,
+        txns.as_slice(),
+        &limits,
+        &SpreadThreshold::ALWAYS,
+        gate,
+    )?)
+}
+
+// The outcomes by two workers, of a batch or a list, while one group is held until this many others were passed; or the
+// word "missed".
 fn held<R: Threads + Sync>(
     rt: &R,
     alloc: Global,
     words: &str,
     held: usize,
     others: u64,
+    is_list: bool,
 ) -> Result<String, Fail> {
     let gate = Holding {
         held,
@@ -64,7 +90,11 @@ fn held<R: Threads + Sync>(
         passed: AtomicU64::new(0),
         missed: AtomicU64::new(0),
     };
-    let outcomes = done(rt, alloc, words, 2, &gate)?;
+    let outcomes = if is_list {
+        listed(rt, alloc, words, 2, &gate)?
+    } else {
+        done(rt, alloc, words, 2, &gate)?
+    };
     if gate.missed.load(Ordering::SeqCst) != 0 {
         return Ok(String::from_str(alloc, "missed")?);
     }
@@ -112,10 +142,12 @@ fn one_worker_passes_the_gate_once_for_each_group(rt: HostRuntime) -> Result<(),
 #[test]
 fn a_held_group_holds_no_other(rt: HostRuntime) -> Result<(), Fail> {
     let alloc = rt.alloc();
-    let two = held(&rt, alloc, "/a/x /a/y /b/z", 0, 1)?;
-    assert_eq!(rt; two.as_str(), "0+/a/x~/a;0+/a/y~/a;0+/b/z~/b;");
+    for is_list in [false, true] {
+        let two = held(&rt, alloc, "/a/x /a/y /b/z", 0, 1, is_list)?;
+        assert_eq!(rt; two.as_str(), "0+/a/x~/a;0+/a/y~/a;0+/b/z~/b;");
+    }
     for group in 0..3 {
-        let three = held(&rt, alloc, "/a/x /b/y /c/z", group, 2)?;
+        let three = held(&rt, alloc, "/a/x /b/y /c/z", group, 2, false)?;
         assert_eq!(rt; three.as_str(), "0+/a/x~/a;0+/b/y~/b;0+/c/z~/c;");
     }
     Ok(())

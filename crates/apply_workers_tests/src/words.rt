@@ -6,6 +6,18 @@ use data_tree::{Outcome, Tree, Trigger};
 use std::alloc::Global;
 use std::test::Fail;
 
+/// Words to begin with, words of transactions in two groups, and the outcomes and the state of these.
+pub const TWO_GROUPS: ((&str, &str), &str) = (
+    ("/a /b", "/a/x /a/y /b/z"),
+    "0+/a/x~/a;0+/a/y~/a;0+/b/z~/b;8 a b zookeeper; x y; z; -1 2,2,2 1,1,3",
+);
+
+/// The same, of words with a barrier between two groups.
+pub const CLOSE_SESSION: ((&str, &str), &str) = (
+    ("open /a /b !/a/e !/a/f !/b/g", "/a/x close /b/y"),
+    "0+/a/x~/a;0-/a/e~/a-/a/f~/a-/b/g~/b;0+/b/y~/b;7 a b zookeeper; x; y; -1 5,1,2 3,1,3",
+);
+
 // The tree that every log starts from. It has no contract, so that no proof computes anything from the tree.
 fn fresh(alloc: Global) -> Result<Tree, Fail> {
     Ok(Tree::fresh(alloc)?)

@@ -7,7 +7,7 @@ ghost use Rattle.auditing.specs.Auditing.{is_checkpoint, fed_events, log_after, 
 ghost use Rattle.auditing.specs.declared.auditing.Uncounted.TheVariants as uncounted;
 
 use audit::{AuditError, audit_stat};
-use observer_core::{Engine, Event, Settings, Stop};
+use observer_core::{Engine, Event, Settings, Stop, default_limits};
 use replay::{Ending, engine_of, event_of, put_count};
 use replay_script::{Script, ScriptError, ScriptEvent, parse};
 use std::alloc::Global;
@@ -116,7 +116,7 @@ fn audit_script(alloc: Global, script: Script, path: &str) -> Result<Option<(i32
         timeouts,
         secret,
     };
-    let engine = engine_of(alloc, primed, settings)?;
+    let engine = engine_of(alloc, primed, settings, default_limits())?;
     feed(alloc, engine, events.as_slice(), path)
 }
 

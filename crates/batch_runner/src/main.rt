@@ -17,6 +17,12 @@
 //! `batch_runner batch KIND COUNT BYTES TIMES WORKERS LENGTH`: they are moved into batches of up to LENGTH, each of
 //! which is applied by up to WORKERS workers and dropped.
 //!
+//! `batch_runner inline KIND COUNT BYTES TIMES LENGTH`: they are applied as lists of up to LENGTH, one after the other,
+//! and stay.
+//!
+//! `batch_runner list KIND COUNT BYTES TIMES WORKERS LENGTH`: the same, but each list is applied in batches by up to
+//! WORKERS workers; by one worker it isn't cut.
+//!
 //! `batch_runner board WORKS TIMES WORKERS`: WORKS empty works are claimed at a board and given back, by up to WORKERS
 //! workers.
 //!
@@ -28,6 +34,7 @@
 mod asked;
 mod batches;
 mod cutting;
+mod lists;
 mod making;
 mod plain;
 mod tally;
@@ -38,6 +45,7 @@ use asked::{Load, kind_of};
 use batcher::Limits;
 use batches::{GROUPS, by_workers};
 use cutting::{cut_all, move_all};
+use lists::{lists_by_workers, lists_inline};
 use making::txns;
 use plain::{each_kept, each_lent, each_moved};
 use std::alloc::{AllocError, Global};
@@ -46,12 +54,14 @@ use std::process::ExitCode;
 use std::rt::Clock;
 use std::thread::Threads;
 use tally::Tally;
+use txn_codec::Txn;
 use works::claimed;
 
 const USAGE: &str =
     "wanted: cut KIND COUNT BYTES TIMES, or move KIND COUNT BYTES TIMES, or lend KIND COUNT BYTES TIMES, \
     or apply KIND COUNT BYTES TIMES, or keep KIND COUNT BYTES TIMES, \
-    or batch KIND COUNT BYTES TIMES WORKERS LENGTH, or board WORKS TIMES WORKERS";
+    or batch KIND COUNT BYTES TIMES WORKERS LENGTH, or inline KIND COUNT BYTES TIMES LENGTH, \
+    or list KIND COUNT BYTES TIMES WORKERS LENGTH, or board WORKS TIMES WORKERS";
 
 // The words after the program's name.
 fn words(rt: &HostRuntime) -> Result<Vec<String>> {
@@ -84,6 +94,28 @@ fn limits_of(words: &[String]) -> Result<Limits> {
     Ok(Limits::new(workers, length, GROUPS)?)
 }
 
+// Applies the transactions in batches or lists, as the words ask for.
+fn apply_together<R: Threads + Clock + Sync>(
+    rt: &R,
+    alloc: Global,
+    words: &[String],
+    txns: &[Txn],
+    times: u32,
+) -> Result<Tally> {
+    let word = words.first().context(USAGE)?.as_str();
+    if word == "inline" {
+        let length = number(words, 5)? as usize;
+        return lists_inline(rt, alloc, txns, times, length);
+    }
+    if word == "list" {
+        return lists_by_workers(rt, alloc, txns, times, &limits_of(words)?);
+    }
+    if word == "batch" {
+        return by_workers(rt, alloc, txns, times, &limits_of(words)?);
+    }
+    bail!("{USAGE}")
+}
+
 // Does what the words ask for.
 fn run<R: Threads + Clock + Sync>(rt: &R, alloc: Global, words: &[String]) -> Result<Tally> {
     let word = words.first().context(USAGE)?.as_str();
@@ -108,11 +140,7 @@ fn run<R: Threads + Clock + Sync>(rt: &R, alloc: Global, words: &[String]) -> Re
     if word == "keep" {
         return each_kept(rt, alloc, txns.as_slice(), load.times);
     }
-    if word == "batch" {
-        let limits = limits_of(words)?;
-        return by_workers(rt, alloc, txns.as_slice(), load.times, &limits);
-    }
-    bail!("{USAGE}")
+    apply_together(rt, alloc, words, txns.as_slice(), load.times)
 }
 
 // Prints the counts and the times.

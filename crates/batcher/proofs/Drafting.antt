@@ -16,6 +16,7 @@ use Rattle.batcher.specs.Limits.{LimitNumbers, are_limits}
 use Rattle.batcher.specs.declared.draft.Draft.{Draft}
 use Rattle.batcher.specs.declared.met.Met.TheVariants.{Nothing}
 use Rattle.batcher.specs.Groups.{group_with, group_count, group_for, group_of_next, tagged_txns, txn_groups_of}
+use Rattle.batcher.specs.Front.{IsFrontOf}
 use Rattle.batcher.specs.Cut.{cut, is_barrier_alone, is_batch, groups_if_tagged, groups_of}
 use Rattle.batcher.specs.Inner.Joining.{with_txn_at, with_member, all_met, met_group}
 use Rattle.batcher.specs.Inner.Taking.{group_within_limit, group_taken, tagged_front_after, HasTaken, BeginsWithBarrier}
@@ -268,17 +269,21 @@ module _ (limits : LimitNumbers) (txns : List Txn) (draft : Draft) (is : IsDraft
           ∙ sym txns_are
           ∙ the_cut
 
-      pub front_within : n ≤ length txns
+      front_within : n ≤ length txns
       front_within =
           let all = length-take n txns in
           let same = ap length front_is ∙ ap length (sym the_cut) ∙ count_in draft ∙ sym count in
           omega arith
 
-      pub front_groups : draft.groups.items ≡ groups_of (cut limits txns)
-      front_groups = groups_are ∙ ap groups_of the_cut
+      taken_is : txns_in draft ≡ take n txns
+      taken_is = the_cut ∙ sym front_is
 
-      pub front_batch : is_batch (cut limits txns) ≡ true
-      front_batch = ap is_batch (sym the_cut) ∙ are_a_batch
+      pub is_front : IsFrontOf (record { count = n; groups = draft.groups.items }) txns
+      is_front = record {
+        within = front_within;
+        groups = groups_are ∙ ap groups_of taken_is;
+        batch = ap is_batch (sym taken_is) ∙ are_a_batch;
+      }
 
 -- ---- a group in a list of groups
 

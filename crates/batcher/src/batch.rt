@@ -4,6 +4,7 @@ ghost use Rattle.std.specs.Prelude.{◌≡◌, ◌↔◌, [], IsTrue, length};
 ghost use Rattle.batcher.specs.Cut.{is_barrier_alone, is_batch, groups_of};
 
 use crate::group::Group;
+use crate::lent::LentBatch;
 use std::marker::Model;
 use txn_codec::Txn;
 
@@ -37,11 +38,18 @@ impl Batch {
         Batch { txns, groups }
     }
 
+    /// The batch, with its transactions and groups borrowed.
+    pub fn lend(&self) -> LentBatch<'_>
+        ensures { result ≡ self.now }
+    {
+        LentBatch::new(self.txns.as_slice(), self.groups.as_slice())
+    }
+
     /// Whether it is a single barrier.
     pub fn is_barrier(&self) -> bool
         ensures { result ≡ is_barrier_alone self.now }
     {
-        self.groups.is_empty() && !self.txns.is_empty()
+        self.lend().is_barrier()
     }
 
     /// The transactions, in their order.

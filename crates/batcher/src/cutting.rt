@@ -46,7 +46,8 @@ pub fn cut(alloc: Global, txns: &[Txn], limits: &Limits) -> Result<Batch, NoMemo
     ensures { IfOk result (λ batch. batch ≡ cut limits.now txns.now) }
 {
     let front = front_of(alloc, txns, limits)?;
-    Ok(Batch::new(copied(alloc, &txns[..front.count])?, front.groups))
+    let copies = copied(alloc, &txns[..front.len()])?;
+    Ok(Batch::new(copies, front.into_groups()))
 }
 
 /// The same, with the transactions moved out of the front of a queue and not copied. A refused allocation leaves the
@@ -61,5 +62,6 @@ pub fn cut_front(
     ensures refused { OnErr result (txns.new.items ≡ txns.old.items) }
 {
     let front = front_of(alloc, txns.make_contiguous(), limits)?;
-    Ok(Batch::new(moved(alloc, txns, front.count)?, front.groups))
+    let taken = moved(alloc, txns, front.len())?;
+    Ok(Batch::new(taken, front.into_groups()))
 }

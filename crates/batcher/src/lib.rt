@@ -15,7 +15,8 @@
 //! }
 //! ```
 //!
-//! `cut` copies the transactions of its batch; `cut_front` moves them out of a queue.
+//! `cut` copies the transactions of its batch; `cut_front` moves them out of a queue. `front_of` leaves them where they
+//! are: it finds the same batch as a `Front`, and `Front::lend` makes of it and the list a `LentBatch`.
 #![tactic(auto)]
 
 mod batch;
@@ -24,10 +25,15 @@ mod draft;
 mod front;
 mod group;
 pub mod law;
+mod lent;
 mod limits;
 mod met;
+mod threshold;
 
 pub use batch::Batch;
 pub use cutting::{cut, cut_front};
+pub use front::{Front, front_of};
 pub use group::Group;
+pub use lent::LentBatch;
 pub use limits::{BadLimit, Limits};
+pub use threshold::SpreadThreshold;

@@ -1,14 +1,14 @@
 //! Batches cut from the front of a list.
 
 use crate::{read_txn, read_txns};
-use batcher::{Batch, Limits, cut, cut_front};
+use batcher::{LentBatch, Limits, cut, cut_front, front_of};
 use std::alloc::Global;
 use std::collections::VecDeque;
 use std::test::Fail;
 use txn_codec::Txn;
 
 // The number of transactions in the batch, and each group's places and paths; or the word "barrier".
-fn shown(alloc: Global, batch: &Batch) -> Result<String, Fail> {
+fn shown(alloc: Global, batch: &LentBatch<'_>) -> Result<String, Fail> {
     let count = batch.txns().len();
     let mut text = format!(in alloc; "{count}")?;
     if batch.is_barrier() {
@@ -32,12 +32,23 @@ fn shown(alloc: Global, batch: &Batch) -> Result<String, Fail> {
 fn cut_of(alloc: Global, words: &str, batch: usize, groups: usize) -> Result<String, Fail> {
     let limits = Limits::new(4, batch, groups)?;
     let txns = read_txns(alloc, words)?;
-    shown(alloc, &cut(alloc, txns.as_slice(), &limits)?)
+    let batch = cut(alloc, txns.as_slice(), &limits)?;
+    shown(alloc, &batch.lend())
 }
 
 // The batch cut with the default limits.
 fn usual(alloc: Global, words: &str) -> Result<String, Fail> {
     cut_of(alloc, words, 256, 64)
+}
+
+// The batch at the front of the list, lent from there, with the default limits; and the number of transactions after it.
+fn lent(alloc: Global, words: &str) -> Result<String, Fail> {
+    let txns = read_txns(alloc, words)?;
+    let front = front_of(alloc, txns.as_slice(), &Limits::new(4, 256, 64)?)?;
+    let text = shown(alloc, &front.lend(txns.as_slice()))?;
+    let text = text.as_str();
+    let rest = txns.len().saturating_sub(front.len());
+    Ok(format!(in alloc; "{text} ({rest})")?)
 }
 
 // Appends the transactions of these words to the queue.
@@ -51,7 +62,7 @@ fn queue_up(alloc: Global, queue: &mut VecDeque<Txn>, words: &str) -> Result<(),
 // The batch moved out of the queue with the default limits, and the number of transactions left there.
 fn moved(alloc: Global, queue: &mut VecDeque<Txn>) -> Result<String, Fail> {
     let batch = cut_front(alloc, queue, &Limits::new(4, 256, 64)?)?;
-    let text = shown(alloc, &batch)?;
+    let text = shown(alloc, &batch.lend())?;
     let text = text.as_str();
     let left = queue.len();
     Ok(format!(in alloc; "{text} ({left})")?)
@@ -163,6 +174,16 @@ fn limits_are_within_their_bounds(rt: HostRuntime) -> Result<(), Fail> {
     assert!(rt; !are_limits(0, 1, 1) && !are_limits(65, 1, 1));
     assert!(rt; !are_limits(1, 0, 1) && !are_limits(1, 4097, 1));
     assert!(rt; !are_limits(1, 1, 0) && !are_limits(1, 1, 257));
+    Ok(())
+}
+
+#[test]
+fn a_front_is_lent_where_it_stands(rt: HostRuntime) -> Result<(), Fail> {
+    let alloc = rt.alloc();
+    let two = lent(alloc, "/a/x /b/y /a/z +/a/p,/b/q")?;
+    assert_eq!(rt; two.as_str(), "3; 0 2 /a /a/x /a/z; 1 /b /b/y (1)");
+    assert_eq!(rt; lent(alloc, "close /a/x")?.as_str(), "1 barrier (1)");
+    assert_eq!(rt; lent(alloc, "")?.as_str(), "0 (0)");
     Ok(())
 }
 

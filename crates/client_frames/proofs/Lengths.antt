@@ -1,5 +1,5 @@
 -- The length of the answer to a connect.
-use Rattle.std.proofs.Common.{◌≡◌, ℕ, ◌+◌, List, [], ◌∷◌, ◌++◌, length, w32, pos, ap, ◌∙◌, arith}
+use Rattle.std.proofs.Common.{◌≡◌, ℕ, ◌+◌, [], ◌∷◌, ◌++◌, length, w32, pos, ap, ◌∙◌, arith}
 use Rattle.std.proofs.lemmas.List.{length-append}
 use Rattle.jute.specs.Format.{number_bytes, with_count}
 use Rattle.jute.specs.Frame.{frame_bytes}

@@ -1,14 +1,17 @@
 -- A client's frame (zookeeper.jute, RequestHeader): a header, and the body of a request of the header's type.
-use Rattle.std.specs.Prelude.{ℕ, List, Option, Some, None, Result, Ok, Err}
+use Rattle.std.specs.Prelude.{ℕ, List, Option, Some, None, Result, Ok, Err, false, if◌then◌else◌}
 use Rattle.values.specs.declared.fault.Fault.{Fault}
 use Rattle.jute.specs.declared.message.RequestHeader.{RequestHeader}
 use Rattle.jute.specs.Records.{request_header}
+use Rattle.client_records.specs.declared.kind.ReadKind.{ReadKind}
 use Rattle.client_records.specs.declared.kind.RequestKind.{RequestKind}
 use Rattle.client_records.specs.declared.kind.RequestKind.TheVariants as kinds
+use Rattle.client_records.specs.declared.request.PathAlone.{PathAlone}
+use Rattle.client_records.specs.declared.request.PathAndWatch.{PathAndWatch}
 use Rattle.client_records.specs.Kinds.{kind_of}
-use Rattle.client_records.specs.Requests.{path_and_watch, get_acl_request, set_watches, auth_packet}
+use Rattle.client_records.specs.Requests.{path_and_watch, path_alone, set_watches, auth_packet}
 use Rattle.read_processor.specs.declared.request.Request.{Request}
-use Rattle.read_processor.specs.declared.request.Request.TheVariants.{Exists, GetData, GetAcl, GetChildren, GetChildren2}
+use Rattle.read_processor.specs.Kinds.{may_watch}
 use Rattle.client_frames.specs.declared.call.Call.{Call}
 use Rattle.client_frames.specs.declared.call.CallBody.{CallBody}
 use Rattle.client_frames.specs.declared.call.CallBody.TheVariants.{Read, SetWatches, Auth, CloseSession, Unreadable, Ping, Write, Unknown}
@@ -26,14 +29,23 @@ body_or_unreadable body (Some found) = body found
 abbrev pub read_as : {A : Type 0} → (A → Request) → Option A → CallBody
 read_as request found = body_or_unreadable (λ r. Read (request r)) found
 
+abbrev pub read_with_flag : ReadKind → PathAndWatch → Request
+read_with_flag kind r = record { kind = kind; path = r.path; watch = r.watch }
+
+abbrev pub read_without_flag : ReadKind → PathAlone → Request
+read_without_flag kind r = record { kind = kind; path = r.path; watch = false }
+
+-- A read's path and, where a client may ask for a watch, whether it does.
+abbrev pub body_of_read : ReadKind → List ℕ → CallBody
+body_of_read kind bytes =
+    if may_watch kind
+    then read_as (read_with_flag kind) (value_if_read (path_and_watch.read bytes))
+    else read_as (read_without_flag kind) (value_if_read (path_alone.read bytes))
+
 -- The body of a change isn't read.
 abbrev pub call_body : Option RequestKind → List ℕ → CallBody
 call_body None bytes = Unknown
-call_body (Some kinds.Exists) bytes = read_as Exists (value_if_read (path_and_watch.read bytes))
-call_body (Some kinds.GetData) bytes = read_as GetData (value_if_read (path_and_watch.read bytes))
-call_body (Some kinds.GetAcl) bytes = read_as GetAcl (value_if_read (get_acl_request.read bytes))
-call_body (Some kinds.GetChildren) bytes = read_as GetChildren (value_if_read (path_and_watch.read bytes))
-call_body (Some kinds.GetChildren2) bytes = read_as GetChildren2 (value_if_read (path_and_watch.read bytes))
+call_body (Some (kinds.Read kind)) bytes = body_of_read kind bytes
 call_body (Some kinds.Ping) bytes = Ping
 call_body (Some kinds.Create) bytes = Write
 call_body (Some kinds.Delete) bytes = Write

@@ -4,11 +4,11 @@ ghost use Rattle.std.specs.Prelude.{◌≡◌, IfOk};
 ghost use Rattle.jute.specs.Reads.{ReadsOwnedWhole};
 ghost use Rattle.client_records.specs.Kinds.{kind_of};
 ghost use Rattle.client_records.specs.Requests.{auth_packet, set_watches};
-ghost use Rattle.client_frames.specs.Call.{value_if_read, body_or_unreadable, call_body, call_in};
+ghost use Rattle.client_frames.specs.Call.{value_if_read, body_or_unreadable, body_of_read, call_body, call_in};
 
-use client_records::{AuthPacket, RequestKind, SetWatches};
+use client_records::{AuthPacket, PathAlone, PathAndWatch, ReadKind, RequestKind, SetWatches};
 use jute::{ReadRecord, Reader, RequestHeader};
-use read_processor::Request;
+use read_processor::{Request, may_watch};
 use std::alloc::Global;
 use values::{NoMemory, ReadError};
 
@@ -70,6 +70,31 @@ fn read_set_watches<'a>(alloc: Global, reader: &mut Reader<'a>) -> Result<CallBo
     }
 }
 
+// A path and, where a client may ask for a watch, whether it does.
+fn read_request<'a>(
+    alloc: Global,
+    kind: ReadKind,
+    reader: &mut Reader<'a>,
+) -> Result<CallBody<'a>, NoMemory>
+    ensures { IfOk result (λ body. body ≡ body_of_read kind reader.old) }
+{
+    if may_watch(kind) {
+        return match read_or_none(alloc, reader)? {
+            None => Ok(CallBody::Unreadable),
+            Some(PathAndWatch { path, watch }) => {
+                Ok(CallBody::Read(Request { kind, path, watch }))
+            }
+        };
+    }
+    match read_or_none(alloc, reader)? {
+        None => Ok(CallBody::Unreadable),
+        Some(PathAlone { path }) => {
+            let watch = false;
+            Ok(CallBody::Read(Request { kind, path, watch }))
+        }
+    }
+}
+
 fn read_body<'a>(
     alloc: Global,
     kind: Option<RequestKind>,
@@ -80,14 +105,10 @@ fn read_body<'a>(
     let Some(kind) = kind else {
         return Ok(CallBody::Unknown);
     };
-    let request = match kind {
-        RequestKind::Exists => read_or_none(alloc, reader)?.map(Request::Exists),
-        RequestKind::GetData => read_or_none(alloc, reader)?.map(Request::GetData),
-        RequestKind::GetAcl => read_or_none(alloc, reader)?.map(Request::GetAcl),
-        RequestKind::GetChildren => read_or_none(alloc, reader)?.map(Request::GetChildren),
-        RequestKind::GetChildren2 => read_or_none(alloc, reader)?.map(Request::GetChildren2),
-        RequestKind::Auth => return read_auth(alloc, reader),
-        RequestKind::SetWatches => return read_set_watches(alloc, reader),
+    match kind {
+        RequestKind::Read(kind) => read_request(alloc, kind, reader),
+        RequestKind::Auth => read_auth(alloc, reader),
+        RequestKind::SetWatches => read_set_watches(alloc, reader),
         RequestKind::CloseSession => return Ok(CallBody::CloseSession),
         RequestKind::Ping => return Ok(CallBody::Ping),
         RequestKind::Create
@@ -97,10 +118,6 @@ fn read_body<'a>(
         | RequestKind::Sync
         | RequestKind::Check
         | RequestKind::Multi => return Ok(CallBody::Write),
-    };
-    match request {
-        None => Ok(CallBody::Unreadable),
-        Some(request) => Ok(CallBody::Read(request)),
     }
 }
 

@@ -10,19 +10,34 @@ mod connects;
 use client_frames::{
     CallBody, Connecting, answer_to_connect, read_call, read_connecting, session_request,
 };
-use read_processor::Request;
+use client_records::ReadKind;
+use read_processor::{Request, may_watch};
 use sessions::{SessionRequest, SessionResponse};
 use std::alloc::Global;
 use values::ReadError;
 
+// A read of /a, in a word; of the kinds whose requests say so, one that asks for a watch.
+fn read_word(request: &Request<'_>) -> &'static str {
+    let is_of_a = match &request.path {
+        None => false,
+        Some(path) => path.as_str() == "/a",
+    };
+    if !is_of_a || request.watch != may_watch(request.kind) {
+        return "another read";
+    }
+    match request.kind {
+        ReadKind::Exists => "exists",
+        ReadKind::GetData => "getData",
+        ReadKind::GetAcl => "getACL",
+        ReadKind::GetChildren => "getChildren",
+        ReadKind::GetChildren2 => "getChildren2",
+    }
+}
+
 // The request of a body.
 fn word(body: &CallBody<'_>) -> &'static str {
     match body {
-        CallBody::Read(Request::Exists(_)) => "exists",
-        CallBody::Read(Request::GetData(_)) => "getData",
-        CallBody::Read(Request::GetAcl(_)) => "getACL",
-        CallBody::Read(Request::GetChildren(_)) => "getChildren",
-        CallBody::Read(Request::GetChildren2(_)) => "getChildren2",
+        CallBody::Read(request) => read_word(request),
         CallBody::SetWatches(_) => "setWatches",
         CallBody::Auth(_) => "auth",
         CallBody::CloseSession => "closeSession",

@@ -2,5 +2,3 @@
 pub mod Sizes
 -- The names of a set, as they are written.
 pub mod Names
--- The records.
-pub mod Records

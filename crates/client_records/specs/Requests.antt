@@ -3,7 +3,7 @@ use Rattle.jute.specs.Format.{Format, int, long, boolean, buffer, text_format, p
 use Rattle.client_records.specs.Fields.{names_format}
 use Rattle.client_records.specs.declared.connect.ConnectRequest.{ConnectRequest}
 use Rattle.client_records.specs.declared.request.PathAndWatch.{PathAndWatch}
-use Rattle.client_records.specs.declared.request.GetAclRequest.{GetAclRequest}
+use Rattle.client_records.specs.declared.request.PathAlone.{PathAlone}
 use Rattle.client_records.specs.declared.request.SetWatches.{SetWatches}
 use Rattle.client_records.specs.declared.request.AuthPacket.{AuthPacket}
 
@@ -37,8 +37,11 @@ get_children_request = path_and_watch
 abbrev pub get_children2_request : Format PathAndWatch
 get_children2_request = path_and_watch
 
-unfoldable pub get_acl_request : Format GetAclRequest
-get_acl_request = mapped_format (λ v. record { path = v }) (λ r. r.path) text_format
+unfoldable pub path_alone : Format PathAlone
+path_alone = mapped_format (λ v. record { path = v }) (λ r. r.path) text_format
+
+abbrev pub get_acl_request : Format PathAlone
+get_acl_request = path_alone
 
 unfoldable pub set_watches : Format SetWatches
 set_watches =

@@ -3,41 +3,48 @@
 ghost use Rattle.std.specs.Prelude.{◌≡◌, Some};
 ghost use Rattle.client_records.specs.Kinds.{code_of, kind_of};
 
+/// The types of reads, by what they show of a node.
+#[derive(Clone, Copy, Debug, PartialEq, Eq)]
+pub enum ReadKind {
+    /// Its Stat, if there is a node.
+    Exists = 3,
+    /// Its data.
+    GetData = 4,
+    /// Its access control list.
+    GetAcl = 6,
+    /// The names of its children.
+    GetChildren = 8,
+    /// The names of its children, and its Stat.
+    GetChildren2 = 12,
+}
+
 /// The types of requests (the operation codes of `ZooDefs.OpCode`).
 #[derive(Clone, Copy, Debug, PartialEq, Eq)]
 pub enum RequestKind {
     /// Create a node.
-    Create = 1,
+    Create,
     /// Delete a node.
-    Delete = 2,
-    /// Read a node's Stat, if there is a node.
-    Exists = 3,
-    /// Read a node's data.
-    GetData = 4,
+    Delete,
+    /// Read a node.
+    Read(ReadKind),
     /// Replace a node's data.
-    SetData = 5,
-    /// Read a node's access control list.
-    GetAcl = 6,
+    SetData,
     /// Replace a node's access control list.
-    SetAcl = 7,
-    /// List the names of a node's children.
-    GetChildren = 8,
+    SetAcl,
     /// Have the server catch up with its leader.
-    Sync = 9,
+    Sync,
     /// Show that the client is alive.
-    Ping = 11,
-    /// List the names of a node's children, and read its Stat.
-    GetChildren2 = 12,
+    Ping,
     /// Compare a node's version.
-    Check = 13,
+    Check,
     /// Make several changes at once.
-    Multi = 14,
+    Multi,
     /// Add an id to the connection.
-    Auth = 100,
+    Auth,
     /// Set the watches that the client had before.
-    SetWatches = 101,
+    SetWatches,
     /// End the client's session.
-    CloseSession = -11,
+    CloseSession,
 }
 
 impl RequestKind {
@@ -49,15 +56,15 @@ impl RequestKind {
         match code {
             1 => Some(RequestKind::Create),
             2 => Some(RequestKind::Delete),
-            3 => Some(RequestKind::Exists),
-            4 => Some(RequestKind::GetData),
+            3 => Some(RequestKind::Read(ReadKind::Exists)),
+            4 => Some(RequestKind::Read(ReadKind::GetData)),
             5 => Some(RequestKind::SetData),
-            6 => Some(RequestKind::GetAcl),
+            6 => Some(RequestKind::Read(ReadKind::GetAcl)),
             7 => Some(RequestKind::SetAcl),
-            8 => Some(RequestKind::GetChildren),
+            8 => Some(RequestKind::Read(ReadKind::GetChildren)),
             9 => Some(RequestKind::Sync),
             11 => Some(RequestKind::Ping),
-            12 => Some(RequestKind::GetChildren2),
+            12 => Some(RequestKind::Read(ReadKind::GetChildren2)),
             13 => Some(RequestKind::Check),
             14 => Some(RequestKind::Multi),
             100 => Some(RequestKind::Auth),
@@ -73,6 +80,19 @@ impl RequestKind {
         ensures code { result ≡ code_of self }
         ensures back { kind_of result ≡ Some self }
     {
-        self as i32
+        match self {
+            RequestKind::Create => 1,
+            RequestKind::Delete => 2,
+            RequestKind::Read(kind) => kind as i32,
+            RequestKind::SetData => 5,
+            RequestKind::SetAcl => 7,
+            RequestKind::Sync => 9,
+            RequestKind::Ping => 11,
+            RequestKind::Check => 13,
+            RequestKind::Multi => 14,
+            RequestKind::Auth => 100,
+            RequestKind::SetWatches => 101,
+            RequestKind::CloseSession => -11,
+        }
     }
 }

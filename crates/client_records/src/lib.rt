@@ -27,9 +27,9 @@ mod response;
 pub use connect::{ConnectRequest, ConnectResponse};
 pub use event::WatcherEvent;
 pub use fields::{Name, put_list, put_names, read_list};
-pub use kind::RequestKind;
+pub use kind::{ReadKind, RequestKind};
 pub use lengths::{acls_len, names_len};
-pub use request::{AuthPacket, GetAclRequest, PathAndWatch, SetWatches};
+pub use request::{AuthPacket, PathAlone, PathAndWatch, SetWatches};
 pub use response::{
     Acls, ExistsResponse, GetAclResponse, GetChildren2Response, GetChildrenResponse,
     GetDataResponse,

@@ -1,6 +1,6 @@
 //! The requests of a client, after the header of the frame.
 
-ghost use Rattle.client_records.specs.Requests.{path_and_watch, get_acl_request, set_watches, auth_packet};
+ghost use Rattle.client_records.specs.Requests.{path_and_watch, path_alone, set_watches, auth_packet};
 
 use crate::fields::{Name, buffer_len, put_buffer, put_list, put_text, read_list, text_len};
 use jute::{ReadRecord, Reader, WriteRecord, items_len, put_bool};
@@ -45,32 +45,32 @@ impl<'a> WriteRecord for PathAndWatch<'a> {
     }
 }
 
-/// The GetACLRequest of zookeeper.jute.
+/// The GetACLRequest of zookeeper.jute: the request of a read that leaves no watch.
 #[derive(Drop, PartialEq)]
-pub struct GetAclRequest<'a> {
+pub struct PathAlone<'a> {
     /// The path of the node; `None` is null.
     pub path: Option<Str<'a>>,
 }
 
-impl<'a> ReadRecord<'a> for GetAclRequest<'a> {
-    ghost read_of = { get_acl_request.read };
+impl<'a> ReadRecord<'a> for PathAlone<'a> {
+    ghost read_of = { path_alone.read };
 
-    #[tactic(auto, unfolding(crate::specs::Requests::get_acl_request))]
-    fn read(_alloc: Global, reader: &mut Reader<'a>) -> Result<GetAclRequest<'a>, ReadError> {
+    #[tactic(auto, unfolding(crate::specs::Requests::path_alone))]
+    fn read(_alloc: Global, reader: &mut Reader<'a>) -> Result<PathAlone<'a>, ReadError> {
         let path = reader.read_string()?.map(Str::new);
-        Ok(GetAclRequest { path })
+        Ok(PathAlone { path })
     }
 }
 
-impl<'a> WriteRecord for GetAclRequest<'a> {
-    ghost format = { get_acl_request };
+impl<'a> WriteRecord for PathAlone<'a> {
+    ghost format = { path_alone };
 
-    #[tactic(auto, unfolding(crate::specs::Requests::get_acl_request))]
+    #[tactic(auto, unfolding(crate::specs::Requests::path_alone))]
     fn written_len(&self) -> usize {
         text_len(&self.path)
     }
 
-    #[tactic(auto, unfolding(crate::specs::Requests::get_acl_request))]
+    #[tactic(auto, unfolding(crate::specs::Requests::path_alone))]
     fn write(&self, out: &mut Vec<u8>) -> Result<(), NoMemory> {
         put_text(out, &self.path)
     }

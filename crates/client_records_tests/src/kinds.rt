@@ -1,21 +1,21 @@
 //! The codes of requests.
 
-use client_records::RequestKind;
+use client_records::{ReadKind, RequestKind};
 use std::test::*;
 
 /// Each type with its number in `ZooDefs.OpCode`.
 const CODES: [(RequestKind, i32); 16] = [
     (RequestKind::Create, 1),
     (RequestKind::Delete, 2),
-    (RequestKind::Exists, 3),
-    (RequestKind::GetData, 4),
+    (RequestKind::Read(ReadKind::Exists), 3),
+    (RequestKind::Read(ReadKind::GetData), 4),
     (RequestKind::SetData, 5),
-    (RequestKind::GetAcl, 6),
+    (RequestKind::Read(ReadKind::GetAcl), 6),
     (RequestKind::SetAcl, 7),
-    (RequestKind::GetChildren, 8),
+    (RequestKind::Read(ReadKind::GetChildren), 8),
     (RequestKind::Sync, 9),
     (RequestKind::Ping, 11),
-    (RequestKind::GetChildren2, 12),
+    (RequestKind::Read(ReadKind::GetChildren2), 12),
     (RequestKind::Check, 13),
     (RequestKind::Multi, 14),
     (RequestKind::Auth, 100),

@@ -1,7 +1,7 @@
 //! The requests of clients.
 
 use crate::is_read;
-use client_records::{AuthPacket, ConnectRequest, GetAclRequest, Name, PathAndWatch, SetWatches};
+use client_records::{AuthPacket, ConnectRequest, Name, PathAlone, PathAndWatch, SetWatches};
 use jute::WriteRecord;
 use std::alloc::Global;
 use std::test::Fail;
@@ -55,10 +55,10 @@ fn path_and_watch(rt: HostRuntime) -> Result<(), Fail> {
 }
 
 #[test]
-#[tactic(auto, unfolding(client_records::specs::Requests::get_acl_request))]
+#[tactic(auto, unfolding(client_records::specs::Requests::path_alone))]
 fn get_acl_request(rt: HostRuntime) -> Result<(), Fail> {
     let bytes = b"\x00\x00\x00\x02/a\x07";
-    let expected = GetAclRequest {
+    let expected = PathAlone {
         path: Some(Str::new("/a")),
     };
     assert!(rt; is_read(rt.alloc(), bytes, &expected)?);

@@ -317,7 +317,7 @@ module _ (serving : Bool) (frame : List ℕ) where
           ∙ sym (all_passed_over serving n u others closed)
 
   -- A read may wait with those asked before it.
-  read_waits : OtherConnectionsStay → (asked : List AskedRead) (w : World) (a : AskedRead) (session : ℤ)
+  pub read_waits : OtherConnectionsStay → (asked : List AskedRead) (w : World) (a : AskedRead) (session : ℤ)
       → session_of_connection w.clients.sessions a.number ≡ Some session
       → call_in frame ≡ Ok (record { xid = a.xid; body = bodies.Read a.request })
       → and_then (answer_all_asked asked w) (serve_if_open serving a.number frame)
@@ -344,11 +344,25 @@ module _ (serving : Bool) (frame : List ℕ) where
       by true here = served here
       by false closed = refl
 
+  -- So may the read of a frame that others follow.
+  frame_waits : OtherConnectionsStay → (asked : List AskedRead) (w : World) (a : AskedRead) (session : ℤ)
+      (others : Items (Unit {0}) (List ℕ)) → session_of_connection w.clients.sessions a.number ≡ Some session
+      → call_in frame ≡ Ok (record { xid = a.xid; body = bodies.Read a.request })
+      → and_then (answer_all_asked asked w) (λ u. serve_all serving a.number u (with_first frame others))
+      ≡ and_then (answer_all_asked (asked ++ a ∷ []) w) (λ u. serve_all serving a.number u others)
+  frame_waits stay asked w a session others joined reads =
+      let h = answer_all_asked asked w in
+      ap (prepend_outputs h.outputs) (frame_first a.number others h.after)
+      ∙ in_turn h (serve_if_open serving a.number frame) (λ u. serve_all serving a.number u others)
+      ∙ ap (λ (g : StepResult World). and_then g (λ u. serve_all serving a.number u others))
+      (read_waits stay asked w a session joined reads)
+
 pub runs_are_reads : OtherConnectionsStay → RunsAreReads
 runs_are_reads stay = record {
   looks = λ asked w. each_shown stay asked w w (kept_itself w);
   rests = λ asked n rest w. answers_rest n rest asked w;
-  waits = λ serving asked w a session frame joined reads. read_waits serving frame stay asked w a session joined reads;
+  waits = λ serving asked w n session frame others xid r joined reads. frame_waits serving frame stay asked w
+      (record { number = n; xid = xid; request = r }) session others joined reads;
 }
 
 -- ---- a connection's frames, after the reads that wait

@@ -7,11 +7,7 @@ use Rattle.sessions.specs.Sessions.{session_of_connection}
 use Rattle.four_letter.specs.declared.word.Word.{Word}
 use Rattle.client_frames.specs.Call.{call_in}
 use Rattle.client_frames.specs.declared.call.CallBody.TheVariants as bodies
-use Rattle.read_processor.specs.declared.request.Request.{Request}
-use Rattle.read_processor.specs.declared.request.Request.TheVariants as requests
 use Rattle.jute.specs.Stream.{place_at, items_in, with_first, no_items}
-use Rattle.client_service.specs.declared.asked.ReadKind.{ReadKind}
-use Rattle.client_service.specs.declared.asked.ReadKind.TheVariants.{Exists, GetData, GetAcl, GetChildren, GetChildren2}
 use Rattle.client_service.specs.World.{OpenConnection, OpenConnections, World}
 use Rattle.client_service.specs.Steps.{StepResult, no_output}
 use Rattle.client_service.specs.Clients.{is_open}
@@ -44,14 +40,6 @@ world_with_rest n rest w = record w {
     connections = with_rest w.clients.connections n (finmap.get w.clients.connections n) rest;
   };
 }
-
--- The request of this type. A getACL leaves no watch.
-abbrev pub request_of : ReadKind → Option (List ℕ) → Bool → Request
-request_of Exists path watch = requests.Exists (record { path = path; watch = watch })
-request_of GetData path watch = requests.GetData (record { path = path; watch = watch })
-request_of GetAcl path watch = requests.GetAcl (record { path = path })
-request_of GetChildren path watch = requests.GetChildren (record { path = path; watch = watch })
-request_of GetChildren2 path watch = requests.GetChildren2 (record { path = path; watch = watch })
 
 -- The read that a frame asks for, of a connection that has a session.
 pub record IsReadIn (n : ℕ) (w : World) (frame : List ℕ) (read : AskedRead) : Type 0 where

@@ -1,5 +1,6 @@
 -- Reads that wait for their answers: a run of reads, with nothing else to be done between them.
 use Rattle.std.specs.Prelude.{◌≡◌, ℕ, ℤ, List, [], ◌∷◌, ◌++◌, map, Some, Ok, Bool, false, if◌then◌else◌}
+use Rattle.jute.specs.Stream.{Items, with_first}
 use Rattle.sessions.specs.Sessions.{session_of_connection, ids_of}
 use Rattle.read_processor.specs.declared.request.Request.{Request}
 use Rattle.read_processor.specs.declared.shown.Look.{Look}
@@ -10,7 +11,7 @@ use Rattle.client_frames.specs.declared.call.CallBody.TheVariants as bodies
 use Rattle.client_service.specs.World.{World}
 use Rattle.client_service.specs.Steps.{StepResult, no_output, and_then, fold_steps}
 use Rattle.client_service.specs.Clients.{is_open}
-use Rattle.client_service.specs.Serve.{with_watch_if, with_watching, send_reply, answer_read, serve_frame, wait_at}
+use Rattle.client_service.specs.Serve.{with_watch_if, with_watching, send_reply, answer_read, serve_frame, serve_all, wait_at}
 
 -- A read that a connection asked for, with the xid of its reply.
 pub record AskedRead : Type 0 where
@@ -60,9 +61,12 @@ pub record RunsAreReads : Type 0 where
   pub rests : (asked : List AskedRead) (n : ℕ) (rest : List ℕ) (w : World)
       → and_then (wait_at n (Ok rest) w) (answer_all_asked asked)
       ≡ and_then (answer_all_asked asked w) (wait_at n (Ok rest))
-  -- A frame that is a read may wait with the reads asked before it.
-  pub waits : (serving : Bool) (asked : List AskedRead) (w : World) (a : AskedRead) (session : ℤ) (frame : List ℕ)
-      → session_of_connection w.clients.sessions a.number ≡ Some session
-      → call_in frame ≡ Ok (record { xid = a.xid; body = bodies.Read a.request })
-      → and_then (answer_all_asked asked w) (serve_if_open serving a.number frame)
-      ≡ answer_all_asked (asked ++ a ∷ []) w
+  -- The read of a frame may wait with those asked before it.
+  pub waits :
+      (serving : Bool) (asked : List AskedRead) (w : World) (n : ℕ) (session : ℤ) (frame : List ℕ)
+      (others : Items (Unit {0}) (List ℕ)) (xid : ℤ) (r : Request)
+      → session_of_connection w.clients.sessions n ≡ Some session
+      → call_in frame ≡ Ok (record { xid = xid; body = bodies.Read r })
+      → and_then (answer_all_asked asked w) (λ u. serve_all serving n u (with_first frame others))
+      ≡ and_then (answer_all_asked (asked ++ record { number = n; xid = xid; request = r } ∷ []) w)
+      (λ u. serve_all serving n u others)

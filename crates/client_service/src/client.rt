@@ -16,7 +16,6 @@ ghost use Rattle.client_service.specs.Inner.{IsFirstFrame, rest_at, world_with_r
 
 use crate::asked::AskedRead;
 use crate::joining::handle_connect;
-use crate::law::runs_of_reads;
 use crate::output::Output;
 use crate::reading::{answer_renewal, answer_request, read_in};
 use crate::sending::{answer_without_body, answer_without_body_last, close_client};
@@ -151,7 +150,7 @@ fn take_frame<L: Fn(&Tree, &[Ask<'_>]) -> Result<Vec<Look>, NoMemory>>(
         (and_then (answer_all_asked asked.old.items world.old) (serve_if_open serving number frame.now))
         outputs.new.items asked.new.items world.new }
 {
-    runs_of_reads();
+    sessions::others_stay();
     if let Some(read) = read_in(alloc, number, world, frame)? {
         asked.push(read)?;
         return Ok(());

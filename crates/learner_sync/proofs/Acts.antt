@@ -1,5 +1,5 @@
 -- The acts account for each change of the log and its base, and every packet to send can be written.
-use Rattle.std.proofs.Common.{◌≡◌, ℕ, ℤ, List, [], ◌∷◌, ◌++◌, Option, Some, Result, Ok, Err, Bool, true, false, cond, refl, subst, int_lt}
+use Rattle.std.proofs.Common.{◌≡◌, ℕ, ℤ, List, [], ◌∷◌, ◌++◌, Result, Ok, Err, Bool, true, false, cond, refl, subst, int_lt}
 use Rattle.std.specs.Prelude.{pos, negsuc}
 use Rattle.std.specs.List.{AllByRecursion}
 use Rattle.std.specs.Ordering.{int_eq}
@@ -10,20 +10,19 @@ use Rattle.quorum_packet.specs.Feed.{CanBeWritten}
 use Rattle.quorum_packet.specs.declared.item.Item.{Item}
 use Rattle.quorum_packet.specs.declared.item.Item.TheVariants as item
 use Rattle.quorum_packet.specs.declared.packet.QuorumPacket.{QuorumPacket}
-use Rattle.quorum_packet.specs.declared.kind.PacketKind.{PacketKind}
-use Rattle.quorum_packet.specs.declared.kind.PacketKind.TheVariants as kinds
-use Rattle.quorum_packet.specs.Kinds.{kind_of}
 use Rattle.snapshot_codec.specs.declared.part.ImagePart.{ImagePart}
 use Rattle.snapshot_codec.specs.declared.part.ImagePart.TheVariants as part
 use Rattle.txn_codec.specs.Spelling.{txn_format, value_of_whole}
 use Rattle.txn_codec.specs.declared.txn.Txn.{Txn}
 use Rattle.learner_sync.specs.Answers.{ack_epoch}
 use Rattle.learner_sync.specs.Learner.{Learner}
-use Rattle.learner_sync.specs.Zxids.{epoch_of}
-use Rattle.learner_sync.specs.Learn.{LearnerStep, no_acts, single_act, at_phase, carried_bytes, accept_epoch, leader_info, packet_in_hello, txns_up_to, with_truncated_log, truncate_log, await_image, packet_in_sync, zxid_floor, with_applied, apply_txn, learn_inform, learn_proposal, commit_of, packet_in_replay, packet_in_serving, load_part, load_to_drop, acts_to_drop, start_in, packet_in_phase, part_in_phase, learn_item}
+use Rattle.learner_sync.specs.Learn.{LearnerStep, no_acts, single_act, at_phase, accept_epoch, leader_info, message_in_hello, txns_up_to, with_truncated_log, truncate_log, await_image, message_in_sync, zxid_floor, with_applied, apply_txn, learn_inform, learn_proposal, commit_of, message_in_replay, message_in_serving, load_part, load_to_drop, acts_to_drop, start_in, message_in_phase, part_in_phase, learn_item}
+use Rattle.learner_sync.specs.Messages.{message_of_packet}
 use Rattle.learner_sync.specs.Laws.{AccountsForLog, CanBeDone, is_of_image, ActsAccountForLog}
 use Rattle.learner_sync.specs.declared.act.Act.{Act}
 use Rattle.learner_sync.specs.declared.act.Act.TheVariants as act
+use Rattle.learner_sync.specs.declared.message.Message.{Message}
+use Rattle.learner_sync.specs.declared.message.Message.TheVariants as message
 use Rattle.learner_sync.specs.declared.phase.Phase.{Phase}
 use Rattle.learner_sync.specs.declared.phase.Phase.TheVariants as phase
 use Rattle.learner_sync.proofs.Each.{packet-each}
@@ -88,9 +87,9 @@ info-holds l epoch bytes = by (int_lt epoch l.accepted_epoch)
     by true = tt
     by false = read (int.read bytes)
 
-hello-holds : (k : Option PacketKind) (l : Learner) (p : QuorumPacket) → Holds l (packet_in_hello k l p)
-hello-holds (Some kinds.LeaderInfo) l p = info-holds l (epoch_of p.zxid) (carried_bytes p.bytes)
-hello-holds k l p = tt
+hello-holds : (l : Learner) (m : Message) → Holds l (message_in_hello l m)
+hello-holds l (message.LeaderInfo epoch bytes) = info-holds l epoch bytes
+hello-holds l m = tt
 
 truncate-holds : (l : Learner) (zxid : ℤ) → Holds l (truncate_log l zxid)
 truncate-holds l zxid = by (int_lt zxid l.base_zxid)
@@ -108,24 +107,24 @@ await-holds l zxid = by (int_lt zxid (pos 0))
     by true = tt
     by false = (refl, refl, tt)
 
-sync-holds : (k : Option PacketKind) (l : Learner) (p : QuorumPacket) → Holds l (packet_in_sync k l p)
-sync-holds (Some kinds.Diff) l p = (refl, refl, tt)
-sync-holds (Some kinds.Trunc) l p = truncate-holds l p.zxid
-sync-holds (Some kinds.Snap) l p = await-holds l p.zxid
-sync-holds k l p = tt
+sync-holds : (l : Learner) (m : Message) → Holds l (message_in_sync l m)
+sync-holds l message.Diff = (refl, refl, tt)
+sync-holds l (message.Trunc zxid) = truncate-holds l zxid
+sync-holds l (message.Snap zxid) = await-holds l zxid
+sync-holds l m = tt
 
-replay-holds : (k : Option PacketKind) (l : Learner) (p : QuorumPacket) → Holds l (packet_in_replay k l p)
-replay-holds (Some kinds.Proposal) l p = propose-holds l (carried_bytes p.bytes)
-replay-holds (Some kinds.Commit) l p = commit-holds l l.proposals p.zxid
-replay-holds (Some kinds.Inform) l p = inform-holds l (carried_bytes p.bytes)
-replay-holds (Some kinds.NewLeader) l p = (refl, refl, (refl, (refl, tt)))
-replay-holds (Some kinds.UpToDate) l p = (refl, refl, (refl, (refl, (refl, tt))))
-replay-holds k l p = (refl, refl, tt)
+replay-holds : (l : Learner) (m : Message) → Holds l (message_in_replay l m)
+replay-holds l (message.Proposal bytes) = propose-holds l bytes
+replay-holds l (message.Commit zxid) = commit-holds l l.proposals zxid
+replay-holds l (message.Inform bytes) = inform-holds l bytes
+replay-holds l message.NewLeader = (refl, refl, (refl, (refl, tt)))
+replay-holds l message.UpToDate = (refl, refl, (refl, (refl, (refl, tt))))
+replay-holds l m = (refl, refl, tt)
 
-serve-holds : (k : Option PacketKind) (l : Learner) (p : QuorumPacket) → Holds l (packet_in_serving k l p)
-serve-holds (Some kinds.Inform) l p = inform-holds l (carried_bytes p.bytes)
-serve-holds (Some kinds.Ping) l p = (refl, refl, (refl, tt))
-serve-holds k l p = (refl, refl, tt)
+serve-holds : (l : Learner) (m : Message) → Holds l (message_in_serving l m)
+serve-holds l (message.Inform bytes) = inform-holds l bytes
+serve-holds l (message.Ping p) = (refl, refl, (refl, tt))
+serve-holds l m = (refl, refl, tt)
 
 load-holds : (p : ImagePart) (l : Learner) (zxid : ℤ) → Holds l (Ok (load_part p l zxid))
 load-holds part.End l zxid = (refl, refl)
@@ -135,14 +134,14 @@ pass-holds : (p : ImagePart) (l : Learner) → Holds l (Ok (load_to_drop p l))
 pass-holds part.End l = (refl, refl, (refl, tt))
 pass-holds p l = (refl, refl)
 
-packet-holds : (ph : Phase) (l : Learner) (p : QuorumPacket) → Holds l (packet_in_phase ph l p)
-packet-holds phase.Down l p = (refl, refl, tt)
-packet-holds phase.Hello l p = hello-holds (kind_of p.kind) l p
-packet-holds phase.Sync l p = sync-holds (kind_of p.kind) l p
-packet-holds (phase.Image zxid) l p = tt
-packet-holds (phase.ReplayOnImage applied) l p = replay-holds (kind_of p.kind) l p
-packet-holds phase.Replay l p = replay-holds (kind_of p.kind) l p
-packet-holds phase.Serving l p = serve-holds (kind_of p.kind) l p
+message-holds : (ph : Phase) (l : Learner) (m : Message) → Holds l (message_in_phase ph l m)
+message-holds phase.Down l m = (refl, refl, tt)
+message-holds phase.Hello l m = hello-holds l m
+message-holds phase.Sync l m = sync-holds l m
+message-holds (phase.Image zxid) l m = tt
+message-holds (phase.ReplayOnImage applied) l m = replay-holds l m
+message-holds phase.Replay l m = replay-holds l m
+message-holds phase.Serving l m = serve-holds l m
 
 part-holds : (ph : Phase) (l : Learner) (p : ImagePart) → Holds l (part_in_phase ph l p)
 part-holds phase.Hello l p = tt
@@ -151,7 +150,7 @@ part-holds (phase.Image zxid) l p = load-holds p l zxid
 part-holds ph l p = pass-holds p l
 
 learn-holds : (l : Learner) (i : Item) → Holds l (learn_item l i)
-learn-holds l (item.Packet p) = packet-holds l.phase l p
+learn-holds l (item.Packet p) = message-holds l.phase l (message_of_packet p)
 learn-holds l (item.Part p) = part-holds l.phase l p
 
 -- ---- what is sent
@@ -177,7 +176,7 @@ part-can-be ph l p = drop-can-be p
 
 learn-can-be : (l : Learner) (i : Item) → CanBeWritten i → CanBe (learn_item l i)
 learn-can-be l (item.Packet p) w =
-    packet-each CanBeDone tt tt tt (λ zxid. tt) epoch-writable acknowledgement-writable l.phase l p (ping-writable p w)
+    packet-each CanBeDone tt tt tt (λ zxid. tt) epoch-writable acknowledgement-writable l p (ping-writable p w)
 learn-can-be l (item.Part p) w = part-can-be l.phase l p
 
 start-can-be : (ph : Phase) (l : Learner) (server_id : ℤ) → AllByRecursion CanBeDone (start_in ph l server_id).acts
@@ -195,7 +194,7 @@ Apart (Err e) = Unit {0}
 
 packet-apart : (l : Learner) (p : QuorumPacket) → Apart (learn_item l (item.Packet p))
 packet-apart l p =
-    packet-each IsApart refl refl refl (λ zxid. refl) (λ l epoch. refl) (λ l. refl) l.phase l p refl
+    packet-each IsApart refl refl refl (λ zxid. refl) (λ l epoch. refl) (λ l. refl) l p refl
 
 pub acts_tell : ActsAccountForLog
 acts_tell = record {

@@ -14,10 +14,12 @@ use Rattle.txn_codec.specs.Spelling.{txn_format, value_of_whole}
 use Rattle.txn_codec.specs.declared.txn.Txn.{Txn}
 use Rattle.learner_sync.specs.Answers.{ack_epoch, epoch_ack, ping_reply}
 use Rattle.learner_sync.specs.Learner.{Learner}
-use Rattle.learner_sync.specs.Zxids.{epoch_of}
-use Rattle.learner_sync.specs.Learn.{LearnerStep, no_acts, single_act, at_phase, carried_bytes, accept_epoch, leader_info, packet_in_hello, txns_up_to, with_truncated_log, truncate_log, await_image, packet_in_sync, zxid_floor, with_applied, apply_txn, learn_inform, learn_proposal, commit_of, packet_in_replay, packet_in_serving, packet_in_phase}
+use Rattle.learner_sync.specs.Learn.{LearnerStep, no_acts, single_act, at_phase, accept_epoch, leader_info, message_in_hello, txns_up_to, with_truncated_log, truncate_log, await_image, message_in_sync, zxid_floor, with_applied, apply_txn, learn_inform, learn_proposal, commit_of, message_in_replay, message_in_serving, message_in_phase}
+use Rattle.learner_sync.specs.Messages.{message_of_kind, message_of_packet}
 use Rattle.learner_sync.specs.declared.act.Act.{Act}
 use Rattle.learner_sync.specs.declared.act.Act.TheVariants as act
+use Rattle.learner_sync.specs.declared.message.Message.{Message}
+use Rattle.learner_sync.specs.declared.message.Message.TheVariants as message
 use Rattle.learner_sync.specs.declared.phase.Phase.{Phase}
 use Rattle.learner_sync.specs.declared.phase.Phase.TheVariants as phase
 
@@ -83,9 +85,9 @@ module _ (P : Act → Type 0) (applies : P act.Apply) (epochs : P act.Epochs) (s
       by true = tt
       by false = read (int.read bytes)
 
-  hello-each : (k : Option PacketKind) (l : Learner) (p : QuorumPacket) → Each (packet_in_hello k l p)
-  hello-each (Some kinds.LeaderInfo) l p = info-each l (epoch_of p.zxid) (carried_bytes p.bytes)
-  hello-each k l p = tt
+  hello-each : (l : Learner) (m : Message) → Each (message_in_hello l m)
+  hello-each l (message.LeaderInfo epoch bytes) = info-each l epoch bytes
+  hello-each l m = tt
 
   truncate-each : (l : Learner) (zxid : ℤ) → Each (truncate_log l zxid)
   truncate-each l zxid = by (int_lt zxid l.base_zxid)
@@ -103,32 +105,43 @@ module _ (P : Act → Type 0) (applies : P act.Apply) (epochs : P act.Epochs) (s
       by true = tt
       by false = tt
 
-  sync-each : (k : Option PacketKind) (l : Learner) (p : QuorumPacket) → Each (packet_in_sync k l p)
-  sync-each (Some kinds.Diff) l p = tt
-  sync-each (Some kinds.Trunc) l p = truncate-each l p.zxid
-  sync-each (Some kinds.Snap) l p = await-each l p.zxid
-  sync-each k l p = tt
+  sync-each : (l : Learner) (m : Message) → Each (message_in_sync l m)
+  sync-each l message.Diff = tt
+  sync-each l (message.Trunc zxid) = truncate-each l zxid
+  sync-each l (message.Snap zxid) = await-each l zxid
+  sync-each l m = tt
 
-  replay-each : (k : Option PacketKind) (l : Learner) (p : QuorumPacket) → Each (packet_in_replay k l p)
-  replay-each (Some kinds.Proposal) l p = propose-each l (carried_bytes p.bytes)
-  replay-each (Some kinds.Commit) l p = commit-each l l.proposals p.zxid
-  replay-each (Some kinds.Inform) l p = inform-each l (carried_bytes p.bytes)
-  replay-each (Some kinds.NewLeader) l p = (epochs, (acknowledges l, tt))
-  replay-each (Some kinds.UpToDate) l p = (epochs, (acknowledges l, (serves, tt)))
-  replay-each k l p = tt
+  replay-each : (l : Learner) (m : Message) → Each (message_in_replay l m)
+  replay-each l (message.Proposal bytes) = propose-each l bytes
+  replay-each l (message.Commit zxid) = commit-each l l.proposals zxid
+  replay-each l (message.Inform bytes) = inform-each l bytes
+  replay-each l message.NewLeader = (epochs, (acknowledges l, tt))
+  replay-each l message.UpToDate = (epochs, (acknowledges l, (serves, tt)))
+  replay-each l m = tt
 
-  serve-each : (k : Option PacketKind) (l : Learner) (p : QuorumPacket) → P (act.Send (ping_reply p))
-      → Each (packet_in_serving k l p)
-  serve-each (Some kinds.Ping) l p ping = (ping, tt)
-  serve-each (Some kinds.Inform) l p ping = inform-each l (carried_bytes p.bytes)
-  serve-each k l p ping = tt
+  -- It holds for the answer, where the message asks for one.
+  abbrev Answered : Message → Type 0
+  Answered (message.Ping p) = P (act.Send (ping_reply p))
+  Answered m = Unit {0}
 
-  pub packet-each : (ph : Phase) (l : Learner) (p : QuorumPacket) → P (act.Send (ping_reply p))
-      → Each (packet_in_phase ph l p)
-  packet-each phase.Down l p ping = tt
-  packet-each phase.Hello l p ping = hello-each (kind_of p.kind) l p
-  packet-each phase.Sync l p ping = sync-each (kind_of p.kind) l p
-  packet-each (phase.Image zxid) l p ping = tt
-  packet-each (phase.ReplayOnImage applied) l p ping = replay-each (kind_of p.kind) l p
-  packet-each phase.Replay l p ping = replay-each (kind_of p.kind) l p
-  packet-each phase.Serving l p ping = serve-each (kind_of p.kind) l p ping
+  serve-each : (l : Learner) (m : Message) → Answered m → Each (message_in_serving l m)
+  serve-each l (message.Ping p) ping = (ping, tt)
+  serve-each l (message.Inform bytes) ping = inform-each l bytes
+  serve-each l m ping = tt
+
+  message-each : (ph : Phase) (l : Learner) (m : Message) → Answered m → Each (message_in_phase ph l m)
+  message-each phase.Down l m ping = tt
+  message-each phase.Hello l m ping = hello-each l m
+  message-each phase.Sync l m ping = sync-each l m
+  message-each (phase.Image zxid) l m ping = tt
+  message-each (phase.ReplayOnImage applied) l m ping = replay-each l m
+  message-each phase.Replay l m ping = replay-each l m
+  message-each phase.Serving l m ping = serve-each l m ping
+
+  answered : (k : Option PacketKind) (p : QuorumPacket) → P (act.Send (ping_reply p)) → Answered (message_of_kind k p)
+  answered (Some kinds.Ping) p ping = ping
+  answered k p ping = tt
+
+  pub packet-each : (l : Learner) (p : QuorumPacket) → P (act.Send (ping_reply p))
+      → Each (message_in_phase l.phase l (message_of_packet p))
+  packet-each l p ping = message-each l.phase l (message_of_packet p) (answered (kind_of p.kind) p ping)

@@ -1,5 +1,5 @@
 -- Whatever is learnt, the learner follows its log.
-use Rattle.std.proofs.Common.{◌≡◌, ℕ, ℤ, List, [], ◌∷◌, ◌++◌, Option, Some, Result, Ok, Err, Bool, true, false, cond, refl, sym, ap, subst, ◌∙◌, int_lt, ◌<ℤ◌, ◌≤ℤ◌}
+use Rattle.std.proofs.Common.{◌≡◌, ℕ, ℤ, List, [], ◌∷◌, ◌++◌, Result, Ok, Err, Bool, true, false, cond, refl, sym, ap, subst, ◌∙◌, int_lt, ◌<ℤ◌, ◌≤ℤ◌}
 use Rattle.std.specs.Prelude.{pos, negsuc}
 use Rattle.std.specs.Int.{int_max}
 use Rattle.std.specs.Ordering.{int_eq}
@@ -9,20 +9,18 @@ use Rattle.values.specs.declared.fault.Fault.TheVariants.{OutOfOrder, CommitMism
 use Rattle.jute.specs.Format.{int, ◌>>=◌}
 use Rattle.quorum_packet.specs.declared.item.Item.{Item}
 use Rattle.quorum_packet.specs.declared.item.Item.TheVariants as item
-use Rattle.quorum_packet.specs.declared.packet.QuorumPacket.{QuorumPacket}
-use Rattle.quorum_packet.specs.declared.kind.PacketKind.{PacketKind}
-use Rattle.quorum_packet.specs.declared.kind.PacketKind.TheVariants as kinds
-use Rattle.quorum_packet.specs.Kinds.{kind_of}
 use Rattle.snapshot_codec.specs.declared.part.ImagePart.{ImagePart}
 use Rattle.snapshot_codec.specs.declared.part.ImagePart.TheVariants as part
 use Rattle.txn_codec.specs.Spelling.{txn_format, value_of_whole}
 use Rattle.txn_codec.specs.declared.txn.Txn.{Txn}
 use Rattle.learner_sync.specs.Answers.{ack_epoch}
 use Rattle.learner_sync.specs.Learner.{Learner, new_learner}
-use Rattle.learner_sync.specs.Zxids.{epoch_of}
-use Rattle.learner_sync.specs.Learn.{LearnerStep, no_acts, single_act, at_phase, carried_bytes, start_in, accept_epoch, leader_info, packet_in_hello, txns_up_to, zxid_after, with_truncated_log, truncate_log, await_image, packet_in_sync, zxid_floor, phase_after_zxid, with_applied, apply_txn, learn_inform, learn_proposal, commit_of, packet_in_replay, packet_in_serving, load_part, packet_in_phase, part_in_phase, learn_item, checkpoint_in}
+use Rattle.learner_sync.specs.Learn.{LearnerStep, no_acts, single_act, at_phase, start_in, accept_epoch, leader_info, message_in_hello, txns_up_to, zxid_after, with_truncated_log, truncate_log, await_image, message_in_sync, zxid_floor, phase_after_zxid, with_applied, apply_txn, learn_inform, learn_proposal, commit_of, message_in_replay, message_in_serving, load_part, message_in_phase, part_in_phase, learn_item, checkpoint_in}
+use Rattle.learner_sync.specs.Messages.{message_of_packet}
 use Rattle.learner_sync.specs.Laws.{PhaseFitsLog, FollowsItsLog, LogsAreFollowed, TruncatesToFronts}
 use Rattle.learner_sync.specs.declared.act.Act.TheVariants as act
+use Rattle.learner_sync.specs.declared.message.Message.{Message}
+use Rattle.learner_sync.specs.declared.message.Message.TheVariants as message
 use Rattle.learner_sync.specs.declared.phase.Phase.{Phase}
 use Rattle.learner_sync.specs.declared.phase.Phase.TheVariants as phase
 use Rattle.learner_sync.proofs.Zxids.{lt_of, le_of, below_max, max_same, max_left, max_above, zero_le, max_over, le_lt, zxid-push, rises-push, rises-up_to, front-up_to}
@@ -124,10 +122,9 @@ info-follows l epoch bytes f = by (int_lt epoch l.accepted_epoch)
     by true = tt
     by false = read (int.read bytes)
 
-hello-follows : (k : Option PacketKind) (l : Learner) (p : QuorumPacket) → FollowsItsLog l
-    → Follows (packet_in_hello k l p)
-hello-follows (Some kinds.LeaderInfo) l p f = info-follows l (epoch_of p.zxid) (carried_bytes p.bytes) f
-hello-follows k l p f = tt
+hello-follows : (l : Learner) (m : Message) → FollowsItsLog l → Follows (message_in_hello l m)
+hello-follows l (message.LeaderInfo epoch bytes) f = info-follows l epoch bytes f
+hello-follows l m f = tt
 
 last-kept : (base : ℤ) (kept : List Txn) → pos 0 ≤ℤ base
     → int_max base (zxid_after base kept) ≡ int_max base (zxid_after (pos 0) kept)
@@ -156,35 +153,32 @@ await-follows l zxid f = by (int_lt zxid (pos 0)) refl
     by true e = tt
     by false e = moved l (phase.Image zxid) (le_of zxid (pos 0) e) f
 
-sync-follows : (k : Option PacketKind) (l : Learner) (p : QuorumPacket) → FollowsItsLog l
-    → Follows (packet_in_sync k l p)
-sync-follows (Some kinds.Diff) l p f = moved l phase.Replay tt f
-sync-follows (Some kinds.Trunc) l p f = truncate-follows l p.zxid f
-sync-follows (Some kinds.Snap) l p f = await-follows l p.zxid f
-sync-follows k l p f = tt
+sync-follows : (l : Learner) (m : Message) → FollowsItsLog l → Follows (message_in_sync l m)
+sync-follows l message.Diff f = moved l phase.Replay tt f
+sync-follows l (message.Trunc zxid) f = truncate-follows l zxid f
+sync-follows l (message.Snap zxid) f = await-follows l zxid f
+sync-follows l m f = tt
 
 -- ---- replay and serving
 
-replay-follows : (k : Option PacketKind) (l : Learner) (p : QuorumPacket) → FollowsItsLog l
-    → Follows (packet_in_replay k l p)
-replay-follows (Some kinds.Proposal) l p f = propose-follows l (carried_bytes p.bytes) f
-replay-follows (Some kinds.Commit) l p f = commit-follows l l.proposals p.zxid f
-replay-follows (Some kinds.Inform) l p f = inform-follows l (carried_bytes p.bytes) f
-replay-follows (Some kinds.NewLeader) l p f = record {
+replay-follows : (l : Learner) (m : Message) → FollowsItsLog l → Follows (message_in_replay l m)
+replay-follows l (message.Proposal bytes) f = propose-follows l bytes f
+replay-follows l (message.Commit zxid) f = commit-follows l l.proposals zxid f
+replay-follows l (message.Inform bytes) f = inform-follows l bytes f
+replay-follows l message.NewLeader f = record {
   rising = f.rising;
   last = f.last;
   based = f.based;
   stands =
       f.stands;
 }
-replay-follows (Some kinds.UpToDate) l p f = record { rising = f.rising; last = f.last; based = f.based; stands = tt }
-replay-follows k l p f = f
+replay-follows l message.UpToDate f = record { rising = f.rising; last = f.last; based = f.based; stands = tt }
+replay-follows l m f = f
 
-serve-follows : (k : Option PacketKind) (l : Learner) (p : QuorumPacket) → FollowsItsLog l
-    → Follows (packet_in_serving k l p)
-serve-follows (Some kinds.Ping) l p f = f
-serve-follows (Some kinds.Inform) l p f = inform-follows l (carried_bytes p.bytes) f
-serve-follows k l p f = f
+serve-follows : (l : Learner) (m : Message) → FollowsItsLog l → Follows (message_in_serving l m)
+serve-follows l (message.Ping p) f = f
+serve-follows l (message.Inform bytes) f = inform-follows l bytes f
+serve-follows l m f = f
 
 -- ---- images
 
@@ -201,14 +195,14 @@ load-follows p l zxid le f = f
 
 -- ---- every item
 
-packet-follows : (ph : Phase) (l : Learner) (p : QuorumPacket) → FollowsItsLog l → Follows (packet_in_phase ph l p)
-packet-follows phase.Down l p f = f
-packet-follows phase.Hello l p f = hello-follows (kind_of p.kind) l p f
-packet-follows phase.Sync l p f = sync-follows (kind_of p.kind) l p f
-packet-follows (phase.Image zxid) l p f = tt
-packet-follows (phase.ReplayOnImage applied) l p f = replay-follows (kind_of p.kind) l p f
-packet-follows phase.Replay l p f = replay-follows (kind_of p.kind) l p f
-packet-follows phase.Serving l p f = serve-follows (kind_of p.kind) l p f
+message-follows : (ph : Phase) (l : Learner) (m : Message) → FollowsItsLog l → Follows (message_in_phase ph l m)
+message-follows phase.Down l m f = f
+message-follows phase.Hello l m f = hello-follows l m f
+message-follows phase.Sync l m f = sync-follows l m f
+message-follows (phase.Image zxid) l m f = tt
+message-follows (phase.ReplayOnImage applied) l m f = replay-follows l m f
+message-follows phase.Replay l m f = replay-follows l m f
+message-follows phase.Serving l m f = serve-follows l m f
 
 part-follows : (ph : Phase) (l : Learner) (p : ImagePart) → PhaseFitsLog ph l.log → FollowsItsLog l
     → Follows (part_in_phase ph l p)
@@ -221,7 +215,7 @@ part-follows phase.Replay l p s f = f
 part-follows phase.Serving l p s f = f
 
 learn-follows : (l : Learner) (i : Item) → FollowsItsLog l → Follows (learn_item l i)
-learn-follows l (item.Packet p) f = packet-follows l.phase l p f
+learn-follows l (item.Packet p) f = message-follows l.phase l (message_of_packet p) f
 learn-follows l (item.Part p) f = part-follows l.phase l p f.stands f
 
 start-follows : (ph : Phase) (l : Learner) (server_id : ℤ) → FollowsItsLog l

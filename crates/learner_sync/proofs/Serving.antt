@@ -1,21 +1,20 @@
 -- While clients are served, what is learnt leaves the learner as it is, or is one more transaction.
-use Rattle.std.proofs.Common.{◌≡◌, ℕ, ℤ, List, [], ◌∷◌, ◌++◌, Option, Some, Result, Ok, Err, Bool, true, false, cond, refl, sym, ap, subst, ◌∙◌, int_lt, ◌<ℤ◌, ◌⊎◌, inl, inr}
+use Rattle.std.proofs.Common.{◌≡◌, ℕ, ℤ, List, [], ◌∷◌, ◌++◌, Result, Ok, Err, Bool, true, false, cond, refl, sym, ap, subst, ◌∙◌, int_lt, ◌<ℤ◌, ◌⊎◌, inl, inr}
 use Rattle.std.specs.Int.{int_max}
 use Rattle.values.specs.declared.fault.Fault.{Fault}
 use Rattle.values.specs.declared.fault.Fault.TheVariants.{OutOfOrder}
 use Rattle.jute.specs.Format.{◌>>=◌}
 use Rattle.quorum_packet.specs.declared.item.Item.{Item}
 use Rattle.quorum_packet.specs.declared.item.Item.TheVariants as item
-use Rattle.quorum_packet.specs.declared.packet.QuorumPacket.{QuorumPacket}
-use Rattle.quorum_packet.specs.declared.kind.PacketKind.{PacketKind}
-use Rattle.quorum_packet.specs.declared.kind.PacketKind.TheVariants as kinds
-use Rattle.quorum_packet.specs.Kinds.{kind_of}
 use Rattle.txn_codec.specs.Spelling.{txn_format, value_of_whole}
 use Rattle.txn_codec.specs.declared.txn.Txn.{Txn}
 use Rattle.learner_sync.specs.Learner.{Learner}
-use Rattle.learner_sync.specs.Learn.{LearnerStep, single_act, carried_bytes, zxid_floor, phase_after_zxid, with_applied, apply_txn, learn_inform, packet_in_serving, packet_in_phase, part_in_phase, learn_item}
+use Rattle.learner_sync.specs.Learn.{LearnerStep, single_act, zxid_floor, phase_after_zxid, with_applied, apply_txn, learn_inform, message_in_serving, message_in_phase, part_in_phase, learn_item}
+use Rattle.learner_sync.specs.Messages.{message_of_packet}
 use Rattle.learner_sync.specs.Laws.{HasOneMoreTxn, ServingRises}
 use Rattle.learner_sync.specs.declared.act.Act.TheVariants as act
+use Rattle.learner_sync.specs.declared.message.Message.{Message}
+use Rattle.learner_sync.specs.declared.message.Message.TheVariants as message
 use Rattle.learner_sync.specs.declared.phase.Phase.{Phase}
 use Rattle.learner_sync.specs.declared.phase.Phase.TheVariants as phase
 use Rattle.learner_sync.proofs.Zxids.{lt_of, max_right}
@@ -57,14 +56,14 @@ inform-goes l bytes e = by (value_of_whole txn_format bytes)
     by (Ok t) = apply-goes l t e
     by (Err f) = tt
 
-serve-goes : (k : Option PacketKind) (l : Learner) (p : QuorumPacket) → l.phase ≡ phase.Serving
-    → Goes l (packet_in_serving k l p)
-serve-goes (Some kinds.Inform) l p e = inform-goes l (carried_bytes p.bytes) e
-serve-goes k l p e = inl refl
+serve-goes : (l : Learner) (m : Message) → l.phase ≡ phase.Serving → Goes l (message_in_serving l m)
+serve-goes l (message.Inform bytes) e = inform-goes l bytes e
+serve-goes l m e = inl refl
 
 learn-goes : (l : Learner) (i : Item) → l.phase ≡ phase.Serving → Goes l (learn_item l i)
 learn-goes l (item.Packet p) e =
-    subst (λ ph. Goes l (packet_in_phase ph l p)) (sym e) (serve-goes (kind_of p.kind) l p e)
+    let m = message_of_packet p in
+    subst (λ ph. Goes l (message_in_phase ph l m)) (sym e) (serve-goes l m e)
 learn-goes l (item.Part p) e =
     let left : Goes l (part_in_phase phase.Serving l p) = inl refl in
     subst (λ ph. Goes l (part_in_phase ph l p)) (sym e) left

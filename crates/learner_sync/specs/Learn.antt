@@ -11,19 +11,17 @@ use Rattle.jute.specs.Format.{int, ◌>>=◌}
 use Rattle.jute.specs.Reads.{IsFailureOf}
 use Rattle.quorum_packet.specs.declared.item.Item.{Item}
 use Rattle.quorum_packet.specs.declared.item.Item.TheVariants as item
-use Rattle.quorum_packet.specs.declared.packet.QuorumPacket.{QuorumPacket}
-use Rattle.quorum_packet.specs.declared.kind.PacketKind.{PacketKind}
-use Rattle.quorum_packet.specs.declared.kind.PacketKind.TheVariants as kinds
-use Rattle.quorum_packet.specs.Kinds.{kind_of}
 use Rattle.snapshot_codec.specs.declared.part.ImagePart.{ImagePart}
 use Rattle.snapshot_codec.specs.declared.part.ImagePart.TheVariants as part
 use Rattle.txn_codec.specs.Spelling.{txn_format, value_of_whole}
 use Rattle.txn_codec.specs.declared.txn.Txn.{Txn}
 use Rattle.learner_sync.specs.Answers.{observer_info, ack_epoch, epoch_ack, ping_reply}
 use Rattle.learner_sync.specs.Learner.{Learner}
-use Rattle.learner_sync.specs.Zxids.{epoch_of}
+use Rattle.learner_sync.specs.Messages.{message_of_packet}
 use Rattle.learner_sync.specs.declared.act.Act.{Act}
 use Rattle.learner_sync.specs.declared.act.Act.TheVariants as act
+use Rattle.learner_sync.specs.declared.message.Message.{Message}
+use Rattle.learner_sync.specs.declared.message.Message.TheVariants as message
 use Rattle.learner_sync.specs.declared.phase.Phase.{Phase}
 use Rattle.learner_sync.specs.declared.phase.Phase.TheVariants as phase
 
@@ -40,11 +38,6 @@ single_act a l = record { acts = a ∷ []; after = l }
 
 abbrev pub at_phase : Learner → Phase → Learner
 at_phase l phase = record l { phase = phase }
-
--- The data of a packet; null reads as empty.
-abbrev pub carried_bytes : Option (List ℕ) → List ℕ
-carried_bytes None = []
-carried_bytes (Some bytes) = bytes
 
 -- ---- a leader connects, and leaves
 
@@ -79,9 +72,9 @@ leader_info l epoch bytes =
     if int_lt epoch l.accepted_epoch then Err EpochTooSmall
     else int.read bytes >>= λ version. Ok (accept_epoch l epoch)
 
-abbrev pub packet_in_hello : Option PacketKind → Learner → QuorumPacket → Result LearnerStep Fault
-packet_in_hello (Some kinds.LeaderInfo) l p = leader_info l (epoch_of p.zxid) (carried_bytes p.bytes)
-packet_in_hello kind l p = Err UnexpectedPacket
+abbrev pub message_in_hello : Learner → Message → Result LearnerStep Fault
+message_in_hello l (message.LeaderInfo epoch bytes) = leader_info l epoch bytes
+message_in_hello l m = Err UnexpectedPacket
 
 -- ---- sync: the leader says how it brings the learner up to date
 
@@ -111,11 +104,11 @@ truncate_log l zxid =
 abbrev pub await_image : Learner → ℤ → Result LearnerStep Fault
 await_image l zxid = if int_lt zxid (pos 0) then Err OutOfOrder else Ok (no_acts (at_phase l (phase.Image zxid)))
 
-abbrev pub packet_in_sync : Option PacketKind → Learner → QuorumPacket → Result LearnerStep Fault
-packet_in_sync (Some kinds.Diff) l p = Ok (no_acts (at_phase l phase.Replay))
-packet_in_sync (Some kinds.Trunc) l p = truncate_log l p.zxid
-packet_in_sync (Some kinds.Snap) l p = await_image l p.zxid
-packet_in_sync kind l p = Err UnexpectedPacket
+abbrev pub message_in_sync : Learner → Message → Result LearnerStep Fault
+message_in_sync l message.Diff = Ok (no_acts (at_phase l phase.Replay))
+message_in_sync l (message.Trunc zxid) = truncate_log l zxid
+message_in_sync l (message.Snap zxid) = await_image l zxid
+message_in_sync l m = Err UnexpectedPacket
 
 -- ---- transactions
 
@@ -175,20 +168,20 @@ up_to_date l = record {
   after = record l { phase = phase.Serving; current_epoch = l.accepted_epoch; proposals = [] };
 }
 
-abbrev pub packet_in_replay : Option PacketKind → Learner → QuorumPacket → Result LearnerStep Fault
-packet_in_replay (Some kinds.Proposal) l p = learn_proposal l (carried_bytes p.bytes)
-packet_in_replay (Some kinds.Commit) l p = learn_commit l p.zxid
-packet_in_replay (Some kinds.Inform) l p = learn_inform l (carried_bytes p.bytes)
-packet_in_replay (Some kinds.NewLeader) l p = Ok (new_leader l)
-packet_in_replay (Some kinds.UpToDate) l p = Ok (up_to_date l)
-packet_in_replay kind l p = Ok (no_acts l)
+abbrev pub message_in_replay : Learner → Message → Result LearnerStep Fault
+message_in_replay l (message.Proposal bytes) = learn_proposal l bytes
+message_in_replay l (message.Commit zxid) = learn_commit l zxid
+message_in_replay l (message.Inform bytes) = learn_inform l bytes
+message_in_replay l message.NewLeader = Ok (new_leader l)
+message_in_replay l message.UpToDate = Ok (up_to_date l)
+message_in_replay l m = Ok (no_acts l)
 
 -- ---- serving
 
-abbrev pub packet_in_serving : Option PacketKind → Learner → QuorumPacket → Result LearnerStep Fault
-packet_in_serving (Some kinds.Ping) l p = Ok (single_act (act.Send (ping_reply p)) l)
-packet_in_serving (Some kinds.Inform) l p = learn_inform l (carried_bytes p.bytes)
-packet_in_serving kind l p = Ok (no_acts l)
+abbrev pub message_in_serving : Learner → Message → Result LearnerStep Fault
+message_in_serving l (message.Ping p) = Ok (single_act (act.Send (ping_reply p)) l)
+message_in_serving l (message.Inform bytes) = learn_inform l bytes
+message_in_serving l m = Ok (no_acts l)
 
 -- ---- images
 
@@ -217,14 +210,14 @@ load_to_drop p l = record { acts = acts_to_drop p; after = l }
 -- ---- every item
 
 -- Without a leader a packet does nothing. While an image is awaited, no packet can come.
-abbrev pub packet_in_phase : Phase → Learner → QuorumPacket → Result LearnerStep Fault
-packet_in_phase phase.Down l p = Ok (no_acts l)
-packet_in_phase phase.Hello l p = packet_in_hello (kind_of p.kind) l p
-packet_in_phase phase.Sync l p = packet_in_sync (kind_of p.kind) l p
-packet_in_phase (phase.Image zxid) l p = Err UnexpectedPacket
-packet_in_phase (phase.ReplayOnImage applied) l p = packet_in_replay (kind_of p.kind) l p
-packet_in_phase phase.Replay l p = packet_in_replay (kind_of p.kind) l p
-packet_in_phase phase.Serving l p = packet_in_serving (kind_of p.kind) l p
+abbrev pub message_in_phase : Phase → Learner → Message → Result LearnerStep Fault
+message_in_phase phase.Down l m = Ok (no_acts l)
+message_in_phase phase.Hello l m = message_in_hello l m
+message_in_phase phase.Sync l m = message_in_sync l m
+message_in_phase (phase.Image zxid) l m = Err UnexpectedPacket
+message_in_phase (phase.ReplayOnImage applied) l m = message_in_replay l m
+message_in_phase phase.Replay l m = message_in_replay l m
+message_in_phase phase.Serving l m = message_in_serving l m
 
 -- Without a leader an image is dropped, like one that wasn't asked for.
 abbrev pub part_in_phase : Phase → Learner → ImagePart → Result LearnerStep Fault
@@ -237,7 +230,7 @@ part_in_phase phase.Replay l p = Ok (load_to_drop p l)
 part_in_phase phase.Serving l p = Ok (load_to_drop p l)
 
 abbrev pub learn_item : Learner → Item → Result LearnerStep Fault
-learn_item l (item.Packet p) = packet_in_phase l.phase l p
+learn_item l (item.Packet p) = message_in_phase l.phase l (message_of_packet p)
 learn_item l (item.Part p) = part_in_phase l.phase l p
 
 -- ---- a checkpoint: while clients are served, the state is the new base

@@ -3,6 +3,7 @@ pub mod Images
 pub mod Laws
 pub mod Learn
 pub mod Learner
+pub mod Messages
 pub mod Records
 pub mod Rows
 pub mod Zxids

@@ -3,29 +3,17 @@
 //! Laws that go over this: `Acts`, `Each`, `Epochs`, `Logs`.
 
 ghost use Rattle.std.specs.Prelude.{◌≡◌};
-ghost use Rattle.quorum_packet.specs.Kinds.{kind_of};
-ghost use Rattle.learner_sync.specs.Learn.{LearnsItem, carried_bytes, leader_info, packet_in_hello, truncate_log, await_image, packet_in_sync};
+ghost use Rattle.learner_sync.specs.Learn.{LearnsItem, leader_info, message_in_hello, truncate_log, await_image, message_in_sync};
 
 use crate::act::Act;
 use crate::answers::{act_list, empty_act_list};
 use crate::learner::Learner;
 use crate::logged::{keep_up_to, zxid_after};
+use crate::message::Message;
 use crate::phase::Phase;
-use crate::zxid::epoch_of;
 use jute::Reader;
-use quorum_packet::{PacketKind, QuorumPacket};
 use std::alloc::Global;
 use values::{Fault, Listed, ReadError};
-
-// The data of a packet; null reads as empty.
-pub fn carried_bytes(packet: &QuorumPacket) -> &[u8]
-    ensures { result.now ≡ carried_bytes packet.now.bytes }
-{
-    match &packet.bytes {
-        None => &[],
-        Some(bytes) => bytes.as_slice(),
-    }
-}
 
 impl Learner {
     // Takes the leader's epoch. The data has to hold a protocol version; any version will do.
@@ -55,37 +43,19 @@ impl Learner {
         Ok(acts)
     }
 
-    /// Takes a packet while the leader hasn't named its epoch yet.
+    /// Takes a message while the leader hasn't named its epoch yet.
     pub(crate) fn hello(
         &mut self,
         alloc: Global,
-        packet: &QuorumPacket,
+        message: Message,
     ) -> Result<Listed<Act>, ReadError>
-        ensures { LearnsItem result (packet_in_hello (kind_of packet.now.kind) self.old packet.now) self.old self.new }
+        ensures { LearnsItem result (message_in_hello self.old message) self.old self.new }
     {
-        match PacketKind::from_code(packet.kind) {
-            Some(PacketKind::LeaderInfo) => {
-                self.leader_info(alloc, epoch_of(packet.zxid), carried_bytes(packet))
+        match message {
+            Message::LeaderInfo { epoch, bytes } => {
+                self.leader_info(alloc, epoch, bytes.as_slice())
             }
-            None
-            | Some(
-                PacketKind::Request
-                | PacketKind::Proposal
-                | PacketKind::Ack
-                | PacketKind::Commit
-                | PacketKind::Ping
-                | PacketKind::Revalidate
-                | PacketKind::Sync
-                | PacketKind::Inform
-                | PacketKind::NewLeader
-                | PacketKind::FollowerInfo
-                | PacketKind::UpToDate
-                | PacketKind::Diff
-                | PacketKind::Trunc
-                | PacketKind::Snap
-                | PacketKind::ObserverInfo
-                | PacketKind::AckEpoch,
-            ) => Err(ReadError::Fault(Fault::UnexpectedPacket)),
+            _ => Err(ReadError::Fault(Fault::UnexpectedPacket)),
         }
     }
 
@@ -116,38 +86,18 @@ impl Learner {
         Ok(empty_act_list(alloc))
     }
 
-    /// Takes a packet that says how the leader brings the learner up to date: DIFF, TRUNC or SNAP.
-    pub(crate) fn sync(
-        &mut self,
-        alloc: Global,
-        packet: &QuorumPacket,
-    ) -> Result<Listed<Act>, ReadError>
-        ensures { LearnsItem result (packet_in_sync (kind_of packet.now.kind) self.old packet.now) self.old self.new }
+    /// Takes a message that says how the leader brings the learner up to date: DIFF, TRUNC or SNAP.
+    pub(crate) fn sync(&mut self, alloc: Global, message: Message) -> Result<Listed<Act>, ReadError>
+        ensures { LearnsItem result (message_in_sync self.old message) self.old self.new }
     {
-        match PacketKind::from_code(packet.kind) {
-            Some(PacketKind::Diff) => {
+        match message {
+            Message::Diff => {
                 self.phase = Phase::Replay;
                 Ok(empty_act_list(alloc))
             }
-            Some(PacketKind::Trunc) => self.truncate(alloc, packet.zxid),
-            Some(PacketKind::Snap) => self.await_image(alloc, packet.zxid),
-            None
-            | Some(
-                PacketKind::Request
-                | PacketKind::Proposal
-                | PacketKind::Ack
-                | PacketKind::Commit
-                | PacketKind::Ping
-                | PacketKind::Revalidate
-                | PacketKind::Sync
-                | PacketKind::Inform
-                | PacketKind::NewLeader
-                | PacketKind::FollowerInfo
-                | PacketKind::UpToDate
-                | PacketKind::ObserverInfo
-                | PacketKind::LeaderInfo
-                | PacketKind::AckEpoch,
-            ) => Err(ReadError::Fault(Fault::UnexpectedPacket)),
+            Message::Trunc(zxid) => self.truncate(alloc, zxid),
+            Message::Snap(zxid) => self.await_image(alloc, zxid),
+            _ => Err(ReadError::Fault(Fault::UnexpectedPacket)),
         }
     }
 }

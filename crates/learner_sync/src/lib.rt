@@ -11,8 +11,9 @@
 //! learner.end();                                                 // it has left, or an item was refused
 //! ```
 //!
-//! `specs/Learn.antt` defines what is learnt of an item, and `specs/Images.antt` what is learnt of a whole image. The
-//! laws in `law` hold for every learner that is made and changed by these calls.
+//! `specs/Messages.antt` defines what a packet means to an observer, `specs/Learn.antt` what is learnt of an item, and
+//! `specs/Images.antt` what is learnt of a whole image. The laws in `law` hold for every learner that is made and
+//! changed by these calls.
 #![tactic(auto)]
 
 mod act;
@@ -21,6 +22,7 @@ mod handshake;
 pub mod law;
 mod learner;
 mod logged;
+mod message;
 mod phase;
 mod record;
 mod replay;

@@ -1,17 +1,15 @@
-//! The packets that bring a learner up to date, and those that come while clients are served.
+//! The messages that bring a learner up to date, and those that come while clients are served.
 //!
 //! Laws that go over this: `Acts`, `Each`, `Epochs`, `Logs`, `Serving`.
 
 ghost use Rattle.std.specs.Prelude.{◌≡◌, int_lt, Ok};
-ghost use Rattle.quorum_packet.specs.Kinds.{kind_of};
-ghost use Rattle.learner_sync.specs.Learn.{LearnsItem, carried_bytes, zxid_floor, with_applied_zxid, learn_inform, learn_proposal, learn_commit, new_leader, up_to_date, packet_in_replay, packet_in_serving};
+ghost use Rattle.learner_sync.specs.Learn.{LearnsItem, zxid_floor, with_applied_zxid, learn_inform, learn_proposal, learn_commit, new_leader, up_to_date, message_in_replay, message_in_serving};
 
 use crate::act::Act;
 use crate::answers::{act_list, empty_act_list, ping_answer};
-use crate::handshake::carried_bytes;
 use crate::learner::Learner;
+use crate::message::Message;
 use crate::phase::Phase;
-use quorum_packet::{PacketKind, QuorumPacket};
 use std::alloc::Global;
 use txn_codec::{TxnHeader, decode_txn};
 use values::{Fault, Listed, ReadError};
@@ -115,67 +113,49 @@ impl Learner {
         Ok(Listed::from_vec(acts))
     }
 
-    /// Takes a packet while the learner isn't up to date.
+    /// Takes a message while the learner isn't up to date.
     pub(crate) fn replay(
         &mut self,
         alloc: Global,
-        packet: &QuorumPacket,
+        message: Message,
     ) -> Result<Listed<Act>, ReadError>
-        ensures { LearnsItem result (packet_in_replay (kind_of packet.now.kind) self.old packet.now) self.old self.new }
+        ensures { LearnsItem result (message_in_replay self.old message) self.old self.new }
     {
-        match PacketKind::from_code(packet.kind) {
-            Some(PacketKind::Proposal) => self.propose(alloc, carried_bytes(packet)),
-            Some(PacketKind::Commit) => self.commit(alloc, packet.zxid),
-            Some(PacketKind::Inform) => self.inform(alloc, carried_bytes(packet)),
-            Some(PacketKind::NewLeader) => self.new_leader(alloc),
-            Some(PacketKind::UpToDate) => self.up_to_date(alloc),
-            None
-            | Some(
-                PacketKind::Request
-                | PacketKind::Ack
-                | PacketKind::Ping
-                | PacketKind::Revalidate
-                | PacketKind::Sync
-                | PacketKind::FollowerInfo
-                | PacketKind::Diff
-                | PacketKind::Trunc
-                | PacketKind::Snap
-                | PacketKind::ObserverInfo
-                | PacketKind::LeaderInfo
-                | PacketKind::AckEpoch,
-            ) => Ok(empty_act_list(alloc)),
+        match message {
+            Message::Proposal(bytes) => self.propose(alloc, bytes.as_slice()),
+            Message::Commit(zxid) => self.commit(alloc, zxid),
+            Message::Inform(bytes) => self.inform(alloc, bytes.as_slice()),
+            Message::NewLeader => self.new_leader(alloc),
+            Message::UpToDate => self.up_to_date(alloc),
+            Message::LeaderInfo { .. }
+            | Message::Diff
+            | Message::Trunc(_)
+            | Message::Snap(_)
+            | Message::Ping(_)
+            | Message::Other => Ok(empty_act_list(alloc)),
         }
     }
 
-    /// Takes a packet while clients are served.
+    /// Takes a message while clients are served.
     pub(crate) fn serve(
         &mut self,
         alloc: Global,
-        packet: QuorumPacket,
+        message: Message,
     ) -> Result<Listed<Act>, ReadError>
-        ensures { LearnsItem result (packet_in_serving (kind_of packet.kind) self.old packet) self.old self.new }
+        ensures { LearnsItem result (message_in_serving self.old message) self.old self.new }
     {
-        match PacketKind::from_code(packet.kind) {
-            Some(PacketKind::Ping) => Ok(act_list(alloc, Act::Send(ping_answer(alloc, packet)))?),
-            Some(PacketKind::Inform) => self.inform(alloc, carried_bytes(&packet)),
-            None
-            | Some(
-                PacketKind::Request
-                | PacketKind::Proposal
-                | PacketKind::Ack
-                | PacketKind::Commit
-                | PacketKind::Revalidate
-                | PacketKind::Sync
-                | PacketKind::NewLeader
-                | PacketKind::FollowerInfo
-                | PacketKind::UpToDate
-                | PacketKind::Diff
-                | PacketKind::Trunc
-                | PacketKind::Snap
-                | PacketKind::ObserverInfo
-                | PacketKind::LeaderInfo
-                | PacketKind::AckEpoch,
-            ) => Ok(empty_act_list(alloc)),
+        match message {
+            Message::Ping(packet) => Ok(act_list(alloc, Act::Send(ping_answer(alloc, packet)))?),
+            Message::Inform(bytes) => self.inform(alloc, bytes.as_slice()),
+            Message::LeaderInfo { .. }
+            | Message::Diff
+            | Message::Trunc(_)
+            | Message::Snap(_)
+            | Message::Proposal(_)
+            | Message::Commit(_)
+            | Message::NewLeader
+            | Message::UpToDate
+            | Message::Other => Ok(empty_act_list(alloc)),
         }
     }
 }

@@ -3,13 +3,14 @@
 //! Laws that go over this: `Acts`, `Each`, `Epochs`, `Images`, `Logs`, `Serving`.
 
 ghost use Rattle.std.specs.Prelude.{◌≡◌, IfOk, Ok};
-ghost use Rattle.learner_sync.specs.Learn.{LearnsItem, packet_in_phase, part_in_phase, load_part, acts_to_drop, learn_item};
+ghost use Rattle.learner_sync.specs.Learn.{LearnsItem, message_in_phase, part_in_phase, load_part, acts_to_drop, learn_item};
 
 use crate::act::Act;
 use crate::answers::{act_list, empty_act_list};
 use crate::learner::Learner;
+use crate::message::{Message, message_of_packet};
 use crate::phase::Phase;
-use quorum_packet::{Item, QuorumPacket};
+use quorum_packet::Item;
 use snapshot_codec::ImagePart;
 use std::alloc::Global;
 use values::{Fault, Listed, NoMemory, ReadError};
@@ -41,16 +42,16 @@ impl Learner {
         Ok(acts)
     }
 
-    fn step_packet(&mut self, alloc: Global, packet: QuorumPacket) -> Result<Listed<Act>, ReadError>
-        ensures { LearnsItem result (packet_in_phase self.old.phase self.old packet) self.old self.new }
+    fn step_message(&mut self, alloc: Global, message: Message) -> Result<Listed<Act>, ReadError>
+        ensures { LearnsItem result (message_in_phase self.old.phase self.old message) self.old self.new }
     {
         match self.phase {
             Phase::Down => Ok(empty_act_list(alloc)),
-            Phase::Hello => self.hello(alloc, &packet),
-            Phase::Sync => self.sync(alloc, &packet),
+            Phase::Hello => self.hello(alloc, message),
+            Phase::Sync => self.sync(alloc, message),
             Phase::Image(_) => Err(ReadError::Fault(Fault::UnexpectedPacket)),
-            Phase::ReplayOnImage(_) | Phase::Replay => self.replay(alloc, &packet),
-            Phase::Serving => self.serve(alloc, packet),
+            Phase::ReplayOnImage(_) | Phase::Replay => self.replay(alloc, message),
+            Phase::Serving => self.serve(alloc, message),
         }
     }
 
@@ -75,7 +76,7 @@ impl Learner {
         ensures { LearnsItem result (learn_item self.old item) self.old self.new }
     {
         match item {
-            Item::Packet(packet) => self.step_packet(alloc, packet),
+            Item::Packet(packet) => self.step_message(alloc, message_of_packet(alloc, packet)),
             Item::Part(part) => self.step_part(alloc, part),
         }
     }

@@ -3,7 +3,7 @@
 use crate::load::{CONNECTION, Load};
 use crate::messages::{CONTENT, parent_path, write_read};
 use anyhow::Result;
-use client_records::RequestKind;
+use client_records::ReadKind;
 use std::alloc::Global;
 
 /// The sizes of the load.
@@ -21,7 +21,7 @@ impl Load {
         self.make_tree(alloc, 1, sizes.children, CONTENT)?;
         let path = parent_path(alloc, 0)?;
         let mut frame = Vec::new(alloc);
-        write_read(alloc, RequestKind::GetChildren, &path, false, &mut frame)?;
+        write_read(alloc, ReadKind::GetChildren, &path, false, &mut frame)?;
         for _ in 0..sizes.times {
             self.feed_client(alloc, CONNECTION, frame.as_slice())?;
         }

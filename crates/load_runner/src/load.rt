@@ -4,8 +4,14 @@ ghost use Rattle.txn_codec.specs.Spelling.{body_format};
 
 use crate::messages::{child_path, create, parent_path, write_connect, write_inform};
 use anyhow::{Context, Result, ensure};
-use observer_core::{Config, Engine, Event, Output, default_limits};
+use apply_workers::OpenGate;
+use batcher::Limits;
+use observer_core::{Config, Engine, Event, Output};
 use std::alloc::Global;
+use std::mem;
+use std::rt::Clock;
+use std::thread::Threads;
+use std::time::{Duration, Instant};
 use txn_codec::{Body, Txn, TxnHeader};
 use values::{Blob, Bytes};
 
@@ -34,18 +40,20 @@ pub struct Load {
     message: Vec<u8>,
     // The engine's outputs, until they are counted.
     outputs: Vec<Output>,
+    /// The time that the engine took for the events that are timed.
+    pub took: Duration,
 }
 
-// The sum of two counts.
-fn add_count(count: u64, more: u64) -> Result<u64> {
+/// The sum of two counts.
+pub fn add_count(count: u64, more: u64) -> Result<u64> {
     count.checked_add(more).context("no count is left")
 }
 
 impl Load {
     /// An engine that follows a leader and has one client's connection.
-    pub fn new(alloc: Global) -> Result<Load> {
+    pub fn new(alloc: Global, limits: Limits) -> Result<Load> {
         let secret = Blob::from_vec(Vec::new(alloc));
-        let config = Config::new(1, 0, 0, 4000, 40_000, secret, default_limits())?;
+        let config = Config::new(1, 0, 0, 4000, 40_000, secret, limits)?;
         let engine = Engine::primed(alloc, config)?;
         Ok(Load {
             engine,
@@ -55,11 +63,12 @@ impl Load {
             zxid: EPOCH,
             message: Vec::new(alloc),
             outputs: Vec::new(alloc),
+            took: Duration::ZERO,
         })
     }
 
-    // Removes the outputs, and returns their number. All of them go to clients.
-    fn take_sent(&mut self) -> Result<u64> {
+    /// Removes the outputs, and returns their number. All of them go to clients.
+    pub fn take_sent(&mut self) -> Result<u64> {
         ensure!(
             self.outputs
                 .iter()
@@ -71,8 +80,13 @@ impl Load {
         Ok(sent)
     }
 
-    /// The leader sends a transaction, and the watchers of its changes get events.
-    pub fn tell(&mut self, alloc: Global, body: Body) -> Result<()>
+    /// Begins a message without a transaction.
+    pub fn clear_message(&mut self) {
+        self.message.clear();
+    }
+
+    /// Adds the next transaction to the message.
+    pub fn add_inform(&mut self, alloc: Global, body: Body) -> Result<()>
         requires { body_format.Writable body }
     {
         let zxid = self.zxid.checked_add(1).context("no zxid is left")?;
@@ -84,8 +98,49 @@ impl Load {
         };
         self.zxid = zxid;
         self.transactions = add_count(self.transactions, 1)?;
+        write_inform(alloc, &Txn { header, body }, &mut self.message)
+    }
+
+    /// Feeds events, and measures how long it takes. `is_spread` says whether the engine may use its workers.
+    pub fn time_feed<R: Threads + Clock + Sync>(
+        &mut self,
+        rt: &R,
+        alloc: Global,
+        events: &[Event<'_>],
+        is_spread: bool,
+    ) -> Result<()> {
+        let since = Instant::now(rt)?;
+        if is_spread {
+            self.engine
+                .feed(rt, alloc, events, &OpenGate, &mut self.outputs)?;
+        } else {
+            self.engine.feed_inline(alloc, events, &mut self.outputs)?;
+        }
+        self.took = self.took.saturating_add(since.elapsed(rt)?);
+        Ok(())
+    }
+
+    /// The leader sends the message in one piece, which is timed, and the watchers of its changes get events.
+    pub fn send_message<R: Threads + Clock + Sync>(
+        &mut self,
+        rt: &R,
+        alloc: Global,
+        is_spread: bool,
+    ) -> Result<()> {
+        let message = mem::replace(&mut self.message, Vec::new(alloc));
+        let events = [Event::LeaderBytes(Bytes::new(message.as_slice()))];
+        self.time_feed(rt, alloc, &events, is_spread)?;
+        let sent = self.take_sent()?;
+        self.events = add_count(self.events, sent)?;
+        Ok(())
+    }
+
+    /// The leader sends a transaction, and the watchers of its changes get events.
+    pub fn tell(&mut self, alloc: Global, body: Body) -> Result<()>
+        requires { body_format.Writable body }
+    {
         self.message.clear();
-        write_inform(alloc, &Txn { header, body }, &mut self.message)?;
+        self.add_inform(alloc, body)?;
         let events = [Event::LeaderBytes(Bytes::new(self.message.as_slice()))];
         self.engine.feed_inline(alloc, &events, &mut self.outputs)?;
         let sent = self.take_sent()?;
@@ -160,6 +215,17 @@ impl Load {
         content: &[u8],
     ) -> Result<()> {
         self.make_parents(alloc, parents, content)?;
+        self.make_children_of_all(alloc, parents, children, content)
+    }
+
+    /// Creates nodes below each of the nodes below the root.
+    pub fn make_children_of_all(
+        &mut self,
+        alloc: Global,
+        parents: u32,
+        children: u32,
+        content: &[u8],
+    ) -> Result<()> {
         for parent in 0..parents {
             self.make_children(alloc, parent, children, content)?;
         }

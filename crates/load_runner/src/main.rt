@@ -22,6 +22,12 @@
 //!
 //! `load_runner logs PARENTS CHILDREN KEPT TIMES`: after creates of such nodes TIMES leaders connect, each of which
 //! truncates all of these transactions but the first KEPT.
+//!
+//! `load_runner spread KIND PARENTS CHILDREN CONTENT COUNT TIMES WORKERS LENGTH`: after creates of such nodes, those below
+//! the root with CONTENT bytes of data, TIMES events come, each with COUNT transactions of the leader (`creates` or
+//! `sets`) or reads of a client (`gets` or `names`). The engine has WORKERS workers and batches of up to LENGTH
+//! transactions; with 0 workers it does all on the calling thread. Standard error has the nanoseconds that it took for
+//! these events.
 #![tactic(auto)]
 
 mod choice;
@@ -35,24 +41,35 @@ mod messages;
 mod pings;
 mod reads;
 mod sets;
+mod spread;
 mod watches;
 
 use anyhow::{Context, Result};
+use batcher::Limits;
 use images::Images;
 use listing::Listing;
 use load::Load;
 use logs::Logs;
+use observer_core::default_limits;
 use pings::Pings;
 use reads::Reads;
 use sets::Sets;
+use spread::{Spread, kind_of};
 use std::alloc::{AllocError, Global};
 use std::env;
+use std::rt::Clock;
+use std::thread::Threads;
+use std::time::Duration;
 use watches::Watched;
 
 const USAGE: &str =
     "wanted: PARENTS CHILDREN SETS EVERY, or reads PARENTS CHILDREN READS TIMES PIECE, \
     or watches CONNECTIONS WATCHES NODES SETS OTHERS, or lists CHILDREN TIMES, or pings CONNECTIONS, \
-    or images PARENTS CHILDREN CONTENT PIECE CHECKPOINTS, or logs PARENTS CHILDREN KEPT TIMES";
+    or images PARENTS CHILDREN CONTENT PIECE CHECKPOINTS, or logs PARENTS CHILDREN KEPT TIMES, \
+    or spread KIND PARENTS CHILDREN CONTENT COUNT TIMES WORKERS LENGTH";
+
+// The most groups of a batch.
+const MOST_GROUPS: usize = 256;
 
 // The words after the program's name.
 fn words(rt: &HostRuntime) -> Result<Vec<String>> {
@@ -130,9 +147,47 @@ fn logs_of(words: &[String]) -> Result<Logs> {
     })
 }
 
+fn spread_of(words: &[String]) -> Result<Spread> {
+    let word = words.get(1).context(USAGE)?.as_str();
+    Ok(Spread {
+        kind: kind_of(word).context(USAGE)?,
+        parents: number(words, 2)?,
+        children: number(words, 3)?,
+        content: number(words, 4)?,
+        count: number(words, 5)?,
+        times: number(words, 6)?,
+    })
+}
+
+// Whether the words ask for work that is spread over workers.
+fn is_spread(words: &[String]) -> bool {
+    match words.first() {
+        None => false,
+        Some(word) => word.as_str() == "spread",
+    }
+}
+
+// The engine's limits: for a `spread` those that it names, with one worker in place of none.
+fn limits_of(words: &[String]) -> Result<Limits> {
+    if !is_spread(words) {
+        return Ok(default_limits());
+    }
+    let workers = number(words, 7)?.max(1) as usize;
+    let length = number(words, 8)? as usize;
+    Ok(Limits::new(workers, length, MOST_GROUPS)?)
+}
+
 // Puts the load on the engine that the words ask for.
-fn run(alloc: Global, load: &mut Load, words: &[String]) -> Result<()> {
+fn run<R: Threads + Clock + Sync>(
+    rt: &R,
+    alloc: Global,
+    load: &mut Load,
+    words: &[String],
+) -> Result<()> {
     let word = words.first().context(USAGE)?.as_str();
+    if word == "spread" {
+        return load.spread(rt, alloc, &spread_of(words)?, number(words, 7)? > 0);
+    }
     if word == "reads" {
         return load.read(alloc, &reads_of(words)?);
     }
@@ -161,24 +216,32 @@ struct Counts {
     events: u64,
     paths: usize,
     zxid: i64,
+    took: Duration,
 }
 
 // Puts the load on the engine, and counts.
-fn run_and_count(alloc: Global, load: &mut Load, words: &[String]) -> Result<Counts> {
-    run(alloc, load, words)?;
+fn run_and_count<R: Threads + Clock + Sync>(
+    rt: &R,
+    alloc: Global,
+    load: &mut Load,
+    words: &[String],
+) -> Result<Counts> {
+    run(rt, alloc, load, words)?;
     Ok(Counts {
         transactions: load.transactions,
         replies: load.replies,
         events: load.events,
         paths: load.engine.tree().paths(),
         zxid: load.engine.learner().last_zxid(),
+        took: load.took,
     })
 }
 
 // The load is dropped at the single end of this function, since each drop of it is proved anew.
-fn run_load(alloc: Global, words: &[String]) -> Result<Counts> {
-    let mut load = Load::new(alloc)?;
-    run_and_count(alloc, &mut load, words)
+fn run_load<R: Threads + Clock + Sync>(rt: &R, alloc: Global, words: &[String]) -> Result<Counts> {
+    let limits = limits_of(words)?;
+    let mut load = Load::new(alloc, limits)?;
+    run_and_count(rt, alloc, &mut load, words)
 }
 
 fn main(rt: HostRuntime) -> Result<()> {
@@ -189,9 +252,14 @@ fn main(rt: HostRuntime) -> Result<()> {
         events,
         paths,
         zxid,
-    } = run_load(rt.alloc(), words.as_slice())?;
+        took,
+    } = run_load(&rt, rt.alloc(), words.as_slice())?;
     println!(rt;
         "transactions={transactions} replies={replies} events={events} paths={paths} zxid=0x{zxid:x}"
     )?;
+    if is_spread(words.as_slice()) {
+        let nanoseconds = took.as_nanos();
+        eprintln!(rt; "took={nanoseconds}")?;
+    }
     Ok(())
 }

@@ -5,19 +5,25 @@ ghost use Rattle.txn_codec.specs.Spelling.{body_format};
 
 use anyhow::{Result, ensure};
 use client_records::codes::PING_XID;
-use client_records::{ConnectRequest, PathAndWatch, RequestKind};
+use client_records::{ConnectRequest, PathAndWatch, ReadKind, RequestKind};
 use jute::codes::open_list;
 use jute::{RequestHeader, WriteRecord, put_bytes};
 use quorum_packet::{PacketKind, QuorumPacket, write_packet};
 use std::alloc::Global;
 use txn_codec::{Body, Create, Operation, Path, SetData, Txn, encode_txn};
-use values::{Blob, NoMemory, Str};
+use values::{Blob, Str};
 
 /// The longest path here, in bytes.
 pub const PATH_LIMIT: usize = 64;
 
-// The longest transaction or request of a message here, in bytes.
-const CARRIED_LIMIT: usize = 1024;
+// The longest data of a node here, in bytes.
+const CONTENT_LIMIT: usize = 1_048_576;
+
+// The longest transaction of a message here, in bytes.
+const TXN_LIMIT: usize = 4_194_304;
+
+// The longest request of a message here, in bytes.
+const REQUEST_LIMIT: usize = 1024;
 
 // The longest frame of a client, in bytes.
 const FRAME_LIMIT: usize = 1_048_575;
@@ -66,7 +72,7 @@ pub fn create(alloc: Global, path: Path, content: &[u8]) -> Result<Body>
     requires { length path ≤ PATH_LIMIT }
     ensures { IfOk result body_format.Writable }
 {
-    ensure!(content.len() <= CARRIED_LIMIT, "a node's data is too long");
+    ensure!(content.len() <= CONTENT_LIMIT, "a node's data is too long");
     let bytes = Blob::new(alloc, content)?;
     let acl = open_list(alloc)?;
     Ok(Body::Single(Operation::Create(Create {
@@ -79,11 +85,12 @@ pub fn create(alloc: Global, path: Path, content: &[u8]) -> Result<Body>
 }
 
 /// A setData of a node.
-pub fn set_data(alloc: Global, path: Path) -> Result<Body, NoMemory>
+pub fn set_data(alloc: Global, path: Path, content: &[u8]) -> Result<Body>
     requires { length path ≤ PATH_LIMIT }
     ensures { IfOk result body_format.Writable }
 {
-    let bytes = Blob::new(alloc, CONTENT)?;
+    ensure!(content.len() <= CONTENT_LIMIT, "a node's data is too long");
+    let bytes = Blob::new(alloc, content)?;
     Ok(Body::Single(Operation::SetData(SetData {
         path,
         bytes: Some(bytes),
@@ -98,7 +105,7 @@ pub fn write_inform(alloc: Global, txn: &Txn, out: &mut Vec<u8>) -> Result<()>
 {
     let mut bytes = Vec::new(alloc);
     encode_txn(txn, &mut bytes)?;
-    ensure!(bytes.len() <= CARRIED_LIMIT, "a transaction is too long");
+    ensure!(bytes.len() <= TXN_LIMIT, "a transaction is too long");
     let informing = QuorumPacket {
         kind: PacketKind::Inform.code(),
         zxid: txn.header.zxid,
@@ -112,7 +119,7 @@ pub fn write_inform(alloc: Global, txn: &Txn, out: &mut Vec<u8>) -> Result<()>
 #[tactic(auto, unfolding(jute::specs::Records::request_header, client_records::specs::Requests::path_and_watch))]
 pub fn write_read(
     alloc: Global,
-    kind: RequestKind,
+    kind: ReadKind,
     path: &Path,
     watch: bool,
     out: &mut Vec<u8>,
@@ -122,7 +129,7 @@ pub fn write_read(
     let mut frame = Vec::new(alloc);
     let header = RequestHeader {
         xid: 1,
-        kind: kind.code(),
+        kind: RequestKind::Read(kind).code(),
     };
     header.write(&mut frame)?;
     let request = PathAndWatch {
@@ -130,7 +137,7 @@ pub fn write_read(
         watch,
     };
     request.write(&mut frame)?;
-    ensure!(frame.len() <= CARRIED_LIMIT, "a request is too long");
+    ensure!(frame.len() <= REQUEST_LIMIT, "a request is too long");
     Ok(put_bytes(out, frame.as_slice())?)
 }
 
@@ -146,7 +153,7 @@ pub fn write_connect(alloc: Global, out: &mut Vec<u8>) -> Result<()> {
         passwd: None,
     };
     request.write(&mut frame)?;
-    ensure!(frame.len() <= CARRIED_LIMIT, "a request is too long");
+    ensure!(frame.len() <= REQUEST_LIMIT, "a request is too long");
     Ok(put_bytes(out, frame.as_slice())?)
 }
 

@@ -6,7 +6,7 @@ use crate::choice::Choice;
 use crate::load::{CONNECTION, Load};
 use crate::messages::{LONG_CONTENT, child_path, write_read};
 use anyhow::{Result, ensure};
-use client_records::RequestKind;
+use client_records::ReadKind;
 use std::alloc::Global;
 
 /// The sizes of the load.
@@ -35,7 +35,7 @@ fn frames_of_reads(alloc: Global, sizes: &Reads) -> Result<Vec<u8>>
         let parent = choice.below(sizes.parents);
         let child = choice.below(sizes.children);
         let path = child_path(alloc, parent, child)?;
-        write_read(alloc, RequestKind::GetData, &path, false, &mut frames)?;
+        write_read(alloc, ReadKind::GetData, &path, false, &mut frames)?;
     }
     Ok(frames)
 }

@@ -6,7 +6,7 @@ use crate::choice::Choice;
 use crate::load::{CONNECTION, Load};
 use crate::messages::{CONTENT, PATH_LIMIT, child_path, set_data, write_read};
 use anyhow::Result;
-use client_records::RequestKind;
+use client_records::ReadKind;
 use std::alloc::Global;
 use txn_codec::Path;
 
@@ -34,7 +34,7 @@ impl Load {
         requires { length path.now ≤ PATH_LIMIT }
     {
         let mut frame = Vec::new(alloc);
-        write_read(alloc, RequestKind::GetData, path, false, &mut frame)?;
+        write_read(alloc, ReadKind::GetData, path, false, &mut frame)?;
         self.feed_client(alloc, CONNECTION, frame.as_slice())
     }
 
@@ -45,7 +45,7 @@ impl Load {
         if is_read {
             self.ask(alloc, &path)?;
         }
-        let body = set_data(alloc, path)?;
+        let body = set_data(alloc, path, CONTENT)?;
         self.tell(alloc, body)
     }
 

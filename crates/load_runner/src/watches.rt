@@ -3,7 +3,7 @@
 use crate::load::{CONNECTION, Load};
 use crate::messages::{CONTENT, parent_path, set_data, watched_path, write_read};
 use anyhow::Result;
-use client_records::RequestKind;
+use client_records::ReadKind;
 use std::alloc::Global;
 
 /// The first connection that is opened here.
@@ -31,7 +31,7 @@ impl Load {
         for watch in 0..watches {
             let path = watched_path(alloc, connection, watch)?;
             frame.clear();
-            write_read(alloc, RequestKind::Exists, &path, true, &mut frame)?;
+            write_read(alloc, ReadKind::Exists, &path, true, &mut frame)?;
             self.feed_client(alloc, connection, frame.as_slice())?;
         }
         Ok(())
@@ -51,7 +51,7 @@ impl Load {
     fn watch_node(&mut self, alloc: Global, connections: u32, node: u32) -> Result<()> {
         let path = parent_path(alloc, node)?;
         let mut frame = Vec::new(alloc);
-        write_read(alloc, RequestKind::GetData, &path, true, &mut frame)?;
+        write_read(alloc, ReadKind::GetData, &path, true, &mut frame)?;
         for connection in 0..connections {
             let connection = u64::from(connection) + FIRST;
             self.feed_client(alloc, connection, frame.as_slice())?;
@@ -62,7 +62,7 @@ impl Load {
     // The leader sends a setData of a node.
     fn set_node(&mut self, alloc: Global, node: u32) -> Result<()> {
         let path = parent_path(alloc, node)?;
-        let body = set_data(alloc, path)?;
+        let body = set_data(alloc, path, CONTENT)?;
         self.tell(alloc, body)
     }
 

@@ -1,4 +1,5 @@
 pub mod Delivering
+pub mod Batches
 pub mod Playing
 pub mod Keeping
 pub mod Unmoved

@@ -1,5 +1,4 @@
--- The worked rows, step by step: what the bytes read as, the state after each transaction, and the reply to each
--- request.
+-- The worked rows: what the bytes read as, the state after each transaction, and the reply to each request.
 use Rattle.std.proofs.Common.{◌≡◌, ◌≤◌, ℕ, List, [], ◌∷◌, ◌++◌, length, map, take, not, Option, Some, None, Result, Ok, Bool, true, false, cond, refl, sym, ap, ◌∙◌, arith, rules}
 use Rattle.std.specs.Prelude.{ℤ, pos, negsuc, codes, is_some}
 use Rattle.std.specs.List.{AllByRecursion}
@@ -20,6 +19,7 @@ use Rattle.jute.specs.Codes.{open_acl}
 use Rattle.jute.specs.Frame.{frame_at}
 use Rattle.jute.specs.Owned.{id_format, acl_format}
 use Rattle.jute.specs.Records.{stat_format, request_header, reply_header}
+use Rattle.client_records.specs.declared.kind.ReadKind.TheVariants.{Exists, GetData}
 use Rattle.client_records.specs.declared.kind.RequestKind.TheVariants as kinds
 use Rattle.client_records.specs.Kinds.{kind_of as request_kind_of}
 use Rattle.client_records.specs.Requests.{path_and_watch}
@@ -64,20 +64,20 @@ use Rattle.read_processor.specs.Watch.{watch_of}
 use Rattle.client_service.specs.declared.world.Settings.{Settings}
 use Rattle.client_frames.specs.declared.call.Call.{Call}
 use Rattle.client_frames.specs.declared.call.CallBody.TheVariants.{Read}
-use Rattle.read_processor.specs.declared.request.Request.TheVariants.{Exists, GetData}
 use Rattle.observer_core.specs.declared.event.Event.{Event}
 use Rattle.observer_core.specs.declared.event.Event.TheVariants.{ClientBytes}
 use Rattle.client_service.specs.declared.output.Output.TheVariants.{ToClient, CloseLeader, CloseClient}
 use Rattle.read_processor.specs.declared.shown.Look.{Look}
 use Rattle.read_processor.specs.declared.request.Request.{Request}
 use Rattle.read_processor.specs.Events.{look_of_event}
-use Rattle.read_processor.specs.Look.{look_at_state, without_body, look_at_node, shown_look, reply_body as shown_body}
+use Rattle.read_processor.specs.Kinds.{reply_body as shown_body}
+use Rattle.read_processor.specs.Look.{look_at_state, without_body, look_at_node, shown_look}
 use Rattle.read_processor.specs.Reply.{reply_frame}
 use Rattle.values.specs.Hex.{hex_bytes}
 use Rattle.observer_core.specs.Rows.{inform_of_create, inform_of_set_data, get_data_frame_start, get_data_frame_end, reply_of_create, reply_of_set_data, exists_watch_frame, reply_of_missing, event_of_create, create_inform_event, set_data_inform_event, get_data_event, exists_watch_event}
 use Rattle.client_service.specs.World.{OpenConnection, OpenConnections, Clients, World}
 use Rattle.observer_core.specs.Machine.{Leader, Machine}
-use Rattle.client_frames.specs.Call.{call_in, call_after_header, call_body, read_as, value_if_read}
+use Rattle.client_frames.specs.Call.{call_in, call_after_header, call_body, read_as, read_with_flag, value_if_read}
 use Rattle.client_service.specs.Steps.{StepResult, prepend_outputs, no_output, fold_steps}
 use Rattle.client_service.specs.Clients.{without_client, close_clients, sent_to, notices_of}
 use Rattle.replica.specs.Replica.{Replica}
@@ -206,18 +206,17 @@ written_there = simp (finmap.get-insert {X = Node} nat_list_cmp_total)
 abbrev packet_of : ℤ → List ℕ → QuorumPacket
 packet_of zxid bytes = record { kind = pos 8; zxid = zxid; bytes = Some bytes; authinfo = None }
 
--- One packet, and nothing after it.
 abbrev one_packet : QuorumPacket → Items Phase Item
 one_packet p = record { found = item.Packet p ∷ []; left = place_at Packets [] }
 
 create_found : items_shown_at (place_at Packets inform_of_create) ≡ one_packet
     (packet_of (pos 4294967297) (txn_format.written create_txn))
-unfolding items_within packet_format kind_of judged_at buffer_at vector_at read_n number_bytes acl_format id_format
+unfolding items_within packet_format judged_at buffer_at vector_at read_n number_bytes acl_format id_format
 create_found = refl
 
 set_found : items_shown_at (place_at Packets inform_of_set_data)
     ≡ one_packet (packet_of (pos 4294967298) (txn_format.written set_txn))
-unfolding items_within packet_format kind_of judged_at buffer_at vector_at read_n number_bytes
+unfolding items_within packet_format judged_at buffer_at vector_at read_n number_bytes
 set_found = refl
 
 -- ---- the client's frames
@@ -244,7 +243,7 @@ header_read : request_header.read get_frame ≡ Ok (record { xid = pos 1; kind =
 unfolding request_header
 header_read = refl
 
-kind_read : request_kind_of (pos 4) ≡ Some kinds.GetData
+kind_read : request_kind_of (pos 4) ≡ Some (kinds.Read GetData)
 unfolding request_kind_of
 kind_read = refl
 
@@ -270,7 +269,7 @@ unfolding reply_header get_data_response stat_format number_bytes
 set_replied = refl
 
 abbrev wanted : Request
-wanted = GetData (record { path = Some (codes "/a"); watch = false })
+wanted = record { kind = GetData; path = Some (codes "/a"); watch = false }
 
 abbrev asking : Call
 asking = record { xid = pos 1; body = Read wanted }
@@ -279,7 +278,7 @@ call_read : call_in get_frame ≡ Ok asking
 call_read =
     ap call_after_header header_read
     ∙ ap (λ k. Ok (record { xid = pos 1; body = call_body k get_body })) kind_read
-    ∙ ap (λ r. Ok (record { xid = pos 1; body = read_as GetData (value_if_read r) })) body_read
+    ∙ ap (λ r. Ok (record { xid = pos 1; body = read_as (read_with_flag GetData) (value_if_read r) })) body_read
 
 -- A reply is sent, and its watch is set.
 abbrev shown_by : World → Look → StepResult World
@@ -291,7 +290,7 @@ answered_by : (w : World) (session : ℤ) (n : Node) (frame : List ℕ)
     → session_of_connection w.clients.sessions 1 ≡ Some session
     → ids_of w.clients.sessions 1 ≡ []
     → finmap.get w.replica.tree.nodes (codes "/a") ≡ Some n → look_at_node [] wanted (Some n) ≡ shown_look
-    (shown_body wanted n) → n.children ≡ set.empty
+    (shown_body GetData n) → n.children ≡ set.empty
     → reply_by w.replica.learner.last_zxid n 0 ≡ Some frame
     → serve_frame true 1 w get_frame ≡ record { outputs = ToClient 1 frame ∷ []; after = w }
 answered_by w session n frame joined no_ids there shows childless is =
@@ -353,7 +352,6 @@ no_ids_first : (settings : Settings) → ids_of (first_client settings).sessions
 no_ids_first settings = ap ids_in
     (get-inserted {X = SessionConnection} finmap.empty 1 (new_connection (first_session settings)))
 
--- A replica that serves in epoch 1.
 abbrev replica_at : ℤ → List Txn → State → Replica
 replica_at zxid log s = record {
   learner = record {
@@ -386,7 +384,6 @@ beginning = record { place = place_at Packets []; loading = nothing_loaded }
 abbrev pub following : Settings → ℤ → List Txn → State → List ℕ → Machine
 following settings zxid log s rest = record { leader = Some beginning; world = world_at settings zxid log s rest }
 
--- No image is being loaded.
 abbrev led : World → WorldAndLoading
 led w = record { loading = nothing_loaded; world = w }
 
@@ -412,7 +409,6 @@ one_delivered w r =
     prepend_outputs (h.outputs ++ []) (with_leader_or_fault h.after.left.world
     (leader_at h.after.left.loading (place_after (place_at Packets []) h.after.fault)))
 
--- One INFORM comes.
 inform_comes : (again : ReadAgain) (settings : Settings) (last : ℤ) (log : List Txn) (s : State) (clients : Clients)
     (bytes : List ℕ) (zxid : ℤ) (t : Txn) → txn_format.Fits t →
     let w = world_with settings last log s clients in
@@ -607,7 +603,7 @@ exists_header : request_header.read exists_frame ≡ Ok (record { xid = pos 2; k
 unfolding request_header
 exists_header = refl
 
-exists_kind : request_kind_of (pos 3) ≡ Some kinds.Exists
+exists_kind : request_kind_of (pos 3) ≡ Some (kinds.Read Exists)
 unfolding request_kind_of
 exists_kind = refl
 
@@ -616,13 +612,13 @@ unfolding path_and_watch judged_at buffer_at
 exists_body_read = rw (is_utf8-from_IsUtf8 (codes "/a") path_is_text)
 
 abbrev watch_wanted : Request
-watch_wanted = Exists (record { path = Some (codes "/a"); watch = true })
+watch_wanted = record { kind = Exists; path = Some (codes "/a"); watch = true }
 
 exists_read : call_in exists_frame ≡ Ok (record { xid = pos 2; body = Read watch_wanted })
 exists_read =
     ap call_after_header exists_header
     ∙ ap (λ k. Ok (record { xid = pos 2; body = call_body k exists_body })) exists_kind
-    ∙ ap (λ r. Ok (record { xid = pos 2; body = read_as Exists (value_if_read r) })) exists_body_read
+    ∙ ap (λ r. Ok (record { xid = pos 2; body = read_as (read_with_flag Exists) (value_if_read r) })) exists_body_read
 
 nothing_there : finmap.get fresh_state.nodes (codes "/a") ≡ None
 nothing_there = simp (finmap.get-insert {X = Node} nat_list_cmp_total, finmap.get-empty {X = Node} (slice_cmp nat_cmp))

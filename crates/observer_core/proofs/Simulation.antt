@@ -1,6 +1,7 @@
 -- Taking the parts of an image one by one is the same as taking the image once it is complete. The items of a stream,
 -- grouped, are its packets and whole images, so only the effect of a list of items is left to prove, item by item.
-use Rattle.std.proofs.Common.{◌≡◌, ℕ, Bool, true, false, List, [], ◌∷◌, ◌++◌, Option, Some, Result, Ok, Err, refl, sym, ap, subst, ◌∙◌}
+use Rattle.std.proofs.Common.{◌≡◌, ℕ, Bool, true, false, List, [], ◌∷◌, ◌++◌, Some, Result, Ok, Err, refl, sym, ap, subst, ◌∙◌}
+use Rattle.std.proofs.lemmas.Bool.Decides.{Decides-int_eq}
 use Rattle.values.specs.declared.fault.Fault.{Fault}
 use Rattle.jute.specs.Format.{◌>>=◌}
 use Rattle.jute.specs.Stream.{Unread, Place, Items, with_more_bytes, with_first, items_in}
@@ -9,14 +10,13 @@ use Rattle.snapshot_codec.specs.declared.part.ImagePart.{ImagePart}
 use Rattle.snapshot_codec.specs.declared.part.ImagePart.TheVariants as part
 use Rattle.quorum_packet.specs.declared.item.Item.{Item}
 use Rattle.quorum_packet.specs.declared.item.Item.TheVariants as item
-use Rattle.quorum_packet.specs.declared.kind.PacketKind.{PacketKind}
 use Rattle.quorum_packet.specs.declared.kind.PacketKind.TheVariants as kinds
 use Rattle.quorum_packet.specs.declared.packet.QuorumPacket.{QuorumPacket}
 use Rattle.quorum_packet.specs.declared.phase.Phase.{Phase}
 use Rattle.quorum_packet.specs.declared.phase.Phase.TheVariants.{Packets, Image}
 use Rattle.quorum_packet.specs.GroupedItems.{grouped_part, grouped_items, SameUnread, SamePlace, SameRest, PiecesAreGrouped, AreInOrder, ItemsAreInOrder}
-use Rattle.quorum_packet.specs.Items.{phase_after_kind, items_shown_at}
-use Rattle.quorum_packet.specs.Kinds.{kind_of}
+use Rattle.quorum_packet.specs.Items.{is_snap, items_shown_at}
+use Rattle.quorum_packet.specs.Kinds.{code_of, kind_of}
 use Rattle.quorum_packet.specs.WholeItems.{WholeItem, OnePacket, OneImage, is_owed, whole_items}
 use Rattle.replica.specs.Taking.{ItemEffect, nothing_loaded, no_effect as nothing_taken, take_item, take_whole}
 use Rattle.replica.specs.Laws.{awaits_image, ImagesComeInParts}
@@ -116,10 +116,9 @@ still_unloaded : (r : Result ItemEffect Fault) (t : ItemEffect)
 still_unloaded (Ok u) t same e = sym (ap loaded_in e) ∙ ap loaded_in same
 still_unloaded (Err d) t same e = absurd cc
 
--- An image is owed after a SNAP packet, and only there.
-owed_by_snap : (kind : Option PacketKind) → is_owed (phase_after_kind kind) ≡ true → kind ≡ Some kinds.Snap
-owed_by_snap (Some kinds.Snap) e = refl
-owed_by_snap kind e = absurd cc
+snap_kind : (p : QuorumPacket) → is_snap p ≡ true → kind_of p.kind ≡ Some kinds.Snap
+unfolding kind_of
+snap_kind p e = ap kind_of ((Decides-int_eq p.kind (code_of kinds.Snap)).0 e)
 
 abbrev loading_of : LoadedParts → Loading
 loading_of made = record { made = made; ended = false }
@@ -157,7 +156,7 @@ module _ (law : ImagesComeInParts) where
     }
 
     packet_taken : (k : QuorumPacket) (is : List Item) (w : World)
-        → AreInOrder (is_owed (phase_after_kind (kind_of k.kind))) is (is_owed p.phase) → AllDoTheSame is
+        → AreInOrder (is_snap k) is (is_owed p.phase) → AllDoTheSame is
         → DoTheSame nothing_loaded w (item.Packet k ∷ is)
     packet_taken k is w order all rest =
         let d : WorldAndLoading = record { loading = nothing_loaded; world = w } in
@@ -171,8 +170,8 @@ module _ (law : ImagesComeInParts) where
         (taken_same nothing_loaded w taken others whole_others
         (λ t e. (
           still_unloaded taken t (law.packets nothing_loaded w.replica k) e,
-          all (is_owed (phase_after_kind (kind_of k.kind))) nothing_loaded (send_effect w t).after
-              (λ owes. law.announced nothing_loaded w.replica k t (owed_by_snap (kind_of k.kind) owes) e)
+          all (is_snap k) nothing_loaded (send_effect w t).after
+              (λ owes. law.announced nothing_loaded w.replica k t (snap_kind k owes) e)
               (λ none. refl) order
               rest,
         )))

@@ -1,17 +1,19 @@
 -- The contracts of the private functions. No public contract cites this.
-use Rattle.std.specs.Prelude.{◌≡◌, List, ◌++◌, map, Result, Ok, Err, Option, Some, None}
+use Rattle.std.specs.Prelude.{◌≡◌, ℕ, List, ◌++◌, map, drop, Result, Ok, Err, Option, Some, None}
 use Rattle.values.specs.Gains.{Gains}
 use Rattle.values.specs.declared.fault.Fault.{Fault}
 use Rattle.values.specs.declared.fault.NoMemory.{NoMemory}
 use Rattle.values.specs.declared.fault.ReadError.{ReadError}
 use Rattle.values.specs.declared.fault.ReadError.TheVariants as errors
-use Rattle.jute.specs.Stream.{Place}
+use Rattle.jute.specs.Stream.{Place, Items, with_first}
+use Rattle.quorum_packet.specs.declared.item.Item.{Item}
 use Rattle.quorum_packet.specs.declared.phase.Phase.{Phase}
 use Rattle.client_service.specs.declared.output.Output.{Output}
 use Rattle.client_service.specs.World.{Clients, World}
 use Rattle.observer_core.specs.Machine.{Leader}
-use Rattle.client_service.specs.Steps.{StepResult}
-use Rattle.observer_core.specs.Leader.{WorldAndLoading, StreamProgress, WorldAndLeader, to_leader}
+use Rattle.client_service.specs.Steps.{StepResult, prepend_outputs, and_then}
+use Rattle.observer_core.specs.Gathering.{apply_in_turn}
+use Rattle.observer_core.specs.Leader.{WorldAndLoading, StreamProgress, WorldAndLeader, to_leader, item_step, take_items}
 use Rattle.client_service.specs.Clients.{notices_of}
 use Rattle.replica.specs.declared.item_outcome.ItemOutcome.{ItemOutcome}
 use Rattle.watch_manager.specs.Watches.{fire}
@@ -35,6 +37,33 @@ ReceivesItem (Ok u) old (Err e) before new after = ⊥
 ReceivesItem (Err errors.NoMemory) old (Ok h) before new after = Gains old h.outputs new
 ReceivesItem (Err errors.NoMemory) old (Err e) before new after = new ≡ old
 ReceivesItem (Err (errors.Fault e)) old meant before new after = (meant ≡ Err e) × ((new ≡ old) × (after ≡ before))
+
+-- The transactions of the log after the first `done` are applied, and then the items are taken.
+abbrev pub take_items_after : ℕ → WorldAndLoading → Items Phase Item → StepResult (StreamProgress Phase WorldAndLoading)
+take_items_after done d found =
+    and_then (apply_in_turn d.world (drop done d.world.replica.learner.log))
+    (λ w. take_items item_step (record d { world = w }) found)
+
+-- The outputs appended are a prefix of the whole, and what is left leads to the rest.
+pub record LeadsOn {S : Type 0} (old : List Output) (whole : StepResult S) (new : List Output) (left : StepResult S)
+    : Type 0 where
+  pub front : List Output
+  pub put : new ≡ old ++ front
+  pub leads : prepend_outputs front left ≡ whole
+
+-- One more item was taken or gathered; or it was refused, and what was gathered before it is settled; or an allocation
+-- was refused. The others are the items after it.
+abbrev pub TakesNextItem : Result (Unit {0}) ReadError → List Output → ℕ → WorldAndLoading → Item → List Output → ℕ
+    → WorldAndLoading → Type 0
+TakesNextItem (Ok u) old done before i new done-after after =
+    (others : Items Phase Item)
+    → LeadsOn old (take_items_after done before (with_first i others)) new (take_items_after done-after after others)
+TakesNextItem (Err (errors.Fault e)) old done before i new done-after after =
+    (others : Items Phase Item)
+    → MeetsStep (Ok tt) old (take_items_after done before (with_first i others)) new
+    (record { left = after; place = Err e })
+TakesNextItem (Err errors.NoMemory) old done before i new done-after after =
+    (others : Items Phase Item) → Gains old (take_items_after done before (with_first i others)).outputs new
 
 -- Packets and parts were delivered, and the stream goes on or ended with a fault.
 abbrev pub DeliversItems : Result (Option Fault) NoMemory → List Output

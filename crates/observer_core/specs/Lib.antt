@@ -2,6 +2,7 @@ pub mod Machine
 pub mod Leader
 pub mod Play
 pub mod Plays
+pub mod Gathering
 pub mod Inner
 pub mod Logs
 pub mod Agreement

@@ -5,17 +5,19 @@ ghost use Rattle.batcher.specs.Limits.{limit_numbers};
 ghost use Rattle.settings.specs.Settings.{epoch_pair, timeout_pair};
 ghost use Rattle.settings.specs.Settings.{is_server_id, are_epochs, are_timeouts, is_secret};
 
-use batcher::Limits;
+use batcher::{Limits, SpreadThreshold};
 use client_service::Settings;
 use settings::{Epochs, Secret, ServerId, TimeoutBounds};
 use thiserror::Error;
 use values::Blob;
 
-/// The settings of an observer, and the limits on what it does at once. No answer depends on the limits.
+/// The settings of an observer, the limits on what it does at once, and the least work that it spreads over threads. No
+/// answer depends on the limits and the threshold.
 #[derive(Drop)]
 pub struct Config {
     pub settings: Settings,
     pub limits: Limits,
+    pub threshold: SpreadThreshold,
 }
 
 /// A setting is outside its bounds.
@@ -34,7 +36,8 @@ pub fn default_limits() -> Limits
 }
 
 impl Config {
-    /// Checks each setting against its bounds. Timeouts are in milliseconds.
+    /// Checks each setting against its bounds. Timeouts are in milliseconds. All work is spread, see
+    /// [`Config::with_threshold`].
     ///
     /// Fails with [`BadConfig`] if a setting is outside its bounds; `settings` has the bounds.
     pub fn new(
@@ -56,6 +59,7 @@ impl Config {
         ensures timeouts { IfOk result (λ c. c.settings.timeouts ≡ timeout_pair min_timeout max_timeout) }
         ensures secret { IfOk result (λ c. c.settings.secret ≡ secret) }
         ensures limits { IfOk result (λ c. c.limits ≡ limits) }
+        ensures threshold { IfOk result (λ c. c.threshold ≡ SpreadThreshold.ALWAYS) }
     {
         let Some(server_id) = ServerId::new(server_id) else {
             return Err(BadConfig);
@@ -78,11 +82,24 @@ impl Config {
         Ok(Config::from_settings(settings, limits))
     }
 
-    /// Builds a configuration from settings that were checked already.
+    /// Builds a configuration from settings that were checked already. All work is spread, see
+    /// [`Config::with_threshold`].
     pub fn from_settings(settings: Settings, limits: Limits) -> Config
         ensures settings { result.settings ≡ settings }
         ensures limits { result.limits ≡ limits }
+        ensures threshold { result.threshold ≡ SpreadThreshold.ALWAYS }
     {
-        Config { settings, limits }
+        Config {
+            settings,
+            limits,
+            threshold: SpreadThreshold::ALWAYS,
+        }
+    }
+
+    /// The same, but work below the threshold is done on the calling thread.
+    pub fn with_threshold(self, threshold: SpreadThreshold) -> Config
+        ensures { result ≡ record self { threshold = threshold } }
+    {
+        Config { threshold, ..self }
     }
 }

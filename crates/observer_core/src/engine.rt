@@ -2,7 +2,10 @@
 //!
 //! Laws that go over this: `Agreeing`, `WholeImages`.
 
-ghost use Rattle.std.specs.Prelude.{◌≡◌, Some, IfOk};
+ghost use Rattle.std.specs.Prelude.{◌≡◌, Some, IfOk, OnOk};
+ghost use Rattle.std.specs.Thread.{IsSync};
+ghost use Rattle.data_tree.specs.Meaning.{state_after, outcomes_of_txns};
+ghost use Rattle.replica.specs.Gathering.{AppliesTxns};
 ghost use Rattle.observer_core.specs.Play.{initial_machine, first_client, new_machine, primed_machine};
 ghost use Rattle.observer_core.specs.Machine.{Machine as TheMachine};
 ghost use Rattle.observer_core.specs.Plays.{PlaysEvents};
@@ -11,10 +14,10 @@ use crate::config::Config;
 use crate::event::Event;
 use crate::machine::{Leader, Machine};
 use crate::run::run;
-use apply_workers::Gate;
-use batcher::Limits;
+use apply_workers::{Gate, apply_list, apply_list_inline};
+use batcher::{Limits, SpreadThreshold};
 use client_service::{Clients, Output, Settings, World};
-use data_tree::Tree;
+use data_tree::{Outcome, Tree};
 use learner_sync::Learner;
 use quorum_packet::PacketFeed;
 use replica::Replica;
@@ -24,6 +27,7 @@ use std::alloc::Global;
 use std::marker::Model;
 use std::thread::Threads;
 use thiserror::Error;
+use txn_codec::Txn;
 use values::NoMemory;
 
 // The connection that `primed` opens.
@@ -43,8 +47,9 @@ pub enum Stop {
 #[derive(Drop)]
 pub struct Engine {
     machine: Machine,
-    // How much is done at once. No answer depends on it.
+    // How much is done at once, and from where on it is spread over threads. No answer depends on them.
     limits: Limits,
+    threshold: SpreadThreshold,
     closed: bool,
 }
 
@@ -84,10 +89,10 @@ impl Engine {
     pub fn new(alloc: Global, config: Config) -> Result<Engine, NoMemory>
         ensures { IfOk result (λ e. e ≡ Some (new_machine config.settings)) }
     {
-        let Config { settings, limits } = config;
+        let settings = &config.settings;
         let replica = Replica::new(alloc, settings.epochs)?;
-        let clients = Clients::new(alloc, &settings)?;
-        Ok(Engine::started(limits, settings, replica, None, clients))
+        let clients = Clients::new(alloc, settings)?;
+        Ok(Engine::started(config, replica, None, clients))
     }
 
     /// An observer that follows a leader in epoch 1 and serves clients, with connection 1 open and in a session.
@@ -96,25 +101,23 @@ impl Engine {
     pub fn primed(alloc: Global, config: Config) -> Result<Engine, NoMemory>
         ensures { IfOk result (λ e. e ≡ Some (primed_machine config.settings)) }
     {
-        let Config { settings, limits } = config;
         let replica = Replica::primed(alloc)?;
-        let clients = first_client(alloc, &settings)?;
+        let clients = first_client(alloc, &config.settings)?;
         let leader = Leader {
             feed: PacketFeed::new(alloc),
             loader: Loader::new(alloc),
         };
-        Ok(Engine::started(limits, settings, replica, Some(leader), clients))
+        Ok(Engine::started(config, replica, Some(leader), clients))
     }
 
-    fn started(
-        limits: Limits,
-        settings: Settings,
-        replica: Replica,
-        leader: Option<Leader>,
-        clients: Clients,
-    ) -> Engine
-        ensures { result ≡ Some (initial_machine settings replica leader clients) }
+    fn started(config: Config, replica: Replica, leader: Option<Leader>, clients: Clients) -> Engine
+        ensures { result ≡ Some (initial_machine config.settings replica leader clients) }
     {
+        let Config {
+            settings,
+            limits,
+            threshold,
+        } = config;
         let world = World {
             settings,
             replica,
@@ -123,6 +126,7 @@ impl Engine {
         Engine {
             machine: Machine { leader, world },
             limits,
+            threshold,
             closed: false,
         }
     }
@@ -141,6 +145,29 @@ impl Engine {
         self.machine.world.replica.learner()
     }
 
+    // Plays the events. The closure applies the transactions of an event of the leader.
+    fn play<D: Fn(&mut Tree, &[Txn]) -> Result<Vec<Outcome>, NoMemory>>(
+        &mut self,
+        alloc: Global,
+        doer: &D,
+        events: &[Event<'_>],
+        outputs: &mut Vec<Output>,
+    ) -> Result<(), Stop>
+        requires { AppliesTxns (D.pre doer.now) (D.post doer.now) }
+        ensures { PlaysEvents result self.old events.now outputs.old.items outputs.new.items self.new }
+    {
+        if self.closed {
+            return Err(Stop::Closed);
+        }
+        match run(alloc, doer, &mut self.machine, events, outputs) {
+            Ok(()) => Ok(()),
+            Err(NoMemory) => {
+                self.closed = true;
+                Err(Stop::NoMemory)
+            }
+        }
+    }
+
     /// Plays the events in order and appends the outputs of each.
     ///
     /// Fails with [`Stop::NoMemory`] if an allocation is refused, which closes the engine and leaves a prefix of the
@@ -153,29 +180,33 @@ impl Engine {
     ) -> Result<(), Stop>
         ensures { PlaysEvents result self.old events.now outputs.old.items outputs.new.items self.new }
     {
-        if self.closed {
-            return Err(Stop::Closed);
-        }
-        match run(alloc, &mut self.machine, events, outputs) {
-            Ok(()) => Ok(()),
-            Err(NoMemory) => {
-                self.closed = true;
-                Err(Stop::NoMemory)
-            }
-        }
+        let doer = |tree: &mut Tree, txns: &[Txn]| -> Result<Vec<Outcome>, NoMemory>
+            ensures tree { OnOk result (tree.new ≡ state_after tree.old txns.now) }
+            ensures outcomes { IfOk result (λ v. v.items ≡ outcomes_of_txns tree.old txns.now) }
+        { apply_list_inline(alloc, tree, txns) };
+        self.play(alloc, &doer, events, outputs)
     }
-    /// Does what `feed_inline` does. It may hand a part to worker threads, which pass `gate` and which it waits for; as
-    /// yet it does everything on the calling thread.
+
+    /// Does what `feed_inline` does. The transactions of one event of the leader are cut into batches within the limits
+    /// of the configuration, and each batch is applied by up to so many workers, which pass `gate` for each of its
+    /// groups. The first worker is the calling thread, which waits for the others.
     pub fn feed<G: Gate + Sync, R: Threads + Sync>(
         &mut self,
-        _rt: &R,
+        rt: &R,
         alloc: Global,
         events: &[Event<'_>],
-        _gate: &G,
+        gate: &G,
         outputs: &mut Vec<Output>,
     ) -> Result<(), Stop>
         ensures { PlaysEvents result self.old events.now outputs.old.items outputs.new.items self.new }
     {
-        self.feed_inline(alloc, events, outputs)
+        let limits = self.limits;
+        let threshold = self.threshold;
+        let doer = |tree: &mut Tree, txns: &[Txn]| -> Result<Vec<Outcome>, NoMemory>
+            requires { IsSync R.row × IsSync G.row }
+            ensures tree { OnOk result (tree.new ≡ state_after tree.old txns.now) }
+            ensures outcomes { IfOk result (λ v. v.items ≡ outcomes_of_txns tree.old txns.now) }
+        { apply_list(rt, alloc, tree, txns, &limits, &threshold, gate) };
+        self.play(alloc, &doer, events, outputs)
     }
 }

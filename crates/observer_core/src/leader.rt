@@ -8,6 +8,7 @@ ghost use Rattle.values.specs.Gains.{Puts};
 ghost use Rattle.quorum_packet.specs.Feed.{CanBeWritten};
 ghost use Rattle.quorum_packet.specs.Items.{items_shown_at};
 ghost use Rattle.quorum_packet.specs.Packet.{packet_format};
+ghost use Rattle.replica.specs.Gathering.{AppliesTxns};
 ghost use Rattle.client_service.specs.Clients.{close_all_clients};
 ghost use Rattle.client_service.specs.Steps.{prepend_outputs};
 ghost use Rattle.client_service.specs.declared.output.Output.TheVariants.{CloseLeader};
@@ -15,12 +16,15 @@ ghost use Rattle.observer_core.specs.Leader.{to_leader, part_reader, take_items,
 ghost use Rattle.observer_core.specs.Inner.{send_outcome, ReceivesItem, DeliversItems, FollowsStream};
 ghost use Rattle.client_service.specs.Results.{MeetsStep};
 
+use crate::gathering::{settle_txns, take_item};
 use crate::machine::{Leader, Machine};
 use client_service::{Clients, Output, World, notify_each};
+use data_tree::{Outcome, Tree};
 use quorum_packet::{Item, PacketFeed, QuorumPacket, write_packet};
 use replica::ItemOutcome;
 use snapshot_codec::Loader;
 use std::alloc::Global;
+use txn_codec::Txn;
 use values::{Blob, Fault, NoMemory, ReadError};
 
 fn send(alloc: Global, packet: &QuorumPacket, outputs: &mut Vec<Output>) -> Result<(), NoMemory>
@@ -66,7 +70,7 @@ fn tell(
 }
 
 #[tactic(auto, using(crate::proofs::Delivering::all_of))]
-fn receive_item(
+pub(crate) fn receive_item(
     alloc: Global,
     loader: &mut Loader,
     world: &mut World,
@@ -86,28 +90,40 @@ fn receive_item(
     }
 }
 
-// Takes the complete packets and parts. Returns the fault that ends the stream, if there is one.
-fn drain(
+// Takes the complete packets and parts. Returns the fault that ends the stream, if there is one. Transactions are applied
+// as one list, as far as nothing else comes between them.
+fn drain<D: Fn(&mut Tree, &[Txn]) -> Result<Vec<Outcome>, NoMemory>>(
     alloc: Global,
+    doer: &D,
     feed: &mut PacketFeed,
     loader: &mut Loader,
     world: &mut World,
     outputs: &mut Vec<Output>,
 ) -> Result<Option<Fault>, NoMemory>
+    requires { AppliesTxns (D.pre doer.now) (D.post doer.now) }
     ensures { DeliversItems result outputs.old.items
         (take_items item_step (record { loading = loader.old; world = world.old }) (items_shown_at feed.old))
         outputs.new.items feed.new (record { loading = loader.new; world = world.new }) }
 {
-    loop {
+    let mut done = world.replica.learner().since_base().len();
+    'item: loop {
         match feed.next(alloc) {
-            Ok(None) => return Ok(None),
-            Ok(Some(item)) => match receive_item(alloc, loader, world, item, outputs) {
-                Ok(()) => {}
-                Err(ReadError::NoMemory) => return Err(NoMemory),
-                Err(ReadError::Fault(fault)) => return Ok(Some(fault)),
-            },
+            Ok(None) => {
+                settle_txns(alloc, doer, done, world, outputs)?;
+                return Ok(None);
+            }
+            Ok(Some(item)) => {
+                match take_item(alloc, doer, &mut done, loader, world, item, outputs) {
+                    Ok(()) => {}
+                    Err(ReadError::NoMemory) => return Err(NoMemory),
+                    Err(ReadError::Fault(fault)) => return Ok(Some(fault)),
+                }
+            }
             Err(ReadError::NoMemory) => return Err(NoMemory),
-            Err(ReadError::Fault(fault)) => return Ok(Some(fault)),
+            Err(ReadError::Fault(fault)) => {
+                settle_txns(alloc, doer, done, world, outputs)?;
+                return Ok(Some(fault));
+            }
         }
     }
 }
@@ -170,31 +186,42 @@ pub fn meet_leader(
 }
 
 // Takes a piece of the leader's stream. Returns the fault that ends the stream, if there is one.
-fn follow(
+fn follow<D: Fn(&mut Tree, &[Txn]) -> Result<Vec<Outcome>, NoMemory>>(
     alloc: Global,
+    doer: &D,
     leader: &mut Leader,
     world: &mut World,
     bytes: &[u8],
     outputs: &mut Vec<Output>,
 ) -> Result<Option<Fault>, NoMemory>
+    requires { AppliesTxns (D.pre doer.now) (D.post doer.now) }
     ensures { FollowsStream result outputs.old.items
         (part_reader.taken leader.old world.old bytes.now)
         outputs.new.items leader.new world.new }
 {
     leader.feed.feed(bytes)?;
-    drain(alloc, &mut leader.feed, &mut leader.loader, world, outputs)
+    drain(
+        alloc,
+        doer,
+        &mut leader.feed,
+        &mut leader.loader,
+        world,
+        outputs,
+    )
 }
 
 /// Takes a piece of the leader's stream. A fault closes the leader and all clients. Without a leader the bytes are
 /// ignored.
 ///
 /// Fails only if an allocation is refused; then a prefix of the outputs has been appended.
-pub fn take_leader_bytes(
+pub fn take_leader_bytes<D: Fn(&mut Tree, &[Txn]) -> Result<Vec<Outcome>, NoMemory>>(
     alloc: Global,
+    doer: &D,
     machine: &mut Machine,
     bytes: &[u8],
     outputs: &mut Vec<Output>,
 ) -> Result<(), NoMemory>
+    requires { AppliesTxns (D.pre doer.now) (D.post doer.now) }
     ensures { MeetsStep result outputs.old.items
         (take_leader_bytes part_reader machine.old.leader machine.old.world bytes.now)
         outputs.new.items machine.new }
@@ -202,7 +229,7 @@ pub fn take_leader_bytes(
     let Some(mut leader) = machine.leader.take() else {
         return Ok(());
     };
-    match follow(alloc, &mut leader, &mut machine.world, bytes, outputs)? {
+    match follow(alloc, doer, &mut leader, &mut machine.world, bytes, outputs)? {
         None => {
             machine.leader = Some(leader);
             Ok(())

@@ -12,10 +12,12 @@
 //!
 //! `replica` follows the leader and keeps the tree; `client_service` does what a client's bytes ask. This crate says in
 //! which order both happen, and what is sent. specs/Plays states what `feed_inline` and `feed` return, refused
-//! allocations included. `feed` may hand a part to worker threads, and no answer depends on that.
+//! allocations included. The transactions of an event of the leader are gathered, and applied as one list before
+//! anything that could tell the difference; with `feed` worker threads apply it in batches, and no answer depends on
+//! that.
 //!
-//! `leader` does the leader's steps, and `run` plays the events. specs/Inner has the contracts of their private
-//! functions; no public contract needs it.
+//! `leader` does the leader's steps, with `gathering` for the transactions of an event, and `run` plays the events.
+//! specs/Gathering and specs/Inner have the contracts of their private functions; no public contract needs them.
 //!
 //! ```text
 //! // server id, two epochs, two timeouts in milliseconds, secret, limits
@@ -30,6 +32,7 @@
 mod config;
 mod engine;
 mod event;
+mod gathering;
 mod law;
 mod leader;
 mod machine;

@@ -92,6 +92,8 @@ pub fn has(engine: &Engine, path: &str) -> bool {
 }
 
 #[cfg(test)]
+mod held;
+#[cfg(test)]
 mod laws;
 #[cfg(test)]
 mod played;

@@ -23,8 +23,7 @@ use Rattle.quorum_packet.specs.declared.phase.Phase.{Phase}
 use Rattle.quorum_packet.specs.declared.phase.Phase.TheVariants.{Packets, Image}
 use Rattle.quorum_packet.specs.Feed.{CanBeWritten}
 use Rattle.quorum_packet.specs.Held.{unread_of}
-use Rattle.quorum_packet.specs.Items.{FoundValue, OfPacket, OfImage, phase_after_kind, found_format, phase_after, stream_of_leader, shown_in, shown_items, items_shown_at}
-use Rattle.quorum_packet.specs.Kinds.{kind_of}
+use Rattle.quorum_packet.specs.Items.{FoundValue, OfPacket, OfImage, phase_after_packet, found_format, phase_after, stream_of_leader, shown_in, shown_items, items_shown_at}
 use Rattle.quorum_packet.specs.Packet.{packet_format}
 use Rattle.quorum_packet.specs.Steps.{items_of_option, FindsItem, ReadsFront, FindsOne, FindsNone, IsStepResult, RefusesUnread}
 use Rattle.quorum_packet.proofs.Looking.{drop_front_of}
@@ -52,7 +51,7 @@ unfolding judged_at
 value_fails phase old e read = rw read refl
 
 pub packet_found : (phase next : Phase) (old new : List ℕ) (p : QuorumPacket) → phase ≡ Packets
-    → packet_format.read old ≡ Ok (p, new) → next ≡ phase_after_kind (kind_of p.kind)
+    → packet_format.read old ≡ Ok (p, new) → next ≡ phase_after_packet p
     → FindsItem (Ok (Some (item.Packet p))) phase next old new
 packet_found Packets next old new p at read to = (OfPacket p, packet_read old new p read, to, refl)
 packet_found (Image phase) next old new p at read to = absurd cc

@@ -1,6 +1,6 @@
 -- The packets and parts of a stream, grouped, are its packets and whole images. One induction on the bytes that are
 -- left shows both cases: where a packet comes next, and inside an image.
-use Rattle.std.proofs.Common.{◌≡◌, ℕ, zero, suc, ◌<◌, Bool, true, false, cond, List, [], ◌∷◌, ◌++◌, length, Option, Some, Result, Ok, Err, refl, sym, ap, subst, ◌∙◌, append_assoc, arith}
+use Rattle.std.proofs.Common.{◌≡◌, ℕ, zero, suc, ◌<◌, Bool, true, false, cond, List, [], ◌∷◌, ◌++◌, length, Option, Result, Ok, Err, refl, sym, ap, subst, ◌∙◌, append_assoc, arith}
 use Rattle.std.proofs.lemmas.List.{append-nil}
 use Rattle.values.specs.declared.fault.Fault.{Fault}
 use Rattle.values.specs.declared.fault.Fault.TheVariants.{Short}
@@ -20,14 +20,11 @@ use Rattle.snapshot_codec.specs.declared.part.PartPhase.TheVariants.{SessionCoun
 use Rattle.snapshot_codec.proofs.Public.{parts_sound, never_waits}
 use Rattle.quorum_packet.specs.declared.item.Item.{Item}
 use Rattle.quorum_packet.specs.declared.item.Item.TheVariants as item
-use Rattle.quorum_packet.specs.declared.kind.PacketKind.{PacketKind}
-use Rattle.quorum_packet.specs.declared.kind.PacketKind.TheVariants as kinds
 use Rattle.quorum_packet.specs.declared.packet.QuorumPacket.{QuorumPacket}
 use Rattle.quorum_packet.specs.declared.phase.Phase.{Phase}
 use Rattle.quorum_packet.specs.declared.phase.Phase.TheVariants.{Packets, Image}
 use Rattle.quorum_packet.specs.GroupedItems.{GroupedItems, empty_loading, grouped_items, image_from, IsRestOfImage, SameUnread, SameRest, AreWholeItems, PacketsAreGrouped, PiecesAreGrouped}
-use Rattle.quorum_packet.specs.Items.{FoundValue, OfPacket, OfImage, packet_back, value_back, found_format, phase_after_kind, phase_after_value, stream_of_leader, shown_items, items_shown_at}
-use Rattle.quorum_packet.specs.Kinds.{kind_of}
+use Rattle.quorum_packet.specs.Items.{FoundValue, OfPacket, OfImage, packet_back, value_back, found_format, is_snap, phase_after_packet, phase_after_value, stream_of_leader, shown_items, items_shown_at}
 use Rattle.quorum_packet.specs.Packet.{packet_format}
 use Rattle.quorum_packet.specs.WholeItems.{WholeItem, OnePacket, OneImage, one_packet_back, one_image_back, whole_format, is_owed, whole_items}
 use Rattle.quorum_packet.proofs.Streams.{leader_streamed, whole_streamed}
@@ -161,28 +158,28 @@ Both u = AtPacket u × InImage u
 -- ---- packets
 
 -- An image comes after a SNAP packet, and only there.
-after_kind : (kind : Option PacketKind) (rest : List ℕ) → Both rest
-    → AreWholeItems empty_loading (items_shown_at (place_at (phase_after_kind kind) rest))
-    (items_in whole_items (place_at (is_owed (phase_after_kind kind)) rest))
-after_kind (Some kinds.Snap) rest both = both.1 SessionCount empty_loading rest (rest_at_start rest)
-after_kind kind rest both = both.0
+after_packet : (snap : Bool) (rest : List ℕ) → Both rest
+    → AreWholeItems empty_loading (items_shown_at (place_at (cond snap (Image SessionCount) Packets) rest))
+    (items_in whole_items (place_at snap rest))
+after_packet true rest both = both.1 SessionCount empty_loading rest (rest_at_start rest)
+after_packet false rest both = both.0
 
 at_packet : (u : List ℕ) → ((b : List ℕ) → length b < length u → Both b) → AtPacket u
 at_packet u shorter = by (packet_format.read u) refl
   where
     by : (r : Result (QuorumPacket × List ℕ) Fault) → packet_format.read u ≡ r → AtPacket u
     by (Ok x) h =
-        let next = phase_after_kind (kind_of x.0.kind) in
+        let next = phase_after_packet x.0 in
         let found = read_case packet_format (λ p. OfPacket p) packet_back u x.1 x.0 h in
         let whole = read_case packet_format (λ p. OnePacket p) one_packet_back u x.1 x.0 h in
         let others = items_shown_at (place_at next x.1) in
-        let whole_others = items_in whole_items (place_at (is_owed next) x.1) in
+        let whole_others = items_in whole_items (place_at (is_snap x.0) x.1) in
         same_by empty_loading _ (with_first (item.Packet x.0) others) _ (with_first (OnePacket x.0) whole_others)
         (ap (λ (i : Items Phase FoundValue). shown_items i)
         (items_whole stream_of_leader leader_streamed Packets u x.1 (OfPacket x.0) found))
         (items_whole whole_items whole_streamed false u x.1 (OnePacket x.0) whole)
         (packet_first empty_loading x.0 others whole_others
-        (after_kind (kind_of x.0.kind) x.1
+        (after_packet (is_snap x.0) x.1
         (shorter x.1 (shorter_rest stream_of_leader leader_streamed Packets u x.1 (OfPacket x.0) found))))
     by (Err e) h =
         same_by empty_loading _ _ _ _

@@ -1,17 +1,17 @@
 -- Parts come where an image is owed, and packets where none is.
-use Rattle.std.proofs.Common.{◌≡◌, ℕ, zero, suc, ◌<◌, Bool, true, false, List, length, Result, Ok, Err, refl, sym, subst, arith}
+use Rattle.std.proofs.Common.{◌≡◌, ℕ, zero, suc, ◌<◌, Bool, true, false, cond, List, length, Result, Ok, Err, refl, sym, subst, arith}
 use Rattle.values.specs.declared.fault.Fault.{Fault}
 use Rattle.jute.specs.Stream.{Unread, Items, values, place_at, with_first, no_items, place_after_fault, items_in}
 use Rattle.jute.proofs.Public.{items_whole, items_refused, shorter_rest}
 use Rattle.snapshot_codec.specs.Parts.{Value, Count, Path, Close, Part, part_format, part_after}
 use Rattle.snapshot_codec.specs.declared.part.ImagePart.TheVariants as part
 use Rattle.snapshot_codec.specs.declared.part.PartPhase.{PartPhase}
+use Rattle.snapshot_codec.specs.declared.part.PartPhase.TheVariants.{SessionCount}
 use Rattle.quorum_packet.specs.declared.packet.QuorumPacket.{QuorumPacket}
 use Rattle.quorum_packet.specs.declared.phase.Phase.{Phase}
 use Rattle.quorum_packet.specs.declared.phase.Phase.TheVariants.{Packets, Image}
 use Rattle.quorum_packet.specs.GroupedItems.{AreInOrder, ItemsAreInOrder}
-use Rattle.quorum_packet.specs.Items.{FoundValue, OfPacket, OfImage, packet_back, value_back, found_format, phase_after_kind, phase_after_value, stream_of_leader, shown_items}
-use Rattle.quorum_packet.specs.Kinds.{kind_of}
+use Rattle.quorum_packet.specs.Items.{FoundValue, OfPacket, OfImage, packet_back, value_back, found_format, is_snap, phase_after_value, stream_of_leader, shown_items}
 use Rattle.quorum_packet.specs.Packet.{packet_format}
 use Rattle.quorum_packet.specs.WholeItems.{is_owed}
 use Rattle.quorum_packet.proofs.GroupedItems.{read_case, refused_case}
@@ -32,6 +32,12 @@ stopped_in_order phase u e stops = in_order_by (is_owed phase) _ _ stops refl
 abbrev OrderedAt : List ℕ → Type 0
 OrderedAt u = (phase : Phase) → InOrder (is_owed phase) (items_in stream_of_leader (place_at phase u))
 
+-- An image is owed after a SNAP packet, and only there.
+order_after : (snap : Bool) (u : List ℕ) → OrderedAt u
+    → InOrder snap (items_in stream_of_leader (place_at (cond snap (Image SessionCount) Packets) u))
+order_after true u ordered = ordered (Image SessionCount)
+order_after false u ordered = ordered Packets
+
 packets_in_order : (u : List ℕ) → ((b : List ℕ) → length b < length u → OrderedAt b)
     → InOrder false (items_in stream_of_leader (place_at Packets u))
 packets_in_order u shorter = by (packet_format.read u) refl
@@ -42,8 +48,8 @@ packets_in_order u shorter = by (packet_format.read u) refl
         let found = read_case packet_format (λ p. OfPacket p) packet_back u x.1 x.0 h in
         in_order_by false _ _ (items_whole stream_of_leader leader_streamed Packets u x.1 (OfPacket x.0) found) (
           refl,
-          shorter x.1 (shorter_rest stream_of_leader leader_streamed Packets u x.1 (OfPacket x.0) found)
-              (phase_after_kind (kind_of x.0.kind)),
+          order_after (is_snap x.0) x.1
+              (shorter x.1 (shorter_rest stream_of_leader leader_streamed Packets u x.1 (OfPacket x.0) found)),
         )
     by (Err e) h =
         stopped_in_order Packets u e

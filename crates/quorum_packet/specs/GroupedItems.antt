@@ -14,8 +14,7 @@ use Rattle.quorum_packet.specs.declared.item.Item.{Item}
 use Rattle.quorum_packet.specs.declared.item.Item.TheVariants as item
 use Rattle.quorum_packet.specs.declared.phase.Phase.{Phase}
 use Rattle.quorum_packet.specs.declared.phase.Phase.TheVariants.{Packets, Image}
-use Rattle.quorum_packet.specs.Items.{phase_after_kind, items_shown_at}
-use Rattle.quorum_packet.specs.Kinds.{kind_of}
+use Rattle.quorum_packet.specs.Items.{is_snap, items_shown_at}
 use Rattle.quorum_packet.specs.WholeItems.{WholeItem, OnePacket, OneImage, is_owed, whole_items}
 
 -- ---- packets and parts, grouped
@@ -97,7 +96,7 @@ PiecesAreGrouped =
 abbrev pub AreInOrder : Bool → List Item → Bool → Type 0
 AreInOrder owed [] last = owed ≡ last
 AreInOrder owed (item.Packet p ∷ others) last =
-    (owed ≡ false) × AreInOrder (is_owed (phase_after_kind (kind_of p.kind))) others last
+    (owed ≡ false) × AreInOrder (is_snap p) others last
 AreInOrder owed (item.Part p ∷ others) last = (owed ≡ true) × AreInOrder (not (is_end (Part p))) others last
 
 abbrev pub ItemsAreInOrder : Type 0

@@ -1,6 +1,7 @@
 -- The leader's stream is a sequence of packets. After a SNAP packet comes an image, part by part, and after its end
 -- packets again.
-use Rattle.std.specs.Prelude.{List, [], ◌∷◌, Option, Some, None, if◌then◌else◌}
+use Rattle.std.specs.Prelude.{List, [], ◌∷◌, Option, Some, None, Bool, if◌then◌else◌}
+use Rattle.std.specs.Ordering.{int_eq}
 use Rattle.std.specs.List.{flat_map}
 use Rattle.jute.specs.Format.{Format, case_of}
 use Rattle.jute.specs.Stream.{values, PhasedStream, Place, Items, items_in}
@@ -9,12 +10,11 @@ use Rattle.snapshot_codec.specs.declared.part.PartPhase.{PartPhase}
 use Rattle.snapshot_codec.specs.declared.part.PartPhase.TheVariants.{SessionCount}
 use Rattle.quorum_packet.specs.declared.item.Item.{Item}
 use Rattle.quorum_packet.specs.declared.item.Item.TheVariants as item
-use Rattle.quorum_packet.specs.declared.kind.PacketKind.{PacketKind}
-use Rattle.quorum_packet.specs.declared.kind.PacketKind.TheVariants as kinds
+use Rattle.quorum_packet.specs.declared.kind.PacketKind.TheVariants.{Snap}
 use Rattle.quorum_packet.specs.declared.packet.QuorumPacket.{QuorumPacket}
 use Rattle.quorum_packet.specs.declared.phase.Phase.{Phase}
 use Rattle.quorum_packet.specs.declared.phase.Phase.TheVariants.{Packets, Image}
-use Rattle.quorum_packet.specs.Kinds.{kind_of}
+use Rattle.quorum_packet.specs.Kinds.{code_of}
 use Rattle.quorum_packet.specs.Packet.{packet_format}
 
 -- A value of the stream: a packet, or a value of an image.
@@ -34,33 +34,19 @@ abbrev pub found_format : Phase → Format FoundValue
 found_format Packets = case_of (λ p. OfPacket p) packet_back packet_format
 found_format (Image phase) = case_of (λ v. OfImage v) value_back (part_format phase)
 
--- What comes after a packet of a known kind, and of an unknown one.
-abbrev pub phase_after_kind : Option PacketKind → Phase
-phase_after_kind (Some kinds.Snap) = Image SessionCount
-phase_after_kind (Some kinds.Request) = Packets
-phase_after_kind (Some kinds.Proposal) = Packets
-phase_after_kind (Some kinds.Ack) = Packets
-phase_after_kind (Some kinds.Commit) = Packets
-phase_after_kind (Some kinds.Ping) = Packets
-phase_after_kind (Some kinds.Revalidate) = Packets
-phase_after_kind (Some kinds.Sync) = Packets
-phase_after_kind (Some kinds.Inform) = Packets
-phase_after_kind (Some kinds.NewLeader) = Packets
-phase_after_kind (Some kinds.FollowerInfo) = Packets
-phase_after_kind (Some kinds.UpToDate) = Packets
-phase_after_kind (Some kinds.Diff) = Packets
-phase_after_kind (Some kinds.Trunc) = Packets
-phase_after_kind (Some kinds.ObserverInfo) = Packets
-phase_after_kind (Some kinds.LeaderInfo) = Packets
-phase_after_kind (Some kinds.AckEpoch) = Packets
-phase_after_kind None = Packets
+-- A SNAP packet announces an image.
+abbrev pub is_snap : QuorumPacket → Bool
+is_snap p = int_eq p.kind (code_of Snap)
+
+abbrev pub phase_after_packet : QuorumPacket → Phase
+phase_after_packet p = if is_snap p then Image SessionCount else Packets
 
 -- The end of an image is its last value.
 abbrev pub phase_after_value : PartPhase → Value → Phase
 phase_after_value phase v = if is_end v then Packets else Image (part_after phase v)
 
 abbrev pub phase_after : Phase → FoundValue → Phase
-phase_after phase (OfPacket p) = phase_after_kind (kind_of p.kind)
+phase_after phase (OfPacket p) = phase_after_packet p
 phase_after Packets (OfImage v) = Packets
 phase_after (Image phase) (OfImage v) = phase_after_value phase v
 

@@ -8,8 +8,7 @@ use Rattle.snapshot_codec.specs.Image.{image_format}
 use Rattle.quorum_packet.specs.declared.packet.QuorumPacket.{QuorumPacket}
 use Rattle.quorum_packet.specs.declared.phase.Phase.{Phase}
 use Rattle.quorum_packet.specs.declared.phase.Phase.TheVariants.{Packets, Image}
-use Rattle.quorum_packet.specs.Items.{phase_after_kind}
-use Rattle.quorum_packet.specs.Kinds.{kind_of}
+use Rattle.quorum_packet.specs.Items.{is_snap}
 use Rattle.quorum_packet.specs.Packet.{packet_format}
 
 pub data WholeItem : Type 0 where
@@ -33,7 +32,7 @@ is_owed Packets = false
 is_owed (Image phase) = true
 
 abbrev pub owed_after : Bool → WholeItem → Bool
-owed_after owed (OnePacket p) = is_owed (phase_after_kind (kind_of p.kind))
+owed_after owed (OnePacket p) = is_snap p
 owed_after owed (OneImage s) = false
 
 -- The phase says whether an image is owed.

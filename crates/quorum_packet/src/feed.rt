@@ -4,13 +4,11 @@ ghost use Rattle.std.specs.Prelude.{◌≡◌, ◌<◌, ◌^◌, [], Ok, Err, fa
 ghost use Rattle.std.specs.Prelude.{IsTrue, IsOk, IfOk, IfErr, IfSome, OnOk, OnErr};
 ghost use Rattle.jute.specs.Stream.{with_more_bytes, place_at};
 ghost use Rattle.quorum_packet.specs.Feed.{AnswersNext, CanBeWritten, end_of, held_len, unread_len};
-ghost use Rattle.quorum_packet.specs.Items.{phase_after_kind};
-ghost use Rattle.quorum_packet.specs.Kinds.{kind_of};
+ghost use Rattle.quorum_packet.specs.Items.{phase_after_packet};
 ghost use Rattle.quorum_packet.specs.Steps.{FindsItem, ReadsFront, RefusesNext, IsStepResult, item_of_step};
 ghost use Rattle.quorum_packet.specs.declared.phase.Phase.TheVariants.{Packets};
 
 use crate::item::Item;
-use crate::kind::PacketKind;
 use crate::packet::QuorumPacket;
 use crate::phase::Phase;
 use crate::unseen::{Unseen, scan_new_bytes};
@@ -49,29 +47,12 @@ impl Model for PacketFeed {
 }
 
 fn phase_after_packet(packet: &QuorumPacket) -> Phase
-    ensures { result ≡ phase_after_kind (kind_of packet.now.kind) }
+    ensures { result ≡ phase_after_packet packet.now }
 {
-    match PacketKind::from_code(packet.kind) {
-        Some(PacketKind::Snap) => Phase::Image(PartPhase::SessionCount),
-        None
-        | Some(
-            PacketKind::Request
-            | PacketKind::Proposal
-            | PacketKind::Ack
-            | PacketKind::Commit
-            | PacketKind::Ping
-            | PacketKind::Revalidate
-            | PacketKind::Sync
-            | PacketKind::Inform
-            | PacketKind::NewLeader
-            | PacketKind::FollowerInfo
-            | PacketKind::UpToDate
-            | PacketKind::Diff
-            | PacketKind::Trunc
-            | PacketKind::ObserverInfo
-            | PacketKind::LeaderInfo
-            | PacketKind::AckEpoch,
-        ) => Phase::Packets,
+    if packet.is_snap() {
+        Phase::Image(PartPhase::SessionCount)
+    } else {
+        Phase::Packets
     }
 }
 

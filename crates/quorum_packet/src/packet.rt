@@ -1,8 +1,11 @@
 //! One packet.
 
+ghost use Rattle.std.specs.Prelude.{◌≡◌};
+ghost use Rattle.quorum_packet.specs.Items.{is_snap};
 ghost use Rattle.quorum_packet.specs.Packet.{packet_format};
 ghost use Rattle.values.specs.Gains.{Puts};
 
+use crate::kind::PacketKind;
 use jute::{
     Id, ReadRecord, Reader, WriteRecord, blob_len, put_blob, put_vector, read_blob, read_vector,
     vector_len,
@@ -20,6 +23,15 @@ pub struct QuorumPacket {
     pub bytes: Option<Blob>,
     /// The ids of the client whose request this is; `None` is null.
     pub authinfo: Option<Listed<Id>>,
+}
+
+impl QuorumPacket {
+    /// Whether an image follows the packet.
+    pub(crate) fn is_snap(&self) -> bool
+        ensures { result ≡ is_snap self.now }
+    {
+        self.kind == PacketKind::Snap.code()
+    }
 }
 
 impl<'a> ReadRecord<'a> for QuorumPacket {

@@ -2,7 +2,7 @@
 pub mod Counting
 -- Bodies, and the room before them.
 pub mod Filling
--- The responses that may be written, and their lengths.
+-- Lists and Stats that may be written, and their lengths.
 pub mod Writing
 -- Looks that were worked out by hand.
 pub mod Rows

@@ -11,9 +11,9 @@ use Rattle.ephemerals.specs.Orders.{path_cmp}
 use Rattle.node_map.specs.Stats.{shown_stat, java_int}
 use Rattle.node_map.specs.declared.node.Node.{Node}
 use Rattle.read_processor.specs.declared.request.Request.{Request}
-use Rattle.read_processor.specs.declared.request.Request.TheVariants.{Exists, GetData}
+use Rattle.client_records.specs.declared.kind.ReadKind.TheVariants.{Exists, GetData}
 use Rattle.read_processor.specs.Look.{look_at_node, shown_look}
-use Rattle.read_processor.specs.Rows.{WorkedLooks, WorkedWatches, path_without_watch, readable_node, reader_id, exists_bytes, get_data_bytes}
+use Rattle.read_processor.specs.Rows.{WorkedLooks, WorkedWatches, read_without_watch, readable_node, reader_id, exists_bytes, get_data_bytes}
 
 -- The Stat of the node, given its number of children.
 abbrev numbers : ℕ → Stat
@@ -43,14 +43,14 @@ found ids r e = ap (look_at_node ids r) e
 pub worked : WorkedLooks
 worked = record {
   read = λ s h.
-      found (reader_id ∷ []) (GetData (path_without_watch (codes "/a"))) h.0
+      found (reader_id ∷ []) (read_without_watch GetData (codes "/a")) h.0
       ∙ ap (λ k. shown_look (read_by k)) no_children
       ∙ ap (λ (l : List ℕ). shown_look l) read_by_hand;
-  not_read = λ s h. found [] (GetData (path_without_watch (codes "/a"))) h.0;
+  not_read = λ s h. found [] (read_without_watch GetData (codes "/a")) h.0;
   exists = λ s h.
-      found [] (Exists (path_without_watch (codes "/a"))) h.0 ∙ ap (λ k. shown_look (exists_by k)) no_children
+      found [] (read_without_watch Exists (codes "/a")) h.0 ∙ ap (λ k. shown_look (exists_by k)) no_children
       ∙ ap (λ (l : List ℕ). shown_look l) exists_by_hand;
-  missing = λ s h. ap (look_at_node [] (GetData (path_without_watch (codes "/q")))) h.1;
+  missing = λ s h. ap (look_at_node [] (read_without_watch GetData (codes "/q"))) h.1;
   not_asked_for = λ s h. refl;
   null = λ s h. refl;
 }

@@ -1,20 +1,15 @@
--- The responses that may be written, and their lengths.
-use Rattle.std.proofs.Common.{◌≡◌, ℕ, ◌+◌, ◌≤◌, ◌<◌, ◌^◌, List, [], ◌∷◌, length, All, Option, Some, None, refl, ap, ◌∙◌, arith, rules}
+-- Lists and Stats that may be written, and their lengths.
+use Rattle.std.proofs.Common.{◌≡◌, ℕ, ◌+◌, ◌≤◌, ◌<◌, ◌^◌, List, [], ◌∷◌, length, All, Some, refl, ap, ◌∙◌, arith, rules}
 use Rattle.std.specs.List.{flat_map}
 use Rattle.std.proofs.lemmas.List.{length-append}
 use Rattle.std.proofs.lemmas.List.Concat.{flat_map-cons}
 use Rattle.std.proofs.lemmas.List.Elements.{All-nil, All-cons}
-use Rattle.jute.specs.Format.{Format, text_or_empty, vector_of, buffer, number_bytes}
+use Rattle.jute.specs.Format.{Format, text_or_empty, vector_of, number_bytes}
 use Rattle.jute.specs.Owned.{acl_format, id_format}
 use Rattle.jute.specs.Records.{stat_format}
 use Rattle.jute.specs.declared.owned.Acl.{Acl}
 use Rattle.jute.specs.declared.stat.Stat.{Stat}
-use Rattle.node_map.specs.Stats.{length_or_zero}
 use Rattle.client_records.specs.Fields.{names_format}
-use Rattle.client_records.specs.Responses.{get_data_response, get_acl_response, watcher_event}
-use Rattle.client_records.specs.declared.event.WatcherEvent.{WatcherEvent}
-use Rattle.client_records.specs.declared.response.GetDataResponse.{GetDataResponse}
-use Rattle.client_records.specs.declared.response.GetAclResponse.{GetAclResponse}
 use Rattle.read_processor.specs.Limits.{body_limit}
 use Rattle.read_processor.proofs.Counting.{counted_length}
 
@@ -70,10 +65,14 @@ acl_plain = record {
   );
 }
 
+pub acls_writable : (xs : List Acl) → length ((vector_of acl_format).written (Some xs)) ≤ body_limit
+    → (vector_of acl_format).Writable (Some xs)
+acls_writable xs le = vector_writable acl_format acl_plain xs le
+
 pub names_writable : (xs : List (List ℕ)) → length (names_format.written xs) ≤ body_limit → names_format.Writable xs
 names_writable xs le = vector_writable text_or_empty name_plain xs le
 
--- ---- responses
+-- ---- Stats
 
 pub stat_length : (s : Stat) → length (stat_format.written s) ≡ 68
 unfolding stat_format number_bytes
@@ -82,54 +81,3 @@ stat_length s = refl
 pub stat_writable : (s : Stat) → stat_format.Writable s
 unfolding stat_format
 stat_writable s = search rules
-
-pub get_data_length : (r : GetDataResponse) → length (get_data_response.written r) ≡ 72 + length_or_zero r.bytes
-unfolding get_data_response stat_format number_bytes
-get_data_length r = by r.bytes
-  where
-    by : (bytes : Option (List ℕ))
-        → length (get_data_response.written (record r { bytes = bytes })) ≡ 72 + length_or_zero bytes
-    by None = refl
-    by (Some bytes) = simp length-append (omega arith)
-
-pub get_data_writable : (r : GetDataResponse) → length_or_zero r.bytes ≤ body_limit → get_data_response.Writable r
-unfolding get_data_response
-get_data_writable r le = (by r.bytes le, stat_writable r.stat)
-  where
-    by : (bytes : Option (List ℕ)) → length_or_zero bytes ≤ body_limit → buffer.Writable bytes
-    by None le = tt
-    by (Some bytes) le = omega (arith, le)
-
-abbrev entries : GetAclResponse → List ℕ
-entries r = (vector_of acl_format).written (Some r.acl)
-
-pub get_acl_length : (r : GetAclResponse) → length (get_acl_response.written r) ≡ length (entries r) + 68
-unfolding get_acl_response
-get_acl_length r =
-    length-append (entries r) (stat_format.written r.stat) ∙ ap (λ n. length (entries r) + n) (stat_length r.stat)
-
-pub get_acl_writable : (r : GetAclResponse) → length (entries r) ≤ body_limit → get_acl_response.Writable r
-unfolding get_acl_response
-get_acl_writable r le = (vector_writable acl_format acl_plain r.acl le, stat_writable r.stat)
-
--- ---- events
-
-pub event_length : (r : WatcherEvent) → length (watcher_event.written r) ≡ 12 + length_or_zero r.path
-unfolding watcher_event number_bytes
-event_length r = by r.path
-  where
-    by : (path : Option (List ℕ))
-        → length (watcher_event.written (record r { path = path })) ≡ 12 + length_or_zero path
-    by None = refl
-    by (Some path) = simp length-append (omega arith)
-
-pub event_writable : (r : WatcherEvent) → length_or_zero r.path ≤ body_limit → watcher_event.Writable r
-unfolding watcher_event
-event_writable r le = (tt, (tt, by r.path le))
-  where
-    by : (path : Option (List ℕ)) → length_or_zero path ≤ body_limit → buffer.Writable path
-    by None le = tt
-    by (Some path) le = omega (arith, le)
-
-pub event_small : (r : WatcherEvent) → length_or_zero r.path ≤ body_limit → length (watcher_event.written r) < 2 ^ 63
-event_small r le = omega (arith, event_length r, le)

@@ -1,5 +1,7 @@
+pub mod Asking
 pub mod Events
 pub mod Inner
+pub mod Kinds
 pub mod Limits
 pub mod Look
 pub mod Permissions

@@ -5,12 +5,13 @@ use Rattle.std.specs.FinSet as set
 use Rattle.values.specs.Hex.{hex_bytes}
 use Rattle.jute.specs.declared.owned.Id.{Id}
 use Rattle.jute.specs.declared.codes.TheConstants.{BAD_ARGUMENTS, NO_NODE, NO_AUTH}
-use Rattle.client_records.specs.declared.request.PathAndWatch.{PathAndWatch}
+use Rattle.client_records.specs.declared.kind.ReadKind.{ReadKind}
+use Rattle.client_records.specs.declared.kind.ReadKind.TheVariants.{Exists, GetData}
 use Rattle.client_records.specs.declared.request.SetWatches.{SetWatches}
 use Rattle.node_map.specs.declared.node.Node.{Node}
 use Rattle.data_tree.specs.State.{State}
 use Rattle.watch_manager.specs.declared.event.EventKind.TheVariants.{NodeDataChanged, NodeCreated}
-use Rattle.read_processor.specs.declared.request.Request.TheVariants.{Exists, GetData}
+use Rattle.read_processor.specs.declared.request.Request.{Request}
 use Rattle.read_processor.specs.declared.watch.Watch.TheVariants.{Data, Child}
 use Rattle.read_processor.specs.Look.{look_at_state, without_body, shown_look}
 use Rattle.read_processor.specs.Watch.{watch_of}
@@ -54,29 +55,29 @@ get_data_bytes = hex_bytes (codes "00000002 6869 " ++ stat_of_node)
 abbrev pub HoldsNode : State → Type 0
 HoldsNode s = (finmap.get s.nodes (codes "/a") ≡ Some readable_node) × (finmap.get s.nodes (codes "/q") ≡ None)
 
-abbrev pub path_without_watch : List ℕ → PathAndWatch
-path_without_watch path = record { path = Some path; watch = false }
+abbrev pub read_without_watch : ReadKind → List ℕ → Request
+read_without_watch kind path = record { kind = kind; path = Some path; watch = false }
 
 -- The claim at each state that holds the node.
 abbrev pub AtEachState : (State → Type 0) → Type 0
 AtEachState P = (s : State) → HoldsNode s → P s
 
 pub record WorkedLooks : Type 0 where
-  pub read : AtEachState (λ s. look_at_state s (reader_id ∷ []) (GetData (path_without_watch (codes "/a")))
+  pub read : AtEachState (λ s. look_at_state s (reader_id ∷ []) (read_without_watch GetData (codes "/a"))
       ≡ shown_look get_data_bytes)
-  pub not_read : AtEachState (λ s. look_at_state s [] (GetData (path_without_watch (codes "/a")))
+  pub not_read : AtEachState (λ s. look_at_state s [] (read_without_watch GetData (codes "/a"))
       ≡ without_body NO_AUTH)
   -- No permission is needed.
-  pub exists : AtEachState (λ s. look_at_state s [] (Exists (path_without_watch (codes "/a")))
+  pub exists : AtEachState (λ s. look_at_state s [] (read_without_watch Exists (codes "/a"))
       ≡ shown_look exists_bytes)
-  pub missing : AtEachState (λ s. look_at_state s [] (GetData (path_without_watch (codes "/q"))) ≡ without_body NO_NODE)
+  pub missing : AtEachState (λ s. look_at_state s [] (read_without_watch GetData (codes "/q")) ≡ without_body NO_NODE)
   pub not_asked_for : AtEachState
-      (λ s. look_at_state s [] (GetData (path_without_watch (codes "q"))) ≡ without_body BAD_ARGUMENTS)
-  pub null : AtEachState (λ s. look_at_state s [] (GetData (record { path = None; watch = false }))
+      (λ s. look_at_state s [] (read_without_watch GetData (codes "q")) ≡ without_body BAD_ARGUMENTS)
+  pub null : AtEachState (λ s. look_at_state s [] (record { kind = GetData; path = None; watch = false })
       ≡ without_body BAD_ARGUMENTS)
 
-abbrev pub path_with_watch : List ℕ → PathAndWatch
-path_with_watch path = record { path = Some path; watch = true }
+abbrev pub read_with_watch : ReadKind → List ℕ → Request
+read_with_watch kind path = record { kind = kind; path = Some path; watch = true }
 
 -- A client that has seen everything up to the node's pzxid. It has read the nodes in `read`, found those in `absent`
 -- missing, and listed the children of those in `parents`.
@@ -89,8 +90,8 @@ set_watches_of read absent parents = record {
 }
 
 pub record WorkedWatches : Type 0 where
-  pub waits : watch_of (Exists (path_with_watch (codes "/q"))) NO_NODE ≡ Some (Data (codes "/q"))
-  pub missing : watch_of (GetData (path_with_watch (codes "/q"))) NO_NODE ≡ None
+  pub waits : watch_of (read_with_watch Exists (codes "/q")) NO_NODE ≡ Some (Data (codes "/q"))
+  pub missing : watch_of (read_with_watch GetData (codes "/q")) NO_NODE ≡ None
   -- The node's data changed since then, its children didn't, and /q isn't there yet.
   pub renewed : AtEachState (λ s.
       renew_watches s (set_watches_of (codes "/a" ∷ []) (codes "/q" ∷ []) (codes "/a" ∷ []))

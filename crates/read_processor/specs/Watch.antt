@@ -1,23 +1,32 @@
 -- The watch that a read leaves (ZooKeeper Programmer's Guide, "Watches").
-use Rattle.std.specs.Prelude.{ℕ, ℤ, List, Option, None, ◌||◌, if◌then◌else◌}
+use Rattle.std.specs.Prelude.{ℕ, ℤ, List, Option, Some, None, Bool, ◌||◌, ◌&&◌, if◌then◌else◌}
 use Rattle.std.specs.Option.{option_map}
 use Rattle.std.specs.Ordering.{int_eq}
 use Rattle.jute.specs.declared.codes.TheConstants.{NO_NODE}
 use Rattle.client_records.specs.declared.codes.TheConstants.{OK}
-use Rattle.client_records.specs.declared.request.PathAndWatch.{PathAndWatch}
+use Rattle.read_processor.specs.Kinds.{read_row}
+use Rattle.read_processor.specs.declared.kinds.ReadRow.{ReadRow}
+use Rattle.read_processor.specs.declared.kinds.WatchTable.{WatchTable}
+use Rattle.read_processor.specs.declared.kinds.WatchTable.TheVariants as tables
 use Rattle.read_processor.specs.declared.request.Request.{Request}
-use Rattle.read_processor.specs.declared.request.Request.TheVariants.{Exists, GetData, GetAcl, GetChildren, GetChildren2}
 use Rattle.read_processor.specs.declared.watch.Watch.{Watch}
 use Rattle.read_processor.specs.declared.watch.Watch.TheVariants.{Data, Child}
 
--- The watch at the path, if the request asks for one.
-abbrev pub asked_watch : (List ℕ → Watch) → PathAndWatch → Option Watch
-asked_watch kind r = if r.watch then option_map kind r.path else None
+abbrev pub watch_in : WatchTable → List ℕ → Watch
+watch_in tables.Data path = Data path
+watch_in tables.Child path = Child path
 
--- An exists may leave a watch on a missing node. The other reads leave one on a node that they have read.
+-- The watch at the path, if the request asks for one.
+abbrev pub asked_watch : WatchTable → Request → Option Watch
+asked_watch table r = if r.watch then option_map (watch_in table) r.path else None
+
+-- After an answer with this error: a watch is left on a node that was read, and of some kinds also on a missing one.
+abbrev pub leaves_watch : ReadRow → ℤ → Bool
+leaves_watch row error = int_eq error OK || (row.watches_missing && int_eq error NO_NODE)
+
+abbrev pub watch_with : ReadRow → Option WatchTable → Request → ℤ → Option Watch
+watch_with row None r error = None
+watch_with row (Some table) r error = if leaves_watch row error then asked_watch table r else None
+
 abbrev pub watch_of : Request → ℤ → Option Watch
-watch_of (Exists r) error = if int_eq error OK || int_eq error NO_NODE then asked_watch Data r else None
-watch_of (GetData r) error = if int_eq error OK then asked_watch Data r else None
-watch_of (GetAcl r) error = None
-watch_of (GetChildren r) error = if int_eq error OK then asked_watch Child r else None
-watch_of (GetChildren2 r) error = if int_eq error OK then asked_watch Child r else None
+watch_of r error = watch_with (read_row r.kind) (read_row r.kind).watch r error

@@ -2,14 +2,17 @@
 //!
 //! `look` gives the answer to a read: an error code, or 0 and the body of a reply. The body is made once, with room
 //! before it, and `Look::into_frame` fills the length and the header in there, so the only copy is the one out of the
-//! tree. specs/Look defines the answers, specs/Permissions who may read a node, and specs/Reply the frame.
+//! tree. specs/Look defines the answers, specs/Permissions who may read a node, and specs/Reply the frame. What the
+//! kinds of reads differ in is in one place: a row and a body for each (`kinds`, specs/Kinds).
+//!
+//! `look_each` answers several reads of one tree; an `Ask` is a read with the ids of its client (specs/Asking).
 //!
 //! A read may leave a watch, which `watch_of` returns (specs/Watch), and an event is sent in the same form as a reply
 //! (specs/Events). A client that reconnects sends the watches that it had; `renew` returns the events that it missed
 //! and the watches to set again (specs/Renewal).
 //!
 //! ```text
-//! let request = Request::GetData(asked);
+//! let request = Request { kind: ReadKind::GetData, path, watch };
 //! let look = look(alloc, &tree, ids, &request)?;
 //! let watch = watch_of(&request, look.error);
 //! match look.into_frame(xid, last_zxid) {
@@ -22,9 +25,10 @@
 //! ```
 #![tactic(auto)]
 
-mod bodies;
+mod asking;
 mod body;
 mod counts;
+mod kinds;
 mod law;
 mod permissions;
 mod reads;
@@ -33,7 +37,9 @@ mod request;
 mod shown;
 mod watch;
 
+pub use asking::{Ask, look_each};
 pub use body::Body;
+pub use kinds::{ReadRow, WatchTable, may_watch, read_row};
 pub use law::worked_looks;
 pub use reads::look;
 pub use renewal::{Renewal, renew};

@@ -2,9 +2,9 @@
 
 ghost use Rattle.std.specs.Prelude.{◌≡◌, ◌&&◌, IfOk};
 ghost use Rattle.std.specs.Option.{option_copied};
-ghost use Rattle.read_processor.specs.Look.{look_at_state, look_at_path, look_at_node, wants_read, is_request_path, requested_path};
+ghost use Rattle.read_processor.specs.Look.{look_at_state, look_at_node, is_request_path};
 
-use crate::bodies::body_of;
+use crate::kinds::{body_of, read_row};
 use crate::permissions::may_read;
 use crate::request::Request;
 use crate::shown::Look;
@@ -12,36 +12,13 @@ use data_tree::{Node, Tree};
 use jute::Id;
 use jute::codes::{BAD_ARGUMENTS, NO_AUTH, NO_NODE};
 use std::alloc::Global;
-use values::{NoMemory, Str};
+use values::NoMemory;
 
 /// Whether a path may be read: it begins with a slash and has no NUL.
 pub fn is_readable_path(path: &[u8]) -> bool
     ensures { result ≡ is_request_path path.now }
 {
     path.starts_with(b"/") && !path.contains(&0)
-}
-
-// The path of a request; `None` is null.
-fn path_of<'a, 'b>(request: &'b Request<'a>) -> &'b Option<Str<'a>>
-    ensures { result.now ≡ requested_path request.now }
-{
-    match request {
-        Request::Exists(request) => &request.path,
-        Request::GetData(request) => &request.path,
-        Request::GetAcl(request) => &request.path,
-        Request::GetChildren(request) => &request.path,
-        Request::GetChildren2(request) => &request.path,
-    }
-}
-
-// Whether a request needs the READ permission.
-fn wants_read(request: &Request<'_>) -> bool
-    ensures { result ≡ wants_read request.now }
-{
-    match request {
-        Request::GetData(_) | Request::GetChildren(_) | Request::GetChildren2(_) => true,
-        Request::Exists(_) | Request::GetAcl(_) => false,
-    }
 }
 
 fn look_at_node(
@@ -56,35 +33,22 @@ fn look_at_node(
     let Some(node) = node else {
         return Look::without_body(alloc, NO_NODE);
     };
-    if wants_read(request) && !may_read(ids, &node.acl) {
+    if read_row(request.kind).needs_read && !may_read(ids, &node.acl) {
         return Look::without_body(alloc, NO_AUTH);
     }
-    let body = body_of(alloc, request, node)?;
+    let body = body_of(alloc, request.kind, node)?;
     Ok(Look { error: 0, body })
-}
-
-fn look_at_path(
-    alloc: Global,
-    tree: &Tree,
-    ids: &[Id],
-    request: &Request<'_>,
-    path: &Option<Str<'_>>,
-) -> Result<Look, NoMemory>
-    ensures { IfOk result
-        (λ shown. shown ≡ look_at_path tree.now ids.now request.now path.now) }
-{
-    let Some(path) = path else {
-        return Look::without_body(alloc, BAD_ARGUMENTS);
-    };
-    if !is_readable_path(path.as_str().as_bytes()) {
-        return Look::without_body(alloc, BAD_ARGUMENTS);
-    }
-    look_at_node(alloc, ids, request, tree.node(path.as_str()))
 }
 
 /// The answer to a read by a client with these ids. Fails only if an allocation is refused.
 pub fn look(alloc: Global, tree: &Tree, ids: &[Id], request: &Request<'_>) -> Result<Look, NoMemory>
     ensures { IfOk result (λ shown. shown ≡ look_at_state tree.now ids.now request.now) }
 {
-    look_at_path(alloc, tree, ids, request, path_of(request))
+    let Some(path) = &request.path else {
+        return Look::without_body(alloc, BAD_ARGUMENTS);
+    };
+    if !is_readable_path(path.as_str().as_bytes()) {
+        return Look::without_body(alloc, BAD_ARGUMENTS);
+    }
+    look_at_node(alloc, ids, request, tree.node(path.as_str()))
 }

@@ -1,14 +1,14 @@
 //! The reads of the tree.
 
-use client_records::{GetAclRequest, PathAndWatch};
+use client_records::ReadKind;
 use values::Str;
 
-/// A read. Its body is that of zookeeper.jute's request of the same name.
+/// A read. Its kind says what it shows.
 #[derive(Drop)]
-pub enum Request<'a> {
-    Exists(PathAndWatch<'a>),
-    GetData(PathAndWatch<'a>),
-    GetAcl(GetAclRequest<'a>),
-    GetChildren(PathAndWatch<'a>),
-    GetChildren2(PathAndWatch<'a>),
+pub struct Request<'a> {
+    pub kind: ReadKind,
+    /// The path as the client wrote it; `None` is null.
+    pub path: Option<Str<'a>>,
+    /// Whether the client asks for a watch.
+    pub watch: bool,
 }

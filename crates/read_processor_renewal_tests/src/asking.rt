@@ -1,16 +1,17 @@
 //! Watches that reads leave.
 
 use crate::calls::shown;
-use client_records::{GetAclRequest, PathAndWatch};
+use client_records::ReadKind;
 use read_processor::{Request, watch_of};
 use std::alloc::Global;
 use std::test::Fail;
 use values::Str;
 
-// A path, and a watch if it is wanted.
-fn asked(path: &str, watch: bool) -> PathAndWatch<'_> {
-    PathAndWatch {
-        path: Some(Str::new(path)),
+// A read of /a, and a watch if it is wanted.
+fn asked(kind: ReadKind, watch: bool) -> Request<'static> {
+    Request {
+        kind,
+        path: Some(Str::new("/a")),
         watch,
     }
 }
@@ -35,28 +36,26 @@ fn is_left(alloc: Global, request: &Request<'_>, wanted: [&str; 3]) -> Result<bo
 #[test]
 fn reads_leave_watches(rt: HostRuntime) -> Result<(), Fail> {
     let alloc = rt.alloc();
-    let acl = Request::GetAcl(GetAclRequest {
-        path: Some(Str::new("/a")),
-    });
     let rows = [
         (
-            Request::Exists(asked("/a", true)),
+            asked(ReadKind::Exists, true),
             ["data /a; ", "data /a; ", "none"],
         ),
         (
-            Request::GetData(asked("/a", true)),
+            asked(ReadKind::GetData, true),
             ["data /a; ", "none", "none"],
         ),
         (
-            Request::GetChildren(asked("/a", true)),
+            asked(ReadKind::GetChildren, true),
             ["child /a; ", "none", "none"],
         ),
         (
-            Request::GetChildren2(asked("/a", true)),
+            asked(ReadKind::GetChildren2, true),
             ["child /a; ", "none", "none"],
         ),
-        (Request::Exists(asked("/a", false)), ["none"; 3]),
-        (acl, ["none"; 3]),
+        (asked(ReadKind::Exists, false), ["none"; 3]),
+        (asked(ReadKind::GetAcl, true), ["none"; 3]),
+        (asked(ReadKind::GetAcl, false), ["none"; 3]),
     ];
     for (request, wanted) in &rows {
         assert!(rt; is_left(alloc, request, *wanted)?);

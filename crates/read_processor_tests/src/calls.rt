@@ -1,6 +1,6 @@
 //! Trees given in hexadecimal digits, and calls of `look` on them.
 
-use client_records::{GetAclRequest, PathAndWatch, RequestKind};
+use client_records::ReadKind;
 use data_tree::Tree;
 use jute::Id;
 use read_processor::{Look, Request, look};
@@ -38,24 +38,12 @@ pub fn tree_after(alloc: Global, transactions: &[&str]) -> Result<Tree, Fail> {
     Ok(tree)
 }
 
-// A path, without a watch.
-fn asked(path: &str) -> PathAndWatch<'_> {
-    PathAndWatch {
+/// A read of this kind, without a watch.
+pub fn read_of(kind: ReadKind, path: &str) -> Request<'_> {
+    Request {
+        kind,
         path: Some(Str::new(path)),
         watch: false,
-    }
-}
-
-/// A read of this kind, without a watch; an exists, if the kind isn't another read.
-pub fn read_of(kind: RequestKind, path: &str) -> Request<'_> {
-    match kind {
-        RequestKind::GetData => Request::GetData(asked(path)),
-        RequestKind::GetAcl => Request::GetAcl(GetAclRequest {
-            path: Some(Str::new(path)),
-        }),
-        RequestKind::GetChildren => Request::GetChildren(asked(path)),
-        RequestKind::GetChildren2 => Request::GetChildren2(asked(path)),
-        _ => Request::Exists(asked(path)),
     }
 }
 
@@ -89,7 +77,7 @@ fn frame_of(
 pub fn is_answered(
     alloc: Global,
     transactions: &[&str],
-    kind: RequestKind,
+    kind: ReadKind,
     path: &str,
     zxid: i64,
     parts: &[&str],

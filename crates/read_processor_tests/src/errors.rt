@@ -1,7 +1,7 @@
 //! Errors of reads, and the permission to read.
 
 use crate::calls::{error_of, id_of, read_of, tree_after};
-use client_records::{GetAclRequest, PathAndWatch, RequestKind};
+use client_records::ReadKind;
 use data_tree::Tree;
 use jute::Id;
 use read_processor::Request;
@@ -26,12 +26,12 @@ const CREATE_O: &str = "0000000000000007 00000001 0000000100000001 0000000000000
 const SUPER: &str = "super:xQJmxLMiHGwaqBvst5y6rkB6HQs=";
 
 /// The reads.
-const KINDS: [RequestKind; 5] = [
-    RequestKind::Exists,
-    RequestKind::GetData,
-    RequestKind::GetAcl,
-    RequestKind::GetChildren,
-    RequestKind::GetChildren2,
+const KINDS: [ReadKind; 5] = [
+    ReadKind::Exists,
+    ReadKind::GetData,
+    ReadKind::GetAcl,
+    ReadKind::GetChildren,
+    ReadKind::GetChildren2,
 ];
 
 // The error of each read of a path.
@@ -56,14 +56,20 @@ fn errors_with(alloc: Global, scheme: &str, id: &str) -> Result<[i32; 5], Fail> 
     errors(alloc, &tree, slice::from_ref(&id), "/s")
 }
 
+// A read of a null path.
+fn of_null(kind: ReadKind) -> Request<'static> {
+    Request {
+        kind,
+        path: None,
+        watch: false,
+    }
+}
+
 // The errors of getData and getACL of a null path.
 fn errors_of_null(alloc: Global) -> Result<[i32; 2], Fail> {
     let tree = tree_after(alloc, &[])?;
-    let data = Request::GetData(PathAndWatch {
-        path: None,
-        watch: false,
-    });
-    let acl = Request::GetAcl(GetAclRequest { path: None });
+    let data = of_null(ReadKind::GetData);
+    let acl = of_null(ReadKind::GetAcl);
     Ok([
         error_of(alloc, &tree, &[], &data)?,
         error_of(alloc, &tree, &[], &acl)?,

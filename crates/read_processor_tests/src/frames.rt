@@ -1,7 +1,7 @@
 //! Frames of replies.
 
 use crate::calls::is_answered;
-use client_records::RequestKind;
+use client_records::ReadKind;
 use read_processor::Look;
 use std::alloc::Global;
 use std::test::Fail;
@@ -28,7 +28,7 @@ const CREATE_E: &str = "0000000000000007 00000001 0000000100000001 0000000000000
     00000003 2fc3a9 ffffffff ffffffff 00 ffffffff";
 
 // Whether this is the reply to a read of the root before any transaction.
-fn is_first(alloc: Global, kind: RequestKind, parts: &[&str]) -> Result<bool, Fail> {
+fn is_first(alloc: Global, kind: ReadKind, parts: &[&str]) -> Result<bool, Fail> {
     is_answered(alloc, &[], kind, "/", 0, parts)
 }
 
@@ -36,15 +36,15 @@ fn is_first(alloc: Global, kind: RequestKind, parts: &[&str]) -> Result<bool, Fa
 fn the_root_is_shown(rt: HostRuntime) -> Result<(), Fail> {
     let alloc = rt.alloc();
     let stat = ["00000054", NO_ERROR, ROOT];
-    assert!(rt; is_first(alloc, RequestKind::Exists, &stat)?);
+    assert!(rt; is_first(alloc, ReadKind::Exists, &stat)?);
     let child = "00000001 00000009 7a6f6f6b6565706572";
     let names = ["00000021", NO_ERROR, child];
-    assert!(rt; is_first(alloc, RequestKind::GetChildren, &names)?);
+    assert!(rt; is_first(alloc, ReadKind::GetChildren, &names)?);
     let both = ["00000065", NO_ERROR, child, ROOT];
-    assert!(rt; is_first(alloc, RequestKind::GetChildren2, &both)?);
+    assert!(rt; is_first(alloc, ReadKind::GetChildren2, &both)?);
     let everybody = "00000001 0000001f 00000005 776f726c64 00000006 616e796f6e65";
     let acl = ["0000006f", NO_ERROR, everybody, ROOT];
-    assert!(rt; is_first(alloc, RequestKind::GetAcl, &acl)?);
+    assert!(rt; is_first(alloc, ReadKind::GetAcl, &acl)?);
     Ok(())
 }
 
@@ -56,7 +56,7 @@ fn children_stand_in_order(rt: HostRuntime) -> Result<(), Fail> {
         "00000001 61 00000009 7a6f6f6b6565706572 00000002 c3a9",
     ];
     let log = [CREATE_E, CREATE_A];
-    assert!(rt; is_answered(rt.alloc(), &log, RequestKind::GetChildren, "/", 0, &wanted)?);
+    assert!(rt; is_answered(rt.alloc(), &log, ReadKind::GetChildren, "/", 0, &wanted)?);
     Ok(())
 }
 
@@ -69,7 +69,7 @@ fn data_is_shown(rt: HostRuntime) -> Result<(), Fail> {
     ];
     let log = [CREATE_A];
     let zxid = 0x1_0000_0001;
-    assert!(rt; is_answered(rt.alloc(), &log, RequestKind::GetData, "/a", zxid, &wanted)?);
+    assert!(rt; is_answered(rt.alloc(), &log, ReadKind::GetData, "/a", zxid, &wanted)?);
     Ok(())
 }
 
@@ -82,7 +82,7 @@ fn null_is_shown(rt: HostRuntime) -> Result<(), Fail> {
     ];
     let log = [CREATE_A, SET_A];
     let zxid = 0x1_0000_0002;
-    assert!(rt; is_answered(rt.alloc(), &log, RequestKind::GetData, "/a", zxid, &wanted)?);
+    assert!(rt; is_answered(rt.alloc(), &log, ReadKind::GetData, "/a", zxid, &wanted)?);
     Ok(())
 }
 
@@ -110,6 +110,6 @@ fn nothing_is_shown(rt: HostRuntime) -> Result<(), Fail> {
 #[test]
 fn errors_stand_alone(rt: HostRuntime) -> Result<(), Fail> {
     let wanted = ["00000010 00000001 0000000000000000 ffffff9b"];
-    assert!(rt; is_answered(rt.alloc(), &[], RequestKind::Exists, "/q", 0, &wanted)?);
+    assert!(rt; is_answered(rt.alloc(), &[], ReadKind::Exists, "/q", 0, &wanted)?);
     Ok(())
 }

@@ -3,11 +3,12 @@
 //! `command_of` parses a command line. `replay_on` reads the script to its end, replays it, and writes what went wrong
 //! to standard error; it returns the exit status. It works over any reader and writers, so what it prints is proved for
 //! the bytes that it reads: `specs/Replay.antt` defines the outputs, `specs/Lines.antt` the line of each, and
-//! `specs/Ending.antt` the status and the message.
+//! `specs/Ending.antt` the status and the message. The limits of a command line are in none of them: they say how many
+//! threads share the work, and how much of it at a time.
 //!
 //! ```
 //! let mut reader = b"primed\nclient 1 ffffffff".as_slice();
-//! let status = replay_on(alloc, &mut reader, &mut printed, &mut errors);
+//! let status = replay_on(rt, alloc, default_limits(), &mut reader, &mut printed, &mut errors);
 //! // status 0; printed has the lines `C 1 close` and `end zxid=0x0 paths=3`, and errors nothing
 //! ```
 #![tactic(auto)]

@@ -11,10 +11,13 @@ ghost use Rattle.replay.specs.declared.replaying.PrintError.TheVariants as print
 
 use crate::ending::Ending;
 use crate::print::{put_end, put_output};
-use observer_core::{Config, Engine, Event, Output, Settings, Stop, default_limits};
+use apply_workers::OpenGate;
+use batcher::Limits;
+use observer_core::{Config, Engine, Event, Output, Settings, Stop};
 use replay_script::{Script, ScriptError, ScriptEvent, parse};
 use std::alloc::Global;
 use std::io::{ErrorKind, Read, Write};
+use std::thread::Threads;
 use values::{Bytes, NoMemory};
 
 /// The reason why a replay couldn't be printed to its end.
@@ -64,11 +67,16 @@ fn events_of(alloc: Global, script: &[ScriptEvent]) -> Result<Vec<Event<'_>>, No
 }
 
 /// The observer that a script sets up. Fails only if an allocation is refused.
-pub fn engine_of(alloc: Global, primed: bool, settings: Settings) -> Result<Engine, NoMemory>
+pub fn engine_of(
+    alloc: Global,
+    primed: bool,
+    settings: Settings,
+    limits: Limits,
+) -> Result<Engine, NoMemory>
     ensures { IfOk result
         (λ e. e ≡ Some (if primed then primed_machine settings else new_machine settings)) }
 {
-    let config = Config::from_settings(settings, default_limits());
+    let config = Config::from_settings(settings, limits);
     if primed {
         Engine::primed(alloc, config)
     } else {
@@ -153,7 +161,8 @@ fn print_fed<W: Write>(
 
 // Feeds the events to an observer, and prints the outputs. The observer is dropped at the single end of this function,
 // and nowhere else: each drop of it is proved anew.
-fn feed<W: Write>(
+fn feed<T: Threads + Sync, W: Write>(
+    rt: &T,
     alloc: Global,
     mut engine: Engine,
     events: &[Event<'_>],
@@ -165,12 +174,18 @@ fn feed<W: Write>(
         → WritesFront (W.contents writer.old) (W.contents writer.new) (play m events.now).outputs }
 {
     let mut outputs = Vec::new(alloc);
-    let fed = engine.feed_inline(alloc, events, &mut outputs);
+    let fed = engine.feed(rt, alloc, events, &OpenGate, &mut outputs);
     print_fed(alloc, &engine, fed, outputs.as_slice(), writer)
 }
 
 // Feeds a script's events to its observer, and prints the outputs.
-fn play_script<W: Write>(alloc: Global, script: Script, writer: &mut W) -> Result<(), PrintError>
+fn play_script<T: Threads + Sync, W: Write>(
+    rt: &T,
+    alloc: Global,
+    limits: Limits,
+    script: Script,
+    writer: &mut W,
+) -> Result<(), PrintError>
     ensures ok { OnOk result (PrintsAll script (W.contents writer.old) (W.contents writer.new)) }
     ensures no_memory { result ≡ Err print_errors.NoMemory
         → PrintsFront script (W.contents writer.old) (W.contents writer.new) }
@@ -190,12 +205,18 @@ fn play_script<W: Write>(alloc: Global, script: Script, writer: &mut W) -> Resul
         timeouts,
         secret,
     };
-    let engine = engine_of(alloc, primed, settings)?;
-    feed(alloc, engine, events.as_slice(), writer)
+    let engine = engine_of(alloc, primed, settings, limits)?;
+    feed(rt, alloc, engine, events.as_slice(), writer)
 }
 
 /// Replays a text, and prints the outputs.
-pub fn replay_text<W: Write>(alloc: Global, text: &[u8], writer: &mut W) -> Ending
+pub fn replay_text<T: Threads + Sync, W: Write>(
+    rt: &T,
+    alloc: Global,
+    limits: Limits,
+    text: &[u8],
+    writer: &mut W,
+) -> Ending
     ensures { EndsReplay result text.now (W.contents writer.old) (W.contents writer.new) }
 {
     let script = match parse(alloc, text) {
@@ -203,7 +224,7 @@ pub fn replay_text<W: Write>(alloc: Global, text: &[u8], writer: &mut W) -> Endi
         Err(ScriptError::NoMemory) => return Ending::NoMemory,
         Err(ScriptError::BadLine(number)) => return Ending::BadLine(number),
     };
-    match play_script(alloc, script, writer) {
+    match play_script(rt, alloc, limits, script, writer) {
         Ok(()) => Ending::Done,
         Err(PrintError::NoMemory) => Ending::NoMemory,
         Err(PrintError::Unwritable) => Ending::Failed,
@@ -211,7 +232,13 @@ pub fn replay_text<W: Write>(alloc: Global, text: &[u8], writer: &mut W) -> Endi
 }
 
 /// Reads a script to its end, replays it, and prints the outputs. A script that is read only in part isn't replayed.
-pub fn replay<R: Read, W: Write>(alloc: Global, reader: &mut R, writer: &mut W) -> Ending
+pub fn replay<T: Threads + Sync, R: Read, W: Write>(
+    rt: &T,
+    alloc: Global,
+    limits: Limits,
+    reader: &mut R,
+    writer: &mut W,
+) -> Ending
     ensures { IfSome (R.remaining reader.old)
         (λ text. EndsReplay result text (W.contents writer.old) (W.contents writer.new)) }
 {
@@ -223,7 +250,7 @@ pub fn replay<R: Read, W: Write>(alloc: Global, reader: &mut R, writer: &mut W) 
             Ending::Failed
         };
     }
-    let ending = replay_text(alloc, text.as_slice(), writer);
+    let ending = replay_text(rt, alloc, limits, text.as_slice(), writer);
     match writer.flush() {
         Ok(()) => ending,
         Err(_) => Ending::Failed,
@@ -231,8 +258,12 @@ pub fn replay<R: Read, W: Write>(alloc: Global, reader: &mut R, writer: &mut W) 
 }
 
 /// Replays a script: prints the outputs, and writes what went wrong to standard error. Returns the exit status.
-pub fn replay_on<R: Read, W: Write, E: Write>(
+///
+/// What is printed doesn't depend on `limits`, which say how many threads share the work, and how much of it at a time.
+pub fn replay_on<T: Threads + Sync, R: Read, W: Write, E: Write>(
+    rt: &T,
     alloc: Global,
+    limits: Limits,
     reader: &mut R,
     writer: &mut W,
     errors: &mut E,
@@ -241,7 +272,7 @@ pub fn replay_on<R: Read, W: Write, E: Write>(
         (λ text. EndsReplayWith result text (W.contents writer.old) (W.contents writer.new)) }
     ensures quiet { result ≡ 0 → errors.new ≡ errors.old }
 {
-    let ending = replay(alloc, reader, writer);
+    let ending = replay(rt, alloc, limits, reader, writer);
     if ending != Ending::Done {
         // If standard error can't be written, only the status tells the failure.
         let _ = ending.tell(errors);

@@ -11,11 +11,13 @@ ghost use Rattle.replay.specs.Replay.{EndsReplayWith};
 ghost use Rattle.auditing.specs.Auditing.{EndsAuditWith as AuditEndsWith};
 
 use auditing::audit_on;
+use batcher::Limits;
 use replay::{Command, Ending, Source, command_of, replay_on};
 use serve::serve;
 use std::alloc::AllocError;
 use std::io::{BufWriter, Error, ErrorKind, Read};
 use std::process::ExitCode;
+use std::thread::Threads;
 use std::{env, fs};
 
 // Ends the program when no script was read.
@@ -45,12 +47,24 @@ fn ending_of(error: &Error) -> Ending
     }
 }
 
-// Returns the exit status; no contract is about the bytes on standard output.
-fn replay_from<R: Read>(rt: &HostRuntime, reader: &mut R) -> u8
+// Returns the exit status; no contract is about the bytes on standard output. `threads` starts the workers.
+fn replay_from<T: Threads + Sync, R: Read>(
+    rt: &HostRuntime,
+    threads: &T,
+    limits: Limits,
+    reader: &mut R,
+) -> u8
     ensures { IfSome (R.remaining reader.old) (λ text. EndsReplayWith result text None None) }
 {
     match BufWriter::new(rt.alloc(), rt.stdout()) {
-        Ok(mut writer) => replay_on(rt.alloc(), reader, &mut writer, &mut rt.stderr()),
+        Ok(mut writer) => replay_on(
+            threads,
+            rt.alloc(),
+            limits,
+            reader,
+            &mut writer,
+            &mut rt.stderr(),
+        ),
         Err(_) => fail(rt, Ending::NoMemory),
     }
 }
@@ -65,11 +79,16 @@ fn audit_from<R: Read>(rt: &HostRuntime, reader: &mut R, path: &str) -> u8
     }
 }
 
-fn replay_source(rt: &HostRuntime, source: Source<'_>) -> u8 {
+fn replay_source<T: Threads + Sync>(
+    rt: &HostRuntime,
+    threads: &T,
+    source: Source<'_>,
+    limits: Limits,
+) -> u8 {
     match source {
-        Source::Input => replay_from(rt, &mut rt.stdin()),
+        Source::Input => replay_from(rt, threads, limits, &mut rt.stdin()),
         Source::File(name) => match fs::File::open(rt, name.as_str()) {
-            Ok(mut file) => replay_from(rt, &mut file),
+            Ok(mut file) => replay_from(rt, threads, limits, &mut file),
             Err(error) => fail(rt, ending_of(&error)),
         },
     }
@@ -103,10 +122,10 @@ fn wordless(rt: &HostRuntime, error: &Error) -> u8 {
     }
 }
 
-// Runs a command that needs no threads.
-fn run(rt: &HostRuntime, words: &[String]) -> u8 {
+// Runs a command that needs no sockets.
+fn run<T: Threads + Sync>(rt: &HostRuntime, threads: &T, words: &[String]) -> u8 {
     match command_of(words) {
-        Some(Command::Replay(source)) => replay_source(rt, source),
+        Some(Command::Replay { source, limits }) => replay_source(rt, threads, source, limits),
         Some(Command::Audit(source, path)) => audit_source(rt, source, path.as_str()),
         None => usage(rt),
     }
@@ -122,5 +141,5 @@ fn main(rt: HostRuntime) -> ExitCode {
             return ExitCode::from(serve(&rt, rt.alloc(), options));
         }
     }
-    ExitCode::from(run(&rt, words.as_slice()))
+    ExitCode::from(run(&rt, &rt, words.as_slice()))
 }

@@ -1,5 +1,5 @@
 -- Decimal numbers, read digit by digit.
-use Rattle.std.proofs.Common.{◌≡◌, ℕ, ◌+◌, ◌-◌, ◌*◌, ◌<◌, true, false, List, [], ◌∷◌, None, cond, refl, ap, ◌∙◌, length, get_or, drop, arith}
+use Rattle.std.proofs.Common.{◌≡◌, ℕ, ◌+◌, ◌-◌, ◌*◌, ◌<◌, true, false, List, [], ◌∷◌, None, cond, refl, sym, ap, ◌∙◌, length, get_or, drop, arith}
 use Rattle.std.proofs.lemmas.List.{at_drop_more}
 use Rattle.std.specs.Char.{is_ascii_digit}
 use Rattle.std.proofs.lemmas.Bool.Decides.{nat_tests}
@@ -15,7 +15,7 @@ up_to-too_large limit n (b ∷ bs) h =
     ]
 
 -- This is so at the digit that makes it too large.
-pub too_large_at : (limit n i : ℕ) (text : List ℕ) → i < length text → is_ascii_digit (get_or text i 0) ≡ true
+too_large_at : (limit n i : ℕ) (text : List ℕ) → i < length text → is_ascii_digit (get_or text i 0) ≡ true
     → limit < n * 10 + (get_or text i 0 - 48) → if_at_most limit (number_after n (drop i text)) ≡ None
 too_large_at limit n i text h digit large =
     at_drop_more (λ t. if_at_most limit (number_after n t)) text i 0 h
@@ -24,7 +24,14 @@ too_large_at limit n i text h digit large =
     ∙ up_to-too_large limit (n * 10 + (get_or text i 0 - 48)) (drop (i + 1) text) large
 
 -- A text that isn't empty spells what its digits spell.
-pub none_spelled : (limit : ℕ) (text : List ℕ) → if_at_most limit (number_after 0 text) ≡ None
+none_spelled : (limit : ℕ) (text : List ℕ) → if_at_most limit (number_after 0 text) ≡ None
     → number_up_to limit text ≡ None
 none_spelled limit [] h = refl
 none_spelled limit (b ∷ bs) h = h
+
+-- So the text spells no number up to the limit, where the digits before it spell n.
+pub none_up_to : (limit n i : ℕ) (text : List ℕ)
+    → if_at_most limit (number_after n (drop i text)) ≡ if_at_most limit (number_after 0 text) → i < length text
+    → is_ascii_digit (get_or text i 0) ≡ true → limit < n * 10 + (get_or text i 0 - 48) → number_up_to limit text ≡ None
+none_up_to limit n i text same h digit large =
+    none_spelled limit text (sym same ∙ too_large_at limit n i text h digit large)

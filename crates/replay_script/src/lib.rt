@@ -29,5 +29,6 @@ mod script;
 pub use event::ScriptEvent;
 pub use examples::{bad_lines, lines, scripts};
 pub use hex::put_hex;
+pub use number::number_up_to;
 pub use parser::{ScriptError, parse};
 pub use script::Script;

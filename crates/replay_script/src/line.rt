@@ -75,7 +75,7 @@ fn client_of(alloc: Global, text: &[u8]) -> Result<Option<ScriptEvent>, NoMemory
     ensures { IfOk result (λ event. event ≡ client_of text.now) }
 {
     let words = cut_at(b' ', text);
-    let Some(client) = number_up_to(u32::MAX, words.front.as_slice()) else {
+    let Some(client) = number_up_to(u64::from(u32::MAX), words.front.as_slice()) else {
         return Ok(None);
     };
     let Some(behind) = words.behind else {
@@ -83,7 +83,7 @@ fn client_of(alloc: Global, text: &[u8]) -> Result<Option<ScriptEvent>, NoMemory
     };
     match coming_of(alloc, behind.as_slice())? {
         None => Ok(None),
-        Some(coming) => Ok(Some(client_event(u64::from(client), coming))),
+        Some(coming) => Ok(Some(client_event(client, coming))),
     }
 }
 

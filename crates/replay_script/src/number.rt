@@ -5,10 +5,11 @@ ghost use Rattle.replay_script.specs.Number.{number_up_to, int_of, ints_of};
 
 use crate::cut::cut_at;
 
-const INT_MAX: u32 = i32::MAX as u32;
+const INT_MAX: u64 = i32::MAX as u64;
 
-/// The number that a text spells in decimal digits; None if it spells none, or one above the limit.
-pub fn number_up_to(limit: u32, text: &[u8]) -> Option<u32>
+/// The number that a text spells in decimal digits, with any number of zeros in front; None if it spells none, or one
+/// above the limit.
+pub fn number_up_to(limit: u64, text: &[u8]) -> Option<u64>
     ensures { result ≡ number_up_to limit text.now }
 {
     if text.is_empty() {
@@ -19,12 +20,13 @@ pub fn number_up_to(limit: u32, text: &[u8]) -> Option<u32>
         if !byte.is_ascii_digit() {
             return None;
         }
-        number = number * 10 + u64::from(*byte - b'0');
-        if number > u64::from(limit) {
+        let digit = u64::from(*byte - b'0');
+        number = number.checked_mul(10)?.checked_add(digit)?;
+        if number > limit {
             return None;
         }
     }
-    Some(number as u32)
+    Some(number)
 }
 
 /// The number that a text spells, if it fits an int.

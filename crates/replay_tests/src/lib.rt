@@ -5,11 +5,12 @@
 #![tactic(auto)]
 
 use auditing::audit_on;
-use observer_core::Output;
+use observer_core::{Output, default_limits};
 use replay::{Command, Source, command_of, put_end, put_output, replay_on};
 use replay_script::{Script, ScriptError, parse, put_hex};
 use std::alloc::Global;
 use std::io::{Read, Write};
+use std::thread::Threads;
 use values::NoMemory;
 
 /// Reads a script.
@@ -23,13 +24,14 @@ pub fn put_digits(out: &mut Vec<u8>, bytes: &[u8]) -> Result<(), NoMemory> {
 }
 
 /// Replays a script.
-pub fn replayed<R: Read, W: Write, E: Write>(
+pub fn replayed<T: Threads + Sync, R: Read, W: Write, E: Write>(
+    rt: &T,
     alloc: Global,
     reader: &mut R,
     writer: &mut W,
     errors: &mut E,
 ) -> u8 {
-    replay_on(alloc, reader, writer, errors)
+    replay_on(rt, alloc, default_limits(), reader, writer, errors)
 }
 
 /// Appends the lines of outputs, and the end line.
@@ -68,8 +70,16 @@ pub fn file_of(source: Source<'_>) -> &str {
 pub fn named(words: &[String]) -> (&str, &str) {
     match command_of(words) {
         None => ("", ""),
-        Some(Command::Replay(source)) => (file_of(source), ""),
+        Some(Command::Replay { source, .. }) => (file_of(source), ""),
         Some(Command::Audit(source, path)) => (file_of(source), path.as_str()),
+    }
+}
+
+/// The number of workers and the most transactions of a batch, of a command line that replays.
+pub fn limited(words: &[String]) -> Option<(usize, usize)> {
+    match command_of(words)? {
+        Command::Replay { limits, .. } => Some((limits.workers(), limits.batch())),
+        Command::Audit(..) => None,
     }
 }
 

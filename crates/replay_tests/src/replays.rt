@@ -1,6 +1,7 @@
-use crate::{named, put_lines, replayed};
+use crate::{limited, named, put_lines, replayed};
 use observer_core::Output;
 use replay::Ending;
+use std::alloc::Global;
 use std::io;
 use std::io::{ErrorKind, Read, Write};
 use std::test::*;
@@ -56,7 +57,10 @@ fn a_script_is_replayed(rt: HostRuntime) {
     let mut out = Vec::new(rt.alloc());
     let mut errors = Vec::new(rt.alloc());
     let mut reader = SCRIPT;
-    assert_eq!(rt; replayed(rt.alloc(), &mut reader, &mut out, &mut errors), 0);
+    assert_eq!(rt;
+        replayed(&rt, rt.alloc(), &mut reader, &mut out, &mut errors),
+        0
+    );
     assert_eq!(rt;
         out.as_slice(),
         b"C 1 close\nend zxid=0x0 paths=3\n".as_slice()
@@ -69,7 +73,10 @@ fn a_read_fails_midway(rt: HostRuntime) {
     let mut out = Vec::new(rt.alloc());
     let mut errors = Vec::new(rt.alloc());
     let mut reader = Torn { bytes: b"what\n" };
-    assert_eq!(rt; replayed(rt.alloc(), &mut reader, &mut out, &mut errors), 3);
+    assert_eq!(rt;
+        replayed(&rt, rt.alloc(), &mut reader, &mut out, &mut errors),
+        3
+    );
     assert!(rt; out.is_empty());
     assert_eq!(rt; errors.as_slice(), b"cannot open\n".as_slice());
 }
@@ -79,13 +86,13 @@ fn the_output_cannot_be_written(rt: HostRuntime) {
     let mut errors = Vec::new(rt.alloc());
     let mut reader = SCRIPT;
     assert_eq!(rt;
-        replayed(rt.alloc(), &mut reader, &mut Full, &mut errors),
+        replayed(&rt, rt.alloc(), &mut reader, &mut Full, &mut errors),
         3
     );
     assert_eq!(rt; errors.as_slice(), b"cannot open\n".as_slice());
     let mut reader = SCRIPT;
     assert_eq!(rt;
-        replayed(rt.alloc(), &mut reader, &mut Lost, &mut errors),
+        replayed(&rt, rt.alloc(), &mut reader, &mut Lost, &mut errors),
         3
     );
 }
@@ -94,7 +101,10 @@ fn the_output_cannot_be_written(rt: HostRuntime) {
 fn errors_cannot_be_told(rt: HostRuntime) {
     let mut out = Vec::new(rt.alloc());
     let mut reader = b"what".as_slice();
-    assert_eq!(rt; replayed(rt.alloc(), &mut reader, &mut out, &mut Full), 1);
+    assert_eq!(rt;
+        replayed(&rt, rt.alloc(), &mut reader, &mut out, &mut Full),
+        1
+    );
 }
 
 #[test]
@@ -123,6 +133,15 @@ fn each_output_has_a_line(rt: HostRuntime) -> Result<(), Fail> {
     Ok(())
 }
 
+// The words of a line.
+fn words(alloc: Global, line: &str) -> Result<Vec<String>, Fail> {
+    let mut words = Vec::new(alloc);
+    for word in line.split_ascii_whitespace() {
+        words.push(String::from_str(alloc, word)?)?;
+    }
+    Ok(words)
+}
+
 #[test]
 fn command_lines(rt: HostRuntime) -> Result<(), Fail> {
     for (line, file, path) in [
@@ -131,19 +150,52 @@ fn command_lines(rt: HostRuntime) -> Result<(), Fail> {
         ("replay a", "a", ""),
         ("replay", "", ""),
         ("replay a b", "", ""),
+        ("replay --workers 1", "", ""),
+        ("replay --workers --workers 1", "--workers", ""),
         ("audit a b", "a", "b"),
         ("audit - b", "-", "b"),
         ("audit a", "", ""),
+        ("audit a b --workers 1", "", ""),
         ("serve", "", ""),
         ("repla -", "", ""),
     ] {
-        let mut words = Vec::new(rt.alloc());
-        for word in line.split_whitespace() {
-            words.push(String::from_str(rt.alloc(), word)?)?;
-        }
+        let words = words(rt.alloc(), line)?;
         let (named_file, named_path) = named(words.as_slice());
         assert_eq!(rt; named_file, file, "at {line}");
         assert_eq!(rt; named_path, path, "at {line}");
+    }
+    Ok(())
+}
+
+#[test]
+fn options_of_a_replay(rt: HostRuntime) -> Result<(), Fail> {
+    for (line, limits) in [
+        ("", Some((4, 256))),
+        ("replay a", Some((4, 256))),
+        ("replay a --workers 1", Some((1, 256))),
+        ("replay a --batch 4096", Some((4, 4096))),
+        ("replay a --workers 64 --batch 1", Some((64, 1))),
+        (
+            "replay - --batch 007 --workers 00000000000000000000000002",
+            Some((2, 7)),
+        ),
+        ("replay a --workers", None),
+        ("replay a --batch 1 --workers", None),
+        ("replay a --workers 2 --workers 2", None),
+        ("replay a --batch 2 --workers 2 --batch 3", None),
+        ("replay a --workers 0", None),
+        ("replay a --workers 65", None),
+        ("replay a --batch 0", None),
+        ("replay a --batch 4097", None),
+        ("replay a --workers +1", None),
+        ("replay a --workers 1x", None),
+        ("replay a --workers 18446744073709551617", None),
+        ("replay a --worker 1", None),
+        ("replay a 1 --workers", None),
+        ("audit a /", None),
+    ] {
+        let words = words(rt.alloc(), line)?;
+        assert_eq!(rt; limited(words.as_slice()), limits, "at {line}");
     }
     Ok(())
 }

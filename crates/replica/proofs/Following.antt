@@ -28,7 +28,7 @@ after-push : (s : State) (log : List Txn) (t : Txn)
 after-push s [] t = refl
 after-push s (u ∷ log) t = after-push (effect_of_txn s u).state log t
 
-last-push : (log : List Txn) (t : Txn) → last_txn (log ++ t ∷ []) ≡ Some t
+pub last-push : (log : List Txn) (t : Txn) → last_txn (log ++ t ∷ []) ≡ Some t
 last-push [] t = refl
 last-push (u ∷ []) t = refl
 last-push (u ∷ v ∷ log) t = last-push (v ∷ log) t

@@ -17,11 +17,14 @@ use Rattle.quorum_packet.specs.declared.kind.PacketKind.TheVariants as kinds
 use Rattle.quorum_packet.specs.declared.packet.QuorumPacket.{QuorumPacket}
 use Rattle.quorum_packet.specs.Kinds.{kind_of}
 use Rattle.learner_sync.specs.Learner.{Learner}
-use Rattle.learner_sync.specs.Learn.{LearnerStep, single_act, load_part, load_to_drop, packet_in_hello, packet_in_sync, await_image, at_phase, packet_in_replay, packet_in_serving, packet_in_phase, part_in_phase, learn_item}
+use Rattle.learner_sync.specs.Learn.{LearnerStep, single_act, load_part, load_to_drop, await_image, at_phase, message_in_phase, part_in_phase, learn_item}
 use Rattle.learner_sync.specs.Learn.{no_acts as nothing_learnt}
+use Rattle.learner_sync.specs.Messages.{message_of_kind, message_of_packet}
 use Rattle.learner_sync.specs.Laws.{is_of_image, ActsAccountForLog}
 use Rattle.learner_sync.specs.declared.act.Act.{Act}
 use Rattle.learner_sync.specs.declared.act.Act.TheVariants as act
+use Rattle.learner_sync.specs.declared.message.Message.{Message}
+use Rattle.learner_sync.specs.declared.message.Message.TheVariants as message
 use Rattle.learner_sync.specs.declared.phase.Phase.{Phase}
 use Rattle.learner_sync.specs.declared.phase.Phase.TheVariants as phase
 use Rattle.replica.specs.Replica.{Replica}
@@ -82,25 +85,17 @@ awaited loading r zxid = by (int_lt zxid (pos 0))
 
 snap-awaits : (loading : Loading) (r : Replica) (p : QuorumPacket) → kind_of p.kind ≡ Some kinds.Snap
     → Awaits (take_item loading r (item.Packet p))
-snap-awaits loading r p k = by r.learner.phase refl
+snap-awaits loading r p k =
+    let is : message_of_packet p ≡ message.Snap p.zxid = ap (λ (k : Option PacketKind). message_of_kind k p) k in
+    subst (λ (m : Message). Awaits (carried loading r (message_in_phase r.learner.phase r.learner m))) (sym is)
+    (by r.learner.phase refl)
   where
-    by : (ph : Phase) → r.learner.phase ≡ ph → Awaits (carried loading r (packet_in_phase ph r.learner p))
-    by phase.Down e = ap awaits_image_in e
-    by phase.Hello e = subst (λ (k : Option PacketKind). Awaits (carried loading r (packet_in_hello k r.learner p)))
-        (sym k) tt
-    by phase.Sync e =
-        subst (λ (k : Option PacketKind). Awaits (carried loading r (packet_in_sync k r.learner p))) (sym k)
-        (awaited loading r p.zxid)
+    by : (ph : Phase) → r.learner.phase ≡ ph
+        → Awaits (carried loading r (message_in_phase ph r.learner (message.Snap p.zxid)))
+    by phase.Hello e = tt
+    by phase.Sync e = awaited loading r p.zxid
     by (phase.Image zxid) e = tt
-    by (phase.ReplayOnImage applied) e =
-        subst (λ (k : Option PacketKind). Awaits (carried loading r (packet_in_replay k r.learner p))) (sym k)
-        (ap awaits_image_in e)
-    by phase.Replay e =
-        subst (λ (k : Option PacketKind). Awaits (carried loading r (packet_in_replay k r.learner p))) (sym k)
-        (ap awaits_image_in e)
-    by phase.Serving e =
-        subst (λ (k : Option PacketKind). Awaits (carried loading r (packet_in_serving k r.learner p))) (sym k)
-        (ap awaits_image_in e)
+    by ph e = ap awaits_image_in e
 
 -- ---- parts
 

@@ -1,5 +1,7 @@
 -- The tree is the base with the log applied.
 pub mod Following
+-- Transactions that are applied later.
+pub mod OneTransaction
 -- Images, part by part.
 pub mod Images
 -- Taking an item.

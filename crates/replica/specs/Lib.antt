@@ -1,3 +1,4 @@
+pub mod Gathering
 pub mod Inner
 pub mod Laws
 pub mod Replica

@@ -14,13 +14,17 @@ pub record Replica : Type 0 where
   -- The tree that reads show.
   pub tree : State
 
+-- The tree is the base.
+abbrev pub replica_at : Learner → State → Replica
+replica_at l s = record { learner = l; base = s; tree = s }
+
 -- Before any leader.
 abbrev pub new_replica : EpochPair → Replica
-new_replica epochs = record { learner = new_learner epochs; base = fresh_state; tree = fresh_state }
+new_replica epochs = replica_at (new_learner epochs) fresh_state
 
 -- A replica that serves in epoch 1.
 abbrev pub primed_replica : Replica
-primed_replica = record { learner = primed_learner; base = fresh_state; tree = fresh_state }
+primed_replica = replica_at primed_learner fresh_state
 
 -- ---- code
 

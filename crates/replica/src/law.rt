@@ -1,5 +1,6 @@
 //! Laws of replicas.
 
+ghost use Rattle.replica.specs.Gathering.{TransactionsAreGathered};
 ghost use Rattle.replica.specs.Laws.{LogsAreFollowed, ImagesComeInParts, ServingStays};
 
 /// The tree is the base with the log applied: at the start, and whatever the leader sends.
@@ -23,3 +24,8 @@ pub fn serving()
 {
     learner_sync::law::serving();
 }
+
+/// An item that brings transactions does nothing but append at most one to the log, and apply it.
+pub fn gathering()
+    ensures { TransactionsAreGathered }
+{}

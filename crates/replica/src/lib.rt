@@ -6,6 +6,9 @@
 //! image is loaded apart from the tree, by a loader that the caller keeps with the stream, and replaces the tree when
 //! its last part is in. A refused item leaves the replica and the loader as they were.
 //!
+//! Packets that only bring a transaction (`brings_txns`) may be gathered instead: `gather` leaves the tree, and
+//! `apply_gathered` has a closure apply all that was gathered as one list.
+//!
 //! ```text
 //! let mut replica = Replica::new(alloc, epochs)?;
 //! send(replica.start(alloc, server_id)?);                              // a leader has connected
@@ -13,13 +16,16 @@
 //! replica.end();                                                       // it has left, or an item was refused
 //! ```
 //!
-//! `specs/Taking.antt` defines what each call does, and the laws in `law` hold for every replica.
+//! `specs/Taking.antt` and `specs/Gathering.antt` define what each call does, and the laws in `law` hold for every
+//! replica.
 #![tactic(auto)]
 
+mod gathering;
 mod item_outcome;
 pub mod law;
 mod replica;
 mod taking;
 
+pub use gathering::brings_txns;
 pub use item_outcome::ItemOutcome;
 pub use replica::Replica;

@@ -5,7 +5,8 @@
 ghost use Rattle.std.specs.Prelude.{◌≡◌, IfOk, OnOk};
 ghost use Rattle.std.specs.List.{AllByRecursion};
 ghost use Rattle.quorum_packet.specs.Packet.{packet_format};
-ghost use Rattle.replica.specs.Replica.{new_replica, primed_replica};
+ghost use Rattle.data_tree.specs.Meaning.{fresh_state};
+ghost use Rattle.replica.specs.Replica.{replica_at, new_replica, primed_replica};
 ghost use Rattle.replica.specs.Taking.{follow_leader, without_leader, checkpoint_replica, is_serving};
 
 use data_tree::Tree;
@@ -42,19 +43,22 @@ impl Replica {
     pub fn new(alloc: Global, epochs: Epochs) -> Result<Replica, NoMemory>
         ensures { IfOk result (λ r. r ≡ new_replica epochs) }
     {
-        Ok(Replica {
-            learner: Learner::new(alloc, epochs),
-            base: Tree::fresh(alloc)?,
-            tree: Tree::fresh(alloc)?,
-        })
+        Replica::fresh(alloc, Learner::new(alloc, epochs))
     }
 
     /// A replica that serves in epoch 1. Fails only if an allocation is refused.
     pub fn primed(alloc: Global) -> Result<Replica, NoMemory>
         ensures { IfOk result (λ r. r ≡ primed_replica) }
     {
+        Replica::fresh(alloc, Learner::primed(alloc))
+    }
+
+    // The tree and the base before any transaction.
+    fn fresh(alloc: Global, learner: Learner) -> Result<Replica, NoMemory>
+        ensures { IfOk result (λ r. r ≡ replica_at learner fresh_state) }
+    {
         Ok(Replica {
-            learner: Learner::primed(alloc),
+            learner,
             base: Tree::fresh(alloc)?,
             tree: Tree::fresh(alloc)?,
         })

@@ -22,7 +22,7 @@ use std::mem;
 use values::{Listed, NoMemory, ReadError};
 
 impl Replica {
-    fn learn(&mut self, alloc: Global, item: Item) -> Result<Listed<Act>, ReadError>
+    pub(crate) fn learn(&mut self, alloc: Global, item: Item) -> Result<Listed<Act>, ReadError>
         ensures { UpdatesLearner result (learn_item self.old.learner item) self.old self.new }
     {
         self.learner.step(alloc, item)

@@ -58,8 +58,8 @@ pub fn at(counter: u32) -> i64 {
     0x1_0000_0000 + i64::from(counter)
 }
 
-// A packet without authinfo.
-fn packet(kind: PacketKind, zxid: i64, bytes: Option<Blob>) -> Item {
+/// A packet without authinfo.
+pub fn packet(kind: PacketKind, zxid: i64, bytes: Option<Blob>) -> Item {
     Item::Packet(QuorumPacket {
         kind: kind.code(),
         zxid,

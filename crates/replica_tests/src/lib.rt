@@ -7,4 +7,6 @@ mod events;
 #[cfg(test)]
 mod following_rows;
 #[cfg(test)]
+mod gathering_rows;
+#[cfg(test)]
 mod image_rows;

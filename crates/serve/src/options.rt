@@ -1,6 +1,7 @@
 //! The command line of `serve`.
 
 use batcher::Limits;
+use replay_script::number_up_to;
 use settings::ServerId;
 
 /// A host and a port.
@@ -37,10 +38,7 @@ const LOCAL: &str = "127.0.0.1";
 
 // The number that a text spells in decimal digits.
 fn number(text: &str) -> Option<u64> {
-    if !text.as_bytes().iter().all(|byte| byte.is_ascii_digit()) {
-        return None;
-    }
-    text.parse::<u64>().ok()
+    number_up_to(u64::MAX, text.as_bytes())
 }
 
 fn port(text: &str) -> Option<u16> {

@@ -6,6 +6,7 @@ use crate::hub::Hub;
 use crate::journal::Journal;
 use crate::options::Options;
 use crate::record::Record;
+use batcher::SpreadThreshold;
 use intake::Desk;
 use log::sink::Console;
 use log::{LevelFilter, Log, Logged};
@@ -21,6 +22,14 @@ use std::thread::Threads;
 use std::time::Clock;
 use std::{fs, io, thread};
 
+// Work that is less than this is done by the hub's thread: starting threads takes as long as storing some megabytes, or as
+// answering some hundreds of reads.
+const WORTH_THREADS: SpreadThreshold = SpreadThreshold {
+    transactions: 2,
+    bytes: 8_388_608,
+    reads: 512,
+};
+
 // The observer's settings. Those without an option have the defaults of a script.
 fn config_of(alloc: Global, options: &Options<'_>) -> Config {
     let settings = Settings {
@@ -29,7 +38,7 @@ fn config_of(alloc: Global, options: &Options<'_>) -> Config {
         timeouts: TimeoutBounds::default(),
         secret: Secret::empty(alloc),
     };
-    Config::from_settings(settings, options.limits)
+    Config::from_settings(settings, options.limits).with_threshold(WORTH_THREADS)
 }
 
 /// A logger to standard error, or one that drops everything.

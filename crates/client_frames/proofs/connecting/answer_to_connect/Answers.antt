@@ -1,4 +1,4 @@
-use Rattle.std.proofs.Common.{◌≡◌, ℕ, List, [], ◌∷◌, ◌++◌, Bool, true, w32, pos, ap, sym, ◌∙◌, arith, append_assoc}
+use Rattle.std.proofs.Common.{ℕ, List, [], ◌∷◌, ◌++◌, w32, pos, ap, sym, ◌∙◌, arith, append_assoc}
 use Rattle.jute.specs.Format.{number_bytes}
 use Rattle.client_records.specs.Responses.{connect_response}
 use Rattle.client_records.specs.declared.connect.ConnectResponse.{ConnectResponse}

@@ -2,7 +2,7 @@ use Rattle.std.proofs.Common.{ℕ, List, sym, ap, ◌∙◌}
 use Rattle.client_service.specs.Steps.{and_then}
 use Rattle.client_service.specs.Runs.{AskedRead, answer_all_asked, serve_if_open}
 use Rattle.client_service.proofs.Steps.{begins, same_left}
-use Rattle.client_service.proofs.Running.{settled_first}
+use Rattle.client_service.proofs.Running.{settled_first, read_waits}
 use Rattle.client_service.proofs.client.take_frame.Goals as goal
 
 pub returns-in-Some : goal.returns-in-Some
@@ -15,7 +15,7 @@ returns-in-Some g c =
     (answer_all_asked c.push.new.self.items w)
     (ap (λ (n : ℕ). and_then (answer_all_asked asked w) (serve_if_open c.args.serving n c.args.frame.now))
     (sym is.number)
-    ∙ c.runs_of_reads.ensures.waits c.args.serving asked w c.in-Some.read is.session c.args.frame.now
+    ∙ read_waits c.args.serving c.args.frame.now c.others_stay.ensures asked w c.in-Some.read is.session
     (rw is.number is.joined) is.asked
     ∙ ap (λ (others : List AskedRead). answer_all_asked others w) (sym c.in_ok-push.ensures.items))
     (begins c.args.outputs.now.items whole)

@@ -6,7 +6,7 @@ use Rattle.observer_core.proofs.Delivering.{loses_in_piece}
 use Rattle.observer_core.proofs.leader.take_leader_bytes.Goals as goal
 
 pub returns-in-Some-2 : goal.returns-in-Some-2
-returns-in-Some-2 c =
+returns-in-Some-2 g c =
     let old = c.args.outputs.now.items in
     let new = c.close_on_fault.new.outputs.items in
     let m = c.machine.inside in

@@ -8,7 +8,7 @@ use Rattle.client_service.proofs.Steps.{stops_in_step}
 use Rattle.observer_core.proofs.run.run.Goals as goal
 
 pub returns-in_err-happen : goal.returns-in_err-happen
-returns-in_err-happen c =
+returns-in_err-happen g c =
     let p = err_from_is_err_and c.from_residual.result c.from_residual.ensures.1 in
     let l = c.loop-event in
     let others = drop (suc l.event-index) c.args.events.now in

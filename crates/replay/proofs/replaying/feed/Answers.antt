@@ -11,8 +11,8 @@ pub returns-clause-ok : goal.returns-clause-ok
 returns-clause-ok g c =
     on_ok_both c.print_fed.result
     (λ is_fed ends m e.
-    let all = fed_all c.feed_inline-fed.result _ m _ _ _ _ e c.new-outputs.ensures.items
-    c.feed_inline-fed.ensures is_fed in
+    let all = fed_all c.feed-fed.result _ m _ _ _ _ e c.new-outputs.ensures.items
+    c.feed-fed.ensures is_fed in
     subst (λ o. Appends (g.W.Write.contents c.args.writer.now) (g.W.Write.contents c.print_fed.new.writer)
     (flat_map output_line o ++ end_line_of (play m c.args.events.now).after)) (c.as_slice.ensures.value ∙ all.0)
     (ends (play m c.args.events.now).after all.1))
@@ -23,4 +23,4 @@ returns-clause-no_memory g c =
     λ e m is_engine.
     first_of_first (subst (WritesFront (g.W.Write.contents c.args.writer.now)
     (g.W.Write.contents c.print_fed.new.writer)) c.as_slice.ensures.value (c.print_fed.ensures.no_memory e))
-    (fed_first c.feed_inline-fed.result _ m _ _ _ _ is_engine c.new-outputs.ensures.items c.feed_inline-fed.ensures)
+    (fed_first c.feed-fed.result _ m _ _ _ _ is_engine c.new-outputs.ensures.items c.feed-fed.ensures)

@@ -1,11 +1,23 @@
-use Rattle.std.proofs.Common.{◌≡◌, None, sym, ◌∙◌, arith, rules}
-use Rattle.replay_script.specs.Number.{number_after, if_at_most}
-use Rattle.replay_script.proofs.Numbers.{too_large_at, none_spelled}
+use Rattle.std.proofs.Common.{sym, ◌∙◌, arith, rules}
+use Rattle.replay_script.proofs.Numbers.{none_up_to}
 use Rattle.replay_script.proofs.number.number_up_to.Goals as goal
 
-pub returns-then-number-from : goal.returns-then-number-from
-returns-then-number-from c =
-    let e = too_large_at c.args.limit c.loop-byte.number c.loop-byte.byte-index c.args.text.now (omega arith)
-    (search rules) (omega arith) in
-    let none : if_at_most c.args.limit (number_after 0 c.args.text.now) ≡ None = sym c.loop-byte.invariant.same ∙ e in
-    sym (none_spelled c.args.limit c.args.text.now none)
+-- The number is above the limit: ten times the digits before it are already more than 64 bits hold, ..
+pub returns-in_err-checked_mul : goal.returns-in_err-checked_mul
+returns-in_err-checked_mul c =
+    c.from_residual.ensures
+    ∙ sym (none_up_to c.args.limit c.loop-byte.number c.loop-byte.byte-index c.args.text.now c.loop-byte.invariant.same
+    (omega arith) (search rules) (omega arith))
+
+-- .. or they are with the digit, ..
+pub returns-in_err-number : goal.returns-in_err-number
+returns-in_err-number c =
+    c.from_residual-in_err-number.ensures
+    ∙ sym (none_up_to c.args.limit c.loop-byte.number c.loop-byte.byte-index c.args.text.now c.loop-byte.invariant.same
+    (omega arith) (search rules) (omega arith))
+
+-- .. or more than the limit.
+pub returns-then-number-limit : goal.returns-then-number-limit
+returns-then-number-limit c =
+    sym (none_up_to c.args.limit c.loop-byte.number c.loop-byte.byte-index c.args.text.now c.loop-byte.invariant.same
+    (omega arith) (search rules) (omega arith))

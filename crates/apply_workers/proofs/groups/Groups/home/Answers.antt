@@ -1,4 +1,4 @@
-use Rattle.std.proofs.Common.{rules, ◌≡◌, true, false, IfOk, OnOk, sym, ap, ◌∙◌, subst}
+use Rattle.std.proofs.Common.{rules, ◌≡◌, true, false, IfOk, OnOk, sym, ap₂, ◌∙◌, subst, subst₂}
 use Rattle.std.proofs.lemmas.Result.{on_ok_weaker}
 use Rattle.batcher.specs.Cut.{groups_of, is_batch, is_barrier_alone}
 use Rattle.apply_workers.specs.Homing.{with_timeouts_set, with_all_cells, IsSplitByGroup}
@@ -20,7 +20,9 @@ returns-clause-tree c =
     (c.home.new.tree ≡ (batch_result s u.batch u.progress.groups).state))
     c.self.view_is
     (on_ok_weaker c.home.result
-    (λ h. h ∙ ap (λ cs. with_timeouts_set txns (with_all_cells cs s)) c.in_ok-done.ensures.cells ∙ back.state)
+    (λ h. h
+    ∙ ap₂ (λ ts cs. with_timeouts_set ts (with_all_cells cs s)) c.lend.ensures c.in_ok-done.ensures.cells
+    ∙ back.state)
     c.home.ensures.tree)
 
 pub returns-clause-outcomes : goal.returns-clause-outcomes
@@ -36,5 +38,6 @@ returns-clause-outcomes c =
     (λ v. v.items ≡ (batch_result s u.batch u.progress.groups).outcomes))
     c.self.view_is
     (if_ok c.home.result (λ v h. h whole
-    (subst (λ shares. IsSplitByGroup txns whole shares) (sym c.in_ok-done.ensures.outcomes) back.shares))
+    (subst₂ (λ ts shares. IsSplitByGroup ts whole shares) (sym c.lend.ensures) (sym c.in_ok-done.ensures.outcomes)
+    back.shares))
     c.home.ensures.outcomes)

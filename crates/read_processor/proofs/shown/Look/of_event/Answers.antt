@@ -1,12 +1,36 @@
-use Rattle.std.proofs.Common.{List, ℕ, Option, Some, pos, sym, ap, arith}
+use Rattle.std.proofs.Common.{◌≡◌, ℕ, ◌+◌, ◌≤◌, ◌<◌, ◌^◌, List, length, Option, Some, None, refl, pos, sym, ap, arith}
+use Rattle.std.proofs.lemmas.List.{length-append}
+use Rattle.jute.specs.Format.{buffer, number_bytes}
+use Rattle.node_map.specs.Stats.{length_or_zero}
+use Rattle.client_records.specs.Responses.{watcher_event}
+use Rattle.read_processor.specs.Limits.{body_limit}
 use Rattle.client_records.specs.declared.event.WatcherEvent.{WatcherEvent}
 use Rattle.client_records.specs.declared.codes.TheConstants.{SYNC_CONNECTED}
 use Rattle.watch_manager.specs.Events.{event_number}
 use Rattle.read_processor.specs.declared.shown.Look.{Look}
 use Rattle.read_processor.specs.Events.{event_body}
 use Rattle.read_processor.proofs.Filling.{too_long}
-use Rattle.read_processor.proofs.Writing.{event_length, event_writable, event_small}
 use Rattle.read_processor.proofs.shown.Look.of_event.Goals as goal
+
+event_length : (r : WatcherEvent) → length (watcher_event.written r) ≡ 12 + length_or_zero r.path
+unfolding watcher_event number_bytes
+event_length r = by r.path
+  where
+    by : (path : Option (List ℕ))
+        → length (watcher_event.written (record r { path = path })) ≡ 12 + length_or_zero path
+    by None = refl
+    by (Some path) = simp length-append (omega arith)
+
+event_writable : (r : WatcherEvent) → length_or_zero r.path ≤ body_limit → watcher_event.Writable r
+unfolding watcher_event
+event_writable r le = (tt, (tt, by r.path le))
+  where
+    by : (path : Option (List ℕ)) → length_or_zero path ≤ body_limit → buffer.Writable path
+    by None le = tt
+    by (Some path) le = omega (arith, le)
+
+event_small : (r : WatcherEvent) → length_or_zero r.path ≤ body_limit → length (watcher_event.written r) < 2 ^ 63
+event_small r le = omega (arith, event_length r, le)
 
 pub returns-then-path-gt-BODY_LIMIT : goal.returns-then-path-gt-BODY_LIMIT
 returns-then-path-gt-BODY_LIMIT c =

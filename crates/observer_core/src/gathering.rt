@@ -1,0 +1,126 @@
+//! Transactions of one event of the leader: they are gathered in the log, and applied as one list.
+//!
+//! What is gathered is settled before anything that could tell the difference: before another kind of item is taken, a
+//! packet is sent or a fault is answered, and at the end of the event.
+
+ghost use Rattle.std.specs.Prelude.{◌≡◌, ◌≤◌, true, length, drop, OnOk};
+ghost use Rattle.quorum_packet.specs.Feed.{CanBeWritten};
+ghost use Rattle.snapshot_codec.specs.Made.{Loading};
+ghost use Rattle.replica.specs.Gathering.{brings_txns, AppliesTxns};
+ghost use Rattle.client_service.specs.Results.{MeetsStep};
+ghost use Rattle.observer_core.specs.Gathering.{tell_outcome, tell_outcomes, apply_in_turn};
+ghost use Rattle.observer_core.specs.Inner.{TakesNextItem};
+
+use crate::leader::receive_item;
+use client_service::{Clients, Output, World, notify_each};
+use data_tree::{Outcome, Tree};
+use quorum_packet::Item;
+use replica::brings_txns;
+use snapshot_codec::Loader;
+use std::alloc::Global;
+use txn_codec::Txn;
+use values::{NoMemory, ReadError};
+
+// Tells the watchers of what a transaction changed.
+fn tell_outcome(
+    alloc: Global,
+    clients: &mut Clients,
+    outcome: &Outcome,
+    outputs: &mut Vec<Output>,
+) -> Result<(), NoMemory>
+    ensures { MeetsStep result outputs.old.items (tell_outcome clients.old outcome.now) outputs.new.items clients.new }
+{
+    let events = clients.watches.fire(alloc, outcome.triggers.as_slice())?;
+    notify_each(alloc, events.as_slice(), outputs)
+}
+
+// Tells the watchers of each outcome, in order.
+fn tell_each(
+    alloc: Global,
+    clients: &mut Clients,
+    outcomes: &[Outcome],
+    outputs: &mut Vec<Output>,
+) -> Result<(), NoMemory>
+    ensures { MeetsStep result outputs.old.items (tell_outcomes clients.old outcomes.now) outputs.new.items clients.new }
+{
+    for outcome in outcomes {
+        tell_outcome(alloc, clients, outcome, outputs)?;
+    }
+    Ok(())
+}
+
+/// Applies the log's transactions after the first `done`, and tells the watchers of each, in order.
+///
+/// Fails only if an allocation is refused; then a prefix of the outputs has been appended.
+pub fn settle_txns<D: Fn(&mut Tree, &[Txn]) -> Result<Vec<Outcome>, NoMemory>>(
+    alloc: Global,
+    doer: &D,
+    done: usize,
+    world: &mut World,
+    outputs: &mut Vec<Output>,
+) -> Result<(), NoMemory>
+    requires within { done ≤ length world.old.replica.learner.log }
+    requires applies { AppliesTxns (D.pre doer.now) (D.post doer.now) }
+    ensures { MeetsStep result outputs.old.items
+        (apply_in_turn world.old (drop done world.old.replica.learner.log))
+        outputs.new.items world.new }
+{
+    let outcomes = world.replica.apply_gathered(done, doer)?;
+    tell_each(alloc, &mut world.clients, outcomes.as_slice(), outputs)
+}
+
+// Takes an item that brings transactions. The refusal of an item is told after all that was gathered before it.
+fn gather_item<D: Fn(&mut Tree, &[Txn]) -> Result<Vec<Outcome>, NoMemory>>(
+    alloc: Global,
+    doer: &D,
+    done: usize,
+    world: &mut World,
+    item: Item,
+    outputs: &mut Vec<Output>,
+) -> Result<(), ReadError>
+    requires brings { brings_txns item ≡ true }
+    requires within { done ≤ length world.old.replica.learner.log }
+    requires applies { AppliesTxns (D.pre doer.now) (D.post doer.now) }
+    ensures within { OnOk result (done ≤ length world.new.replica.learner.log) }
+    ensures takes { (loading : Loading) → TakesNextItem result outputs.old.items done
+        (record { loading = loading; world = world.old }) item
+        outputs.new.items done (record { loading = loading; world = world.new }) }
+{
+    match world.replica.gather(alloc, item) {
+        Ok(()) => Ok(()),
+        Err(ReadError::NoMemory) => Err(ReadError::NoMemory),
+        Err(ReadError::Fault(fault)) => {
+            settle_txns(alloc, doer, done, world, outputs)?;
+            Err(ReadError::Fault(fault))
+        }
+    }
+}
+
+/// Takes the next item of an event of the leader, after those whose transactions are in the log after the first `done`.
+///
+/// An item that is refused for a fault changes nothing, and nothing is left to settle then. Fails with
+/// [`ReadError::NoMemory`] if an allocation is refused; then a prefix of the outputs has been appended.
+pub fn take_item<D: Fn(&mut Tree, &[Txn]) -> Result<Vec<Outcome>, NoMemory>>(
+    alloc: Global,
+    doer: &D,
+    done: &mut usize,
+    loader: &mut Loader,
+    world: &mut World,
+    item: Item,
+    outputs: &mut Vec<Output>,
+) -> Result<(), ReadError>
+    requires writable { CanBeWritten item }
+    requires within { done.old ≤ length world.old.replica.learner.log }
+    requires applies { AppliesTxns (D.pre doer.now) (D.post doer.now) }
+    ensures within { OnOk result (done.new ≤ length world.new.replica.learner.log) }
+    ensures takes { TakesNextItem result outputs.old.items done.old (record { loading = loader.old; world = world.old }) item
+        outputs.new.items done.new (record { loading = loader.new; world = world.new }) }
+{
+    if brings_txns(&item) {
+        return gather_item(alloc, doer, *done, world, item, outputs);
+    }
+    settle_txns(alloc, doer, *done, world, outputs)?;
+    receive_item(alloc, loader, world, item, outputs)?;
+    *done = world.replica.learner().since_base().len();
+    Ok(())
+}

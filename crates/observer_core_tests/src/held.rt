@@ -1,0 +1,137 @@
+//! Groups of an event's transactions are applied at the same time.
+use super::*;
+use apply_workers::Gate;
+use batcher::Limits;
+use std::sync::atomic::{AtomicU64, Ordering};
+use std::test::*;
+
+const MOST_TURNS: u64 = 1_000_000_000;
+
+// Holds the first until another one was passed, or notes that none was.
+#[derive(Drop)]
+struct HoldsFirst {
+    passed: AtomicU64,
+    missed: AtomicU64,
+}
+
+impl Gate for HoldsFirst {
+    fn pass(&self, _worker: usize, number: usize) {
+        if number != 0 {
+            self.passed.fetch_add(1, Ordering::SeqCst);
+            return;
+        }
+        for _ in 0..MOST_TURNS {
+            if self.passed.load(Ordering::SeqCst) != 0 {
+                return;
+            }
+        }
+        self.missed.store(1, Ordering::SeqCst);
+    }
+}
+
+// Appends an INFORM of a create of the path with the data "hi".
+fn put_create(bytes: &mut Vec<u8>, path: &str, counter: u8) -> Result<(), &'static str> {
+    // The rest of the transaction has 74 bytes. All lengths are below 256.
+    let length = u8::try_from(path.len()).ok().ok_or("path")?;
+    let parts: [&[u8]; 10] = [
+        b"\0\0\0\x08\0\0\0\x01\0\0\0",
+        &[counter],
+        b"\0\0\0",
+        &[length.wrapping_add(74)],
+        b"\0\0\0\0\0\0\0\x07\0\0\0\x01\0\0\0\x01\0\0\0",
+        &[counter],
+        b"\0\0\0\0\0\0\x03\xe8\0\0\0\x01\0\0\0",
+        &[length],
+        path.as_bytes(),
+        b"\0\0\0\x02hi\0\0\0\x01\0\0\0\x1f\0\0\0\x05world\0\0\0\x06anyone\0\xff\xff\xff\xff\xff\xff\xff\xff",
+    ];
+    for part in parts {
+        bytes.extend_from_slice(part).ok().ok_or("memory")?;
+    }
+    Ok(())
+}
+
+// INFORMs of creates, with zxids from this counter on.
+fn creates(alloc: Global, paths: &[&str], first: u8) -> Result<Vec<u8>, &'static str> {
+    let mut bytes = Vec::new(alloc);
+    let mut counter = first;
+    for path in paths {
+        put_create(&mut bytes, path, counter)?;
+        counter = counter.wrapping_add(1);
+    }
+    Ok(bytes)
+}
+
+// The getChildren of /a and of /b, which leave watches.
+const ASKED: &[u8] = b"\0\0\0\x0f\0\0\0\x02\0\0\0\x08\0\0\0\x02/a\x01\
+    \0\0\0\x0f\0\0\0\x03\0\0\0\x08\0\0\0\x02/b\x01";
+
+// The replies to them, and the events when both have a child more, in the order of the transactions.
+const WANTED: [&[u8]; 4] = [
+    b"\0\0\0\x14\0\0\0\x02\0\0\0\x01\0\0\0\x02\0\0\0\0\0\0\0\0",
+    b"\0\0\0\x14\0\0\0\x03\0\0\0\x01\0\0\0\x02\0\0\0\0\0\0\0\0",
+    b"\0\0\0\x1e\xff\xff\xff\xff\xff\xff\xff\xff\xff\xff\xff\xff\0\0\0\0\0\0\0\x04\0\0\0\x03\0\0\0\x02/a",
+    b"\0\0\0\x1e\xff\xff\xff\xff\xff\xff\xff\xff\xff\xff\xff\xff\0\0\0\0\0\0\0\x04\0\0\0\x03\0\0\0\x02/b",
+];
+
+// Feeds the creates of /a and /b, and then those of three children as one event, whose batch has two groups.
+fn feed_two_groups<R: Threads + Sync, G: Gate + Sync>(
+    rt: &R,
+    alloc: Global,
+    engine: &mut Engine,
+    gate: &G,
+    outputs: &mut Vec<Output>,
+) -> Result<bool, &'static str> {
+    let parents = creates(alloc, &["/a", "/b"], 1)?;
+    let children = creates(alloc, &["/a/x", "/a/y", "/b/z"], 3)?;
+    let first = [told(parents.as_slice()), asked(ASKED)];
+    Ok(
+        engine.feed(rt, alloc, &first, &OpenGate, outputs).is_ok()
+            && engine
+                .feed(rt, alloc, &[told(children.as_slice())], gate, outputs)
+                .is_ok(),
+    )
+}
+
+// The child version, the number of children and the zxid of the last change of the children.
+fn counts(engine: &Engine, path: &str) -> Option<(i32, i32, i64)> {
+    let stat = engine.tree().stat(path)?;
+    Some((stat.cversion, stat.num_children, stat.pzxid))
+}
+
+// Whether two workers have both groups in hand at once, and the outputs and the nodes are right.
+fn holds_no_other<R: Threads + Sync>(
+    rt: &R,
+    alloc: Global,
+    mut engine: Engine,
+) -> Result<bool, &'static str> {
+    let gate = HoldsFirst {
+        passed: AtomicU64::new(0),
+        missed: AtomicU64::new(0),
+    };
+    let mut outputs = Vec::new(alloc);
+    Ok(
+        feed_two_groups(rt, alloc, &mut engine, &gate, &mut outputs)?
+            && gate.missed.load(Ordering::SeqCst) == 0
+            && are_replies(outputs.as_slice(), &WANTED)
+            && counts(&engine, "/a") == Some((2, 2, 0x1_0000_0004))
+            && counts(&engine, "/b") == Some((1, 1, 0x1_0000_0005)),
+    )
+}
+
+// An engine that follows a leader, for two workers.
+fn with_two_workers(alloc: Global) -> Result<Engine, &'static str> {
+    let limits = Limits::new(2, 256, 64).ok().ok_or("limits")?;
+    let secret = blob(alloc, &[])?;
+    let config = Config::new(3, 0, 0, 4000, 40_000, secret, limits);
+    let config = config.ok().ok_or("settings")?;
+    Engine::primed(alloc, config).ok().ok_or("memory")
+}
+
+#[test]
+fn a_held_group_holds_no_other(rt: HostRuntime) -> Result<(), Fail> {
+    let alloc = rt.alloc();
+    let engine = with_two_workers(alloc)?;
+    assert!(rt; holds_no_other(&rt, alloc, engine)?);
+    Ok(())
+}
