@@ -17,7 +17,7 @@ ghost use Rattle.client_service.specs.Inner.{IsFirstFrame, rest_at, world_with_r
 use crate::asked::AskedRead;
 use crate::joining::handle_connect;
 use crate::output::Output;
-use crate::reading::{answer_renewal, answer_request, read_in};
+use crate::reading::{answer_renewal, answer_request, gathered_read};
 use crate::sending::{answer_without_body, answer_without_body_last, close_client};
 use crate::session::{end_session, show_id};
 use crate::settling::settle_reads;
@@ -133,12 +133,13 @@ fn serve_if_open(
     serve(alloc, serving, number, world, frame, outputs)
 }
 
-// Takes one frame. A read of a connection that has a session waits for its answer. Before any other frame is served, the
-// reads that wait are answered, which may close its connection.
+// Takes one frame. While reads are gathered, a read of a connection that has a session waits for its answer. Before any
+// other frame is served, the reads that wait are answered, which may close its connection.
 fn take_frame<L: Fn(&Tree, &[Ask<'_>]) -> Result<Vec<Look>, NoMemory>>(
     alloc: Global,
     looker: &L,
     serving: bool,
+    gathers: bool,
     number: u64,
     world: &mut World,
     asked: &mut Vec<AskedRead>,
@@ -151,7 +152,7 @@ fn take_frame<L: Fn(&Tree, &[Ask<'_>]) -> Result<Vec<Look>, NoMemory>>(
         outputs.new.items asked.new.items world.new }
 {
     sessions::others_stay();
-    if let Some(read) = read_in(alloc, number, world, frame)? {
+    if let Some(read) = gathered_read(alloc, gathers, number, world, frame)? {
         asked.push(read)?;
         return Ok(());
     }
@@ -218,6 +219,7 @@ fn serve_all<L: Fn(&Tree, &[Ask<'_>]) -> Result<Vec<Look>, NoMemory>>(
     alloc: Global,
     looker: &L,
     serving: bool,
+    gathers: bool,
     number: u64,
     world: &mut World,
     asked: &mut Vec<AskedRead>,
@@ -233,7 +235,9 @@ fn serve_all<L: Fn(&Tree, &[Ask<'_>]) -> Result<Vec<Look>, NoMemory>>(
     'frame: while world.clients.is_open(number) {
         match first_frame(waiting.as_slice()) {
             Ok(Some((frame, used))) => {
-                take_frame(alloc, looker, serving, number, world, asked, frame, outputs)?;
+                take_frame(
+                    alloc, looker, serving, gathers, number, world, asked, frame, outputs,
+                )?;
                 waiting.drop_front(used);
             }
             Ok(None) => {
@@ -287,15 +291,16 @@ fn settle_and_tell<L: Fn(&Tree, &[Ask<'_>]) -> Result<Vec<Look>, NoMemory>>(
 /// Takes a piece of a client's stream: a four-letter word, if the connection begins with one and has no session, or
 /// frames. `serving` says whether clients are served. The bytes of a connection that isn't open are ignored.
 ///
-/// A read waits in `asked`: its reply and its watch are still owed. Anything else is done after the reads that wait are
-/// answered, by one call of `looker`; so the caller answers what waits by [`settle_reads`] before it does anything else
-/// to the world.
+/// If `gathers` is set, a read waits in `asked`: its reply and its watch are still owed. Anything else is done after the
+/// reads that wait are answered, by one call of `looker`; so the caller answers what waits by [`settle_reads`] before it
+/// does anything else to the world. Otherwise a read is answered at once.
 ///
 /// Fails only if an allocation is refused; then a prefix of the outputs has been appended.
 pub fn take_client_bytes<L: Fn(&Tree, &[Ask<'_>]) -> Result<Vec<Look>, NoMemory>>(
     alloc: Global,
     looker: &L,
     serving: bool,
+    gathers: bool,
     number: u64,
     world: &mut World,
     asked: &mut Vec<AskedRead>,
@@ -317,7 +322,7 @@ pub fn take_client_bytes<L: Fn(&Tree, &[Ask<'_>]) -> Result<Vec<Look>, NoMemory>
     match word_at(number, world, waiting.as_slice()) {
         Some(word) => settle_and_tell(alloc, looker, serving, number, world, asked, word, outputs),
         None => serve_all(
-            alloc, looker, serving, number, world, asked, waiting, outputs,
+            alloc, looker, serving, gathers, number, world, asked, waiting, outputs,
         ),
     }
 }

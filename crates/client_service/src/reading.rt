@@ -77,15 +77,20 @@ fn read_of_call(alloc: Global, number: u64, call: &Call<'_>) -> Result<Option<As
     }
 }
 
-/// The read that a frame asks for; None if its connection has no session, or if it asks for anything else.
-pub fn read_in(
+/// The read that a frame asks for, if reads are gathered; None if they aren't, if its connection has no session, or if it
+/// asks for anything else.
+pub fn gathered_read(
     alloc: Global,
+    gathers: bool,
     number: u64,
     world: &World,
     frame: &[u8],
 ) -> Result<Option<AskedRead>, NoMemory>
     ensures { IfOk result (λ found. IfSome found (IsReadIn number world.now frame.now)) }
 {
+    if !gathers {
+        return Ok(None);
+    }
     let Some(_session) = world.clients.sessions.session(number) else {
         return Ok(None);
     };
