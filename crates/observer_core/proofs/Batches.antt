@@ -32,7 +32,7 @@ use Rattle.client_service.specs.Results.{MeetsStep}
 use Rattle.client_service.proofs.Steps.{SoFar, begins, steps, stops, stops_in_step, last_step, behind_behind, happening_on}
 use Rattle.observer_core.specs.Leader.{WorldAndLoading, StreamProgress, step_with_loading, send_effect, item_step, take_items}
 use Rattle.observer_core.specs.Gathering.{tell_outcome, tell_outcomes, apply_and_tell, apply_in_turn}
-use Rattle.observer_core.specs.Inner.{ReceivesItem, take_items_after, LeadsOn, TakesNextItem}
+use Rattle.observer_core.specs.Inner.{ReceivesItem, take_items_after, TakesNextItem}
 use Rattle.observer_core.proofs.Delivering.{quietly, taken_first, refused_first}
 
 -- ---- a list of transactions
@@ -268,7 +268,7 @@ module _ (d : WorldAndLoading) (i : Item) (done : ℕ) (old mid : List Output) (
     where
       by : (m : Result (StepResult WorldAndLoading) Fault) → item_step here i ≡ m
           → ReceivesItem (Ok tt) mid m here new after
-          → LeadsOn old (whole others) new (take_items_after done-after after others)
+          → SoFar old (whole others) new (take_items_after done-after after others)
       by (Ok h) taken made =
           let s = steps old (whole others) mid new (take_items item_step here (with_first i others)) h
           (λ (v : WorldAndLoading). take_items item_step v others) after
@@ -334,7 +334,7 @@ unsettled d i done old new done-after after gains others =
 
 -- What a step of the loop leads on to.
 pub goes_on : {S : Type 0} (old : List Output) (whole : StepResult S) (now new : List Output) (left next : StepResult S)
-    → LeadsOn now left new next → SoFar old whole now left → SoFar old whole new next
+    → SoFar now left new next → SoFar old whole now left → SoFar old whole new next
 goes_on old whole now new left next t s = record {
   front = s.front ++ t.front;
   put = t.put ∙ ap (λ (o : List Output). o ++ t.front) s.put ∙ append_assoc old s.front t.front;
@@ -392,9 +392,9 @@ module _ (old now : List Output) (whole : StepResult (StreamProgress Phase World
   -- An item was taken.
   pub item_taken : (p : Item) (others : Items Phase Item) (new : List Output) (done-after : ℕ) (after : WorldAndLoading)
       → found ≡ with_first p others
-      → LeadsOn now (take_items_after done d (with_first p others)) new (take_items_after done-after after others)
+      → SoFar now (take_items_after done d (with_first p others)) new (take_items_after done-after after others)
       → SoFar old whole new (take_items_after done-after after others)
   item_taken p others new done-after after is leads =
       goes_on old whole now new (take_items_after done d found) (take_items_after done-after after others)
-      (subst (λ (f : Items Phase Item). LeadsOn now (take_items_after done d f) new
+      (subst (λ (f : Items Phase Item). SoFar now (take_items_after done d f) new
       (take_items_after done-after after others)) (sym is) leads) s

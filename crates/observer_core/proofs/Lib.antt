@@ -1,5 +1,6 @@
 pub mod Delivering
 pub mod Batches
+pub mod Waiting
 pub mod Playing
 pub mod Keeping
 pub mod Unmoved

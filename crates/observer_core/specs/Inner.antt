@@ -10,14 +10,15 @@ use Rattle.quorum_packet.specs.declared.item.Item.{Item}
 use Rattle.quorum_packet.specs.declared.phase.Phase.{Phase}
 use Rattle.client_service.specs.declared.output.Output.{Output}
 use Rattle.client_service.specs.World.{Clients, World}
-use Rattle.observer_core.specs.Machine.{Leader}
+use Rattle.observer_core.specs.Machine.{Leader, Machine}
 use Rattle.client_service.specs.Steps.{StepResult, prepend_outputs, and_then}
 use Rattle.observer_core.specs.Gathering.{apply_in_turn}
-use Rattle.observer_core.specs.Leader.{WorldAndLoading, StreamProgress, WorldAndLeader, to_leader, item_step, take_items}
+use Rattle.observer_core.specs.Leader.{WorldAndLoading, StreamProgress, WorldAndLeader, to_leader, item_step, take_items, with_leader}
 use Rattle.client_service.specs.Clients.{notices_of}
 use Rattle.replica.specs.declared.item_outcome.ItemOutcome.{ItemOutcome}
 use Rattle.watch_manager.specs.Watches.{fire}
-use Rattle.client_service.specs.Results.{MeetsStep}
+use Rattle.client_service.specs.Results.{MeetsStep, SoFar}
+use Rattle.client_service.specs.Runs.{AskedRead, answer_all_asked}
 
 -- The packets go to the leader, and an event to each watcher.
 abbrev pub send_outcome : Clients → ItemOutcome → StepResult Clients
@@ -44,20 +45,13 @@ take_items_after done d found =
     and_then (apply_in_turn d.world (drop done d.world.replica.learner.log))
     (λ w. take_items item_step (record d { world = w }) found)
 
--- The outputs appended are a prefix of the whole, and what is left leads to the rest.
-pub record LeadsOn {S : Type 0} (old : List Output) (whole : StepResult S) (new : List Output) (left : StepResult S)
-    : Type 0 where
-  pub front : List Output
-  pub put : new ≡ old ++ front
-  pub leads : prepend_outputs front left ≡ whole
-
 -- One more item was taken or gathered; or it was refused, and what was gathered before it is settled; or an allocation
 -- was refused. The others are the items after it.
 abbrev pub TakesNextItem : Result (Unit {0}) ReadError → List Output → ℕ → WorldAndLoading → Item → List Output → ℕ
     → WorldAndLoading → Type 0
 TakesNextItem (Ok u) old done before i new done-after after =
     (others : Items Phase Item)
-    → LeadsOn old (take_items_after done before (with_first i others)) new (take_items_after done-after after others)
+    → SoFar old (take_items_after done before (with_first i others)) new (take_items_after done-after after others)
 TakesNextItem (Err (errors.Fault e)) old done before i new done-after after =
     (others : Items Phase Item)
     → MeetsStep (Ok tt) old (take_items_after done before (with_first i others)) new
@@ -84,3 +78,13 @@ FollowsStream (Ok None) old whole new leader world =
 FollowsStream (Ok (Some e)) old whole new leader world =
     MeetsStep (Ok tt) old whole new (record { world = world; leader = Err e })
 FollowsStream (Err e) old whole new leader world = Gains old whole.outputs new
+
+-- The reads that wait are answered.
+abbrev pub answer_waiting : List AskedRead → Machine → StepResult Machine
+answer_waiting asked m = with_leader m.leader (answer_all_asked asked m.world)
+
+-- The step was made but for the answers to the reads that wait now; or an allocation was refused.
+abbrev pub LeavesReads : Result (Unit {0}) NoMemory → List Output → StepResult Machine → List Output → List AskedRead
+    → Machine → Type 0
+LeavesReads (Ok u) old whole new asked after = SoFar old whole new (answer_waiting asked after)
+LeavesReads (Err e) old whole new asked after = Gains old whole.outputs new

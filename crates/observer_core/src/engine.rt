@@ -6,12 +6,14 @@ ghost use Rattle.std.specs.Prelude.{◌≡◌, Some, IfOk, OnOk};
 ghost use Rattle.std.specs.Thread.{IsSync};
 ghost use Rattle.data_tree.specs.Meaning.{state_after, outcomes_of_txns};
 ghost use Rattle.replica.specs.Gathering.{AppliesTxns};
+ghost use Rattle.read_processor.specs.Asking.{looks_at, LooksAtAsks};
 ghost use Rattle.observer_core.specs.Play.{initial_machine, first_client, new_machine, primed_machine};
 ghost use Rattle.observer_core.specs.Machine.{Machine as TheMachine};
 ghost use Rattle.observer_core.specs.Plays.{PlaysEvents};
 
 use crate::config::Config;
 use crate::event::Event;
+use crate::gathering::may_hold_reads;
 use crate::machine::{Leader, Machine};
 use crate::run::run;
 use apply_workers::{Gate, apply_list, apply_list_inline};
@@ -20,6 +22,8 @@ use client_service::{Clients, Output, Settings, World};
 use data_tree::{Outcome, Tree};
 use learner_sync::Learner;
 use quorum_packet::PacketFeed;
+use read_processor::{Ask, Look, look_each};
+use read_workers::look_run;
 use replica::Replica;
 use sessions::SessionRequest;
 use snapshot_codec::Loader;
@@ -145,21 +149,35 @@ impl Engine {
         self.machine.world.replica.learner()
     }
 
-    // Plays the events. The closure applies the transactions of an event of the leader.
-    fn play<D: Fn(&mut Tree, &[Txn]) -> Result<Vec<Outcome>, NoMemory>>(
+    // Plays the events. The closures apply the transactions of an event of the leader, and answer a run of reads.
+    fn play<
+        D: Fn(&mut Tree, &[Txn]) -> Result<Vec<Outcome>, NoMemory>,
+        L: Fn(&Tree, &[Ask<'_>]) -> Result<Vec<Look>, NoMemory>,
+    >(
         &mut self,
         alloc: Global,
         doer: &D,
+        looker: &L,
+        gathers: bool,
         events: &[Event<'_>],
         outputs: &mut Vec<Output>,
     ) -> Result<(), Stop>
-        requires { AppliesTxns (D.pre doer.now) (D.post doer.now) }
+        requires applies { AppliesTxns (D.pre doer.now) (D.post doer.now) }
+        requires looks { LooksAtAsks (L.pre looker.now) (L.post looker.now) }
         ensures { PlaysEvents result self.old events.now outputs.old.items outputs.new.items self.new }
     {
         if self.closed {
             return Err(Stop::Closed);
         }
-        match run(alloc, doer, &mut self.machine, events, outputs) {
+        match run(
+            alloc,
+            doer,
+            looker,
+            gathers,
+            &mut self.machine,
+            events,
+            outputs,
+        ) {
             Ok(()) => Ok(()),
             Err(NoMemory) => {
                 self.closed = true;
@@ -184,12 +202,17 @@ impl Engine {
             ensures tree { OnOk result (tree.new ≡ state_after tree.old txns.now) }
             ensures outcomes { IfOk result (λ v. v.items ≡ outcomes_of_txns tree.old txns.now) }
         { apply_list_inline(alloc, tree, txns) };
-        self.play(alloc, &doer, events, outputs)
+        let looker = |tree: &Tree, asks: &[Ask<'_>]| -> Result<Vec<Look>, NoMemory>
+            ensures looks { IfOk result (λ v. v.items ≡ looks_at tree.now asks.now) }
+        { look_each(alloc, tree, asks) };
+        self.play(alloc, &doer, &looker, false, events, outputs)
     }
 
-    /// Does what `feed_inline` does. The transactions of one event of the leader are cut into batches within the limits
-    /// of the configuration, and each batch is applied by up to so many workers, which pass `gate` for each of its
-    /// groups. The first worker is the calling thread, which waits for the others.
+    /// Does what `feed_inline` does, on several threads. The transactions of one event of the leader are cut into batches
+    /// within the limits of the configuration, and each batch is applied by up to so many workers, which pass `gate` for
+    /// each of its groups. Reads that follow each other with nothing else to be done between them, in one event or in
+    /// several, are answered by as many workers, which pass `gate` for each read. The first worker is the calling
+    /// thread, which waits for the others.
     pub fn feed<G: Gate + Sync, R: Threads + Sync>(
         &mut self,
         rt: &R,
@@ -207,6 +230,21 @@ impl Engine {
             ensures tree { OnOk result (tree.new ≡ state_after tree.old txns.now) }
             ensures outcomes { IfOk result (λ v. v.items ≡ outcomes_of_txns tree.old txns.now) }
         { apply_list(rt, alloc, tree, txns, &limits, &threshold, gate) };
-        self.play(alloc, &doer, events, outputs)
+        let looker = |tree: &Tree, asks: &[Ask<'_>]| -> Result<Vec<Look>, NoMemory>
+            requires { IsSync R.row × IsSync G.row }
+            ensures looks { IfOk result (λ v. v.items ≡ looks_at tree.now asks.now) }
+        {
+            look_run(
+                rt,
+                alloc,
+                tree,
+                asks,
+                limits.workers(),
+                threshold.reads,
+                gate,
+            )
+        };
+        let gathers = limits.workers() > 1 && may_hold_reads(events, threshold.reads);
+        self.play(alloc, &doer, &looker, gathers, events, outputs)
     }
 }

@@ -11,6 +11,7 @@ ghost use Rattle.client_service.specs.Results.{MeetsStep};
 ghost use Rattle.observer_core.specs.Gathering.{tell_outcome, tell_outcomes, apply_in_turn};
 ghost use Rattle.observer_core.specs.Inner.{TakesNextItem};
 
+use crate::event::Event;
 use crate::leader::receive_item;
 use client_service::{Clients, Output, World, notify_each};
 use data_tree::{Outcome, Tree};
@@ -123,4 +124,19 @@ pub fn take_item<D: Fn(&mut Tree, &[Txn]) -> Result<Vec<Outcome>, NoMemory>>(
     receive_item(alloc, loader, world, item, outputs)?;
     *done = world.replica.learner().since_base().len();
     Ok(())
+}
+
+// The fewest bytes of a read in a client's stream: its length, its xid, its type, and a path of one byte with its length.
+const SHORTEST_READ: usize = 17;
+
+/// Whether the clients' bytes in these events are as many as so many reads have at least. This is an estimate, on which
+/// no answer depends: frames that began in earlier events aren't counted, and longer ones count as several.
+pub fn may_hold_reads(events: &[Event<'_>], reads: usize) -> bool {
+    let mut missing = reads.saturating_mul(SHORTEST_READ);
+    for event in events {
+        if let Event::ClientBytes(_, bytes) = event {
+            missing = missing.saturating_sub(bytes.as_slice().len());
+        }
+    }
+    missing == 0
 }

@@ -1,28 +1,40 @@
 //! The machine plays events.
 //!
+//! A read that a client asks for may wait while others follow. The reads that wait are answered before anything that
+//! could tell the difference: before a client's frame that is no read, before any other event, and at the end.
+//!
 //! Laws that go over this: `Agreeing`, `Logs`, `Playing`, `Refusals`, `Served`, `WholeImages`.
 
+ghost use Rattle.std.specs.Prelude.{◌≢◌, ℕ, List};
 ghost use Rattle.replica.specs.Gathering.{AppliesTxns};
+ghost use Rattle.read_processor.specs.Asking.{LooksAtAsks};
 ghost use Rattle.observer_core.specs.Play.{play_event, play};
+ghost use Rattle.observer_core.specs.Inner.{answer_waiting, LeavesReads};
+ghost use Rattle.client_service.specs.Steps.{and_then};
 ghost use Rattle.client_service.specs.Results.{MeetsStep};
 
 use crate::event::Event;
 use crate::leader::{end_leader, meet_leader, take_leader_bytes};
 use crate::machine::Machine;
-use client_service::{Output, end_client, expire_session, open_client, take_client_bytes};
+use client_service::{
+    AskedRead, Output, end_client, expire_session, open_client, settle_reads, take_client_bytes,
+};
 use data_tree::{Outcome, Tree};
+use read_processor::{Ask, Look};
 use std::alloc::Global;
 use txn_codec::Txn;
 use values::NoMemory;
 
-fn happen<D: Fn(&mut Tree, &[Txn]) -> Result<Vec<Outcome>, NoMemory>>(
+// Plays an event other than a client's bytes.
+fn happen_alone<D: Fn(&mut Tree, &[Txn]) -> Result<Vec<Outcome>, NoMemory>>(
     alloc: Global,
     doer: &D,
     machine: &mut Machine,
     event: &Event<'_>,
     outputs: &mut Vec<Output>,
 ) -> Result<(), NoMemory>
-    requires { AppliesTxns (D.pre doer.now) (D.post doer.now) }
+    requires applies { AppliesTxns (D.pre doer.now) (D.post doer.now) }
+    requires other { (number : ℕ) (bytes : List ℕ) → event.now ≢ Event.ClientBytes number bytes }
     ensures { MeetsStep result outputs.old.items
         (play_event machine.old event.now)
         outputs.new.items machine.new }
@@ -34,17 +46,7 @@ fn happen<D: Fn(&mut Tree, &[Txn]) -> Result<Vec<Outcome>, NoMemory>>(
         }
         Event::LeaderEnd => end_leader(machine, outputs),
         Event::ClientUp(number) => open_client(alloc, *number, &mut machine.world),
-        Event::ClientBytes(number, bytes) => {
-            let serving = machine.world.replica.is_serving();
-            take_client_bytes(
-                alloc,
-                serving,
-                *number,
-                &mut machine.world,
-                bytes.as_slice(),
-                outputs,
-            )
-        }
+        Event::ClientBytes(_, _) => unreachable!(),
         Event::ClientEnd(number) => {
             end_client(*number, &mut machine.world);
             Ok(())
@@ -54,24 +56,77 @@ fn happen<D: Fn(&mut Tree, &[Txn]) -> Result<Vec<Outcome>, NoMemory>>(
     }
 }
 
-/// Plays the events in order and appends the outputs of each. The closure `doer` applies the transactions of an event
-/// of the leader to the tree.
-///
-/// Fails only if an allocation is refused; then a prefix of the outputs has been appended.
-pub fn run<D: Fn(&mut Tree, &[Txn]) -> Result<Vec<Outcome>, NoMemory>>(
+// Plays an event. Before any but a client's bytes the reads that wait are answered.
+fn happen<
+    D: Fn(&mut Tree, &[Txn]) -> Result<Vec<Outcome>, NoMemory>,
+    L: Fn(&Tree, &[Ask<'_>]) -> Result<Vec<Look>, NoMemory>,
+>(
     alloc: Global,
     doer: &D,
+    looker: &L,
+    gathers: bool,
+    machine: &mut Machine,
+    asked: &mut Vec<AskedRead>,
+    event: &Event<'_>,
+    outputs: &mut Vec<Output>,
+) -> Result<(), NoMemory>
+    requires applies { AppliesTxns (D.pre doer.now) (D.post doer.now) }
+    requires looks { LooksAtAsks (L.pre looker.now) (L.post looker.now) }
+    ensures { LeavesReads result outputs.old.items
+        (and_then (answer_waiting asked.old.items machine.old) (λ m. play_event m event.now))
+        outputs.new.items asked.new.items machine.new }
+{
+    sessions::others_stay();
+    match event {
+        Event::ClientBytes(number, bytes) => {
+            let serving = machine.world.replica.is_serving();
+            take_client_bytes(
+                alloc,
+                looker,
+                serving,
+                gathers,
+                *number,
+                &mut machine.world,
+                asked,
+                bytes.as_slice(),
+                outputs,
+            )
+        }
+        _ => {
+            settle_reads(alloc, looker, asked, &mut machine.world, outputs)?;
+            happen_alone(alloc, doer, machine, event, outputs)
+        }
+    }
+}
+
+/// Plays the events in order and appends the outputs of each. The closure `doer` applies the transactions of an event
+/// of the leader to the tree. If `gathers` is set, reads wait for each other, and `looker` answers a run of them;
+/// otherwise each is answered at once.
+///
+/// Fails only if an allocation is refused; then a prefix of the outputs has been appended.
+pub fn run<
+    D: Fn(&mut Tree, &[Txn]) -> Result<Vec<Outcome>, NoMemory>,
+    L: Fn(&Tree, &[Ask<'_>]) -> Result<Vec<Look>, NoMemory>,
+>(
+    alloc: Global,
+    doer: &D,
+    looker: &L,
+    gathers: bool,
     machine: &mut Machine,
     events: &[Event<'_>],
     outputs: &mut Vec<Output>,
 ) -> Result<(), NoMemory>
-    requires { AppliesTxns (D.pre doer.now) (D.post doer.now) }
+    requires applies { AppliesTxns (D.pre doer.now) (D.post doer.now) }
+    requires looks { LooksAtAsks (L.pre looker.now) (L.post looker.now) }
     ensures { MeetsStep result outputs.old.items
         (play machine.old events.now)
         outputs.new.items machine.new }
 {
+    let mut asked = Vec::new(alloc);
     for event in events {
-        happen(alloc, doer, machine, event, outputs)?;
+        happen(
+            alloc, doer, looker, gathers, machine, &mut asked, event, outputs,
+        )?;
     }
-    Ok(())
+    settle_reads(alloc, looker, &mut asked, &mut machine.world, outputs)
 }
