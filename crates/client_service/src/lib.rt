@@ -12,20 +12,26 @@
 //! step of each frame that they complete. specs/Results states what a function returns and leaves, refused allocations
 //! included.
 //!
+//! A read may wait for its answer, as an [`AskedRead`], while other reads follow (specs/Runs). [`settle_reads`] looks all
+//! of them up in one call of a closure, which may use several threads, and then leaves their watches and sends their
+//! replies in order. The law [`runs_of_reads`] says that this is what answering each at once does.
+//!
 //! `client_frames` reads what a frame asks; `read_processor` makes the reply to a read and its frame; `sessions` knows
 //! the session of each connection, `watch_manager` the watches, and `four_letter` the answers to words. This crate says
 //! when each is called, and what is sent. The leader is followed above this crate, and [`notify_each`] tells the
 //! watchers of a change.
 //!
-//! `client` cuts the bytes into frames, with `joining`, `reading` and `session` for the requests of a frame, `word` for
-//! four-letter words, and `sending` and `notice` for what is sent. specs/Inner has the contracts of their private
+//! `client` cuts the bytes into frames, with `joining`, `reading` and `session` for the requests of a frame, `settling`
+//! for reads that wait, `word` for four-letter words, and `sending` and `notice` for what is sent. specs/Inner has the contracts of their private
 //! functions; no public contract needs it.
 //!
 //! ```text
 //! let clients = Clients::new(alloc, &settings)?;                       // no connection, and no session yet
 //! let mut world = World { settings, replica, clients };
 //! open_client(alloc, 7, &mut world)?;                                  // connection 7 is open
-//! take_client_bytes(alloc, true, 7, &mut world, bytes, &mut outputs)?; // appends Output::ToClient(7, reply)
+//! // clients are served, and reads wait in `asked`
+//! take_client_bytes(alloc, &looker, true, true, 7, &mut world, &mut asked, bytes, &mut outputs)?;
+//! settle_reads(alloc, &looker, &mut asked, &mut world, &mut outputs)?; // appends Output::ToClient(7, reply)
 //! ```
 #![tactic(auto)]
 

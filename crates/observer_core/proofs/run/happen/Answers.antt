@@ -1,4 +1,4 @@
-use Rattle.std.proofs.Common.{◌≡◌, Bool, sym, ap, subst, ◌∙◌}
+use Rattle.std.proofs.Common.{◌≡◌, Bool, ap, subst, ◌∙◌}
 use Rattle.std.specs.FinMap as finmap
 use Rattle.replica.specs.Taking.{is_serving}
 use Rattle.client_service.specs.World.{World}
@@ -6,6 +6,7 @@ use Rattle.client_service.specs.Steps.{and_then}
 use Rattle.client_service.specs.Serve.{take_client_bytes}
 use Rattle.client_service.specs.Results.{MeetsOwing}
 use Rattle.client_service.specs.Runs.{answer_all_asked}
+use Rattle.observer_core.specs.declared.machine.Machine.TheInside.{Inside}
 use Rattle.observer_core.specs.Machine.{Machine}
 use Rattle.observer_core.specs.Play.{play_event}
 use Rattle.observer_core.proofs.Waiting.{bytes_taken, settled_before}
@@ -14,7 +15,7 @@ use Rattle.observer_core.proofs.run.happen.Goals as goal
 pub returns-in-ClientBytes : goal.returns-in-ClientBytes
 returns-in-ClientBytes g c =
     let serves : c.is_serving-serving.result ≡ is_serving c.machine.inside.world.replica = c.is_serving-serving.ensures
-    ∙ ap (λ (m : Machine). is_serving m.world.replica) (c.machine-inside.view_is ∙ sym c.machine.view_is) in
+    ∙ ap (λ (inside : Inside). is_serving inside.world.replica) c.machine-inside.view_is in
     rw c.in-ClientBytes.is (rw (← c.machine.view_is) (bytes_taken c.others_stay.ensures c.take_client_bytes.result
     c.machine.inside.leader c.machine.inside.world c.args.asked.now.items c.in-ClientBytes.number c.in-ClientBytes.bytes
     c.args.outputs.now.items c.take_client_bytes.new.outputs.items c.take_client_bytes.new.asked.items
