@@ -6,7 +6,7 @@ ghost use Rattle.read_workers.specs.Working.{look_for_work, answered_groups};
 
 use crate::work::{LookWork, Looked};
 use apply_board::Group;
-use apply_workers::{Gate, run};
+use apply_workers::{AllStart, Gate, Starts, run_on};
 use data_tree::Tree;
 use read_processor::{Ask, Look, look, look_each};
 use std::alloc::Global;
@@ -77,17 +77,33 @@ pub fn look_all<G: Gate + Sync, R: Threads + Sync>(
     requires readers { (1 ≤ readers) × (readers ≤ 64) }
     ensures looks { IfOk result (λ v. v.items ≡ looks_at tree.now asks.now) }
 {
+    look_all_on(rt, alloc, tree, asks, readers, gate, &AllStart)
+}
+
+/// The same, with only those of the readers' threads started that may be. Whichever these are, the answers are the same.
+pub fn look_all_on<G: Gate + Sync, R: Threads + Sync, S: Starts>(
+    rt: &R,
+    alloc: Global,
+    tree: &Tree,
+    asks: &[Ask<'_>],
+    readers: usize,
+    gate: &G,
+    starts: &S,
+) -> Result<Vec<Look>, NoMemory>
+    requires readers { (1 ≤ readers) × (readers ≤ 64) }
+    ensures looks { IfOk result (λ v. v.items ≡ looks_at tree.now asks.now) }
+{
     // More readers than asks would have nothing to do.
     let most = readers.min(asks.len());
     if most <= 1 {
         return look_in_turn(alloc, tree, asks, gate);
     }
     let works = look_works(alloc, tree, asks)?;
-    let groups = run(rt, alloc, works, most, gate)?;
+    let groups = run_on(rt, alloc, works, most, gate, starts)?;
     all_answers(alloc, groups)
 }
 
-/// The same for a run of reads, without readers, and without the gate, where it has fewer than `threshold` asks.
+/// The answers of [`look_all`], without readers, and without the gate, where there are fewer than `threshold` asks.
 pub fn look_run<G: Gate + Sync, R: Threads + Sync>(
     rt: &R,
     alloc: Global,

@@ -3,3 +3,5 @@
 
 #[cfg(test)]
 mod readers;
+#[cfg(test)]
+mod starts;

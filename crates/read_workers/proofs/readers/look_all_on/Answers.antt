@@ -1,6 +1,6 @@
 use Rattle.std.proofs.Common.{◌∙◌, IfOk, Result, Ok, Err}
 use Rattle.read_workers.proofs.Answering.{answers_are_looks}
-use Rattle.read_workers.proofs.readers.look_all.Goals as goal
+use Rattle.read_workers.proofs.readers.look_all_on.Goals as goal
 
 if_ok : {A E : Type 0} {P Q : A → Type 0} (r : Result A E) → ((a : A) → P a → Q a) → IfOk r P → IfOk r Q
 if_ok (Ok a) f h = f a h
