@@ -52,6 +52,7 @@ WRONG_LINES = (
     "replay --workers 1",
     f"replay {NO_FILE} --workers",
     f"replay {NO_FILE} --batch 1 --workers",
+    f"replay {NO_FILE} --workers 1 --batch",
     f"replay {NO_FILE} --workers 2 --workers 2",
     f"replay {NO_FILE} --batch 2 --workers 2 --batch 2",
     f"replay {NO_FILE} --workers 0",
