@@ -3,12 +3,13 @@
 The bytes are put together here from the records of zookeeper.jute, and what is wanted comes from what those records
 say, not from the program.
 """
+import hashlib
 import struct
 
 from fronts import fronts, one_byte_a_line
 from records import (
-    CREATE, EXISTS, GET_CHILDREN, GET_DATA, INFORM, NO_NODE, SET_WATCHES, buffer, client, create, leader, packet, reply,
-    transaction,
+    CREATE, EXISTS, GET_CHILDREN, GET_DATA, INFORM, NO_NODE, SET_DATA, SET_WATCHES, buffer, client, create, leader,
+    packet, reply, request, transaction,
 )
 
 # As many components as a path has that fills half of the longest frame of a client.
@@ -38,6 +39,92 @@ def deep_path():
     return b"\n".join(script), b"\n".join(wanted)
 
 
+FIRST = 1 << 32  # the zxid of epoch 1 before its first transaction
+NODES = 100
+CONNECTIONS = (1, 2, 3)
+CHANGED = 3  # of an event's type and of the state in it
+
+
+def path_of(node):
+    return b"/n%02d" % node
+
+
+def joined(connection):
+    """The lines in which a connection opens and gets a session, and the line with its answer. The session's number is
+    that of the connection, and its password is made of its id, where there is no secret."""
+    session = struct.pack(">q", (3 << 56) + connection)
+    asked = buffer(struct.pack(">iqiq", 0, 0, 10000, 0) + buffer(bytes(16)))
+    answer = struct.pack(">ii", 0, 10000) + session + buffer(hashlib.sha1(session).digest()[:16])
+    lines = [b"client %d up" % connection, b"client %d " % connection + asked.hex().encode()]
+    return lines, b"C %d " % connection + buffer(answer).hex().encode()
+
+
+def shown(node, version):
+    """A node's Stat behind its create, or behind its setData, and the zxid of the last transaction of that event."""
+    made = FIRST + 1 + node
+    changed = made + NODES * version
+    stat = struct.pack(">qqqqiiiqiiq", made, changed, 1000, 1000, version, 0, 0, 0, 4, 0, made)
+    return stat, FIRST + NODES * (version + 1)
+
+
+def read(number, node, version, connection):
+    """A read with this xid: every other one is an exists, the rest are getDatas, and all leave watches on data. Its
+    frame and the line with the reply. A node's data is its path, and behind the setData that of the next node."""
+    stat, zxid = shown(node, version)
+    body = buffer(path_of(node)) + b"\1"
+    if number % 2:
+        return request(number, EXISTS, body), reply(number, zxid, 0, stat, connection)
+    content = buffer(path_of((node + version) % NODES))
+    return request(number, GET_DATA, body), reply(number, zxid, 0, content + stat, connection)
+
+
+def read_in_turn():
+    """Each connection reads every node once, each read an event of its own, in an order in which following reads are of
+    other connections and of other nodes."""
+    script, wanted = [], []
+    for number in range(NODES * len(CONNECTIONS)):
+        connection = CONNECTIONS[number % len(CONNECTIONS)]
+        frame, answer = read(number, 7 * number % NODES, 0, connection)
+        script.append(b"client %d " % connection + frame.hex().encode())
+        wanted.append(answer)
+    return script, wanted
+
+
+def read_at_once(connection):
+    """A connection reads every node in one event."""
+    reads = [read(number, number, 1, connection) for number in range(NODES)]
+    frames = b"".join(frame for frame, _ in reads)
+    return b"client %d " % connection + frames.hex().encode(), [line for _, line in reads]
+
+
+def many_reads():
+    """More reads follow each other than there may be readers, and then one event writes all the nodes that they watch:
+    each reply is that of its own read, and each node's watchers are told in the order of the transactions."""
+    made, changed = [], []
+    for node in range(NODES):
+        zxid = FIRST + 1 + node
+        made.append(packet(INFORM, zxid, transaction(zxid, CREATE, create(path_of(node), path_of(node)))))
+        body = buffer(path_of(node)) + buffer(path_of((node + 1) % NODES)) + struct.pack(">i", 1)
+        changed.append(packet(INFORM, zxid + NODES, transaction(zxid + NODES, SET_DATA, body)))
+    script, wanted = [b"server 3", b"primed", leader(b"".join(made))], []
+    for connection in CONNECTIONS[1:]:
+        lines, answer = joined(connection)
+        script += lines
+        wanted.append(answer)
+    lines, answers = read_in_turn()
+    script += [*lines, leader(b"".join(changed))]
+    wanted += answers
+    for node in range(NODES):
+        event = struct.pack(">ii", CHANGED, CHANGED) + buffer(path_of(node))
+        wanted += [reply(-1, -1, 0, event, connection) for connection in CONNECTIONS]
+    for connection in CONNECTIONS:
+        line, answers = read_at_once(connection)
+        script.append(line)
+        wanted += answers
+    wanted.append(b"end zxid=0x%x paths=%d" % (FIRST + 2 * NODES, NODES + 3))
+    return b"\n".join([*script, b""]), b"\n".join([*wanted, b""])
+
+
 def rows():
     """Returns each row as name, script and wanted output."""
-    return [("deep-path", *deep_path()), *fronts(), one_byte_a_line()]
+    return [("deep-path", *deep_path()), ("many-reads", *many_reads()), *fronts(), one_byte_a_line()]

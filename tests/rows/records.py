@@ -1,7 +1,7 @@
 """The records of zookeeper.jute of which rows are made, and the lines in which a script has them."""
 import struct
 
-CREATE, EXISTS, GET_DATA, GET_CHILDREN, SET_WATCHES = 1, 3, 4, 8, 101
+CREATE, EXISTS, GET_DATA, SET_DATA, GET_CHILDREN, SET_WATCHES = 1, 3, 4, 5, 8, 101
 PROPOSAL, ACK, COMMIT, PING, INFORM, NEW_LEADER, UP_TO_DATE = 2, 3, 4, 5, 8, 10, 12
 DIFF, TRUNC, SNAP, OBSERVER_INFO, LEADER_INFO, ACK_EPOCH = 13, 14, 15, 16, 17, 18
 NO_NODE, PROTOCOL = -101, 0x10000
@@ -33,9 +33,14 @@ def leader(content):
     return b"leader " + content.hex().encode()
 
 
-def client(xid, kind, body):
-    """The line with a request of connection 1."""
-    return b"client 1 " + buffer(struct.pack(">ii", xid, kind) + body).hex().encode()
+def request(xid, kind, body):
+    """A client's frame."""
+    return buffer(struct.pack(">ii", xid, kind) + body)
+
+
+def client(xid, kind, body, connection=1):
+    """The line with a request of a connection."""
+    return b"client %d " % connection + request(xid, kind, body).hex().encode()
 
 
 def to_leader(content):
@@ -43,6 +48,6 @@ def to_leader(content):
     return b"L " + content.hex().encode()
 
 
-def reply(xid, zxid, err, body=b""):
-    """The line that tells of a reply to connection 1."""
-    return b"C 1 " + buffer(struct.pack(">iqi", xid, zxid, err) + body).hex().encode()
+def reply(xid, zxid, err, body=b"", connection=1):
+    """The line that tells of a reply to a connection."""
+    return b"C %d " % connection + buffer(struct.pack(">iqi", xid, zxid, err) + body).hex().encode()

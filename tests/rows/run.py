@@ -40,7 +40,9 @@ SECONDS = 60
 # The options of a replay by which each row is run beside the run without options.
 LIMITS = ("--workers 1 --batch 1", "--workers 3 --batch 2", "--workers 64 --batch 4096")
 # The rows that are run by these numbers of workers too, with batches as they are by default.
-SHARED = ("close-session", "create-then-get", "multi-meets-two", "set-then-get", "two-groups")
+SHARED = (
+    "close-session", "create-then-get", "many-reads", "multi-meets-two", "set-then-get", "two-groups", "two-groups-told",
+)
 WORKERS = ("--workers 1", "--workers 2", "--workers 64")
 
 # What isn't a command line. There is no such file, so a program that opened it first would end with another status.
@@ -50,6 +52,7 @@ WRONG_LINES = (
     "replay --workers 1",
     f"replay {NO_FILE} --workers",
     f"replay {NO_FILE} --batch 1 --workers",
+    f"replay {NO_FILE} --workers 1 --batch",
     f"replay {NO_FILE} --workers 2 --workers 2",
     f"replay {NO_FILE} --batch 2 --workers 2 --batch 2",
     f"replay {NO_FILE} --workers 0",
