@@ -94,7 +94,11 @@ pub fn has(engine: &Engine, path: &str) -> bool {
 #[cfg(test)]
 mod held;
 #[cfg(test)]
+mod held_reads;
+#[cfg(test)]
 mod laws;
+#[cfg(test)]
+mod ordered;
 #[cfg(test)]
 mod played;
 #[cfg(test)]

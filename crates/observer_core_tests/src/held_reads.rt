@@ -1,0 +1,48 @@
+//! Reads of several events, with nothing else between them, are answered at the same time.
+use super::*;
+use crate::held::{HoldsFirst, creates, with_workers};
+use std::test::*;
+
+// The getData of /a and that of /b.
+const FIRST_ASKED: &[u8] = b"\0\0\0\x0f\0\0\0\x02\0\0\0\x04\0\0\0\x02/a\0";
+
+const THEN_ASKED: &[u8] = b"\0\0\0\x0f\0\0\0\x03\0\0\0\x04\0\0\0\x02/b\0";
+
+// The replies: the data "hi", and a Stat whose zxids are those of the node's create.
+const WANTED: [&[u8]; 2] = [
+    b"\0\0\0\x5a\0\0\0\x02\0\0\0\x01\0\0\0\x02\0\0\0\0\0\0\0\x02hi\
+    \0\0\0\x01\0\0\0\x01\0\0\0\x01\0\0\0\x01\0\0\0\0\0\0\x03\xe8\0\0\0\0\0\0\x03\xe8\
+    \0\0\0\0\0\0\0\0\0\0\0\0\0\0\0\0\0\0\0\0\0\0\0\x02\0\0\0\0\0\0\0\x01\0\0\0\x01",
+    b"\0\0\0\x5a\0\0\0\x03\0\0\0\x01\0\0\0\x02\0\0\0\0\0\0\0\x02hi\
+    \0\0\0\x01\0\0\0\x02\0\0\0\x01\0\0\0\x02\0\0\0\0\0\0\x03\xe8\0\0\0\0\0\0\x03\xe8\
+    \0\0\0\0\0\0\0\0\0\0\0\0\0\0\0\0\0\0\0\0\0\0\0\x02\0\0\0\0\0\0\0\x01\0\0\0\x02",
+];
+
+// Whether two readers have both reads in hand at once, and the replies are right and in their order.
+fn holds_no_other<R: Threads + Sync>(
+    rt: &R,
+    alloc: Global,
+    mut engine: Engine,
+) -> Result<bool, &'static str> {
+    let gate = HoldsFirst::new();
+    let nodes = creates(alloc, &["/a", "/b"], 1)?;
+    let made = [told(nodes.as_slice())];
+    let reads = [asked(FIRST_ASKED), asked(THEN_ASKED)];
+    let mut outputs = Vec::new(alloc);
+    Ok(
+        engine
+            .feed(rt, alloc, &made, &OpenGate, &mut outputs)
+            .is_ok()
+            && engine.feed(rt, alloc, &reads, &gate, &mut outputs).is_ok()
+            && !gate.has_held_in_vain()
+            && are_replies(outputs.as_slice(), &WANTED),
+    )
+}
+
+#[test]
+fn a_held_read_holds_no_other(rt: HostRuntime) -> Result<(), Fail> {
+    let alloc = rt.alloc();
+    let engine = with_workers(alloc, 2)?;
+    assert!(rt; holds_no_other(&rt, alloc, engine)?);
+    Ok(())
+}
