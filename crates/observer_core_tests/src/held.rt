@@ -74,27 +74,53 @@ const WANTED: [&[u8]; 4] = [
     b"\0\0\0\x1e\xff\xff\xff\xff\xff\xff\xff\xff\xff\xff\xff\xff\0\0\0\0\0\0\0\x04\0\0\0\x03\0\0\0\x02/b",
 ];
 
-// Feeds the creates of /a and /b, and then those of three children as one event, whose batch has two groups.
-fn feed_two_groups<R: Threads + Sync, G: Gate + Sync>(
+/// Nodes that are made first, requests that come then, and nodes that are made by one event behind these.
+#[derive(Clone, Copy)]
+pub struct Steps<'a> {
+    pub parents: &'a [&'a str],
+    pub requests: &'a [u8],
+    pub children: &'a [&'a str],
+}
+
+// Feeds one event, and returns whether no allocation was refused.
+fn feed_one<R: Threads + Sync, G: Gate + Sync>(
     rt: &R,
     alloc: Global,
     engine: &mut Engine,
+    event: Event<'_>,
+    gate: &G,
+    outputs: &mut Vec<Output>,
+) -> bool {
+    engine.feed(rt, alloc, &[event], gate, outputs).is_ok()
+}
+
+/// Feeds these, the nodes from zxid counter 1 on. The gate is for the last event alone.
+pub fn feed_steps<R: Threads + Sync, G: Gate + Sync>(
+    rt: &R,
+    alloc: Global,
+    engine: &mut Engine,
+    steps: &Steps<'_>,
     gate: &G,
     outputs: &mut Vec<Output>,
 ) -> Result<bool, &'static str> {
-    let parents = creates(alloc, &["/a", "/b"], 1)?;
-    let children = creates(alloc, &["/a/x", "/a/y", "/b/z"], 3)?;
-    let first = [told(parents.as_slice()), asked(ASKED)];
+    let next = u8::try_from(steps.parents.len()).ok().ok_or("parents")?;
+    let parents = creates(alloc, steps.parents, 1)?;
+    let children = creates(alloc, steps.children, next.wrapping_add(1))?;
     Ok(
-        engine.feed(rt, alloc, &first, &OpenGate, outputs).is_ok()
-            && engine
-                .feed(rt, alloc, &[told(children.as_slice())], gate, outputs)
-                .is_ok(),
+        feed_one(
+            rt,
+            alloc,
+            engine,
+            told(parents.as_slice()),
+            &OpenGate,
+            outputs,
+        ) && feed_one(rt, alloc, engine, asked(steps.requests), &OpenGate, outputs)
+            && feed_one(rt, alloc, engine, told(children.as_slice()), gate, outputs),
     )
 }
 
-// The child version, the number of children and the zxid of the last change of the children.
-fn counts(engine: &Engine, path: &str) -> Option<(i32, i32, i64)> {
+/// The child version, the number of children and the zxid of the last change of the children.
+pub fn counts(engine: &Engine, path: &str) -> Option<(i32, i32, i64)> {
     let stat = engine.tree().stat(path)?;
     Some((stat.cversion, stat.num_children, stat.pzxid))
 }
@@ -109,9 +135,14 @@ fn holds_no_other<R: Threads + Sync>(
         passed: AtomicU64::new(0),
         missed: AtomicU64::new(0),
     };
+    let steps = Steps {
+        parents: &["/a", "/b"],
+        requests: ASKED,
+        children: &["/a/x", "/a/y", "/b/z"],
+    };
     let mut outputs = Vec::new(alloc);
     Ok(
-        feed_two_groups(rt, alloc, &mut engine, &gate, &mut outputs)?
+        feed_steps(rt, alloc, &mut engine, &steps, &gate, &mut outputs)?
             && gate.missed.load(Ordering::SeqCst) == 0
             && are_replies(outputs.as_slice(), &WANTED)
             && counts(&engine, "/a") == Some((2, 2, 0x1_0000_0004))
@@ -119,9 +150,9 @@ fn holds_no_other<R: Threads + Sync>(
     )
 }
 
-// An engine that follows a leader, for two workers.
-fn with_two_workers(alloc: Global) -> Result<Engine, &'static str> {
-    let limits = Limits::new(2, 256, 64).ok().ok_or("limits")?;
+/// An engine that follows a leader, for this many workers.
+pub fn with_workers(alloc: Global, workers: usize) -> Result<Engine, &'static str> {
+    let limits = Limits::new(workers, 256, 64).ok().ok_or("limits")?;
     let secret = blob(alloc, &[])?;
     let config = Config::new(3, 0, 0, 4000, 40_000, secret, limits);
     let config = config.ok().ok_or("settings")?;
@@ -131,7 +162,7 @@ fn with_two_workers(alloc: Global) -> Result<Engine, &'static str> {
 #[test]
 fn a_held_group_holds_no_other(rt: HostRuntime) -> Result<(), Fail> {
     let alloc = rt.alloc();
-    let engine = with_two_workers(alloc)?;
+    let engine = with_workers(alloc, 2)?;
     assert!(rt; holds_no_other(&rt, alloc, engine)?);
     Ok(())
 }

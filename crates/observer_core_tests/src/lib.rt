@@ -96,6 +96,8 @@ mod held;
 #[cfg(test)]
 mod laws;
 #[cfg(test)]
+mod ordered;
+#[cfg(test)]
 mod played;
 #[cfg(test)]
 mod rows;
