@@ -5,7 +5,7 @@ ghost use Rattle.txn_codec.specs.Spelling.{body_format};
 use crate::messages::{child_path, create, parent_path, write_connect, write_inform};
 use anyhow::{Context, Result, ensure};
 use apply_workers::OpenGate;
-use batcher::Limits;
+use batcher::{Limits, SpreadThreshold};
 use observer_core::{Config, Engine, Event, Output};
 use std::alloc::Global;
 use std::mem;
@@ -51,9 +51,9 @@ pub fn add_count(count: u64, more: u64) -> Result<u64> {
 
 impl Load {
     /// An engine that follows a leader and has one client's connection.
-    pub fn new(alloc: Global, limits: Limits) -> Result<Load> {
+    pub fn new(alloc: Global, limits: Limits, threshold: SpreadThreshold) -> Result<Load> {
         let secret = Blob::from_vec(Vec::new(alloc));
-        let config = Config::new(1, 0, 0, 4000, 40_000, secret, limits)?;
+        let config = Config::new(1, 0, 0, 4000, 40_000, secret, limits)?.with_threshold(threshold);
         let engine = Engine::primed(alloc, config)?;
         Ok(Load {
             engine,

@@ -23,11 +23,11 @@
 //! `load_runner logs PARENTS CHILDREN KEPT TIMES`: after creates of such nodes TIMES leaders connect, each of which
 //! truncates all of these transactions but the first KEPT.
 //!
-//! `load_runner spread KIND PARENTS CHILDREN CONTENT COUNT TIMES WORKERS LENGTH`: after creates of such nodes, those below
-//! the root with CONTENT bytes of data, TIMES events come, each with COUNT transactions of the leader (`creates` or
+//! `load_runner spread KIND PARENTS CHILDREN CONTENT COUNT TIMES WORKERS LENGTH LEAST`: after creates of such nodes, those
+//! below the root with CONTENT bytes of data, TIMES events come, each with COUNT transactions of the leader (`creates` or
 //! `sets`) or reads of a client (`gets` or `names`). The engine has WORKERS workers and batches of up to LENGTH
-//! transactions; with 0 workers it does all on the calling thread. Standard error has the nanoseconds that it took for
-//! these events.
+//! transactions, and spreads only batches with LEAST bytes of data or more; with 0 workers it does all on the calling
+//! thread. Standard error has the nanoseconds that it took for these events.
 #![tactic(auto)]
 
 mod choice;
@@ -45,7 +45,7 @@ mod spread;
 mod watches;
 
 use anyhow::{Context, Result};
-use batcher::Limits;
+use batcher::{Limits, SpreadThreshold};
 use images::Images;
 use listing::Listing;
 use load::Load;
@@ -66,7 +66,7 @@ const USAGE: &str =
     "wanted: PARENTS CHILDREN SETS EVERY, or reads PARENTS CHILDREN READS TIMES PIECE, \
     or watches CONNECTIONS WATCHES NODES SETS OTHERS, or lists CHILDREN TIMES, or pings CONNECTIONS, \
     or images PARENTS CHILDREN CONTENT PIECE CHECKPOINTS, or logs PARENTS CHILDREN KEPT TIMES, \
-    or spread KIND PARENTS CHILDREN CONTENT COUNT TIMES WORKERS LENGTH";
+    or spread KIND PARENTS CHILDREN CONTENT COUNT TIMES WORKERS LENGTH LEAST";
 
 // The most groups of a batch.
 const MOST_GROUPS: usize = 256;
@@ -177,6 +177,19 @@ fn limits_of(words: &[String]) -> Result<Limits> {
     Ok(Limits::new(workers, length, MOST_GROUPS)?)
 }
 
+// The least work that is spread over workers: of any size, but for a `spread`.
+fn threshold_of(words: &[String]) -> Result<SpreadThreshold> {
+    if !is_spread(words) {
+        return Ok(SpreadThreshold::ALWAYS);
+    }
+    let bytes = number(words, 9)? as usize;
+    Ok(SpreadThreshold {
+        transactions: 0,
+        bytes,
+        reads: 0,
+    })
+}
+
 // Puts the load on the engine that the words ask for.
 fn run<R: Threads + Clock + Sync>(
     rt: &R,
@@ -240,7 +253,8 @@ fn run_and_count<R: Threads + Clock + Sync>(
 // The load is dropped at the single end of this function, since each drop of it is proved anew.
 fn run_load<R: Threads + Clock + Sync>(rt: &R, alloc: Global, words: &[String]) -> Result<Counts> {
     let limits = limits_of(words)?;
-    let mut load = Load::new(alloc, limits)?;
+    let threshold = threshold_of(words)?;
+    let mut load = Load::new(alloc, limits, threshold)?;
     run_and_count(rt, alloc, &mut load, words)
 }
 
