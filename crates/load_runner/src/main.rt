@@ -26,8 +26,8 @@
 //! `load_runner spread KIND PARENTS CHILDREN CONTENT COUNT TIMES WORKERS LENGTH LEAST`: after creates of such nodes, those
 //! below the root with CONTENT bytes of data, TIMES events come, each with COUNT transactions of the leader (`creates` or
 //! `sets`) or reads of a client (`gets` or `names`). The engine has WORKERS workers and batches of up to LENGTH
-//! transactions, and spreads only batches with LEAST bytes of data or more; with 0 workers it does all on the calling
-//! thread. Standard error has the nanoseconds that it took for these events.
+//! transactions, and spreads only batches with LEAST bytes of data or more and runs of LEAST reads or more; with 0 workers
+//! it does all on the calling thread. Standard error has the nanoseconds that it took for these events.
 #![tactic(auto)]
 
 mod choice;
@@ -182,11 +182,11 @@ fn threshold_of(words: &[String]) -> Result<SpreadThreshold> {
     if !is_spread(words) {
         return Ok(SpreadThreshold::ALWAYS);
     }
-    let bytes = number(words, 9)? as usize;
+    let least = number(words, 9)? as usize;
     Ok(SpreadThreshold {
         transactions: 0,
-        bytes,
-        reads: 0,
+        bytes: least,
+        reads: least,
     })
 }
 
