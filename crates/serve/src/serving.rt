@@ -22,12 +22,12 @@ use std::thread::Threads;
 use std::time::Clock;
 use std::{fs, io, thread};
 
-// Work that is less than this is done by the hub's thread: starting threads takes as long as storing some megabytes, or as
-// answering some hundreds of reads.
+// Work that is less than this is done by the hub's thread: starting threads takes as long as storing some megabytes.
+// Small reads are quicker on one thread even in runs of some thousands.
 const WORTH_THREADS: SpreadThreshold = SpreadThreshold {
     transactions: 2,
     bytes: 8_388_608,
-    reads: 512,
+    reads: 16_384,
 };
 
 // The observer's settings. Those without an option have the defaults of a script.
