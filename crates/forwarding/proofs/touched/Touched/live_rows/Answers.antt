@@ -1,0 +1,50 @@
+use mir.Val.{SFits}
+use Rattle.std.proofs.Common.{rules, ◌≡◌, ℤ, List, [], ◌∷◌, ◌++◌, Some, None, sym, ap, ◌∙◌, append-nil, w32, w64}
+use Rattle.std.proofs.lemmas.Int.{to_z-of_z}
+use Rattle.std.specs.Ordering.{int_cmp}
+use Rattle.std.specs.Cmp.{int_cmp_total}
+use Rattle.std.proofs.lemmas.Map.Lookups.{exact_signed}
+use Rattle.std.specs.FinMap as finmap
+use Rattle.forwarding.specs.Pending.{live_rows, sorted_touched}
+use Rattle.forwarding.proofs.Maps.{get-seen}
+use Rattle.forwarding.proofs.SessionSets.{items-sorted}
+use Rattle.forwarding.proofs.Touching.{lives, ended}
+use Rattle.forwarding.proofs.touched.Touched.live_rows.Goals as goal
+
+pub loop-session-preserved-in-Continue-1 : goal.loop-session-preserved-in-Continue-1
+loop-session-preserved-in-Continue-1 c =
+    let timeouts = finmap.from_entries {R = int_cmp} c.args.timeouts.now.entries in
+    let fits_session : SFits w64 c.in-Some.session.now = search rules in
+    let fits_timeout : SFits w32 c.in-Some-get.timeout.now = search rules in
+    let at : finmap.get (finmap.from_entries {R = int_cmp} c.args.timeouts.now.entries) c.in-Some.session.now
+    ≡ Some c.in-Some-get.timeout.now =
+    get-seen int_cmp_total exact_signed c.args.timeouts.now c.in-Some.session.now ∙ sym c.in-Some-get.ensures.value in
+    ap (λ (rows : List (ℤ × ℤ)). rows ++ live_rows timeouts c.next.new.self)
+    (c.in_ok-push.ensures.items
+    ∙ (λ i. c.loop-session.rows.items ++ (
+      to_z-of_z w64 c.in-Some.session.now fits_session i,
+      to_z-of_z w32 c.in-Some-get.timeout.now fits_timeout i,
+    ) ∷ []))
+    ∙ lives timeouts c.loop-session.rows.items c.in-Some.session.now c.in-Some-get.timeout.now c.next.new.self at
+    ∙ ap (λ ks. c.loop-session.rows.items ++ live_rows timeouts ks) (sym c.in-Some.ensures.steps)
+    ∙ c.loop-session.invariant
+
+pub loop-session-preserved : goal.loop-session-preserved
+loop-session-preserved c =
+    let timeouts = finmap.from_entries {R = int_cmp} c.args.timeouts.now.entries in
+    let at : finmap.get (finmap.from_entries {R = int_cmp} c.args.timeouts.now.entries) c.in-Some.session.now ≡ None =
+    get-seen int_cmp_total exact_signed c.args.timeouts.now c.in-Some.session.now ∙ sym c.in_default.ensures.value in
+    ended timeouts c.loop-session.rows.items c.in-Some.session.now c.next.new.self at
+    ∙ ap (λ ks. c.loop-session.rows.items ++ live_rows timeouts ks) (sym c.in-Some.ensures.steps)
+    ∙ c.loop-session.invariant
+
+pub returns : goal.returns
+returns c =
+    let timeouts = finmap.from_entries {R = int_cmp} c.args.timeouts.now.entries in
+    sym (append-nil c.loop-session.rows.items)
+    ∙ ap (λ ks. c.loop-session.rows.items ++ live_rows timeouts ks) (sym c.in-None.ensures.steps.0)
+    ∙ c.loop-session.invariant
+    ∙ ap (live_rows timeouts)
+    (c.into_iter-session-iterator.ensures.into_iter_gives ∙ c.iter-session-items.ensures.rest
+    ∙ sym (items-sorted c.self.inside.sessions.keys c.iter-session-items.ensures.ordered)
+    ∙ ap (λ s. sorted_touched s) c.self.view_is)

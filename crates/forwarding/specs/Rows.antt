@@ -1,0 +1,100 @@
+-- Rows that were worked out by hand: calls on few connections, and what they leave.
+use Rattle.std.specs.Prelude.{◌≡◌, ℕ, ℤ, pos, negsuc, List, [], ◌∷◌, None, Some, true, codes}
+use Rattle.std.specs.Ordering.{int_cmp}
+use Rattle.std.specs.FinMap as finmap
+use Rattle.forwarding.specs.declared.request.WriteKind.TheVariants.{Create, SetData, CloseSession}
+use Rattle.forwarding.specs.declared.request.PendingConnect.{PendingConnect}
+use Rattle.forwarding.specs.declared.request.Ready.TheVariants.{SettledSync, HeldFrame}
+use Rattle.forwarding.specs.declared.request.Settled.TheVariants.{NoSync, Gone, Of}
+use Rattle.forwarding.specs.State.{PendingTable}
+use Rattle.forwarding.specs.Pending.{nothing_pending, push_connect, push_write, push_sync, hold_frame, answer_write, pending_close, settle_sync, take_ready, take_connect, connecting_to, drop_connection, touch_session, take_touched}
+
+-- A getData that came behind a write.
+abbrev pub held_frame : List ℕ
+held_frame = 0 ∷ 0 ∷ 0 ∷ 1 ∷ 0 ∷ 0 ∷ 0 ∷ 4 ∷ []
+
+abbrev pub path_a : List ℕ
+path_a = codes "/a"
+
+-- Connection 1 has a create of xid 4, and a frame behind it.
+abbrev pub create_waits : PendingTable
+create_waits = hold_frame (push_write nothing_pending 1 (pos 4) Create) 1 held_frame
+
+-- Its create is answered.
+abbrev pub create_answered : PendingTable
+create_answered = (answer_write create_waits 1 (pos 4) (pos 1)).after
+
+pub record CreateIsAnswered : Type 0 where
+  pub held : (take_ready create_waits 1).ready ≡ None
+  pub answers : (answer_write create_waits 1 (pos 4) (pos 1)).kind ≡ Some Create
+  pub fails : (answer_write create_waits 1 (pos 4) (negsuc 0)).kind ≡ Some Create
+  pub other_xid : (answer_write create_waits 1 (pos 5) (pos 1)).kind ≡ None
+  pub other_kind : (answer_write create_waits 1 (pos 4) (pos 5)).kind ≡ None
+  pub other_connection : (answer_write create_waits 2 (pos 4) (pos 1)).kind ≡ None
+  pub next : (take_ready create_answered 1).ready ≡ Some (HeldFrame held_frame)
+  pub rest : (take_ready create_answered 1).after ≡ nothing_pending
+
+-- Connection 1 has a sync and then a setData; the write overtakes the sync.
+abbrev pub sync_then_write : PendingTable
+sync_then_write = push_write (push_sync nothing_pending 1 (pos 7) path_a) 1 (pos 8) SetData
+
+pub record WriteOvertakesSync : Type 0 where
+  pub answers : (answer_write sync_then_write 1 (pos 8) (pos 5)).kind ≡ Some SetData
+  pub leaves : (answer_write sync_then_write 1 (pos 8) (pos 5)).after ≡ push_sync nothing_pending 1 (pos 7) path_a
+  pub waits : (take_ready sync_then_write 1).ready ≡ None
+  pub settles : (settle_sync sync_then_write).settled ≡ Of 1
+  pub ready : (take_ready (settle_sync sync_then_write).after 1).ready ≡ Some (SettledSync (pos 7) path_a)
+
+-- Connection 1 syncs and goes, and its number is used again for a sync behind that of connection 2.
+abbrev pub sync_of_gone : PendingTable
+sync_of_gone =
+    push_sync (push_sync (drop_connection (push_sync nothing_pending 1 (pos 7) path_a) 1) 2 (pos 3) path_a) 1 (pos 1)
+    path_a
+
+pub record SyncOfGone : Type 0 where
+  pub first : (settle_sync sync_of_gone).settled ≡ Gone
+  pub waits : (take_ready (settle_sync sync_of_gone).after 2).ready ≡ None
+  pub second : (settle_sync (settle_sync sync_of_gone).after).settled ≡ Of 2
+  pub ready : (take_ready (settle_sync (settle_sync sync_of_gone).after).after 2).ready
+      ≡ Some (SettledSync (pos 3) path_a)
+  pub still_waits : (take_ready (settle_sync (settle_sync sync_of_gone).after).after 1).ready ≡ None
+  pub none : (settle_sync nothing_pending).settled ≡ NoSync
+
+abbrev pub new_session : PendingConnect
+new_session = record { session = pos 9; time_out = pos 10000; has_read_only = true }
+
+-- Connection 2 waits for session 9, with a frame behind its connect.
+abbrev pub connect_waits : PendingTable
+connect_waits = hold_frame (push_connect nothing_pending 2 new_session) 2 held_frame
+
+pub record ConnectIsAnswered : Type 0 where
+  pub waits : (take_ready connect_waits 2).ready ≡ None
+  pub found : connecting_to connect_waits (pos 9) ≡ Some 2
+  pub taken : (take_connect connect_waits 2).connect ≡ Some new_session
+  pub rest : (take_connect connect_waits 2).after ≡ hold_frame nothing_pending 2 held_frame
+  pub dropped : drop_connection connect_waits 2 ≡ nothing_pending
+
+pub record CloseIsFound : Type 0 where
+  pub close : pending_close (push_write sync_then_write 1 (pos 9) CloseSession) 1 ≡ Some (pos 9)
+  pub none : pending_close sync_then_write 1 ≡ None
+
+-- Of the touched sessions -3, 5 and 9, the session 9 has ended.
+abbrev pub three_touched : PendingTable
+three_touched =
+    touch_session (touch_session (touch_session (touch_session nothing_pending (pos 9)) (pos 5)) (negsuc 2)) (pos 5)
+
+abbrev pub two_live : finmap.FinMap int_cmp ℤ
+two_live = finmap.from_entries ((pos 5, pos 40000) ∷ (negsuc 2, pos 4000) ∷ (pos 6, pos 1) ∷ [])
+
+pub record TouchedAreTold : Type 0 where
+  pub rows : (take_touched three_touched two_live).rows ≡ (negsuc 2, pos 4000) ∷ (pos 5, pos 40000) ∷ []
+  pub after : (take_touched three_touched two_live).after ≡ nothing_pending
+  pub again : (take_touched nothing_pending two_live).rows ≡ []
+
+pub record WorkedRows : Type 0 where
+  pub create : CreateIsAnswered
+  pub overtakes : WriteOvertakesSync
+  pub gone : SyncOfGone
+  pub connect : ConnectIsAnswered
+  pub close : CloseIsFound
+  pub touched : TouchedAreTold

@@ -1,0 +1,38 @@
+//! Laws of what is pending. Each is the contract of a function that does nothing.
+
+ghost use Rattle.forwarding.specs.Laws.{PendingAgreementIsKept, OtherQueuesStay, AnswersAreMatched, RequestsKeepOrder, SyncsKeepOrder, NothingWaitsInVain};
+ghost use Rattle.forwarding.specs.Rows.{WorkedRows};
+
+/// Requests, syncs and waiting connects agree from the start on: a connect stands in front of its connection's
+/// requests, each sync that isn't settled has its place in the list of syncs, no connection has more requests than
+/// the limit, and the waiting connects are found by their sessions.
+pub fn requests_and_syncs_agree()
+    ensures { PendingAgreementIsKept }
+{}
+
+/// What one connection asks or is answered leaves the requests of every other, and its places in the list of syncs.
+pub fn other_connections_stay()
+    ensures { OtherQueuesStay }
+{}
+
+/// A transaction answers at most one write, the oldest of its connection, of its xid and type.
+pub fn answers_are_matched()
+    ensures { AnswersAreMatched }
+{}
+
+/// Requests leave in the order in which they came, but for writes, which overtake. Syncs are settled in the order in
+/// which they were forwarded, whichever connection each is of.
+pub fn order_is_kept()
+    ensures requests { RequestsKeepOrder }
+    ensures syncs { SyncsKeepOrder }
+{}
+
+/// What isn't ready waits for the leader.
+pub fn nothing_waits_in_vain()
+    ensures { NothingWaitsInVain }
+{}
+
+/// The definitions, evaluated on rows that were worked out by hand.
+pub fn worked_rows()
+    ensures { WorkedRows }
+{}

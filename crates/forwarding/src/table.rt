@@ -1,0 +1,263 @@
+//! All requests that aren't answered yet.
+//!
+//! Laws that go over this: `Agreeing`, `Others`, `Answered`, `Ordered`.
+
+ghost use Rattle.std.specs.Prelude.{◌≡◌, OnOk, OnErr, IfOk, None, true, false, drop};
+ghost use Rattle.std.specs.FinMap as finmap;
+ghost use Rattle.forwarding.specs.Pending.{nothing_pending, is_idle, is_full, push_connect, push_write, push_sync, hold_frame, answer_write, pending_close, settle_sync, take_ready, take_connect, connecting_to, drop_connection, touch_session, take_touched, touched_limit};
+ghost use Rattle.forwarding.specs.Agreement.{PendingAgrees};
+
+use crate::connects::Connects;
+use crate::queues::Queues;
+use crate::request::{
+    PendingConnect, PendingRequest, PendingSync, PendingWrite, Ready, Settled, WriteKind,
+};
+use crate::syncs::Syncs;
+use crate::touched::Touched;
+use std::alloc::Global;
+use std::collections::BTreeMap;
+use std::marker::Model;
+use values::{Blob, NoMemory, Text};
+
+/// The most sessions that the leader is told at once.
+pub const TOUCHED_LIMIT: usize = 87_381;
+
+/// The requests of all connections that aren't answered yet, the forwarded syncs in their order, and the sessions that
+/// were touched since the leader was told.
+#[derive(Drop)]
+pub struct Pending {
+    queues: Queues,
+    syncs: Syncs,
+    connects: Connects,
+    touched: Touched,
+}
+
+impl Model for Pending {
+    ghost use Rattle.forwarding.specs.State.{PendingTable, pending_table_of, pending_table_code};
+    ghost use Rattle.forwarding.specs.Agreement.{PendingAgrees};
+
+    ghost Value = { PendingTable };
+
+    ghost coded = { pending_table_code };
+
+    ghost view = { λ p. pending_table_of p.queues p.syncs p.connects p.touched };
+
+    ghost invariant = { λ p. PendingAgrees (pending_table_of p.queues p.syncs p.connects p.touched) };
+}
+
+// The rows that are too many for one table.
+fn beyond_limit(rows: &[(i64, i32)]) -> &[(i64, i32)]
+    ensures { result.now ≡ drop touched_limit rows.now }
+{
+    if rows.len() <= TOUCHED_LIMIT {
+        return &[];
+    }
+    &rows[TOUCHED_LIMIT..]
+}
+
+impl Pending {
+    /// No request and no session. Allocates nothing.
+    pub fn new(alloc: Global) -> Pending
+        ensures { result ≡ nothing_pending }
+    {
+        Pending {
+            queues: Queues::new(alloc),
+            syncs: Syncs::new(alloc),
+            connects: Connects::new(alloc),
+            touched: Touched::new(alloc),
+        }
+    }
+
+    /// Whether the connection has no request.
+    pub fn is_idle(&self, number: u64) -> bool
+        ensures idle { result ≡ is_idle self.now number }
+        ensures agrees { PendingAgrees self.now }
+    {
+        self.queues.is_idle(number)
+    }
+
+    /// Whether the connection has as many requests as it may have.
+    pub fn is_full(&self, number: u64) -> bool
+        ensures { result ≡ is_full self.now number }
+    {
+        self.queues.is_full(number)
+    }
+
+    /// The connection whose connect waits for the session.
+    pub fn connecting(&self, session: i64) -> Option<u64>
+        ensures { result ≡ connecting_to self.now session }
+    {
+        self.connects.get(session)
+    }
+
+    /// The xid of the connection's oldest closeSession. A closeSession of its session answers it, whatever its xid.
+    pub fn pending_close(&self, number: u64) -> Option<i32>
+        ensures { result ≡ pending_close self.now number }
+    {
+        self.queues.pending_close(number)
+    }
+
+    /// Adds the connect of a connection that has no request, for a session that no connect waits for. A refused
+    /// allocation changes nothing.
+    pub fn push_connect(
+        &mut self,
+        alloc: Global,
+        number: u64,
+        connect: PendingConnect,
+    ) -> Result<(), NoMemory>
+        requires idle { is_idle self.old number ≡ true }
+        requires free { connecting_to self.old connect.session ≡ None }
+        ensures ok { OnOk result (self.new ≡ push_connect self.old number connect) }
+        ensures err { OnErr result (self.new ≡ self.old) }
+    {
+        self.connects.add(connect.session, number)?;
+        match self
+            .queues
+            .push(alloc, number, PendingRequest::Connect(connect))
+        {
+            Ok(()) => Ok(()),
+            Err(refused) => {
+                self.connects.remove(Some(connect));
+                Err(refused)
+            }
+        }
+    }
+
+    /// Adds a write that was forwarded. A refused allocation changes nothing.
+    pub fn push_write(
+        &mut self,
+        alloc: Global,
+        number: u64,
+        xid: i32,
+        kind: WriteKind,
+    ) -> Result<(), NoMemory>
+        requires { is_full self.old number ≡ false }
+        ensures ok { OnOk result (self.new ≡ push_write self.old number xid kind) }
+        ensures err { OnErr result (self.new ≡ self.old) }
+    {
+        let write = PendingWrite { xid, kind };
+        self.queues
+            .push(alloc, number, PendingRequest::Write(write))
+    }
+
+    /// Adds a sync that was forwarded. A refused allocation changes nothing.
+    pub fn push_sync(
+        &mut self,
+        alloc: Global,
+        number: u64,
+        xid: i32,
+        path: Text,
+    ) -> Result<(), NoMemory>
+        requires { is_full self.old number ≡ false }
+        ensures ok { OnOk result (self.new ≡ push_sync self.old number xid path) }
+        ensures err { OnErr result (self.new ≡ self.old) }
+    {
+        self.syncs.push(number)?;
+        let sync = PendingSync {
+            xid,
+            path,
+            is_settled: false,
+        };
+        match self.queues.push(alloc, number, PendingRequest::Sync(sync)) {
+            Ok(()) => Ok(()),
+            Err(refused) => {
+                self.syncs.pop_newest();
+                Err(refused)
+            }
+        }
+    }
+
+    /// Holds a whole frame that came behind a request that waits. A refused allocation changes nothing.
+    pub fn hold(&mut self, alloc: Global, number: u64, frame: Blob) -> Result<(), NoMemory>
+        requires { is_full self.old number ≡ false }
+        ensures ok { OnOk result (self.new ≡ hold_frame self.old number frame) }
+        ensures err { OnErr result (self.new ≡ self.old) }
+    {
+        self.queues.push(alloc, number, PendingRequest::Held(frame))
+    }
+
+    /// Removes the connection's oldest write and returns its kind, if a transaction of this xid and type answers it: its
+    /// own type, or `ERROR_TXN`. The write overtakes an older sync that still waits.
+    pub fn answer_write(&mut self, number: u64, xid: i32, txn_kind: i32) -> Option<WriteKind>
+        ensures { answer_write self.old number xid txn_kind ≡ record { kind = result; after = self.new } }
+    {
+        self.queues.answer_write(number, xid, txn_kind)
+    }
+
+    /// Settles the oldest sync of all connections that isn't settled, if one was forwarded.
+    pub fn settle_sync(&mut self) -> Settled
+        ensures { settle_sync self.old ≡ record { settled = result; after = self.new } }
+    {
+        match self.syncs.take_oldest() {
+            None => Settled::NoSync,
+            Some(None) => Settled::Gone,
+            Some(Some(number)) => {
+                self.queues.settle(number);
+                Settled::Of(number)
+            }
+        }
+    }
+
+    /// Takes the request in front of the connection's, if it can be answered now: a settled sync, or a held frame.
+    pub fn take_ready(&mut self, number: u64) -> Option<Ready>
+        ensures { take_ready self.old number ≡ record { ready = result; after = self.new } }
+    {
+        self.queues.take_ready(number)
+    }
+
+    /// Takes the connect in front of the connection's requests.
+    pub fn take_connect(&mut self, number: u64) -> Option<PendingConnect>
+        ensures { take_connect self.old number ≡ record { connect = result; after = self.new } }
+    {
+        let connect = self.queues.take_connect(number);
+        self.connects.remove(connect);
+        connect
+    }
+
+    /// Drops the requests of a connection. The places of its syncs stay, as nobody's.
+    pub fn drop_connection(&mut self, number: u64)
+        ensures { self.new ≡ drop_connection self.old number }
+    {
+        let Some(queue) = self.queues.take(number) else {
+            return;
+        };
+        self.connects.remove(queue.connect());
+        // The list of all syncs is gone through only for a connection that has some in it.
+        if !queue.has_unsettled() {
+            return;
+        }
+        self.syncs.disown(number);
+    }
+
+    /// Drops everything, since the leader has gone. Allocates nothing.
+    pub fn clear(&mut self, alloc: Global)
+        ensures { self.new ≡ nothing_pending }
+    {
+        *self = Pending::new(alloc);
+    }
+
+    /// Notes that the session's client was heard. A refused allocation changes nothing.
+    pub fn touch(&mut self, session: i64) -> Result<(), NoMemory>
+        ensures ok { OnOk result (self.new ≡ touch_session self.old session) }
+        ensures err { OnErr result (self.new ≡ self.old) }
+    {
+        self.touched.touch(session)
+    }
+
+    /// The touched sessions that have a timeout, each with it, in ascending order: at most `TOUCHED_LIMIT`. They are no
+    /// longer touched, nor are those without a timeout. A refused allocation changes nothing.
+    pub fn take_touched(
+        &mut self,
+        alloc: Global,
+        timeouts: &BTreeMap<i64, i32>,
+    ) -> Result<Vec<(i64, i32)>, NoMemory>
+        ensures ok { let known = finmap.from_entries timeouts.now.entries in IfOk result (λ rows.
+            take_touched self.old known ≡ record { rows = rows.items; after = self.new }) }
+        ensures err { OnErr result (self.new ≡ self.old) }
+    {
+        let mut rows = self.touched.live_rows(alloc, timeouts)?;
+        self.touched = Touched::of_rows(alloc, beyond_limit(rows.as_slice()))?;
+        rows.truncate(TOUCHED_LIMIT);
+        Ok(rows)
+    }
+}

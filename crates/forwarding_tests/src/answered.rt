@@ -1,0 +1,110 @@
+//! What the leader's stream answers, and what then is ready.
+
+use crate::{Asked, answer, ask, connected, drop_and_touch, settle, take_all, touched};
+use forwarding::{ERROR_TXN, PENDING_LIMIT, Pending, WriteKind};
+use std::alloc::Global;
+use std::test::Fail;
+use values::NoMemory;
+
+// A connection's requests: a sync, a create, a frame, and a closeSession.
+fn asked(alloc: Global) -> Result<Pending, NoMemory> {
+    let mut pending = Pending::new(alloc);
+    let requests = [
+        (1, Asked::Sync(7, "/a")),
+        (1, Asked::Write(8, WriteKind::Create)),
+        (1, Asked::Frame(&[1, 2])),
+        (1, Asked::Write(9, WriteKind::CloseSession)),
+    ];
+    ask(alloc, &mut pending, &requests)?;
+    Ok(pending)
+}
+
+#[test]
+fn a_write_overtakes_a_sync(rt: HostRuntime) -> Result<(), Fail> {
+    let alloc = rt.alloc();
+    let mut pending = asked(alloc)?;
+    assert_eq!(rt; pending.pending_close(1), Some(9));
+    assert_eq!(rt; answer(&mut pending, 1, 9, ERROR_TXN), 0);
+    assert_eq!(rt; answer(&mut pending, 2, 8, 1), 0);
+    assert_eq!(rt; answer(&mut pending, 1, 8, 5), 0);
+    assert_eq!(rt; answer(&mut pending, 1, 8, 1), 1);
+    assert_eq!(rt; take_all(alloc, &mut pending, 1)?.as_str(), "");
+    assert_eq!(rt; settle(alloc, &mut pending, 2)?.as_str(), "1-");
+    let ready = "sync 7 /a; frame [1, 2]; ";
+    assert_eq!(rt; take_all(alloc, &mut pending, 1)?.as_str(), ready);
+    assert_eq!(rt; answer(&mut pending, 1, 9, ERROR_TXN), -11);
+    assert!(rt; pending.is_idle(1));
+    Ok(())
+}
+
+// Connection 1 syncs and goes. Its number is used again, behind the sync of connection 2.
+fn asked_again(alloc: Global) -> Result<Pending, NoMemory> {
+    let mut pending = Pending::new(alloc);
+    ask(alloc, &mut pending, &[(1, Asked::Sync(7, "/a"))])?;
+    drop_and_touch(&mut pending, &[1, 3], &[])?;
+    let requests = [(2, Asked::Sync(3, "/b")), (1, Asked::Sync(1, "/c"))];
+    ask(alloc, &mut pending, &requests)?;
+    Ok(pending)
+}
+
+#[test]
+fn syncs_are_settled_in_order(rt: HostRuntime) -> Result<(), Fail> {
+    let alloc = rt.alloc();
+    let mut pending = asked_again(alloc)?;
+    assert_eq!(rt; settle(alloc, &mut pending, 2)?.as_str(), "x2");
+    assert_eq!(rt; take_all(alloc, &mut pending, 1)?.as_str(), "");
+    assert_eq!(rt; take_all(alloc, &mut pending, 2)?.as_str(), "sync 3 /b; ");
+    pending.clear(alloc);
+    assert_eq!(rt; settle(alloc, &mut pending, 1)?.as_str(), "-");
+    assert!(rt; pending.is_idle(1));
+    Ok(())
+}
+
+#[test]
+fn a_connect_waits_for_its_session(rt: HostRuntime) -> Result<(), Fail> {
+    let alloc = rt.alloc();
+    let mut pending = Pending::new(alloc);
+    let requests = [
+        (2, Asked::Connect(-9)),
+        (3, Asked::Connect(-9)),
+        (2, Asked::Frame(&[5])),
+    ];
+    ask(alloc, &mut pending, &requests)?;
+    assert_eq!(rt; pending.connecting(-9), Some(2));
+    assert_eq!(rt; take_all(alloc, &mut pending, 2)?.as_str(), "");
+    assert_eq!(rt; connected(&mut pending, 2), -9);
+    assert_eq!(rt; connected(&mut pending, 2), 0);
+    assert_eq!(rt; pending.connecting(-9), None);
+    assert_eq!(rt; take_all(alloc, &mut pending, 2)?.as_str(), "frame [5]; ");
+    Ok(())
+}
+
+#[test]
+fn touched_sessions_are_told_once(rt: HostRuntime) -> Result<(), Fail> {
+    let alloc = rt.alloc();
+    let mut pending = Pending::new(alloc);
+    drop_and_touch(&mut pending, &[], &[9, 5, -3, 5])?;
+    let live = [(5, 40_000), (-3, 4_000), (6, 1)];
+    let told = touched(alloc, &mut pending, &live)?;
+    assert_eq!(rt; told.as_str(), "-3 4000; 5 40000; ");
+    assert_eq!(rt; touched(alloc, &mut pending, &live)?.as_str(), "");
+    Ok(())
+}
+
+// How many frames are held of a connection until it is full.
+fn held(alloc: Global) -> Result<usize, NoMemory> {
+    let mut pending = Pending::new(alloc);
+    for count in 0..=PENDING_LIMIT {
+        if pending.is_full(1) {
+            return Ok(count);
+        }
+        ask(alloc, &mut pending, &[(1, Asked::Frame(&[]))])?;
+    }
+    Ok(0)
+}
+
+#[test]
+fn a_connection_has_a_limit(rt: HostRuntime) -> Result<(), Fail> {
+    assert_eq!(rt; held(rt.alloc())?, 1024);
+    Ok(())
+}
