@@ -124,6 +124,7 @@ replay-holds l m = (refl, refl, tt)
 serve-holds : (l : Learner) (m : Message) → Holds l (message_in_serving l m)
 serve-holds l (message.Inform bytes) = inform-holds l bytes
 serve-holds l (message.Ping p) = (refl, refl, (refl, tt))
+serve-holds l message.Sync = (refl, refl, (refl, tt))
 serve-holds l m = (refl, refl, tt)
 
 load-holds : (p : ImagePart) (l : Learner) (zxid : ℤ) → Holds l (Ok (load_part p l zxid))
@@ -176,7 +177,7 @@ part-can-be ph l p = drop-can-be p
 
 learn-can-be : (l : Learner) (i : Item) → CanBeWritten i → CanBe (learn_item l i)
 learn-can-be l (item.Packet p) w =
-    packet-each CanBeDone tt tt tt (λ zxid. tt) epoch-writable acknowledgement-writable l p (ping-writable p w)
+    packet-each CanBeDone tt tt tt tt (λ zxid. tt) epoch-writable acknowledgement-writable l p (ping-writable p w)
 learn-can-be l (item.Part p) w = part-can-be l.phase l p
 
 start-can-be : (ph : Phase) (l : Learner) (server_id : ℤ) → AllByRecursion CanBeDone (start_in ph l server_id).acts
@@ -194,7 +195,7 @@ Apart (Err e) = Unit {0}
 
 packet-apart : (l : Learner) (p : QuorumPacket) → Apart (learn_item l (item.Packet p))
 packet-apart l p =
-    packet-each IsApart refl refl refl (λ zxid. refl) (λ l epoch. refl) (λ l. refl) l p refl
+    packet-each IsApart refl refl refl refl (λ zxid. refl) (λ l epoch. refl) (λ l. refl) l p refl
 
 pub acts_tell : ActsAccountForLog
 acts_tell = record {

@@ -12,7 +12,7 @@ use Rattle.quorum_packet.specs.declared.kind.PacketKind.TheVariants as kinds
 use Rattle.quorum_packet.specs.Kinds.{kind_of}
 use Rattle.txn_codec.specs.Spelling.{txn_format, value_of_whole}
 use Rattle.txn_codec.specs.declared.txn.Txn.{Txn}
-use Rattle.learner_sync.specs.Answers.{ack_epoch, epoch_ack, ping_reply}
+use Rattle.learner_sync.specs.Answers.{ack_epoch, epoch_ack}
 use Rattle.learner_sync.specs.Learner.{Learner}
 use Rattle.learner_sync.specs.Learn.{LearnerStep, no_acts, single_act, at_phase, accept_epoch, leader_info, message_in_hello, txns_up_to, with_truncated_log, truncate_log, await_image, message_in_sync, zxid_floor, with_applied, apply_txn, learn_inform, learn_proposal, commit_of, message_in_replay, message_in_serving, message_in_phase}
 use Rattle.learner_sync.specs.Messages.{message_of_kind, message_of_packet}
@@ -24,6 +24,7 @@ use Rattle.learner_sync.specs.declared.phase.Phase.{Phase}
 use Rattle.learner_sync.specs.declared.phase.Phase.TheVariants as phase
 
 module _ (P : Act → Type 0) (applies : P act.Apply) (epochs : P act.Epochs) (serves : P act.ServeFrom)
+    (settles : P act.SettleSync)
     (truncates : (zxid : ℤ) → P (act.Truncate zxid))
     (answers : (l : Learner) (epoch : ℤ) → P (act.Send (ack_epoch l epoch)))
     (acknowledges : (l : Learner) → P (act.Send (epoch_ack l))) where
@@ -121,11 +122,12 @@ module _ (P : Act → Type 0) (applies : P act.Apply) (epochs : P act.Epochs) (s
 
   -- It holds for the answer, where the message asks for one.
   abbrev Answered : Message → Type 0
-  Answered (message.Ping p) = P (act.Send (ping_reply p))
+  Answered (message.Ping p) = P (act.AnswerPing p)
   Answered m = Unit {0}
 
   serve-each : (l : Learner) (m : Message) → Answered m → Each (message_in_serving l m)
   serve-each l (message.Ping p) ping = (ping, tt)
+  serve-each l message.Sync ping = (settles, tt)
   serve-each l (message.Inform bytes) ping = inform-each l bytes
   serve-each l m ping = tt
 
@@ -138,10 +140,10 @@ module _ (P : Act → Type 0) (applies : P act.Apply) (epochs : P act.Epochs) (s
   message-each phase.Replay l m ping = replay-each l m
   message-each phase.Serving l m ping = serve-each l m ping
 
-  answered : (k : Option PacketKind) (p : QuorumPacket) → P (act.Send (ping_reply p)) → Answered (message_of_kind k p)
+  answered : (k : Option PacketKind) (p : QuorumPacket) → P (act.AnswerPing p) → Answered (message_of_kind k p)
   answered (Some kinds.Ping) p ping = ping
   answered k p ping = tt
 
-  pub packet-each : (l : Learner) (p : QuorumPacket) → P (act.Send (ping_reply p))
+  pub packet-each : (l : Learner) (p : QuorumPacket) → P (act.AnswerPing p)
       → Each (message_in_phase l.phase l (message_of_packet p))
   packet-each l p ping = message-each l.phase l (message_of_packet p) (answered (kind_of p.kind) p ping)

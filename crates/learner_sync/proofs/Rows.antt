@@ -28,4 +28,7 @@ worked_rows = record {
   none_proposed = refl;
   up_to_date = refl;
   ping = refl;
+  answer_to_ping = refl;
+  sync = refl;
+  sync_in_replay = refl;
 }

@@ -1,5 +1,5 @@
 -- The packets that a learner sends can be written.
-use Rattle.std.proofs.Common.{◌≡◌, ℤ, length, refl, arith}
+use Rattle.std.proofs.Common.{◌≡◌, ℕ, ℤ, List, length, ◌<◌, ◌^◌, refl, arith}
 use Rattle.jute.specs.Format.{int, number_bytes}
 use Rattle.quorum_packet.specs.Packet.{packet_format}
 use Rattle.quorum_packet.specs.declared.packet.QuorumPacket.{QuorumPacket}
@@ -28,6 +28,7 @@ pub acknowledgement-writable : (l : Learner) → packet_format.Writable (epoch_a
 unfolding packet_format
 acknowledgement-writable l = (tt, (tt, (tt, tt)))
 
-pub ping-writable : (p : QuorumPacket) → packet_format.Writable p → packet_format.Writable (ping_reply p)
+pub ping-writable : (p : QuorumPacket) → packet_format.Writable p → (table : List ℕ) → length table < 2 ^ 31
+    → packet_format.Writable (ping_reply p table)
 unfolding packet_format
-ping-writable p w = (tt, (tt, (omega arith, w.1.1.1)))
+ping-writable p w table fits = (tt, (tt, (fits, w.1.1.1)))

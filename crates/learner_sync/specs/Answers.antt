@@ -1,5 +1,5 @@
 -- The packets that a learner sends to its leader.
-use Rattle.std.specs.Prelude.{ℤ, pos, [], Some, None}
+use Rattle.std.specs.Prelude.{ℕ, ℤ, pos, List, Some, None}
 use Rattle.jute.specs.Format.{int}
 use Rattle.quorum_packet.specs.declared.packet.QuorumPacket.{QuorumPacket}
 use Rattle.quorum_packet.specs.declared.kind.PacketKind.TheVariants as kinds
@@ -38,6 +38,6 @@ epoch_ack l = record {
   authinfo = None;
 }
 
--- A PING is sent back with empty data.
-abbrev pub ping_reply : QuorumPacket → QuorumPacket
-ping_reply p = record p { bytes = Some [] }
+-- A PING is sent back with a table of sessions in place of its data.
+abbrev pub ping_reply : QuorumPacket → List ℕ → QuorumPacket
+ping_reply p table = record p { bytes = Some table }

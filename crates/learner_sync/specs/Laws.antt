@@ -1,5 +1,5 @@
 -- What holds for every learner: at the start, and whatever it learns.
-use Rattle.std.specs.Prelude.{◌≡◌, ℤ, pos, Bool, true, false, List, [], ◌∷◌, ◌++◌, Ok, ◌<ℤ◌, ◌≤ℤ◌, ◌⊎◌}
+use Rattle.std.specs.Prelude.{◌≡◌, ℕ, ◌<◌, ◌^◌, ℤ, pos, Bool, true, false, List, [], ◌∷◌, ◌++◌, length, Ok, ◌<ℤ◌, ◌≤ℤ◌, ◌⊎◌}
 use Rattle.std.specs.Int.{int_max}
 use Rattle.std.specs.List.{AllByRecursion}
 use Rattle.settings.specs.Settings.{EpochPair}
@@ -9,6 +9,7 @@ use Rattle.quorum_packet.specs.declared.item.Item.{Item}
 use Rattle.quorum_packet.specs.declared.item.Item.TheVariants as item
 use Rattle.quorum_packet.specs.declared.packet.QuorumPacket.{QuorumPacket}
 use Rattle.txn_codec.specs.declared.txn.Txn.{Txn}
+use Rattle.learner_sync.specs.Answers.{ping_reply}
 use Rattle.learner_sync.specs.Learner.{Learner, new_learner, primed_learner}
 use Rattle.learner_sync.specs.Learn.{LearnerStep, single_act, start_following, stop_following, checkpoint_learner, txns_up_to, zxid_after, learn_item}
 use Rattle.learner_sync.specs.declared.act.Act.{Act}
@@ -102,9 +103,11 @@ is_of_image act.LoadImage = true
 is_of_image act.DropImage = true
 is_of_image a = false
 
--- A packet to send can be written.
+-- A packet to send can be written, and so can the answer to a PING.
 abbrev pub CanBeDone : Act → Type 0
 CanBeDone (act.Send p) = packet_format.Writable p
+CanBeDone (act.AnswerPing p) =
+    (table : List ℕ) → length table < 2 ^ 31 → packet_format.Writable (ping_reply p table)
 CanBeDone a = Unit {0}
 
 pub record ActsAccountForLog : Type 0 where

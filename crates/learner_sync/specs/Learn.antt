@@ -15,7 +15,7 @@ use Rattle.snapshot_codec.specs.declared.part.ImagePart.{ImagePart}
 use Rattle.snapshot_codec.specs.declared.part.ImagePart.TheVariants as part
 use Rattle.txn_codec.specs.Spelling.{txn_format, value_of_whole}
 use Rattle.txn_codec.specs.declared.txn.Txn.{Txn}
-use Rattle.learner_sync.specs.Answers.{observer_info, ack_epoch, epoch_ack, ping_reply}
+use Rattle.learner_sync.specs.Answers.{observer_info, ack_epoch, epoch_ack}
 use Rattle.learner_sync.specs.Learner.{Learner}
 use Rattle.learner_sync.specs.Messages.{message_of_packet}
 use Rattle.learner_sync.specs.declared.act.Act.{Act}
@@ -179,7 +179,8 @@ message_in_replay l m = Ok (no_acts l)
 -- ---- serving
 
 abbrev pub message_in_serving : Learner → Message → Result LearnerStep Fault
-message_in_serving l (message.Ping p) = Ok (single_act (act.Send (ping_reply p)) l)
+message_in_serving l (message.Ping p) = Ok (single_act (act.AnswerPing p) l)
+message_in_serving l message.Sync = Ok (single_act act.SettleSync l)
 message_in_serving l (message.Inform bytes) = learn_inform l bytes
 message_in_serving l m = Ok (no_acts l)
 

@@ -6,7 +6,7 @@ use Rattle.quorum_packet.specs.declared.kind.PacketKind.TheVariants as kinds
 use Rattle.quorum_packet.specs.Kinds.{kind_of}
 use Rattle.learner_sync.specs.Zxids.{epoch_of}
 use Rattle.learner_sync.specs.declared.message.Message.{Message}
-use Rattle.learner_sync.specs.declared.message.Message.TheVariants.{LeaderInfo, Diff, Trunc, Snap, Proposal, Commit, Inform, NewLeader, UpToDate, Ping, Other}
+use Rattle.learner_sync.specs.declared.message.Message.TheVariants.{LeaderInfo, Diff, Trunc, Snap, Proposal, Commit, Inform, NewLeader, UpToDate, Ping, Sync, Other}
 
 -- The data of a packet; null reads as empty.
 abbrev pub carried_bytes : Option (List ℕ) → List ℕ
@@ -25,6 +25,7 @@ message_of_kind (Some kinds.Inform) p = Inform (carried_bytes p.bytes)
 message_of_kind (Some kinds.NewLeader) p = NewLeader
 message_of_kind (Some kinds.UpToDate) p = UpToDate
 message_of_kind (Some kinds.Ping) p = Ping p
+message_of_kind (Some kinds.Sync) p = Sync
 message_of_kind kind p = Other
 
 abbrev pub message_of_packet : QuorumPacket → Message

@@ -11,6 +11,7 @@ use Rattle.quorum_packet.specs.Kinds.{code_of}
 use Rattle.txn_codec.specs.declared.txn.Txn.{Txn}
 use Rattle.txn_codec.specs.declared.txn.Body.TheVariants as bodies
 use Rattle.snapshot_codec.specs.declared.part.ImagePart.TheVariants as part
+use Rattle.learner_sync.specs.Answers.{ping_reply}
 use Rattle.learner_sync.specs.Learner.{Learner, new_learner}
 use Rattle.learner_sync.specs.Learn.{single_act, no_acts, start_following, learn_item, apply_txn}
 use Rattle.learner_sync.specs.declared.act.Act.TheVariants as act
@@ -122,8 +123,16 @@ pub record WorkedRows : Type 0 where
         acts = act.Epochs ∷ act.Send (sent_packet (pos 3) (zxid_at 0) None) ∷ act.ServeFrom ∷ [];
         after = learner_in_phase phase.Serving (pos 0) (pos 0) [] [];
       })
-  -- Null data is sent back as data of length 0.
   pub ping :
       learn_item (learner_in_phase phase.Serving (zxid_at 2) (pos 0) [] []) (packet_item kinds.Ping (zxid_at 2) None)
-      ≡ Ok (single_act (act.Send (sent_packet (pos 5) (zxid_at 2) (Some [])))
+      ≡ Ok (single_act (act.AnswerPing (sent_packet (pos 5) (zxid_at 2) None))
       (learner_in_phase phase.Serving (zxid_at 2) (pos 0) [] []))
+  -- Null data is sent back as data of length 0.
+  pub answer_to_ping : ping_reply (sent_packet (pos 5) (zxid_at 2) None) [] ≡ sent_packet (pos 5) (zxid_at 2) (Some [])
+  pub sync :
+      learn_item (learner_in_phase phase.Serving (zxid_at 2) (pos 0) [] []) (packet_item kinds.Sync (pos 0) None)
+      ≡ Ok (single_act act.SettleSync (learner_in_phase phase.Serving (zxid_at 2) (pos 0) [] []))
+  -- Before clients are served nobody waits for a sync.
+  pub sync_in_replay :
+      learn_item (learner_in_phase phase.Replay (zxid_at 2) (pos 0) [] []) (packet_item kinds.Sync (pos 0) None)
+      ≡ Ok (no_acts (learner_in_phase phase.Replay (zxid_at 2) (pos 0) [] []))

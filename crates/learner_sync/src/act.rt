@@ -8,6 +8,10 @@ use snapshot_codec::ImagePart;
 pub enum Act {
     /// Send the packet to the leader.
     Send(QuorumPacket),
+    /// Answer the leader's PING; the packet is the PING itself.
+    AnswerPing(QuorumPacket),
+    /// The leader has done the oldest sync that it was asked for.
+    SettleSync,
     /// Apply the last transaction of the log to the tree.
     Apply,
     /// Load the part, apart from the tree.

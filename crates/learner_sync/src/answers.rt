@@ -83,12 +83,12 @@ impl Learner {
     }
 }
 
-// The answer to a PING: the same packet with empty data. Allocates nothing.
-pub fn ping_answer(alloc: Global, packet: QuorumPacket) -> QuorumPacket
-    ensures { result ≡ ping_reply packet }
+/// The answer to a PING: the same packet with this table of sessions as its data. Allocates nothing.
+pub fn ping_answer(packet: QuorumPacket, table: Blob) -> QuorumPacket
+    ensures { result ≡ ping_reply packet table }
 {
     QuorumPacket {
-        bytes: Some(Blob::from_vec(Vec::new(alloc))),
+        bytes: Some(table),
         ..packet
     }
 }

@@ -30,6 +30,7 @@ mod step;
 mod zxid;
 
 pub use act::Act;
+pub use answers::ping_answer;
 pub use learner::Learner;
 pub use phase::Phase;
 pub use record::LearnerInfo;

@@ -32,8 +32,10 @@ pub enum Message {
     NewLeader,
     /// The learner is up to date and may serve.
     UpToDate,
-    /// The leader asks whether the learner is alive. The packet itself is sent back.
+    /// The leader asks whether the learner is alive. The packet itself is sent back, with other data.
     Ping(QuorumPacket),
+    /// The leader has done the oldest sync that it was asked for.
+    Sync,
     /// Any other kind, known or unknown.
     Other,
 }
@@ -66,12 +68,12 @@ pub fn message_of_packet(alloc: Global, packet: QuorumPacket) -> Message
         Some(PacketKind::NewLeader) => Message::NewLeader,
         Some(PacketKind::UpToDate) => Message::UpToDate,
         Some(PacketKind::Ping) => Message::Ping(packet),
+        Some(PacketKind::Sync) => Message::Sync,
         None
         | Some(
             PacketKind::Request
             | PacketKind::Ack
             | PacketKind::Revalidate
-            | PacketKind::Sync
             | PacketKind::FollowerInfo
             | PacketKind::ObserverInfo
             | PacketKind::AckEpoch,

@@ -6,7 +6,7 @@ ghost use Rattle.std.specs.Prelude.{◌≡◌, int_lt, Ok};
 ghost use Rattle.learner_sync.specs.Learn.{LearnsItem, zxid_floor, with_applied_zxid, learn_inform, learn_proposal, learn_commit, new_leader, up_to_date, message_in_replay, message_in_serving};
 
 use crate::act::Act;
-use crate::answers::{act_list, empty_act_list, ping_answer};
+use crate::answers::{act_list, empty_act_list};
 use crate::learner::Learner;
 use crate::message::Message;
 use crate::phase::Phase;
@@ -132,6 +132,7 @@ impl Learner {
             | Message::Trunc(_)
             | Message::Snap(_)
             | Message::Ping(_)
+            | Message::Sync
             | Message::Other => Ok(empty_act_list(alloc)),
         }
     }
@@ -145,7 +146,8 @@ impl Learner {
         ensures { LearnsItem result (message_in_serving self.old message) self.old self.new }
     {
         match message {
-            Message::Ping(packet) => Ok(act_list(alloc, Act::Send(ping_answer(alloc, packet)))?),
+            Message::Ping(packet) => Ok(act_list(alloc, Act::AnswerPing(packet))?),
+            Message::Sync => Ok(act_list(alloc, Act::SettleSync)?),
             Message::Inform(bytes) => self.inform(alloc, bytes.as_slice()),
             Message::LeaderInfo { .. }
             | Message::Diff

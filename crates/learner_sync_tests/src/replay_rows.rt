@@ -131,9 +131,10 @@ fn truncates_to_base(rt: HostRuntime) -> Result<(), Fail> {
 fn serves(rt: HostRuntime) -> Result<(), Fail> {
     let alloc = rt.alloc();
     let mut learner = with_base(alloc)?;
-    let acts = follow(alloc, &mut learner, packet(PacketKind::Ping, at(2), None))?;
-    let empty: &[u8] = b"";
-    assert!(rt; sends(&acts, 1, 5, at(2), Some(empty)));
+    let ping = packet(PacketKind::Ping, at(2), None);
+    assert!(rt; does(alloc, &mut learner, ping, Seen::AnswerPing(at(2)))?);
+    let synced = packet(PacketKind::Sync, 0, None);
+    assert!(rt; does(alloc, &mut learner, synced, Seen::SettleSync)?);
     let passed = packet(PacketKind::Snap, -1, None);
     assert!(rt; does(alloc, &mut learner, passed, Seen::Nothing)?);
     let none = packet(PacketKind::Inform, at(6), None);

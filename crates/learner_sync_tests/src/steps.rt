@@ -79,6 +79,9 @@ pub fn come(
 #[derive(Clone, Copy, PartialEq)]
 pub enum Seen {
     Nothing,
+    /// A PING with this zxid is to be answered.
+    AnswerPing(i64),
+    SettleSync,
     Apply,
     LoadPart,
     LoadImage,
@@ -98,6 +101,8 @@ fn see(alloc: Global, learner: &mut Learner, item: Item) -> Result<Seen, NoMemor
     };
     Ok(match acts.as_slice() {
         [] => Seen::Nothing,
+        [Act::AnswerPing(ping)] => Seen::AnswerPing(ping.zxid),
+        [Act::SettleSync] => Seen::SettleSync,
         [Act::Apply] => Seen::Apply,
         [Act::LoadPart(_)] => Seen::LoadPart,
         [Act::LoadImage] => Seen::LoadImage,

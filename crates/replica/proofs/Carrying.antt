@@ -23,7 +23,8 @@ use Rattle.learner_sync.specs.Laws.{is_only_act, AccountsForLog, CanBeDone, Acts
 use Rattle.learner_sync.specs.declared.act.Act.{Act}
 use Rattle.learner_sync.specs.declared.act.Act.TheVariants as act
 use Rattle.replica.specs.Replica.{Replica}
-use Rattle.replica.specs.Taking.{ItemEffect, nothing_loaded, no_effect, last_txn, apply_to_tree, with_image_state, rebuild_tree, carry_out, carry_out_all, with_learner, take_item, packets_of_act, TakesItem}
+use Rattle.replica.specs.declared.item_outcome.LeaderNews.TheVariants as news
+use Rattle.replica.specs.Taking.{ItemEffect, nothing_loaded, no_effect, last_txn, apply_to_tree, with_image_state, rebuild_tree, carry_out, carry_out_all, with_learner, take_item, packets_of_act, TakesItem, IsAnswerable}
 use Rattle.replica.specs.Inner.{with_triggers, is_part_load, IsPartAlone}
 use Rattle.replica.specs.declared.item_outcome.ItemOutcome.{ItemOutcome}
 
@@ -156,6 +157,8 @@ told-apart (act.Apply ∷ a ∷ acts) l after tell = inr (others-of (act.Apply �
 told-apart (act.Truncate zxid ∷ a ∷ acts) l after tell = inr (others-of (act.Truncate zxid ∷ a ∷ acts) tell.2)
 told-apart (act.LoadImage ∷ a ∷ acts) l after tell = inr (others-of (act.LoadImage ∷ a ∷ acts) tell.2)
 told-apart (act.Send p ∷ acts) l after tell = inr (others-of (act.Send p ∷ acts) tell.2)
+told-apart (act.AnswerPing p ∷ acts) l after tell = inr (others-of (act.AnswerPing p ∷ acts) tell.2)
+told-apart (act.SettleSync ∷ acts) l after tell = inr (others-of (act.SettleSync ∷ acts) tell.2)
 told-apart (act.DropImage ∷ acts) l after tell = inr (others-of (act.DropImage ∷ acts) tell.2)
 told-apart (act.Epochs ∷ acts) l after tell = inr (others-of (act.Epochs ∷ acts) tell.2)
 told-apart (act.ServeFrom ∷ acts) l after tell = inr (others-of (act.ServeFrom ∷ acts) tell.2)
@@ -175,6 +178,10 @@ never-refused t [] e h refused = cc
 never-refused t (act.LoadPart p ∷ acts) e h refused = cc (h.0)
 never-refused t (act.Send p ∷ acts) e h refused =
     never-refused (record t { replies = t.replies ++ p ∷ [] }) acts e h.1 refused
+never-refused t (act.AnswerPing p ∷ acts) e h refused =
+    never-refused (record t { news = Some (news.Ping p) }) acts e h.1 refused
+never-refused t (act.SettleSync ∷ acts) e h refused =
+    never-refused (record t { news = Some news.SyncSettled }) acts e h.1 refused
 never-refused t (act.Apply ∷ acts) e h refused =
     never-refused (apply_to_tree t (last_txn t.replica.learner.log)) acts e h.1 refused
 never-refused t (act.LoadImage ∷ acts) e h refused =
@@ -230,35 +237,43 @@ all-push : (ps : List QuorumPacket) (p : QuorumPacket) → AreWritable ps → pa
 all-push [] p h w = (w, tt)
 all-push (q ∷ ps) p h w = (h.0, all-push ps p h.1 w)
 
+-- The replies can be written, and so can the answer to a PING.
+abbrev CanBeSent : ItemEffect → Type 0
+CanBeSent t = AreWritable t.replies × IsAnswerable t.news
+
 abbrev Written : Result ItemEffect Fault → Type 0
-Written (Ok t) = AreWritable t.replies
+Written (Ok t) = CanBeSent t
 Written (Err e) = Unit {0}
 
-replies-written : (t : ItemEffect) (acts : List Act) → AllByRecursion CanBeDone acts → AreWritable t.replies
+acts-written : (t : ItemEffect) (acts : List Act) → AllByRecursion CanBeDone acts → CanBeSent t
     → Written (carry_out_all t acts)
-replies-written t [] h w = w
-replies-written t (act.Send p ∷ acts) h w =
-    replies-written (record t { replies = t.replies ++ p ∷ [] }) acts h.1 (all-push t.replies p w h.0)
-replies-written t (act.Apply ∷ acts) h w =
-    by (last_txn t.replica.learner.log) (λ u same. replies-written u acts h.1 (subst AreWritable (sym same) w))
+acts-written t [] h w = w
+acts-written t (act.Send p ∷ acts) h w =
+    acts-written (record t { replies = t.replies ++ p ∷ [] }) acts h.1 (all-push t.replies p w.0 h.0, w.1)
+acts-written t (act.AnswerPing p ∷ acts) h w =
+    acts-written (record t { news = Some (news.Ping p) }) acts h.1 (w.0, h.0)
+acts-written t (act.SettleSync ∷ acts) h w =
+    acts-written (record t { news = Some news.SyncSettled }) acts h.1 (w.0, tt)
+acts-written t (act.Apply ∷ acts) h w =
+    by (last_txn t.replica.learner.log) (λ u sent. acts-written u acts h.1 (sent w))
   where
-    by : (o : Option Txn) → ((u : ItemEffect) → u.replies ≡ t.replies → Written (carry_out_all u acts))
+    by : (o : Option Txn) → ((u : ItemEffect) → (CanBeSent t → CanBeSent u) → Written (carry_out_all u acts))
         → Written (carry_out_all (apply_to_tree t o) acts)
-    by None others = others t refl
-    by (Some txn) others = others (apply_to_tree t (Some txn)) refl
-replies-written t (act.LoadPart p ∷ acts) h w =
-    by (with_loaded t.loading p) (λ loaded. replies-written (record t { loading = loaded }) acts h.1 w)
+    by None others = others t (λ sent. sent)
+    by (Some txn) others = others (apply_to_tree t (Some txn)) (λ sent. sent)
+acts-written t (act.LoadPart p ∷ acts) h w =
+    by (with_loaded t.loading p) (λ loaded. acts-written (record t { loading = loaded }) acts h.1 w)
   where
     by : (x : Result Loading Fault)
         → ((loaded : Loading) → Written (carry_out_all (record t { loading = loaded }) acts))
         → Written ((x >>= λ loaded. Ok (record t { loading = loaded })) >>= λ u. carry_out_all u acts)
     by (Ok loaded) others = others loaded
     by (Err e) others = tt
-replies-written t (act.LoadImage ∷ acts) h w = replies-written (with_image_state t t.loading.made.state) acts h.1 w
-replies-written t (act.DropImage ∷ acts) h w = replies-written (record t { loading = nothing_loaded }) acts h.1 w
-replies-written t (act.Truncate zxid ∷ acts) h w = replies-written (rebuild_tree t) acts h.1 w
-replies-written t (act.Epochs ∷ acts) h w = replies-written t acts h.1 w
-replies-written t (act.ServeFrom ∷ acts) h w = replies-written t acts h.1 w
+acts-written t (act.LoadImage ∷ acts) h w = acts-written (with_image_state t t.loading.made.state) acts h.1 w
+acts-written t (act.DropImage ∷ acts) h w = acts-written (record t { loading = nothing_loaded }) acts h.1 w
+acts-written t (act.Truncate zxid ∷ acts) h w = acts-written (rebuild_tree t) acts h.1 w
+acts-written t (act.Epochs ∷ acts) h w = acts-written t acts h.1 w
+acts-written t (act.ServeFrom ∷ acts) h w = acts-written t acts h.1 w
 
 take-written : (tells : ActsAccountForLog) (loading : Loading) (r : Replica) (i : Item) → CanBeWritten i
     → Written (take_item loading r i)
@@ -267,15 +282,29 @@ take-written tells loading r i w = by (learn_item r.learner i) refl
     by : (x : Result LearnerStep Fault) → learn_item r.learner i ≡ x
         → Written (x >>= λ x. carry_out_all (no_effect loading (with_learner r x)) x.acts)
     by (Ok x) e =
-        replies-written (no_effect loading (with_learner r x)) x.acts (tells.sends r.learner i x e w) tt
+        acts-written (no_effect loading (with_learner r x)) x.acts (tells.sends r.learner i x e w) (tt, tt)
     by (Err fault) e = tt
 
-pub item-written : (tells : ActsAccountForLog) (loading : Loading) (r : Replica) (i : Item)
+module _ (tells : ActsAccountForLog) (loading : Loading) (r : Replica) (i : Item)
     (result : Result ItemOutcome ReadError) (loading-after : Loading) (r-after : Replica)
-    → TakesItem result (take_item loading r i) loading r loading-after r-after → CanBeWritten i
-    → IfOk result (λ b. AreWritable b.replies)
-item-written tells loading r i (Ok b) loading-after r-after t w = subst Written t (take-written tells loading r i w)
-item-written tells loading r i (Err e) loading-after r-after t w = tt
+    (taken : TakesItem result (take_item loading r i) loading r loading-after r-after) (w : CanBeWritten i) where
+  pub replies-written : IfOk result (λ b. AreWritable b.replies)
+  replies-written = by result taken
+    where
+      by : (result : Result ItemOutcome ReadError)
+          → TakesItem result (take_item loading r i) loading r loading-after r-after
+          → IfOk result (λ b. AreWritable b.replies)
+      by (Ok b) t = (subst Written t (take-written tells loading r i w)).0
+      by (Err e) t = tt
+
+  pub news-answerable : IfOk result (λ b. IsAnswerable b.news)
+  news-answerable = by result taken
+    where
+      by : (result : Result ItemOutcome ReadError)
+          → TakesItem result (take_item loading r i) loading r loading-after r-after
+          → IfOk result (λ b. IsAnswerable b.news)
+      by (Ok b) t = (subst Written t (take-written tells loading r i w)).1
+      by (Err e) t = tt
 
 -- ---- the packet that introduces the replica
 

@@ -18,6 +18,7 @@ use Rattle.learner_sync.specs.declared.act.Act.TheVariants as act
 use Rattle.learner_sync.specs.declared.phase.Phase.{Phase}
 use Rattle.learner_sync.specs.declared.phase.Phase.TheVariants as phase
 use Rattle.replica.specs.Replica.{Replica}
+use Rattle.replica.specs.declared.item_outcome.LeaderNews.TheVariants as news
 use Rattle.replica.specs.Taking.{ItemEffect, nothing_loaded, no_effect, last_txn, apply_to_tree, carry_out_all, take_item, is_serving_in, checkpoint_if}
 use Rattle.replica.specs.Laws.{FollowsItsLog, LogsAreFollowed}
 
@@ -45,6 +46,8 @@ stays : (t : ItemEffect) (acts : List Act) → AllByRecursion (λ a. is_only_act
     → Follows (carry_out_all t acts)
 stays t [] h f = f
 stays t (act.Send p ∷ acts) h f = stays (record t { replies = t.replies ++ p ∷ [] }) acts h.1 f
+stays t (act.AnswerPing p ∷ acts) h f = stays (record t { news = Some (news.Ping p) }) acts h.1 f
+stays t (act.SettleSync ∷ acts) h f = stays (record t { news = Some news.SyncSettled }) acts h.1 f
 stays t (act.DropImage ∷ acts) h f = stays (record t { loading = nothing_loaded }) acts h.1 f
 stays t (act.Epochs ∷ acts) h f = stays t acts h.1 f
 stays t (act.ServeFrom ∷ acts) h f = stays t acts h.1 f
@@ -87,6 +90,8 @@ module _ (loading : Loading) (r : Replica) (l : Learner) (is : r.tree ≡ state_
   done (act.LoadPart p ∷ acts) tell =
       subst (λ (xs : List Act). Follows (carry_out_all begun (act.LoadPart p ∷ xs))) (sym tell.0) (loads p tell.1)
   done (act.Send p ∷ acts) tell = stays begun (act.Send p ∷ acts) tell.2 (same-log tell.0)
+  done (act.AnswerPing p ∷ acts) tell = stays begun (act.AnswerPing p ∷ acts) tell.2 (same-log tell.0)
+  done (act.SettleSync ∷ acts) tell = stays begun (act.SettleSync ∷ acts) tell.2 (same-log tell.0)
   done (act.DropImage ∷ acts) tell = stays begun (act.DropImage ∷ acts) tell.2 (same-log tell.0)
   done (act.Epochs ∷ acts) tell = stays begun (act.Epochs ∷ acts) tell.2 (same-log tell.0)
   done (act.ServeFrom ∷ acts) tell = stays begun (act.ServeFrom ∷ acts) tell.2 (same-log tell.0)

@@ -28,6 +28,7 @@ use Rattle.learner_sync.specs.declared.message.Message.TheVariants as message
 use Rattle.learner_sync.specs.declared.phase.Phase.{Phase}
 use Rattle.learner_sync.specs.declared.phase.Phase.TheVariants as phase
 use Rattle.replica.specs.Replica.{Replica}
+use Rattle.replica.specs.declared.item_outcome.LeaderNews.TheVariants as news
 use Rattle.replica.specs.Taking.{ItemEffect, nothing_loaded, no_effect, last_txn, apply_to_tree, rebuild_tree, carry_out_all, with_learner, take_item, loading_of, take_whole}
 use Rattle.replica.specs.Laws.{awaits_image_in, awaits_image, with_given_loading, ImagesComeInParts}
 
@@ -43,6 +44,8 @@ apart : (loading : Loading) (t : ItemEffect) (acts : List Act) → AllByRecursio
     ≡ (carry_out_all t acts >>= λ u. Ok (with_given_loading loading u))
 apart loading t [] h = refl
 apart loading t (act.Send p ∷ acts) h = apart loading (record t { replies = t.replies ++ p ∷ [] }) acts h.1
+apart loading t (act.AnswerPing p ∷ acts) h = apart loading (record t { news = Some (news.Ping p) }) acts h.1
+apart loading t (act.SettleSync ∷ acts) h = apart loading (record t { news = Some news.SyncSettled }) acts h.1
 apart loading t (act.Apply ∷ acts) h = by (last_txn t.replica.learner.log) (λ u. apart loading u acts h.1)
   where
     by : (o : Option Txn)

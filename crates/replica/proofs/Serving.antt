@@ -11,6 +11,7 @@ use Rattle.learner_sync.specs.declared.act.Act.{Act}
 use Rattle.learner_sync.specs.declared.act.Act.TheVariants as act
 use Rattle.learner_sync.specs.declared.phase.Phase.{Phase}
 use Rattle.learner_sync.specs.declared.phase.Phase.TheVariants as phase
+use Rattle.replica.specs.declared.item_outcome.LeaderNews.TheVariants as news
 use Rattle.replica.specs.Taking.{ItemEffect, nothing_loaded, no_effect, last_txn, apply_to_tree, with_image_state, rebuild_tree, carry_out_all, with_learner, is_serving_in, is_serving}
 use Rattle.replica.specs.Laws.{ServingStays}
 
@@ -23,6 +24,8 @@ Serves (Err e) = Unit {0}
 carried-serves : (t : ItemEffect) (acts : List Act) → is_serving t.replica ≡ true → Serves (carry_out_all t acts)
 carried-serves t [] s = s
 carried-serves t (act.Send p ∷ acts) s = carried-serves (record t { replies = t.replies ++ p ∷ [] }) acts s
+carried-serves t (act.AnswerPing p ∷ acts) s = carried-serves (record t { news = Some (news.Ping p) }) acts s
+carried-serves t (act.SettleSync ∷ acts) s = carried-serves (record t { news = Some news.SyncSettled }) acts s
 carried-serves t (act.Apply ∷ acts) s =
     by (last_txn t.replica.learner.log) (λ u same. carried-serves u acts (ap is_serving_in same ∙ s))
   where

@@ -1,5 +1,5 @@
 -- The contracts of the private functions.
-use Rattle.std.specs.Prelude.{◌≡◌, Bool, true, false, List, [], ◌∷◌, Result, Ok, Err}
+use Rattle.std.specs.Prelude.{◌≡◌, Bool, true, false, List, [], ◌∷◌, None, Result, Ok, Err}
 use Rattle.std.specs.List.{AllByRecursion}
 use Rattle.values.specs.declared.fault.Fault.{Fault}
 use Rattle.values.specs.declared.fault.ReadError.{ReadError}
@@ -14,7 +14,8 @@ use Rattle.replica.specs.Taking.{ItemEffect, nothing_loaded, carry_out}
 
 -- A replica and the triggers so far.
 abbrev pub with_triggers : List Trigger → Replica → ItemEffect
-with_triggers triggers r = record { replies = []; triggers = triggers; loading = nothing_loaded; replica = r }
+with_triggers triggers r =
+    record { replies = []; triggers = triggers; news = None; loading = nothing_loaded; replica = r }
 
 -- The acts, and the replica with the learner after the item; or the replica is as it was.
 abbrev pub UpdatesLearner : Result (List Act) ReadError → Result LearnerStep Fault → Replica → Replica → Type 0

@@ -1,6 +1,6 @@
 -- What a replica does for its leader: it takes packets and the parts of images, and gives packets for the leader and
 -- the triggers of what changed in the tree.
-use Rattle.std.specs.Prelude.{◌≡◌, ℤ, Bool, true, false, List, [], ◌∷◌, ◌++◌, Option, Some, None, Result, Ok, Err}
+use Rattle.std.specs.Prelude.{◌≡◌, ℕ, ◌<◌, ◌^◌, length, ℤ, Bool, true, false, List, [], ◌∷◌, ◌++◌, Option, Some, None, Result, Ok, Err}
 use Rattle.std.specs.List.{flat_map}
 use Rattle.std.specs.FinMap as finmap
 use Rattle.values.specs.declared.fault.Fault.{Fault}
@@ -17,6 +17,8 @@ use Rattle.quorum_packet.specs.WholeItems.{WholeItem, OnePacket, OneImage}
 use Rattle.quorum_packet.specs.declared.item.Item.{Item}
 use Rattle.quorum_packet.specs.declared.item.Item.TheVariants as item
 use Rattle.quorum_packet.specs.declared.packet.QuorumPacket.{QuorumPacket}
+use Rattle.quorum_packet.specs.Packet.{packet_format}
+use Rattle.learner_sync.specs.Answers.{ping_reply}
 use Rattle.learner_sync.specs.Learn.{LearnerStep, learn_item, start_following, stop_following, checkpoint_learner}
 use Rattle.learner_sync.specs.declared.act.Act.{Act}
 use Rattle.learner_sync.specs.declared.act.Act.TheVariants as act
@@ -24,6 +26,8 @@ use Rattle.learner_sync.specs.declared.phase.Phase.{Phase}
 use Rattle.learner_sync.specs.declared.phase.Phase.TheVariants as phase
 use Rattle.replica.specs.Replica.{Replica}
 use Rattle.replica.specs.declared.item_outcome.ItemOutcome.{ItemOutcome}
+use Rattle.replica.specs.declared.item_outcome.LeaderNews.{LeaderNews}
+use Rattle.replica.specs.declared.item_outcome.LeaderNews.TheVariants as news
 
 -- What an item causes, and the state after it.
 pub record ItemEffect : Type 0 where
@@ -31,6 +35,8 @@ pub record ItemEffect : Type 0 where
   pub replies : List QuorumPacket
   -- Triggers for the watchers, in order.
   pub triggers : List Trigger
+  -- What the leader asks or tells that concerns more than the replica.
+  pub news : Option LeaderNews
   -- The image that is being loaded.
   pub loading : Loading
   pub replica : Replica
@@ -40,7 +46,7 @@ abbrev pub nothing_loaded : Loading
 nothing_loaded = record { made = no_loaded_parts; ended = false }
 
 abbrev pub no_effect : Loading → Replica → ItemEffect
-no_effect loading r = record { replies = []; triggers = []; loading = loading; replica = r }
+no_effect loading r = record { replies = []; triggers = []; news = None; loading = loading; replica = r }
 
 -- ---- acts
 
@@ -68,6 +74,8 @@ rebuild_tree t = record t { replica = record t.replica { tree = state_after t.re
 -- Only a part to load can be refused.
 abbrev pub carry_out : ItemEffect → Act → Result ItemEffect Fault
 carry_out t (act.Send packet) = Ok (record t { replies = t.replies ++ packet ∷ [] })
+carry_out t (act.AnswerPing ping) = Ok (record t { news = Some (news.Ping ping) })
+carry_out t act.SettleSync = Ok (record t { news = Some news.SyncSettled })
 carry_out t act.Apply = Ok (apply_to_tree t (last_txn t.replica.learner.log))
 carry_out t (act.LoadPart p) = with_loaded t.loading p >>= λ loading. Ok (record t { loading = loading })
 carry_out t act.LoadImage = Ok (with_image_state t t.loading.made.state)
@@ -134,6 +142,12 @@ checkpoint_replica r = checkpoint_if (is_serving r) r
 
 -- ---- the contract of `take`
 
+-- The answer to a PING can be written, whatever its table of sessions.
+abbrev pub IsAnswerable : Option LeaderNews → Type 0
+IsAnswerable (Some (news.Ping ping)) =
+    (table : List ℕ) → length table < 2 ^ 31 → packet_format.Writable (ping_reply ping table)
+IsAnswerable brought = Unit {0}
+
 -- An item was taken. Or it is refused for its fault, and the loader and the replica are as they were. After a refused
 -- allocation both are unspecified.
 abbrev pub TakesItem : Result ItemOutcome ReadError → Result ItemEffect Fault → Loading → Replica → Loading → Replica
@@ -143,6 +157,7 @@ TakesItem (Ok brought) taken loading r loading-after r-after =
     ≡ Ok (record {
       replies = brought.replies;
       triggers = brought.triggers;
+      news = brought.news;
       loading = loading-after;
       replica = r-after;
     })

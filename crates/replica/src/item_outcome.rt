@@ -4,6 +4,15 @@ use data_tree::Trigger;
 use quorum_packet::QuorumPacket;
 use values::Listed;
 
+/// What the leader asks or tells that concerns more than its replica.
+#[derive(Debug, Drop)]
+pub enum LeaderNews {
+    /// The leader asks whether the observer is alive, and which sessions are. This is its PING.
+    Ping(QuorumPacket),
+    /// The leader has done the oldest sync that it was asked for.
+    SyncSettled,
+}
+
 /// What an item of the leader's stream causes.
 #[derive(Debug, Drop)]
 pub struct ItemOutcome {
@@ -11,4 +20,6 @@ pub struct ItemOutcome {
     pub replies: Listed<QuorumPacket>,
     /// Triggers for the watchers, in order.
     pub triggers: Listed<Trigger>,
+    /// What is left for the caller to answer, if there is anything.
+    pub news: Option<LeaderNews>,
 }

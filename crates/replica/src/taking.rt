@@ -8,10 +8,10 @@ ghost use Rattle.quorum_packet.specs.Feed.{CanBeWritten};
 ghost use Rattle.quorum_packet.specs.Packet.{packet_format};
 ghost use Rattle.data_tree.specs.Meaning.{state_after};
 ghost use Rattle.learner_sync.specs.Learn.{learn_item};
-ghost use Rattle.replica.specs.Taking.{TakesItem, nothing_loaded, no_effect, last_txn, apply_to_tree, carry_out_all, take_item};
+ghost use Rattle.replica.specs.Taking.{TakesItem, IsAnswerable, nothing_loaded, no_effect, last_txn, apply_to_tree, carry_out_all, take_item};
 ghost use Rattle.replica.specs.Inner.{with_triggers, UpdatesLearner, CarriesOutAct, IsPartAlone};
 
-use crate::item_outcome::ItemOutcome;
+use crate::item_outcome::{ItemOutcome, LeaderNews};
 use crate::replica::Replica;
 use data_tree::{Tree, Trigger};
 use learner_sync::Act;
@@ -83,13 +83,34 @@ impl Replica {
         act: Act,
         replies: &mut Vec<QuorumPacket>,
         triggers: &mut Listed<Trigger>,
+        news: &mut Option<LeaderNews>,
     ) -> Result<(), ReadError>
         ensures { CarriesOutAct result act
-            (record { replies = replies.old.items; triggers = triggers.old; loading = loader.old; replica = self.old })
-            (record { replies = replies.new.items; triggers = triggers.new; loading = loader.new; replica = self.new }) }
+            (record {
+              replies = replies.old.items;
+              triggers = triggers.old;
+              news = news.old;
+              loading = loader.old;
+              replica = self.old;
+            })
+            (record {
+              replies = replies.new.items;
+              triggers = triggers.new;
+              news = news.new;
+              loading = loader.new;
+              replica = self.new;
+            }) }
     {
         match act {
             Act::Send(packet) => return Ok(replies.push(packet)?),
+            Act::AnswerPing(packet) => {
+                *news = Some(LeaderNews::Ping(packet));
+                return Ok(());
+            }
+            Act::SettleSync => {
+                *news = Some(LeaderNews::SyncSettled);
+                return Ok(());
+            }
             Act::Apply => return Ok(self.apply_last(alloc, triggers)?),
             Act::LoadPart(part) => return loader.part(alloc, part),
             Act::LoadImage => return Ok(self.load_image(alloc, loader)?),
@@ -115,17 +136,19 @@ impl Replica {
     {
         let mut replies = Vec::new(alloc);
         let mut triggers = Listed::from_vec(Vec::new(alloc));
+        let mut news = None;
         for act in acts.into_vec() {
-            self.carry_out(alloc, loader, act, &mut replies, &mut triggers)?;
+            self.carry_out(alloc, loader, act, &mut replies, &mut triggers, &mut news)?;
         }
         Ok(ItemOutcome {
             replies: Listed::from_vec(replies),
             triggers,
+            news,
         })
     }
 
-    /// Takes the next item of the leader's stream, and returns the packets for the leader and the triggers for
-    /// watchers.
+    /// Takes the next item of the leader's stream, and returns the packets for the leader, the triggers for watchers,
+    /// and what is left for the caller to answer.
     ///
     /// The faults are those of `Learner::step`, and `BadImage` if a part doesn't fit those before it. A refused item
     /// leaves the loader and the replica as they were. After a refused allocation both are unspecified, and the caller
@@ -139,9 +162,22 @@ impl Replica {
         ensures takes { TakesItem result (take_item loader.old self.old item) loader.old self.old loader.new self.new }
         ensures writable { CanBeWritten item
             → IfOk result (λ brought. AllByRecursion packet_format.Writable brought.replies) }
+        ensures answerable { CanBeWritten item → IfOk result (λ brought. IsAnswerable brought.news) }
     {
         learner_sync::law::acts();
         let acts = self.learn(alloc, item)?;
+        // What most items come to is done without going through a list.
+        if let [Act::Apply] = acts.as_slice() {
+            let replies = Listed::from_vec(Vec::new(alloc));
+            let mut triggers = Listed::from_vec(Vec::new(alloc));
+            self.apply_last(alloc, &mut triggers)?;
+            let news = None;
+            return Ok(ItemOutcome {
+                replies,
+                triggers,
+                news,
+            });
+        }
         self.carry_out_all(alloc, loader, acts)
     }
 }

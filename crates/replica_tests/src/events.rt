@@ -39,7 +39,7 @@ pub enum Start {
 /// The view of a replica after some events.
 #[derive(Drop)]
 pub struct Seen {
-    /// The number of packets sent by each event that wasn't refused.
+    /// The number of packets sent by each event that wasn't refused, and of things that it leaves to answer.
     pub sent: Vec<usize>,
     /// The fault of the last event that was refused.
     pub refused: Option<Fault>,
@@ -86,7 +86,7 @@ fn greeting(alloc: Global) -> Result<Item, NoMemory> {
     Ok(packet(PacketKind::LeaderInfo, at(0), Some(version)))
 }
 
-// The number of packets sent for the event.
+// The number of packets sent for the event, and of things that are left for the caller to answer.
 fn happen(
     alloc: Global,
     replica: &mut Replica,
@@ -109,7 +109,8 @@ fn happen(
         Event::Part(id) => Item::Part(ImagePart::Session(ImageSession { id, timeout: 5_000 })),
         Event::End => Item::Part(ImagePart::End),
     };
-    Ok(replica.take(alloc, loader, item)?.replies.len())
+    let brought = replica.take(alloc, loader, item)?;
+    Ok(brought.replies.len() + usize::from(brought.news.is_some()))
 }
 
 // The tree's sessions.

@@ -44,6 +44,18 @@ fn clients_are_served_when_all_is_there(rt: HostRuntime) -> Result<(), Fail> {
     Ok(())
 }
 
+#[test]
+fn what_the_leader_asks_is_handed_on(rt: HostRuntime) -> Result<(), Fail> {
+    let asked = [
+        Event::Packet(PacketKind::Ping, 0),
+        Event::Packet(PacketKind::Sync, 0),
+        Event::Packet(PacketKind::Revalidate, 0),
+    ];
+    let seen = after(rt.alloc(), Start::Primed, &asked)?;
+    assert!(rt; seen.sent.as_slice() == [1usize, 1, 0].as_slice());
+    Ok(())
+}
+
 // A session of the base, and two more.
 const THREE: [Event; 4] = [
     Event::Session(7, 1),

@@ -10,7 +10,7 @@ abbrev pub invariant-loop-act : goal.invariant-loop-act
 invariant-loop-act l =
     record {
       done : carry_out_all
-          (record { replies = l.replies.items; triggers = l.triggers; loading = l.loader; replica = l.self })
+          (record { replies = l.replies.items; triggers = l.triggers; news = l.news; loading = l.loader; replica = l.self })
           (into_iter_items l.act-iterator)
           ≡ carry_out_all (no_effect l.fn.loader l.fn.self) l.fn.acts;
       alone : IsPartAlone (into_iter_items l.act-iterator);

@@ -1,4 +1,4 @@
-use Rattle.replica.proofs.Carrying.{item-alone, item-taken, item-written}
+use Rattle.replica.proofs.Carrying.{item-alone, item-taken, replies-written, news-answerable}
 use Rattle.replica.proofs.replica.Replica.take.Goals as goal
 
 pub carry_out_all-requires : goal.carry_out_all-requires
@@ -18,5 +18,14 @@ returns-clause-writable c w =
     item-taken c.acts.ensures c.args.loader.now c.args.self.now c.args.item c.in_ok-acts.acts c.learn.new.self
     c.in_ok-acts.ensures.0 c.in_ok-acts.ensures.1 c.carry_out_all.result c.carry_out_all.new.loader
     c.carry_out_all.new.self c.carry_out_all.ensures in
-    item-written c.acts.ensures c.args.loader.now c.args.self.now c.args.item c.carry_out_all.result
+    replies-written c.acts.ensures c.args.loader.now c.args.self.now c.args.item c.carry_out_all.result
+    c.carry_out_all.new.loader c.carry_out_all.new.self taken w
+
+pub returns-clause-answerable : goal.returns-clause-answerable
+returns-clause-answerable c w =
+    let taken =
+    item-taken c.acts.ensures c.args.loader.now c.args.self.now c.args.item c.in_ok-acts.acts c.learn.new.self
+    c.in_ok-acts.ensures.0 c.in_ok-acts.ensures.1 c.carry_out_all.result c.carry_out_all.new.loader
+    c.carry_out_all.new.self c.carry_out_all.ensures in
+    news-answerable c.acts.ensures c.args.loader.now c.args.self.now c.args.item c.carry_out_all.result
     c.carry_out_all.new.loader c.carry_out_all.new.self taken w
