@@ -9,12 +9,12 @@ use Rattle.client_records.specs.declared.kind.RequestKind.TheVariants as kinds
 use Rattle.client_records.specs.declared.request.PathAlone.{PathAlone}
 use Rattle.client_records.specs.declared.request.PathAndWatch.{PathAndWatch}
 use Rattle.client_records.specs.Kinds.{kind_of}
-use Rattle.client_records.specs.Requests.{path_and_watch, path_alone, set_watches, auth_packet}
+use Rattle.client_records.specs.Requests.{path_and_watch, path_alone, set_watches, add_watch, auth_packet}
 use Rattle.read_processor.specs.declared.request.Request.{Request}
 use Rattle.read_processor.specs.Kinds.{may_watch}
 use Rattle.client_frames.specs.declared.call.Call.{Call}
 use Rattle.client_frames.specs.declared.call.CallBody.{CallBody}
-use Rattle.client_frames.specs.declared.call.CallBody.TheVariants.{Read, SetWatches, Auth, CloseSession, Unreadable, Ping, Write, Unknown}
+use Rattle.client_frames.specs.declared.call.CallBody.TheVariants.{Read, SetWatches, AddWatch, Auth, CloseSession, Unreadable, Ping, Write, Unknown}
 
 -- A record at the front, if it can be read there; bytes after it are ignored.
 abbrev pub value_if_read : {A : Type 0} → Result (A × List ℕ) Fault → Option A
@@ -56,6 +56,7 @@ call_body (Some kinds.Check) bytes = Write
 call_body (Some kinds.Multi) bytes = Write
 call_body (Some kinds.Auth) bytes = body_or_unreadable Auth (value_if_read (auth_packet.read bytes))
 call_body (Some kinds.SetWatches) bytes = body_or_unreadable SetWatches (value_if_read (set_watches.read bytes))
+call_body (Some kinds.AddWatch) bytes = body_or_unreadable AddWatch (value_if_read (add_watch.read bytes))
 call_body (Some kinds.CloseSession) bytes = CloseSession
 
 abbrev pub call_after_header : Result (RequestHeader × List ℕ) Fault → Result Call Fault

@@ -3,10 +3,12 @@
 ghost use Rattle.std.specs.Prelude.{◌≡◌, IfOk};
 ghost use Rattle.jute.specs.Reads.{ReadsOwnedWhole};
 ghost use Rattle.client_records.specs.Kinds.{kind_of};
-ghost use Rattle.client_records.specs.Requests.{auth_packet, set_watches};
+ghost use Rattle.client_records.specs.Requests.{auth_packet, set_watches, add_watch};
 ghost use Rattle.client_frames.specs.Call.{value_if_read, body_or_unreadable, body_of_read, call_body, call_in};
 
-use client_records::{AuthPacket, PathAlone, PathAndWatch, ReadKind, RequestKind, SetWatches};
+use client_records::{
+    AddWatch, AuthPacket, PathAlone, PathAndWatch, ReadKind, RequestKind, SetWatches,
+};
 use jute::{ReadRecord, Reader, RequestHeader};
 use read_processor::{Request, may_watch};
 use std::alloc::Global;
@@ -17,6 +19,7 @@ use values::{NoMemory, ReadError};
 pub enum CallBody<'a> {
     Read(Request<'a>),
     SetWatches(SetWatches<'a>),
+    AddWatch(AddWatch<'a>),
     Auth(AuthPacket<'a>),
     CloseSession,
     /// The body isn't one of the header's type.
@@ -70,6 +73,16 @@ fn read_set_watches<'a>(alloc: Global, reader: &mut Reader<'a>) -> Result<CallBo
     }
 }
 
+fn read_add_watch<'a>(alloc: Global, reader: &mut Reader<'a>) -> Result<CallBody<'a>, NoMemory>
+    ensures { IfOk result
+        (λ body. body ≡ body_or_unreadable CallBody.AddWatch (value_if_read (add_watch.read reader.old))) }
+{
+    match read_or_none(alloc, reader)? {
+        None => Ok(CallBody::Unreadable),
+        Some(asked) => Ok(CallBody::AddWatch(asked)),
+    }
+}
+
 // A path and, where a client may ask for a watch, whether it does.
 fn read_request<'a>(
     alloc: Global,
@@ -109,6 +122,7 @@ fn read_body<'a>(
         RequestKind::Read(kind) => read_request(alloc, kind, reader),
         RequestKind::Auth => read_auth(alloc, reader),
         RequestKind::SetWatches => read_set_watches(alloc, reader),
+        RequestKind::AddWatch => read_add_watch(alloc, reader),
         RequestKind::CloseSession => return Ok(CallBody::CloseSession),
         RequestKind::Ping => return Ok(CallBody::Ping),
         RequestKind::Create

@@ -24,6 +24,8 @@ fn others(rt: HostRuntime) {
     let watches = b"\x00\x00\x00\x07\x00\x00\x00\x65\x00\x00\x00\x00\x00\x00\x00\x00\
         \x00\x00\x00\x00\xff\xff\xff\xff\x00\x00\x00\x00";
     assert_eq!(rt; asked(rt.alloc(), watches), "setWatches");
+    let watch = b"\x00\x00\x00\x07\x00\x00\x00\x6a\x00\x00\x00\x02/a\x00\x00\x00\x01";
+    assert_eq!(rt; asked(rt.alloc(), watch), "recursive watch");
     assert_eq!(rt;
         asked(rt.alloc(), b"\x00\x00\x00\x07\xff\xff\xff\xf5"),
         "closeSession"
@@ -59,6 +61,8 @@ fn short(rt: HostRuntime) {
         asked(rt.alloc(), b"\x00\x00\x00\x07\x00\x00\x00\x65"),
         "unreadable"
     );
+    let watch = b"\x00\x00\x00\x07\x00\x00\x00\x6a\x00\x00\x00\x02/a\x00\x00\x00";
+    assert_eq!(rt; asked(rt.alloc(), watch), "unreadable");
     assert_eq!(rt;
         asked(rt.alloc(), b"\x00\x00\x00\x07\x00\x00\x00"),
         "no header"

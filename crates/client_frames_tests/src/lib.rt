@@ -10,7 +10,8 @@ mod connects;
 use client_frames::{
     CallBody, Connecting, answer_to_connect, read_call, read_connecting, session_request,
 };
-use client_records::ReadKind;
+use client_records::codes::{PERSISTENT, RECURSIVE};
+use client_records::{AddWatch, ReadKind};
 use read_processor::{Request, may_watch};
 use sessions::{SessionRequest, SessionResponse};
 use std::alloc::Global;
@@ -34,11 +35,25 @@ fn read_word(request: &Request<'_>) -> &'static str {
     }
 }
 
+// A watch on /a that isn't used up, in a word for its mode.
+fn watch_word(asked: &AddWatch<'_>) -> &'static str {
+    let is_of_a = match &asked.path {
+        None => false,
+        Some(path) => path.as_str() == "/a",
+    };
+    match asked.mode {
+        RECURSIVE if is_of_a => "recursive watch",
+        PERSISTENT if is_of_a => "persistent watch",
+        _ => "another watch",
+    }
+}
+
 // The request of a body.
 fn word(body: &CallBody<'_>) -> &'static str {
     match body {
         CallBody::Read(request) => read_word(request),
         CallBody::SetWatches(_) => "setWatches",
+        CallBody::AddWatch(asked) => watch_word(asked),
         CallBody::Auth(_) => "auth",
         CallBody::CloseSession => "closeSession",
         CallBody::Unreadable => "unreadable",

@@ -5,6 +5,7 @@ use Rattle.client_records.specs.declared.connect.ConnectRequest.{ConnectRequest}
 use Rattle.client_records.specs.declared.request.PathAndWatch.{PathAndWatch}
 use Rattle.client_records.specs.declared.request.PathAlone.{PathAlone}
 use Rattle.client_records.specs.declared.request.SetWatches.{SetWatches}
+use Rattle.client_records.specs.declared.request.AddWatch.{AddWatch}
 use Rattle.client_records.specs.declared.request.AuthPacket.{AuthPacket}
 
 unfoldable pub connect_request : Format ConnectRequest
@@ -49,6 +50,9 @@ set_watches =
     (λ v. record { relative_zxid = v.0; data_watches = v.1.0; exist_watches = v.1.1.0; child_watches = v.1.1.1 })
     (λ r. (r.relative_zxid, (r.data_watches, (r.exist_watches, r.child_watches))))
     (pair_of long (pair_of names_format (pair_of names_format names_format)))
+
+unfoldable pub add_watch : Format AddWatch
+add_watch = mapped_format (λ v. record { path = v.0; mode = v.1 }) (λ r. (r.path, r.mode)) (pair_of text_format int)
 
 unfoldable pub auth_packet : Format AuthPacket
 auth_packet =

@@ -15,6 +15,12 @@ pub const NOT_READ_ONLY: i32 = -119;
 /// The state in each event: the client is connected.
 pub const SYNC_CONNECTED: i32 = 3;
 
+/// The mode of an addWatch that asks for a persistent watch, on one path.
+pub const PERSISTENT: i32 = 0;
+
+/// The mode of an addWatch that asks for a recursive watch, on a path and all paths below it.
+pub const RECURSIVE: i32 = 1;
+
 /// The xid of an event's frame, which answers no request.
 pub const NOTIFICATION_XID: i32 = -1;
 

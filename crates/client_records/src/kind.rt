@@ -43,6 +43,8 @@ pub enum RequestKind {
     Auth,
     /// Set the watches that the client had before.
     SetWatches,
+    /// Leave a watch that isn't used up (of ZooKeeper 3.6).
+    AddWatch,
     /// End the client's session.
     CloseSession,
 }
@@ -69,6 +71,7 @@ impl RequestKind {
             14 => Some(RequestKind::Multi),
             100 => Some(RequestKind::Auth),
             101 => Some(RequestKind::SetWatches),
+            106 => Some(RequestKind::AddWatch),
             -11 => Some(RequestKind::CloseSession),
             _ => None,
         }
@@ -92,6 +95,7 @@ impl RequestKind {
             RequestKind::Multi => 14,
             RequestKind::Auth => 100,
             RequestKind::SetWatches => 101,
+            RequestKind::AddWatch => 106,
             RequestKind::CloseSession => -11,
         }
     }

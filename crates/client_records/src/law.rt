@@ -1,7 +1,7 @@
 //! Laws of the formats.
 
 ghost use Rattle.jute.specs.Laws.{IsSound};
-ghost use Rattle.client_records.specs.Requests.{connect_request, exists_request, get_data_request, get_children_request, get_children2_request, get_acl_request, set_watches, auth_packet};
+ghost use Rattle.client_records.specs.Requests.{connect_request, exists_request, get_data_request, get_children_request, get_children2_request, get_acl_request, set_watches, add_watch, auth_packet};
 ghost use Rattle.client_records.specs.Responses.{connect_response, exists_response, get_data_response, get_children_response, get_children2_response, get_acl_response, watcher_event};
 
 /// Every format here is sound: what is read was spelled so, a spelling is read whatever follows it, what is written is
@@ -14,6 +14,7 @@ pub fn records()
     ensures get_children2_request { IsSound get_children2_request }
     ensures get_acl_request { IsSound get_acl_request }
     ensures set_watches { IsSound set_watches }
+    ensures add_watch { IsSound add_watch }
     ensures auth_packet { IsSound auth_packet }
     ensures connect_response { IsSound connect_response }
     ensures exists_response { IsSound exists_response }

@@ -1,4 +1,4 @@
-//! The records of a client's frames (zookeeper.jute of ZooKeeper 3.4), which follow the headers of `jute`.
+//! The records of a client's frames (zookeeper.jute of ZooKeeper 3.4, and AddWatchRequest of 3.6), which follow the headers of `jute`.
 //!
 //! Requests are read, and borrow their texts and data from the frame; responses and events are written from the tree.
 //! `specs/Requests.antt` and `specs/Responses.antt` define each record's format by jute's combinators, and
@@ -29,7 +29,7 @@ pub use event::WatcherEvent;
 pub use fields::{Name, put_list, put_names, read_list};
 pub use kind::{ReadKind, RequestKind};
 pub use lengths::{acls_len, names_len};
-pub use request::{AuthPacket, PathAlone, PathAndWatch, SetWatches};
+pub use request::{AddWatch, AuthPacket, PathAlone, PathAndWatch, SetWatches};
 pub use response::{
     Acls, ExistsResponse, GetAclResponse, GetChildren2Response, GetChildrenResponse,
     GetDataResponse,

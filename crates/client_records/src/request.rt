@@ -1,6 +1,6 @@
 //! The requests of a client, after the header of the frame.
 
-ghost use Rattle.client_records.specs.Requests.{path_and_watch, path_alone, set_watches, auth_packet};
+ghost use Rattle.client_records.specs.Requests.{path_and_watch, path_alone, set_watches, add_watch, auth_packet};
 
 use crate::fields::{Name, buffer_len, put_buffer, put_list, put_text, read_list, text_len};
 use jute::{ReadRecord, Reader, WriteRecord, items_len, put_bool};
@@ -126,6 +126,43 @@ impl<'a> WriteRecord for SetWatches<'a> {
         put_list(out, self.data_watches.as_slice())?;
         put_list(out, self.exist_watches.as_slice())?;
         put_list(out, self.child_watches.as_slice())
+    }
+}
+
+/// The AddWatchRequest of zookeeper.jute since ZooKeeper 3.6: a watch that isn't used up.
+#[derive(Drop, PartialEq)]
+pub struct AddWatch<'a> {
+    /// The path to watch; `None` is null.
+    pub path: Option<Str<'a>>,
+    /// Which changes to tell, [`PERSISTENT`](crate::codes::PERSISTENT) or [`RECURSIVE`](crate::codes::RECURSIVE).
+    pub mode: i32,
+}
+
+impl<'a> ReadRecord<'a> for AddWatch<'a> {
+    ghost read_of = { add_watch.read };
+
+    #[tactic(auto, unfolding(crate::specs::Requests::add_watch))]
+    fn read(_alloc: Global, reader: &mut Reader<'a>) -> Result<AddWatch<'a>, ReadError> {
+        let mut ahead = reader.ahead();
+        let path = ahead.read_string()?.map(Str::new);
+        let mode = ahead.read_int()?;
+        *reader = ahead;
+        Ok(AddWatch { path, mode })
+    }
+}
+
+impl<'a> WriteRecord for AddWatch<'a> {
+    ghost format = { add_watch };
+
+    #[tactic(auto, unfolding(crate::specs::Requests::add_watch, jute::specs::Format::number_bytes))]
+    fn written_len(&self) -> usize {
+        text_len(&self.path) + 4
+    }
+
+    #[tactic(auto, unfolding(crate::specs::Requests::add_watch))]
+    fn write(&self, out: &mut Vec<u8>) -> Result<(), NoMemory> {
+        put_text(out, &self.path)?;
+        self.mode.write(out)
     }
 }
 

@@ -4,7 +4,7 @@ use client_records::{ReadKind, RequestKind};
 use std::test::*;
 
 /// Each type with its number in `ZooDefs.OpCode`.
-const CODES: [(RequestKind, i32); 16] = [
+const CODES: [(RequestKind, i32); 17] = [
     (RequestKind::Create, 1),
     (RequestKind::Delete, 2),
     (RequestKind::Read(ReadKind::Exists), 3),
@@ -20,6 +20,7 @@ const CODES: [(RequestKind, i32); 16] = [
     (RequestKind::Multi, 14),
     (RequestKind::Auth, 100),
     (RequestKind::SetWatches, 101),
+    (RequestKind::AddWatch, 106),
     (RequestKind::CloseSession, -11),
 ];
 
@@ -34,7 +35,7 @@ fn codes_there_and_back(rt: HostRuntime) {
 /// Codes that aren't a client's request: a notification, codes between the known ones, createSession and error.
 #[test]
 fn other_codes(rt: HostRuntime) {
-    for code in [0, 10, 15, 99, 102, -1, -10, i32::MAX, i32::MIN] {
+    for code in [0, 10, 15, 99, 102, 105, 107, -1, -10, i32::MAX, i32::MIN] {
         assert!(rt; RequestKind::from_code(code).is_none());
     }
 }

@@ -1,7 +1,9 @@
 //! The requests of clients.
 
 use crate::is_read;
-use client_records::{AuthPacket, ConnectRequest, Name, PathAlone, PathAndWatch, SetWatches};
+use client_records::{
+    AddWatch, AuthPacket, ConnectRequest, Name, PathAlone, PathAndWatch, SetWatches,
+};
 use jute::WriteRecord;
 use std::alloc::Global;
 use std::test::Fail;
@@ -81,6 +83,27 @@ fn auth_packet(rt: HostRuntime) -> Result<(), Fail> {
     let mut out = Vec::new(rt.alloc());
     expected.write(&mut out)?;
     assert_eq!(rt; out.as_slice(), &bytes[..29]);
+    Ok(())
+}
+
+/// Mode 1 at /a, and a byte after the record.
+#[test]
+#[tactic(auto, unfolding(client_records::specs::Requests::add_watch))]
+fn add_watch(rt: HostRuntime) -> Result<(), Fail> {
+    let bytes = b"\x00\x00\x00\x02/a\x00\x00\x00\x01\x07";
+    let expected = AddWatch {
+        path: Some(Str::new("/a")),
+        mode: 1,
+    };
+    assert!(rt; is_read(rt.alloc(), bytes, &expected)?);
+    let mut out = Vec::new(rt.alloc());
+    expected.write(&mut out)?;
+    assert_eq!(rt; out.as_slice(), &bytes[..10]);
+    let null = AddWatch {
+        path: None,
+        mode: -1,
+    };
+    assert!(rt; is_read(rt.alloc(), b"\xff\xff\xff\xff\xff\xff\xff\xff\x07", &null)?);
     Ok(())
 }
 

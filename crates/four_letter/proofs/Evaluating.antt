@@ -3,7 +3,6 @@ use Rattle.std.proofs.Common.{◌≡◌, ℕ, List, ◌++◌, map, length}
 use Rattle.std.specs.Prelude.{codes, decimal}
 use Rattle.std.specs.Cmp.{nat_cmp_total, int_cmp_total}
 use Rattle.std.specs.List.{flat_map}
-use Rattle.ephemerals.specs.Orders.{Bytes}
 use Rattle.ephemerals.proofs.Totals.{path_total}
 use Rattle.watch_manager.proofs.Ascending.{placed, ascending-placed}
 use Rattle.four_letter.specs.Texts.{name_value_line, wchs_text, wchp_text, session_line}

@@ -1,5 +1,5 @@
 -- Sessions, gathered row by row.
-use Rattle.std.proofs.Common.{◌≡◌, ℕ, ℤ, Bool, true, false, cond, ◌||◌, T, List, [], ◌∷◌, ◌++◌, map, Option, Some, None, is_some, unwrap_or, refl, sym, ap, subst, ◌∙◌, append_assoc}
+use Rattle.std.proofs.Common.{◌≡◌, ℕ, ℤ, Bool, true, false, cond, ◌||◌, List, [], ◌∷◌, ◌++◌, map, Some, None, is_some, unwrap_or, refl, sym, ap, ◌∙◌, append_assoc}
 use mathlib.Core.Bool.{true≢false}
 use Rattle.std.specs.declared.cmp.Ordering.{Ordering}
 use Rattle.std.specs.declared.cmp.Ordering.TheVariants.{Less, Equal, Greater}
@@ -22,7 +22,7 @@ use Rattle.watch_manager.specs.Pairs.{same_path}
 use Rattle.watch_manager.specs.Ascending.{sorted_distinct}
 use Rattle.watch_manager.proofs.Ascending.{entries-empty, entries-in_order, ascending-nil, ascending-cons, insert-ascending}
 use Rattle.four_letter.specs.Watched.{watched_paths, watching_sessions}
-use Rattle.four_letter.specs.Texts.{session_line, path_block, wchp_text}
+use Rattle.four_letter.specs.Texts.{path_block, wchp_text}
 use Rattle.four_letter.specs.Inner.Gathered.{SessionsByPath, sessions_by_path, AddsSession, sessions_on, sorted_sessions, GathersSessions, path_blocks}
 use Rattle.four_letter.specs.declared.figures.WatchRow.{WatchRow}
 use denote.Ref.{Bor}

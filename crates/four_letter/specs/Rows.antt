@@ -1,8 +1,8 @@
 -- Rows that were worked out by hand: the figures of an observer, and its answers.
-use Rattle.std.specs.Prelude.{◌≡◌, ℕ, ◌*◌, ◌+◌, ◌^◌, ℤ, pos, negsuc, List, [], ◌∷◌, ◌++◌, true, false, codes}
+use Rattle.std.specs.Prelude.{◌≡◌, ℕ, ℤ, pos, negsuc, [], ◌∷◌, ◌++◌, true, false, codes}
 use Rattle.ephemerals.specs.Orders.{Bytes}
 use Rattle.watch_manager.specs.declared.watched.Table.{Table}
-use Rattle.watch_manager.specs.declared.watched.Table.TheVariants.{Own, Child}
+use Rattle.watch_manager.specs.declared.watched.Table.TheVariants.{Own, Child, Lasting}
 use Rattle.four_letter.specs.Texts.{reply_text}
 use Rattle.four_letter.specs.declared.figures.Figures.{Figures}
 use Rattle.four_letter.specs.declared.figures.WatchRow.{WatchRow}
@@ -29,13 +29,14 @@ one_watcher_figures = record primed_figures {
   watches = watch_row (codes "/") 1 first_session Child ∷ watch_row (codes "/a") 1 first_session Own ∷ [];
 }
 
--- The session of connection 1 watches /a in both tables, those of connections 2 and 3 in one. The session of connection
+-- The session of connection 1 watches /a in all tables, those of connections 2 and 3 in one. The session of connection
 -- 2 is one of server 255, whose ids are negative.
 abbrev pub three_watcher_figures : Figures
 three_watcher_figures = record primed_figures {
   watches =
       watch_row (codes "/a") 1 first_session Own ∷ watch_row (codes "/a") 1 first_session Child
-      ∷ watch_row (codes "/a") 2 (negsuc 72057594037927934) Own ∷ watch_row (codes "/b") 3 (pos 0) Child ∷ [];
+      ∷ watch_row (codes "/a") 1 first_session Lasting ∷ watch_row (codes "/a") 2 (negsuc 72057594037927934) Own
+      ∷ watch_row (codes "/b") 3 (pos 0) Lasting ∷ [];
 }
 
 pub record WorkedRows : Type 0 where
@@ -52,6 +53,6 @@ pub record WorkedRows : Type 0 where
   pub wchp : reply_text Wchp primed_figures ≡ []
   pub wchs_one : reply_text Wchs one_watcher_figures ≡ codes "1 connections watching 2 paths\nTotal watches:2\n"
   pub wchp_one : reply_text Wchp one_watcher_figures ≡ codes "/\n\t0x300000000000001\n/a\n\t0x300000000000001\n"
-  pub wchs_three : reply_text Wchs three_watcher_figures ≡ codes "3 connections watching 2 paths\nTotal watches:4\n"
+  pub wchs_three : reply_text Wchs three_watcher_figures ≡ codes "3 connections watching 2 paths\nTotal watches:5\n"
   pub wchp_three :
       reply_text Wchp three_watcher_figures ≡ codes "/a\n\t0xff00000000000001\n\t0x300000000000001\n/b\n\t0x0\n"

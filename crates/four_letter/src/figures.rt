@@ -25,6 +25,6 @@ pub struct Figures<'a> {
     pub paths: usize,
     /// The number of pairs of a session and an ephemeral node.
     pub pairs: usize,
-    /// The watches of both tables. The answer of a word that doesn't need watches is the same without them.
+    /// The watches of all tables. The answer of a word that doesn't need watches is the same without them.
     pub watches: Listed<WatchRow<'a>>,
 }

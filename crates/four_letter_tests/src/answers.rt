@@ -5,13 +5,16 @@ use std::alloc::Global;
 use std::test::Fail;
 use watch_manager::Watches;
 
-// Connection 1 watches /a in both tables, connection 2 its data, and connection 3 the children of the root.
+// Connection 1 watches /a in all three tables, connection 2 its data, and connection 3 the children of the root, and /b
+// lastingly.
 fn watching(alloc: Global) -> Result<Watches, Fail> {
     let mut watches = Watches::new(alloc);
     watches.set_child(alloc, 1, "/a")?;
     watches.set_data(alloc, 2, "/a")?;
     watches.set_data(alloc, 1, "/a")?;
     watches.set_child(alloc, 3, "/")?;
+    watches.set_persistent(alloc, 3, "/b", false)?;
+    watches.set_persistent(alloc, 1, "/a", true)?;
     Ok(watches)
 }
 
@@ -58,16 +61,16 @@ fn words_are_answered_while_serving(rt: HostRuntime) -> Result<(), Fail> {
             b"mntr",
             concat!(
                 ">zk_server_state\tobserver\nzk_num_alive_connections\t2\nzk_znode_count\t4\n",
-                "zk_watch_count\t4\nzk_ephemerals_count\t5\n"
+                "zk_watch_count\t6\nzk_ephemerals_count\t5\n"
             ),
         ),
         (
             b"wchs",
-            ">3 connections watching 2 paths\nTotal watches:4\n",
+            ">3 connections watching 3 paths\nTotal watches:6\n",
         ),
         (
             b"wchp",
-            ">/\n\t0x300000000000001\n/a\n\t0xff00000000000001\n\t0x300000000000001\n",
+            ">/\n\t0x300000000000001\n/a\n\t0xff00000000000001\n\t0x300000000000001\n/b\n\t0x300000000000001\n",
         ),
     ];
     assert_eq!(rt; otherwise(alloc, true, &watches, &wanted)?, 0);
@@ -110,6 +113,6 @@ fn watches_are_listed_in_order(rt: HostRuntime) -> Result<(), Fail> {
     let alloc = rt.alloc();
     let watches = watching(alloc)?;
     let text = listed(alloc, &watches)?;
-    assert!(rt; text.as_slice() == b"/ 3c;/a 1d;/a 1c;/a 2d;".as_slice());
+    assert!(rt; text.as_slice() == b"/ 3c;/a 1d;/a 1c;/a 1l;/a 2d;/b 3l;".as_slice());
     Ok(())
 }

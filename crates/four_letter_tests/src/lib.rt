@@ -52,7 +52,7 @@ pub fn answered(
     Ok((known, out))
 }
 
-/// The list of the watches: path, connection, and "d" or "c" for the table.
+/// The list of the watches: path, connection, and "d", "c" or "l" for the table.
 pub fn listed(alloc: Global, watches: &Watches) -> Result<Vec<u8>, NoMemory> {
     let mut text = Vec::new(alloc);
     for row in &watches.summary(alloc)? {
@@ -66,6 +66,7 @@ pub fn listed(alloc: Global, watches: &Watches) -> Result<Vec<u8>, NoMemory> {
         text.push(match row.table {
             Table::Own => b'd',
             Table::Child => b'c',
+            Table::Lasting => b'l',
         })?;
         text.push(b';')?;
     }

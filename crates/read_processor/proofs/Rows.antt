@@ -59,6 +59,10 @@ pub worked_watches : WorkedWatches
 worked_watches = record {
   waits = refl;
   missing = refl;
+  persistent = refl;
+  recursive = refl;
+  another_mode = refl;
+  ill_formed = refl;
   renewed = λ s h. rw (h.0, h.1) refl;
   twice = λ s h. rw h.0 refl;
   not_asked_for = λ s h. refl;

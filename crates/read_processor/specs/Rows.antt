@@ -1,5 +1,5 @@
 -- Looks and watches that were worked out by hand, in any state that has the node.
-use Rattle.std.specs.Prelude.{◌≡◌, ℕ, pos, List, [], ◌∷◌, ◌++◌, Some, None, true, false, codes}
+use Rattle.std.specs.Prelude.{◌≡◌, ℕ, ℤ, pos, List, [], ◌∷◌, ◌++◌, Some, None, true, false, codes}
 use Rattle.std.specs.FinMap as finmap
 use Rattle.std.specs.FinSet as set
 use Rattle.values.specs.Hex.{hex_bytes}
@@ -7,14 +7,16 @@ use Rattle.jute.specs.declared.owned.Id.{Id}
 use Rattle.jute.specs.declared.codes.TheConstants.{BAD_ARGUMENTS, NO_NODE, NO_AUTH}
 use Rattle.client_records.specs.declared.kind.ReadKind.{ReadKind}
 use Rattle.client_records.specs.declared.kind.ReadKind.TheVariants.{Exists, GetData}
+use Rattle.client_records.specs.declared.request.AddWatch.{AddWatch}
 use Rattle.client_records.specs.declared.request.SetWatches.{SetWatches}
 use Rattle.node_map.specs.declared.node.Node.{Node}
 use Rattle.data_tree.specs.State.{State}
+use Rattle.watch_manager.specs.declared.mode.WatchMode.TheVariants.{Persistent, Recursive}
 use Rattle.watch_manager.specs.declared.event.EventKind.TheVariants.{NodeDataChanged, NodeCreated}
 use Rattle.read_processor.specs.declared.request.Request.{Request}
-use Rattle.read_processor.specs.declared.watch.Watch.TheVariants.{Data, Child}
+use Rattle.read_processor.specs.declared.watch.Watch.TheVariants.{Data, Child, Lasting}
 use Rattle.read_processor.specs.Look.{look_at_state, without_body, shown_look}
-use Rattle.read_processor.specs.Watch.{watch_of}
+use Rattle.read_processor.specs.Watch.{watch_of, watch_to_add}
 use Rattle.read_processor.specs.Renewal.{renew_watches}
 
 abbrev pub reader_id : Id
@@ -89,9 +91,16 @@ set_watches_of read absent parents = record {
   child_watches = parents;
 }
 
+abbrev pub watch_with_mode : ℤ → List ℕ → AddWatch
+watch_with_mode mode path = record { path = Some path; mode = mode }
+
 pub record WorkedWatches : Type 0 where
   pub waits : watch_of (read_with_watch Exists (codes "/q")) NO_NODE ≡ Some (Data (codes "/q"))
   pub missing : watch_of (read_with_watch GetData (codes "/q")) NO_NODE ≡ None
+  pub persistent : watch_to_add (watch_with_mode (pos 0) (codes "/q")) ≡ Some (Lasting (codes "/q") Persistent)
+  pub recursive : watch_to_add (watch_with_mode (pos 1) (codes "/")) ≡ Some (Lasting (codes "/") Recursive)
+  pub another_mode : watch_to_add (watch_with_mode (pos 2) (codes "/q")) ≡ None
+  pub ill_formed : watch_to_add (watch_with_mode (pos 0) (codes "q")) ≡ None
   -- The node's data changed since then, its children didn't, and /q isn't there yet.
   pub renewed : AtEachState (λ s.
       renew_watches s (set_watches_of (codes "/a" ∷ []) (codes "/q" ∷ []) (codes "/a" ∷ []))

@@ -8,7 +8,7 @@
 //! `look_each` answers several reads of one tree; an `Ask` is a read with the ids of its client (specs/Asking).
 //!
 //! A read may leave a watch, which `watch_of` returns (specs/Watch), and an event is sent in the same form as a reply
-//! (specs/Events). A client that reconnects sends the watches that it had; `renew` returns the events that it missed
+//! (specs/Events). The watch that an addWatch asks for is `watch_to_add`'s. A client that reconnects sends the watches that it had; `renew` returns the events that it missed
 //! and the watches to set again (specs/Renewal).
 //!
 //! ```text
@@ -45,4 +45,4 @@ pub use reads::look;
 pub use renewal::{Renewal, renew};
 pub use request::Request;
 pub use shown::Look;
-pub use watch::{Watch, watch_of};
+pub use watch::{Watch, watch_of, watch_to_add};

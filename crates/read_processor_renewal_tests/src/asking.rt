@@ -1,8 +1,8 @@
-//! Watches that reads leave.
+//! Watches that reads leave, and those that an addWatch asks for.
 
 use crate::calls::shown;
-use client_records::ReadKind;
-use read_processor::{Request, watch_of};
+use client_records::{AddWatch, ReadKind};
+use read_processor::{Request, watch_of, watch_to_add};
 use std::alloc::Global;
 use std::test::Fail;
 use values::Str;
@@ -59,6 +59,35 @@ fn reads_leave_watches(rt: HostRuntime) -> Result<(), Fail> {
     ];
     for (request, wanted) in &rows {
         assert!(rt; is_left(alloc, request, *wanted)?);
+    }
+    Ok(())
+}
+
+// Whether an addWatch asks for this watch, in words.
+fn is_added(
+    alloc: Global,
+    path: Option<&'static str>,
+    mode: i32,
+    wanted: &str,
+) -> Result<bool, Fail> {
+    let path = path.map(Str::new);
+    match watch_to_add(&AddWatch { path, mode }) {
+        None => Ok(wanted == "none"),
+        Some(watch) => Ok(shown(alloc, &watch)?.as_str() == wanted),
+    }
+}
+
+#[test]
+fn watches_are_added(rt: HostRuntime) -> Result<(), Fail> {
+    let alloc = rt.alloc();
+    assert!(rt; is_added(alloc, Some("/a"), 0, "persistent /a; ")?);
+    assert!(rt; is_added(alloc, Some("/"), 1, "recursive /; ")?);
+    assert!(rt; is_added(alloc, Some("/a/"), 0, "persistent /a/; ")?);
+    for mode in [-1, 2, 256, i32::MIN] {
+        assert!(rt; is_added(alloc, Some("/a"), mode, "none")?);
+    }
+    for path in [None, Some(""), Some("a"), Some("/\0")] {
+        assert!(rt; is_added(alloc, path, 1, "none")?);
     }
     Ok(())
 }

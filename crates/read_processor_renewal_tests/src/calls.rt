@@ -7,6 +7,7 @@ use std::alloc::Global;
 use std::test::Fail;
 use txn_codec::{Body, Create, Operation, Path, Txn, TxnHeader};
 use values::{Listed, NoMemory};
+use watch_manager::WatchMode;
 
 // The tree that every log starts from. It has no contract, so that no proof computes anything from the tree.
 fn fresh(alloc: Global) -> Result<Tree, Fail> {
@@ -62,6 +63,8 @@ pub fn shown(alloc: Global, watch: &Watch<'_>) -> Result<String, Fail> {
     let (table, path) = match watch {
         Watch::Data(path) => ("data", path.as_str()),
         Watch::Child(path) => ("child", path.as_str()),
+        Watch::Lasting(path, WatchMode::Persistent) => ("persistent", path.as_str()),
+        Watch::Lasting(path, WatchMode::Recursive) => ("recursive", path.as_str()),
     };
     Ok(format!(in alloc; "{table} {path}; ")?)
 }

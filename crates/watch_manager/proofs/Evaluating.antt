@@ -1,49 +1,79 @@
 -- Firing, evaluated on watches given as a list.
-use Rattle.std.proofs.Common.{◌≡◌, ℕ, List, [], ◌∷◌, ◌++◌, Bool, true, false, cond, not, ◌||◌, ◌&&◌, refl, sym, ap, ◌∙◌, map}
-use Rattle.std.specs.declared.cmp.Ordering.TheVariants.{Less}
-use Rattle.std.specs.List.{list_any, filter, AllByRecursion}
-use Rattle.std.specs.List.Sorted.{IsStrictlySortedBy}
+use Rattle.std.proofs.Common.{◌≡◌, ℕ, List, [], ◌∷◌, ◌++◌, Bool, true, false, cond, not, ◌||◌, ◌&&◌, Option, Some, None, refl, sym, ap, ◌∙◌, map}
+use Rattle.std.specs.Prelude.{is_some}
+use Rattle.std.specs.List.{list_any, filter}
 use Rattle.std.specs.Ordering.{eq_by_cmp, nat_cmp}
 use Rattle.std.specs.Cmp.{nat_cmp_total}
+use Rattle.std.specs.FinMap as finmap
+use Rattle.std.specs.FinMap.Entries.{is_some-find}
+use Rattle.std.proofs.lemmas.List.Folds.{list_any-append}
 use Rattle.std.proofs.lemmas.Map.Views.{tells_apart}
 use Rattle.std.proofs.lemmas.Map.Lookups.{exact_unsigned}
 use Rattle.std.specs.FinSet as set
 use Rattle.ephemerals.specs.Orders.{Bytes}
 use Rattle.data_tree.specs.declared.outcome.Trigger.{Trigger}
 use Rattle.data_tree.specs.declared.outcome.Trigger.TheVariants.{Created, Deleted, DataChanged, ChildrenChanged}
-use Rattle.watch_manager.specs.Pairs.{watch_cmp, same_path, sorted_connections, watchers_of, without_watches_on}
-use Rattle.watch_manager.specs.Watches.{FireResult, events_for, connections_not_told, events_of_trigger, watches_after, fire}
-use Rattle.watch_manager.specs.Rows.{watches_on}
+use Rattle.watch_manager.specs.Pairs.{ConnectionSet, watch_cmp, same_path, sorted_connections, watchers_of, without_watches_on}
+use Rattle.watch_manager.specs.Lasting.{is_above, is_in_mode, watches_in, watchers_above, persistent_watchers, lasting_watchers}
+use Rattle.watch_manager.specs.Watching.{WatchTables}
+use Rattle.watch_manager.specs.Watches.{FireResult, events_for, connections_not_told, node_watchers, children_watchers, events_of_trigger, watches_after, fire}
+use Rattle.watch_manager.specs.Rows.{watches_on, lasting_on}
 use Rattle.watch_manager.specs.declared.event.Event.{Event}
 use Rattle.watch_manager.specs.declared.event.EventKind.TheVariants.{NodeCreated, NodeDeleted, NodeDataChanged, NodeChildrenChanged}
+use Rattle.watch_manager.specs.declared.mode.WatchMode.{WatchMode}
+use Rattle.watch_manager.specs.declared.mode.WatchMode.TheVariants.{Persistent, Recursive}
 use Rattle.watch_manager.proofs.Totals.{watch_total, watch_exact}
-use Rattle.watch_manager.proofs.ConnSets.{items-sorted}
+use Rattle.watch_manager.proofs.Ascending.{placed, ascending-placed, same_ascending}
 use Rattle.watch_manager.proofs.Watchers.{any-watcher, contains-watchers, contains-without_path}
+use Rattle.watch_manager.proofs.Lastings.{contains-watches_in}
+use Rattle.watch_manager.proofs.Aboves.{paths_up, any-watchers_above, contains-watchers_above}
 
 abbrev Listed : Type 0
 Listed = List (Bytes × ℕ)
+
+abbrev LastingListed : Type 0
+LastingListed = List ((Bytes × ℕ) × WatchMode)
 
 -- The connections that watch the path, in the order of the list.
 abbrev pub at : Bytes → Listed → List ℕ
 at path ps = map (λ (p : Bytes × ℕ). p.1) (filter (λ (p : Bytes × ℕ). same_path path p.0) ps)
 
+-- The connections that watch the path or one above it.
+abbrev pub above : Bytes → Listed → List ℕ
+above path ps =
+    map (λ (p : Bytes × ℕ). p.1) (filter (λ (p : Bytes × ℕ). same_path p.0 path || is_above p.0 path) ps)
+
 -- The watches on other paths.
 abbrev pub but : Bytes → Listed → Listed
 but path ps = filter (λ (p : Bytes × ℕ). not (same_path path p.0)) ps
 
+-- The watches of a mode.
+abbrev pub in_mode : WatchMode → LastingListed → Listed
+in_mode mode ls =
+    filter (λ (p : Bytes × ℕ). is_in_mode mode (finmap.find watch_cmp p ls))
+    (map (λ (e : (Bytes × ℕ) × WatchMode). e.0) ls)
+
+abbrev pub node_at : Bytes → Listed → LastingListed → List ℕ
+node_at path own ls = at path own ++ (at path (in_mode Persistent ls) ++ above path (in_mode Recursive ls))
+
+abbrev pub children_at : Bytes → Listed → LastingListed → List ℕ
+children_at path child ls = at path child ++ at path (in_mode Persistent ls)
+
+-- In ascending order of their numbers.
+abbrev pub in_number : List ℕ → List ℕ
+in_number ns = placed nat_cmp_total ns
+
 abbrev pub others : List ℕ → List ℕ → List ℕ
-others already conns = filter (λ (conn : ℕ). not (list_any (eq_by_cmp nat_cmp conn) already)) conns
+others already conns = filter (λ (conn : ℕ). not (list_any (eq_by_cmp nat_cmp conn) already)) (in_number conns)
 
-abbrev pub Rises : List ℕ → Type 0
-Rises [] = Unit {0}
-Rises (n ∷ ns) = AllByRecursion (λ m. nat_cmp n m ≡ Less) ns × Rises ns
-
-abbrev pub events_of : Listed → Listed → Trigger → List (ℕ × Event)
-events_of own child (Created path) = events_for NodeCreated path (at path own)
-events_of own child (Deleted path) =
-    events_for NodeDeleted path (at path own) ++ events_for NodeDeleted path (others (at path own) (at path child))
-events_of own child (DataChanged path) = events_for NodeDataChanged path (at path own)
-events_of own child (ChildrenChanged path) = events_for NodeChildrenChanged path (at path child)
+abbrev pub events_of : Listed → Listed → LastingListed → Trigger → List (ℕ × Event)
+events_of own child ls (Created path) = events_for NodeCreated path (in_number (node_at path own ls))
+events_of own child ls (Deleted path) =
+    events_for NodeDeleted path (in_number (node_at path own ls))
+    ++ events_for NodeDeleted path (others (node_at path own ls) (at path child))
+events_of own child ls (DataChanged path) = events_for NodeDataChanged path (in_number (node_at path own ls))
+events_of own child ls (ChildrenChanged path) =
+    events_for NodeChildrenChanged path (in_number (children_at path child ls))
 
 abbrev pub own_after : Listed → Trigger → Listed
 own_after own (Created path) = but path own
@@ -57,44 +87,53 @@ child_after child (Deleted path) = but path child
 child_after child (DataChanged path) = child
 child_after child (ChildrenChanged path) = but path child
 
--- The list has the path's connections in ascending order of their numbers.
-abbrev pub InOrder : Listed → Listed → Trigger → Type 0
-InOrder own child (Created path) = Rises (at path own)
-InOrder own child (Deleted path) = Rises (at path own) × Rises (at path child)
-InOrder own child (DataChanged path) = Rises (at path own)
-InOrder own child (ChildrenChanged path) = Rises (at path child)
+abbrev pub watches_listed : Listed → Listed → LastingListed → WatchTables
+watches_listed own child ls = lasting_on ls (watches_on own child)
 
-abbrev pub AllInOrder : Listed → Listed → List Trigger → Type 0
-AllInOrder own child [] = Unit {0}
-AllInOrder own child (t ∷ ts) = InOrder own child t × AllInOrder (own_after own t) (child_after child t) ts
+abbrev pub fire_listed : Listed → Listed → LastingListed → List Trigger → FireResult
+fire_listed own child ls [] = record { events = []; left = watches_listed own child ls }
+fire_listed own child ls (t ∷ ts) =
+    let rest = fire_listed (own_after own t) (child_after child t) ls ts in
+    record { events = events_of own child ls t ++ rest.events; left = rest.left }
 
-abbrev pub fire_listed : Listed → Listed → List Trigger → FireResult
-fire_listed own child [] = record { events = []; left = watches_on own child }
-fire_listed own child (t ∷ ts) =
-    let rest = fire_listed (own_after own t) (child_after child t) ts in
-    record { events = events_of own child t ++ rest.events; left = rest.left }
+-- A set of connections that has the members of a list.
+HasMembers : ConnectionSet → List ℕ → Type 0
+HasMembers conns ns = (c : ℕ) → set.contains conns c ≡ list_any (eq_by_cmp nat_cmp c) ns
 
-sorted : (ns : List ℕ) → Rises ns → IsStrictlySortedBy nat_cmp ns
-unfolding IsStrictlySortedBy
-sorted [] h = tt
-sorted (n ∷ ns) h = (h.0, sorted ns h.1)
+ascending-members : (conns : ConnectionSet) (ns : List ℕ) → HasMembers conns ns → sorted_connections conns
+    ≡ in_number ns
+unfolding HasMembers
+ascending-members conns ns has =
+    same_ascending nat_cmp_total exact_unsigned (set.items conns) ns
+    (λ c. sym (set.contains-items conns c) ∙ has c)
+    ∙ ascending-placed nat_cmp_total ns
 
-watchers-listed : (path : Bytes) (ps : Listed) → watchers_of path (set.from_list ps) ≡ set.from_list (at path ps)
-watchers-listed path ps = set.same_set nat_cmp_total exact_unsigned _ _ (λ c.
+union-members : (conns others : ConnectionSet) (ns ms : List ℕ) → HasMembers conns ns → HasMembers others ms
+    → HasMembers (set.union conns others) (ns ++ ms)
+unfolding HasMembers
+union-members conns others ns ms h k c =
+    set.contains-union nat_cmp_total conns others c
+    ∙ (λ i. h c i || k c i)
+    ∙ sym (list_any-append (eq_by_cmp nat_cmp c) ns ms)
+
+watchers-listed : (path : Bytes) (ps : Listed) → HasMembers (watchers_of path (set.from_list ps)) (at path ps)
+unfolding HasMembers
+watchers-listed path ps c =
     contains-watchers path (set.from_list ps) c
     ∙ set.contains-from_list watch_total ps (path, c)
     ∙ sym (any-watcher path c ps)
-    ∙ sym (set.contains-from_list nat_cmp_total (at path ps) c))
 
-in_number-at : (path : Bytes) (ps : Listed) → Rises (at path ps)
-    → sorted_connections (watchers_of path (set.from_list ps)) ≡ at path ps
-in_number-at path ps h =
-    ap (λ s. sorted_connections s) (watchers-listed path ps) ∙ items-sorted (at path ps) (sorted (at path ps) h)
+above-listed : (path : Bytes) (ps : Listed) → HasMembers (watchers_above path (set.from_list ps)) (above path ps)
+unfolding HasMembers
+above-listed path ps c =
+    contains-watchers_above path (set.from_list ps) c
+    ∙ (λ i. list_any (λ (x : Bytes). set.contains-from_list watch_total ps (x, c) i) (paths_up path))
+    ∙ sym (any-watchers_above path ps c)
 
-any-others : (path : Bytes) (q : Bytes × ℕ) (ps : Listed)
-    → list_any (eq_by_cmp watch_cmp q) (but path ps) ≡ (list_any (eq_by_cmp watch_cmp q) ps && not (same_path path q.0))
-any-others path q [] = refl
-any-others path q (p ∷ ps) = by (any-others path q ps) (not (same_path path p.0)) refl (eq_by_cmp watch_cmp q p) refl
+any-kept : (keep : Bytes × ℕ → Bool) (q : Bytes × ℕ) (ps : Listed)
+    → list_any (eq_by_cmp watch_cmp q) (filter keep ps) ≡ (list_any (eq_by_cmp watch_cmp q) ps && keep q)
+any-kept keep q [] = refl
+any-kept keep q (p ∷ ps) = by (any-kept keep q ps) (keep p) refl (eq_by_cmp watch_cmp q p) refl
   where
     and_or : (x y k : Bool) → (x ≡ true → k ≡ true) → (x || (y && k)) ≡ ((x || y) && k)
     and_or true y k h = sym (h refl)
@@ -105,58 +144,108 @@ any-others path q (p ∷ ps) = by (any-others path q ps) (not (same_path path p.
     or_and true false k h = sym (h refl)
     or_and false y k h = refl
 
-    same : eq_by_cmp watch_cmp q p ≡ true → not (same_path path q.0) ≡ not (same_path path p.0)
-    same t = ap (λ (r : Bytes × ℕ). not (same_path path r.0)) (tells_apart watch_exact q p t)
+    same : eq_by_cmp watch_cmp q p ≡ true → keep q ≡ keep p
+    same t = ap keep (tells_apart watch_exact q p t)
 
-    by : list_any (eq_by_cmp watch_cmp q) (but path ps)
-        ≡ (list_any (eq_by_cmp watch_cmp q) ps && not (same_path path q.0)) → (k : Bool) → not (same_path path p.0) ≡ k
+    by : list_any (eq_by_cmp watch_cmp q) (filter keep ps)
+        ≡ (list_any (eq_by_cmp watch_cmp q) ps && keep q) → (k : Bool) → keep p ≡ k
         → (x : Bool) → eq_by_cmp watch_cmp q p ≡ x
-        → list_any (eq_by_cmp watch_cmp q) (cond k (p ∷ but path ps) (but path ps))
-        ≡ ((x || list_any (eq_by_cmp watch_cmp q) ps) && not (same_path path q.0))
+        → list_any (eq_by_cmp watch_cmp q) (cond k (p ∷ filter keep ps) (filter keep ps))
+        ≡ ((x || list_any (eq_by_cmp watch_cmp q) ps) && keep q)
     by rest true e x is =
         (λ i. is i || rest i)
-        ∙ and_or x (list_any (eq_by_cmp watch_cmp q) ps) (not (same_path path q.0)) (λ t. same (is ∙ t) ∙ e)
+        ∙ and_or x (list_any (eq_by_cmp watch_cmp q) ps) (keep q) (λ t. same (is ∙ t) ∙ e)
     by rest false e x is =
-        rest ∙ or_and x (list_any (eq_by_cmp watch_cmp q) ps) (not (same_path path q.0)) (λ t. same (is ∙ t) ∙ e)
+        rest ∙ or_and x (list_any (eq_by_cmp watch_cmp q) ps) (keep q) (λ t. same (is ∙ t) ∙ e)
+
+in_mode-listed : (mode : WatchMode) (ls : LastingListed)
+    → watches_in mode (finmap.from_entries {R = watch_cmp} ls) ≡ set.from_list (in_mode mode ls)
+in_mode-listed mode ls = set.same_set watch_total watch_exact _ _ (λ q.
+    contains-watches_in mode (finmap.from_entries {R = watch_cmp} ls) q
+    ∙ ap (is_in_mode mode) (finmap.get-from_entries watch_total ls q)
+    ∙ by (finmap.find watch_cmp q ls)
+    ∙ ap (λ b. b && is_in_mode mode (finmap.find watch_cmp q ls)) (is_some-find watch_cmp q ls)
+    ∙ sym (any-kept (λ (p : Bytes × ℕ). is_in_mode mode (finmap.find watch_cmp p ls)) q
+    (map (λ (e : (Bytes × ℕ) × WatchMode). e.0) ls))
+    ∙ sym (set.contains-from_list watch_total (in_mode mode ls) q))
+  where
+    by : (found : Option WatchMode) → is_in_mode mode found ≡ (is_some found && is_in_mode mode found)
+    by None = refl
+    by (Some m) = refl
 
 without-listed : (path : Bytes) (ps : Listed) → without_watches_on path (set.from_list ps) ≡ set.from_list (but path ps)
 without-listed path ps = set.same_set watch_total watch_exact _ _ (λ q.
     contains-without_path path (set.from_list ps) q
     ∙ ap (λ b. b && not (same_path path q.0)) (set.contains-from_list watch_total ps q)
-    ∙ sym (any-others path q ps)
+    ∙ sym (any-kept (λ (p : Bytes × ℕ). not (same_path path p.0)) q ps)
     ∙ sym (set.contains-from_list watch_total (but path ps) q))
 
-each_but-at : (path : Bytes) (own child : Listed) → Rises (at path child)
-    → connections_not_told (watchers_of path (set.from_list own)) (watchers_of path (set.from_list child))
-    ≡ others (at path own) (at path child)
-each_but-at path own child h = λ i. filter (λ (c : ℕ). not (has c i)) (in_number-at path child h i)
-  where
-    has : (c : ℕ) → set.contains (watchers_of path (set.from_list own)) c ≡ list_any (eq_by_cmp nat_cmp c) (at path own)
-    has c = ap (λ s. set.contains s c) (watchers-listed path own) ∙ set.contains-from_list nat_cmp_total (at path own) c
+persistent-listed : (path : Bytes) (ls : LastingListed)
+    → HasMembers (persistent_watchers path (finmap.from_entries ls)) (at path (in_mode Persistent ls))
+unfolding HasMembers
+persistent-listed path ls c =
+    ap (λ s. set.contains (watchers_of path s) c) (in_mode-listed Persistent ls)
+    ∙ watchers-listed path (in_mode Persistent ls) c
 
-tells-listed : (own child : Listed) (t : Trigger) → InOrder own child t
-    → events_of_trigger (watches_on own child) t ≡ events_of own child t
-tells-listed own child (Created path) h = ap (events_for NodeCreated path) (in_number-at path own h)
-tells-listed own child (Deleted path) h =
-    λ i. events_for NodeDeleted path (in_number-at path own h.0 i)
-    ++ events_for NodeDeleted path (each_but-at path own child h.1 i)
-tells-listed own child (DataChanged path) h = ap (events_for NodeDataChanged path) (in_number-at path own h)
-tells-listed own child (ChildrenChanged path) h = ap (events_for NodeChildrenChanged path) (in_number-at path child h)
+node-listed : (path : Bytes) (own child : Listed) (ls : LastingListed)
+    → HasMembers (node_watchers path (watches_listed own child ls)) (node_at path own ls)
+unfolding HasMembers
+node-listed path own child ls =
+    union-members (watchers_of path (set.from_list own)) (lasting_watchers path (finmap.from_entries ls)) (at path own)
+    (at path (in_mode Persistent ls) ++ above path (in_mode Recursive ls)) (watchers-listed path own)
+    (union-members (persistent_watchers path (finmap.from_entries ls))
+    (watchers_above path (watches_in Recursive (finmap.from_entries ls))) (at path (in_mode Persistent ls))
+    (above path (in_mode Recursive ls)) (persistent-listed path ls) (λ c.
+    ap (λ s. set.contains (watchers_above path s) c) (in_mode-listed Recursive ls)
+    ∙ above-listed path (in_mode Recursive ls) c))
 
-after-listed : (own child : Listed) (t : Trigger)
-    → watches_after (watches_on own child) t ≡ watches_on (own_after own t) (child_after child t)
-after-listed own child (Created path) = λ i. record { own = without-listed path own i; child = set.from_list child }
-after-listed own child (Deleted path) =
-    λ i. record { own = without-listed path own i; child = without-listed path child i }
-after-listed own child (DataChanged path) = λ i. record { own = without-listed path own i; child = set.from_list child }
-after-listed own child (ChildrenChanged path) =
-    λ i. record { own = set.from_list own; child = without-listed path child i }
+children-listed : (path : Bytes) (own child : Listed) (ls : LastingListed)
+    → HasMembers (children_watchers path (watches_listed own child ls)) (children_at path child ls)
+children-listed path own child ls =
+    union-members (watchers_of path (set.from_list child)) (persistent_watchers path (finmap.from_entries ls))
+    (at path child) (at path (in_mode Persistent ls)) (watchers-listed path child) (persistent-listed path ls)
 
-pub evaluated : (own child : Listed) (ts : List Trigger) → AllInOrder own child ts
-    → fire (watches_on own child) ts ≡ fire_listed own child ts
-evaluated own child [] h = refl
-evaluated own child (t ∷ ts) h =
-    let rest : fire (watches_after (watches_on own child) t) ts
-    ≡ fire_listed (own_after own t) (child_after child t) ts =
-    ap (λ w. fire w ts) (after-listed own child t) ∙ evaluated (own_after own t) (child_after child t) ts h.1 in
-    λ i. record { events = tells-listed own child t h.0 i ++ (rest i).events; left = (rest i).left }
+each_but-at : (path : Bytes) (own child : Listed) (ls : LastingListed)
+    → connections_not_told (node_watchers path (watches_listed own child ls)) (watchers_of path (set.from_list child))
+    ≡ others (node_at path own ls) (at path child)
+unfolding HasMembers
+each_but-at path own child ls =
+    λ i. filter (λ (c : ℕ). not (node-listed path own child ls c i))
+    (ascending-members (watchers_of path (set.from_list child)) (at path child) (watchers-listed path child) i)
+
+node-in_number : (path : Bytes) (own child : Listed) (ls : LastingListed)
+    → sorted_connections (node_watchers path (watches_listed own child ls)) ≡ in_number (node_at path own ls)
+node-in_number path own child ls =
+    ascending-members (node_watchers path (watches_listed own child ls)) (node_at path own ls)
+    (node-listed path own child ls)
+
+tells-listed : (own child : Listed) (ls : LastingListed) (t : Trigger)
+    → events_of_trigger (watches_listed own child ls) t ≡ events_of own child ls t
+tells-listed own child ls (Created path) = ap (events_for NodeCreated path) (node-in_number path own child ls)
+tells-listed own child ls (Deleted path) =
+    λ i. events_for NodeDeleted path (node-in_number path own child ls i)
+    ++ events_for NodeDeleted path (each_but-at path own child ls i)
+tells-listed own child ls (DataChanged path) = ap (events_for NodeDataChanged path) (node-in_number path own child ls)
+tells-listed own child ls (ChildrenChanged path) =
+    ap (events_for NodeChildrenChanged path) (ascending-members (children_watchers path (watches_listed own child ls))
+    (children_at path child ls) (children-listed path own child ls))
+
+after-listed : (own child : Listed) (ls : LastingListed) (t : Trigger)
+    → watches_after (watches_listed own child ls) t ≡ watches_listed (own_after own t) (child_after child t) ls
+after-listed own child ls (Created path) =
+    λ i. record (watches_listed own child ls) { own = without-listed path own i }
+after-listed own child ls (Deleted path) =
+    λ i. record (watches_listed own child ls) { own = without-listed path own i; child = without-listed path child i }
+after-listed own child ls (DataChanged path) =
+    λ i. record (watches_listed own child ls) { own = without-listed path own i }
+after-listed own child ls (ChildrenChanged path) =
+    λ i. record (watches_listed own child ls) { child = without-listed path child i }
+
+pub evaluated : (own child : Listed) (ls : LastingListed) (ts : List Trigger)
+    → fire (watches_listed own child ls) ts ≡ fire_listed own child ls ts
+evaluated own child ls [] = refl
+evaluated own child ls (t ∷ ts) =
+    let rest : fire (watches_after (watches_listed own child ls) t) ts
+    ≡ fire_listed (own_after own t) (child_after child t) ls ts =
+    ap (λ w. fire w ts) (after-listed own child ls t) ∙ evaluated (own_after own t) (child_after child t) ls ts in
+    λ i. record { events = tells-listed own child ls t i ++ (rest i).events; left = (rest i).left }

@@ -24,3 +24,9 @@ mod Others
 pub mod Ascending
 -- The watches of a table, listed.
 mod Listing
+-- Lasting watches, stored as a table for each mode.
+pub mod Lastings
+-- The connections that watch a path or one above it.
+pub mod Aboves
+-- What holds of lasting watches for each firing.
+mod LastingLaws

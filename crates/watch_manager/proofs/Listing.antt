@@ -1,8 +1,10 @@
 -- The watches of a table, listed.
-use Rattle.std.proofs.Common.{◌≡◌, ℕ, List, [], ◌∷◌, ◌++◌, Bool, true, false, T, ◌||◌, ◌&&◌, map, refl, sym, ap, subst, ◌∙◌, string_bytes}
+use Rattle.std.proofs.Common.{◌≡◌, ℕ, List, [], ◌∷◌, ◌++◌, Bool, true, false, cond, T, ◌||◌, ◌&&◌, Option, Some, None, map, refl, sym, ap, subst, ◌∙◌, string_bytes, append_assoc}
+use Rattle.std.specs.Prelude.{◌==◌, is_some}
 use Rattle.std.specs.declared.cmp.Ordering.{Ordering}
 use Rattle.std.specs.declared.cmp.Ordering.TheVariants.{Less, Equal, Greater}
 use Rattle.std.specs.BTreeSet.{insert_key}
+use Rattle.std.specs.FinMap as finmap
 use Rattle.std.specs.FinSet as set
 use Rattle.std.specs.List.{list_any, AllByRecursion}
 use Rattle.std.specs.List.Sorted.{IsStrictlySortedBy}
@@ -12,20 +14,24 @@ use Rattle.std.specs.declared.string.String.{String}
 use Rattle.std.specs.Ordering.{eq_by_cmp, is_eq, nat_cmp, ordering_then}
 use Rattle.std.specs.Cmp.{nat_cmp_total}
 use Rattle.std.proofs.lemmas.List.Folds.{list_any-append}
-use Rattle.std.proofs.lemmas.Map.Lookups.{CmpEqualImpliesEq}
+use Rattle.std.proofs.lemmas.Map.Lookups.{CmpEqualImpliesEq, exact_unsigned}
 use Rattle.ephemerals.specs.Orders.{Bytes, path_cmp}
 use Rattle.ephemerals.specs.Grouped.{all_pairs, by_bytes}
 use Rattle.ephemerals.proofs.Ascending.{any-ascending}
 use Rattle.ephemerals.proofs.Ties.{tied_then}
 use Rattle.watch_manager.specs.Pairs.{ConnectionSet, WatchPairs, watch_cmp, sorted_connections}
+use Rattle.watch_manager.specs.Lasting.{LastingWatches, is_in_mode, watches_in}
 use Rattle.watch_manager.specs.Summary.{table_rank, watched_cmp, watched_in}
 use Rattle.watch_manager.specs.Ascending.{sorted_distinct, with_inserted_keys}
 use Rattle.watch_manager.specs.Totals.{watched_total}
 use Rattle.watch_manager.specs.Inner.Listing.{path_rows, rows_of, AddsInOrder}
+use Rattle.watch_manager.specs.declared.mode.WatchMode.{WatchMode}
+use Rattle.watch_manager.specs.declared.mode.WatchMode.TheVariants.{Persistent, Recursive}
 use Rattle.watch_manager.specs.declared.watched.Table.{Table}
-use Rattle.watch_manager.specs.declared.watched.Table.TheVariants.{Own, Child}
+use Rattle.watch_manager.specs.declared.watched.Table.TheVariants.{Own, Child, Lasting}
 use Rattle.watch_manager.specs.declared.watched.Watched.{Watched}
 use Rattle.watch_manager.proofs.Totals.{watch_total, watch_exact}
+use Rattle.watch_manager.proofs.Lastings.{contains-watches_in}
 use Rattle.watch_manager.proofs.Ascending.{same_ascending, inserted-ascending}
 
 -- ---- the order of watches
@@ -40,6 +46,17 @@ second_ties Less b e = absurd (subst (λ r. T (is_eq r)) (sym e) tt)
 second_ties Equal b e = e
 second_ties Greater b e = absurd (subst (λ r. T (is_eq r)) (sym e) tt)
 
+abbrev table_at : ℕ → Table
+table_at n = cond (n == 0) Own (cond (n == 1) Child Lasting)
+
+same_rank : (s t : Table) → nat_cmp (table_rank s) (table_rank t) ≡ Equal → s ≡ t
+same_rank s t e = sym (again s) ∙ ap table_at (exact_unsigned (table_rank s) (table_rank t) e) ∙ again t
+  where
+    again : (t : Table) → table_at (table_rank t) ≡ t
+    again Own = refl
+    again Child = refl
+    again Lasting = refl
+
 -- It ties only equal watches.
 pub watched_exact : CmpEqualImpliesEq watched_cmp
 watched_exact x y tie = by x.table y.table tie
@@ -51,15 +68,10 @@ watched_exact x y tie = by x.table y.table tie
     by : (s t : Table)
         → ordering_then (watch_cmp (x.path, x.conn) (y.path, y.conn)) (nat_cmp (table_rank s) (table_rank t)) ≡ Equal
         → watched_in s (x.path, x.conn) ≡ watched_in t (y.path, y.conn)
-    by Own Own e = ap (watched_in Own) (same (first_ties (watch_cmp (x.path, x.conn) (y.path, y.conn)) (nat_cmp 0 0) e))
-    by Own Child e =
-        absurd (subst (λ r. T (is_eq r))
-        (sym (second_ties (watch_cmp (x.path, x.conn) (y.path, y.conn)) (nat_cmp 0 1) e)) tt)
-    by Child Own e =
-        absurd (subst (λ r. T (is_eq r))
-        (sym (second_ties (watch_cmp (x.path, x.conn) (y.path, y.conn)) (nat_cmp 1 0) e)) tt)
-    by Child Child e =
-        ap (watched_in Child) (same (first_ties (watch_cmp (x.path, x.conn) (y.path, y.conn)) (nat_cmp 1 1) e))
+    by s t e =
+        λ i. watched_in
+        (same_rank s t (second_ties (watch_cmp (x.path, x.conn) (y.path, y.conn)) (nat_cmp (table_rank s) (table_rank t)) e) i)
+        (same (first_ties (watch_cmp (x.path, x.conn) (y.path, y.conn)) (nat_cmp (table_rank s) (table_rank t)) e) i)
 
 -- ---- the watches that are listed
 
@@ -205,3 +217,48 @@ ends table watches old now h before is =
     list_any-append (eq_by_cmp watched_cmp q) before (rows_of table h.all)
     ∙ ap (λ b. list_any (eq_by_cmp watched_cmp q) before || b) (any-table table h.all watches h.are q)
     ∙ sym (list_any-append (eq_by_cmp watched_cmp q) before (map (watched_in table) (set.items watches))))
+
+-- ---- lasting watches, mode by mode
+
+any-lasting : (lasting : LastingWatches) (q : Watched)
+    → (list_any (eq_by_cmp watched_cmp q) (map (watched_in Lasting) (set.items (watches_in Persistent lasting)))
+    || list_any (eq_by_cmp watched_cmp q) (map (watched_in Lasting) (set.items (watches_in Recursive lasting))))
+    ≡ list_any (eq_by_cmp watched_cmp q) (map (watched_in Lasting) (finmap.keys lasting))
+any-lasting lasting q =
+    (λ i. of_mode Persistent i || of_mode Recursive i)
+    ∙ and_or (is_in_mode Persistent (finmap.get lasting (q.path, q.conn)))
+    (is_in_mode Recursive (finmap.get lasting (q.path, q.conn))) (same_table q Lasting)
+    ∙ ap (λ b. b && same_table q Lasting)
+    (either (finmap.get lasting (q.path, q.conn)) ∙ finmap.contains_key-keys lasting (q.path, q.conn))
+    ∙ sym (any-watched_in Lasting (finmap.keys lasting) q)
+  where
+    of_mode : (mode : WatchMode)
+        → list_any (eq_by_cmp watched_cmp q) (map (watched_in Lasting) (set.items (watches_in mode lasting)))
+        ≡ (is_in_mode mode (finmap.get lasting (q.path, q.conn)) && same_table q Lasting)
+    of_mode mode =
+        any-watched_in Lasting (set.items (watches_in mode lasting)) q
+        ∙ ap (λ b. b && same_table q Lasting)
+        (sym (set.contains-items (watches_in mode lasting) (q.path, q.conn))
+        ∙ contains-watches_in mode lasting (q.path, q.conn))
+
+    either : (found : Option WatchMode) → (is_in_mode Persistent found || is_in_mode Recursive found) ≡ is_some found
+    either None = refl
+    either (Some Persistent) = refl
+    either (Some Recursive) = refl
+
+-- The watches of both modes are the lasting watches.
+pub lasting_rows : (before : List Watched) (lasting : LastingWatches)
+    → sorted_distinct watched_cmp
+    ((before ++ map (watched_in Lasting) (set.items (watches_in Persistent lasting)))
+    ++ map (watched_in Lasting) (set.items (watches_in Recursive lasting)))
+    ≡ sorted_distinct watched_cmp (before ++ map (watched_in Lasting) (finmap.keys lasting))
+lasting_rows before lasting =
+    let persistent = map (watched_in Lasting) (set.items (watches_in Persistent lasting)) in
+    let recursive = map (watched_in Lasting) (set.items (watches_in Recursive lasting)) in
+    ap (sorted_distinct watched_cmp) (append_assoc before persistent recursive)
+    ∙ same_ascending watched_total watched_exact (before ++ (persistent ++ recursive))
+    (before ++ map (watched_in Lasting) (finmap.keys lasting)) (λ q.
+    list_any-append (eq_by_cmp watched_cmp q) before (persistent ++ recursive)
+    ∙ ap (λ b. list_any (eq_by_cmp watched_cmp q) before || b)
+    (list_any-append (eq_by_cmp watched_cmp q) persistent recursive ∙ any-lasting lasting q)
+    ∙ sym (list_any-append (eq_by_cmp watched_cmp q) before (map (watched_in Lasting) (finmap.keys lasting))))

@@ -1,15 +1,20 @@
 -- What one connection does with its watches leaves those of every other.
-use Rattle.std.proofs.Common.{◌≡◌, ◌≢◌, ℕ, Bool, true, false, not, ◌&&◌, ◌||◌, refl, sym, ap, ◌∙◌}
+use Rattle.std.proofs.Common.{◌≡◌, ◌≢◌, ℕ, Bool, true, false, cond, not, ◌&&◌, ◌||◌, Some, None, refl, sym, ap, ◌∙◌}
 use mathlib.Core.Bool.{and-true}
 use Rattle.std.specs.Ordering.{eq_by_cmp}
 use Rattle.std.proofs.lemmas.Map.Views.{tells_apart}
 use Rattle.std.proofs.lemmas.Map.Lookups.{exact_unsigned}
+use Rattle.std.specs.FinMap as finmap
 use Rattle.std.specs.FinSet as set
 use Rattle.ephemerals.specs.Orders.{Bytes}
 use Rattle.watch_manager.specs.Pairs.{WatchPairs, watch_cmp, without_connection, same_connection}
+use Rattle.watch_manager.specs.Lasting.{LastingWatches}
+use Rattle.watch_manager.specs.Watching.{without_lasting_of}
 use Rattle.watch_manager.specs.Laws.{OthersKeepWatches}
+use Rattle.watch_manager.specs.declared.mode.WatchMode.{WatchMode}
 use Rattle.watch_manager.proofs.Totals.{watch_total, watch_exact}
 use Rattle.watch_manager.proofs.Watchers.{contains-without_connection}
+use Rattle.watch_manager.proofs.Lastings.{get-without_lasting}
 
 sets : (pairs : WatchPairs) (path : Bytes) (conn : ℕ) (p : Bytes) (other : ℕ) → other ≢ conn
     → set.contains (set.insert pairs (path, conn)) (p, other) ≡ set.contains pairs (p, other)
@@ -32,5 +37,31 @@ drops pairs conn p other apart = contains-without_connection conn pairs (p, othe
     by true same = absurd (apart (sym (tells_apart exact_unsigned conn other same)))
     by false differ = and-true (set.contains pairs (p, other))
 
+sets_lasting : (lasting : LastingWatches) (path : Bytes) (conn : ℕ) (mode : WatchMode) (p : Bytes) (other : ℕ)
+    → other ≢ conn → finmap.get (finmap.insert lasting (path, conn) mode) (p, other) ≡ finmap.get lasting (p, other)
+sets_lasting lasting path conn mode p other apart =
+    finmap.get-insert watch_total lasting (path, conn) mode (p, other)
+    ∙ by (eq_by_cmp watch_cmp (p, other) (path, conn)) refl
+  where
+    by : (b : Bool) → eq_by_cmp watch_cmp (p, other) (path, conn) ≡ b
+        → cond b (Some mode) (finmap.get lasting (p, other)) ≡ finmap.get lasting (p, other)
+    by true same = absurd (apart (ap (λ (q : Bytes × ℕ). q.1) (tells_apart watch_exact (p, other) (path, conn) same)))
+    by false differ = refl
+
+drops_lasting : (lasting : LastingWatches) (conn : ℕ) (p : Bytes) (other : ℕ) → other ≢ conn
+    → finmap.get (without_lasting_of conn lasting) (p, other) ≡ finmap.get lasting (p, other)
+drops_lasting lasting conn p other apart =
+    get-without_lasting conn lasting (p, other) ∙ by (same_connection conn other) refl
+  where
+    by : (b : Bool) → same_connection conn other ≡ b
+        → cond (not b) (finmap.get lasting (p, other)) None ≡ finmap.get lasting (p, other)
+    by true same = absurd (apart (sym (tells_apart exact_unsigned conn other same)))
+    by false differ = refl
+
 pub others_keep_watches : OthersKeepWatches
-others_keep_watches = record { sets = sets; drops = drops }
+others_keep_watches = record {
+  sets = sets;
+  drops = drops;
+  sets_lasting = sets_lasting;
+  drops_lasting = drops_lasting;
+}

@@ -39,6 +39,13 @@ agree-insert pairs turn p c agree q d =
     ∙ (λ i. turned q p d c i || agree q d i)
     ∙ sym (set.contains-insert conn_total turn (c, p) (d, q))
 
+pub agree-remove : (pairs : WatchPairs) (turn : ConnPairs) (p : Bytes) (c : ℕ) → AgreeOn pairs turn
+    → AgreeOn (set.remove pairs (p, c)) (set.remove turn (c, p))
+agree-remove pairs turn p c agree q d =
+    set.contains-remove watch_total pairs (p, c) (q, d)
+    ∙ (λ i. not (turned q p d c i) && agree q d i)
+    ∙ sym (set.contains-remove conn_total turn (c, p) (d, q))
+
 contains-without_conns : (p : Bytes) (cs : List ℕ) (turn : ConnPairs) (d : ℕ) (q : Bytes)
     → set.contains (without_conns p cs turn) (d, q)
     ≡ (set.contains turn (d, q) && not (eq_by_cmp path_cmp q p && list_any (eq_by_cmp nat_cmp d) cs))

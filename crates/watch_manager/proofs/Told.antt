@@ -1,6 +1,7 @@
 -- The connections that get an event, and how often.
-use Rattle.std.proofs.Common.{◌≡◌, ℕ, List, [], ◌∷◌, ◌++◌, Bool, true, false, cond, not, ◌||◌, ◌&&◌, T, refl, sym, ap, subst, ◌∙◌, map}
+use Rattle.std.proofs.Common.{◌≡◌, ℕ, List, [], ◌∷◌, ◌++◌, Bool, true, false, cond, not, ◌||◌, ◌&&◌, T, None, refl, sym, ap, subst, ◌∙◌, map}
 use mathlib.Core.Bool.{true≢false}
+use Rattle.std.specs.Prelude.{is_some}
 use Rattle.std.proofs.Math.Bool.{or-true}
 use Rattle.std.specs.declared.cmp.Ordering.{Ordering}
 use Rattle.std.specs.declared.cmp.Ordering.TheVariants.{Less, Equal, Greater}
@@ -18,15 +19,20 @@ use Rattle.ephemerals.specs.Orders.{Bytes}
 use Rattle.data_tree.specs.declared.outcome.Trigger.{Trigger}
 use Rattle.data_tree.specs.declared.outcome.Trigger.TheVariants.{Created, Deleted, DataChanged, ChildrenChanged}
 use Rattle.watch_manager.specs.Pairs.{ConnectionSet, WatchPairs, sorted_connections, watchers_of, without_watches_on, without_connection, same_connection}
-use Rattle.watch_manager.specs.Watching.{WatchTables, without_watches_of}
-use Rattle.watch_manager.specs.Watches.{events_for, connections_not_told, events_of_trigger, watches_after, fire}
-use Rattle.watch_manager.specs.Laws.{AllPass, WatchersPass}
+use Rattle.watch_manager.specs.Lasting.{LastingWatches, watches_in, watchers_above, persistent_watchers, lasting_watchers}
+use Rattle.watch_manager.specs.Watching.{WatchTables, without_watches_of, without_lasting_of}
+use Rattle.watch_manager.specs.Watches.{events_for, connections_not_told, node_watchers, children_watchers, events_of_trigger, watches_after, fire}
+use Rattle.watch_manager.specs.Laws.{AllPass, AllLastingPass, WatchersPass}
 use Rattle.watch_manager.specs.declared.event.Event.{Event}
 use Rattle.watch_manager.specs.declared.event.EventKind.{EventKind}
 use Rattle.watch_manager.specs.declared.event.EventKind.TheVariants.{NodeDeleted}
 use Rattle.ephemerals.proofs.Ascending.{any-ascending}
 use Rattle.ephemerals.proofs.Grouped.{front_holds, rest_holds}
+use Rattle.watch_manager.specs.declared.mode.WatchMode.{WatchMode}
+use Rattle.watch_manager.specs.declared.mode.WatchMode.TheVariants.{Persistent, Recursive}
 use Rattle.watch_manager.proofs.Watchers.{contains-watchers, contains-without_path, contains-without_connection}
+use Rattle.watch_manager.proofs.Lastings.{in_mode-is_set, get-without_lasting}
+use Rattle.watch_manager.proofs.Aboves.{watched_at, paths_up, contains-watchers_above}
 
 -- Lists in which each element has a property.
 all_append : {A : Type 0} (P : A → Type 0) (xs ys : List A) → AllByRecursion P xs → AllByRecursion P ys
@@ -34,7 +40,7 @@ all_append : {A : Type 0} (P : A → Type 0) (xs ys : List A) → AllByRecursion
 all_append P [] ys h k = k
 all_append P (x ∷ xs) ys h k = (h.0, all_append P xs ys h.1 k)
 
-all_filter : {A : Type 0} (P : A → Type 0) (keep : A → Bool) (xs : List A) → AllByRecursion P xs
+pub all_filter : {A : Type 0} (P : A → Type 0) (keep : A → Bool) (xs : List A) → AllByRecursion P xs
     → AllByRecursion P (filter keep xs)
 all_filter P keep [] h = tt
 all_filter P keep (x ∷ xs) h =
@@ -78,20 +84,74 @@ told-all : (test : ℕ → Bool) (kind : EventKind) (path : Bytes) (ns : List �
 told-all test kind path [] h = tt
 told-all test kind path (n ∷ ns) h = (h.0, told-all test kind path ns h.1)
 
-watchers-all : (test : ℕ → Bool) (path : Bytes) (pairs : WatchPairs) → AllPass test pairs
-    → AllByRecursion (λ q. test q ≡ true) (sorted_connections (watchers_of path pairs))
-watchers-all test path pairs h =
-    in_number-all test (watchers_of path pairs) (λ q t. h path q (sym (contains-watchers path pairs q) ∙ t))
+child-all : (test : ℕ → Bool) (path : Bytes) (pairs : WatchPairs) → AllPass test pairs → (q : ℕ)
+    → set.contains (watchers_of path pairs) q ≡ true → test q ≡ true
+child-all test path pairs h q t = h path q (sym (contains-watchers path pairs q) ∙ t)
+
+-- A connection of one set or of the other.
+of_both : (test : ℕ → Bool) (conns others : ConnectionSet)
+    → ((q : ℕ) → set.contains conns q ≡ true → test q ≡ true)
+    → ((q : ℕ) → set.contains others q ≡ true → test q ≡ true)
+    → (q : ℕ) → set.contains (set.union conns others) q ≡ true → test q ≡ true
+of_both test conns others h k q t =
+    by (set.contains conns q) (h q) (sym (set.contains-union nat_cmp_total conns others q) ∙ t)
+  where
+    by : (x : Bool) → (x ≡ true → test q ≡ true) → (x || set.contains others q) ≡ true → test q ≡ true
+    by true first e = first refl
+    by false first e = k q e
+
+in_mode-all : (test : ℕ → Bool) (mode : WatchMode) (lasting : LastingWatches) → AllLastingPass test lasting
+    → AllPass test (watches_in mode lasting)
+in_mode-all test mode lasting h path conn t = h path conn (in_mode-is_set mode lasting (path, conn) t)
+
+persistent-all : (test : ℕ → Bool) (path : Bytes) (lasting : LastingWatches) → AllLastingPass test lasting → (q : ℕ)
+    → set.contains (persistent_watchers path lasting) q ≡ true → test q ≡ true
+persistent-all test path lasting h =
+    child-all test path (watches_in Persistent lasting) (in_mode-all test Persistent lasting h)
+
+above-all : (test : ℕ → Bool) (path : Bytes) (pairs : WatchPairs) → AllPass test pairs → (q : ℕ)
+    → set.contains (watchers_above path pairs) q ≡ true → test q ≡ true
+above-all test path pairs h q t = by (paths_up path) (sym (contains-watchers_above path pairs q) ∙ t)
+  where
+    by : (paths : List Bytes) → watched_at pairs q paths ≡ true → test q ≡ true
+    by [] e = absurd (true≢false (sym e))
+    by (p ∷ ps) e =
+        elim (set.contains pairs (p, q)) as (λ b. set.contains pairs (p, q) ≡ b → (b || watched_at pairs q ps) ≡ true
+        → test q ≡ true) [
+          | true ↦ λ here f. h p q here
+          | false ↦ λ out f. by ps f
+        ] refl e
+
+node-all : (test : ℕ → Bool) (path : Bytes) (w : WatchTables) → WatchersPass test w → (q : ℕ)
+    → set.contains (node_watchers path w) q ≡ true → test q ≡ true
+node-all test path w h =
+    of_both test (watchers_of path w.own) (lasting_watchers path w.lasting) (child-all test path w.own h.0)
+    (of_both test (persistent_watchers path w.lasting) (watchers_above path (watches_in Recursive w.lasting))
+    (persistent-all test path w.lasting h.2)
+    (above-all test path (watches_in Recursive w.lasting) (in_mode-all test Recursive w.lasting h.2)))
+
+children-all : (test : ℕ → Bool) (path : Bytes) (w : WatchTables) → WatchersPass test w → (q : ℕ)
+    → set.contains (children_watchers path w) q ≡ true → test q ≡ true
+children-all test path w h =
+    of_both test (watchers_of path w.child) (persistent_watchers path w.lasting) (child-all test path w.child h.1)
+    (persistent-all test path w.lasting h.2)
+
+part-all : (test : ℕ → Bool) (kind : EventKind) (path : Bytes) (conns : ConnectionSet)
+    → ((q : ℕ) → set.contains conns q ≡ true → test q ≡ true)
+    → AllByRecursion (λ (e : ℕ × Event). test e.0 ≡ true) (events_for kind path (sorted_connections conns))
+part-all test kind path conns h = told-all test kind path (sorted_connections conns) (in_number-all test conns h)
 
 tells-all : (test : ℕ → Bool) (w : WatchTables) (t : Trigger) → WatchersPass test w
     → AllByRecursion (λ (e : ℕ × Event). test e.0 ≡ true) (events_of_trigger w t)
-tells-all test w (Created path) h = told-all test _ path _ (watchers-all test path w.own h.0)
+tells-all test w (Created path) h = part-all test _ path (node_watchers path w) (node-all test path w h)
 tells-all test w (Deleted path) h =
-    all_append (λ (e : ℕ × Event). test e.0 ≡ true) _ _ (told-all test _ path _ (watchers-all test path w.own h.0))
-    (told-all test _ path _ (all_filter (λ q. test q ≡ true) (λ (c : ℕ). not (set.contains (watchers_of path w.own) c))
-    (sorted_connections (watchers_of path w.child)) (watchers-all test path w.child h.1)))
-tells-all test w (DataChanged path) h = told-all test _ path _ (watchers-all test path w.own h.0)
-tells-all test w (ChildrenChanged path) h = told-all test _ path _ (watchers-all test path w.child h.1)
+    all_append (λ (e : ℕ × Event). test e.0 ≡ true) _ _
+    (part-all test _ path (node_watchers path w) (node-all test path w h))
+    (told-all test _ path _ (all_filter (λ q. test q ≡ true) (λ (c : ℕ). not (set.contains (node_watchers path w) c))
+    (sorted_connections (watchers_of path w.child))
+    (in_number-all test (watchers_of path w.child) (child-all test path w.child h.1))))
+tells-all test w (DataChanged path) h = part-all test _ path (node_watchers path w) (node-all test path w h)
+tells-all test w (ChildrenChanged path) h = part-all test _ path (children_watchers path w) (children-all test path w h)
 
 both_front : (a b : Bool) → (a && b) ≡ true → a ≡ true
 both_front true b e = refl
@@ -103,10 +163,10 @@ without_path-all test path pairs h p c t = h p c (both_front _ _ (sym (contains-
 
 after-all : (test : ℕ → Bool) (w : WatchTables) (t : Trigger) → WatchersPass test w
     → WatchersPass test (watches_after w t)
-after-all test w (Created path) h = (without_path-all test path w.own h.0, h.1)
-after-all test w (Deleted path) h = (without_path-all test path w.own h.0, without_path-all test path w.child h.1)
-after-all test w (DataChanged path) h = (without_path-all test path w.own h.0, h.1)
-after-all test w (ChildrenChanged path) h = (h.0, without_path-all test path w.child h.1)
+after-all test w (Created path) h = (without_path-all test path w.own h.0, h.1, h.2)
+after-all test w (Deleted path) h = (without_path-all test path w.own h.0, without_path-all test path w.child h.1, h.2)
+after-all test w (DataChanged path) h = (without_path-all test path w.own h.0, h.1, h.2)
+after-all test w (ChildrenChanged path) h = (h.0, without_path-all test path w.child h.1, h.2)
 
 pub fire-all : (test : ℕ → Bool) (w : WatchTables) (ts : List Trigger) → WatchersPass test w
     → AllByRecursion (λ (e : ℕ × Event). test e.0 ≡ true) (fire w ts).events × WatchersPass test (fire w ts).left
@@ -127,10 +187,27 @@ without_connection-all test conn pairs h p c t =
     by true false false h e = h refl
     by false same passes h e = absurd (true≢false (sym e))
 
+without_lasting-all : (test : ℕ → Bool) (conn : ℕ) (lasting : LastingWatches)
+    → AllLastingPass (λ c. test c || same_connection conn c) lasting
+    → AllLastingPass test (without_lasting_of conn lasting)
+without_lasting-all test conn lasting h p c t =
+    by (same_connection conn c) (test c) (h p c)
+    (sym (ap (λ found. is_some found) (get-without_lasting conn lasting (p, c))) ∙ t)
+  where
+    by : (same passes : Bool) → (finmap.contains_key lasting (p, c) ≡ true → (passes || same) ≡ true)
+        → is_some (cond (not same) (finmap.get lasting (p, c)) None) ≡ true → passes ≡ true
+    by true passes h e = absurd (true≢false (sym e))
+    by false true h e = refl
+    by false false h e = h e
+
 pub dropped-all : (test : ℕ → Bool) (w : WatchTables) (conn : ℕ)
     → WatchersPass (λ c. test c || same_connection conn c) w
     → WatchersPass test (without_watches_of conn w)
-dropped-all test w conn h = (without_connection-all test conn w.own h.0, without_connection-all test conn w.child h.1)
+dropped-all test w conn h = (
+  without_connection-all test conn w.own h.0,
+  without_connection-all test conn w.child h.1,
+  without_lasting-all test conn w.lasting h.2,
+)
 
 -- The list of a set has each connection once.
 less : (r : Ordering) → T (is_lt r) → r ≡ Less
@@ -149,10 +226,13 @@ unfolding IsStrictlySortedBy
 sorted_keys [] h = tt
 sorted_keys (e ∷ es) h = (all_above e.0 es (front_holds _ _ h), sorted_keys es (rest_holds _ _ h))
 
-in_number-distinct : (conns : ConnectionSet) → IsDistinct same_connection (sorted_connections conns)
-in_number-distinct conns =
+pub in_number-sorted : (conns : ConnectionSet) → IsStrictlySortedBy nat_cmp (sorted_connections conns)
+in_number-sorted conns =
     let m = finmap.from_entries {R = nat_cmp} (map (λ (conn : ℕ). (conn, tt {0})) (set.items conns)) in
-    IsDistinct-from_sorted nat_cmp (sorted_connections conns) (sorted_keys (finmap.entries m) (finmap.entries_sorted m))
+    sorted_keys (finmap.entries m) (finmap.entries_sorted m)
+
+in_number-distinct : (conns : ConnectionSet) → IsDistinct same_connection (sorted_connections conns)
+in_number-distinct conns = IsDistinct-from_sorted nat_cmp (sorted_connections conns) (in_number-sorted conns)
 
 distinct_filter : (keep : ℕ → Bool) (ns : List ℕ) → IsDistinct same_connection ns
     → IsDistinct same_connection (filter keep ns)
@@ -173,7 +253,7 @@ distinct_append [] ms g h apart = h
 distinct_append (n ∷ ns) ms g h apart =
     (all_append (λ m. same_connection n m ≡ false) ns ms g.0 apart.0, distinct_append ns ms g.1 h apart.1)
 
-told-connections : (kind : EventKind) (path : Bytes) (ns : List ℕ)
+pub told-connections : (kind : EventKind) (path : Bytes) (ns : List ℕ)
     → map (λ (e : ℕ × Event). e.0) (events_for kind path ns) ≡ ns
 told-connections kind path [] = refl
 told-connections kind path (n ∷ ns) = ap (λ ms. n ∷ ms) (told-connections kind path ns)
@@ -217,13 +297,13 @@ part-distinct kind path conns =
 
 pub told_once : (w : WatchTables) (t : Trigger)
     → IsDistinct same_connection (map (λ (e : ℕ × Event). e.0) (events_of_trigger w t))
-told_once w (Created path) = part-distinct _ path (watchers_of path w.own)
+told_once w (Created path) = part-distinct _ path (node_watchers path w)
 told_once w (Deleted path) =
     subst (IsDistinct same_connection)
-    (sym (map-append (events_for NodeDeleted path (sorted_connections (watchers_of path w.own)))
-    (events_for NodeDeleted path (connections_not_told (watchers_of path w.own) (watchers_of path w.child)))
-    ∙ (λ i. told-connections NodeDeleted path (sorted_connections (watchers_of path w.own)) i
-    ++ told-connections NodeDeleted path (connections_not_told (watchers_of path w.own) (watchers_of path w.child)) i)))
-    (parts-distinct (watchers_of path w.own) (watchers_of path w.child))
-told_once w (DataChanged path) = part-distinct _ path (watchers_of path w.own)
-told_once w (ChildrenChanged path) = part-distinct _ path (watchers_of path w.child)
+    (sym (map-append (events_for NodeDeleted path (sorted_connections (node_watchers path w)))
+    (events_for NodeDeleted path (connections_not_told (node_watchers path w) (watchers_of path w.child)))
+    ∙ (λ i. told-connections NodeDeleted path (sorted_connections (node_watchers path w)) i
+    ++ told-connections NodeDeleted path (connections_not_told (node_watchers path w) (watchers_of path w.child)) i)))
+    (parts-distinct (node_watchers path w) (watchers_of path w.child))
+told_once w (DataChanged path) = part-distinct _ path (node_watchers path w)
+told_once w (ChildrenChanged path) = part-distinct _ path (children_watchers path w)

@@ -1,13 +1,21 @@
 -- What holds for each firing, with any watches and any triggers.
-use Rattle.std.specs.Prelude.{◌≡◌, ◌≢◌, ℕ, List, [], Bool, true, ◌||◌, map}
+use Rattle.std.specs.Prelude.{◌≡◌, ◌≢◌, ℕ, List, [], ◌++◌, Bool, true, ◌||◌, map, Some, Contains}
 use Rattle.std.specs.List.{AllByRecursion, IsDistinct}
+use Rattle.std.specs.List.Sorted.{IsStrictlySortedBy}
+use Rattle.std.specs.Ordering.{nat_cmp}
+use Rattle.std.specs.FinMap as finmap
 use Rattle.std.specs.FinSet as set
 use Rattle.ephemerals.specs.Orders.{Bytes}
 use Rattle.data_tree.specs.declared.outcome.Trigger.{Trigger}
-use Rattle.watch_manager.specs.Pairs.{WatchPairs, without_connection, same_connection}
-use Rattle.watch_manager.specs.Watching.{WatchTables, without_watches_of}
-use Rattle.watch_manager.specs.Watches.{events_of_trigger, fire}
+use Rattle.data_tree.specs.declared.outcome.Trigger.TheVariants.{Created, Deleted, DataChanged, ChildrenChanged}
+use Rattle.watch_manager.specs.Pairs.{WatchPairs, without_connection, same_connection, same_path}
+use Rattle.watch_manager.specs.Lasting.{LastingWatches, is_above}
+use Rattle.watch_manager.specs.Watching.{WatchTables, without_watches_of, without_lasting_of}
+use Rattle.watch_manager.specs.Watches.{event_for, events_of_trigger, fire}
 use Rattle.watch_manager.specs.declared.event.Event.{Event}
+use Rattle.watch_manager.specs.declared.event.EventKind.TheVariants.{NodeCreated, NodeDeleted, NodeDataChanged}
+use Rattle.watch_manager.specs.declared.mode.WatchMode.{WatchMode}
+use Rattle.watch_manager.specs.declared.mode.WatchMode.TheVariants.{Recursive}
 
 -- A trigger sends a connection at most one event.
 abbrev pub ConnectionsAreToldOnce : Type 0
@@ -19,9 +27,14 @@ ConnectionsAreToldOnce =
 abbrev pub AllPass : (ℕ → Bool) → WatchPairs → Type 0
 AllPass test pairs = (path : Bytes) (conn : ℕ) → set.contains pairs (path, conn) ≡ true → test conn ≡ true
 
+-- Each connection with a lasting watch passes the test.
+abbrev pub AllLastingPass : (ℕ → Bool) → LastingWatches → Type 0
+AllLastingPass test lasting =
+    (path : Bytes) (conn : ℕ) → finmap.contains_key lasting (path, conn) ≡ true → test conn ≡ true
+
 -- Each connection that watches something passes the test.
 abbrev pub WatchersPass : (ℕ → Bool) → WatchTables → Type 0
-WatchersPass test w = AllPass test w.own × AllPass test w.child
+WatchersPass test w = AllPass test w.own × AllPass test w.child × AllLastingPass test w.lasting
 
 -- Only watchers get an event, and no connection watches anew: a test that all watchers pass is passed by each
 -- connection that gets an event, and by all watchers afterwards.
@@ -48,3 +61,39 @@ pub record OthersKeepWatches : Type 0 where
       → set.contains (set.insert pairs (path, conn)) (p, other) ≡ set.contains pairs (p, other)
   pub drops : (pairs : WatchPairs) (conn : ℕ) (p : Bytes) (other : ℕ) → other ≢ conn
       → set.contains (without_connection conn pairs) (p, other) ≡ set.contains pairs (p, other)
+  pub sets_lasting : (lasting : LastingWatches) (path : Bytes) (conn : ℕ) (mode : WatchMode) (p : Bytes) (other : ℕ)
+      → other ≢ conn → finmap.get (finmap.insert lasting (path, conn) mode) (p, other)
+      ≡ finmap.get lasting (p, other)
+  pub drops_lasting : (lasting : LastingWatches) (conn : ℕ) (p : Bytes) (other : ℕ) → other ≢ conn
+      → finmap.get (without_lasting_of conn lasting) (p, other) ≡ finmap.get lasting (p, other)
+
+-- No trigger uses up a lasting watch.
+abbrev pub LastingWatchesStay : Type 0
+LastingWatchesStay = (w : WatchTables) (triggers : List Trigger) → (fire w triggers).left.lasting ≡ w.lasting
+
+-- The connection has a recursive watch on the path or above it.
+pub record WatchesRecursively (w : WatchTables) (path : Bytes) (conn : ℕ) : Type 0 where
+  pub on : Bytes
+  pub is_set : finmap.get w.lasting (on, conn) ≡ Some Recursive
+  pub reaches : (same_path on path || is_above on path) ≡ true
+
+-- It is told of each creation, deletion and change of data.
+pub record RecursiveWatchersAreTold : Type 0 where
+  pub created : (w : WatchTables) (path : Bytes) (conn : ℕ) → WatchesRecursively w path conn
+      → Contains (events_of_trigger w (Created path)) (event_for conn NodeCreated path)
+  pub deleted : (w : WatchTables) (path : Bytes) (conn : ℕ) → WatchesRecursively w path conn
+      → Contains (events_of_trigger w (Deleted path)) (event_for conn NodeDeleted path)
+  pub changed : (w : WatchTables) (path : Bytes) (conn : ℕ) → WatchesRecursively w path conn
+      → Contains (events_of_trigger w (DataChanged path)) (event_for conn NodeDataChanged path)
+
+-- The connections of the events strictly rise.
+abbrev pub IsInConnectionOrder : List (ℕ × Event) → Type 0
+IsInConnectionOrder events = IsStrictlySortedBy nat_cmp (map (λ (e : ℕ × Event). e.0) events)
+
+-- Within a part the connections are told in ascending number: the watchers of the node, then its child watchers.
+pub record PartsAscend : Type 0 where
+  pub created : (w : WatchTables) (path : Bytes) → IsInConnectionOrder (events_of_trigger w (Created path))
+  pub deleted : (w : WatchTables) (path : Bytes) → (first others : List (ℕ × Event))
+      × (events_of_trigger w (Deleted path) ≡ first ++ others) × IsInConnectionOrder first × IsInConnectionOrder others
+  pub changed : (w : WatchTables) (path : Bytes) → IsInConnectionOrder (events_of_trigger w (DataChanged path))
+  pub children : (w : WatchTables) (path : Bytes) → IsInConnectionOrder (events_of_trigger w (ChildrenChanged path))

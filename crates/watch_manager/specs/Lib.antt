@@ -1,4 +1,5 @@
 pub mod Pairs
+pub mod Lasting
 pub mod Watching
 pub mod Events
 pub mod Watches

@@ -1,22 +1,25 @@
 -- Rows that were worked out by hand: watches, triggers, and the events that they cause.
 use Rattle.std.specs.Prelude.{◌≡◌, ℕ, List, [], ◌∷◌, codes}
+use Rattle.std.specs.FinMap as finmap
 use Rattle.std.specs.FinSet as set
 use Rattle.ephemerals.specs.Orders.{Bytes}
-use Rattle.data_tree.specs.declared.outcome.Trigger.TheVariants.{Created, Deleted, ChildrenChanged}
+use Rattle.data_tree.specs.declared.outcome.Trigger.TheVariants.{Created, Deleted, DataChanged, ChildrenChanged}
 use Rattle.watch_manager.specs.Watching.{WatchTables, no_watch}
-use Rattle.watch_manager.specs.Watches.{FireResult, fire}
+use Rattle.watch_manager.specs.Lasting.{root_path}
+use Rattle.watch_manager.specs.Watches.{FireResult, event_for, fire}
 use Rattle.watch_manager.specs.declared.event.Event.{Event}
-use Rattle.watch_manager.specs.declared.event.EventKind.{EventKind}
-use Rattle.watch_manager.specs.declared.event.EventKind.TheVariants.{NodeCreated, NodeDeleted, NodeChildrenChanged}
-
-abbrev pub root_path : Bytes
-root_path = codes "/"
+use Rattle.watch_manager.specs.declared.event.EventKind.TheVariants.{NodeCreated, NodeDeleted, NodeDataChanged, NodeChildrenChanged}
+use Rattle.watch_manager.specs.declared.mode.WatchMode.{WatchMode}
+use Rattle.watch_manager.specs.declared.mode.WatchMode.TheVariants.{Persistent, Recursive}
 
 abbrev pub path_a : Bytes
 path_a = codes "/a"
 
 abbrev pub path_b : Bytes
 path_b = codes "/b"
+
+abbrev pub path_ab : Bytes
+path_ab = codes "/ab"
 
 abbrev pub path_a_e : Bytes
 path_a_e = codes "/a/e"
@@ -29,10 +32,11 @@ path_b_g = codes "/b/g"
 
 -- These data watches and child watches.
 abbrev pub watches_on : List (Bytes × ℕ) → List (Bytes × ℕ) → WatchTables
-watches_on own child = record { own = set.from_list own; child = set.from_list child }
+watches_on own child = record { own = set.from_list own; child = set.from_list child; lasting = finmap.empty }
 
-abbrev pub event_for : ℕ → EventKind → Bytes → ℕ × Event
-event_for conn kind path = (conn, record { kind = kind; path = path })
+-- With these lasting watches.
+abbrev pub lasting_on : List ((Bytes × ℕ) × WatchMode) → WatchTables → WatchTables
+lasting_on lasting w = record w { lasting = finmap.from_entries lasting }
 
 abbrev pub result_without_watches : List (ℕ × Event) → FireResult
 result_without_watches events = record { events = events; left = no_watch }
@@ -57,3 +61,32 @@ pub record WorkedRows : Type 0 where
   pub created :
       fire (watches_on ((path_a, 1) ∷ []) []) (Created path_a ∷ ChildrenChanged root_path ∷ []) ≡ result_without_watches
       (event_for 1 NodeCreated path_a ∷ [])
+  -- A create of /a tells of /a alone where the watch on "/" is recursive, and of "/" alone where it is persistent.
+  pub recursive_root :
+      fire (lasting_on (((root_path, 1), Recursive) ∷ []) no_watch)
+      (Created path_a ∷ ChildrenChanged root_path ∷ []) ≡ (record {
+        events = event_for 1 NodeCreated path_a ∷ [];
+        left = lasting_on (((root_path, 1), Recursive) ∷ []) no_watch;
+      })
+  pub persistent_root :
+      fire (lasting_on (((root_path, 1), Persistent) ∷ []) no_watch)
+      (Created path_a ∷ ChildrenChanged root_path ∷ []) ≡ (record {
+        events = event_for 1 NodeChildrenChanged root_path ∷ [];
+        left = lasting_on (((root_path, 1), Persistent) ∷ []) no_watch;
+      })
+  -- A connection that watches /a in all three ways is told once of its delete.
+  pub watched_in_each_table :
+      fire (lasting_on (((root_path, 1), Recursive) ∷ []) (watches_on ((path_a, 1) ∷ []) ((path_a, 1) ∷ [])))
+      (Deleted path_a ∷ ChildrenChanged root_path ∷ []) ≡ (record {
+        events = event_for 1 NodeDeleted path_a ∷ [];
+        left = lasting_on (((root_path, 1), Recursive) ∷ []) no_watch;
+      })
+  -- Neither /ab nor "/" is below /a, and a watch on "/a/" is on no path. Connections are told in ascending number.
+  pub below_a :
+      fire (lasting_on (((path_a, 3), Recursive) ∷ ((codes "/a/", 1), Recursive) ∷ ((path_a_e, 2), Persistent) ∷ [])
+      no_watch)
+      (Created path_ab ∷ ChildrenChanged root_path ∷ DataChanged path_a_e ∷ DataChanged root_path ∷ []) ≡ (record {
+        events = event_for 2 NodeDataChanged path_a_e ∷ event_for 3 NodeDataChanged path_a_e ∷ [];
+        left = lasting_on (((path_a, 3), Recursive) ∷ ((codes "/a/", 1), Recursive) ∷ ((path_a_e, 2), Persistent) ∷ [])
+            no_watch;
+      })

@@ -1,5 +1,4 @@
 -- The order of watches is total.
-use Rattle.std.specs.Prelude.{◌≡◌}
 use Rattle.std.specs.Cmp.{IsTotalOrder, then_total, on_total, nat_cmp_total}
 use Rattle.std.specs.Cmp.Lexicographic.{nat_list_cmp_total}
 use Rattle.watch_manager.specs.Summary.{table_rank, watched_cmp}

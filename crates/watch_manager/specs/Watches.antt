@@ -6,34 +6,47 @@ use Rattle.ephemerals.specs.Orders.{Bytes}
 use Rattle.data_tree.specs.declared.outcome.Trigger.{Trigger}
 use Rattle.data_tree.specs.declared.outcome.Trigger.TheVariants.{Created, Deleted, DataChanged, ChildrenChanged}
 use Rattle.watch_manager.specs.Pairs.{ConnectionSet, sorted_connections, watchers_of, without_watches_on}
+use Rattle.watch_manager.specs.Lasting.{persistent_watchers, lasting_watchers}
 use Rattle.watch_manager.specs.Watching.{WatchTables}
 use Rattle.watch_manager.specs.declared.event.Event.{Event}
 use Rattle.watch_manager.specs.declared.event.EventKind.{EventKind}
 use Rattle.watch_manager.specs.declared.event.EventKind.TheVariants.{NodeCreated, NodeDeleted, NodeDataChanged, NodeChildrenChanged}
 
+abbrev pub event_for : ℕ → EventKind → Bytes → ℕ × Event
+event_for conn kind path = (conn, record { kind = kind; path = path })
+
 -- Each of the connections gets an event of this kind at the path.
 abbrev pub events_for : EventKind → Bytes → List ℕ → List (ℕ × Event)
-events_for kind path conns = map (λ (conn : ℕ). (conn, record { kind = kind; path = path })) conns
+events_for kind path conns = map (λ (conn : ℕ). event_for conn kind path) conns
 
 -- In ascending order of their numbers, without those that got the event already.
 abbrev pub connections_not_told : ConnectionSet → ConnectionSet → List ℕ
 connections_not_told already conns = filter (λ (conn : ℕ). not (set.contains already conn)) (sorted_connections conns)
 
+-- The connections that are told that the node was created, changed or deleted.
+abbrev pub node_watchers : Bytes → WatchTables → ConnectionSet
+node_watchers path w = set.union (watchers_of path w.own) (lasting_watchers path w.lasting)
+
+-- The connections that are told that the children changed: a recursive watch isn't told of it.
+abbrev pub children_watchers : Bytes → WatchTables → ConnectionSet
+children_watchers path w = set.union (watchers_of path w.child) (persistent_watchers path w.lasting)
+
 -- The events of a trigger for its watchers.
 abbrev pub events_of_trigger : WatchTables → Trigger → List (ℕ × Event)
-events_of_trigger w (Created path) = events_for NodeCreated path (sorted_connections (watchers_of path w.own))
+events_of_trigger w (Created path) = events_for NodeCreated path (sorted_connections (node_watchers path w))
 events_of_trigger w (Deleted path) =
-    events_for NodeDeleted path (sorted_connections (watchers_of path w.own))
-    ++ events_for NodeDeleted path (connections_not_told (watchers_of path w.own) (watchers_of path w.child))
-events_of_trigger w (DataChanged path) = events_for NodeDataChanged path (sorted_connections (watchers_of path w.own))
+    events_for NodeDeleted path (sorted_connections (node_watchers path w))
+    ++ events_for NodeDeleted path (connections_not_told (node_watchers path w) (watchers_of path w.child))
+events_of_trigger w (DataChanged path) = events_for NodeDataChanged path (sorted_connections (node_watchers path w))
 events_of_trigger w (ChildrenChanged path) =
-    events_for NodeChildrenChanged path (sorted_connections (watchers_of path w.child))
+    events_for NodeChildrenChanged path (sorted_connections (children_watchers path w))
 
--- The watches after a trigger. Those on which it fires are used up, even where the connection has got the event
--- already.
+-- The watches after a trigger. Data and child watches on which it fires are used up, even where the connection has got
+-- the event already.
 abbrev pub watches_after : WatchTables → Trigger → WatchTables
 watches_after w (Created path) = record w { own = without_watches_on path w.own }
-watches_after w (Deleted path) = record { own = without_watches_on path w.own; child = without_watches_on path w.child }
+watches_after w (Deleted path) =
+    record w { own = without_watches_on path w.own; child = without_watches_on path w.child }
 watches_after w (DataChanged path) = record w { own = without_watches_on path w.own }
 watches_after w (ChildrenChanged path) = record w { child = without_watches_on path w.child }
 

@@ -45,6 +45,13 @@ impl ByPath {
         }
     }
 
+    /// Whether no path is watched.
+    pub fn is_empty(&self) -> bool
+        ensures { IsTrue result → self.now ≡ set.empty }
+    {
+        self.map.is_empty()
+    }
+
     /// The connections that watch the path; None if no connection does.
     pub fn of(&self, path: &str) -> Option<&ConnSet>
         ensures some { IfSome result (λ conns. conns.now ≡ watchers_of path.now self.now) }

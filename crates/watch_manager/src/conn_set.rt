@@ -62,6 +62,26 @@ impl ConnSet {
         Ok(self.conns.insert(conn)?)
     }
 
+    /// Adds each connection of the other set.
+    pub fn add_all(&mut self, others: &ConnSet) -> Result<(), NoMemory>
+        ensures { OnOk result (self.new ≡ set.union self.old others.now) }
+    {
+        for conn in others.iter() {
+            self.insert(*conn)?;
+        }
+        Ok(())
+    }
+
+    /// The connections of both sets.
+    pub fn union(&self, alloc: Global, others: &ConnSet) -> Result<ConnSet, NoMemory>
+        ensures { IfOk result (λ all. all ≡ set.union self.now others.now) }
+    {
+        let mut all = ConnSet::new(alloc);
+        all.add_all(self)?;
+        all.add_all(others)?;
+        Ok(all)
+    }
+
     /// Removes a connection.
     pub fn remove(&mut self, conn: u64)
         ensures { self.new ≡ set.remove self.old conn }

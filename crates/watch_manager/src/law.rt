@@ -1,6 +1,6 @@
 //! Laws of firing. Each is the contract of a function that does nothing.
 
-ghost use Rattle.watch_manager.specs.Laws.{ConnectionsAreToldOnce, OnlyWatchersAreTold, NoEventKeepsWatches, DroppedWatchesNothing, OthersKeepWatches};
+ghost use Rattle.watch_manager.specs.Laws.{ConnectionsAreToldOnce, OnlyWatchersAreTold, NoEventKeepsWatches, DroppedWatchesNothing, OthersKeepWatches, LastingWatchesStay, RecursiveWatchersAreTold, PartsAscend};
 ghost use Rattle.watch_manager.specs.Rows.{WorkedRows};
 
 /// A change sends a connection at most one event, and only connections that watch something get one. Where no event is
@@ -12,6 +12,14 @@ pub fn firing()
     ensures silent { NoEventKeepsWatches }
     ensures dropped { DroppedWatchesNothing }
     ensures others { OthersKeepWatches }
+{}
+
+/// No change uses up a lasting watch, and a recursive one tells its connection of each creation, deletion and change of
+/// data on its path or below it. Within a part the connections are told in ascending number.
+pub fn lasting()
+    ensures stay { LastingWatchesStay }
+    ensures told { RecursiveWatchersAreTold }
+    ensures ascending { PartsAscend }
 {}
 
 /// The definitions, evaluated on rows that were worked out by hand.

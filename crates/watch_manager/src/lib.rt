@@ -1,8 +1,9 @@
 //! The watches of clients: the connections that are sent an event when a path changes, at most one for each watch.
 //!
-//! There are two tables, of data watches and of child watches (ZooKeeper Programmer's Guide, "Watches"). Each is a
-//! finite set of pairs of a path and a connection. `fire` takes the triggers of transactions, uses up the watches on
-//! them, and returns each event with its connection. `specs/Watches.antt` defines this, and `fire` is proved to do it.
+//! There are three tables. Data watches and child watches (ZooKeeper Programmer's Guide, "Watches") are finite sets of
+//! pairs of a path and a connection. Lasting watches aren't used up: a persistent one is on a path, and a recursive one
+//! on a path and all below it. `fire` takes the triggers of transactions, uses up the data and child watches on them, and
+//! returns each event with its connection. `specs/Watches.antt` defines this, and `fire` is proved to do it.
 //!
 //! ```text
 //! let mut watches = Watches::new(alloc);
@@ -16,8 +17,10 @@ mod by_conn;
 mod by_path;
 mod conn_set;
 mod event;
+mod lasting;
 pub mod law;
 mod left;
+mod mode;
 mod summary;
 mod table;
 mod telling;
@@ -25,5 +28,6 @@ mod watched;
 mod watches;
 
 pub use event::{Event, EventKind};
+pub use mode::WatchMode;
 pub use watched::{Table, Watched};
 pub use watches::Watches;

@@ -1,4 +1,4 @@
-//! The watches of both tables as a list.
+//! The watches of all tables as a list.
 
 ghost use Rattle.std.specs.Prelude.{◌≡◌, IfOk, OnOk, map};
 ghost use Rattle.std.specs.FinSet as set;

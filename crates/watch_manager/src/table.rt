@@ -2,7 +2,7 @@
 //!
 //! Laws that go over this: `Others`, `Silent`, `Told`.
 
-ghost use Rattle.std.specs.Prelude.{◌≡◌, OnOk, OnErr, IfSome, IfNone, String};
+ghost use Rattle.std.specs.Prelude.{◌≡◌, OnOk, OnErr, IfSome, IfNone, IsTrue, String};
 ghost use Rattle.std.specs.FinSet as set;
 ghost use Rattle.std.specs.Map.Iter.{ShowsInOrder, deref_pair};
 ghost use Rattle.ephemerals.specs.Grouped.{all_pairs, by_bytes};
@@ -50,6 +50,13 @@ impl WatchTable {
         }
     }
 
+    /// Whether no path is watched.
+    pub fn is_empty(&self) -> bool
+        ensures { IsTrue result → self.now ≡ set.empty }
+    {
+        self.by_path.is_empty()
+    }
+
     /// The connections that watch the path; None if no connection does.
     pub fn watchers(&self, path: &str) -> Option<&ConnSet>
         ensures some { IfSome result (λ conns. conns.now ≡ watchers_of path.now self.now) }
@@ -81,6 +88,14 @@ impl WatchTable {
                 Err(refused)
             }
         }
+    }
+
+    /// Removes a watch. Allocates nothing.
+    pub fn remove(&mut self, conn: u64, path: &str)
+        ensures { self.new ≡ set.remove self.old (path.now, conn) }
+    {
+        self.by_conn.remove(conn, path);
+        self.by_path.remove(path, conn)
     }
 
     /// Removes the watches on a path. Allocates nothing.

@@ -4,11 +4,15 @@
 
 ghost use Rattle.std.specs.Prelude.{◌≡◌, ◌++◌, OnOk};
 ghost use Rattle.watch_manager.specs.Watches.{events_for, connections_not_told, events_of_trigger, watches_after};
+ghost use Rattle.std.specs.FinSet as set;
 ghost use Rattle.watch_manager.specs.Pairs.{sorted_connections, watchers_of, without_watches_on};
-ghost use Rattle.watch_manager.specs.Inner.Telling.{watch_tables};
+ghost use Rattle.watch_manager.specs.Lasting.{persistent_watchers, lasting_watchers};
+ghost use Rattle.watch_manager.specs.Inner.Telling.{watch_tables, deleted_events};
+ghost use Rattle.watch_manager.specs.declared.event.EventKind.TheVariants.{NodeChildrenChanged};
 
 use crate::conn_set::ConnSet;
 use crate::event::{Event, EventKind};
+use crate::lasting::LastingTable;
 use crate::left::UnusedWatches;
 use data_tree::Trigger;
 use std::alloc::Global;
@@ -32,20 +36,29 @@ fn tell_each(
     Ok(())
 }
 
-// Adds an event for each of the connections except those that have one already.
+// Whether the connection is in either set.
+fn is_told(watchers: &ConnSet, lasting: &ConnSet, conn: u64) -> bool
+    ensures { result ≡ set.contains (set.union watchers.now lasting.now) conn }
+{
+    watchers.contains(conn) || lasting.contains(conn)
+}
+
+// Adds an event for each of the connections except those that have one already: these watchers, and these with a
+// lasting watch.
 fn tell_others(
     events: &mut Vec<(u64, Event)>,
     alloc: Global,
     kind: EventKind,
     path: &str,
-    already: &ConnSet,
+    watchers: &ConnSet,
+    lasting: &ConnSet,
     conns: &ConnSet,
 ) -> Result<(), NoMemory>
-    ensures { OnOk result (events.new.items ≡
-        events.old.items ++ events_for kind path.now (connections_not_told already.now conns.now)) }
+    ensures { OnOk result (events.new.items ≡ events.old.items
+        ++ events_for kind path.now (connections_not_told (set.union watchers.now lasting.now) conns.now)) }
 {
     for conn in conns.iter() {
-        if !already.contains(*conn) {
+        if !is_told(watchers, lasting, *conn) {
             let path = Text::new(alloc, path)?;
             events.push((*conn, Event { kind, path }))?;
         }
@@ -53,20 +66,90 @@ fn tell_others(
     Ok(())
 }
 
-// Adds an event for each connection that watches the path in one table, and uses up these watches.
-fn tell_table(
+// Adds one event for each of the watchers and of those with a lasting watch.
+fn tell_part(
     events: &mut Vec<(u64, Event)>,
     alloc: Global,
     kind: EventKind,
     path: &str,
-    table: &mut UnusedWatches<'_>,
+    watchers: &ConnSet,
+    lasting: &ConnSet,
 ) -> Result<(), NoMemory>
-    ensures events { OnOk result (events.new.items ≡
-        events.old.items ++ events_for kind path.now (sorted_connections (watchers_of path.now table.old))) }
-    ensures left { OnOk result (table.new ≡ without_watches_on path.now table.old) }
+    ensures { OnOk result (events.new.items ≡
+        events.old.items ++ events_for kind path.now (sorted_connections (set.union watchers.now lasting.now))) }
 {
-    tell_each(events, alloc, kind, path, table.watchers(path))?;
-    table.use_up(alloc, path)
+    if lasting.is_empty() {
+        return tell_each(events, alloc, kind, path, watchers);
+    }
+    let all = watchers.union(alloc, lasting)?;
+    tell_each(events, alloc, kind, path, &all)
+}
+
+// Tells that the node was created or changed, and uses up its data watches.
+fn tell_node(
+    events: &mut Vec<(u64, Event)>,
+    alloc: Global,
+    kind: EventKind,
+    path: &str,
+    own: &mut UnusedWatches<'_>,
+    lasting: &LastingTable,
+) -> Result<(), NoMemory>
+    ensures events { OnOk result (events.new.items ≡ events.old.items ++ events_for kind path.now
+        (sorted_connections (set.union (watchers_of path.now own.old) (lasting_watchers path.now lasting.now)))) }
+    ensures left { OnOk result (own.new ≡ without_watches_on path.now own.old) }
+{
+    let lasting = lasting.watchers(alloc, path)?;
+    tell_part(events, alloc, kind, path, own.watchers(path), &lasting)?;
+    own.use_up(alloc, path)
+}
+
+// Tells that the children of the node changed, and uses up its child watches.
+fn tell_children(
+    events: &mut Vec<(u64, Event)>,
+    alloc: Global,
+    path: &str,
+    child: &mut UnusedWatches<'_>,
+    lasting: &LastingTable,
+) -> Result<(), NoMemory>
+    ensures events { OnOk result (events.new.items ≡ events.old.items ++ events_for NodeChildrenChanged path.now
+        (sorted_connections (set.union (watchers_of path.now child.old) (persistent_watchers path.now lasting.now)))) }
+    ensures left { OnOk result (child.new ≡ without_watches_on path.now child.old) }
+{
+    let kind = EventKind::NodeChildrenChanged;
+    let lasting = lasting.persistent_watchers(alloc, path)?;
+    tell_part(events, alloc, kind, path, child.watchers(path), &lasting)?;
+    child.use_up(alloc, path)
+}
+
+// Tells that the node was deleted, and uses up its watches.
+fn tell_deleted(
+    events: &mut Vec<(u64, Event)>,
+    alloc: Global,
+    path: &str,
+    own: &mut UnusedWatches<'_>,
+    child: &mut UnusedWatches<'_>,
+    lasting: &LastingTable,
+) -> Result<(), NoMemory>
+    ensures events { OnOk result (events.new.items ≡ events.old.items
+        ++ deleted_events path.now (watch_tables own.old child.old lasting.now)) }
+    ensures own { OnOk result (own.new ≡ without_watches_on path.now own.old) }
+    ensures child { OnOk result (child.new ≡ without_watches_on path.now child.old) }
+{
+    let kind = EventKind::NodeDeleted;
+    let lasting = lasting.watchers(alloc, path)?;
+    let watchers = own.watchers(path);
+    tell_part(events, alloc, kind, path, watchers, &lasting)?;
+    tell_others(
+        events,
+        alloc,
+        kind,
+        path,
+        watchers,
+        &lasting,
+        child.watchers(path),
+    )?;
+    own.use_up(alloc, path)?;
+    child.use_up(alloc, path)
 }
 
 /// Adds the events of a trigger, from the watches left in each table, and uses up these watches.
@@ -76,42 +159,27 @@ pub fn tell(
     trigger: &Trigger,
     own: &mut UnusedWatches<'_>,
     child: &mut UnusedWatches<'_>,
+    lasting: &LastingTable,
 ) -> Result<(), NoMemory>
     ensures events { OnOk result (events.new.items ≡
-        events.old.items ++ events_of_trigger (watch_tables own.old child.old) trigger.now) }
-    ensures left { OnOk result
-        (watch_tables own.new child.new ≡ watches_after (watch_tables own.old child.old) trigger.now) }
+        events.old.items ++ events_of_trigger (watch_tables own.old child.old lasting.now) trigger.now) }
+    ensures left { OnOk result (watch_tables own.new child.new lasting.now ≡
+        watches_after (watch_tables own.old child.old lasting.now) trigger.now) }
 {
     match trigger {
         Trigger::Created(path) => {
-            tell_table(events, alloc, EventKind::NodeCreated, path.as_str(), own)
+            let kind = EventKind::NodeCreated;
+            tell_node(events, alloc, kind, path.as_str(), own, lasting)
         }
         Trigger::DataChanged(path) => {
-            tell_table(
-                events,
-                alloc,
-                EventKind::NodeDataChanged,
-                path.as_str(),
-                own,
-            )
+            let kind = EventKind::NodeDataChanged;
+            tell_node(events, alloc, kind, path.as_str(), own, lasting)
         }
         Trigger::ChildrenChanged(path) => {
-            tell_table(
-                events,
-                alloc,
-                EventKind::NodeChildrenChanged,
-                path.as_str(),
-                child,
-            )
+            tell_children(events, alloc, path.as_str(), child, lasting)
         }
         Trigger::Deleted(path) => {
-            let path = path.as_str();
-            let kind = EventKind::NodeDeleted;
-            let already = own.watchers(path);
-            tell_each(events, alloc, kind, path, already)?;
-            tell_others(events, alloc, kind, path, already, child.watchers(path))?;
-            own.use_up(alloc, path)?;
-            child.use_up(alloc, path)
+            tell_deleted(events, alloc, path.as_str(), own, child, lasting)
         }
     }
 }

@@ -1,4 +1,4 @@
-//! A watch of either table, as an element of the list.
+//! A watch of any table, as an element of the list.
 
 ghost use Rattle.std.specs.Prelude.{◌≡◌, Some};
 ghost use Rattle.std.specs.Cmp.{eq_by_cmp_equiv, partial_order_from_total, partial_equiv_from_equiv};
@@ -18,6 +18,8 @@ pub enum Table {
     Own,
     /// The child watches.
     Child,
+    /// The watches that aren't used up.
+    Lasting,
 }
 
 impl Table {
@@ -28,12 +30,13 @@ impl Table {
         match self {
             Table::Own => 0,
             Table::Child => 1,
+            Table::Lasting => 2,
         }
     }
 }
 
-/// A watch: its path, its connection and its table. Watches are ordered by path, then by connection, and a data watch
-/// comes before a child watch.
+/// A watch: its path, its connection and its table. Watches are ordered by path, then by connection. A data watch comes
+/// before a child watch, and that before a lasting watch.
 #[derive(Drop)]
 pub struct Watched<'a> {
     pub path: Str<'a>,

@@ -4,12 +4,15 @@
 
 ghost use Rattle.std.specs.Prelude.{◌≡◌, OnOk, OnErr, IfOk};
 ghost use Rattle.std.specs.FinSet as set;
-ghost use Rattle.watch_manager.specs.Watching.{no_watch, without_watches_of};
+ghost use Rattle.watch_manager.specs.Lasting.{mode_of};
+ghost use Rattle.watch_manager.specs.Watching.{no_watch, with_lasting_watch, without_watches_of};
 ghost use Rattle.watch_manager.specs.Watches.{fire, watches_after};
 ghost use Rattle.watch_manager.specs.Summary.{summary};
 
 use crate::event::Event;
+use crate::lasting::LastingTable;
 use crate::left::UnusedWatches;
+use crate::mode::WatchMode;
 use crate::summary::{add_table, in_order};
 use crate::table::WatchTable;
 use crate::telling::tell;
@@ -20,13 +23,14 @@ use std::collections::BTreeSet;
 use std::marker::Model;
 use values::NoMemory;
 
-/// The data watches and child watches of all connections. A watch is set at most once, and is removed when it fires or
-/// when its connection closes.
+/// The watches of all connections. A data or child watch is set at most once, and is removed when it fires or when its
+/// connection closes. A lasting watch has one mode at a time, and is removed when its connection closes.
 #[derive(Drop)]
 pub struct Watches {
     // The data watches.
     own: WatchTable,
     child: WatchTable,
+    lasting: LastingTable,
 }
 
 impl Model for Watches {
@@ -36,7 +40,7 @@ impl Model for Watches {
 
     ghost coded = { watch_tables_code };
 
-    ghost view = { λ w. record { own = w.own; child = w.child } };
+    ghost view = { λ w. record { own = w.own; child = w.child; lasting = w.lasting } };
 }
 
 impl Watches {
@@ -47,6 +51,7 @@ impl Watches {
         Watches {
             own: WatchTable::new(alloc),
             child: WatchTable::new(alloc),
+            lasting: LastingTable::new(alloc),
         }
     }
 
@@ -70,22 +75,42 @@ impl Watches {
         self.child.set(alloc, conn, path)
     }
 
+    /// Sets a lasting watch, on a path or on a path and all below it; set again, it has the new mode. Any text may be
+    /// watched, even if it isn't a path. A refused allocation changes nothing.
+    pub fn set_persistent(
+        &mut self,
+        alloc: Global,
+        conn: u64,
+        path: &str,
+        recursive: bool,
+    ) -> Result<(), NoMemory>
+        ensures ok { OnOk result
+            (self.new ≡ with_lasting_watch conn path.now (mode_of recursive) self.old) }
+        ensures err { OnErr result (self.new ≡ self.old) }
+    {
+        self.lasting
+            .set(alloc, conn, path, WatchMode::new(recursive))
+    }
+
     /// Drops all watches of a connection. Allocates nothing.
     pub fn drop_conn(&mut self, conn: u64)
         ensures { self.new ≡ without_watches_of conn self.old }
     {
         self.own.drop_conn(conn);
         self.child.drop_conn(conn);
+        self.lasting.drop_conn(conn);
     }
 
-    /// All watches in ascending order of path, then of connection, with a data watch before a child watch. The paths
-    /// are borrowed and not copied. Fails only if an allocation is refused.
+    /// All watches in ascending order of path, then of connection, with a data watch before a child watch, and that
+    /// before a lasting watch. The paths are borrowed and not copied. Fails only if an allocation is refused.
     pub fn summary(&self, alloc: Global) -> Result<Vec<Watched<'_>>, NoMemory>
         ensures { IfOk result (λ rows. rows.items ≡ summary self.now) }
     {
         let mut rows = BTreeSet::new(alloc);
         add_table(&mut rows, &self.own, Table::Own)?;
         add_table(&mut rows, &self.child, Table::Child)?;
+        add_table(&mut rows, self.lasting.persistent(), Table::Lasting)?;
+        add_table(&mut rows, self.lasting.recursive(), Table::Lasting)?;
         in_order(alloc, rows)
     }
 
@@ -98,12 +123,19 @@ impl Watches {
         let mut child = UnusedWatches::new(alloc, &self.child);
         let mut events = Vec::new(alloc);
         for trigger in triggers {
-            tell(&mut events, alloc, trigger, &mut own, &mut child)?;
+            tell(
+                &mut events,
+                alloc,
+                trigger,
+                &mut own,
+                &mut child,
+                &self.lasting,
+            )?;
         }
         Ok(events)
     }
 
-    // Uses up the watches on which a trigger fires.
+    // Uses up the data and child watches on which a trigger fires.
     fn use_up(&mut self, trigger: &Trigger)
         ensures { self.new ≡ watches_after self.old trigger.now }
     {
@@ -118,7 +150,7 @@ impl Watches {
         }
     }
 
-    // Uses up the watches on which the triggers fire.
+    // Uses up the data and child watches on which the triggers fire.
     fn use_up_all(&mut self, triggers: &[Trigger])
         ensures { self.new ≡ (fire self.old triggers.now).left }
     {

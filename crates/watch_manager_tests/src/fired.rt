@@ -5,14 +5,15 @@ use std::alloc::Global;
 use std::test::Fail;
 use watch_manager::Watches;
 
-// Sets watches: "d" in the data table, anything else in the child table, by connection and path.
+// Sets watches by connection and path: "d" of data, "p" persistent, "r" recursive, anything else of children.
 fn watching(alloc: Global, watches: &[(char, u64, &str)]) -> Result<Watches, Fail> {
     let mut all = Watches::new(alloc);
     for (table, conn, path) in watches {
-        if *table == 'd' {
-            all.set_data(alloc, *conn, path)?;
-        } else {
-            all.set_child(alloc, *conn, path)?;
+        match *table {
+            'd' => all.set_data(alloc, *conn, path)?,
+            'p' => all.set_persistent(alloc, *conn, path, false)?,
+            'r' => all.set_persistent(alloc, *conn, path, true)?,
+            _ => all.set_child(alloc, *conn, path)?,
         }
     }
     Ok(all)
@@ -119,5 +120,83 @@ fn a_connection_takes_its_own_watches_with_it(rt: HostRuntime) -> Result<(), Fai
         told(alloc, &mut watches, &changes)?.as_str(),
         "2:3 /a; 2:4 /b; "
     );
+    Ok(())
+}
+
+#[test]
+fn a_recursive_watch_is_told_of_all_below_it(rt: HostRuntime) -> Result<(), Fail> {
+    let alloc = rt.alloc();
+    let mut watches = watching(alloc, &[('r', 1, "/a"), ('r', 2, "/"), ('r', 3, "/a/")])?;
+    let changes = [
+        ('+', "/a"),
+        ('~', "/"),
+        ('+', "/a/b"),
+        ('~', "/a"),
+        ('=', "/a/b/c"),
+        ('=', "/ab"),
+        ('-', "/"),
+    ];
+    let wanted = "1:1 /a; 2:1 /a; 1:1 /a/b; 2:1 /a/b; 1:3 /a/b/c; 2:3 /a/b/c; 2:3 /ab; 2:2 /; ";
+    assert_eq!(rt; told(alloc, &mut watches, &changes)?.as_str(), wanted);
+    Ok(())
+}
+
+#[test]
+fn a_persistent_watch_is_told_of_its_path_again_and_again(rt: HostRuntime) -> Result<(), Fail> {
+    let alloc = rt.alloc();
+    let mut watches = watching(alloc, &[('p', 1, "/"), ('p', 2, "/a"), ('c', 2, "/a")])?;
+    let changes = [
+        ('+', "/a"),
+        ('~', "/"),
+        ('=', "/a"),
+        ('~', "/a"),
+        ('-', "/a"),
+        ('~', "/"),
+    ];
+    let wanted = "2:1 /a; 1:4 /; 2:3 /a; 2:4 /a; 2:2 /a; 1:4 /; ";
+    assert_eq!(rt; told(alloc, &mut watches, &changes)?.as_str(), wanted);
+    Ok(())
+}
+
+#[test]
+fn a_connection_with_a_watch_in_each_table_is_told_once(rt: HostRuntime) -> Result<(), Fail> {
+    let alloc = rt.alloc();
+    let mut watches = watching(
+        alloc,
+        &[
+            ('r', 2, "/"),
+            ('p', 2, "/a"),
+            ('d', 2, "/a"),
+            ('c', 2, "/a"),
+            ('d', 3, "/a"),
+            ('c', 1, "/a"),
+        ],
+    )?;
+    let deleted = [('-', "/a"), ('~', "/")];
+    let wanted = "2:2 /a; 3:2 /a; 1:2 /a; ";
+    assert_eq!(rt; told(alloc, &mut watches, &deleted)?.as_str(), wanted);
+    assert_eq!(rt; told(alloc, &mut watches, &deleted)?.as_str(), "2:2 /a; ");
+    Ok(())
+}
+
+#[test]
+fn a_lasting_watch_set_again_has_the_new_mode(rt: HostRuntime) -> Result<(), Fail> {
+    let alloc = rt.alloc();
+    let mut watches = watching(
+        alloc,
+        &[
+            ('r', 1, "/a"),
+            ('p', 1, "/a"),
+            ('p', 2, "/a"),
+            ('r', 2, "/a"),
+        ],
+    )?;
+    let changes = [('=', "/a/b"), ('~', "/a")];
+    assert_eq!(rt;
+        told(alloc, &mut watches, &changes)?.as_str(),
+        "2:3 /a/b; 1:4 /a; "
+    );
+    drop_conn(&mut watches, 2);
+    assert_eq!(rt; told(alloc, &mut watches, &changes)?.as_str(), "1:4 /a; ");
     Ok(())
 }

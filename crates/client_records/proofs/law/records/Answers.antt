@@ -5,7 +5,7 @@ use Rattle.jute.specs.Owned.{acl_format}
 use Rattle.jute.specs.Laws.{IsSound}
 use Rattle.jute.proofs.Public.{int_sound, long_sound, boolean_sound, buffer_sound, text_sound, name_sound, acl_sound, stat_sound, null_vector_sound, both_sound, mapped_sound}
 use Rattle.client_records.specs.Fields.{names_format}
-use Rattle.client_records.specs.Requests.{connect_request, path_and_watch, path_alone, set_watches, auth_packet}
+use Rattle.client_records.specs.Requests.{connect_request, path_and_watch, path_alone, set_watches, add_watch, auth_packet}
 use Rattle.client_records.specs.Responses.{connect_response, exists_response, get_data_response, get_children_response, get_children2_response, get_acl_response, watcher_event}
 use Rattle.client_records.proofs.law.records.Goals as goal
 
@@ -36,6 +36,10 @@ set_watches_sound =
     (both_sound _ _ long_sound
     (both_sound _ _ names_sound
     (both_sound _ _ names_sound names_sound)))
+
+add_watch_sound : IsSound add_watch
+unfolding add_watch
+add_watch_sound = mapped_sound _ _ _ (λ v. refl) (λ r. refl) (both_sound _ _ text_sound int_sound)
 
 auth_packet_sound : IsSound auth_packet
 unfolding auth_packet
@@ -85,6 +89,7 @@ returns c = record {
   get_children2_request = path_and_watch_sound;
   get_acl_request = path_alone_sound;
   set_watches = set_watches_sound;
+  add_watch = add_watch_sound;
   auth_packet = auth_packet_sound;
   connect_response = connect_response_sound;
   exists_response = exists_response_sound;

@@ -1,7 +1,7 @@
-use Rattle.std.proofs.Common.{◌++◌, List, ℕ, ℤ, ap, subst, sym, codes, ◌∙◌}
+use Rattle.std.proofs.Common.{◌++◌, ap, sym, codes, ◌∙◌}
 use Rattle.std.specs.List.{flat_map}
 use Rattle.four_letter.specs.Texts.{session_line}
-use Rattle.four_letter.specs.Inner.Gathered.{sessions_by_path, path_blocks, GathersSessions}
+use Rattle.four_letter.specs.Inner.Gathered.{sessions_by_path, path_blocks}
 use Rattle.four_letter.proofs.Gathering.{blocks-gathered, block}
 use Rattle.four_letter.proofs.texts.put_wchp.Goals as goal
 

@@ -2,7 +2,7 @@ use Rattle.std.proofs.Common.{List, ℕ, map, drop, length, ◌+◌, sym, ap, �
 use Rattle.std.proofs.Math.ListN.{drop_of_length-le}
 use Rattle.std.proofs.lemmas.List.{length-map}
 use Rattle.std.proofs.lemmas.Map.Lookups.{exact_bytes}
-use Rattle.ephemerals.specs.Orders.{Bytes, path_cmp}
+use Rattle.ephemerals.specs.Orders.{path_cmp}
 use Rattle.ephemerals.proofs.Totals.{path_total}
 use Rattle.watch_manager.specs.Ascending.{with_inserted_keys}
 use Rattle.std.specs.BTreeSet.{insert_key}

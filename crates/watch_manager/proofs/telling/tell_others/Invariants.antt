@@ -8,5 +8,6 @@ abbrev pub invariant-loop-conn : goal.invariant-loop-conn
 invariant-loop-conn l =
     (goal.iterator-loop-conn).can_next l.conn-iterator
     × (goal.iterator-loop-conn).is_finite l.conn-iterator
-    × (l.events.items ++ events_for l.kind l.path (filter (λ (c : ℕ). not (set.contains l.already c)) l.conn-iterator)
-    ≡ l.fn.events.items ++ events_for l.kind l.path (connections_not_told l.already l.conns))
+    × (l.events.items ++ events_for l.kind l.path
+    (filter (λ (c : ℕ). not (set.contains (set.union l.watchers l.lasting) c)) l.conn-iterator)
+    ≡ l.fn.events.items ++ events_for l.kind l.path (connections_not_told (set.union l.watchers l.lasting) l.conns))
