@@ -557,3 +557,14 @@ ends_owing (Ok u) old whole now new left last asked after is made s = record {
 }
 ends_owing (Err e) old whole now new left last asked after is m s =
     stops old whole now new last m (same_left old whole now left last is s)
+
+-- No read waits, so a frame is served at once.
+pub served_at_once : (r : Result (Unit {0}) NoMemory) (old new : List Output) (serving : Bool) (n : ℕ) (frame : List ℕ)
+    (w : World) (asked : List AskedRead) (after : World) → asked ≡ [] → is_open n w.clients ≡ true
+    → MeetsStep r old (serve_frame serving n w frame) new after
+    → MeetsOwing r old (and_then (answer_all_asked asked w) (serve_if_open serving n frame)) new asked after
+served_at_once r old new serving n frame w asked after none here made =
+    settled_first r old old new (answer_all_asked asked w) (serve_if_open serving n frame) w asked after
+    (ap (λ (reads : List AskedRead). prepend_outputs old (answer_all_asked reads w)) none
+    ∙ ap (λ (os : List Output). record { outputs = os; after = w }) (append-nil old)) none
+    (subst (λ (b : Bool). MeetsStep r old (cond b (serve_frame serving n w frame) (no_output w)) new after) (sym here) made)

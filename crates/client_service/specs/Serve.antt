@@ -14,7 +14,7 @@ use Rattle.client_records.specs.declared.request.AuthPacket.{AuthPacket}
 use Rattle.sessions.specs.State.{SessionTable as Sessions}
 use Rattle.sessions.specs.Sessions.{session_of_connection, ids_of, ConnectResult, connect_session, AuthResult, add_auth, expire_guest}
 use Rattle.sessions.specs.declared.request.SessionResponse.{SessionResponse}
-use Rattle.watch_manager.specs.Watching.{WatchTables}
+use Rattle.watch_manager.specs.Watching.{WatchTables, with_lasting_watch}
 use Rattle.watch_manager.specs.Summary.{summary}
 use Rattle.watch_manager.specs.declared.watched.Watched.{Watched}
 use Rattle.four_letter.specs.Words.{word_of}
@@ -28,7 +28,7 @@ use Rattle.read_processor.specs.declared.watch.Watch.TheVariants as tables
 use Rattle.read_processor.specs.declared.renewal.Renewal.{Renewal}
 use Rattle.read_processor.specs.declared.shown.Look.{Look}
 use Rattle.read_processor.specs.Look.{look_at_state, without_body}
-use Rattle.read_processor.specs.Watch.{watch_of}
+use Rattle.read_processor.specs.Watch.{watch_of, watch_to_add}
 use Rattle.read_processor.specs.Renewal.{renew_watches}
 use Rattle.read_processor.specs.Reply.{reply_frame}
 use Rattle.client_service.specs.declared.output.Output.TheVariants.{ToClient, CloseClient}
@@ -68,6 +68,7 @@ send_reply_last n w xid seen = send_last n w (reply_frame xid w.replica.learner.
 abbrev pub with_watch : ℕ → WatchTables → Watch → WatchTables
 with_watch n w (tables.Data path) = record w { own = set.insert w.own (path, n) }
 with_watch n w (tables.Child path) = record w { child = set.insert w.child (path, n) }
+with_watch n w (tables.Lasting path mode) = with_lasting_watch n path mode w
 
 abbrev pub with_each_watch : ℕ → WatchTables → List Watch → WatchTables
 with_each_watch n w [] = w
@@ -92,6 +93,12 @@ answer_set_watches n w xid None = send_reply n w xid (without_body BAD_ARGUMENTS
 answer_set_watches n w xid (Some r) =
     prepend_outputs (notices_to n r.events)
     (send_reply n (with_watching w (with_each_watch n w.clients.watches r.watches)) xid (without_body OK))
+
+-- The watch to add is set, whether or not there is a node.
+abbrev pub answer_add_watch : ℕ → World → ℤ → Option Watch → StepResult World
+answer_add_watch n w xid None = send_reply n w xid (without_body BAD_ARGUMENTS)
+answer_add_watch n w xid (Some watch) =
+    send_reply n (with_watching w (with_watch n w.clients.watches watch)) xid (without_body OK)
 
 -- ---- sessions
 
@@ -149,6 +156,7 @@ handle_connect serving n w (Ok c) =
 abbrev pub handle_call : ℕ → World → ℤ → CallBody → StepResult World
 handle_call n w xid (bodies.Read r) = answer_read n w xid r
 handle_call n w xid (bodies.SetWatches r) = answer_set_watches n w xid (renew_watches w.replica.tree r)
+handle_call n w xid (bodies.AddWatch r) = answer_add_watch n w xid (watch_to_add r)
 handle_call n w xid (bodies.Auth packet) = show_id n w xid packet
 handle_call n w xid bodies.CloseSession = send_reply_last n (end_session n w) xid (without_body OK)
 handle_call n w xid bodies.Unreadable = send_reply n w xid (without_body BAD_ARGUMENTS)

@@ -3,10 +3,11 @@
 //! Laws of `observer_core` that go over this: `Agreeing`, `Apart`, `Closing`, `Joined`, `Logs`, `Playing`, `Served`,
 //! `Taking`, `Unmoved`, `WholeImages`.
 
-ghost use Rattle.std.specs.Prelude.{◌≡◌, OnOk};
+ghost use Rattle.std.specs.Prelude.{◌≡◌, true, OnOk};
 ghost use Rattle.std.specs.FinMap as finmap;
 ghost use Rattle.jute.specs.Stream.{items_in, place_at};
 ghost use Rattle.read_processor.specs.Asking.{LooksAtAsks};
+ghost use Rattle.client_service.specs.Clients.{is_open};
 ghost use Rattle.client_service.specs.Steps.{and_then};
 ghost use Rattle.client_service.specs.Serve.{handle_call, serve_as, serve_frame, serve_all, frames_of_client, take_client_bytes, open_client, end_client};
 ghost use Rattle.client_frames.specs.Call.{call_in};
@@ -17,7 +18,7 @@ ghost use Rattle.client_service.specs.Inner.{IsFirstFrame, rest_at, world_with_r
 use crate::asked::AskedRead;
 use crate::joining::handle_connect;
 use crate::output::Output;
-use crate::reading::{answer_renewal, answer_request, gathered_read};
+use crate::reading::{answer_add_watch, answer_renewal, answer_request, gathered_read};
 use crate::sending::{answer_without_body, answer_without_body_last, close_client};
 use crate::session::{end_session, show_id};
 use crate::settling::settle_reads;
@@ -51,6 +52,7 @@ fn answer_call(
     match body {
         CallBody::Read(asked) => answer_request(alloc, number, world, xid, asked, outputs),
         CallBody::SetWatches(asked) => answer_renewal(alloc, number, world, xid, asked, outputs),
+        CallBody::AddWatch(asked) => answer_add_watch(alloc, number, world, xid, asked, outputs),
         CallBody::Auth(packet) => show_id(alloc, number, world, xid, packet, outputs),
         CallBody::CloseSession => {
             end_session(number, world);
@@ -133,8 +135,8 @@ fn serve_if_open(
     serve(alloc, serving, number, world, frame, outputs)
 }
 
-// Takes one frame. While reads are gathered, a read of a connection that has a session waits for its answer. Before any
-// other frame is served, the reads that wait are answered, which may close its connection.
+// Takes one frame of an open connection. While reads are gathered, a read of a connection that has a session waits for its
+// answer. Before any other frame is served, the reads that wait are answered, which may close its connection.
 fn take_frame<L: Fn(&Tree, &[Ask<'_>]) -> Result<Vec<Look>, NoMemory>>(
     alloc: Global,
     looker: &L,
@@ -146,15 +148,22 @@ fn take_frame<L: Fn(&Tree, &[Ask<'_>]) -> Result<Vec<Look>, NoMemory>>(
     frame: &[u8],
     outputs: &mut Vec<Output>,
 ) -> Result<(), NoMemory>
-    requires { LooksAtAsks (L.pre looker.now) (L.post looker.now) }
+    requires open { is_open number world.old.clients ≡ true }
+    requires looks { LooksAtAsks (L.pre looker.now) (L.post looker.now) }
     ensures { MeetsOwing result outputs.old.items
         (and_then (answer_all_asked asked.old.items world.old) (serve_if_open serving number frame.now))
         outputs.new.items asked.new.items world.new }
 {
     sessions::others_stay();
-    if let Some(read) = gathered_read(alloc, gathers, number, world, frame)? {
-        asked.push(read)?;
-        return Ok(());
+    if gathers {
+        if let Some(read) = gathered_read(alloc, number, world, frame)? {
+            asked.push(read)?;
+            return Ok(());
+        }
+    }
+    if asked.is_empty() {
+        // Nothing is settled first, so the connection is still open.
+        return serve(alloc, serving, number, world, frame, outputs);
     }
     settle_reads(alloc, looker, asked, world, outputs)?;
     serve_if_open(alloc, serving, number, world, frame, outputs)

@@ -1,10 +1,11 @@
-//! Answers to reads, and the watches that they leave.
+//! Answers to reads and to requests for watches, and the watches that they leave.
 //!
 //! Laws of `observer_core` that go over this: `Agreeing`, `Apart`, `Closing`, `Passing`, `Taking`, `Unmoved`.
 
 ghost use Rattle.std.specs.Prelude.{◌≡◌, IfOk, IfSome, OnOk, Some};
 ghost use Rattle.read_processor.specs.Renewal.{renew_watches};
-ghost use Rattle.client_service.specs.Serve.{with_watch, with_each_watch, with_watch_if, with_watching, answer_read, answer_set_watches};
+ghost use Rattle.read_processor.specs.Watch.{watch_to_add};
+ghost use Rattle.client_service.specs.Serve.{with_watch, with_each_watch, with_watch_if, with_watching, answer_read, answer_set_watches, answer_add_watch};
 ghost use Rattle.client_service.specs.Results.{MeetsStep};
 ghost use Rattle.client_service.specs.Inner.{IsReadIn};
 
@@ -14,13 +15,13 @@ use crate::output::Output;
 use crate::sending::{answer, answer_without_body};
 use crate::world::World;
 use client_frames::{Call, CallBody, read_call};
-use client_records::SetWatches;
 use client_records::codes::OK;
+use client_records::{AddWatch, SetWatches};
 use jute::codes::BAD_ARGUMENTS;
-use read_processor::{Renewal, Request, Watch, look, renew, watch_of};
+use read_processor::{Renewal, Request, Watch, look, renew, watch_of, watch_to_add};
 use std::alloc::Global;
 use values::{NoMemory, ReadError};
-use watch_manager::Watches;
+use watch_manager::{WatchMode, Watches};
 
 // Sets a watch; it may be set already.
 fn set_watch(
@@ -34,6 +35,13 @@ fn set_watch(
     match watch {
         Watch::Data(path) => watches.set_data(alloc, number, path.as_str()),
         Watch::Child(path) => watches.set_child(alloc, number, path.as_str()),
+        Watch::Lasting(path, mode) => {
+            let recursive = match mode {
+                WatchMode::Persistent => false,
+                WatchMode::Recursive => true,
+            };
+            watches.set_persistent(alloc, number, path.as_str(), recursive)
+        }
     }
 }
 
@@ -77,20 +85,15 @@ fn read_of_call(alloc: Global, number: u64, call: &Call<'_>) -> Result<Option<As
     }
 }
 
-/// The read that a frame asks for, if reads are gathered; None if they aren't, if its connection has no session, or if it
-/// asks for anything else.
+/// The read that a frame asks for; None if its connection has no session, or if it asks for anything else.
 pub fn gathered_read(
     alloc: Global,
-    gathers: bool,
     number: u64,
     world: &World,
     frame: &[u8],
 ) -> Result<Option<AskedRead>, NoMemory>
     ensures { IfOk result (λ found. IfSome found (IsReadIn number world.now frame.now)) }
 {
-    if !gathers {
-        return Ok(None);
-    }
     let Some(_session) = world.clients.sessions.session(number) else {
         return Ok(None);
     };
@@ -172,5 +175,42 @@ pub fn answer_renewal(
     match renew(alloc, world.replica.tree(), asked)? {
         None => answer_without_body(alloc, number, world, xid, BAD_ARGUMENTS, outputs),
         Some(missed) => answer_missed(alloc, number, world, xid, &missed, outputs),
+    }
+}
+
+fn watch_and_answer(
+    alloc: Global,
+    number: u64,
+    world: &mut World,
+    xid: i32,
+    watch: &Watch<'_>,
+    outputs: &mut Vec<Output>,
+) -> Result<(), NoMemory>
+    ensures { MeetsStep result outputs.old.items
+        (answer_add_watch number world.old xid (Some watch.now))
+        outputs.new.items world.new }
+{
+    set_watch(alloc, number, &mut world.clients.watches, watch)?;
+    answer_without_body(alloc, number, world, xid, OK, outputs)
+}
+
+/// Answers an addWatch: the watch is set, whether or not there is a node.
+///
+/// Fails only if an allocation is refused; then a prefix of the outputs has been appended.
+pub fn answer_add_watch(
+    alloc: Global,
+    number: u64,
+    world: &mut World,
+    xid: i32,
+    asked: &AddWatch<'_>,
+    outputs: &mut Vec<Output>,
+) -> Result<(), NoMemory>
+    ensures { MeetsStep result outputs.old.items
+        (answer_add_watch number world.old xid (watch_to_add asked.now))
+        outputs.new.items world.new }
+{
+    match watch_to_add(asked) {
+        None => answer_without_body(alloc, number, world, xid, BAD_ARGUMENTS, outputs),
+        Some(watch) => watch_and_answer(alloc, number, world, xid, &watch, outputs),
     }
 }

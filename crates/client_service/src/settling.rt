@@ -92,6 +92,27 @@ fn show_each(
     Ok(())
 }
 
+// Answers the reads that wait, in the order in which they were asked.
+fn answer_all<L: Fn(&Tree, &[Ask<'_>]) -> Result<Vec<Look>, NoMemory>>(
+    alloc: Global,
+    looker: &L,
+    asked: &mut Vec<AskedRead>,
+    world: &mut World,
+    outputs: &mut Vec<Output>,
+) -> Result<(), NoMemory>
+    requires { LooksAtAsks (L.pre looker.now) (L.post looker.now) }
+    ensures answered { MeetsStep result outputs.old.items
+        (answer_all_asked asked.old.items world.old)
+        outputs.new.items world.new }
+    ensures none_left { OnOk result (asked.new.items ≡ []) }
+{
+    runs_of_reads();
+    let looks = looks_of(alloc, looker, world, asked.as_slice())?;
+    show_each(alloc, world, asked.as_slice(), looks, outputs)?;
+    asked.clear();
+    Ok(())
+}
+
 /// Answers the reads that wait, in the order in which they were asked, by one call of `looker`. A read of a connection
 /// that isn't open by then is passed over.
 ///
@@ -112,9 +133,5 @@ pub fn settle_reads<L: Fn(&Tree, &[Ask<'_>]) -> Result<Vec<Look>, NoMemory>>(
     if asked.is_empty() {
         return Ok(());
     }
-    runs_of_reads();
-    let looks = looks_of(alloc, looker, world, asked.as_slice())?;
-    show_each(alloc, world, asked.as_slice(), looks, outputs)?;
-    asked.clear();
-    Ok(())
+    answer_all(alloc, looker, asked, world, outputs)
 }

@@ -31,10 +31,11 @@ use Rattle.sessions.specs.declared.request.SessionResponse.{SessionResponse}
 use Rattle.watch_manager.specs.Pairs.{watch_cmp, same_connection}
 use Rattle.watch_manager.specs.Watching.{WatchTables}
 use Rattle.watch_manager.specs.Watches.{fire}
-use Rattle.watch_manager.specs.Laws.{AllPass, WatchersPass, OnlyWatchersAreTold, DroppedWatchesNothing}
+use Rattle.watch_manager.specs.Laws.{AllPass, AllLastingPass, WatchersPass, OnlyWatchersAreTold, DroppedWatchesNothing}
+use Rattle.read_processor.specs.declared.watch.Watch.{Watch}
 use Rattle.read_processor.specs.declared.renewal.Renewal.{Renewal}
 use Rattle.read_processor.specs.Look.{look_at_state, without_body}
-use Rattle.read_processor.specs.Watch.{watch_of}
+use Rattle.read_processor.specs.Watch.{watch_of, watch_to_add}
 use Rattle.read_processor.specs.Renewal.{renew_watches}
 use Rattle.read_processor.specs.Reply.{reply_frame}
 use Rattle.four_letter.specs.Texts.{reply_text}
@@ -47,12 +48,12 @@ use Rattle.observer_core.specs.Machine.{Leader, Machine}
 use Rattle.client_service.specs.Steps.{StepResult, fold_steps}
 use Rattle.client_service.specs.Clients.{idle_connection, is_open, with_connection, without_client, without_clients, no_clients}
 use Rattle.observer_core.specs.Leader.{WorldAndLoading, step_with_loading, send_effect, item_step, Delivery, delivery_of, deliver_item, is_refused, deliver_all, place_after, part_reader, leader_at as kept_leader, meet_leader, disconnect_all, with_leader_or_fault, take_leader_bytes, on_stream_end, end_leader}
-use Rattle.client_service.specs.Serve.{close_client, send_or_close, send_last, with_watching, with_watch_if, with_each_watch, answer_set_watches, with_sessions, send_auth_result, with_session_expired, end_session, close_client_if_some, send_connect_response, finish_connect, may_connect, handle_connect, handle_call, serve_as, serve_by, serve_frame, figures_of, word_at, is_closed, with_waiting_bytes, wait_if_open, frames_of_client, tell_or_serve, take_client_bytes}
+use Rattle.client_service.specs.Serve.{close_client, send_or_close, send_last, with_watching, with_watch, with_watch_if, with_each_watch, answer_set_watches, answer_add_watch, with_sessions, send_auth_result, with_session_expired, end_session, close_client_if_some, send_connect_response, finish_connect, may_connect, handle_connect, handle_call, serve_as, serve_by, serve_frame, figures_of, word_at, is_closed, with_waiting_bytes, wait_if_open, frames_of_client, tell_or_serve, take_client_bytes}
 use Rattle.observer_core.specs.Play.{is_serving_clients, play_event, first_request, new_machine, primed_machine}
 use Rattle.observer_core.specs.Agreement.{ClientsAgree, OneSessionEach, ConnectionsAgree}
 use Rattle.client_service.proofs.NatMaps.{get-inserted}
 use Rattle.observer_core.proofs.Keeping.{happening_keeps}
-use Rattle.observer_core.proofs.Passing.{KeysPass, closed_passes, expired_passes, auth_passes, connected_passes, watchers_pass, watched_if_passes, watched_each_passes}
+use Rattle.observer_core.proofs.Passing.{KeysPass, closed_passes, expired_passes, auth_passes, connected_passes, watchers_pass, watched_passes, watched_if_passes, watched_each_passes}
 
 abbrev Agreeing : World → Type 0
 Agreeing w = ClientsAgree w.clients
@@ -145,6 +146,15 @@ module _ (kept : AgreementIsKept) (told : OnlyWatchersAreTold) (dropped : Droppe
       (watches_agree w watches
       (watched_each_passes (λ m. is_open m w.clients) n here w.clients.watches r.watches a.watching) a)
 
+  added_agrees : (n : ℕ) (w : World) (xid : ℤ) (o : Option Watch) → IsOpen n w → Agreeing w
+      → Agreeing (answer_add_watch n w xid o).after
+  added_agrees n w xid None here a =
+      send_agrees n w (reply_frame xid w.replica.learner.last_zxid (without_body BAD_ARGUMENTS)) a
+  added_agrees n w xid (Some watch) here a =
+      let watches = with_watch n w.clients.watches watch in
+      send_agrees n (with_watching w watches) (reply_frame xid w.replica.learner.last_zxid (without_body OK))
+      (watches_agree w watches (watched_passes (λ m. is_open m w.clients) n here w.clients.watches watch a.watching) a)
+
   -- ---- sessions
 
   sessions_agree : (w : World) (s : Sessions) → SessionsAgree s → KeysPass (λ m. is_open m w.clients) s.connections
@@ -220,6 +230,7 @@ module _ (kept : AgreementIsKept) (told : OnlyWatchersAreTold) (dropped : Droppe
       (watches_agree w watches
       (watched_if_passes (λ m. is_open m w.clients) n here w.clients.watches watch a.watching) a)
   call_agrees n w xid (bodies.SetWatches r) here a = renewed_agrees n w xid (renew_watches w.replica.tree r) here a
+  call_agrees n w xid (bodies.AddWatch r) here a = added_agrees n w xid (watch_to_add r) here a
   call_agrees n w xid (bodies.Auth packet) here a =
       shown_agrees n w xid (add_auth w.clients.sessions n packet.scheme packet.auth)
       (auth_agrees n w packet.scheme packet.auth here a)
@@ -366,11 +377,14 @@ module _ (kept : AgreementIsKept) (told : OnlyWatchersAreTold) (dropped : Droppe
   nobody_agrees settings fits = record {
     sessions = kept.starts (session_settings_of settings.server_id settings.timeouts settings.secret) fits;
     joined = λ n has. absurd (true≢false (sym has ∙ ap is_some (finmap.get-empty nat_cmp n)));
-    watching = (none, none);
+    watching = (none, none, none_lasting);
   }
     where
       none : AllPass (λ n. is_open n (no_clients settings)) set.empty
       none path n has = absurd (true≢false (sym has ∙ set.contains-empty watch_cmp (path, n)))
+
+      none_lasting : AllLastingPass (λ n. is_open n (no_clients settings)) finmap.empty
+      none_lasting path n has = absurd (true≢false (sym has ∙ ap is_some (finmap.get-empty watch_cmp (path, n))))
 
   primed_agrees : (settings : Settings) → IsTrue (is_server_id settings.server_id)
       → Agreeing (primed_machine settings).world

@@ -22,7 +22,7 @@ use Rattle.read_processor.specs.declared.watch.Watch.{Watch}
 use Rattle.read_processor.specs.declared.watch.Watch.TheVariants as tables
 use Rattle.read_processor.specs.declared.renewal.Renewal.{Renewal}
 use Rattle.read_processor.specs.Look.{look_at_state, without_body}
-use Rattle.read_processor.specs.Watch.{watch_of}
+use Rattle.read_processor.specs.Watch.{watch_of, watch_to_add}
 use Rattle.read_processor.specs.Renewal.{renew_watches}
 use Rattle.read_processor.specs.Reply.{reply_frame}
 use Rattle.read_processor.specs.Events.{look_of_event}
@@ -40,7 +40,7 @@ use Rattle.client_service.specs.declared.output.Output.TheVariants.{ToLeader, To
 use Rattle.client_service.specs.World.{OpenConnection, Clients, World}
 use Rattle.client_service.specs.Steps.{StepResult, no_output, and_then, fold_steps}
 use Rattle.client_service.specs.Clients.{idle_connection, is_open, with_connection, without_client, sent_to, notice_to, notices_to}
-use Rattle.client_service.specs.Serve.{close_client, send_or_close, send_last, send_reply_last, with_watch, with_each_watch, with_watch_if, with_watching, answer_set_watches, with_sessions, send_auth_result, with_session_expired, end_session, close_client_if_some, send_connect_response, finish_connect, may_connect, handle_connect, handle_call, serve_as, serve_by, serve_frame, figures_of, word_at, is_closed, with_waiting_bytes, wait_if_open, wait_at, frames_of_client, tell_or_serve, take_client_bytes, open_client, end_client}
+use Rattle.client_service.specs.Serve.{close_client, send_or_close, send_last, send_reply_last, with_watch, with_each_watch, with_watch_if, with_watching, answer_set_watches, answer_add_watch, with_sessions, send_auth_result, with_session_expired, end_session, close_client_if_some, send_connect_response, finish_connect, may_connect, handle_connect, handle_call, serve_as, serve_by, serve_frame, figures_of, word_at, is_closed, with_waiting_bytes, wait_if_open, wait_at, frames_of_client, tell_or_serve, take_client_bytes, open_client, end_client}
 use Rattle.observer_core.specs.Apart.{ConcernsOnly, IsUntouched, IsTakenUp, IsApart}
 use Rattle.client_service.proofs.NatMaps.{get-kept, get-beside}
 use Rattle.observer_core.proofs.Taking.{none_or_some, HasIfOpen, closed_has, call_in_has, wait_has, connected_joins}
@@ -63,7 +63,13 @@ module _ {A : Type 0} (P : A → Type 0) where
 -- ---- connections that are untouched
 
 untouched : (k : ℕ) (c : Clients) → IsUntouched k c c
-untouched k c = record { rest = refl; session = refl; own = λ path. refl; child = λ path. refl }
+untouched k c = record {
+  rest = refl;
+  session = refl;
+  own = λ path. refl;
+  child = λ path. refl;
+  lasting = λ path. refl;
+}
 
 untouched_on : (k : ℕ) (c d e : Clients) → IsUntouched k c d → IsUntouched k d e → IsUntouched k c e
 untouched_on k c d e first second = record {
@@ -71,6 +77,7 @@ untouched_on k c d e first second = record {
   session = second.session ∙ first.session;
   own = λ path. second.own path ∙ first.own path;
   child = λ path. second.child path ∙ first.child path;
+  lasting = λ path. second.lasting path ∙ first.lasting path;
 }
 
 connection_alone : (n : ℕ) (w : World) (connection : OpenConnection) (k : ℕ) → k ≢ n
@@ -81,6 +88,7 @@ connection_alone n w connection k other =
       session = refl;
       own = λ path. refl;
       child = λ path. refl;
+      lasting = λ path. refl;
     }
 
 without_alone : (stay : OtherConnectionsStay) (keep_watches : OthersKeepWatches) (n : ℕ) (c : Clients) (k : ℕ) → k ≢ n
@@ -90,6 +98,7 @@ without_alone stay keep_watches n c k other = record {
   session = stay.closes c.sessions n k other;
   own = λ path. keep_watches.drops c.watches.own n path k other;
   child = λ path. keep_watches.drops c.watches.child n path k other;
+  lasting = λ path. keep_watches.drops_lasting c.watches.lasting n path k other;
 }
 
 module _ (left : ℕ → Type 0) where
@@ -140,20 +149,24 @@ module _ (left : ℕ → Type 0) where
     SameWatches k before after = (path : List ℕ)
         → (set.contains after.own (path, k) ≡ set.contains before.own (path, k))
         × (set.contains after.child (path, k) ≡ set.contains before.child (path, k))
+        × (finmap.get after.lasting (path, k) ≡ finmap.get before.lasting (path, k))
 
     watched_same : (n k : ℕ) → k ≢ n → (w : WatchTables) (watch : Watch) → SameWatches k w (with_watch n w watch)
-    watched_same n k other w (tables.Data p) path = (keep_watches.sets w.own p n path k other, refl)
-    watched_same n k other w (tables.Child p) path = (refl, keep_watches.sets w.child p n path k other)
+    watched_same n k other w (tables.Data p) path = (keep_watches.sets w.own p n path k other, refl, refl)
+    watched_same n k other w (tables.Child p) path =
+        (refl, keep_watches.sets w.child p n path k other, refl)
+    watched_same n k other w (tables.Lasting p mode) path =
+        (refl, refl, keep_watches.sets_lasting w.lasting p n mode path k other)
 
     each_same : (n k : ℕ) → k ≢ n → (w : WatchTables) (all : List Watch) → SameWatches k w (with_each_watch n w all)
-    each_same n k other w [] path = (refl, refl)
+    each_same n k other w [] path = (refl, refl, refl)
     each_same n k other w (watch ∷ all) path =
         let first = watched_same n k other w watch path in
         let rest = each_same n k other (with_watch n w watch) all path in
-        (rest.0 ∙ first.0, rest.1 ∙ first.1)
+        (rest.0 ∙ first.0, rest.1 ∙ first.1, rest.2 ∙ first.2)
 
     if_same : (n k : ℕ) → k ≢ n → (w : WatchTables) (watch : Option Watch) → SameWatches k w (with_watch_if n w watch)
-    if_same n k other w None path = (refl, refl)
+    if_same n k other w None path = (refl, refl, refl)
     if_same n k other w (Some watch) path = watched_same n k other w watch path
 
     watching_apart : (n : ℕ) (w : World) (watches : WatchTables)
@@ -164,6 +177,7 @@ module _ (left : ℕ → Type 0) where
       session = refl;
       own = λ path. (same k other path).0;
       child = λ path. (same k other path).1;
+      lasting = λ path. (same k other path).2;
     })
 
     notices_of : (n : ℕ) (events : List NodeEvent) → AllByRecursion (ConcernsOnly n left) (notices_to n events)
@@ -191,6 +205,16 @@ module _ (left : ℕ → Type 0) where
         told_apart
         (send_apart n (with_watching w watches) (reply_frame xid w.replica.learner.last_zxid (without_body OK)))
 
+    added_apart : (n : ℕ) (w : World) (xid : ℤ) (o : Option Watch) → IsApart n left w (answer_add_watch n w xid o)
+    added_apart n w xid None = send_apart n w
+        (reply_frame xid w.replica.learner.last_zxid (without_body BAD_ARGUMENTS))
+    added_apart n w xid (Some watch) =
+        let watches = with_watch n w.clients.watches watch in
+        then_apart n w (no_output (with_watching w watches))
+        (λ v. send_or_close n v (reply_frame xid w.replica.learner.last_zxid (without_body OK)))
+        (watching_apart n w watches (λ k other. watched_same n k other w.clients.watches watch))
+        (send_apart n (with_watching w watches) (reply_frame xid w.replica.learner.last_zxid (without_body OK)))
+
     -- ---- sessions
 
     sessions_apart : (n : ℕ) (w : World) (s : Sessions)
@@ -201,6 +225,7 @@ module _ (left : ℕ → Type 0) where
       session = same k other;
       own = λ path. refl;
       child = λ path. refl;
+      lasting = λ path. refl;
     })
 
     show_apart : (n : ℕ) (w : World) (xid : ℤ) (packet : AuthPacket)
@@ -270,6 +295,7 @@ module _ (left : ℕ → Type 0) where
           session = stay.connects w.clients.sessions n request k other older;
           own = λ path. refl;
           child = λ path. refl;
+          lasting = λ path. refl;
         }
 
         by : (o : Option ℕ) → c.connected.older ≡ o → IsApart n left w (close_client_if_some v o)
@@ -306,6 +332,7 @@ module _ (left : ℕ → Type 0) where
         (watching_apart n w watches (λ k other. if_same n k other w.clients.watches watch))
         (send_apart n (with_watching w watches) (reply_frame xid w.replica.learner.last_zxid seen))
     call_apart n w xid (bodies.SetWatches r) agree = renewed_apart n w xid (renew_watches w.replica.tree r)
+    call_apart n w xid (bodies.AddWatch r) agree = added_apart n w xid (watch_to_add r)
     call_apart n w xid (bodies.Auth packet) agree = show_apart n w xid packet
     call_apart n w xid bodies.CloseSession agree =
         let v = end_session n w in

@@ -9,7 +9,8 @@ use Rattle.sessions.specs.Sessions.{session_of_connection, ids_of, ConnectResult
 use Rattle.sessions.specs.declared.request.SessionResponse.{SessionResponse}
 use Rattle.read_processor.specs.declared.renewal.Renewal.{Renewal}
 use Rattle.read_processor.specs.Look.{look_at_state, without_body}
-use Rattle.read_processor.specs.Watch.{watch_of}
+use Rattle.read_processor.specs.declared.watch.Watch.{Watch}
+use Rattle.read_processor.specs.Watch.{watch_of, watch_to_add}
 use Rattle.read_processor.specs.Renewal.{renew_watches}
 use Rattle.read_processor.specs.Reply.{reply_frame}
 use Rattle.client_frames.specs.declared.call.Call.{Call}
@@ -20,7 +21,7 @@ use Rattle.client_service.specs.World.{OpenConnection, World}
 use Rattle.client_frames.specs.Call.{call_in}
 use Rattle.client_frames.specs.Connect.{connecting_in, session_request, answer_to_connect}
 use Rattle.client_service.specs.Steps.{StepResult}
-use Rattle.client_service.specs.Serve.{close_client, send_or_close, send_last, send_reply_last, with_watching, with_watch_if, with_each_watch, answer_set_watches, with_sessions, send_auth_result, with_session_expired, end_session, close_client_if_some, send_connect_response, finish_connect, may_connect, handle_connect, handle_call, serve_as, serve_by, serve_frame}
+use Rattle.client_service.specs.Serve.{close_client, send_or_close, send_last, send_reply_last, with_watching, with_watch, with_watch_if, with_each_watch, answer_set_watches, answer_add_watch, with_sessions, send_auth_result, with_session_expired, end_session, close_client_if_some, send_connect_response, finish_connect, may_connect, handle_connect, handle_call, serve_as, serve_by, serve_frame}
 use Rattle.client_service.proofs.NatMaps.{still_there}
 
 -- Each connection that is open afterwards was open before, with the same waiting bytes.
@@ -47,6 +48,12 @@ renewed_closes : (n : ℕ) (w : World) (xid : ℤ) (r : Option Renewal) → Only
 renewed_closes n w xid None = send_closes n w (reply_frame xid w.replica.learner.last_zxid (without_body BAD_ARGUMENTS))
 renewed_closes n w xid (Some r) =
     send_closes n (with_watching w (with_each_watch n w.clients.watches r.watches))
+    (reply_frame xid w.replica.learner.last_zxid (without_body OK))
+
+added_closes : (n : ℕ) (w : World) (xid : ℤ) (o : Option Watch) → OnlyCloses w (answer_add_watch n w xid o).after
+added_closes n w xid None = send_closes n w (reply_frame xid w.replica.learner.last_zxid (without_body BAD_ARGUMENTS))
+added_closes n w xid (Some watch) =
+    send_closes n (with_watching w (with_watch n w.clients.watches watch))
     (reply_frame xid w.replica.learner.last_zxid (without_body OK))
 
 shown_closes : (n : ℕ) (w : World) (xid : ℤ) (shows : AuthResult) → OnlyCloses w (send_auth_result n w xid shows).after
@@ -103,6 +110,7 @@ call_closes n w xid (bodies.Read r) =
     send_closes n (with_watching w (with_watch_if n w.clients.watches (watch_of r seen.error)))
     (reply_frame xid w.replica.learner.last_zxid seen)
 call_closes n w xid (bodies.SetWatches r) = renewed_closes n w xid (renew_watches w.replica.tree r)
+call_closes n w xid (bodies.AddWatch r) = added_closes n w xid (watch_to_add r)
 call_closes n w xid (bodies.Auth packet) =
     shown_closes n w xid (add_auth w.clients.sessions n packet.scheme packet.auth)
 call_closes n w xid bodies.CloseSession =

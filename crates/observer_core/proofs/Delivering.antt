@@ -21,7 +21,7 @@ use Rattle.client_service.specs.World.{OpenConnection, OpenConnections, Clients,
 use Rattle.observer_core.specs.Machine.{Leader, Machine}
 use Rattle.client_service.specs.Steps.{StepResult, prepend_outputs, no_output, and_then, fold_steps}
 use Rattle.client_service.specs.Clients.{without_client, close_clients, close_all_clients, notices_of}
-use Rattle.observer_core.specs.Leader.{to_leader, WorldAndLoading, step_with_loading, send_effect, item_step, Delivery, delivery_of, deliver_item, is_refused, place_or_fault, place_after, StreamProgress, take_items, WorldAndLeader, leader_at, part_reader, with_leader, disconnect_all, with_leader_or_fault, take_leader_bytes}
+use Rattle.observer_core.specs.Leader.{to_leader, answers_to_news, WorldAndLoading, step_with_loading, send_effect, item_step, Delivery, delivery_of, deliver_item, is_refused, place_or_fault, place_after, StreamProgress, take_items, WorldAndLeader, leader_at, part_reader, with_leader, disconnect_all, with_leader_or_fault, take_leader_bytes}
 use Rattle.observer_core.specs.Inner.{send_outcome, ReceivesItem, DeliversItems, FollowsStream}
 use Rattle.client_service.specs.Results.{MeetsStep}
 use Rattle.jute.specs.Format.{◌>>=◌}
@@ -133,16 +133,16 @@ told_first (Err e) old mid new sent told is gains = gains_behind old sent is gai
 pub told_meets : (r : Result (Unit {0}) NoMemory) (old mid new : List Output) (c : Clients) (brought : ItemOutcome)
     (events : List (ℕ × Event)) (left : WatchTables)
     → events ≡ (fire c.watches brought.triggers).events → left ≡ (fire c.watches brought.triggers).left
-    → mid ≡ old ++ map to_leader brought.replies → Puts r mid (notices_of events) new
+    → mid ≡ old ++ map to_leader (brought.replies ++ answers_to_news brought.news) → Puts r mid (notices_of events) new
     → MeetsStep r old (send_outcome c brought) new (record c { watches = left })
 told_meets (Ok u) old mid new c brought events left fired rest sent put =
-    let sends = map to_leader brought.replies in
+    let sends = map to_leader (brought.replies ++ answers_to_news brought.news) in
     let all : new ≡ old ++ (sends ++ notices_of (fire c.watches brought.triggers).events) =
     told_first (Ok tt) old mid new sends (notices_of (fire c.watches brought.triggers).events) sent
     (put ∙ ap (λ (es : List (ℕ × Event)). mid ++ notices_of es) fired) in
     λ i. record { outputs = sym all i; after = record c { watches = sym rest i } }
 told_meets (Err e) old mid new c brought events left fired rest sent gains =
-    gains_behind old (map to_leader brought.replies) sent
+    gains_behind old (map to_leader (brought.replies ++ answers_to_news brought.news)) sent
     (subst (λ (es : List (ℕ × Event)). Gains mid (notices_of es) new) fired gains)
 
 module _ (d : WorldAndLoading) (i : Item) (old : List Output) where
@@ -151,7 +151,13 @@ module _ (d : WorldAndLoading) (i : Item) (old : List Output) where
 
   module _ (brought : ItemOutcome) (loading : Loading) (r : Replica)
       (taken : take_item d.loading d.world.replica i ≡ Ok
-      (record { replies = brought.replies; triggers = brought.triggers; loading = loading; replica = r })) where
+      (record {
+        replies = brought.replies;
+        triggers = brought.triggers;
+        news = brought.news;
+        loading = loading;
+        replica = r;
+      })) where
     -- The item was taken, and its effect was sent.
     pub received : (new : List Output) (clients : Clients)
         → MeetsStep (Ok tt) old (send_outcome d.world.clients brought) new clients

@@ -19,7 +19,9 @@ use Rattle.sessions.specs.State.{ConnectedClient, SessionTable}
 use Rattle.sessions.specs.Sessions.{ConnectResult, AuthResult, new_connection, greatest_counter, ids_limit, is_same_id, with_id, is_valid, connection_of, close_connection, close_as, close_if_some, expire_guest, expire_as, open_new, connect_session, show_in, digest_text, auth_by, add_auth}
 use Rattle.watch_manager.specs.Pairs.{WatchPairs, watch_cmp, same_connection}
 use Rattle.watch_manager.specs.Watching.{WatchTables}
-use Rattle.watch_manager.specs.Laws.{AllPass, WatchersPass}
+use Rattle.watch_manager.specs.Lasting.{LastingWatches}
+use Rattle.watch_manager.specs.Laws.{AllPass, AllLastingPass, WatchersPass}
+use Rattle.watch_manager.specs.declared.mode.WatchMode.{WatchMode}
 use Rattle.watch_manager.proofs.Totals.{watch_total, watch_exact}
 use Rattle.read_processor.specs.declared.watch.Watch.{Watch}
 use Rattle.read_processor.specs.declared.watch.Watch.TheVariants as tables
@@ -121,7 +123,11 @@ module _ (test : ℕ → Bool) where
 -- A weaker predicate.
 pub watchers_pass : (p q : ℕ → Bool) (w : WatchTables) → ((k : ℕ) → p k ≡ true → q k ≡ true) → WatchersPass p w
     → WatchersPass q w
-watchers_pass p q w weaker all = (λ path k has. weaker k (all.0 path k has), λ path k has. weaker k (all.1 path k has))
+watchers_pass p q w weaker all = (
+  λ path k has. weaker k (all.0 path k has),
+  λ path k has. weaker k (all.1 path k has),
+  λ path k has. weaker k (all.2 path k has),
+)
 
 module _ (test : ℕ → Bool) (n : ℕ) (here : test n ≡ true) where
   pair_passes : (pairs : WatchPairs) (path : List ℕ) → AllPass test pairs → AllPass test (set.insert pairs (path, n))
@@ -134,9 +140,19 @@ module _ (test : ℕ → Bool) (n : ℕ) (here : test n ≡ true) where
       by true same h = ap (λ (p : List ℕ × ℕ). test p.1) (tells_apart watch_exact (at, k) (path, n) same) ∙ here
       by false other h = all at k h
 
-  watched_passes : (w : WatchTables) (watch : Watch) → WatchersPass test w → WatchersPass test (with_watch n w watch)
-  watched_passes w (tables.Data path) all = (pair_passes w.own path all.0, all.1)
-  watched_passes w (tables.Child path) all = (all.0, pair_passes w.child path all.1)
+  lasting_passes : (lasting : LastingWatches) (path : List ℕ) (mode : WatchMode) → AllLastingPass test lasting
+      → AllLastingPass test (finmap.insert lasting (path, n) mode)
+  lasting_passes lasting path mode all at k has =
+      cond_both (eq_by_cmp watch_cmp (at, k) (path, n)) (Some mode) (finmap.get lasting (at, k))
+      (λ o. is_some o ≡ true → test k ≡ true)
+      (λ same h. ap (λ (p : List ℕ × ℕ). test p.1) (tells_apart watch_exact (at, k) (path, n) same) ∙ here)
+      (λ other h. all at k h)
+      (sym (ap is_some (finmap.get-insert watch_total lasting (path, n) mode (at, k))) ∙ has)
+
+  pub watched_passes : (w : WatchTables) (watch : Watch) → WatchersPass test w → WatchersPass test (with_watch n w watch)
+  watched_passes w (tables.Data path) all = (pair_passes w.own path all.0, all.1, all.2)
+  watched_passes w (tables.Child path) all = (all.0, pair_passes w.child path all.1, all.2)
+  watched_passes w (tables.Lasting path mode) all = (all.0, all.1, lasting_passes w.lasting path mode all.2)
 
   pub watched_if_passes : (w : WatchTables) (watch : Option Watch) → WatchersPass test w
       → WatchersPass test (with_watch_if n w watch)

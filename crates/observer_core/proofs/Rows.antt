@@ -59,7 +59,7 @@ use Rattle.watch_manager.specs.declared.event.EventKind.TheVariants.{NodeCreated
 use Rattle.watch_manager.specs.Watching.{WatchTables, no_watch}
 use Rattle.watch_manager.specs.Rows.{watches_on, WorkedRows as FiringRows}
 use Rattle.watch_manager.specs.Watches.{FireResult, fire}
-use Rattle.watch_manager.specs.Laws.{AllPass, OnlyWatchersAreTold, NoEventKeepsWatches}
+use Rattle.watch_manager.specs.Laws.{AllPass, AllLastingPass, OnlyWatchersAreTold, NoEventKeepsWatches}
 use Rattle.read_processor.specs.Watch.{watch_of}
 use Rattle.client_service.specs.declared.world.Settings.{Settings}
 use Rattle.client_frames.specs.declared.call.Call.{Call}
@@ -319,8 +319,10 @@ pub unwatched : OnlyWatchersAreTold → NoEventKeepsWatches → NobodyTold
 unwatched only silent triggers =
     let nobody : AllPass (λ (n : ℕ). false) set.empty =
     λ path n there. sym (set.contains-empty watch_cmp (path, n)) ∙ there in
+    let nobody_lasting : AllLastingPass (λ (n : ℕ). false) finmap.empty =
+    λ path n there. sym (ap is_some (finmap.get-empty watch_cmp (path, n))) ∙ there in
     let none = no_event (fire no_watch triggers).events
-    (only (λ (n : ℕ). false) no_watch triggers (nobody, nobody)).0 in
+    (only (λ (n : ℕ). false) no_watch triggers (nobody, nobody, nobody_lasting)).0 in
     λ i. record { events = none i; left = sym (silent no_watch triggers none) i }
 
 -- ---- events

@@ -19,7 +19,8 @@ use Rattle.sessions.specs.declared.request.SessionRequest.{SessionRequest}
 use Rattle.sessions.specs.declared.request.SessionResponse.{SessionResponse}
 use Rattle.read_processor.specs.declared.renewal.Renewal.{Renewal}
 use Rattle.read_processor.specs.Look.{look_at_state, without_body}
-use Rattle.read_processor.specs.Watch.{watch_of}
+use Rattle.read_processor.specs.declared.watch.Watch.{Watch}
+use Rattle.read_processor.specs.Watch.{watch_of, watch_to_add}
 use Rattle.read_processor.specs.Renewal.{renew_watches}
 use Rattle.read_processor.specs.Reply.{reply_frame}
 use Rattle.client_frames.specs.declared.call.Call.{Call}
@@ -29,7 +30,7 @@ use Rattle.client_frames.specs.Connect.{answer_to_connect}
 use Rattle.client_service.specs.World.{OpenConnection, Clients, World}
 use Rattle.client_service.specs.Steps.{StepResult, and_then}
 use Rattle.client_service.specs.Clients.{is_open, without_client}
-use Rattle.client_service.specs.Serve.{send_or_close, send_last, with_watching, with_watch_if, with_each_watch, answer_set_watches, with_sessions, send_auth_result, end_session, close_client_if_some, send_connect_response, finish_connect, handle_call, serve_as, wait_if_open}
+use Rattle.client_service.specs.Serve.{send_or_close, send_last, with_watching, with_watch, with_watch_if, with_each_watch, answer_set_watches, answer_add_watch, with_sessions, send_auth_result, end_session, close_client_if_some, send_connect_response, finish_connect, handle_call, serve_as, wait_if_open}
 use Rattle.client_service.proofs.NatMaps.{get-inserted, get-removed}
 
 pub none_or_some : {A : Type 0} (a : A) → None ≢ Some a
@@ -132,6 +133,14 @@ renewed_has n session w xid (Some r) has =
     send_has n session (with_watching w (with_each_watch n w.clients.watches r.watches))
     (reply_frame xid w.replica.learner.last_zxid (without_body OK)) has
 
+added_has : (n : ℕ) (session : ℤ) (w : World) (xid : ℤ) (o : Option Watch) → HasIfOpen n session w.clients
+    → HasIfOpen n session (answer_add_watch n w xid o).after.clients
+added_has n session w xid None has =
+    send_has n session w (reply_frame xid w.replica.learner.last_zxid (without_body BAD_ARGUMENTS)) has
+added_has n session w xid (Some watch) has =
+    send_has n session (with_watching w (with_watch n w.clients.watches watch))
+    (reply_frame xid w.replica.learner.last_zxid (without_body OK)) has
+
 call_has : (n : ℕ) (session : ℤ) (w : World) (xid : ℤ) (b : CallBody)
     → session_of_connection w.clients.sessions n ≡ Some session
     → HasIfOpen n session (handle_call n w xid b).after.clients
@@ -141,6 +150,7 @@ call_has n session w xid (bodies.Read r) has =
     (reply_frame xid w.replica.learner.last_zxid seen) (λ _. has)
 call_has n session w xid (bodies.SetWatches r) has =
     renewed_has n session w xid (renew_watches w.replica.tree r) (λ _. has)
+call_has n session w xid (bodies.AddWatch r) has = added_has n session w xid (watch_to_add r) (λ _. has)
 call_has n session w xid (bodies.Auth packet) has =
     shown_has n session w xid (add_auth w.clients.sessions n packet.scheme packet.auth)
     (λ _. auth_keeps w.clients.sessions n packet.scheme packet.auth session has)

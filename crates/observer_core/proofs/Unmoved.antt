@@ -17,7 +17,8 @@ use Rattle.sessions.specs.Sessions.{session_of_connection, ids_of, ConnectResult
 use Rattle.sessions.specs.declared.request.SessionResponse.{SessionResponse}
 use Rattle.read_processor.specs.declared.renewal.Renewal.{Renewal}
 use Rattle.read_processor.specs.Look.{look_at_state, without_body}
-use Rattle.read_processor.specs.Watch.{watch_of}
+use Rattle.read_processor.specs.declared.watch.Watch.{Watch}
+use Rattle.read_processor.specs.Watch.{watch_of, watch_to_add}
 use Rattle.read_processor.specs.Renewal.{renew_watches}
 use Rattle.read_processor.specs.Reply.{reply_frame}
 use Rattle.four_letter.specs.Texts.{reply_text}
@@ -25,7 +26,7 @@ use Rattle.four_letter.specs.declared.word.Word.{Word}
 use Rattle.client_service.specs.World.{OpenConnection, World}
 use Rattle.client_service.specs.Steps.{StepResult, fold_steps}
 use Rattle.client_service.specs.Clients.{idle_connection, is_open, with_connection, without_client}
-use Rattle.client_service.specs.Serve.{close_client, send_or_close, send_last, send_reply_last, with_watching, with_watch_if, with_each_watch, answer_set_watches, with_sessions, send_auth_result, with_session_expired, end_session, close_client_if_some, send_connect_response, finish_connect, may_connect, handle_connect, handle_call, serve_as, serve_by, serve_frame, figures_of, word_at, is_closed, with_waiting_bytes, wait_if_open, frames_of_client, tell_or_serve, take_client_bytes, open_client, end_client, expire_session}
+use Rattle.client_service.specs.Serve.{close_client, send_or_close, send_last, send_reply_last, with_watching, with_watch, with_watch_if, with_each_watch, answer_set_watches, answer_add_watch, with_sessions, send_auth_result, with_session_expired, end_session, close_client_if_some, send_connect_response, finish_connect, may_connect, handle_connect, handle_call, serve_as, serve_by, serve_frame, figures_of, word_at, is_closed, with_waiting_bytes, wait_if_open, frames_of_client, tell_or_serve, take_client_bytes, open_client, end_client, expire_session}
 use Rattle.observer_core.proofs.Keeping.{happening_keeps}
 
 abbrev SameReplica : World → World → Type 0
@@ -46,6 +47,12 @@ renewed_same : (n : ℕ) (w : World) (xid : ℤ) (r : Option Renewal) → SameRe
 renewed_same n w xid None = send_same n w (reply_frame xid w.replica.learner.last_zxid (without_body BAD_ARGUMENTS))
 renewed_same n w xid (Some r) =
     send_same n (with_watching w (with_each_watch n w.clients.watches r.watches))
+    (reply_frame xid w.replica.learner.last_zxid (without_body OK))
+
+added_same : (n : ℕ) (w : World) (xid : ℤ) (o : Option Watch) → SameReplica w (answer_add_watch n w xid o).after
+added_same n w xid None = send_same n w (reply_frame xid w.replica.learner.last_zxid (without_body BAD_ARGUMENTS))
+added_same n w xid (Some watch) =
+    send_same n (with_watching w (with_watch n w.clients.watches watch))
     (reply_frame xid w.replica.learner.last_zxid (without_body OK))
 
 shown_same : (n : ℕ) (w : World) (xid : ℤ) (shows : AuthResult) → SameReplica w (send_auth_result n w xid shows).after
@@ -102,6 +109,7 @@ call_same n w xid (bodies.Read r) =
     send_same n (with_watching w (with_watch_if n w.clients.watches (watch_of r seen.error)))
     (reply_frame xid w.replica.learner.last_zxid seen)
 call_same n w xid (bodies.SetWatches r) = renewed_same n w xid (renew_watches w.replica.tree r)
+call_same n w xid (bodies.AddWatch r) = added_same n w xid (watch_to_add r)
 call_same n w xid (bodies.Auth packet) = shown_same n w xid (add_auth w.clients.sessions n packet.scheme packet.auth)
 call_same n w xid bodies.CloseSession =
     let v = end_session n w in

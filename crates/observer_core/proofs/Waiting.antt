@@ -1,8 +1,7 @@
 -- Reads that wait while events are played.
-use Rattle.std.proofs.Common.{◌≡◌, List, [], ◌∷◌, ℕ, ◌++◌, Option, Result, Ok, Err, Bool, refl, sym, ap, subst, ◌∙◌}
+use Rattle.std.proofs.Common.{◌≡◌, List, [], ◌∷◌, ℕ, Option, Result, Ok, Err, Bool, sym, ap, subst, ◌∙◌}
 use Rattle.std.proofs.lemmas.List.{append-nil}
 use Rattle.std.specs.FinMap as finmap
-use Rattle.values.specs.Gains.{Gains}
 use Rattle.values.specs.declared.fault.NoMemory.{NoMemory}
 use Rattle.sessions.specs.Agreement.{OtherConnectionsStay}
 use Rattle.replica.specs.Replica.{Replica}
@@ -11,7 +10,7 @@ use Rattle.client_service.specs.declared.output.Output.{Output}
 use Rattle.client_service.specs.World.{World}
 use Rattle.client_service.specs.Steps.{StepResult, prepend_outputs, and_then}
 use Rattle.client_service.specs.Serve.{take_client_bytes}
-use Rattle.client_service.specs.Results.{MeetsStep, MeetsOwing, SoFar}
+use Rattle.client_service.specs.Results.{MeetsStep, MeetsOwing}
 use Rattle.client_service.specs.Runs.{AskedRead, answer_all_asked}
 use Rattle.client_service.proofs.Steps.{behind_behind, then_meets}
 use Rattle.client_service.proofs.Running.{answered_kept, kept_itself}

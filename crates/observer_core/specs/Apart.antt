@@ -39,6 +39,8 @@ pub record IsUntouched (k : ℕ) (before after : Clients) : Type 0 where
   pub session : finmap.get after.sessions.connections k ≡ finmap.get before.sessions.connections k
   pub own : (path : List ℕ) → set.contains after.watches.own (path, k) ≡ set.contains before.watches.own (path, k)
   pub child : (path : List ℕ) → set.contains after.watches.child (path, k) ≡ set.contains before.watches.child (path, k)
+  pub lasting : (path : List ℕ)
+      → finmap.get after.watches.lasting (path, k) ≡ finmap.get before.watches.lasting (path, k)
 
 -- The step concerns client n alone, and may close the connections in `left` besides.
 pub record IsApart (n : ℕ) (left : ℕ → Type 0) (w : World) (h : StepResult World) : Type 0 where

@@ -11,9 +11,9 @@ use Rattle.quorum_packet.specs.declared.phase.Phase.{Phase}
 use Rattle.client_service.specs.declared.output.Output.{Output}
 use Rattle.client_service.specs.World.{Clients, World}
 use Rattle.observer_core.specs.Machine.{Leader, Machine}
-use Rattle.client_service.specs.Steps.{StepResult, prepend_outputs, and_then}
+use Rattle.client_service.specs.Steps.{StepResult, and_then}
 use Rattle.observer_core.specs.Gathering.{apply_in_turn}
-use Rattle.observer_core.specs.Leader.{WorldAndLoading, StreamProgress, WorldAndLeader, to_leader, item_step, take_items, with_leader}
+use Rattle.observer_core.specs.Leader.{WorldAndLoading, StreamProgress, WorldAndLeader, to_leader, answers_to_news, item_step, take_items, with_leader}
 use Rattle.client_service.specs.Clients.{notices_of}
 use Rattle.replica.specs.declared.item_outcome.ItemOutcome.{ItemOutcome}
 use Rattle.watch_manager.specs.Watches.{fire}
@@ -25,7 +25,7 @@ abbrev pub send_outcome : Clients → ItemOutcome → StepResult Clients
 send_outcome c brought =
     let fired = fire c.watches brought.triggers in
     record {
-      outputs = map to_leader brought.replies ++ notices_of fired.events;
+      outputs = map to_leader (brought.replies ++ answers_to_news brought.news) ++ notices_of fired.events;
       after = record c { watches = fired.left };
     }
 

@@ -13,6 +13,9 @@ use Rattle.quorum_packet.specs.Feed.{end_of}
 use Rattle.quorum_packet.specs.Items.{items_shown_at}
 use Rattle.quorum_packet.specs.Packet.{packet_format}
 use Rattle.quorum_packet.specs.WholeItems.{WholeItem, whole_items}
+use Rattle.learner_sync.specs.Answers.{ping_reply}
+use Rattle.replica.specs.declared.item_outcome.LeaderNews.{LeaderNews}
+use Rattle.replica.specs.declared.item_outcome.LeaderNews.TheVariants as news
 use Rattle.replica.specs.Taking.{ItemEffect, nothing_loaded, take_item, take_whole, follow_leader, without_leader}
 use Rattle.watch_manager.specs.Watches.{fire}
 use Rattle.client_service.specs.declared.output.Output.{Output}
@@ -27,12 +30,17 @@ use Rattle.client_service.specs.Clients.{notices_of, close_all_clients}
 abbrev pub to_leader : QuorumPacket → Output
 to_leader p = ToLeader (packet_format.written p)
 
+-- A PING is answered with an empty table of sessions, since the leader knows none of them. Nobody waits for a sync.
+abbrev pub answers_to_news : Option LeaderNews → List QuorumPacket
+answers_to_news (Some (news.Ping ping)) = ping_reply ping [] ∷ []
+answers_to_news brought = []
+
 -- The packets go to the leader at once, and an event to each watcher; the watches that fired are used up.
 abbrev pub send_effect : World → ItemEffect → StepResult World
 send_effect w t =
     let fired = fire w.clients.watches t.triggers in
     record {
-      outputs = map to_leader t.replies ++ notices_of fired.events;
+      outputs = map to_leader (t.replies ++ answers_to_news t.news) ++ notices_of fired.events;
       after = record w { replica = t.replica; clients = record w.clients { watches = fired.left } };
     }
 

@@ -158,6 +158,7 @@ impl Engine {
         alloc: Global,
         doer: &D,
         looker: &L,
+        gather_from: usize,
         gathers: bool,
         events: &[Event<'_>],
         outputs: &mut Vec<Output>,
@@ -173,6 +174,7 @@ impl Engine {
             alloc,
             doer,
             looker,
+            gather_from,
             gathers,
             &mut self.machine,
             events,
@@ -205,7 +207,7 @@ impl Engine {
         let looker = |tree: &Tree, asks: &[Ask<'_>]| -> Result<Vec<Look>, NoMemory>
             ensures looks { IfOk result (λ v. v.items ≡ looks_at tree.now asks.now) }
         { look_each(alloc, tree, asks) };
-        self.play(alloc, &doer, &looker, false, events, outputs)
+        self.play(alloc, &doer, &looker, usize::MAX, false, events, outputs)
     }
 
     /// Does what `feed_inline` does, on several threads. The transactions of one event of the leader are cut into batches
@@ -244,7 +246,9 @@ impl Engine {
                 gate,
             )
         };
-        let gathers = limits.workers() > 1 && may_hold_reads(events, threshold.reads);
-        self.play(alloc, &doer, &looker, gathers, events, outputs)
+        let spreads = limits.workers() > 1;
+        let gather_from = if spreads { threshold.bytes } else { usize::MAX };
+        let gathers = spreads && may_hold_reads(events, threshold.reads);
+        self.play(alloc, &doer, &looker, gather_from, gathers, events, outputs)
     }
 }

@@ -2,17 +2,18 @@
 //!
 //! Laws that go over this: `Agreeing`, `Logs`, `Playing`, `Refusals`, `Served`, `Simulation`, `WholeImages`.
 
-ghost use Rattle.std.specs.Prelude.{map, ◌∷◌, []};
+ghost use Rattle.std.specs.Prelude.{◌≡◌, map, ◌∷◌, ◌++◌, [], IfOk};
 ghost use Rattle.std.specs.List.{All};
 ghost use Rattle.values.specs.Gains.{Puts};
 ghost use Rattle.quorum_packet.specs.Feed.{CanBeWritten};
 ghost use Rattle.quorum_packet.specs.Items.{items_shown_at};
 ghost use Rattle.quorum_packet.specs.Packet.{packet_format};
 ghost use Rattle.replica.specs.Gathering.{AppliesTxns};
+ghost use Rattle.replica.specs.Taking.{IsAnswerable};
 ghost use Rattle.client_service.specs.Clients.{close_all_clients};
 ghost use Rattle.client_service.specs.Steps.{prepend_outputs};
 ghost use Rattle.client_service.specs.declared.output.Output.TheVariants.{CloseLeader};
-ghost use Rattle.observer_core.specs.Leader.{to_leader, part_reader, take_items, item_step, meet_leader, disconnect_all, take_leader_bytes, end_leader};
+ghost use Rattle.observer_core.specs.Leader.{to_leader, answers_to_news, part_reader, take_items, item_step, meet_leader, disconnect_all, take_leader_bytes, end_leader};
 ghost use Rattle.observer_core.specs.Inner.{send_outcome, ReceivesItem, DeliversItems, FollowsStream};
 ghost use Rattle.client_service.specs.Results.{MeetsStep};
 
@@ -20,12 +21,13 @@ use crate::gathering::{settle_txns, take_item};
 use crate::machine::{Leader, Machine};
 use client_service::{Clients, Output, World, notify_each};
 use data_tree::{Outcome, Tree};
+use learner_sync::ping_answer;
 use quorum_packet::{Item, PacketFeed, QuorumPacket, write_packet};
-use replica::ItemOutcome;
+use replica::{ItemOutcome, LeaderNews};
 use snapshot_codec::Loader;
 use std::alloc::Global;
 use txn_codec::Txn;
-use values::{Blob, Fault, NoMemory, ReadError};
+use values::{Blob, Fault, Listed, NoMemory, ReadError};
 
 fn send(alloc: Global, packet: &QuorumPacket, outputs: &mut Vec<Output>) -> Result<(), NoMemory>
     requires { packet_format.Writable packet.now }
@@ -52,20 +54,41 @@ fn send_each(
     Ok(())
 }
 
+// The packets for the leader: the replies, and the answer to what it asks. A PING is answered with an empty table of
+// sessions, since the leader knows none of them.
+fn packets_for_leader(
+    alloc: Global,
+    replies: Listed<QuorumPacket>,
+    news: Option<LeaderNews>,
+) -> Result<Vec<QuorumPacket>, NoMemory>
+    requires writable { All packet_format.Writable replies }
+    requires answerable { IsAnswerable news }
+    ensures packets { IfOk result (λ packets. packets.items ≡ replies ++ answers_to_news news) }
+    ensures writable { IfOk result (λ packets. All packet_format.Writable packets.items) }
+{
+    let mut packets = replies.into_vec();
+    if let Some(LeaderNews::Ping(ping)) = news {
+        packets.push(ping_answer(ping, Blob::from_vec(Vec::new(alloc))))?;
+    }
+    Ok(packets)
+}
+
 // Sends the packets for the leader, and then an event to each watcher.
 fn tell(
     alloc: Global,
     clients: &mut Clients,
-    brought: &ItemOutcome,
+    brought: ItemOutcome,
     outputs: &mut Vec<Output>,
 ) -> Result<(), NoMemory>
-    requires { All packet_format.Writable brought.now.replies }
+    requires writable { All packet_format.Writable brought.replies }
+    requires answerable { IsAnswerable brought.news }
     ensures { MeetsStep result outputs.old.items
-        (send_outcome clients.old brought.now)
+        (send_outcome clients.old brought)
         outputs.new.items clients.new }
 {
     let events = clients.watches.fire(alloc, brought.triggers.as_slice())?;
-    send_each(alloc, brought.replies.as_slice(), outputs)?;
+    let packets = packets_for_leader(alloc, brought.replies, brought.news)?;
+    send_each(alloc, packets.as_slice(), outputs)?;
     notify_each(alloc, events.as_slice(), outputs)
 }
 
@@ -85,14 +108,40 @@ pub(crate) fn receive_item(
         (record { loading = loader.new; world = world.new }) }
 {
     match world.replica.take(alloc, loader, item) {
-        Ok(brought) => Ok(tell(alloc, &mut world.clients, &brought, outputs)?),
+        Ok(brought) => Ok(tell(alloc, &mut world.clients, brought, outputs)?),
         Err(error) => Err(error),
     }
 }
 
-// Takes the complete packets and parts. Returns the fault that ends the stream, if there is one. Transactions are applied
-// as one list, as far as nothing else comes between them.
-fn drain<D: Fn(&mut Tree, &[Txn]) -> Result<Vec<Outcome>, NoMemory>>(
+// Takes the complete packets and parts, each as soon as it is read. Returns the fault that ends the stream, if there is
+// one.
+fn drain(
+    alloc: Global,
+    feed: &mut PacketFeed,
+    loader: &mut Loader,
+    world: &mut World,
+    outputs: &mut Vec<Output>,
+) -> Result<Option<Fault>, NoMemory>
+    ensures { DeliversItems result outputs.old.items
+        (take_items item_step (record { loading = loader.old; world = world.old }) (items_shown_at feed.old))
+        outputs.new.items feed.new (record { loading = loader.new; world = world.new }) }
+{
+    loop {
+        match feed.next(alloc) {
+            Ok(None) => return Ok(None),
+            Ok(Some(item)) => match receive_item(alloc, loader, world, item, outputs) {
+                Ok(()) => {}
+                Err(ReadError::NoMemory) => return Err(NoMemory),
+                Err(ReadError::Fault(fault)) => return Ok(Some(fault)),
+            },
+            Err(ReadError::NoMemory) => return Err(NoMemory),
+            Err(ReadError::Fault(fault)) => return Ok(Some(fault)),
+        }
+    }
+}
+
+// Does what `drain` does. Transactions are applied as one list, as far as nothing else comes between them.
+fn drain_gathered<D: Fn(&mut Tree, &[Txn]) -> Result<Vec<Outcome>, NoMemory>>(
     alloc: Global,
     doer: &D,
     feed: &mut PacketFeed,
@@ -189,6 +238,7 @@ pub fn meet_leader(
 fn follow<D: Fn(&mut Tree, &[Txn]) -> Result<Vec<Outcome>, NoMemory>>(
     alloc: Global,
     doer: &D,
+    gather_from: usize,
     leader: &mut Leader,
     world: &mut World,
     bytes: &[u8],
@@ -200,23 +250,23 @@ fn follow<D: Fn(&mut Tree, &[Txn]) -> Result<Vec<Outcome>, NoMemory>>(
         outputs.new.items leader.new world.new }
 {
     leader.feed.feed(bytes)?;
-    drain(
-        alloc,
-        doer,
-        &mut leader.feed,
-        &mut leader.loader,
-        world,
-        outputs,
-    )
+    let feed = &mut leader.feed;
+    let loader = &mut leader.loader;
+    if bytes.len() < gather_from {
+        return drain(alloc, feed, loader, world, outputs);
+    }
+    drain_gathered(alloc, doer, feed, loader, world, outputs)
 }
 
 /// Takes a piece of the leader's stream. A fault closes the leader and all clients. Without a leader the bytes are
-/// ignored.
+/// ignored. In a piece of `gather_from` bytes or more, transactions are gathered for `doer`; in a shorter one each is
+/// applied as soon as it is read.
 ///
 /// Fails only if an allocation is refused; then a prefix of the outputs has been appended.
 pub fn take_leader_bytes<D: Fn(&mut Tree, &[Txn]) -> Result<Vec<Outcome>, NoMemory>>(
     alloc: Global,
     doer: &D,
+    gather_from: usize,
     machine: &mut Machine,
     bytes: &[u8],
     outputs: &mut Vec<Output>,
@@ -226,16 +276,21 @@ pub fn take_leader_bytes<D: Fn(&mut Tree, &[Txn]) -> Result<Vec<Outcome>, NoMemo
         (take_leader_bytes part_reader machine.old.leader machine.old.world bytes.now)
         outputs.new.items machine.new }
 {
-    let Some(mut leader) = machine.leader.take() else {
+    let Some(leader) = &mut machine.leader else {
         return Ok(());
     };
-    match follow(alloc, doer, &mut leader, &mut machine.world, bytes, outputs)? {
-        None => {
-            machine.leader = Some(leader);
-            Ok(())
-        }
+    match follow(
+        alloc,
+        doer,
+        gather_from,
+        leader,
+        &mut machine.world,
+        bytes,
+        outputs,
+    )? {
+        None => Ok(()),
         Some(fault) => {
-            drop(leader);
+            machine.leader = None;
             close_on_fault(fault, &mut machine.world, outputs)
         }
     }

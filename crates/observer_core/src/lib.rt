@@ -12,10 +12,10 @@
 //!
 //! `replica` follows the leader and keeps the tree; `client_service` does what a client's bytes ask. This crate says in
 //! which order both happen, and what is sent. specs/Plays states what `feed_inline` and `feed` return, refused
-//! allocations included. The transactions of an event of the leader are gathered, and applied as one list before
-//! anything that could tell the difference; with `feed` worker threads apply it in batches. Likewise `feed` lets reads
-//! wait while nothing but reads follows, in the same event or in the next, and worker threads answer them together. No
-//! answer depends on either.
+//! allocations included. Each item is told as soon as it is read. In an event of the leader that may be worth threads,
+//! `feed` gathers the transactions instead: worker threads apply them as one list, in batches, before anything that
+//! could tell the difference. Likewise `feed` lets reads wait while nothing but reads follows, in the same event or in
+//! the next, and worker threads answer them together. No answer depends on either.
 //!
 //! `leader` does the leader's steps, with `gathering` for the transactions of an event, and `run` plays the events.
 //! specs/Gathering and specs/Inner have the contracts of their private functions; no public contract needs them.

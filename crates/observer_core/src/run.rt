@@ -29,6 +29,7 @@ use values::NoMemory;
 fn happen_alone<D: Fn(&mut Tree, &[Txn]) -> Result<Vec<Outcome>, NoMemory>>(
     alloc: Global,
     doer: &D,
+    gather_from: usize,
     machine: &mut Machine,
     event: &Event<'_>,
     outputs: &mut Vec<Output>,
@@ -42,7 +43,7 @@ fn happen_alone<D: Fn(&mut Tree, &[Txn]) -> Result<Vec<Outcome>, NoMemory>>(
     match event {
         Event::LeaderUp => meet_leader(alloc, machine, outputs),
         Event::LeaderBytes(bytes) => {
-            take_leader_bytes(alloc, doer, machine, bytes.as_slice(), outputs)
+            take_leader_bytes(alloc, doer, gather_from, machine, bytes.as_slice(), outputs)
         }
         Event::LeaderEnd => end_leader(machine, outputs),
         Event::ClientUp(number) => open_client(alloc, *number, &mut machine.world),
@@ -64,6 +65,7 @@ fn happen<
     alloc: Global,
     doer: &D,
     looker: &L,
+    gather_from: usize,
     gathers: bool,
     machine: &mut Machine,
     asked: &mut Vec<AskedRead>,
@@ -94,14 +96,15 @@ fn happen<
         }
         _ => {
             settle_reads(alloc, looker, asked, &mut machine.world, outputs)?;
-            happen_alone(alloc, doer, machine, event, outputs)
+            happen_alone(alloc, doer, gather_from, machine, event, outputs)
         }
     }
 }
 
-/// Plays the events in order and appends the outputs of each. The closure `doer` applies the transactions of an event
-/// of the leader to the tree. If `gathers` is set, reads wait for each other, and `looker` answers a run of them;
-/// otherwise each is answered at once.
+/// Plays the events in order and appends the outputs of each. In an event of the leader with `gather_from` bytes or more
+/// transactions wait for each other, and the closure `doer` applies a list of them to the tree; in a shorter one each is
+/// applied at once. If `gathers` is set, reads wait for each other, and `looker` answers a run of them; otherwise each
+/// is answered at once.
 ///
 /// Fails only if an allocation is refused; then a prefix of the outputs has been appended.
 pub fn run<
@@ -111,6 +114,7 @@ pub fn run<
     alloc: Global,
     doer: &D,
     looker: &L,
+    gather_from: usize,
     gathers: bool,
     machine: &mut Machine,
     events: &[Event<'_>],
@@ -125,7 +129,15 @@ pub fn run<
     let mut asked = Vec::new(alloc);
     for event in events {
         happen(
-            alloc, doer, looker, gathers, machine, &mut asked, event, outputs,
+            alloc,
+            doer,
+            looker,
+            gather_from,
+            gathers,
+            machine,
+            &mut asked,
+            event,
+            outputs,
         )?;
     }
     settle_reads(alloc, looker, &mut asked, &mut machine.world, outputs)

@@ -4,7 +4,7 @@ use Rattle.values.specs.Gains.{Gains}
 use Rattle.client_service.specs.World.{World}
 use Rattle.client_service.specs.Steps.{StepResult}
 use Rattle.client_service.proofs.Running.{looks_shown}
-use Rattle.client_service.proofs.settling.settle_reads.Goals as goal
+use Rattle.client_service.proofs.settling.answer_all.Goals as goal
 
 pub returns-in_err-show_each-clause-answered : goal.returns-in_err-show_each-clause-answered
 returns-in_err-show_each-clause-answered g c =
