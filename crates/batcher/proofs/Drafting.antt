@@ -15,15 +15,16 @@ use Rattle.batcher.specs.Class.{TxnGroup, empty_group}
 use Rattle.batcher.specs.Limits.{LimitNumbers, are_limits}
 use Rattle.batcher.specs.declared.draft.Draft.{Draft}
 use Rattle.batcher.specs.declared.met.Met.TheVariants.{Nothing}
-use Rattle.batcher.specs.Groups.{group_with, group_count, group_for, group_of_next, tagged_txns, txn_groups_of}
+use Rattle.batcher.specs.Groups.{group_with, group_count, group_for, group_of_next, tagged_txns, paths_in, txn_groups_of}
 use Rattle.batcher.specs.Front.{IsFrontOf}
 use Rattle.batcher.specs.Cut.{cut, is_barrier_alone, is_batch, groups_if_tagged, groups_of}
-use Rattle.batcher.specs.Inner.Joining.{with_txn_at, with_member, all_met, met_group}
+use Rattle.batcher.specs.Inner.Joining.{OwnTheirPaths, unowned_paths, with_txn_at, with_member, all_met, met_group}
 use Rattle.batcher.specs.Inner.Taking.{group_within_limit, group_taken, tagged_front_after, HasTaken, BeginsWithBarrier}
 use Rattle.batcher.specs.Inner.Drafts.{txns_in, tagged_in, IsDraft}
 use Rattle.batcher.proofs.Steps.{IsNext}
-use Rattle.batcher.proofs.Owning.{none, group_with-behind, or_else, met_or_new}
-use Rattle.batcher.proofs.Members.{classes_of-behind, length-classes_of}
+use Rattle.batcher.proofs.Owning.{none}
+use Rattle.batcher.proofs.Members.{GainsPath, classes_of-behind, length-classes_of}
+use Rattle.batcher.proofs.Unowned.{others_are_there, owner_now, own_more}
 use Rattle.batcher.proofs.Taking.{begins_with_barrier, taken_is_cut, taken_is_front, taken_is_grouped}
 use Rattle.batcher.proofs.Meeting.{or_true, met_is, group_for-below}
 
@@ -143,33 +144,16 @@ module _ (limits : LimitNumbers) (draft : Draft) (is : IsDraft draft) (t : Txn) 
 
 -- ---- one more transaction
 
-owner_now : (before : List GroupedTxn) (k : ℕ) (t : Txn) (paths : List Bytes) → group_for before paths ≡ Some k
-    → ((q : Bytes) → has_path paths q ≡ has_path (footprint t) q) → (q : Bytes)
-    → cond (has_path paths q) (Some k) (group_with before q) ≡ group_with (before ++ (k, t) ∷ []) q
-owner_now before k t paths is cells q =
-    by (has_path paths q) refl
-    ∙ ap (λ b. or_else (group_with before q) (cond b (Some k) None)) (cells q)
-    ∙ sym (group_with-behind before (k, t) q)
-  where
-    or_nothing : (o : Option ℕ) → o ≡ or_else o None
-    or_nothing None = refl
-    or_nothing (Some j) = refl
-
-    by : (b : Bool) → has_path paths q ≡ b
-        → cond b (Some k) (group_with before q) ≡ or_else (group_with before q) (cond b (Some k) None)
-    by true e = sym (met_or_new before paths k is q e)
-    by false e = or_nothing (group_with before q)
-
 pub record Gained (old new : Draft) (k : ℕ) (t : Txn) : Type 0 where
   pub draft : IsDraft new
   pub taken : tagged_in new ≡ tagged_in old ++ (k, t) ∷ []
 
 pub gained : (old new : Draft) (k : ℕ) (t : Txn) (paths : List Bytes) → IsDraft old
-    → group_for (tagged_in old) paths ≡ Some k → paths ≡ footprint t
+    → group_for (tagged_in old) (footprint t) ≡ Some k → paths ≡ unowned_paths (get_by_text old.owners) (footprint t)
     → new.numbers.items ≡ old.numbers.items ++ k ∷ [] → txns_in new ≡ txns_in old ++ t ∷ []
     → ((q : Bytes) → get_by_text new.owners q ≡ cond (has_path paths q) (Some k) (get_by_text old.owners q))
     → new.groups.items ≡ with_member old.groups.items k (length (txns_in old)) paths → Gained old new k t
-gained old new k t paths is for has numbers txns owners groups =
+gained old new k t paths is for are numbers txns owners groups =
     record {
       draft = record {
         numbers = let m = ap length numbers in let n = ap length txns in
@@ -177,19 +161,34 @@ gained old new k t paths is for has numbers txns owners groups =
             let q = is.numbers in omega arith;
         owners = λ q.
             owners q ∙ ap (cond (has_path paths q) (Some k)) (is.owners q)
-            ∙ owner_now (tagged_in old) k t paths for cells q
+            ∙ ap (λ ps. cond (has_path ps q) (Some k) (group_with (tagged_in old) q)) unowned
+            ∙ owner_now (tagged_in old) k t q
             ∙ ap (λ ts. group_with ts q) (sym taken);
         groups = groups
             ∙ ap (λ cs. with_member cs k (length (txns_in old)) paths) is.groups
             ∙ ap (λ n. with_member (txn_groups_of (tagged_in old)) k n paths) (sym (length_in old is))
-            ∙ sym (classes_of-behind (tagged_in old) k t paths cells (group_for-below (tagged_in old) paths k for))
+            ∙ sym (classes_of-behind (tagged_in old) k t paths gains below)
             ∙ ap txn_groups_of (sym taken);
+        own = subst (OwnTheirPaths (get_by_text new.owners)) (sym groups)
+            (own_more (get_by_text old.owners) (get_by_text new.owners) old.groups.items k (length (txns_in old)) paths
+            (footprint t) are opened is.own owners);
       };
       taken = taken;
     }
   where
-    cells : (q : Bytes) → has_path paths q ≡ has_path (footprint t) q
-    cells q = ap (λ ps. has_path ps q) has
+    unowned : paths ≡ unowned_paths (group_with (tagged_in old)) (footprint t)
+    unowned = are ∙ ap (λ (f : Bytes → Option ℕ). unowned_paths f (footprint t)) (λ i path. is.owners path i)
+
+    gains : (q : Bytes) → GainsPath k (tagged_in old) paths t q
+    gains q =
+        ap (λ ps. has_path (paths_in k (tagged_in old)) q || has_path ps q) unowned
+        ∙ others_are_there (tagged_in old) (footprint t) k for q
+
+    below : k ≤ group_count (tagged_in old)
+    below = group_for-below (tagged_in old) (footprint t) k for
+
+    opened : k ≤ length old.groups.items
+    opened = subst (λ n. k ≤ n) (sym (opened_in old is)) below
 
     taken : tagged_in new ≡ tagged_in old ++ (k, t) ∷ []
     taken = (λ i. zip (numbers i) (txns i)) ∙ zip-behind old.numbers.items (txns_in old) k t is.numbers

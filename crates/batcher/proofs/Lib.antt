@@ -2,6 +2,8 @@
 mod Steps
 -- The group that is met.
 mod Meeting
+-- The paths of a transaction that no group owns, and a group that gains them.
+mod Unowned
 -- A draft that gains a transaction.
 mod Drafting
 -- The group that has a path, and groups that are apart.

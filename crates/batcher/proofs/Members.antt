@@ -4,7 +4,7 @@ use Rattle.std.specs.List.{flat_map, slice_get, AllByRecursion, range_with_len}
 use Rattle.std.specs.Option.{option_and_then}
 use Rattle.std.specs.Ordering.{eq_by_cmp}
 use Rattle.std.specs.FinSet as set
-use Rattle.std.proofs.lemmas.Bool.{eq-eqb}
+use Rattle.std.proofs.lemmas.Bool.{eqb-true, eq-eqb}
 use Rattle.std.proofs.lemmas.Bool.Decides.{nat_tests}
 use Rattle.std.proofs.lemmas.List.{append-nil}
 use Rattle.std.proofs.lemmas.List.Folds.{list_any-append}
@@ -89,13 +89,13 @@ in_rest p xs ys h =
     list_any-append (eq_by_cmp path_cmp p) xs ys ∙ ap (λ b. has_path xs p || b) h ∙ or_true (has_path xs p)
 
 -- The group of the first transaction has its paths, and those that it had without it.
-paths_here : (t : GroupedTxn) (ts : List GroupedTxn) (p : Bytes) → has_path (footprint t.1) p ≡ true
+pub paths_here : (t : GroupedTxn) (ts : List GroupedTxn) (p : Bytes) → has_path (footprint t.1) p ≡ true
     → has_path (paths_in t.0 (t ∷ ts)) p ≡ true
 paths_here t ts p h =
     subst (λ b. has_path (flat_map footprint (cond b (t.1 ∷ txns_of_group t.0 ts) (txns_of_group t.0 ts))) p ≡ true)
     (sym (eq-eqb t.0 t.0 refl)) (in_front p (footprint t.1) (paths_in t.0 ts) h)
 
-paths_there : (k : ℕ) (t : GroupedTxn) (ts : List GroupedTxn) (p : Bytes) → has_path (paths_in k ts) p ≡ true
+pub paths_there : (k : ℕ) (t : GroupedTxn) (ts : List GroupedTxn) (p : Bytes) → has_path (paths_in k ts) p ≡ true
     → has_path (paths_in k (t ∷ ts)) p ≡ true
 paths_there k t ts p h = by (nat_eq t.0 k)
   where
@@ -184,39 +184,46 @@ paths_in-behind k bs t =
     ap (flat_map footprint) (of_group-behind k bs t)
     ∙ flat_map-append footprint (txns_of_group k bs) (cond (nat_eq t.0 k) (t.1 ∷ []) [])
 
-joined_sets : (xs ys zs : List Bytes) → ((q : Bytes) → has_path zs q ≡ has_path ys q)
+joined_sets : (xs ys zs : List Bytes)
+    → ((q : Bytes) → (has_path xs q || has_path zs q) ≡ (has_path xs q || has_path ys q))
     → set.from_list {R = path_cmp} (xs ++ (ys ++ [])) ≡ set.union (set.from_list xs) (set.from_list zs)
 joined_sets xs ys zs is = set.same_set path_total exact_bytes _ _ (λ q.
     set.contains-from_list path_total (xs ++ (ys ++ [])) q
     ∙ ap (λ l. has_path (xs ++ l) q) (append-nil ys)
     ∙ list_any-append (eq_by_cmp path_cmp q) xs ys
-    ∙ ap (λ b. has_path xs q || b) (sym (is q))
+    ∙ sym (is q)
     ∙ (λ i.
     sym (set.contains-from_list path_total xs q) i || sym (set.contains-from_list path_total zs q) i)
     ∙ sym (set.contains-union path_total (set.from_list xs) (set.from_list zs) q))
 
+-- With these paths the group has the path just where it has it with the transaction's.
+abbrev pub GainsPath : ℕ → List GroupedTxn → List Bytes → Txn → Bytes → Type 0
+GainsPath k ts paths t q =
+    (has_path (paths_in k ts) q || has_path paths q) ≡ (has_path (paths_in k ts) q || has_path (footprint t) q)
+
 class_of-behind : (bs : List GroupedTxn) (t : GroupedTxn) (paths : List Bytes)
-    → ((q : Bytes) → has_path paths q ≡ has_path (footprint t.1) q) → (k : ℕ)
+    → ((q : Bytes) → GainsPath t.0 bs paths t.1 q) → (k : ℕ)
     → txn_group_at (bs ++ t ∷ []) k
     ≡ cond (nat_eq t.0 k) (with_txn_at (txn_group_at bs k) (length bs) paths) (txn_group_at bs k)
 class_of-behind bs t paths is k =
     (λ i. record { members = places_from-behind 0 k bs t i; paths = set.from_list (paths_in-behind k bs t i) })
-    ∙ by (nat_eq t.0 k)
+    ∙ by (nat_eq t.0 k) refl
   where
     none_more : (n : ℕ) → 0 + n ≡ n
     none_more n = omega arith
 
-    by : (b : Bool) → (let c : TxnGroup = record {
+    by : (b : Bool) → nat_eq t.0 k ≡ b → (let c : TxnGroup = record {
       members = places_from 0 k bs ++ cond b ((0 + length bs) ∷ []) [];
       paths = set.from_list (paths_in k bs ++ flat_map footprint (cond b (t.1 ∷ []) []));
     } in c)
         ≡ cond b (with_txn_at (txn_group_at bs k) (length bs) paths) (txn_group_at bs k)
-    by true =
+    by true e =
+        let gains = subst (λ j. (q : Bytes) → GainsPath j bs paths t.1 q) (eqb-true t.0 k e) is in
         λ i. record {
           members = places_from 0 k bs ++ none_more (length bs) i ∷ [];
-          paths = joined_sets (paths_in k bs) (footprint t.1) paths is i;
+          paths = joined_sets (paths_in k bs) (footprint t.1) paths gains i;
         }
-    by false =
+    by false e =
         λ i. record {
           members = append-nil (places_from 0 k bs) i;
           paths = set.from_list (append-nil (paths_in k bs) i);
@@ -306,7 +313,7 @@ with_member-map f g place ps (suc n) (suc k) a le here others fresh m is =
     more = omega arith
 
 pub classes_of-behind : (before : List GroupedTxn) (k : ℕ) (t : Txn) (paths : List Bytes)
-    → ((q : Bytes) → has_path paths q ≡ has_path (footprint t) q) → k ≤ group_count before
+    → ((q : Bytes) → GainsPath k before paths t q) → k ≤ group_count before
     → txn_groups_of (before ++ (k, t) ∷ []) ≡ with_member (txn_groups_of before) k (length before) paths
 classes_of-behind before k t paths is le =
     sym

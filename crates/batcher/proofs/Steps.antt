@@ -1,5 +1,5 @@
 -- Paths and transactions that are taken one after the other.
-use Rattle.std.proofs.Common.{◌≡◌, ℕ, zero, suc, ◌+◌, ◌<◌, ◌≤◌, List, [], ◌∷◌, ◌++◌, Bool, true, false, cond, ◌||◌, Option, Some, refl, sym, ap, ◌∙◌, arith, length, drop, take, map, get_or, string_bytes}
+use Rattle.std.proofs.Common.{◌≡◌, ℕ, zero, suc, ◌+◌, ◌<◌, ◌≤◌, List, [], ◌∷◌, ◌++◌, Bool, true, false, cond, ◌||◌, Option, Some, refl, sym, ap, ◌∙◌, arith, length, drop, take, get_or, string_bytes}
 use Rattle.std.proofs.Math.Seq.{drop-cons, take-suc}
 use Rattle.std.proofs.Math.ListN.{drop_of_length-le}
 use Rattle.std.proofs.Math.Bool.{or_comm}
@@ -11,7 +11,6 @@ use Rattle.std.specs.Cmp.Lexicographic.{slice_cmp}
 use Rattle.std.specs.String.{string_cmp}
 use Rattle.std.specs.declared.string.String.{String}
 use Rattle.std.specs.FinSet as set
-use Rattle.std.proofs.lemmas.List.{get_or-map}
 use Rattle.std.proofs.lemmas.List.Folds.{list_any-append}
 use Rattle.std.proofs.lemmas.Map.Text.{btree_map_updates_text}
 use Rattle.std.proofs.lemmas.Map.Lookups.{exact_bytes}
@@ -76,15 +75,6 @@ owned_now m n k bs p is updates q =
     btree_map_updates_text bs m n (Some k) updates q
     ∙ ap (λ b. cond b (Some k) (lookup (query q) m.entries)) (same_test q bs ∙ ap (eq_by_cmp path_cmp q) is)
 
--- The same where the path is the group's already.
-owned_before : (m : Bytes → Option ℕ) (k : ℕ) (p : Bytes) → m p ≡ Some k
-    → (q : Bytes) → m q ≡ cond (eq_by_cmp path_cmp q p) (Some k) (m q)
-owned_before m k p is q = by (eq_by_cmp path_cmp q p) refl
-  where
-    by : (b : Bool) → eq_by_cmp path_cmp q p ≡ b → m q ≡ cond b (Some k) (m q)
-    by true e = ap m (tells_apart exact_bytes q p e) ∙ is
-    by false e = refl
-
 -- The first n of these paths are the group's, and all other owners stay.
 abbrev pub IsOwned : (Bytes → Option ℕ) → (Bytes → Option ℕ) → ℕ → List Bytes → ℕ → Type 0
 IsOwned old now k paths n = (q : Bytes) → now q ≡ cond (has_path (take n paths) q) (Some k) (old q)
@@ -119,18 +109,6 @@ module _ (paths : List Bytes) (i : ℕ) (p : Bytes) (within : i < length paths) 
       both false true = refl
       both false false = refl
 
-  -- A path that was the group's before is still the group's.
-  pub owned_still : (old m : Bytes → Option ℕ) (k : ℕ) → IsOwned old m k paths i → old p ≡ Some k
-      → IsOwned old m k paths (i + 1)
-  owned_still old m k before was =
-      owned_next old m m k before
-      (owned_before m k p (before p ∙ ap (cond (has_path (take i paths) p) (Some k)) was
-      ∙ same (has_path (take i paths) p)))
-    where
-      same : (b : Bool) → cond b (Some k) (Some k) ≡ Some k
-      same true = refl
-      same false = refl
-
 take_all : (paths : List Bytes) (n : ℕ) → length paths ≤ n → take n paths ≡ paths
 take_all [] zero past = refl
 take_all [] (suc n) past = refl
@@ -141,13 +119,3 @@ pub owned_all : (old m : Bytes → Option ℕ) (k : ℕ) (paths : List Bytes) (n
     → IsOwned old m k paths n → (q : Bytes) → m q ≡ cond (has_path paths q) (Some k) (old q)
 owned_all old m k paths n past before q =
     before q ∙ ap (λ ps. cond (has_path ps q) (Some k) (old q)) (take_all paths n past)
-
-pub found_at : (f : Bytes → Option ℕ) (paths : List Bytes) (found : List (Option ℕ)) (i k : ℕ) (none : Option ℕ)
-    → found ≡ map f paths → i < length paths → get_or found i none ≡ Some k → f (get_or paths i []) ≡ Some k
-found_at f paths found i k none is within at =
-    sym (get_or-map f paths i [] none within) ∙ ap (λ l. get_or l i none) (sym is) ∙ at
-
-pub there : (paths : List Bytes) (i : ℕ) → i < length paths → get_or paths i [] ≡ get_or paths i (get_or paths i [])
-there [] i within = absurd (omega arith)
-there (p ∷ ps) zero within = refl
-there (p ∷ ps) (suc i) within = there ps i (omega arith)

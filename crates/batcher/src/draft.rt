@@ -1,13 +1,13 @@
 //! A batch while it grows.
 
-ghost use Rattle.std.specs.Prelude.{◌≡◌, ◌↔◌, ◌++◌, ◌∷◌, [], Option, Some, None, IfOk, OnOk, IsTrue, map, if◌then◌else◌};
+ghost use Rattle.std.specs.Prelude.{◌≡◌, ◌++◌, ◌∷◌, [], Some, IfOk, OnOk, IsTrue, if◌then◌else◌};
 ghost use Rattle.std.specs.BTreeMap.{get_by_text};
 ghost use Rattle.std.specs.Ordering.{eq_by_cmp};
 ghost use Rattle.ephemerals.specs.Orders.{Bytes, path_cmp};
 ghost use Rattle.data_tree.specs.Footprint.{has_path, footprint};
 ghost use Rattle.batcher.specs.Limits.{are_limits};
 ghost use Rattle.batcher.specs.Groups.{group_for};
-ghost use Rattle.batcher.specs.Inner.Joining.{with_member, met_group};
+ghost use Rattle.batcher.specs.Inner.Joining.{with_member, unowned_paths, met_group};
 ghost use Rattle.batcher.specs.Inner.Taking.{HasTaken, tagged_front_after};
 ghost use Rattle.batcher.specs.Inner.Drafts.{tagged_in, IsDraft};
 
@@ -31,15 +31,6 @@ pub struct Draft<'a> {
     pub groups: Vec<Group>,
 }
 
-fn is_group(found: Option<usize>, group: usize) -> bool
-    ensures { IsTrue result ↔ (found ≡ Some group) }
-{
-    match found {
-        None => false,
-        Some(other) => other == group,
-    }
-}
-
 fn own_path(
     owners: &mut BTreeMap<String, usize>,
     alloc: Global,
@@ -53,22 +44,18 @@ fn own_path(
     Ok(())
 }
 
-// Gives the paths to a group; `found` has their present owners. Only a path that isn't the group's yet allocates.
+// Gives the paths to a group.
 fn own(
     owners: &mut BTreeMap<String, usize>,
     alloc: Global,
     group: usize,
     paths: &[Str<'_>],
-    found: &[Option<usize>],
 ) -> Result<(), NoMemory>
-    requires { found.now ≡ map (get_by_text owners.old) paths.now }
     ensures { OnOk result ((path : Bytes) → get_by_text owners.new path
         ≡ (if has_path paths.now path then Some group else get_by_text owners.old path)) }
 {
-    for place in 0..paths.len() {
-        if !is_group(found[place], group) {
-            own_path(owners, alloc, group, paths[place].as_str())?;
-        }
+    for path in paths {
+        own_path(owners, alloc, group, path.as_str())?;
     }
     Ok(())
 }
@@ -118,42 +105,42 @@ impl<'a> Draft<'a> {
         })
     }
 
-    // The group for a transaction with these paths, if there is one, and the owner of each path.
+    // The group for a transaction with these paths, if there is one, and the paths that no group owns yet.
     fn group_for(
         &self,
-        paths: &[Str<'_>],
-        found: &mut Vec<Option<usize>>,
+        paths: &[Str<'a>],
+        unowned: &mut Vec<Str<'a>>,
     ) -> Result<Option<usize>, NoMemory>
         requires { IsDraft self.now }
         ensures group { IfOk result (λ group. group ≡ group_for (tagged_in self.now) paths.now) }
-        ensures found { OnOk result (found.new.items ≡ map (get_by_text self.now.owners) paths.now) }
+        ensures unowned { OnOk result
+            (unowned.new.items ≡ unowned_paths (get_by_text self.now.owners) paths.now) }
     {
-        let met = met_by(&self.owners, paths, found)?;
+        let met = met_by(&self.owners, self.groups.as_slice(), paths, unowned)?;
         if paths.is_empty() {
             return Ok(Some(self.groups.len().saturating_sub(1)));
         }
         Ok(met_group(met, self.groups.len()))
     }
 
-    // Adds a transaction with these paths to a group; `found` has the paths' present owners.
+    // Adds a transaction to its group; only those of its paths that no group owns yet are new to the group.
     fn add(
         &mut self,
         alloc: Global,
         group: usize,
         txn: &'a Txn,
-        paths: &[Str<'_>],
-        found: &[Option<usize>],
+        unowned: &[Str<'_>],
     ) -> Result<(), NoMemory>
         requires draft { IsDraft self.old }
-        requires group { group_for (tagged_in self.old) paths.now ≡ Some group }
-        requires paths { paths.now ≡ footprint txn.now }
-        requires found { found.now ≡ map (get_by_text self.old.owners) paths.now }
+        requires group { group_for (tagged_in self.old) (footprint txn.now) ≡ Some group }
+        requires unowned { unowned.now
+            ≡ unowned_paths (get_by_text self.old.owners) (footprint txn.now) }
         ensures draft { OnOk result (IsDraft self.new) }
         ensures taken { OnOk result
             (tagged_in self.new ≡ tagged_in self.old ++ (group, txn.now) ∷ []) }
     {
-        add_to(&mut self.groups, alloc, group, self.txns.len(), paths)?;
-        own(&mut self.owners, alloc, group, paths, found)?;
+        add_to(&mut self.groups, alloc, group, self.txns.len(), unowned)?;
+        own(&mut self.owners, alloc, group, unowned)?;
         self.numbers.push(group)?;
         self.txns.push(txn)?;
         Ok(())
@@ -164,8 +151,8 @@ impl<'a> Draft<'a> {
         &mut self,
         alloc: Global,
         txn: &'a Txn,
-        paths: &[Str<'_>],
-        found: &mut Vec<Option<usize>>,
+        paths: &[Str<'a>],
+        unowned: &mut Vec<Str<'a>>,
         limits: &Limits,
     ) -> Result<bool, NoMemory>
         requires draft { IsDraft self.old }
@@ -180,13 +167,13 @@ impl<'a> Draft<'a> {
         if is_barrier(alloc, txn, paths)? {
             return Ok(false);
         }
-        match self.group_for(paths, found)? {
+        match self.group_for(paths, unowned)? {
             None => return Ok(false),
             Some(group) => {
                 if group >= limits.groups() {
                     return Ok(false);
                 }
-                self.add(alloc, group, txn, paths, found.as_slice())?;
+                self.add(alloc, group, txn, unowned.as_slice())?;
                 Ok(true)
             }
         }
@@ -201,13 +188,13 @@ impl<'a> Draft<'a> {
     {
         let most = limits.batch().min(txns.len());
         let mut draft = Draft::with_capacity(alloc, most)?;
-        // One transaction's paths and their owners; the vectors are reused for each.
+        // One transaction's paths, and those that no group owns yet; the vectors are reused for each.
         let mut paths = Vec::new(alloc);
-        let mut found = Vec::new(alloc);
+        let mut unowned = Vec::new(alloc);
         for txn in txns {
             paths.clear();
             borrow_paths(txn, &mut paths)?;
-            if !draft.take(alloc, txn, paths.as_slice(), &mut found, limits)? {
+            if !draft.take(alloc, txn, paths.as_slice(), &mut unowned, limits)? {
                 return Ok(draft);
             }
         }

@@ -1,10 +1,11 @@
 //! The groups that a transaction meets.
 
-ghost use Rattle.std.specs.Prelude.{◌≡◌, IfOk, OnOk, map};
+ghost use Rattle.std.specs.Prelude.{◌≡◌, ◌++◌, ◌∷◌, [], Some, IfOk, OnOk};
 ghost use Rattle.std.specs.BTreeMap.{get_by_text};
-ghost use Rattle.batcher.specs.Inner.Joining.{met_with, all_met};
+ghost use Rattle.batcher.specs.Inner.Joining.{group_has, met_has, met_with, all_met, OwnTheirPaths, unowned_paths};
 ghost use Rattle.batcher.specs.declared.met.Met.TheVariants.{Nothing};
 
+use crate::group::Group;
 use std::collections::BTreeMap;
 use values::{NoMemory, Str};
 
@@ -17,19 +18,36 @@ pub enum Met {
     Several,
 }
 
+// Whether the group of this number has the path.
+fn group_has(groups: &[Group], group: usize, path: &str) -> bool
+    ensures { result ≡ group_has groups.now group path.now }
+{
+    if group >= groups.len() {
+        return false;
+    }
+    groups[group].paths().contains(path)
+}
+
+// Whether one group was met, and has the path.
+fn met_has(met: Met, groups: &[Group], path: &str) -> bool
+    ensures { result ≡ met_has groups.now met path.now }
+{
+    match met {
+        Met::Group(group) => group_has(groups, group, path),
+        Met::Nothing | Met::Several => false,
+    }
+}
+
 fn owner(owners: &BTreeMap<String, usize>, path: &str) -> Option<usize>
     ensures { result ≡ get_by_text owners.now path.now }
 {
     owners.get(path).copied()
 }
 
-// The groups met so far, and the owner of one more path.
-fn met_with(met: Met, owner: Option<usize>) -> Met
-    ensures { result ≡ met_with met owner }
+// The groups met so far, and one more.
+fn met_with(met: Met, group: usize) -> Met
+    ensures { result ≡ met_with met (Some group) }
 {
-    let Some(group) = owner else {
-        return met;
-    };
     match met {
         Met::Nothing => Met::Group(group),
         Met::Group(other) => {
@@ -42,21 +60,48 @@ fn met_with(met: Met, owner: Option<usize>) -> Met
     }
 }
 
-/// The groups that own one of the paths, and for each path the group that owns it, so that it is looked up once.
-pub fn met_by(
+// The groups met so far, and the owner of one more path. A path that no group owns is added to `unowned`. The group that
+// was met is asked first: it has fewer paths than all groups together, and mostly the rest of a transaction's too.
+fn meet<'p>(
+    met: Met,
     owners: &BTreeMap<String, usize>,
-    paths: &[Str<'_>],
-    found: &mut Vec<Option<usize>>,
+    groups: &[Group],
+    path: &'p str,
+    unowned: &mut Vec<Str<'p>>,
 ) -> Result<Met, NoMemory>
-    ensures met { IfOk result (λ met. met ≡ all_met (get_by_text owners.now) Nothing paths.now) }
-    ensures found { OnOk result (found.new.items ≡ map (get_by_text owners.now) paths.now) }
+    requires { OwnTheirPaths (get_by_text owners.now) groups.now }
+    ensures met { IfOk result (λ more. more ≡ met_with met (get_by_text owners.now path.now)) }
+    ensures unowned { OnOk result (unowned.new.items
+        ≡ unowned.old.items ++ unowned_paths (get_by_text owners.now) (path.now ∷ [])) }
 {
-    found.clear();
+    if met_has(met, groups, path) {
+        return Ok(met);
+    }
+    match owner(owners, path) {
+        None => {
+            unowned.push(Str::new(path))?;
+            Ok(met)
+        }
+        Some(group) => Ok(met_with(met, group)),
+    }
+}
+
+/// The groups that own one of the paths, and the paths that none owns.
+pub fn met_by<'p>(
+    owners: &BTreeMap<String, usize>,
+    groups: &[Group],
+    paths: &[Str<'p>],
+    unowned: &mut Vec<Str<'p>>,
+) -> Result<Met, NoMemory>
+    requires { OwnTheirPaths (get_by_text owners.now) groups.now }
+    ensures met { IfOk result (λ met. met ≡ all_met (get_by_text owners.now) Nothing paths.now) }
+    ensures unowned { OnOk result
+        (unowned.new.items ≡ unowned_paths (get_by_text owners.now) paths.now) }
+{
+    unowned.clear();
     let mut met = Met::Nothing;
     for path in paths {
-        let group = owner(owners, path.as_str());
-        found.push(group)?;
-        met = met_with(met, group);
+        met = meet(met, owners, groups, path.as_str(), unowned)?;
     }
     Ok(met)
 }

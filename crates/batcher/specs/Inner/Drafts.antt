@@ -7,6 +7,7 @@ use Rattle.txn_codec.specs.declared.txn.Txn.{Txn}
 use Rattle.data_tree.specs.Commuting.{GroupedTxn}
 use Rattle.batcher.specs.declared.draft.Draft.{Draft}
 use Rattle.batcher.specs.Groups.{group_with, txn_groups_of}
+use Rattle.batcher.specs.Inner.Joining.{OwnTheirPaths}
 
 abbrev pub txns_in : Draft → List Txn
 txns_in draft = map (λ t. t.now) draft.txns.items
@@ -20,3 +21,4 @@ pub record IsDraft (draft : Draft) : Type 0 where
   pub numbers : length draft.numbers.items ≡ length (txns_in draft)
   pub owners : (path : Bytes) → get_by_text draft.owners path ≡ group_with (tagged_in draft) path
   pub groups : draft.groups.items ≡ txn_groups_of (tagged_in draft)
+  pub own : OwnTheirPaths (get_by_text draft.owners) draft.groups.items

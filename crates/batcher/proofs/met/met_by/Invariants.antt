@@ -1,6 +1,6 @@
-use Rattle.std.proofs.Common.{◌≡◌, ◌++◌, drop, map}
+use Rattle.std.proofs.Common.{◌≡◌, ◌++◌, drop}
 use Rattle.std.specs.BTreeMap.{get_by_text}
-use Rattle.batcher.specs.Inner.Joining.{all_met}
+use Rattle.batcher.specs.Inner.Joining.{all_met, unowned_paths}
 use Rattle.batcher.specs.declared.met.Met.TheVariants.{Nothing}
 use Rattle.batcher.proofs.met.met_by.Given as goal
 
@@ -9,6 +9,6 @@ invariant-loop-path l =
     record {
       met : all_met (get_by_text l.owners) l.met (drop l.path-index l.paths)
           ≡ all_met (get_by_text l.owners) Nothing l.paths;
-      found : l.found.items ++ map (get_by_text l.owners) (drop l.path-index l.paths)
-          ≡ map (get_by_text l.owners) l.paths;
+      unowned : l.unowned.items ++ unowned_paths (get_by_text l.owners) (drop l.path-index l.paths)
+          ≡ unowned_paths (get_by_text l.owners) l.paths;
     }

@@ -14,9 +14,9 @@ returns c =
       groups = c.add_to.new.groups;
     } in
     let done =
-    gained old new c.args.group c.args.txn.now c.args.paths.now c.requires.draft c.requires.group c.requires.paths
+    gained old new c.args.group c.args.txn.now c.args.unowned.now c.requires.draft c.requires.group c.requires.unowned
     c.in_ok-push.ensures.items (txns_more old new c.args.txn c.in_ok-push-2.ensures.items) c.in_ok-own.ensures
     (c.in_ok-add_to.ensures
-    ∙ ap (λ place. with_member old.groups.items c.args.group place c.args.paths.now)
+    ∙ ap (λ place. with_member old.groups.items c.args.group place c.args.unowned.now)
     (c.len.ensures ∙ old.txns.ok.0 ∙ sym (count_in old))) in
     record { draft = done.draft; taken = done.taken }
