@@ -28,5 +28,7 @@ mod Listing
 pub mod Lastings
 -- The connections that watch a path or one above it.
 pub mod Aboves
+-- The lengths of the paths that are watched.
+mod Lengths
 -- What holds of lasting watches for each firing.
 mod LastingLaws

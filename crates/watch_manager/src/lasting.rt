@@ -2,15 +2,13 @@
 
 ghost use Rattle.std.specs.Prelude.{◌≡◌, OnOk, OnErr, IfOk};
 ghost use Rattle.std.specs.FinMap as finmap;
-ghost use Rattle.std.specs.FinSet as set;
-ghost use Rattle.watch_manager.specs.Pairs.{watchers_of};
-ghost use Rattle.watch_manager.specs.Lasting.{watches_in, watchers_above, persistent_watchers, lasting_watchers};
+ghost use Rattle.watch_manager.specs.Lasting.{watches_in, persistent_watchers, lasting_watchers};
 ghost use Rattle.watch_manager.specs.Watching.{without_lasting_of};
-ghost use Rattle.watch_manager.specs.Inner.Lasting.{with_watchers_on, fronts_before_slash};
 ghost use Rattle.watch_manager.specs.declared.mode.WatchMode.TheVariants.{Persistent, Recursive};
 
 use crate::conn_set::ConnSet;
 use crate::mode::WatchMode;
+use crate::recursive::RecursiveTable;
 use crate::table::WatchTable;
 use std::alloc::Global;
 use std::marker::Model;
@@ -21,7 +19,7 @@ use values::NoMemory;
 #[derive(Drop)]
 pub struct LastingTable {
     persistent: WatchTable,
-    recursive: WatchTable,
+    recursive: RecursiveTable,
 }
 
 impl Model for LastingTable {
@@ -39,40 +37,6 @@ impl Model for LastingTable {
     ghost invariant = { λ t. HaveOneMode t.persistent t.recursive };
 }
 
-// Adds the connections that watch the path in this table.
-fn add_watchers(conns: &mut ConnSet, table: &WatchTable, path: &str) -> Result<(), NoMemory>
-    ensures { OnOk result (conns.new ≡ set.union conns.old (watchers_of path.now table.now)) }
-{
-    match table.watchers(path) {
-        None => return Ok(()),
-        Some(watchers) => conns.add_all(watchers),
-    }
-}
-
-// Adds the connections that watch a path above this one, except "/".
-fn add_watchers_between(conns: &mut ConnSet, table: &WatchTable, path: &str) -> Result<(), NoMemory>
-    ensures { OnOk result (conns.new ≡ with_watchers_on (fronts_before_slash path.now) table.now conns.old) }
-{
-    let mut rest = path;
-    while let Some((above, _)) = rest.rsplit_once('/') {
-        add_watchers(conns, table, above)?;
-        rest = above;
-    }
-    Ok(())
-}
-
-// Adds the connections that watch the path or one above it.
-fn add_watchers_above(conns: &mut ConnSet, table: &WatchTable, path: &str) -> Result<(), NoMemory>
-    ensures { OnOk result (conns.new ≡ set.union conns.old (watchers_above path.now table.now)) }
-{
-    if table.is_empty() {
-        return Ok(());
-    }
-    add_watchers(conns, table, path)?;
-    add_watchers(conns, table, "/")?;
-    add_watchers_between(conns, table, path)
-}
-
 impl LastingTable {
     /// No watch. Allocates nothing.
     pub fn new(alloc: Global) -> LastingTable
@@ -80,7 +44,7 @@ impl LastingTable {
     {
         LastingTable {
             persistent: WatchTable::new(alloc),
-            recursive: WatchTable::new(alloc),
+            recursive: RecursiveTable::new(alloc),
         }
     }
 
@@ -95,7 +59,7 @@ impl LastingTable {
     pub fn recursive(&self) -> &WatchTable
         ensures { result.now ≡ watches_in Recursive self.now }
     {
-        &self.recursive
+        self.recursive.table()
     }
 
     /// The connections with a persistent watch on the path.
@@ -103,7 +67,7 @@ impl LastingTable {
         ensures { IfOk result (λ conns. conns ≡ persistent_watchers path.now self.now) }
     {
         let mut conns = ConnSet::new(alloc);
-        add_watchers(&mut conns, &self.persistent, path)?;
+        self.persistent.add_watchers(&mut conns, path)?;
         Ok(conns)
     }
 
@@ -112,7 +76,7 @@ impl LastingTable {
         ensures { IfOk result (λ conns. conns ≡ lasting_watchers path.now self.now) }
     {
         let mut conns = self.persistent_watchers(alloc, path)?;
-        add_watchers_above(&mut conns, &self.recursive, path)?;
+        self.recursive.add_watchers_above(&mut conns, path)?;
         Ok(conns)
     }
 

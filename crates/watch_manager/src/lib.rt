@@ -21,6 +21,7 @@ mod lasting;
 pub mod law;
 mod left;
 mod mode;
+mod recursive;
 mod summary;
 mod table;
 mod telling;

@@ -65,6 +65,16 @@ impl WatchTable {
         self.by_path.of(path)
     }
 
+    /// Adds the connections that watch the path.
+    pub fn add_watchers(&self, conns: &mut ConnSet, path: &str) -> Result<(), NoMemory>
+        ensures { OnOk result (conns.new ≡ set.union conns.old (watchers_of path.now self.now)) }
+    {
+        match self.watchers(path) {
+            None => return Ok(()),
+            Some(watchers) => conns.add_all(watchers),
+        }
+    }
+
     /// The watched paths in ascending order of their bytes, each with its connections.
     pub fn iter(&self) -> Iter<'_, String, ConnSet>
         ensures pairs { set.from_list (all_pairs (by_bytes result)) ≡ self.now }

@@ -1,5 +1,8 @@
 -- Lasting watches, stored as a table for each mode.
-use Rattle.std.specs.Prelude.{◌≡◌, ℕ, ◌==◌, List, [], ◌∷◌, ◌++◌, true, false, if◌then◌else◌, map}
+use Rattle.std.specs.Prelude.{◌≡◌, ℕ, ◌==◌, List, [], ◌∷◌, ◌++◌, true, false, if◌then◌else◌, map, length}
+use Rattle.std.specs.Ordering.{nat_cmp}
+use Rattle.std.specs.BTreeSet as sorted
+use Rattle.std.specs.BTreeSet.{BTreeSet}
 use Rattle.std.specs.FinMap as finmap
 use Rattle.std.specs.FinSet as set
 use Rattle.ephemerals.specs.Orders.{Bytes}
@@ -22,6 +25,12 @@ abbrev pub HaveOneMode : WatchPairs → WatchPairs → Type 0
 HaveOneMode persistent recursive =
     (path : Bytes) (conn : ℕ) → set.contains persistent (path, conn) ≡ true
     → set.contains recursive (path, conn) ≡ false
+
+-- The length in bytes of each watched path is one of these.
+abbrev pub HaveLengthsIn : BTreeSet ℕ → WatchPairs → Type 0
+HaveLengthsIn lengths pairs =
+    (path : Bytes) (conn : ℕ) → set.contains pairs (path, conn) ≡ true
+    → sorted.contains nat_cmp lengths (length path) ≡ true
 
 -- The connections, with those of the list.
 abbrev pub with_connections : ConnectionSet → List ℕ → ConnectionSet

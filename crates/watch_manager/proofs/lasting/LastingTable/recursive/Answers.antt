@@ -6,5 +6,5 @@ use Rattle.watch_manager.proofs.lasting.LastingTable.recursive.Goals as goal
 
 pub returns : goal.returns
 returns c =
-    are_recursive c.self.inside.persistent c.self.inside.recursive c.self.invariant
+    c.table.ensures ∙ are_recursive c.self.inside.persistent c.self.inside.recursive c.self.invariant
     ∙ ap (λ l. watches_in Recursive l) c.self.view_is

@@ -3,13 +3,13 @@ use Rattle.std.specs.FinSet as set
 use Rattle.watch_manager.specs.Pairs.{watchers_of}
 use Rattle.watch_manager.specs.Inner.Lasting.{with_watchers_on, fronts_before_slash}
 use Rattle.watch_manager.proofs.Aboves.{fronts-found, fronts-none}
-use Rattle.watch_manager.proofs.lasting.add_watchers_between.Goals as goal
+use Rattle.watch_manager.proofs.recursive.RecursiveTable.add_watchers_between.Goals as goal
 
 pub loop-above-preserved : goal.loop-above-preserved
 loop-above-preserved c =
     let found = c.in-Some.ensures.cases in
     let rest = c.loop-above.rest.now in
-    let table = c.args.table.now in (
+    let table = c.args.self.now in (
       search rules,
       (λ i. with_watchers_on (fronts_before_slash (found.3 i)) table (c.in_ok-add_watchers.ensures i))
           ∙ ap (λ p. with_watchers_on (fronts_before_slash (take found.0 rest)) table
@@ -20,6 +20,6 @@ loop-above-preserved c =
 
 pub returns : goal.returns
 returns c =
-    ap (λ ps. with_watchers_on ps c.args.table.now c.loop-above.conns)
+    ap (λ ps. with_watchers_on ps c.args.self.now c.loop-above.conns)
     (sym (fronts-none c.loop-above.rest.now c.in_default.ensures.cases))
     ∙ c.loop-above.invariant.1

@@ -2,13 +2,13 @@ use Rattle.std.proofs.Common.{◌≡◌, length}
 use denote.Text.{Utf8}
 use denote.Shadow.{shadow}
 use Rattle.watch_manager.specs.Inner.Lasting.{with_watchers_on, fronts_before_slash}
-use Rattle.watch_manager.proofs.lasting.add_watchers_between.Given as goal
+use Rattle.watch_manager.proofs.recursive.RecursiveTable.add_watchers_between.Given as goal
 
 abbrev pub invariant-loop-above : goal.invariant-loop-above
 invariant-loop-above l =
     shadow (Utf8 l.rest)
-    × (with_watchers_on (fronts_before_slash l.rest) l.table l.conns
-    ≡ with_watchers_on (fronts_before_slash l.path) l.table l.fn.conns)
+    × (with_watchers_on (fronts_before_slash l.rest) l.self l.conns
+    ≡ with_watchers_on (fronts_before_slash l.path) l.self l.fn.conns)
 
 abbrev pub decreases-loop-above : goal.decreases-loop-above
 decreases-loop-above l = length l.rest

@@ -1,7 +1,7 @@
 use Rattle.std.proofs.Common.{ap, sym, ◌∙◌}
 use Rattle.std.specs.FinSet as set
 use Rattle.watch_manager.proofs.Aboves.{union-nobody}
-use Rattle.watch_manager.proofs.lasting.add_watchers.Goals as goal
+use Rattle.watch_manager.proofs.table.WatchTable.add_watchers.Goals as goal
 
 pub returns-in-None : goal.returns-in-None
 returns-in-None c =

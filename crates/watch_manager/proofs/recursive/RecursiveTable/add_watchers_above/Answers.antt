@@ -4,18 +4,20 @@ use Rattle.watch_manager.specs.Pairs.{watchers_of}
 use Rattle.watch_manager.specs.Lasting.{root_path}
 use Rattle.watch_manager.specs.Inner.Lasting.{with_watchers_on, fronts_before_slash}
 use Rattle.watch_manager.proofs.Aboves.{gathered_above, nobody_above, union-nobody}
-use Rattle.watch_manager.proofs.lasting.add_watchers_above.Goals as goal
+use Rattle.watch_manager.proofs.Lengths.{no_lengths}
+use Rattle.watch_manager.proofs.recursive.RecursiveTable.add_watchers_above.Goals as goal
 
 pub returns-then-is_empty : goal.returns-then-is_empty
 returns-then-is_empty c =
-    sym (ap (λ s. set.union c.args.conns.now s)
-    (nobody_above c.args.path.now c.args.table.now (c.is_empty.ensures c.if-is_empty.true))
-    ∙ union-nobody c.args.conns.now)
+    let none = no_lengths c.self.inside.lengths c.self.inside.table c.self.invariant
+    (c.is_empty.ensures.0 c.if-is_empty.true) in
+    sym (ap (λ s. set.union c.args.conns.now s) (nobody_above c.args.path.now c.args.self.now
+    (sym c.self.view_is ∙ none)) ∙ union-nobody c.args.conns.now)
 
 pub returns : goal.returns
 returns c =
     let path = c.args.path.now in
-    let table = c.args.table.now in
+    let table = c.args.self.now in
     subst (λ s. OnOk c.add_watchers_between.result (c.add_watchers_between.new.conns ≡ s))
     (ap (λ s. with_watchers_on (fronts_before_slash path) table s) (c.in_ok-add_watchers-2.ensures
     ∙ ap (λ s. set.union s (watchers_of root_path table)) c.in_ok-add_watchers.ensures)
