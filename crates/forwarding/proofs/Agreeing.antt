@@ -15,7 +15,7 @@ use Rattle.forwarding.specs.declared.request.Ready.TheVariants.{SettledSync}
 use Rattle.forwarding.specs.declared.request.Settled.TheVariants.{Of}
 use Rattle.forwarding.specs.Queue.{RequestQueue, pending_limit, oldest_write, is_answered, without_oldest_write, after_answer, is_unsettled, unsettled_count, with_oldest_settled, ready_request, without_front_if, waiting_connect}
 use Rattle.forwarding.specs.State.{RequestQueues, TouchedSessions, PendingTable}
-use Rattle.forwarding.specs.Pending.{nothing_pending, queue_in, queue_of, put_queue, is_idle, is_full, push_request, push_connect, push_sync, unsettled_sync, settle_first, without_connect, take_connect, connecting_to, without_owner, drop_connection, take_touched}
+use Rattle.forwarding.specs.Pending.{nothing_pending, queue_in, queue_of, put_queue, is_idle, is_full, push_request, push_connect, push_sync, unsettled_sync, settle_first, without_connect, take_connect_as, connecting_to, without_owner, drop_connection, take_touched}
 use Rattle.forwarding.specs.Agreement.{is_connect, is_settled, places_of, QueueAgrees, PendingAgrees}
 use Rattle.forwarding.specs.Laws.{Stays, PendingAgreementIsKept}
 use Rattle.forwarding.proofs.Maps.{none-some, some-some, apart, other, same_or_other, inserted, inserted_elsewhere, removed_elsewhere, at_inserted, at_removed}
@@ -281,32 +281,6 @@ takes_front s n (Sync x ∷ rest) e a =
     here : QueueAgrees (places_of n s.syncs) (Sync x ∷ rest)
     here = subst (λ q. QueueAgrees (places_of n s.syncs) q) e (a.queues n)
 
-takes_connect : (s : PendingTable) (n : ℕ) → PendingAgrees s → PendingAgrees (take_connect s n).after
-takes_connect s n a =
-    loses s (take_connect s n).after n a (put_filled s.queues n left a.none_empty)
-    (subst (λ x. QueueAgrees (places_of n s.syncs) x) (sym (queue_put s.queues n left)) (by (queue_of s n) (a.queues n)))
-    (λ m differ. others_stay.takes_connect s n m differ)
-    (ap waiting_connect (queue_put s.queues n left) ∙ gone (queue_of s n) (a.queues n).connect_first) refl
-  where
-    left : RequestQueue
-    left = without_front_if (waiting_connect (queue_of s n)) (queue_of s n)
-
-    by : (q : RequestQueue) → QueueAgrees (places_of n s.syncs) q
-        → QueueAgrees (places_of n s.syncs) (without_front_if (waiting_connect q) q)
-    by [] h = h
-    by (Connect c ∷ rest) h = taken_agrees (places_of n s.syncs) (Connect c) rest refl h
-    by (Write w ∷ rest) h = h
-    by (Sync x ∷ rest) h = h
-    by (Held f ∷ rest) h = h
-
-    gone : (q : RequestQueue) → list_any is_connect (drop 1 q) ≡ false
-        → waiting_connect (without_front_if (waiting_connect q) q) ≡ None
-    gone [] h = refl
-    gone (Connect c ∷ rest) h = no_connect rest h
-    gone (Write w ∷ rest) h = refl
-    gone (Sync x ∷ rest) h = refl
-    gone (Held f ∷ rest) h = refl
-
 -- ---- a connection goes
 
 drops : (s : PendingTable) (n : ℕ) → PendingAgrees s → PendingAgrees (drop_connection s n)
@@ -316,6 +290,11 @@ drops s n a =
     (empty_agrees (places_of n (map (without_owner n) s.syncs)) (dropped_here n s.syncs)))
     (λ m differ. others_stay.drops s n m differ)
     (ap waiting_connect (queue_put s.queues n [])) refl
+
+connect_leaves : (s : PendingTable) (n : ℕ) (o : Option PendingConnect) → PendingAgrees s
+    → PendingAgrees (take_connect_as s n o).after
+connect_leaves s n None a = a
+connect_leaves s n (Some c) a = drops s n a
 
 -- ---- touched sessions
 
@@ -334,7 +313,7 @@ agreement_is_kept = record {
   answers = answers;
   settles = λ s a. settles_first s s.syncs refl a;
   takes = λ s n a. takes_front s n (queue_of s n) refl a;
-  takes_connect = takes_connect;
+  takes_connect = λ s n a. connect_leaves s n (waiting_connect (queue_of s n)) a;
   drops = drops;
   touches = λ s session a. touched s (set.insert s.touched session) a;
   takes_touched = λ s timeouts a. touched s (take_touched s timeouts).after.touched a;

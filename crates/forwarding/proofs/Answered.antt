@@ -15,16 +15,16 @@ use Rattle.forwarding.proofs.Changing.{queue_put, put_same}
 -- Where the oldest write stands.
 record OldestWrite (q : RequestQueue) (w : PendingWrite) : Type 0 where
   before : RequestQueue
-  behind : RequestQueue
-  queue : q ≡ before ++ Write w ∷ behind
+  later : RequestQueue
+  queue : q ≡ before ++ Write w ∷ later
   oldest : list_any is_write before ≡ false
-  left : without_oldest_write q ≡ before ++ behind
+  left : without_oldest_write q ≡ before ++ later
 
 passing : (r : PendingRequest) (rest : RequestQueue) (w : PendingWrite) → is_write r ≡ false
     → without_oldest_write (r ∷ rest) ≡ r ∷ without_oldest_write rest → OldestWrite rest w → OldestWrite (r ∷ rest) w
 passing r rest w e f more = record {
   before = r ∷ more.before;
-  behind = more.behind;
+  later = more.later;
   queue = ap (λ q. r ∷ q) more.queue;
   oldest = ap (λ b. b || list_any is_write more.before) e ∙ more.oldest;
   left = f ∙ ap (λ q. r ∷ q) more.left;
@@ -35,7 +35,7 @@ found [] w e = absurd (none-some w e)
 found (Connect c ∷ rest) w e = passing (Connect c) rest w refl refl (found rest w e)
 found (Write v ∷ rest) w e = record {
   before = [];
-  behind = rest;
+  later = rest;
   queue = ap (λ x. Write x ∷ rest) (some-some e);
   oldest = refl;
   left = refl;
@@ -54,7 +54,7 @@ answered_as q xid txn_kind kind e = by (oldest_write q) refl e
         let there = found q w at in
         record {
           before = there.before;
-          behind = there.behind;
+          later = there.later;
           write = w;
           queue = there.queue;
           oldest = there.oldest;
@@ -106,7 +106,7 @@ settled_behind : (r : PendingRequest) (rest : RequestQueue) → is_unsettled r �
 settled_behind r rest e more = record {
   before = r ∷ more.before;
   sync = more.sync;
-  behind = more.behind;
+  later = more.later;
   queue = ap (λ q. r ∷ q) more.queue;
   oldest = ap (λ b. b || list_any is_unsettled more.before) e ∙ more.oldest;
   unsettled = more.unsettled;
@@ -121,7 +121,7 @@ settled_in (r ∷ rest) n e =
       | true ↦ λ f g. record {
         before = [];
         sync = r;
-        behind = rest;
+        later = rest;
         queue = refl;
         oldest = refl;
         unsettled = f;

@@ -47,7 +47,7 @@ drops_syncs s n q some = λ i. record s {
   connects = without_connect s.connects (waiting_connect (queue_in (some i)));
 }
 
--- The oldest sync, and those behind it.
+-- The oldest sync, and those after it.
 pub first_of : (syncs : List (Option ℕ)) (place : Option ℕ) → first_sync syncs ≡ Some place
     → syncs ≡ place ∷ drop 1 syncs
 first_of [] place e = absurd (none-some place e)

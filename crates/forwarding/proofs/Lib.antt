@@ -16,6 +16,8 @@ pub mod Counting
 pub mod QueueSteps
 -- What one connection does leaves every other.
 pub mod Others
+-- Whether there is any request at all.
+pub mod Emptiness
 -- Agreement after each step.
 pub mod Agreeing
 -- A transaction answers one write, and a SYNC settles one sync.

@@ -6,11 +6,11 @@ use Rattle.forwarding.specs.declared.request.PendingRequest.TheVariants.{Connect
 use Rattle.forwarding.specs.declared.request.Ready.{Ready}
 use Rattle.forwarding.specs.declared.request.Ready.TheVariants.{SettledSync, HeldFrame}
 use Rattle.forwarding.specs.declared.request.Settled.TheVariants.{Of}
-use Rattle.forwarding.specs.Queue.{RequestQueue, with_oldest_settled, ready_request, without_front_if, waiting_connect}
+use Rattle.forwarding.specs.Queue.{RequestQueue, with_oldest_settled, ready_request, without_front_if, waiting_connect, held_frames}
 use Rattle.forwarding.specs.State.{PendingTable}
-use Rattle.forwarding.specs.Pending.{queue_of, put_queue, unsettled_sync, settle_first, settle_sync}
+use Rattle.forwarding.specs.Pending.{queue_of, put_queue, unsettled_sync, settle_first, settle_sync, take_connect_as}
 use Rattle.forwarding.specs.Agreement.{places_of, PendingAgrees}
-use Rattle.forwarding.specs.Laws.{IsOf, RequestsKeepOrder, IsSettledIn, SyncsKeepOrder, WaitsForLeader, NothingWaitsInVain}
+use Rattle.forwarding.specs.Laws.{IsOf, LeavesWithFrames, RequestsKeepOrder, IsSettledIn, SyncsKeepOrder, WaitsForLeader, NothingWaitsInVain}
 use Rattle.forwarding.proofs.Maps.{none-some, some-some}
 use Rattle.forwarding.proofs.Changing.{queue_put, queue_inserted, put_same}
 use Rattle.forwarding.proofs.Counting.{taken_here, dropped_here, dropped_length}
@@ -42,12 +42,25 @@ front (Sync x ∷ rest) ready e =
     ] refl e
 
 connect_front : (q : RequestQueue) (c : PendingConnect) → waiting_connect q ≡ Some c
-    → q ≡ Connect c ∷ without_front_if (waiting_connect q) q
+    → (later : RequestQueue) × (q ≡ Connect c ∷ later)
 connect_front [] c e = absurd (none-some c e)
-connect_front (Connect d ∷ rest) c e = ap (λ x. Connect x ∷ rest) (some-some e)
+connect_front (Connect d ∷ rest) c e = (rest, ap (λ x. Connect x ∷ rest) (some-some e))
 connect_front (Write w ∷ rest) c e = absurd (none-some c e)
 connect_front (Sync x ∷ rest) c e = absurd (none-some c e)
 connect_front (Held f ∷ rest) c e = absurd (none-some c e)
+
+connect_leaves : (s : PendingTable) (n : ℕ) (c : PendingConnect) (o : Option PendingConnect)
+    → waiting_connect (queue_of s n) ≡ o → (take_connect_as s n o).connect ≡ Some c
+    → LeavesWithFrames (queue_of s n) c (take_connect_as s n o).frames (queue_of (take_connect_as s n o).after n)
+connect_leaves s n c None e is = absurd (none-some c is)
+connect_leaves s n c (Some d) e is =
+    let there = connect_front (queue_of s n) c (e ∙ is) in
+    record {
+      later = there.0;
+      queue = there.1;
+      held = ap held_frames there.1;
+      none = queue_put s.queues n [];
+    }
 
 pub requests_keep_order : RequestsKeepOrder
 requests_keep_order = record {
@@ -60,9 +73,7 @@ requests_keep_order = record {
       let there = front (queue_of s n) ready e in
       let left = without_front_if (ready_request (queue_of s n)) (queue_of s n) in
       (there.0, (there.1.0, there.1.1 ∙ ap (λ q. there.0 ∷ q) (sym (queue_put s.queues n left))));
-  takes_connect = λ s n c e.
-      let left = without_front_if (waiting_connect (queue_of s n)) (queue_of s n) in
-      connect_front (queue_of s n) c e ∙ ap (λ q. Connect c ∷ q) (sym (queue_put s.queues n left));
+  takes_connect = λ s n c e. connect_leaves s n c (waiting_connect (queue_of s n)) refl e;
 }
 
 -- ---- syncs

@@ -2,12 +2,13 @@
 use Rattle.std.proofs.Common.{◌≡◌, ◌≢◌, ℕ, List, [], ◌∷◌, ◌++◌, Option, Some, None, refl, sym, ap, ◌∙◌}
 use Rattle.std.specs.Cmp.{nat_cmp_total}
 use Rattle.std.proofs.lemmas.Map.Lookups.{exact_unsigned}
+use Rattle.forwarding.specs.declared.request.PendingConnect.{PendingConnect}
 use Rattle.forwarding.specs.declared.request.PendingRequest.{PendingRequest}
 use Rattle.forwarding.specs.declared.request.PendingRequest.TheVariants.{Connect, Write, Held}
 use Rattle.forwarding.specs.declared.request.Settled.TheVariants.{Of}
 use Rattle.forwarding.specs.Queue.{RequestQueue, after_answer, with_oldest_settled, ready_request, without_front_if, waiting_connect}
 use Rattle.forwarding.specs.State.{PendingTable}
-use Rattle.forwarding.specs.Pending.{queue_in, queue_of, put_queue, push_request, unsettled_sync, settle_first}
+use Rattle.forwarding.specs.Pending.{queue_in, queue_of, put_queue, push_request, unsettled_sync, settle_first, drop_connection, take_connect_as}
 use Rattle.forwarding.specs.Agreement.{places_of}
 use Rattle.forwarding.specs.Laws.{Stays, OtherQueuesStay}
 use Rattle.forwarding.proofs.Maps.{other, removed_elsewhere}
@@ -32,6 +33,18 @@ settle_leaves s (Some n ∷ rest) m e apart =
       places = sym (ap (places_of m) e ∙ taken_elsewhere n m rest differ);
     }
 
+drop_leaves : (s : PendingTable) (n m : ℕ) → m ≢ n → Stays m s (drop_connection s n)
+drop_leaves s n m apart = record {
+  queue = ap queue_in (removed_elsewhere nat_cmp_total exact_unsigned s.queues n m
+      (other nat_cmp_total exact_unsigned m n apart));
+  places = dropped_elsewhere n m s.syncs apart;
+}
+
+connect_leaves : (s : PendingTable) (n : ℕ) (o : Option PendingConnect) (m : ℕ) → m ≢ n
+    → Stays m s (take_connect_as s n o).after
+connect_leaves s n None m apart = record { queue = refl; places = refl }
+connect_leaves s n (Some c) m apart = drop_leaves s n m apart
+
 pub others_stay : OtherQueuesStay
 others_stay = record {
   pushes_connect = λ s n c m apart.
@@ -46,13 +59,6 @@ others_stay = record {
   settles = λ s m apart. settle_leaves s s.syncs m refl apart;
   takes = λ s n m apart.
       put_leaves s n (without_front_if (ready_request (queue_of s n)) (queue_of s n)) m apart;
-  takes_connect = λ s n m apart. record {
-    queue = (put_leaves s n (without_front_if (waiting_connect (queue_of s n)) (queue_of s n)) m apart).queue;
-    places = refl;
-  };
-  drops = λ s n m apart. record {
-    queue = ap queue_in (removed_elsewhere nat_cmp_total exact_unsigned s.queues n m
-        (other nat_cmp_total exact_unsigned m n apart));
-    places = dropped_elsewhere n m s.syncs apart;
-  };
+  takes_connect = λ s n m apart. connect_leaves s n (waiting_connect (queue_of s n)) m apart;
+  drops = drop_leaves;
 }

@@ -23,10 +23,10 @@ is_first p q place r e at =
     let first = position-Some p q place r e in
     record { within = first.0; at = sym at; passes = ap p at ∙ first.1; before = first.2 }
 
--- Behind one that doesn't pass.
-behind : (p : PendingRequest → Bool) (x : PendingRequest) (xs : RequestQueue) (place : ℕ) (r : PendingRequest)
+-- After one that doesn't pass.
+after_front : (p : PendingRequest → Bool) (x : PendingRequest) (xs : RequestQueue) (place : ℕ) (r : PendingRequest)
     → IsFirst p (x ∷ xs) (suc place) r → IsFirst p xs place r
-behind p x xs place r h = record {
+after_front p x xs place r h = record {
   within = (let w = h.within in omega arith);
   at = h.at;
   passes = h.passes;
@@ -95,14 +95,14 @@ written (Write v ∷ rest) zero w h = (ap oldest_write (λ i. h.at i ∷ rest), 
 written (Sync s ∷ rest) zero w h = true-false (sym (ap is_write h.at))
 written (Held f ∷ rest) zero w h = true-false (sym (ap is_write h.at))
 written (Connect c ∷ rest) (suc place) w h =
-    let more = written rest place w (behind is_write (Connect c) rest place (Write w) h) in
+    let more = written rest place w (after_front is_write (Connect c) rest place (Write w) h) in
     (more.0, ap (λ q. Connect c ∷ q) more.1)
 written (Write v ∷ rest) (suc place) w h = true-false (fails is_write (Write v) rest place (Write w) h)
 written (Sync s ∷ rest) (suc place) w h =
-    let more = written rest place w (behind is_write (Sync s) rest place (Write w) h) in
+    let more = written rest place w (after_front is_write (Sync s) rest place (Write w) h) in
     (more.0, ap (λ q. Sync s ∷ q) more.1)
 written (Held f ∷ rest) (suc place) w h =
-    let more = written rest place w (behind is_write (Held f) rest place (Write w) h) in
+    let more = written rest place w (after_front is_write (Held f) rest place (Write w) h) in
     (more.0, ap (λ q. Held f ∷ q) more.1)
 
 pub is_oldest_write : (q : RequestQueue) (place : ℕ) (w : PendingWrite) → IsFirst is_write q place (Write w)
@@ -139,12 +139,12 @@ closes (Write v ∷ rest) zero w h =
     ap (λ r. oldest_close (r ∷ rest)) h.at ∙ ap (λ b. cond b (Some w.xid) (oldest_close rest)) h.passes
 closes (Sync s ∷ rest) zero w h = true-false (sym (ap is_write h.at))
 closes (Held f ∷ rest) zero w h = true-false (sym (ap is_write h.at))
-closes (Connect c ∷ rest) (suc place) w h = closes rest place w (behind is_close_request (Connect c) rest place (Write w) h)
+closes (Connect c ∷ rest) (suc place) w h = closes rest place w (after_front is_close_request (Connect c) rest place (Write w) h)
 closes (Write v ∷ rest) (suc place) w h =
     ap (λ b. cond b (Some v.xid) (oldest_close rest)) (fails is_close_request (Write v) rest place (Write w) h)
-    ∙ closes rest place w (behind is_close_request (Write v) rest place (Write w) h)
-closes (Sync s ∷ rest) (suc place) w h = closes rest place w (behind is_close_request (Sync s) rest place (Write w) h)
-closes (Held f ∷ rest) (suc place) w h = closes rest place w (behind is_close_request (Held f) rest place (Write w) h)
+    ∙ closes rest place w (after_front is_close_request (Write v) rest place (Write w) h)
+closes (Sync s ∷ rest) (suc place) w h = closes rest place w (after_front is_close_request (Sync s) rest place (Write w) h)
+closes (Held f ∷ rest) (suc place) w h = closes rest place w (after_front is_close_request (Held f) rest place (Write w) h)
 
 -- ---- syncs
 
@@ -164,6 +164,6 @@ settles (x ∷ rest) zero r h =
     sym (ap (λ b. cond b (settled_request x ∷ rest) (x ∷ with_oldest_settled rest)) (ap is_unsettled h.at ∙ h.passes)
     ∙ ap (λ y. settled_request y ∷ rest) h.at)
 settles (x ∷ rest) (suc place) r h =
-    ap (λ q. x ∷ q) (settles rest place r (behind is_unsettled x rest place r h))
+    ap (λ q. x ∷ q) (settles rest place r (after_front is_unsettled x rest place r h))
     ∙ sym (ap (λ b. cond b (settled_request x ∷ rest) (x ∷ with_oldest_settled rest))
     (fails is_unsettled x rest place r h))

@@ -1,5 +1,5 @@
 -- The rows that were worked out by hand, evaluated.
-use Rattle.std.proofs.Common.{◌≡◌, ◌≢◌, ℕ, ℤ, pos, negsuc, Bool, true, false, ◌||◌, List, [], ◌∷◌, ◌++◌, map, take, drop, refl, sym, ap, ◌∙◌, arith}
+use Rattle.std.proofs.Common.{◌≡◌, ◌≢◌, ◌==◌, ℕ, ℤ, pos, negsuc, Bool, true, false, ◌||◌, List, [], ◌∷◌, ◌++◌, map, take, drop, Some, None, refl, sym, ap, ◌∙◌, arith}
 use Rattle.std.specs.List.Sorted.{IsStrictlySortedBy}
 use Rattle.std.specs.Ordering.{eq_by_cmp, nat_cmp, int_cmp}
 use Rattle.std.specs.Cmp.{nat_cmp_total, int_cmp_total}
@@ -9,14 +9,15 @@ use Rattle.std.specs.FinSet as set
 use Rattle.forwarding.specs.declared.request.WriteKind.TheVariants.{Create, SetData, CloseSession}
 use Rattle.forwarding.specs.declared.request.PendingRequest.{PendingRequest}
 use Rattle.forwarding.specs.declared.request.PendingRequest.TheVariants.{Connect, Write, Held}
-use Rattle.forwarding.specs.Queue.{RequestQueue, answered_write, after_answer, oldest_close, with_oldest_settled, ready_request, without_front_if, waiting_connect}
+use Rattle.forwarding.specs.Queue.{RequestQueue, answered_write, after_answer, oldest_close, with_oldest_settled, ready_request, without_front_if, waiting_connect, held_frames}
 use Rattle.forwarding.specs.State.{RequestQueues, TouchedSessions, PendingTable}
-use Rattle.forwarding.specs.Pending.{nothing_pending, queue_in, queue_of, with_queue, push_connect, push_write, push_sync, unsettled_sync, settle_sync, drop_connection, without_connect, sorted_touched, with_timeout, live_rows, touched_limit, touched_rows}
-use Rattle.forwarding.specs.Rows.{held_frame, path_a, create_waits, create_answered, CreateIsAnswered, sync_then_write, WriteOvertakesSync, sync_of_gone, SyncOfGone, new_session, connect_waits, ConnectIsAnswered, CloseIsFound, three_touched, two_live, TouchedAreTold, WorkedRows}
+use Rattle.forwarding.specs.Pending.{nothing_pending, queue_in, queue_of, has_no_request, with_queue, push_connect, push_write, push_sync, unsettled_sync, settle_sync, drop_connection, without_connect, take_connect_as, sorted_touched, with_timeout, live_rows, touched_limit, touched_rows}
+use Rattle.forwarding.specs.Rows.{held_frame, path_a, create_waits, create_answered, CreateIsAnswered, RequestsAreSeen, sync_then_write, WriteOvertakesSync, sync_of_gone, SyncOfGone, new_session, connect_waits, ConnectIsAnswered, CloseIsFound, three_touched, two_live, TouchedAreTold, WorkedRows}
 use Rattle.forwarding.proofs.Maps.{inserted, remove_absent, remove_inserted, insert_inserted}
 use Rattle.forwarding.proofs.SessionSets.{items-sorted}
 use Rattle.forwarding.proofs.Changing.{queue_put}
 use Rattle.forwarding.proofs.Others.{others_stay, put_leaves}
+use Rattle.forwarding.proofs.Emptiness.{no_requests}
 use Rattle.forwarding.proofs.Ordered.{requests_keep_order}
 
 one_isnt_two : ◌≢◌ {A = ℕ} 1 2
@@ -37,19 +38,19 @@ twice m n a b c =
     insert_inserted nat_cmp_total exact_unsigned (finmap.insert m n a) n c b
     ∙ insert_inserted nat_cmp_total exact_unsigned m n c a
 
--- ---- a create, and a frame behind it
+-- ---- a create, and a frame after it
 
 abbrev create : PendingRequest
 create = Write (record { xid = pos 4; kind = Create })
 
-create_behind : queue_of (push_write nothing_pending 1 (pos 4) Create) 1 ≡ create ∷ []
-create_behind =
+create_alone : queue_of (push_write nothing_pending 1 (pos 4) Create) 1 ≡ create ∷ []
+create_alone =
     requests_keep_order.pushes_write nothing_pending 1 (pos 4) Create ∙ ap (λ q. q ++ create ∷ []) (at_first 1)
 
 both_wait : queue_of create_waits 1 ≡ create ∷ Held held_frame ∷ []
 both_wait =
     requests_keep_order.holds (push_write nothing_pending 1 (pos 4) Create) 1 held_frame
-    ∙ ap (λ q. q ++ Held held_frame ∷ []) create_behind
+    ∙ ap (λ q. q ++ Held held_frame ∷ []) create_alone
 
 not_two : queue_of create_waits 2 ≡ []
 not_two =
@@ -74,6 +75,9 @@ none_waits =
     ∙ remove_inserted nat_cmp_total exact_unsigned finmap.empty 1 (queue_of nothing_pending 1 ++ create ∷ [])
     ∙ none_left 1
 
+nothing_first : {A : Type 0} {r : PendingRequest} {rest : RequestQueue} → [] ≡ r ∷ rest → A
+nothing_first e = cc
+
 create_is_answered : CreateIsAnswered
 create_is_answered = record {
   held = ap ready_request both_wait;
@@ -86,7 +90,17 @@ create_is_answered = record {
   rest = λ i. record nothing_pending { queues = none_waits i };
 }
 
--- ---- a sync, and a write behind it
+requests_are_seen : RequestsAreSeen
+requests_are_seen = record {
+  none = ap (λ n. n == 0) (finmap.len-empty nat_cmp RequestQueue);
+  some = by (has_no_request create_waits) refl;
+}
+  where
+    by : (b : Bool) → has_no_request create_waits ≡ b → b ≡ false
+    by true e = nothing_first (sym (no_requests create_waits e 1) ∙ both_wait)
+    by false e = refl
+
+-- ---- a sync, and a write after it
 
 abbrev sync : ℤ → PendingRequest
 sync xid = unsettled_sync xid path_a
@@ -166,7 +180,7 @@ sync_of_gone_is_gone = record {
   none = refl;
 }
 
--- ---- a connect, and a frame behind it
+-- ---- a connect, and a frame after it
 
 connect_alone : queue_of (push_connect nothing_pending 2 new_session) 2 ≡ Connect new_session ∷ []
 connect_alone =
@@ -177,15 +191,6 @@ connect_and_frame : queue_of connect_waits 2 ≡ Connect new_session ∷ Held he
 connect_and_frame =
     requests_keep_order.holds (push_connect nothing_pending 2 new_session) 2 held_frame
     ∙ ap (λ q. q ++ Held held_frame ∷ []) connect_alone
-
-frame_left : with_queue connect_waits.queues 2
-    (without_front_if (waiting_connect (queue_of connect_waits 2)) (queue_of connect_waits 2))
-    ≡ finmap.insert finmap.empty 2 (queue_of nothing_pending 2 ++ Held held_frame ∷ [])
-frame_left =
-    ap (λ q. with_queue connect_waits.queues 2 (without_front_if (waiting_connect q) q)) connect_and_frame
-    ∙ twice finmap.empty 2 (queue_of nothing_pending 2 ++ Connect new_session ∷ [])
-    (queue_of (push_connect nothing_pending 2 new_session) 2 ++ Held held_frame ∷ []) (Held held_frame ∷ [])
-    ∙ ap (λ q. finmap.insert finmap.empty 2 (q ++ Held held_frame ∷ [])) (sym (at_first 2))
 
 none_connecting : without_connect connect_waits.connects (waiting_connect (queue_of connect_waits 2)) ≡ finmap.empty
 none_connecting =
@@ -201,13 +206,25 @@ all_dropped =
     (queue_of nothing_pending 2 ++ Connect new_session ∷ [])
     ∙ none_left 2
 
+all_taken : drop_connection connect_waits 2 ≡ nothing_pending
+all_taken = λ i. record nothing_pending { queues = all_dropped i; connects = none_connecting i }
+
+connect_found : waiting_connect (queue_of connect_waits 2) ≡ Some new_session
+connect_found = ap waiting_connect connect_and_frame
+
+no_connect_found : waiting_connect (queue_of create_waits 1) ≡ None
+no_connect_found = ap waiting_connect both_wait
+
 connect_is_answered : ConnectIsAnswered
 connect_is_answered = record {
   waits = ap ready_request connect_and_frame;
   found = inserted int_cmp_total exact_signed finmap.empty (pos 9) 2;
-  taken = ap waiting_connect connect_and_frame;
-  rest = λ i. record nothing_pending { queues = frame_left i; connects = none_connecting i };
-  dropped = λ i. record nothing_pending { queues = all_dropped i; connects = none_connecting i };
+  taken = ap (λ o. (take_connect_as connect_waits 2 o).connect) connect_found;
+  frames = ap (λ o. (take_connect_as connect_waits 2 o).frames) connect_found ∙ ap held_frames connect_and_frame;
+  rest = ap (λ o. (take_connect_as connect_waits 2 o).after) connect_found ∙ all_taken;
+  none = ap (λ o. (take_connect_as create_waits 1 o).connect) no_connect_found;
+  stays = ap (λ o. (take_connect_as create_waits 1 o).after) no_connect_found;
+  dropped = all_taken;
 }
 
 -- ---- a closeSession
@@ -285,6 +302,7 @@ touched_are_told = record {
 pub rows_hold : WorkedRows
 rows_hold = record {
   create = create_is_answered;
+  seen = requests_are_seen;
   overtakes = write_overtakes_sync;
   gone = sync_of_gone_is_gone;
   connect = connect_is_answered;

@@ -21,7 +21,7 @@ is_settled (Connect c) = false
 is_settled (Write w) = false
 is_settled (Held frame) = false
 
--- Behind a sync that isn't settled, none is.
+-- After a sync that isn't settled, none is.
 abbrev pub settled_are_first : RequestQueue → Bool
 settled_are_first [] = true
 settled_are_first (r ∷ rest) = if is_unsettled r then not (list_any is_settled rest) else settled_are_first rest

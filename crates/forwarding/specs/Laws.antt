@@ -11,9 +11,9 @@ use Rattle.forwarding.specs.declared.request.PendingRequest.TheVariants.{Connect
 use Rattle.forwarding.specs.declared.request.Ready.{Ready}
 use Rattle.forwarding.specs.declared.request.Ready.TheVariants.{SettledSync, HeldFrame}
 use Rattle.forwarding.specs.declared.request.Settled.TheVariants.{Gone, Of}
-use Rattle.forwarding.specs.Queue.{RequestQueue, is_write, is_answered_by, is_unsettled, settled_request}
+use Rattle.forwarding.specs.Queue.{RequestQueue, is_write, is_answered_by, is_unsettled, settled_request, held_frames}
 use Rattle.forwarding.specs.State.{PendingTable}
-use Rattle.forwarding.specs.Pending.{nothing_pending, queue_of, is_idle, is_full, push_connect, push_write, push_sync, unsettled_sync, hold_frame, answer_write, settle_sync, take_ready, take_connect, connecting_to, drop_connection, touch_session, take_touched}
+use Rattle.forwarding.specs.Pending.{nothing_pending, queue_of, has_no_request, is_idle, is_full, push_connect, push_write, push_sync, unsettled_sync, hold_frame, answer_write, settle_sync, take_ready, take_connect, connecting_to, drop_connection, touch_session, take_touched}
 use Rattle.forwarding.specs.Agreement.{PendingAgrees, places_of}
 
 -- ---- agreement
@@ -60,18 +60,25 @@ pub record OtherQueuesStay : Type 0 where
   pub takes_connect : (s : PendingTable) (n m : ℕ) → m ≢ n → Stays m s (take_connect s n).after
   pub drops : (s : PendingTable) (n m : ℕ) → m ≢ n → Stays m s (drop_connection s n)
 
+-- ---- no request at all
+
+-- That no connection has a request is told by the table alone.
+pub record EmptinessIsTold : Type 0 where
+  pub none : (s : PendingTable) → has_no_request s ≡ true → (n : ℕ) → queue_of s n ≡ []
+  pub all : (s : PendingTable) → PendingAgrees s → ((n : ℕ) → queue_of s n ≡ []) → has_no_request s ≡ true
+
 -- ---- answers
 
 -- The write that is answered is the connection's oldest, of this xid and kind, and nothing else leaves the queue.
 pub record IsAnswered (q : RequestQueue) (xid txn_kind : ℤ) (kind : WriteKind) (rest : RequestQueue) : Type 0 where
   pub before : RequestQueue
-  pub behind : RequestQueue
+  pub later : RequestQueue
   pub write : PendingWrite
-  pub queue : q ≡ before ++ Write write ∷ behind
+  pub queue : q ≡ before ++ Write write ∷ later
   pub oldest : list_any is_write before ≡ false
   pub matched : is_answered_by write xid txn_kind ≡ true
   pub same_kind : write.kind ≡ kind
-  pub left : rest ≡ before ++ behind
+  pub left : rest ≡ before ++ later
 
 pub record AnswersAreMatched : Type 0 where
   pub answered : (s : PendingTable) (n : ℕ) (xid txn_kind : ℤ) (kind : WriteKind) → PendingAgrees s
@@ -87,7 +94,15 @@ abbrev pub IsOf : Ready → PendingRequest → Type 0
 IsOf (SettledSync xid path) r = r ≡ Sync (record { xid = xid; path = path; is_settled = true })
 IsOf (HeldFrame frame) r = r ≡ Held frame
 
--- A request is pushed behind those of its connection, and one that is taken stands in front of them.
+-- The connect stands in front of its connection's requests, and leaves with the frames that are held after it, in order.
+-- None of the requests stays.
+pub record LeavesWithFrames (q : RequestQueue) (c : PendingConnect) (frames : List (List ℕ)) (left : RequestQueue) : Type 0 where
+  pub later : RequestQueue
+  pub queue : q ≡ Connect c ∷ later
+  pub held : frames ≡ held_frames later
+  pub none : left ≡ []
+
+-- A request is pushed after those of its connection, and one that is taken stands in front of them.
 pub record RequestsKeepOrder : Type 0 where
   pub pushes_connect : (s : PendingTable) (n : ℕ) (c : PendingConnect)
       → queue_of (push_connect s n c) n ≡ queue_of s n ++ Connect c ∷ []
@@ -100,19 +115,19 @@ pub record RequestsKeepOrder : Type 0 where
   pub takes : (s : PendingTable) (n : ℕ) (ready : Ready) → (take_ready s n).ready ≡ Some ready
       → (r : PendingRequest) × (IsOf ready r × (queue_of s n ≡ r ∷ queue_of (take_ready s n).after n))
   pub takes_connect : (s : PendingTable) (n : ℕ) (c : PendingConnect) → (take_connect s n).connect ≡ Some c
-      → queue_of s n ≡ Connect c ∷ queue_of (take_connect s n).after n
+      → LeavesWithFrames (queue_of s n) c (take_connect s n).frames (queue_of (take_connect s n).after n)
 
 -- The sync that is settled is its connection's oldest that wasn't.
 pub record IsSettledIn (q new : RequestQueue) : Type 0 where
   pub before : RequestQueue
   pub sync : PendingRequest
-  pub behind : RequestQueue
-  pub queue : q ≡ before ++ sync ∷ behind
+  pub later : RequestQueue
+  pub queue : q ≡ before ++ sync ∷ later
   pub oldest : list_any is_unsettled before ≡ false
   pub unsettled : is_unsettled sync ≡ true
-  pub settled : new ≡ before ++ settled_request sync ∷ behind
+  pub settled : new ≡ before ++ settled_request sync ∷ later
 
--- Syncs are settled in the order in which they were pushed, across connections: a sync goes behind all others in the
+-- Syncs are settled in the order in which they were pushed, across connections: a sync goes after all others in the
 -- list, the one in front is settled, and the place of one whose connection has gone stays.
 pub record SyncsKeepOrder : Type 0 where
   pub pushes : (s : PendingTable) (n : ℕ) (xid : ℤ) (path : List ℕ)

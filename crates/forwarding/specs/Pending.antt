@@ -10,7 +10,7 @@ use Rattle.forwarding.specs.declared.request.PendingRequest.TheVariants.{Connect
 use Rattle.forwarding.specs.declared.request.Ready.{Ready}
 use Rattle.forwarding.specs.declared.request.Settled.{Settled}
 use Rattle.forwarding.specs.declared.request.Settled.TheVariants.{NoSync, Gone, Of}
-use Rattle.forwarding.specs.Queue.{RequestQueue, pending_limit, answered_write, after_answer, oldest_close, with_oldest_settled, ready_request, without_front_if, waiting_connect}
+use Rattle.forwarding.specs.Queue.{RequestQueue, pending_limit, answered_write, after_answer, oldest_close, with_oldest_settled, ready_request, without_front_if, waiting_connect, held_frames}
 use Rattle.forwarding.specs.State.{RequestQueues, WaitingConnects, TouchedSessions, PendingTable}
 
 -- No request, no sync and no session.
@@ -38,12 +38,16 @@ put_queue s n q = record s { queues = with_queue s.queues n q }
 abbrev pub is_idle : PendingTable → ℕ → Bool
 is_idle s n = not (finmap.contains_key s.queues n)
 
+-- No connection has a request.
+abbrev pub has_no_request : PendingTable → Bool
+has_no_request s = finmap.len s.queues == 0
+
 abbrev pub is_full : PendingTable → ℕ → Bool
 is_full s n = not (nat_lt (length (queue_of s n)) pending_limit)
 
 -- ---- what is asked
 
--- The request stands behind those of its connection.
+-- The request stands after those of its connection.
 abbrev pub push_request : PendingTable → ℕ → PendingRequest → PendingTable
 push_request s n r = record s { queues = finmap.insert s.queues n (queue_of s n ++ r ∷ []) }
 
@@ -118,19 +122,6 @@ abbrev pub without_connect : WaitingConnects → Option PendingConnect → Waiti
 without_connect connects None = connects
 without_connect connects (Some c) = finmap.remove connects c.session
 
-pub record TakenConnect : Type 0 where
-  pub connect : Option PendingConnect
-  pub after : PendingTable
-
-abbrev pub take_connect : PendingTable → ℕ → TakenConnect
-take_connect s n = record {
-  connect = waiting_connect (queue_of s n);
-  after = record s {
-    queues = with_queue s.queues n (without_front_if (waiting_connect (queue_of s n)) (queue_of s n));
-    connects = without_connect s.connects (waiting_connect (queue_of s n));
-  };
-}
-
 -- The connection that waits for the session.
 abbrev pub connecting_to : PendingTable → ℤ → Option ℕ
 connecting_to s session = finmap.get s.connects session
@@ -148,6 +139,23 @@ drop_connection s n = record s {
   syncs = map (without_owner n) s.syncs;
   connects = without_connect s.connects (waiting_connect (queue_of s n));
 }
+
+-- ---- a connect that is answered
+
+pub record TakenConnect : Type 0 where
+  pub connect : Option PendingConnect
+  -- The frames that were held after it, in order.
+  pub frames : List (List ℕ)
+  pub after : PendingTable
+
+abbrev pub take_connect_as : PendingTable → ℕ → Option PendingConnect → TakenConnect
+take_connect_as s n None = record { connect = None; frames = []; after = s }
+take_connect_as s n (Some c) =
+    record { connect = Some c; frames = held_frames (queue_of s n); after = drop_connection s n }
+
+-- The connect in front leaves, and with it everything of its connection.
+abbrev pub take_connect : PendingTable → ℕ → TakenConnect
+take_connect s n = take_connect_as s n (waiting_connect (queue_of s n))
 
 -- ---- sessions that were touched
 

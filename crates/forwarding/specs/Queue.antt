@@ -124,3 +124,11 @@ waiting_connect (Connect c ∷ rest) = Some c
 waiting_connect (Write w ∷ rest) = None
 waiting_connect (Sync s ∷ rest) = None
 waiting_connect (Held frame ∷ rest) = None
+
+-- The frames that are held, in order.
+abbrev pub held_frames : RequestQueue → List (List ℕ)
+held_frames [] = []
+held_frames (Connect c ∷ rest) = held_frames rest
+held_frames (Write w ∷ rest) = held_frames rest
+held_frames (Sync s ∷ rest) = held_frames rest
+held_frames (Held frame ∷ rest) = frame ∷ held_frames rest

@@ -1,5 +1,5 @@
 -- Rows that were worked out by hand: calls on few connections, and what they leave.
-use Rattle.std.specs.Prelude.{◌≡◌, ℕ, ℤ, pos, negsuc, List, [], ◌∷◌, None, Some, true, codes}
+use Rattle.std.specs.Prelude.{◌≡◌, ℕ, ℤ, pos, negsuc, List, [], ◌∷◌, None, Some, true, false, codes}
 use Rattle.std.specs.Ordering.{int_cmp}
 use Rattle.std.specs.FinMap as finmap
 use Rattle.forwarding.specs.declared.request.WriteKind.TheVariants.{Create, SetData, CloseSession}
@@ -7,16 +7,16 @@ use Rattle.forwarding.specs.declared.request.PendingConnect.{PendingConnect}
 use Rattle.forwarding.specs.declared.request.Ready.TheVariants.{SettledSync, HeldFrame}
 use Rattle.forwarding.specs.declared.request.Settled.TheVariants.{NoSync, Gone, Of}
 use Rattle.forwarding.specs.State.{PendingTable}
-use Rattle.forwarding.specs.Pending.{nothing_pending, push_connect, push_write, push_sync, hold_frame, answer_write, pending_close, settle_sync, take_ready, take_connect, connecting_to, drop_connection, touch_session, take_touched}
+use Rattle.forwarding.specs.Pending.{nothing_pending, has_no_request, push_connect, push_write, push_sync, hold_frame, answer_write, pending_close, settle_sync, take_ready, take_connect, connecting_to, drop_connection, touch_session, take_touched}
 
--- A getData that came behind a write.
+-- A getData that came after a write.
 abbrev pub held_frame : List ℕ
 held_frame = 0 ∷ 0 ∷ 0 ∷ 1 ∷ 0 ∷ 0 ∷ 0 ∷ 4 ∷ []
 
 abbrev pub path_a : List ℕ
 path_a = codes "/a"
 
--- Connection 1 has a create of xid 4, and a frame behind it.
+-- Connection 1 has a create of xid 4, and a frame after it.
 abbrev pub create_waits : PendingTable
 create_waits = hold_frame (push_write nothing_pending 1 (pos 4) Create) 1 held_frame
 
@@ -34,6 +34,10 @@ pub record CreateIsAnswered : Type 0 where
   pub next : (take_ready create_answered 1).ready ≡ Some (HeldFrame held_frame)
   pub rest : (take_ready create_answered 1).after ≡ nothing_pending
 
+pub record RequestsAreSeen : Type 0 where
+  pub none : has_no_request nothing_pending ≡ true
+  pub some : has_no_request create_waits ≡ false
+
 -- Connection 1 has a sync and then a setData; the write overtakes the sync.
 abbrev pub sync_then_write : PendingTable
 sync_then_write = push_write (push_sync nothing_pending 1 (pos 7) path_a) 1 (pos 8) SetData
@@ -45,7 +49,7 @@ pub record WriteOvertakesSync : Type 0 where
   pub settles : (settle_sync sync_then_write).settled ≡ Of 1
   pub ready : (take_ready (settle_sync sync_then_write).after 1).ready ≡ Some (SettledSync (pos 7) path_a)
 
--- Connection 1 syncs and goes, and its number is used again for a sync behind that of connection 2.
+-- Connection 1 syncs and goes, and its number is used again for a sync after that of connection 2.
 abbrev pub sync_of_gone : PendingTable
 sync_of_gone =
     push_sync (push_sync (drop_connection (push_sync nothing_pending 1 (pos 7) path_a) 1) 2 (pos 3) path_a) 1 (pos 1)
@@ -63,7 +67,7 @@ pub record SyncOfGone : Type 0 where
 abbrev pub new_session : PendingConnect
 new_session = record { session = pos 9; time_out = pos 10000; has_read_only = true }
 
--- Connection 2 waits for session 9, with a frame behind its connect.
+-- Connection 2 waits for session 9, with a frame after its connect.
 abbrev pub connect_waits : PendingTable
 connect_waits = hold_frame (push_connect nothing_pending 2 new_session) 2 held_frame
 
@@ -71,7 +75,10 @@ pub record ConnectIsAnswered : Type 0 where
   pub waits : (take_ready connect_waits 2).ready ≡ None
   pub found : connecting_to connect_waits (pos 9) ≡ Some 2
   pub taken : (take_connect connect_waits 2).connect ≡ Some new_session
-  pub rest : (take_connect connect_waits 2).after ≡ hold_frame nothing_pending 2 held_frame
+  pub frames : (take_connect connect_waits 2).frames ≡ held_frame ∷ []
+  pub rest : (take_connect connect_waits 2).after ≡ nothing_pending
+  pub none : (take_connect create_waits 1).connect ≡ None
+  pub stays : (take_connect create_waits 1).after ≡ create_waits
   pub dropped : drop_connection connect_waits 2 ≡ nothing_pending
 
 pub record CloseIsFound : Type 0 where
@@ -93,6 +100,7 @@ pub record TouchedAreTold : Type 0 where
 
 pub record WorkedRows : Type 0 where
   pub create : CreateIsAnswered
+  pub seen : RequestsAreSeen
   pub overtakes : WriteOvertakesSync
   pub gone : SyncOfGone
   pub connect : ConnectIsAnswered

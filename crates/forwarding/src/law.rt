@@ -1,6 +1,6 @@
 //! Laws of what is pending. Each is the contract of a function that does nothing.
 
-ghost use Rattle.forwarding.specs.Laws.{PendingAgreementIsKept, OtherQueuesStay, AnswersAreMatched, RequestsKeepOrder, SyncsKeepOrder, NothingWaitsInVain};
+ghost use Rattle.forwarding.specs.Laws.{PendingAgreementIsKept, OtherQueuesStay, EmptinessIsTold, AnswersAreMatched, RequestsKeepOrder, SyncsKeepOrder, NothingWaitsInVain};
 ghost use Rattle.forwarding.specs.Rows.{WorkedRows};
 
 /// Requests, syncs and waiting connects agree from the start on: a connect stands in front of its connection's
@@ -13,6 +13,11 @@ pub fn requests_and_syncs_agree()
 /// What one connection asks or is answered leaves the requests of every other, and its places in the list of syncs.
 pub fn other_connections_stay()
     ensures { OtherQueuesStay }
+{}
+
+/// Where no connection has a request, each one's list is empty, and the other way round.
+pub fn emptiness_is_told()
+    ensures { EmptinessIsTold }
 {}
 
 /// A transaction answers at most one write, the oldest of its connection, of its xid and type.

@@ -1,14 +1,14 @@
 //! What clients asked for and the leader's stream hasn't answered yet.
 //!
 //! An observer forwards writes, syncs and requests for sessions to the leader. Each waits until the leader's stream
-//! answers it, and what comes behind it on the same connection is held. For each connection there is a queue, the oldest
+//! answers it, and what comes after it on the same connection is held. For each connection there is a queue, the oldest
 //! request first: a connect in front, or none; writes and syncs that were forwarded; and frames that are held whole. The
 //! leader answers syncs by their order alone, so there is one list of the syncs of all connections, too.
 //!
 //! ```text
 //! let mut pending = Pending::new(alloc);
 //! pending.push_write(alloc, 1, xid, WriteKind::Create)?;      // unless `is_full(1)`
-//! pending.hold(alloc, 1, frame)?;                             // a read behind it
+//! pending.hold(alloc, 1, frame)?;                             // a read after it
 //! pending.answer_write(1, xid, 1)                             // the create was applied; Some(Create)
 //! while let Some(ready) = pending.take_ready(1) { .. }        // the held frame
 //! pending.drop_connection(1);                                 // what waits goes with its connection
@@ -27,9 +27,9 @@ mod table;
 mod touched;
 
 pub use law::{
-    answers_are_matched, nothing_waits_in_vain, order_is_kept, other_connections_stay,
-    requests_and_syncs_agree, worked_rows,
+    answers_are_matched, emptiness_is_told, nothing_waits_in_vain, order_is_kept,
+    other_connections_stay, requests_and_syncs_agree, worked_rows,
 };
 pub use queues::PENDING_LIMIT;
-pub use request::{ERROR_TXN, PendingConnect, Ready, Settled, WriteKind};
+pub use request::{ERROR_TXN, PendingConnect, Ready, Settled, TakenConnect, WriteKind};
 pub use table::{Pending, TOUCHED_LIMIT};

@@ -2,16 +2,16 @@
 //!
 //! Laws that go over this: `Queued`.
 
-ghost use Rattle.std.specs.Prelude.{◌≡◌, ◌++◌, ◌∷◌, ◌==◌, [], OnOk, OnErr, IfSome, IfNone, None, length};
+ghost use Rattle.std.specs.Prelude.{◌≡◌, ◌++◌, ◌∷◌, ◌==◌, [], OnOk, OnErr, IfOk, IfSome, IfNone, None, length};
 ghost use Rattle.std.specs.List.{position, list_any};
-ghost use Rattle.forwarding.specs.Queue.{is_write, oldest_write, answered_write, after_answer, oldest_close, is_unsettled, with_oldest_settled, ready_request, without_front_if, waiting_connect};
+ghost use Rattle.forwarding.specs.Queue.{is_write, oldest_write, answered_write, after_answer, oldest_close, is_unsettled, with_oldest_settled, ready_request, without_front_if, waiting_connect, held_frames};
 ghost use Rattle.forwarding.specs.Inner.{is_close_request, is_ready, IsOldestWrite};
 
 use crate::request::{PendingConnect, PendingRequest, PendingWrite, Ready, WriteKind};
 use std::alloc::Global;
 use std::collections::VecDeque;
 use std::marker::Model;
-use values::NoMemory;
+use values::{Blob, Listed, NoMemory};
 
 /// The requests of a connection that aren't answered yet, the oldest first.
 #[derive(Drop)]
@@ -80,6 +80,19 @@ impl Queue {
             None => None,
             Some(write) => Some((place, write)),
         }
+    }
+
+    /// The kind of the oldest write, if a transaction of this xid and type answers it.
+    pub fn answered_write(&self, xid: i32, txn_kind: i32) -> Option<WriteKind>
+        ensures { result ≡ answered_write self.now xid txn_kind }
+    {
+        let Some((_, write)) = self.oldest_write() else {
+            return None;
+        };
+        if !write.is_answered_by(xid, txn_kind) {
+            return None;
+        }
+        Some(write.kind)
     }
 
     /// Removes the oldest write and returns its kind, if a transaction of this xid and type answers it.
@@ -182,13 +195,16 @@ impl Queue {
         }
     }
 
-    /// Removes the connect in front.
-    pub fn take_connect(&mut self) -> Option<PendingConnect>
-        ensures connect { result ≡ waiting_connect self.old }
-        ensures rest { self.new ≡ without_front_if (waiting_connect self.old) self.old }
+    /// The frames that are held, in order. Fails only if an allocation is refused.
+    pub fn into_held(self, alloc: Global) -> Result<Listed<Blob>, NoMemory>
+        ensures { IfOk result (λ frames. frames ≡ held_frames self) }
     {
-        let connect = self.connect()?;
-        self.requests.pop_front();
-        Some(connect)
+        let mut frames = Vec::new(alloc);
+        for request in self.requests {
+            if let PendingRequest::Held(frame) = request {
+                frames.push(frame)?;
+            }
+        }
+        Ok(Listed::from_vec(frames))
     }
 }

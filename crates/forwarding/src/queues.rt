@@ -2,7 +2,7 @@
 //!
 //! Laws that go over this: `Changing`.
 
-ghost use Rattle.std.specs.Prelude.{◌≡◌, ◌++◌, ◌∷◌, [], OnOk, OnErr, not, nat_lt, length};
+ghost use Rattle.std.specs.Prelude.{◌≡◌, ◌++◌, ◌∷◌, ◌==◌, [], OnOk, OnErr, not, nat_lt, length};
 ghost use Rattle.std.specs.FinMap as finmap;
 ghost use Rattle.forwarding.specs.Queue.{pending_limit, answered_write, after_answer, oldest_close, with_oldest_settled, ready_request, without_front_if, waiting_connect};
 ghost use Rattle.forwarding.specs.Pending.{queue_in, with_queue};
@@ -45,6 +45,13 @@ impl Queues {
         }
     }
 
+    /// Whether no connection has a request.
+    pub fn is_empty(&self) -> bool
+        ensures { result ≡ (finmap.len self.now == 0) }
+    {
+        self.map.is_empty()
+    }
+
     /// Whether the connection has no request.
     pub fn is_idle(&self, number: u64) -> bool
         ensures { result ≡ not (finmap.contains_key self.now number) }
@@ -72,7 +79,27 @@ impl Queues {
         }
     }
 
-    /// Adds a request behind those of its connection. A refused allocation changes nothing.
+    /// The connect in front of the connection's requests.
+    pub fn connect(&self, number: u64) -> Option<PendingConnect>
+        ensures { result ≡ waiting_connect (queue_in (finmap.get self.now number)) }
+    {
+        match self.map.get(&number) {
+            None => None,
+            Some(queue) => queue.connect(),
+        }
+    }
+
+    /// The kind of the connection's oldest write, if a transaction of this xid and type answers it.
+    pub fn answered_write(&self, number: u64, xid: i32, txn_kind: i32) -> Option<WriteKind>
+        ensures { result ≡ answered_write (queue_in (finmap.get self.now number)) xid txn_kind }
+    {
+        match self.map.get(&number) {
+            None => None,
+            Some(queue) => queue.answered_write(xid, txn_kind),
+        }
+    }
+
+    /// Adds a request after those of its connection. A refused allocation changes nothing.
     pub fn push(
         &mut self,
         alloc: Global,
@@ -190,28 +217,5 @@ impl Queues {
         let ready = self.take_ready_in(number);
         self.forget_empty(number);
         ready
-    }
-
-    // Takes from the connection's queue, which may be empty then.
-    fn take_connect_in(&mut self, number: u64) -> Option<PendingConnect>
-        ensures connect { result ≡ waiting_connect (queue_in (finmap.get self.old number)) }
-        ensures rest { self.new ≡ with_changed self.old number (λ q. without_front_if (waiting_connect q) q)
-            (finmap.get self.old number) }
-    {
-        match self.map.get_mut(&number) {
-            None => return None,
-            Some(queue) => queue.take_connect(),
-        }
-    }
-
-    /// Removes the connect in front of the connection's requests.
-    pub fn take_connect(&mut self, number: u64) -> Option<PendingConnect>
-        ensures connect { result ≡ waiting_connect (queue_in (finmap.get self.old number)) }
-        ensures rest { let q = queue_in (finmap.get self.old number) in
-            self.new ≡ with_queue self.old number (without_front_if (waiting_connect q) q) }
-    {
-        let connect = self.take_connect_in(number);
-        self.forget_empty(number);
-        connect
     }
 }

@@ -1,10 +1,11 @@
 //! The requests of clients that the leader's stream hasn't answered yet.
 
-ghost use Rattle.std.specs.Prelude.{◌≡◌};
+ghost use Rattle.std.specs.Prelude.{◌≡◌, [], None};
 ghost use Rattle.forwarding.specs.Queue.{is_write, write_number, is_answered_by, is_unsettled, settled_request};
 ghost use Rattle.forwarding.specs.Inner.{as_write, is_close_request};
 
-use values::{Blob, Text};
+use std::alloc::Global;
+use values::{Blob, Listed, Text};
 
 /// The type of an error transaction, which answers a write of any kind.
 pub const ERROR_TXN: i32 = -1;
@@ -44,6 +45,25 @@ pub struct PendingConnect {
     pub has_read_only: bool,
 }
 
+/// A connect that is answered now. Without one, no frame stands here.
+#[derive(Drop)]
+pub struct TakenConnect {
+    pub connect: Option<PendingConnect>,
+    /// The frames that were held after it, in order.
+    pub frames: Listed<Blob>,
+}
+
+impl TakenConnect {
+    pub(crate) fn none(alloc: Global) -> TakenConnect
+        ensures { result ≡ record { connect = None; frames = [] } }
+    {
+        TakenConnect {
+            connect: None,
+            frames: Listed::from_vec(Vec::new(alloc)),
+        }
+    }
+}
+
 /// A write that was forwarded.
 #[derive(Clone, Copy)]
 pub struct PendingWrite {
@@ -74,7 +94,7 @@ pub enum PendingRequest {
     Connect(PendingConnect),
     Write(PendingWrite),
     Sync(PendingSync),
-    /// A whole frame that came behind a request that waits.
+    /// A whole frame that came after a request that waits.
     Held(Blob),
 }
 

@@ -1,21 +1,24 @@
 //! All requests that aren't answered yet.
 //!
-//! Laws that go over this: `Agreeing`, `Others`, `Answered`, `Ordered`.
+//! Laws that go over this: `Agreeing`, `Emptiness`, `Others`, `Answered`, `Ordered`.
 
-ghost use Rattle.std.specs.Prelude.{◌≡◌, OnOk, OnErr, IfOk, None, true, false, drop};
+ghost use Rattle.std.specs.Prelude.{◌≡◌, ℕ, [], OnOk, OnErr, IfOk, IsTrue, None, true, false, drop};
 ghost use Rattle.std.specs.FinMap as finmap;
-ghost use Rattle.forwarding.specs.Pending.{nothing_pending, is_idle, is_full, push_connect, push_write, push_sync, hold_frame, answer_write, pending_close, settle_sync, take_ready, take_connect, connecting_to, drop_connection, touch_session, take_touched, touched_limit};
+ghost use Rattle.forwarding.specs.Queue.{answered_write};
+ghost use Rattle.forwarding.specs.Pending.{nothing_pending, queue_of, has_no_request, is_idle, is_full, push_connect, push_write, push_sync, hold_frame, answer_write, pending_close, settle_sync, take_ready, take_connect, connecting_to, drop_connection, touch_session, take_touched, touched_limit};
 ghost use Rattle.forwarding.specs.Agreement.{PendingAgrees};
 
 use crate::connects::Connects;
+use crate::queue::Queue;
 use crate::queues::Queues;
 use crate::request::{
-    PendingConnect, PendingRequest, PendingSync, PendingWrite, Ready, Settled, WriteKind,
+    PendingConnect, PendingRequest, PendingSync, PendingWrite, Ready, Settled, TakenConnect,
+    WriteKind,
 };
 use crate::syncs::Syncs;
 use crate::touched::Touched;
+use data_tree::Timeouts;
 use std::alloc::Global;
-use std::collections::BTreeMap;
 use std::marker::Model;
 use values::{Blob, NoMemory, Text};
 
@@ -68,6 +71,14 @@ impl Pending {
         }
     }
 
+    /// Whether no connection has a request. Then none of them waits for the leader.
+    pub fn is_empty(&self) -> bool
+        ensures empty { result ≡ has_no_request self.now }
+        ensures none { IsTrue result → (n : ℕ) → queue_of self.now n ≡ [] }
+    {
+        self.queues.is_empty()
+    }
+
     /// Whether the connection has no request.
     pub fn is_idle(&self, number: u64) -> bool
         ensures idle { result ≡ is_idle self.now number }
@@ -81,6 +92,14 @@ impl Pending {
         ensures { result ≡ is_full self.now number }
     {
         self.queues.is_full(number)
+    }
+
+    /// The kind of the connection's oldest write, if a transaction of this xid and type answers it: its own type, or
+    /// `ERROR_TXN`.
+    pub fn answered_write(&self, number: u64, xid: i32, txn_kind: i32) -> Option<WriteKind>
+        ensures { result ≡ answered_write (queue_of self.now number) xid txn_kind }
+    {
+        self.queues.answered_write(number, xid, txn_kind)
     }
 
     /// The connection whose connect waits for the session.
@@ -167,7 +186,7 @@ impl Pending {
         }
     }
 
-    /// Holds a whole frame that came behind a request that waits. A refused allocation changes nothing.
+    /// Holds a whole frame that came after a request that waits. A refused allocation changes nothing.
     pub fn hold(&mut self, alloc: Global, number: u64, frame: Blob) -> Result<(), NoMemory>
         requires { is_full self.old number ≡ false }
         ensures ok { OnOk result (self.new ≡ hold_frame self.old number frame) }
@@ -205,28 +224,47 @@ impl Pending {
         self.queues.take_ready(number)
     }
 
-    /// Takes the connect in front of the connection's requests.
-    pub fn take_connect(&mut self, number: u64) -> Option<PendingConnect>
-        ensures { take_connect self.old number ≡ record { connect = result; after = self.new } }
+    // Drops the requests of a connection, and returns them.
+    fn take_requests(&mut self, number: u64) -> Option<Queue>
+        ensures was { result ≡ finmap.get self.old.queues number }
+        ensures rest { self.new ≡ drop_connection self.old number }
     {
-        let connect = self.queues.take_connect(number);
-        self.connects.remove(connect);
-        connect
+        let Some(queue) = self.queues.take(number) else {
+            return None;
+        };
+        self.connects.remove(queue.connect());
+        // The list of all syncs is gone through only for a connection that has some in it.
+        if !queue.has_unsettled() {
+            return Some(queue);
+        }
+        self.syncs.disown(number);
+        Some(queue)
     }
 
     /// Drops the requests of a connection. The places of its syncs stay, as nobody's.
     pub fn drop_connection(&mut self, number: u64)
         ensures { self.new ≡ drop_connection self.old number }
     {
-        let Some(queue) = self.queues.take(number) else {
-            return;
+        self.take_requests(number);
+    }
+
+    /// Takes the connect in front of the connection's requests, and everything else of the connection: returns the frames
+    /// that are held after the connect, and drops what may wait beside them. Without a connect nothing changes. After a
+    /// refused allocation the connection may have lost its requests.
+    pub fn take_connect(&mut self, alloc: Global, number: u64) -> Result<TakenConnect, NoMemory>
+        ensures { IfOk result (λ taken. take_connect self.old number
+            ≡ record { connect = taken.connect; frames = taken.frames; after = self.new }) }
+    {
+        let Some(connect) = self.queues.connect(number) else {
+            return Ok(TakenConnect::none(alloc));
         };
-        self.connects.remove(queue.connect());
-        // The list of all syncs is gone through only for a connection that has some in it.
-        if !queue.has_unsettled() {
-            return;
-        }
-        self.syncs.disown(number);
+        let Some(queue) = self.take_requests(number) else {
+            return Ok(TakenConnect::none(alloc));
+        };
+        Ok(TakenConnect {
+            connect: Some(connect),
+            frames: queue.into_held(alloc)?,
+        })
     }
 
     /// Drops everything, since the leader has gone. Allocates nothing.
@@ -249,10 +287,10 @@ impl Pending {
     pub fn take_touched(
         &mut self,
         alloc: Global,
-        timeouts: &BTreeMap<i64, i32>,
+        timeouts: &Timeouts,
     ) -> Result<Vec<(i64, i32)>, NoMemory>
-        ensures ok { let known = finmap.from_entries timeouts.now.entries in IfOk result (λ rows.
-            take_touched self.old known ≡ record { rows = rows.items; after = self.new }) }
+        ensures ok { IfOk result (λ rows.
+            take_touched self.old timeouts.now ≡ record { rows = rows.items; after = self.new }) }
         ensures err { OnErr result (self.new ≡ self.old) }
     {
         let mut rows = self.touched.live_rows(alloc, timeouts)?;

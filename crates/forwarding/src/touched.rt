@@ -2,11 +2,11 @@
 
 ghost use Rattle.std.specs.Prelude.{◌≡◌, OnOk, OnErr, IfOk, ℤ, map};
 ghost use Rattle.std.specs.FinSet as set;
-ghost use Rattle.std.specs.FinMap as finmap;
 ghost use Rattle.forwarding.specs.Pending.{live_rows, sorted_touched};
 
+use data_tree::Timeouts;
 use std::alloc::Global;
-use std::collections::{BTreeMap, BTreeSet};
+use std::collections::BTreeSet;
 use std::marker::Model;
 use values::NoMemory;
 
@@ -47,18 +47,13 @@ impl Touched {
     }
 
     /// The sessions that have a timeout, each with it, in ascending order. Fails only if an allocation is refused.
-    pub fn live_rows(
-        &self,
-        alloc: Global,
-        timeouts: &BTreeMap<i64, i32>,
-    ) -> Result<Vec<(i64, i32)>, NoMemory>
-        ensures { let known = finmap.from_entries timeouts.now.entries in
-            IfOk result (λ rows. rows.items ≡ live_rows known (sorted_touched self.now)) }
+    pub fn live_rows(&self, alloc: Global, timeouts: &Timeouts) -> Result<Vec<(i64, i32)>, NoMemory>
+        ensures { IfOk result (λ rows. rows.items ≡ live_rows timeouts.now (sorted_touched self.now)) }
     {
         let mut rows = Vec::new(alloc);
         for session in self.sessions.iter() {
-            if let Some(timeout) = timeouts.get(session) {
-                rows.push((*session, *timeout))?;
+            if let Some(timeout) = timeouts.get(*session) {
+                rows.push((*session, timeout))?;
             }
         }
         Ok(rows)

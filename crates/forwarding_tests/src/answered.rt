@@ -1,6 +1,8 @@
 //! What the leader's stream answers, and what then is ready.
 
-use crate::{Asked, answer, ask, connected, drop_and_touch, settle, take_all, touched};
+use crate::{
+    Asked, answer, ask, connected, drop_and_touch, settle, take_all, touched, would_answer,
+};
 use forwarding::{ERROR_TXN, PENDING_LIMIT, Pending, WriteKind};
 use std::alloc::Global;
 use std::test::Fail;
@@ -27,6 +29,9 @@ fn a_write_overtakes_a_sync(rt: HostRuntime) -> Result<(), Fail> {
     assert_eq!(rt; answer(&mut pending, 1, 9, ERROR_TXN), 0);
     assert_eq!(rt; answer(&mut pending, 2, 8, 1), 0);
     assert_eq!(rt; answer(&mut pending, 1, 8, 5), 0);
+    assert!(rt; !pending.is_empty());
+    assert_eq!(rt; would_answer(&pending, 1, 8, 1), 1);
+    assert_eq!(rt; would_answer(&pending, 1, 8, 5), 0);
     assert_eq!(rt; answer(&mut pending, 1, 8, 1), 1);
     assert_eq!(rt; take_all(alloc, &mut pending, 1)?.as_str(), "");
     assert_eq!(rt; settle(alloc, &mut pending, 2)?.as_str(), "1-");
@@ -34,10 +39,11 @@ fn a_write_overtakes_a_sync(rt: HostRuntime) -> Result<(), Fail> {
     assert_eq!(rt; take_all(alloc, &mut pending, 1)?.as_str(), ready);
     assert_eq!(rt; answer(&mut pending, 1, 9, ERROR_TXN), -11);
     assert!(rt; pending.is_idle(1));
+    assert!(rt; pending.is_empty());
     Ok(())
 }
 
-// Connection 1 syncs and goes. Its number is used again, behind the sync of connection 2.
+// Connection 1 syncs and goes. Its number is used again, after the sync of connection 2.
 fn asked_again(alloc: Global) -> Result<Pending, NoMemory> {
     let mut pending = Pending::new(alloc);
     ask(alloc, &mut pending, &[(1, Asked::Sync(7, "/a"))])?;
@@ -68,14 +74,19 @@ fn a_connect_waits_for_its_session(rt: HostRuntime) -> Result<(), Fail> {
         (2, Asked::Connect(-9)),
         (3, Asked::Connect(-9)),
         (2, Asked::Frame(&[5])),
+        (2, Asked::Write(4, WriteKind::Create)),
+        (2, Asked::Frame(&[6])),
     ];
     ask(alloc, &mut pending, &requests)?;
     assert_eq!(rt; pending.connecting(-9), Some(2));
     assert_eq!(rt; take_all(alloc, &mut pending, 2)?.as_str(), "");
-    assert_eq!(rt; connected(&mut pending, 2), -9);
-    assert_eq!(rt; connected(&mut pending, 2), 0);
+    assert_eq!(rt;
+        connected(alloc, &mut pending, 2)?.as_str(),
+        "-9; frame [5]; frame [6]; "
+    );
+    assert_eq!(rt; connected(alloc, &mut pending, 2)?.as_str(), "-; ");
     assert_eq!(rt; pending.connecting(-9), None);
-    assert_eq!(rt; take_all(alloc, &mut pending, 2)?.as_str(), "frame [5]; ");
+    assert!(rt; pending.is_idle(2));
     Ok(())
 }
 

@@ -5,9 +5,9 @@
 #[cfg(test)]
 mod answered;
 
+use data_tree::Tree;
 use forwarding::{Pending, PendingConnect, Ready, Settled, WriteKind};
 use std::alloc::Global;
-use std::collections::BTreeMap;
 use values::{Blob, NoMemory, Text};
 
 /// What a client asks. A request of a connection that is full is dropped.
@@ -115,12 +115,22 @@ pub fn take_all(alloc: Global, pending: &mut Pending, number: u64) -> Result<Str
     Ok(text)
 }
 
-/// The type of the write that a transaction answers; 0 if it answers none.
-pub fn answer(pending: &mut Pending, number: u64, xid: i32, txn_kind: i32) -> i32 {
-    match pending.answer_write(number, xid, txn_kind) {
+// The type of the write; 0 if there is none.
+fn type_of(write: Option<WriteKind>) -> i32 {
+    match write {
         None => 0,
         Some(kind) => kind.number(),
     }
+}
+
+/// The type of the write that a transaction would answer; 0 if it answers none.
+pub fn would_answer(pending: &Pending, number: u64, xid: i32, txn_kind: i32) -> i32 {
+    type_of(pending.answered_write(number, xid, txn_kind))
+}
+
+/// The type of the write that a transaction answers; 0 if it answers none.
+pub fn answer(pending: &mut Pending, number: u64, xid: i32, txn_kind: i32) -> i32 {
+    type_of(pending.answer_write(number, xid, txn_kind))
 }
 
 /// The connections whose syncs the next SYNCs settle: "-" where none waits, and "x" where it has gone.
@@ -136,12 +146,17 @@ pub fn settle(alloc: Global, pending: &mut Pending, count: usize) -> Result<Stri
     Ok(text)
 }
 
-/// The session for which the connection's connect waits; 0 if it has none.
-pub fn connected(pending: &mut Pending, number: u64) -> i64 {
-    match pending.take_connect(number) {
-        None => 0,
-        Some(connect) => connect.session,
+/// The session for which the connection's connect waits, "-" if it has none, and the frames that leave with it.
+pub fn connected(alloc: Global, pending: &mut Pending, number: u64) -> Result<String, NoMemory> {
+    let taken = pending.take_connect(alloc, number)?;
+    let mut text = match taken.connect {
+        None => String::from_str(alloc, "-; ")?,
+        Some(PendingConnect { session, .. }) => format!(in alloc; "{session}; ")?,
+    };
+    for frame in taken.frames.as_slice() {
+        add_frame(alloc, &mut text, frame.as_slice())?;
     }
+    Ok(text)
 }
 
 /// Drops connections, and touches sessions.
@@ -165,11 +180,11 @@ pub fn touched(
     pending: &mut Pending,
     live: &[(i64, i32)],
 ) -> Result<String, NoMemory> {
-    let mut timeouts = BTreeMap::new(alloc);
+    let mut tree = Tree::empty(alloc);
     for (session, timeout) in live {
-        timeouts.insert(*session, *timeout)?;
+        tree.put_session(*session, *timeout)?;
     }
-    let rows = pending.take_touched(alloc, &timeouts)?;
+    let rows = pending.take_touched(alloc, tree.sessions())?;
     format_rows(alloc, rows.as_slice())
 }
 

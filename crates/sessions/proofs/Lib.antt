@@ -4,6 +4,8 @@ pub mod Maps
 pub mod Numbers
 -- The steps that keep sessions and connections in agreement.
 pub mod Agreeing
+-- Ids can be written.
+pub mod Ids
 -- The text of the scheme "digest".
 pub mod Texts
 -- Cases of definitions.
@@ -12,7 +14,7 @@ pub mod Cases
 pub mod Kept
 -- A step leaves other connections.
 pub mod Others
--- A session that has ended stays ended.
-pub mod Ended
+-- Ids of new sessions are new.
+pub mod NewIds
 -- The number of entries of a map.
 pub mod Counting

@@ -18,6 +18,10 @@ none-some x e = cc
 pub some-some : {A : Type 0} {x y : A} → Some x ≡ Some y → x ≡ y
 some-some e = cc
 
+pub not-some : {A : Type 0} (r : Option A) → ((x : A) → r ≡ Some x → ⊥) → r ≡ None
+not-some None h = refl
+not-some (Some x) h = absurd (h x refl)
+
 module _ {K : Type 0} {R : K → K → Ordering} (o : IsTotalOrder R) (exact : CmpEqualImpliesEq R) where
   same_key : (k : K) → eq_by_cmp R k k ≡ true
   same_key k = ap is_eq (tied_itself o k)
@@ -111,15 +115,15 @@ module _ {K X : Type 0} {R : K → K → Ordering} (o : IsTotalOrder R) (exact :
       by q (inr e) = removed_elsewhere (finmap.insert m k v) k q e ∙ inserted_elsewhere m k v q e
           ∙ sym (removed_elsewhere m k q e)
 
-  pub insert_inserted : (m : finmap.FinMap R X) (k : K) (v w : X)
-      → finmap.insert (finmap.insert m k w) k v ≡ finmap.insert m k v
-  insert_inserted m k v w = finmap.same_map o exact _ _ (λ q. by q (same_or_other o exact q k))
+  pub insert_removed : (m : finmap.FinMap R X) (k : K) (v : X)
+      → finmap.insert (finmap.remove m k) k v ≡ finmap.insert m k v
+  insert_removed m k v = finmap.same_map o exact _ _ (λ q. by q (same_or_other o exact q k))
     where
       by : (q : K) → (q ≡ k) ⊎ (eq_by_cmp R q k ≡ false)
-          → finmap.get (finmap.insert (finmap.insert m k w) k v) q ≡ finmap.get (finmap.insert m k v) q
-      by q (inl e) = ap (finmap.get (finmap.insert (finmap.insert m k w) k v)) e ∙ inserted (finmap.insert m k w) k v
+          → finmap.get (finmap.insert (finmap.remove m k) k v) q ≡ finmap.get (finmap.insert m k v) q
+      by q (inl e) = ap (finmap.get (finmap.insert (finmap.remove m k) k v)) e ∙ inserted (finmap.remove m k) k v
           ∙ sym (inserted m k v) ∙ sym (ap (finmap.get (finmap.insert m k v)) e)
-      by q (inr e) = inserted_elsewhere (finmap.insert m k w) k v q e ∙ inserted_elsewhere m k w q e
+      by q (inr e) = inserted_elsewhere (finmap.remove m k) k v q e ∙ removed_elsewhere m k q e
           ∙ sym (inserted_elsewhere m k v q e)
 
   -- Changes at two keys.

@@ -1,10 +1,8 @@
 -- Two counters of a server give two session ids.
-use Rattle.std.proofs.Common.{◌≡◌, ℕ, ◌+◌, ◌*◌, ◌^◌, ◌<◌, ℤ, pos, negsuc, Bool, true, false, refl, sym, ap, ◌∙◌, arith, w64}
+use Rattle.std.proofs.Common.{◌≡◌, ◌≢◌, ℕ, ◌+◌, ◌*◌, ◌^◌, ◌<◌, ℤ, pos, negsuc, sym, ap, ◌∙◌, arith, w64}
 use Rattle.std.specs.Prelude.{IsTrue, unsigned_abs}
 use Rattle.std.specs.Int.{cast_unsigned}
 use Rattle.std.proofs.lemmas.Int.{of_z-to_z}
-use Rattle.std.specs.Ordering.{int_eq}
-use Rattle.std.proofs.lemmas.Bool.Decides.{Decides-int_eq}
 use Rattle.settings.specs.Settings.{is_server_id}
 use Rattle.sessions.specs.Credentials.{session_id_of, session_number}
 
@@ -36,18 +34,11 @@ positive (negsuc n) h = grind arith
 not_zero : (high counter : ℕ) → 0 < high → high * 2 ^ 56 + counter ≡ 0 → ⊥
 not_zero high counter p e = omega arith
 
--- No session has the id 0.
+-- No counter gives the id 0.
 pub never_zero : (server_id : ℤ) (counter : ℕ) → IsTrue (is_server_id server_id) → counter < 2 ^ 56
-    → int_eq (session_id_of server_id counter) (pos 0) ≡ false
+    → session_id_of server_id counter ≢ pos 0
 unfolding session_id_of
-never_zero server_id counter h low = by (int_eq (session_id_of server_id counter) (pos 0)) refl
-  where
-    zero_is : session_id_of server_id counter ≡ pos 0 → ⊥
-    zero_is e = not_zero (unsigned_abs server_id) counter (positive server_id h)
-        (sym (of_z-to_z w64 (session_number server_id counter) (number_below server_id counter h low))
-        ∙ ap (cast_unsigned w64) e)
-
-    by : (b : Bool) → int_eq (session_id_of server_id counter) (pos 0) ≡ b
-        → int_eq (session_id_of server_id counter) (pos 0) ≡ false
-    by true e = absurd (zero_is ((Decides-int_eq (session_id_of server_id counter) (pos 0)).0 e))
-    by false e = e
+never_zero server_id counter h low e =
+    not_zero (unsigned_abs server_id) counter (positive server_id h)
+    (sym (of_z-to_z w64 (session_number server_id counter) (number_below server_id counter h low))
+    ∙ ap (cast_unsigned w64) e)

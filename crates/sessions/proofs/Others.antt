@@ -1,5 +1,5 @@
 -- A step leaves other connections.
-use Rattle.std.proofs.Common.{◌≡◌, ◌≢◌, ℕ, ◌+◌, ◌==◌, ℤ, pos, false, List, [], length, Option, Some, None, refl, sym, ap, ◌∙◌}
+use Rattle.std.proofs.Common.{◌≡◌, ◌≢◌, ℕ, ◌==◌, ℤ, pos, Bool, false, List, length, Option, Some, None, refl, sym, ap, ◌∙◌}
 use Rattle.std.specs.Prelude.{nat_lt}
 use Rattle.std.specs.List.{list_any}
 use Rattle.std.specs.Ordering.{int_eq, eq_by_cmp, nat_cmp}
@@ -8,9 +8,9 @@ use Rattle.std.proofs.lemmas.Map.Lookups.{exact_unsigned}
 use Rattle.std.specs.FinMap as finmap
 use Rattle.jute.specs.declared.owned.Id.{Id}
 use Rattle.sessions.specs.declared.request.SessionRequest.{SessionRequest}
-use Rattle.sessions.specs.Credentials.{session_id_of, digest_id}
+use Rattle.sessions.specs.Credentials.{digest_id}
 use Rattle.sessions.specs.State.{ConnectedClient, SessionTable}
-use Rattle.sessions.specs.Sessions.{ConnectResult, AuthResult, greatest_counter, ids_limit, is_same_id, with_id, is_valid, connection_of, close_as, close_if_some, expire_as, connect_session, show_in, digest_text, auth_by}
+use Rattle.sessions.specs.Sessions.{ConnectResult, AuthResult, greatest_counter, ids_limit, is_same_id, with_id, is_valid, connection_of, close_as, close_if_some, new_connection, give_session, connect_session, show_in, digest_text, auth_by}
 use Rattle.sessions.specs.Agreement.{OtherConnectionsStay}
 use Rattle.sessions.proofs.Cases.{at_if}
 use Rattle.sessions.proofs.Maps.{other, inserted_elsewhere, removed_elsewhere}
@@ -34,11 +34,6 @@ closes_one : (s : SessionTable) (o : Option ℕ) (m : ℕ) → o ≢ Some m → 
 closes_one s None m apart = refl
 closes_one s (Some n) m apart = closes_as s n (finmap.get s.connections n) m (λ e. apart (ap Some (sym e)))
 
-expires_as : (s : SessionTable) (session : ℤ) (o : Option (Option ℕ)) (m : ℕ) → (expire_as s session o).closed ≢ Some m
-    → Stays s m (expire_as s session o).after
-expires_as s session None m apart = refl
-expires_as s session (Some o) m apart = closes_one s o m apart
-
 shows_in : (s : SessionTable) (n : ℕ) (id : Id) (o : Option ConnectedClient) (m : ℕ) → m ≢ n
     → Stays s m (show_in s n id o).after
 shows_in s n id None m apart = refl
@@ -54,22 +49,26 @@ shows_by s n (Some text) m apart = shows_in s n (digest_id text) (finmap.get s.c
 abbrev Leaves : SessionTable → ℕ → ConnectResult → Type 0
 Leaves s m x = x.connected.older ≢ Some m → Stays s m x.after
 
-connects : (s : SessionTable) (n : ℕ) (request : SessionRequest) (m : ℕ) → m ≢ n
-    → Leaves s m (connect_session s n request)
-connects s n request m apart =
+gives : (s : SessionTable) (n : ℕ) (session time_out : ℤ) (m : ℕ) → m ≢ n
+    → Leaves s m (give_session s n session time_out)
+gives s n session time_out m apart stays =
+    put_elsewhere (close_if_some s (connection_of s session)) m n (new_connection session) apart
+    ∙ closes_one s (connection_of s session) m stays
+
+connects : (s : SessionTable) (n : ℕ) (lives : Bool) (request : SessionRequest) (m : ℕ) → m ≢ n
+    → Leaves s m (connect_session s n lives request)
+connects s n lives request m apart =
     at_if (Leaves s m) (int_eq request.session_id (pos 0)) _ _
-    (λ _. at_if (Leaves s m) (s.counter == greatest_counter) _ _ (λ _ _. refl)
-    (λ _ _. put_elsewhere s m n (record { session = session_id_of s.terms.server_id (s.counter + 1); ids = [] }) apart))
-    (λ _. at_if (Leaves s m) (is_valid s request) _ _
-    (λ _ stays. put_elsewhere (close_if_some s (connection_of s request.session_id)) m n
-    (record { session = request.session_id; ids = [] }) apart
-    ∙ closes_one s (connection_of s request.session_id) m stays)
+    (λ _. at_if (Leaves s m) (s.counter == greatest_counter) _ _ (λ _ _. refl) (λ _ _. refl))
+    (λ _. at_if (Leaves s m) (is_valid s lives request) _ _
+    (λ _. gives s n request.session_id request.time_out m apart)
     (λ _ _. refl))
 
 pub others_stay : OtherConnectionsStay
 others_stay = record {
   connects = connects;
+  admits = gives;
   auths = λ s n scheme bytes m apart. shows_by s n (digest_text scheme bytes) m apart;
   closes = λ s n m apart. closes_as s n (finmap.get s.connections n) m apart;
-  expires = λ s session m apart. expires_as s session (finmap.get s.guests session) m apart;
+  expires = λ s session m apart. closes_one s (connection_of s session) m apart;
 }

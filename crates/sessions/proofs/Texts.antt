@@ -1,9 +1,11 @@
 -- The text of the scheme "digest", from the tests in the code.
-use Rattle.std.proofs.Common.{◌≡◌, ℕ, Bool, true, false, not, ◌&&◌, List, Some, None, refl, sym, ap}
-use Rattle.std.specs.Prelude.{IsUtf8, codes, if◌then◌else◌}
+use Rattle.std.proofs.Common.{◌≡◌, ℕ, ◌<◌, ◌≤◌, Bool, true, false, not, ◌&&◌, List, length, Option, Some, None, refl, sym, ap, subst}
+use Rattle.std.specs.Prelude.{IsUtf8, codes, nat_le, if◌then◌else◌}
 use Rattle.std.specs.Str.{bytes_eq, is_utf8}
+use Rattle.std.proofs.lemmas.Bool.{leb-true, lt-leb, le-leb}
 use Rattle.std.proofs.lemmas.Str.{IsUtf8-from_is_utf8, is_utf8-from_IsUtf8}
-use Rattle.sessions.specs.Sessions.{digest_text}
+use Rattle.sessions.specs.Sessions.{auth_limit, is_auth_text, digest_text}
+use Rattle.sessions.proofs.Maps.{none-some, some-some}
 use mathlib.Core.Bool.{true≢false}
 
 is_not : (b : Bool) → false ≡ not b → b ≡ true
@@ -21,13 +23,41 @@ not_text_at : (bytes : List ℕ) (b : Bool) → is_utf8 bytes ≡ b → (IsUtf8 
 not_text_at bytes true e h = absurd (h (IsUtf8-from_is_utf8 bytes e))
 not_text_at bytes false e h = refl
 
+and_false : (a b : Bool) → b ≡ false → (a && b) ≡ false
+and_false true b e = e
+and_false false b e = refl
+
 -- Bytes that aren't UTF-8 give no text.
 pub shows_nothing : (scheme bytes : List ℕ) → (IsUtf8 bytes → ⊥) → None ≡ digest_text (Some scheme) (Some bytes)
 shows_nothing scheme bytes h =
-    at_none (bytes_eq scheme (codes "digest")) (is_utf8 bytes) bytes (not_text_at bytes (is_utf8 bytes) refl h)
+    at_none (bytes_eq scheme (codes "digest")) (is_auth_text bytes) bytes
+    (and_false (nat_le (length bytes) auth_limit) (is_utf8 bytes) (not_text_at bytes (is_utf8 bytes) refl h))
 
-pub shows_text : (scheme bytes : List ℕ) → false ≡ not (bytes_eq scheme (codes "digest")) → IsUtf8 bytes
-    → Some bytes ≡ digest_text (Some scheme) (Some bytes)
-shows_text scheme bytes same h =
-    at_some (bytes_eq scheme (codes "digest")) (is_utf8 bytes) bytes (is_not (bytes_eq scheme (codes "digest")) same)
-    (is_utf8-from_IsUtf8 bytes h)
+-- Too many bytes give no text.
+pub too_long : (scheme bytes : List ℕ) → auth_limit < length bytes → None ≡ digest_text (Some scheme) (Some bytes)
+too_long scheme bytes h =
+    at_none (bytes_eq scheme (codes "digest")) (is_auth_text bytes) bytes
+    (ap (λ b. b && is_utf8 bytes) (lt-leb (length bytes) auth_limit h))
+
+pub shows_text : (scheme bytes : List ℕ) → false ≡ not (bytes_eq scheme (codes "digest")) → length bytes ≤ auth_limit
+    → IsUtf8 bytes → Some bytes ≡ digest_text (Some scheme) (Some bytes)
+shows_text scheme bytes same short h =
+    at_some (bytes_eq scheme (codes "digest")) (is_auth_text bytes) bytes
+    (is_not (bytes_eq scheme (codes "digest")) same)
+    (λ i. le-leb (length bytes) auth_limit short i && is_utf8-from_IsUtf8 bytes h i)
+
+-- A text that is given is short.
+pub is_short : (scheme bytes : Option (List ℕ)) (text : List ℕ) → digest_text scheme bytes ≡ Some text
+    → length text ≤ auth_limit
+is_short None bytes text e = absurd (none-some text e)
+is_short (Some scheme) None text e = absurd (none-some text e)
+is_short (Some scheme) (Some bytes) text e =
+    by (bytes_eq scheme (codes "digest")) (nat_le (length bytes) auth_limit) refl (is_utf8 bytes) e
+  where
+    by : (a b : Bool) → nat_le (length bytes) auth_limit ≡ b → (u : Bool)
+        → (if a && (b && u) then Some bytes else None) ≡ Some text → length text ≤ auth_limit
+    by true true l true e =
+        subst (λ (t : List ℕ). length t ≤ auth_limit) (some-some e) (leb-true (length bytes) auth_limit l)
+    by true true l false e = absurd (none-some text e)
+    by true false l u e = absurd (none-some text e)
+    by false b l u e = absurd (none-some text e)

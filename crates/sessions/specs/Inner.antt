@@ -1,14 +1,9 @@
 -- The contracts of the private functions. No public contract cites this.
-use Rattle.std.specs.Prelude.{ℕ, ℤ, Option, None, Some}
+use Rattle.std.specs.Prelude.{ℕ, Option, None, Some}
 use Rattle.std.specs.FinMap as finmap
 use Rattle.jute.specs.declared.owned.Id.{Id}
-use Rattle.sessions.specs.State.{ConnectedClient, Guests, ConnectedClients}
+use Rattle.sessions.specs.State.{ConnectedClient, ConnectedClients}
 use Rattle.sessions.specs.Sessions.{with_id}
-
--- Gives a known session another connection, or none.
-abbrev pub with_guest_connection : Guests → ℤ → Option ℕ → Option (Option ℕ) → Guests
-with_guest_connection guests session connection None = guests
-with_guest_connection guests session connection (Some o) = finmap.insert guests session connection
 
 -- Adds an id to a connection that has a session.
 abbrev pub with_shown_id : ConnectedClients → ℕ → Id → Option ConnectedClient → ConnectedClients

@@ -1,5 +1,5 @@
--- What connecting, adding an id, closing and ending do to the sessions that an observer knows.
-use Rattle.std.specs.Prelude.{ℕ, ◌+◌, ◌-◌, ◌^◌, ◌==◌, ◌&&◌, nat_lt, ℤ, pos, int_lt, List, [], ◌∷◌, ◌++◌, length, replicate, codes, Option, None, Some, Bool, true, false, if◌then◌else◌}
+-- What connecting, adding an id, closing and ending do to the sessions of an observer's connections.
+use Rattle.std.specs.Prelude.{ℕ, ◌+◌, ◌-◌, ◌^◌, ◌==◌, ◌&&◌, nat_lt, nat_le, ℤ, pos, int_lt, List, [], ◌∷◌, ◌++◌, length, replicate, codes, Option, None, Some, Bool, true, false, if◌then◌else◌}
 use Rattle.std.specs.Ordering.{int_eq}
 use Rattle.std.specs.List.{list_any}
 use Rattle.std.specs.Str.{bytes_eq, is_utf8}
@@ -34,19 +34,16 @@ ids_in (Some c) = c.ids
 abbrev pub ids_of : SessionTable → ℕ → List Id
 ids_of s n = ids_in (finmap.get s.connections n)
 
-abbrev pub connection_in : Option (Option ℕ) → Option ℕ
-connection_in None = None
-connection_in (Some o) = o
-
+-- The connection that has the session here, if there is one.
 abbrev pub connection_of : SessionTable → ℤ → Option ℕ
-connection_of s session = connection_in (finmap.get s.guests session)
+connection_of s session = finmap.get s.owners session
 
--- ---- close: the connection and its ids go, its session stays
+-- ---- close: the connection and its ids go, and it has no session any more; whether that lives on, the tree knows
 
 abbrev pub close_as : SessionTable → ℕ → Option ConnectedClient → SessionTable
 close_as s n None = s
 close_as s n (Some c) =
-    record s { guests = finmap.insert s.guests c.session None; connections = finmap.remove s.connections n }
+    record s { owners = finmap.remove s.owners c.session; connections = finmap.remove s.connections n }
 
 abbrev pub close_connection : SessionTable → ℕ → SessionTable
 close_connection s n = close_as s n (finmap.get s.connections n)
@@ -55,22 +52,17 @@ abbrev pub close_if_some : SessionTable → Option ℕ → SessionTable
 close_if_some s None = s
 close_if_some s (Some n) = close_connection s n
 
--- ---- expire: a guest session ends, and its connection closes
+-- ---- expire: a session ends, and its connection closes
 
 pub record ExpireResult : Type 0 where
   -- The connection to close.
   pub closed : Option ℕ
   pub after : SessionTable
 
-abbrev pub without_guest : SessionTable → ℤ → SessionTable
-without_guest s session = record s { guests = finmap.remove s.guests session }
-
-abbrev pub expire_as : SessionTable → ℤ → Option (Option ℕ) → ExpireResult
-expire_as s session None = record { closed = None; after = s }
-expire_as s session (Some o) = record { closed = o; after = without_guest (close_if_some s o) session }
-
-abbrev pub expire_guest : SessionTable → ℤ → ExpireResult
-expire_guest s session = expire_as s session (finmap.get s.guests session)
+-- The connection of the session loses it.
+abbrev pub expire_owner : SessionTable → ℤ → ExpireResult
+expire_owner s session =
+    record { closed = connection_of s session; after = close_if_some s (connection_of s session) }
 
 -- ---- connect
 
@@ -106,49 +98,50 @@ new_connection session = record { session = session; ids = [] }
 -- The connection has the session from now on.
 abbrev pub with_session_connected : SessionTable → ℕ → ℤ → SessionTable
 with_session_connected s n session = record s {
-  guests = finmap.insert s.guests session (Some n);
+  owners = finmap.insert s.owners session n;
   connections = finmap.insert s.connections n (new_connection session);
 }
 
-abbrev pub accepted_connect : SessionTable → ℕ → ℤ → ℤ → Option ℕ → ConnectResult
-accepted_connect s n session time_out older =
+-- The connection gets the session. An older connection of it is closed first.
+abbrev pub give_session : SessionTable → ℕ → ℤ → ℤ → ConnectResult
+give_session s n session time_out =
+    let older = connection_of s session in
     record {
-      connected = record
-          { response = session_response s.terms session time_out; older = older };
-      after = with_session_connected s n session;
+      connected = record { response = session_response s.terms session time_out; older = older };
+      after = with_session_connected (close_if_some s older) n session;
     }
 
 abbrev pub greatest_counter : ℕ
 greatest_counter = 2 ^ 56 - 1
 
--- A new guest session with the next counter, unless the counters are used up.
-abbrev pub open_new : SessionTable → ℕ → ℤ → ConnectResult
-open_new s n time_out =
+-- The id of a new session has the next counter, unless the counters are used up. The connection has the session only
+-- when the leader has created it.
+abbrev pub name_session : SessionTable → ℤ → ConnectResult
+name_session s time_out =
     if s.counter == greatest_counter then refused_connect s
     else
     let counter = s.counter + 1 in
-    accepted_connect (record s { counter = counter }) n (session_id_of s.terms.server_id counter) time_out None
+    record {
+      connected = record {
+        response = session_response s.terms (session_id_of s.terms.server_id counter) time_out;
+        older = None;
+      };
+      after = record s { counter = counter };
+    }
 
 abbrev pub is_password : List ℕ → Option (List ℕ) → Bool
 is_password own None = false
 is_password own (Some given) = bytes_eq given own
 
--- A live guest session, with its own password.
-abbrev pub is_valid : SessionTable → SessionRequest → Bool
-is_valid s request =
-    finmap.contains_key s.guests request.session_id && is_password
-    (password_of s.terms.secret request.session_id) request.password
+-- A session that lives, with its own password.
+abbrev pub is_valid : SessionTable → Bool → SessionRequest → Bool
+is_valid s lives request = lives && is_password (password_of s.terms.secret request.session_id) request.password
 
--- An older connection of the session is closed first.
-abbrev pub reopen_session : SessionTable → ℕ → SessionRequest → ConnectResult
-reopen_session s n request =
-    let older = connection_of s request.session_id in
-    accepted_connect (close_if_some s older) n request.session_id request.time_out older
-
-abbrev pub connect_session : SessionTable → ℕ → SessionRequest → ConnectResult
-connect_session s n request =
-    if int_eq request.session_id (pos 0) then open_new s n request.time_out
-    else if is_valid s request then reopen_session s n request
+-- `lives` says whether the tree has the session that is asked for.
+abbrev pub connect_session : SessionTable → ℕ → Bool → SessionRequest → ConnectResult
+connect_session s n lives request =
+    if int_eq request.session_id (pos 0) then name_session s request.time_out
+    else if is_valid s lives request then give_session s n request.session_id request.time_out
     else refused_connect s
 
 -- ---- auth
@@ -180,11 +173,19 @@ show_in s n id (Some c) =
 abbrev pub add_id : SessionTable → ℕ → Id → AuthResult
 add_id s n id = show_in s n id (finmap.get s.connections n)
 
--- The text of the scheme "digest"; none for any other scheme, for null, and for bytes that aren't UTF-8.
+-- The most bytes of a text that an id is made of, so that the id can be written in a packet. A client's frame is shorter.
+abbrev pub auth_limit : ℕ
+auth_limit = 2 ^ 20
+
+abbrev pub is_auth_text : List ℕ → Bool
+is_auth_text bytes = nat_le (length bytes) auth_limit && is_utf8 bytes
+
+-- The text of the scheme "digest"; none for any other scheme, for null, for bytes that aren't UTF-8, and for too many.
 abbrev pub digest_text : Option (List ℕ) → Option (List ℕ) → Option (List ℕ)
 digest_text None bytes = None
 digest_text (Some scheme) None = None
-digest_text (Some scheme) (Some bytes) = if bytes_eq scheme (codes "digest") && is_utf8 bytes then Some bytes else None
+digest_text (Some scheme) (Some bytes) =
+    if bytes_eq scheme (codes "digest") && is_auth_text bytes then Some bytes else None
 
 abbrev pub auth_by : SessionTable → ℕ → Option (List ℕ) → AuthResult
 auth_by s n None = record { is_accepted = false; after = s }

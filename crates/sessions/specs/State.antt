@@ -1,7 +1,7 @@
 -- What an observer knows of its clients' sessions.
-use Rattle.std.specs.Prelude.{ℕ, ℤ, List, Option, refl}
+use Rattle.std.specs.Prelude.{ℕ, ℤ, List, refl}
 use Rattle.std.specs.Ordering.{nat_cmp, int_cmp}
-use Rattle.std.specs.Coded.{Coded, code_by, coded×, coded_ℕ, coded_ℤ, coded_list, coded_option}
+use Rattle.std.specs.Coded.{Coded, code_by, coded×, coded_ℕ, coded_ℤ, coded_list}
 use Rattle.std.specs.FinMap as finmap
 use Rattle.settings.specs.Settings.{TimeoutPair}
 use Rattle.jute.specs.declared.owned.Id.{Id}
@@ -17,9 +17,9 @@ pub record ConnectedClient : Type 0 where
   pub session : ℤ
   pub ids : List Id
 
--- The live guest sessions, each with the connection that has it now, if there is one.
-abbrev pub Guests : Type 0
-Guests = finmap.FinMap int_cmp (Option ℕ)
+-- For each session that a connection has here, that connection. Which sessions there are, the tree knows.
+abbrev pub SessionOwners : Type 0
+SessionOwners = finmap.FinMap int_cmp ℕ
 
 -- The connections that have a session, by number.
 abbrev pub ConnectedClients : Type 0
@@ -27,17 +27,17 @@ ConnectedClients = finmap.FinMap nat_cmp ConnectedClient
 
 pub record SessionTable : Type 0 where
   pub terms : SessionSettings
-  -- The number of sessions opened so far.
+  -- The number of session ids given out so far.
   pub counter : ℕ
-  pub guests : Guests
+  pub owners : SessionOwners
   pub connections : ConnectedClients
 
 abbrev pub session_settings_of : ℤ → TimeoutPair → List ℕ → SessionSettings
 session_settings_of server_id timeouts secret = record { server_id = server_id; timeouts = timeouts; secret = secret }
 
-abbrev pub session_table_of : SessionSettings → ℕ → Guests → ConnectedClients → SessionTable
-session_table_of terms counter guests connections =
-    record { terms = terms; counter = counter; guests = guests; connections = connections }
+abbrev pub session_table_of : SessionSettings → ℕ → SessionOwners → ConnectedClients → SessionTable
+session_table_of terms counter owners connections =
+    record { terms = terms; counter = counter; owners = owners; connections = connections }
 
 -- ---- codes
 
@@ -62,15 +62,15 @@ connected_client_code =
     code_by (ℤ × List Id) (coded× coded_ℤ (coded_list id_code)) (λ c. (c.session, c.ids))
     (λ p. record { session = p.0; ids = p.1 }) (λ _. refl)
 
-abbrev pub guests_code : Coded Guests
-guests_code = finmap.code {R = int_cmp} coded_ℤ (coded_option coded_ℕ)
+abbrev pub session_owners_code : Coded SessionOwners
+session_owners_code = finmap.code {R = int_cmp} coded_ℤ coded_ℕ
 
 abbrev pub connected_clients_code : Coded ConnectedClients
 connected_clients_code = finmap.code {R = nat_cmp} coded_ℕ connected_client_code
 
 abbrev pub session_table_code : Coded SessionTable
 session_table_code =
-    code_by (SessionSettings × (ℕ × (Guests × ConnectedClients)))
-    (coded× session_settings_code (coded× coded_ℕ (coded× guests_code connected_clients_code)))
-    (λ s. (s.terms, (s.counter, (s.guests, s.connections))))
-    (λ p. record { terms = p.0; counter = p.1.0; guests = p.1.1.0; connections = p.1.1.1 }) (λ _. refl)
+    code_by (SessionSettings × (ℕ × (SessionOwners × ConnectedClients)))
+    (coded× session_settings_code (coded× coded_ℕ (coded× session_owners_code connected_clients_code)))
+    (λ s. (s.terms, (s.counter, (s.owners, s.connections))))
+    (λ p. record { terms = p.0; counter = p.1.0; owners = p.1.1.0; connections = p.1.1.1 }) (λ _. refl)

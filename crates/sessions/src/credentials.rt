@@ -13,10 +13,10 @@ use sha1::Sha1;
 use std::alloc::Global;
 use values::{NoMemory, Text};
 
-/// The number of sessions that one server can open: the counter is the 7 bytes below the server id.
+/// The bound of the counters, which are the 7 bytes below the server id. No session has the counter 0.
 pub const COUNTERS: u64 = 0x0100_0000_0000_0000;
 
-/// The id of the session that the server opens with this counter.
+/// The session id that the server gives out with this counter.
 pub fn session_id(server_id: ServerId, counter: u64) -> i64
     requires { counter < 2 ^ 56 }
     ensures { result ≡ session_id_of server_id counter }

@@ -1,9 +1,9 @@
 //! Laws of sessions. Each is the contract of a function that does nothing.
 
-ghost use Rattle.sessions.specs.Agreement.{SessionsAreApart, AgreementIsKept, EndedSessionsStayEnded, OtherConnectionsStay, ResponsesNameSessions};
+ghost use Rattle.sessions.specs.Agreement.{SessionsAreApart, AgreementIsKept, NewIdsAreNew, EndedSessionsAreRefused, OtherConnectionsStay, ResponsesNameSessions};
 
-/// Sessions and connections agree from the start on. Where they do, no two connections have one session, and the
-/// response to a connect tells whether the connection has a session now.
+/// Sessions and connections agree from the start on. Where they do, no two connections have one session. The response
+/// to a connect tells whether the connection has a session now.
 pub fn sessions_and_connections_agree()
     ensures kept { AgreementIsKept }
     ensures apart { SessionsAreApart }
@@ -16,7 +16,8 @@ pub fn others_stay()
     ensures { OtherConnectionsStay }
 {}
 
-/// A session that has ended is never valid again: no id is given twice.
-pub fn ended_sessions_stay_ended()
-    ensures { EndedSessionsStayEnded }
+/// A session that has ended is never valid again: the tree doesn't have it, and no id is given out twice.
+pub fn ended_sessions_are_refused()
+    ensures refused { EndedSessionsAreRefused }
+    ensures new { NewIdsAreNew }
 {}

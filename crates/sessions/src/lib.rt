@@ -1,18 +1,21 @@
-//! Sessions of clients: the sessions that this observer has opened, the connection that has each, and the ids that a
-//! connection has added.
+//! Sessions of clients: the connection that has each session here, and the ids that a connection has added.
 //!
-//! All sessions are guest sessions: this observer opened them, and no other server knows them. The high byte of a
-//! session id is the server id, and the 7 bytes below are a counter from 1 on. The password is computed from the
-//! observer's secret and the session id, so no password is stored. A session outlives its connection: a client that
-//! reconnects with id and password has it again, and an older connection of the session is closed.
+//! Which sessions there are, the leader says, and the data tree has them. A client that asks for a new session is given
+//! an id at once, and the leader is asked to create the session: the high byte of the id is the server id, and the 7
+//! bytes below are a counter from 1 on. The connection has the session when the leader has created it, see
+//! [`Sessions::admit`]. The password is computed from the observer's secret and the session id, so no password is stored.
+//! A session outlives its connection: a client that reconnects with id and password has it again, and an older connection
+//! of the session is closed.
 //!
 //! ```text
 //! let mut sessions = Sessions::new(alloc, server_id, timeouts, secret);
-//! let connected = sessions.connect(alloc, 1, &request)?;      // opens a session, reopens one, or refuses
+//! let named = sessions.connect(alloc, 1, false, &new_session)?;       // an id for a new session, or a refusal
+//! sessions.admit(alloc, 1, named.response.session_id, time_out)?;     // the leader has created it
 //! sessions.auth(alloc, 1, Some("digest"), Some(b"user:password"))?;
-//! sessions.ids(1)                                             // the digest id of the user
-//! sessions.close(1);                                          // the session stays
-//! sessions.expire(id)                                         // the session ends; None, since no connection has it
+//! sessions.ids(1)                                                     // the digest id of the user
+//! sessions.close(1);                                                  // the session stays in the tree
+//! sessions.connect(alloc, 2, true, &reconnect)?;                      // gives it to connection 2, or refuses
+//! sessions.expire(id)                                                 // the session has ended; Some(2)
 //! ```
 //!
 //! Whether a client may connect at all is judged by the caller before `connect`: clients have to be served, and the
@@ -21,11 +24,11 @@
 
 mod connections;
 mod credentials;
-mod guests;
 mod law;
+mod owners;
 mod request;
 mod table;
 
-pub use law::{ended_sessions_stay_ended, others_stay, sessions_and_connections_agree};
+pub use law::{ended_sessions_are_refused, others_stay, sessions_and_connections_agree};
 pub use request::{Connected, PASSWORD_LEN, SessionRequest, SessionResponse};
-pub use table::{IDS_LIMIT, Sessions};
+pub use table::{AUTH_LIMIT, IDS_LIMIT, Sessions};

@@ -1,17 +1,19 @@
-//! Sessions, and the connections that have them.
+//! The connections that have sessions.
 //!
-//! Laws that go over this: `Agreeing`, `Ended`, `Kept`, `Others`.
+//! Laws that go over this: `Agreeing`, `Kept`, `NewIds`, `Others`.
 
-ghost use Rattle.std.specs.Prelude.{◌≡◌, OnErr, IfOk, IfNone, IsTrue, None, nat_lt, length};
+ghost use Rattle.std.specs.Prelude.{◌≡◌, ◌≤◌, OnErr, IfOk, IfNone, None, nat_lt, length};
 ghost use Rattle.std.specs.Option.{option_copied};
+ghost use Rattle.std.specs.List.{All};
 ghost use Rattle.std.specs.FinMap as finmap;
+ghost use Rattle.jute.specs.Owned.{id_format};
 ghost use Rattle.sessions.specs.State.{session_settings_of};
-ghost use Rattle.sessions.specs.Sessions.{no_sessions, session_of_connection, ids_of, close_connection, expire_guest, clamped_timeout, session_response, is_valid, open_new, reopen_session, connect_session, refusal_response, add_id, digest_text, add_auth, ids_limit};
+ghost use Rattle.sessions.specs.Sessions.{no_sessions, session_of_connection, connection_of, ids_of, close_connection, expire_owner, clamped_timeout, session_response, is_valid, give_session, name_session, connect_session, refusal_response, add_id, digest_text, add_auth, ids_limit};
 ghost use Rattle.sessions.specs.Agreement.{SessionsAgree};
 
 use crate::connections::Connections;
 use crate::credentials::{COUNTERS, digest_id, password, session_id};
-use crate::guests::Guests;
+use crate::owners::Owners;
 use crate::request::{Connected, PASSWORD_LEN, SessionRequest, SessionResponse};
 use jute::Id;
 use settings::{Secret, ServerId, TimeoutBounds};
@@ -22,15 +24,19 @@ use values::NoMemory;
 /// The most ids that a connection may add.
 pub const IDS_LIMIT: usize = 1024;
 
-/// The guest sessions of an observer, and for each connection its session and its ids.
+/// The most bytes of a text that an id is made of. A client's frame is shorter.
+pub const AUTH_LIMIT: usize = 1_048_576;
+
+/// The sessions that an observer's connections have: for each session its connection, and for each connection its session
+/// and its ids.
 #[derive(Drop)]
 pub struct Sessions {
     server_id: ServerId,
     timeouts: TimeoutBounds,
     secret: Secret,
-    // The number of sessions opened so far.
+    // The number of session ids given out so far.
     counter: u64,
-    guests: Guests,
+    owners: Owners,
     connections: Connections,
 }
 
@@ -42,11 +48,11 @@ impl Model for Sessions {
 
     ghost coded = { session_table_code };
 
-    ghost view = { λ s. session_table_of (session_settings_of s.server_id s.timeouts s.secret) s.counter s.guests
+    ghost view = { λ s. session_table_of (session_settings_of s.server_id s.timeouts s.secret) s.counter s.owners
         s.connections };
 
     ghost invariant = { λ s. SessionsAgree (session_table_of (session_settings_of s.server_id s.timeouts s.secret)
-        s.counter s.guests s.connections) };
+        s.counter s.owners s.connections) };
 }
 
 // The timeout, in milliseconds, moved into the bounds.
@@ -75,7 +81,8 @@ fn refused_connect() -> Connected
     }
 }
 
-// The text of the scheme "digest"; None for any other scheme and for bytes that aren't UTF-8.
+// The text of the scheme "digest"; None for any other scheme, for more than `AUTH_LIMIT` bytes, and for bytes that aren't
+// UTF-8.
 fn digest_text<'a>(scheme: Option<&str>, bytes: Option<&'a [u8]>) -> Option<&'a str>
     ensures { let given = option_copied scheme.entry in
         option_copied result ≡ digest_text given (option_copied bytes.entry) }
@@ -87,6 +94,9 @@ fn digest_text<'a>(scheme: Option<&str>, bytes: Option<&'a [u8]>) -> Option<&'a 
         return None;
     };
     if scheme != "digest" {
+        return None;
+    }
+    if AUTH_LIMIT < bytes.len() {
         return None;
     }
     match str::from_utf8(bytes) {
@@ -119,7 +129,7 @@ impl Sessions {
             timeouts,
             secret,
             counter: 0,
-            guests: Guests::new(alloc),
+            owners: Owners::new(alloc),
             connections: Connections::new(alloc),
         }
     }
@@ -136,6 +146,14 @@ impl Sessions {
         }
     }
 
+    /// The connection that has the session now, if there is one.
+    pub fn connection(&self, session: i64) -> Option<u64>
+        ensures connection { result ≡ connection_of self.now session }
+        ensures agrees { SessionsAgree self.now }
+    {
+        self.owners.get(session)
+    }
+
     /// The number of connections that have a session.
     pub fn count(&self) -> usize
         ensures { result ≡ finmap.len self.now.connections }
@@ -143,9 +161,12 @@ impl Sessions {
         self.connections.count()
     }
 
-    /// The ids of the connection, in the order in which they were added.
+    /// The ids of the connection, in the order in which they were added: at most `IDS_LIMIT`, and each can be written in
+    /// a packet.
     pub fn ids(&self, connection: u64) -> &[Id]
-        ensures { result.now ≡ ids_of self.now connection }
+        ensures ids { result.now ≡ ids_of self.now connection }
+        ensures few { length result.now ≤ ids_limit }
+        ensures writable { All id_format.Writable result.now }
     {
         match self.connections.get(connection) {
             None => &[],
@@ -153,7 +174,7 @@ impl Sessions {
         }
     }
 
-    // The response to a client that has the session from now on.
+    // The response to a client that gets the session.
     fn response_for(&self, session: i64, time_out: i32) -> SessionResponse
         ensures { result ≡ session_response self.now.terms session time_out }
     {
@@ -164,44 +185,28 @@ impl Sessions {
         }
     }
 
-    fn open_new(
-        &mut self,
-        alloc: Global,
-        connection: u64,
-        time_out: i32,
-    ) -> Result<Connected, NoMemory>
-        requires { finmap.get self.old.connections connection ≡ None }
-        ensures ok { IfOk result (λ connected. open_new self.old connection time_out
-            ≡ record { connected = connected; after = self.new }) }
-        ensures err { OnErr result (self.new ≡ self.old) }
+    // The response to a client that asks for a new session: its id has the next counter.
+    fn name_session(&mut self, time_out: i32) -> Connected
+        ensures { name_session self.old time_out ≡ record { connected = result; after = self.new } }
     {
         if self.counter == COUNTERS - 1 {
-            return Ok(refused_connect());
+            return refused_connect();
         }
         let counter = self.counter + 1;
         let session = session_id(self.server_id, counter);
         let response = self.response_for(session, time_out);
-        self.connections.add(alloc, connection, session)?;
-        match self.guests.add(session, connection) {
-            Err(e) => {
-                self.connections.close(connection);
-                return Err(e);
-            }
-            Ok(()) => {
-                self.counter = counter;
-                Ok(Connected {
-                    response,
-                    older: None,
-                })
-            }
+        self.counter = counter;
+        Connected {
+            response,
+            older: None,
         }
     }
 
-    // Whether the session is a guest session, and the password is its own.
-    fn is_valid(&self, request: &SessionRequest<'_>) -> bool
-        ensures { result ≡ is_valid self.now request.now }
+    // Whether the session lives, and the password is its own.
+    fn is_valid(&self, lives: bool, request: &SessionRequest<'_>) -> bool
+        ensures { result ≡ is_valid self.now lives request.now }
     {
-        if !self.guests.contains(request.session_id) {
+        if !lives {
             return false;
         }
         match &request.password {
@@ -212,52 +217,65 @@ impl Sessions {
         }
     }
 
-    // Gives the session to this connection and takes it from an older one.
-    fn reopen(
+    /// Gives a session that the leader has created to a connection that has none, and takes it from an older connection.
+    /// A refused allocation changes nothing.
+    pub fn admit(
         &mut self,
         alloc: Global,
         connection: u64,
-        request: &SessionRequest<'_>,
+        session: i64,
+        time_out: i32,
     ) -> Result<Connected, NoMemory>
-        requires known { IsTrue (finmap.contains_key self.old.guests request.now.session_id) }
-        requires free { finmap.get self.old.connections connection ≡ None }
-        ensures ok { IfOk result (λ connected. reopen_session self.old connection request.now
+        requires { finmap.get self.old.connections connection ≡ None }
+        ensures ok { IfOk result (λ connected. give_session self.old connection session time_out
             ≡ record { connected = connected; after = self.new }) }
         ensures err { OnErr result (self.new ≡ self.old) }
     {
-        let response = self.response_for(request.session_id, request.time_out);
-        self.connections.add(alloc, connection, request.session_id)?;
-        let older = self.guests.replace(request.session_id, Some(connection));
-        if let Some(older) = older {
-            self.connections.close(older);
+        let response = self.response_for(session, time_out);
+        let older = self.owners.get(session);
+        self.connections.add(alloc, connection, session)?;
+        match self.owners.set(session, connection) {
+            Err(e) => {
+                self.connections.close(connection);
+                return Err(e);
+            }
+            Ok(()) => {
+                if let Some(older) = older {
+                    self.connections.close(older);
+                }
+                Ok(Connected { response, older })
+            }
         }
-        Ok(Connected { response, older })
     }
 
-    /// Gives a connection that has no session a new one, or the one that the request names. A refusal is a response
-    /// with all fields 0. A refused allocation changes nothing.
+    /// Answers the connect of a connection that has no session. A request for a new session is given an id, and the
+    /// connection has the session when the leader has created it, see `admit`. Of any other session the connection gets
+    /// the one that it names, if that lives and the password is its own. `lives` says whether the tree has it. A refusal is
+    /// a response with all fields 0. A refused allocation changes nothing.
     pub fn connect(
         &mut self,
         alloc: Global,
         connection: u64,
+        lives: bool,
         request: &SessionRequest<'_>,
     ) -> Result<Connected, NoMemory>
         requires { finmap.get self.old.connections connection ≡ None }
-        ensures ok { IfOk result (λ connected. connect_session self.old connection request.now
+        ensures ok { IfOk result (λ connected. connect_session self.old connection lives request.now
             ≡ record { connected = connected; after = self.new }) }
         ensures err { OnErr result (self.new ≡ self.old) }
     {
         if request.session_id == 0 {
-            return self.open_new(alloc, connection, request.time_out);
+            return Ok(self.name_session(request.time_out));
         }
-        if !self.is_valid(request) {
+        if !self.is_valid(lives, request) {
             return Ok(refused_connect());
         }
-        self.reopen(alloc, connection, request)
+        self.admit(alloc, connection, request.session_id, request.time_out)
     }
 
     // Adds an id.
     fn show(&mut self, connection: u64, id: Id) -> Result<bool, NoMemory>
+        requires { id_format.Writable id }
         ensures ok { IfOk result (λ is_accepted. add_id self.old connection id
             ≡ record { is_accepted = is_accepted; after = self.new }) }
         ensures err { OnErr result (self.new ≡ self.old) }
@@ -276,8 +294,8 @@ impl Sessions {
     }
 
     /// Adds the digest id of the bytes "user:password" to a connection. Returns false if that is refused: the scheme
-    /// isn't "digest", the bytes are null or not UTF-8, the connection has `IDS_LIMIT` ids already, or it has no
-    /// session.
+    /// isn't "digest", the bytes are null, not UTF-8 or more than `AUTH_LIMIT`, the connection has `IDS_LIMIT` ids
+    /// already, or it has no session.
     pub fn auth(
         &mut self,
         alloc: Global,
@@ -297,27 +315,25 @@ impl Sessions {
         self.show(connection, digest_id(alloc, text)?)
     }
 
-    /// Drops a connection and its ids. Its session stays.
+    /// Drops a connection and its ids. No connection has its session here then, and the tree keeps it.
     pub fn close(&mut self, connection: u64)
         ensures { self.new ≡ close_connection self.old connection }
     {
         match self.connections.take(connection) {
             None => return,
             Some(connection) => {
-                self.guests.replace(connection.session(), None);
+                self.owners.remove(connection.session());
             }
         }
     }
 
-    /// Ends a guest session and drops its connection, which is returned for the caller to close. An id that isn't a
-    /// session's does nothing.
+    /// A session has ended: drops the connection that has it, which is returned for the caller to close.
     pub fn expire(&mut self, session: i64) -> Option<u64>
-        ensures { expire_guest self.old session ≡ record { closed = result; after = self.new } }
+        ensures { expire_owner self.old session ≡ record { closed = result; after = self.new } }
     {
-        match self.guests.remove(session) {
+        match self.owners.remove(session) {
             None => return None,
-            Some(None) => return None,
-            Some(Some(connection)) => {
+            Some(connection) => {
                 self.connections.close(connection);
                 Some(connection)
             }

@@ -25,7 +25,22 @@ fn text_of(alloc: Global, connected: &Connected) -> Result<String, Fail> {
     }
 }
 
-// The response to a connect with these fields; nothing if the connection has a session.
+// The response to a connect with these fields, where the tree has the session or not; nothing if the connection has a
+// session.
+fn connect_to(
+    alloc: Global,
+    sessions: &mut Sessions,
+    connection: u64,
+    lives: bool,
+    request: &SessionRequest<'_>,
+) -> Result<String, Fail> {
+    match sessions.session(connection) {
+        Some(_) => Ok(String::new(alloc)),
+        None => text_of(alloc, &sessions.connect(alloc, connection, lives, request)?),
+    }
+}
+
+// The response to a connect to a session that lives.
 fn connect(
     alloc: Global,
     sessions: &mut Sessions,
@@ -43,15 +58,25 @@ fn connect(
         session_id,
         password,
     };
-    match sessions.session(connection) {
-        Some(_) => Ok(String::new(alloc)),
-        None => text_of(alloc, &sessions.connect(alloc, connection, &request)?),
-    }
+    connect_to(alloc, sessions, connection, true, &request)
 }
 
-// Connects a connection to a new session.
-fn open(alloc: Global, sessions: &mut Sessions, connection: u64) -> Result<String, Fail> {
+// The response to a connection that asks for a new session.
+fn ask_for_new(alloc: Global, sessions: &mut Sessions, connection: u64) -> Result<String, Fail> {
     connect(alloc, sessions, connection, 10_000, 0, Some(&[0; 16]))
+}
+
+// The response to a connection whose session the leader has created; nothing if it has a session.
+fn admit(
+    alloc: Global,
+    sessions: &mut Sessions,
+    connection: u64,
+    session: i64,
+) -> Result<String, Fail> {
+    match sessions.session(connection) {
+        Some(_) => Ok(String::new(alloc)),
+        None => text_of(alloc, &sessions.admit(alloc, connection, session, 10_000)?),
+    }
 }
 
 // The last bytes of the sessions of connections 1, 2 and 3, as hexadecimal digits; 00 if there is none.
@@ -67,16 +92,16 @@ fn seats(alloc: Global, sessions: &Sessions) -> Result<String, Fail> {
 // Two sessions on connections 1 and 2 of server 3.
 fn two_sessions(alloc: Global) -> Result<Sessions, Fail> {
     let mut sessions = sessions_of(alloc, 3)?;
-    open(alloc, &mut sessions, 1)?;
-    open(alloc, &mut sessions, 2)?;
+    admit(alloc, &mut sessions, 1, FIRST)?;
+    admit(alloc, &mut sessions, 2, SECOND)?;
     Ok(sessions)
 }
 
-// The responses to two connections of a server, and the sessions of the connections afterwards.
+// The responses to two connections of a server that ask for new sessions, and the sessions of the connections afterwards.
 fn first_two(alloc: Global, server_id: i32) -> Result<String, Fail> {
     let mut sessions = sessions_of(alloc, server_id)?;
-    let mut text = open(alloc, &mut sessions, 1)?;
-    text.push_str(open(alloc, &mut sessions, 2)?.as_str())?;
+    let mut text = ask_for_new(alloc, &mut sessions, 1)?;
+    text.push_str(ask_for_new(alloc, &mut sessions, 2)?.as_str())?;
     text.push_str(seats(alloc, &sessions)?.as_str())?;
     Ok(text)
 }
@@ -88,12 +113,12 @@ fn new_sessions_count_up(rt: HostRuntime) -> Result<(), Fail> {
         (
             3,
             "10000 0300000000000001 9ac2a1548d95bd052e02843fc87606f6 -;\
-                10000 0300000000000002 02e2a86c10104a0091022fc3f8030f6a -;010200",
+                10000 0300000000000002 02e2a86c10104a0091022fc3f8030f6a -;000000",
         ),
         (
             200,
             "10000 c800000000000001 9e03e5eed98fb3e3bb143d98810ae35a -;\
-                10000 c800000000000002 650d62e3a8083a79fbdc159f70dcbd93 -;010200",
+                10000 c800000000000002 650d62e3a8083a79fbdc159f70dcbd93 -;000000",
         ),
     ] {
         assert_eq!(rt; first_two(alloc, server_id)?.as_str(), expected);
@@ -101,10 +126,32 @@ fn new_sessions_count_up(rt: HostRuntime) -> Result<(), Fail> {
     Ok(())
 }
 
-// The response to a session's first connection that asks for this timeout.
+// The response to a connection that asks for a new session with this timeout.
 fn timed(alloc: Global, time_out: i32) -> Result<String, Fail> {
     let mut sessions = sessions_of(alloc, 3)?;
     connect(alloc, &mut sessions, 1, time_out, 0, None)
+}
+
+// The responses to two connections for which the leader has created sessions, and to a third that gets the first one's.
+// Then the sessions of the connections.
+fn admitted(alloc: Global) -> Result<String, Fail> {
+    let mut sessions = sessions_of(alloc, 3)?;
+    let mut text = admit(alloc, &mut sessions, 1, FIRST)?;
+    text.push_str(admit(alloc, &mut sessions, 2, SECOND)?.as_str())?;
+    text.push_str(admit(alloc, &mut sessions, 3, FIRST)?.as_str())?;
+    text.push_str(seats(alloc, &sessions)?.as_str())?;
+    Ok(text)
+}
+
+#[test]
+fn a_created_session_is_given(rt: HostRuntime) -> Result<(), Fail> {
+    assert_eq!(rt;
+        admitted(rt.alloc())?.as_str(),
+        "10000 0300000000000001 9ac2a1548d95bd052e02843fc87606f6 -;\
+            10000 0300000000000002 02e2a86c10104a0091022fc3f8030f6a -;\
+            10000 0300000000000001 9ac2a1548d95bd052e02843fc87606f6 1;000201",
+    );
+    Ok(())
 }
 
 #[test]
@@ -198,6 +245,26 @@ fn closed(alloc: Global) -> Result<String, Fail> {
     ask_for_first(alloc, &mut sessions)
 }
 
+// The connection of a session; 0 if there is none.
+fn owner(sessions: &Sessions, session: i64) -> u64 {
+    sessions.connection(session).unwrap_or(0)
+}
+
+// The connection of the first session, and when it has closed, those of the first, the second and an unknown session.
+fn owners(alloc: Global) -> Result<[u64; 4], Fail> {
+    let mut sessions = two_sessions(alloc)?;
+    let first = owner(&sessions, FIRST);
+    close(&mut sessions, 1);
+    let second = owner(&sessions, SECOND);
+    Ok([first, owner(&sessions, FIRST), second, owner(&sessions, 5)])
+}
+
+#[test]
+fn a_session_has_one_connection_at_most(rt: HostRuntime) -> Result<(), Fail> {
+    assert_eq!(rt; owners(rt.alloc())?, [1, 0, 2, 0]);
+    Ok(())
+}
+
 // The connections that are closed when an unknown session ends, then the first one, and then the first one again.
 fn ended(alloc: Global) -> Result<[u64; 3], Fail> {
     let mut sessions = two_sessions(alloc)?;
@@ -206,18 +273,24 @@ fn ended(alloc: Global) -> Result<[u64; 3], Fail> {
     Ok([nobody, first, expire(&mut sessions, FIRST)])
 }
 
-// The first session ends, and connection 3 asks for it.
+// The first session ends, and connection 3 asks for it, which the tree doesn't have.
 fn asked_after_its_end(alloc: Global) -> Result<String, Fail> {
     let mut sessions = two_sessions(alloc)?;
     expire(&mut sessions, FIRST);
-    ask_for_first(alloc, &mut sessions)
+    let request = SessionRequest {
+        time_out: 10_000,
+        session_id: FIRST,
+        password: Some(Bytes::new(FIRST_PASSWORD)),
+    };
+    connect_to(alloc, &mut sessions, 3, false, &request)
 }
 
-// The first session ends, and connection 1 opens another.
-fn opened_after_an_end(alloc: Global) -> Result<String, Fail> {
-    let mut sessions = two_sessions(alloc)?;
+// Connection 1 asks for a new session, which ends before the connection has it, and then for another.
+fn asked_again_after_an_end(alloc: Global) -> Result<String, Fail> {
+    let mut sessions = sessions_of(alloc, 3)?;
+    ask_for_new(alloc, &mut sessions, 1)?;
     expire(&mut sessions, FIRST);
-    open(alloc, &mut sessions, 1)
+    ask_for_new(alloc, &mut sessions, 1)
 }
 
 #[test]
@@ -239,8 +312,8 @@ fn an_ended_session_is_nobodys(rt: HostRuntime) -> Result<(), Fail> {
         "0 0000000000000000 00000000000000000000000000000000 -;",
     );
     assert_eq!(rt;
-        opened_after_an_end(alloc)?.as_str(),
-        "10000 0300000000000003 cc476282f369d07105b62a2b1c74380e -;",
+        asked_again_after_an_end(alloc)?.as_str(),
+        "10000 0300000000000002 02e2a86c10104a0091022fc3f8030f6a -;",
     );
     Ok(())
 }

@@ -1,22 +1,17 @@
 //! The ids of connections. Digests were made by another SHA-1 and base64.
 
 use crate::sessions_of;
-use sessions::{SessionRequest, Sessions};
+use sessions::{AUTH_LIMIT, Sessions};
 use std::alloc::Global;
 use std::test::Fail;
 
 // Gives connection 1 of server 3 a session.
 fn opened(alloc: Global) -> Result<Sessions, Fail> {
     let mut sessions = sessions_of(alloc, 3)?;
-    let request = SessionRequest {
-        time_out: 10_000,
-        session_id: 0,
-        password: None,
-    };
     match sessions.session(1) {
         Some(_) => Ok(sessions),
         None => {
-            sessions.connect(alloc, 1, &request)?;
+            sessions.admit(alloc, 1, 0x0300_0000_0000_0001, 10_000)?;
             Ok(sessions)
         }
     }
@@ -116,6 +111,22 @@ fn users(alloc: Global, count: u32) -> Result<(u32, bool), Fail> {
 fn a_connection_shows_1024_ids(rt: HostRuntime) -> Result<(), Fail> {
     let alloc = rt.alloc();
     assert_eq!(rt; users(alloc, 1025)?, (1024, true));
+    Ok(())
+}
+
+// How connection 1 is answered that adds the user of a text of this many bytes, and how many ids it has then.
+fn user_of_len(alloc: Global, len: usize) -> Result<(bool, usize), Fail> {
+    let mut sessions = opened(alloc)?;
+    let text = vec![in alloc; b'u'; len]?;
+    let is_accepted = auth(alloc, &mut sessions, Some("digest"), Some(text.as_slice()))?;
+    Ok((is_accepted, sessions.ids(1).len()))
+}
+
+#[test]
+fn a_long_text_is_refused(rt: HostRuntime) -> Result<(), Fail> {
+    let alloc = rt.alloc();
+    assert_eq!(rt; user_of_len(alloc, AUTH_LIMIT)?, (true, 1));
+    assert_eq!(rt; user_of_len(alloc, AUTH_LIMIT + 1)?, (false, 0));
     Ok(())
 }
 

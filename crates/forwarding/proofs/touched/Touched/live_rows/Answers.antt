@@ -13,34 +13,36 @@ use Rattle.forwarding.proofs.touched.Touched.live_rows.Goals as goal
 
 pub loop-session-preserved-in-Continue-1 : goal.loop-session-preserved-in-Continue-1
 loop-session-preserved-in-Continue-1 c =
-    let timeouts = finmap.from_entries {R = int_cmp} c.args.timeouts.now.entries in
+    let timeouts = c.args.timeouts.now in
     let fits_session : SFits w64 c.in-Some.session.now = search rules in
-    let fits_timeout : SFits w32 c.in-Some-get.timeout.now = search rules in
-    let at : finmap.get (finmap.from_entries {R = int_cmp} c.args.timeouts.now.entries) c.in-Some.session.now
-    ≡ Some c.in-Some-get.timeout.now =
-    get-seen int_cmp_total exact_signed c.args.timeouts.now c.in-Some.session.now ∙ sym c.in-Some-get.ensures.value in
+    let fits_timeout : SFits w32 c.in-Some-get.timeout = search rules in
+    let at : finmap.get c.args.timeouts.now c.in-Some.session.now ≡ Some c.in-Some-get.timeout =
+    ap (λ x. finmap.get c.args.timeouts.now x) (sym (to_z-of_z w64 c.in-Some.session.now fits_session))
+    ∙ sym c.in-Some-get.ensures in
     ap (λ (rows : List (ℤ × ℤ)). rows ++ live_rows timeouts c.next.new.self)
     (c.in_ok-push.ensures.items
     ∙ (λ i. c.loop-session.rows.items ++ (
       to_z-of_z w64 c.in-Some.session.now fits_session i,
-      to_z-of_z w32 c.in-Some-get.timeout.now fits_timeout i,
+      to_z-of_z w32 c.in-Some-get.timeout fits_timeout i,
     ) ∷ []))
-    ∙ lives timeouts c.loop-session.rows.items c.in-Some.session.now c.in-Some-get.timeout.now c.next.new.self at
+    ∙ lives timeouts c.loop-session.rows.items c.in-Some.session.now c.in-Some-get.timeout c.next.new.self at
     ∙ ap (λ ks. c.loop-session.rows.items ++ live_rows timeouts ks) (sym c.in-Some.ensures.steps)
     ∙ c.loop-session.invariant
 
 pub loop-session-preserved : goal.loop-session-preserved
 loop-session-preserved c =
-    let timeouts = finmap.from_entries {R = int_cmp} c.args.timeouts.now.entries in
-    let at : finmap.get (finmap.from_entries {R = int_cmp} c.args.timeouts.now.entries) c.in-Some.session.now ≡ None =
-    get-seen int_cmp_total exact_signed c.args.timeouts.now c.in-Some.session.now ∙ sym c.in_default.ensures.value in
+    let timeouts = c.args.timeouts.now in
+    let fits_session : SFits w64 c.in-Some.session.now = search rules in
+    let at : finmap.get c.args.timeouts.now c.in-Some.session.now ≡ None =
+    ap (λ x. finmap.get c.args.timeouts.now x) (sym (to_z-of_z w64 c.in-Some.session.now fits_session))
+    ∙ sym c.in_default.ensures in
     ended timeouts c.loop-session.rows.items c.in-Some.session.now c.next.new.self at
     ∙ ap (λ ks. c.loop-session.rows.items ++ live_rows timeouts ks) (sym c.in-Some.ensures.steps)
     ∙ c.loop-session.invariant
 
 pub returns : goal.returns
 returns c =
-    let timeouts = finmap.from_entries {R = int_cmp} c.args.timeouts.now.entries in
+    let timeouts = c.args.timeouts.now in
     sym (append-nil c.loop-session.rows.items)
     ∙ ap (λ ks. c.loop-session.rows.items ++ live_rows timeouts ks) (sym c.in-None.ensures.steps.0)
     ∙ c.loop-session.invariant

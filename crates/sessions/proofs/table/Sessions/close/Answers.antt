@@ -4,7 +4,6 @@ use Rattle.std.specs.FinMap as finmap
 use Rattle.std.specs.Cmp.{nat_cmp_total}
 use Rattle.std.proofs.lemmas.Map.Lookups.{exact_unsigned}
 use Rattle.std.proofs.lemmas.Int.{to_z-of_z}
-use Rattle.sessions.specs.Inner.{with_guest_connection}
 use Rattle.sessions.proofs.Maps.{remove_absent}
 use Rattle.sessions.proofs.Agreeing.{closed, unclosed}
 use Rattle.sessions.proofs.table.Sessions.close.Goals as goal
@@ -27,10 +26,5 @@ invariant_of-self-in-Some c =
     let fits : SFits w64 c.session.result = search rules in
     let session : to_z w64 (of_z w64 c.session.result) ≡ c.in-Some.connection.session =
     to_z-of_z w64 c.session.result fits ∙ c.session.ensures in
-    let known : finmap.get c.self.inside.guests c.in-Some.connection.session ≡ Some (Some c.args.connection) =
-    c.self.invariant.guests c.args.connection c.in-Some.connection here in
-    let given : c.replace.new.self ≡ finmap.insert c.self.inside.guests c.in-Some.connection.session None =
-    c.replace.ensures.new ∙
-    (λ i. with_guest_connection c.self.inside.guests (session i) None (finmap.get c.self.inside.guests (session i)))
-    ∙ ap (with_guest_connection c.self.inside.guests c.in-Some.connection.session None) known in
-    rw (given, c.take.ensures.removed) (closed _ c.args.connection c.in-Some.connection c.self.invariant here)
+    rw (c.remove.ensures.removed ∙ ap (finmap.remove c.self.inside.owners) session, c.take.ensures.removed)
+    (closed _ c.args.connection c.in-Some.connection c.self.invariant here)

@@ -12,4 +12,4 @@ invariant_of-self-2 c =
     let below : length c.in-Some.shown.now.ids < ids_limit =
     grind (arith, c.has_room.ensures, c.if-not-has_room.false, c.ids-2.ensures) in
     rw (c.in_ok-show.ensures.ok ∙ ap (with_shown_id c.self.inside.connections c.args.connection c.args.id) here)
-    (shows _ c.args.connection c.in-Some.shown.now c.args.id c.self.invariant here below)
+    (shows _ c.args.connection c.in-Some.shown.now c.args.id c.self.invariant here below c.requires)

@@ -1,0 +1,20 @@
+use Rattle.std.proofs.Common.{sym, ap, ◌∙◌}
+use Rattle.std.specs.Cmp.{nat_cmp_total}
+use Rattle.std.proofs.lemmas.Map.Lookups.{exact_unsigned}
+use Rattle.std.specs.FinMap as finmap
+use Rattle.forwarding.specs.Queue.{waiting_connect}
+use Rattle.forwarding.specs.Pending.{queue_in}
+use Rattle.forwarding.proofs.Maps.{get-seen}
+use Rattle.forwarding.proofs.queues.Queues.connect.Goals as goal
+
+pub returns-in-None : goal.returns-in-None
+returns-in-None c = ap (λ o. waiting_connect (queue_in o))
+    (c.in-None.ensures.value ∙ sym (get-seen nat_cmp_total exact_unsigned c.self.inside.map c.args.number)
+    ∙ ap (λ m. finmap.get m c.args.number) c.self.view_is)
+
+pub returns-in-Some : goal.returns-in-Some
+returns-in-Some c =
+    c.connect.ensures
+    ∙ ap (λ o. waiting_connect (queue_in o))
+    (c.in-Some.ensures.value ∙ sym (get-seen nat_cmp_total exact_unsigned c.self.inside.map c.args.number)
+    ∙ ap (λ m. finmap.get m c.args.number) c.self.view_is)
