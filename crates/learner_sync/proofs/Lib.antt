@@ -17,3 +17,4 @@ pub mod Acts
 pub mod Each
 -- The packets that are sent.
 pub mod Sending
+pub mod Tables

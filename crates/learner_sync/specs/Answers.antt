@@ -1,6 +1,7 @@
 -- The packets that a learner sends to its leader.
-use Rattle.std.specs.Prelude.{ℕ, ℤ, pos, List, Some, None}
-use Rattle.jute.specs.Format.{int}
+use Rattle.std.specs.Prelude.{ℕ, ℤ, pos, negsuc, List, [], ◌∷◌, ◌++◌, Some, None}
+use Rattle.jute.specs.Format.{int, long}
+use Rattle.jute.specs.declared.owned.Id.{Id}
 use Rattle.quorum_packet.specs.declared.packet.QuorumPacket.{QuorumPacket}
 use Rattle.quorum_packet.specs.declared.kind.PacketKind.TheVariants as kinds
 use Rattle.quorum_packet.specs.Kinds.{code_of}
@@ -41,3 +42,35 @@ epoch_ack l = record {
 -- A PING is sent back with a table of sessions in place of its data.
 abbrev pub ping_reply : QuorumPacket → List ℕ → QuorumPacket
 ping_reply p table = record p { bytes = Some table }
+
+-- ---- requests that are forwarded
+
+-- The type of a request for a session, and of its transaction.
+abbrev pub create_session : ℤ
+create_session = negsuc 9
+
+-- A client's request: its session, its frame as it came, and the ids that it has shown.
+abbrev pub request_of : ℤ → List ℕ → List Id → QuorumPacket
+request_of session frame ids = record {
+  kind = code_of kinds.Request;
+  zxid = negsuc 0;
+  bytes = Some (long.written session ++ frame);
+  authinfo = Some ids;
+}
+
+-- A session is asked for by its id, the xid 0, the type and the timeout.
+abbrev pub session_request : ℤ → ℤ → QuorumPacket
+session_request session time_out = record {
+  kind = code_of kinds.Request;
+  zxid = negsuc 0;
+  bytes = Some
+      (long.written session ++ (int.written (pos 0) ++ (int.written create_session ++ int.written time_out)));
+  authinfo = None;
+}
+
+-- ---- the table of a PING's answer
+
+-- For each row the session's id, and then its timeout.
+abbrev pub session_rows : List (ℤ × ℤ) → List ℕ
+session_rows [] = []
+session_rows (row ∷ rest) = long.written row.0 ++ (int.written row.1 ++ session_rows rest)

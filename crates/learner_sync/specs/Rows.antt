@@ -11,7 +11,8 @@ use Rattle.quorum_packet.specs.Kinds.{code_of}
 use Rattle.txn_codec.specs.declared.txn.Txn.{Txn}
 use Rattle.txn_codec.specs.declared.txn.Body.TheVariants as bodies
 use Rattle.snapshot_codec.specs.declared.part.ImagePart.TheVariants as part
-use Rattle.learner_sync.specs.Answers.{ping_reply}
+use Rattle.quorum_packet.specs.Packet.{packet_format}
+use Rattle.learner_sync.specs.Answers.{ping_reply, request_of, session_request}
 use Rattle.learner_sync.specs.Learner.{Learner, new_learner}
 use Rattle.learner_sync.specs.Learn.{single_act, no_acts, start_following, learn_item, apply_txn}
 use Rattle.learner_sync.specs.declared.act.Act.TheVariants as act
@@ -63,6 +64,10 @@ learner_on_image = learner_in_phase (phase.ReplayOnImage (pos 0)) (zxid_at 5) (z
 
 abbrev pub learner_with_proposals : Learner
 learner_with_proposals = learner_in_phase phase.Replay (pos 0) (pos 0) [] (txn_at 1 ∷ txn_at 2 ∷ [])
+
+-- A client creates /a with "hi" and no ACL: its frame, without the length.
+abbrev pub create_frame : List ℕ
+create_frame = hex_bytes (codes "00000004 00000001 00000002 2f61 00000002 6869 ffffffff 00000000")
 
 pub record WorkedRows : Type 0 where
   pub introduced :
@@ -136,3 +141,14 @@ pub record WorkedRows : Type 0 where
   pub sync_in_replay :
       learn_item (learner_in_phase phase.Replay (zxid_at 2) (pos 0) [] []) (packet_item kinds.Sync (pos 0) None)
       ≡ Ok (no_acts (learner_in_phase phase.Replay (zxid_at 2) (pos 0) [] []))
+  -- The client has shown no id, and one.
+  pub forwarded :
+      packet_format.written (request_of (pos 0x300000000000001) create_frame [])
+      ≡ hex_bytes (codes "00000001 ffffffffffffffff 00000024 0300000000000001 00000004 00000001 00000002 2f61 00000002 6869 ffffffff 00000000 00000000")
+  pub forwarded_with_id :
+      packet_format.written
+      (request_of (pos 0x300000000000001) create_frame (record { scheme = codes "ip"; id = codes "1.2.3.4" } ∷ []))
+      ≡ hex_bytes (codes "00000001 ffffffffffffffff 00000024 0300000000000001 00000004 00000001 00000002 2f61 00000002 6869 ffffffff 00000000 00000001 00000002 6970 00000007 312e322e332e34")
+  pub session_asked_for :
+      packet_format.written (session_request (pos 0x300000000000002) (pos 10000))
+      ≡ hex_bytes (codes "00000001 ffffffffffffffff 00000014 0300000000000002 00000000 fffffff6 00002710 ffffffff")

@@ -2,14 +2,14 @@
 //!
 //! Laws that go over this: `Acts`, `Each`, `Epochs`, `Logs`, `Sending`.
 
-ghost use Rattle.std.specs.Prelude.{◌≡◌, ◌∷◌, [], IfOk};
-ghost use Rattle.learner_sync.specs.Answers.{observer_info, ack_epoch, epoch_ack, ping_reply};
+ghost use Rattle.std.specs.Prelude.{◌≡◌, ◌∷◌, [], ◌*◌, length, IfOk};
+ghost use Rattle.learner_sync.specs.Answers.{observer_info, ack_epoch, epoch_ack, ping_reply, session_rows};
 
 use crate::act::Act;
 use crate::learner::Learner;
 use crate::record::LearnerInfo;
 use crate::zxid::first_zxid;
-use jute::{WriteRecord, put_int};
+use jute::{WriteRecord, put_int, put_long};
 use quorum_packet::{PacketKind, QuorumPacket};
 use settings::ServerId;
 use std::alloc::Global;
@@ -91,4 +91,17 @@ pub fn ping_answer(packet: QuorumPacket, table: Blob) -> QuorumPacket
         bytes: Some(table),
         ..packet
     }
+}
+
+/// The table of sessions in a PING's answer.
+pub fn session_table(alloc: Global, rows: &[(i64, i32)]) -> Result<Blob, NoMemory>
+    ensures table { IfOk result (λ table. table ≡ session_rows rows.now) }
+    ensures length { IfOk result (λ table. length table ≡ 12 * length rows.now) }
+{
+    let mut bytes = Vec::new(alloc);
+    for row in rows {
+        put_long(&mut bytes, row.0)?;
+        put_int(&mut bytes, row.1)?;
+    }
+    Ok(Blob::from_vec(bytes))
 }

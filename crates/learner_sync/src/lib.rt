@@ -26,11 +26,13 @@ mod message;
 mod phase;
 mod record;
 mod replay;
+mod request;
 mod step;
 mod zxid;
 
 pub use act::Act;
-pub use answers::ping_answer;
+pub use answers::{ping_answer, session_table};
 pub use learner::Learner;
 pub use phase::Phase;
 pub use record::LearnerInfo;
+pub use request::{request_of, session_request};

@@ -9,4 +9,6 @@ mod image_rows;
 #[cfg(test)]
 mod replay_rows;
 #[cfg(test)]
+mod request_rows;
+#[cfg(test)]
 mod steps;

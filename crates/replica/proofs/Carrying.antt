@@ -1,5 +1,5 @@
 -- Taking an item: its acts in order, and what a refused item leaves.
-use Rattle.std.proofs.Common.{◌≡◌, List, [], ◌∷◌, ◌++◌, Option, Some, None, Result, Ok, Err, false, refl, sym, ap, subst, ◌∙◌, slice_get, length, ◌-◌, suc, arith, ◌⊎◌, inl, inr}
+use Rattle.std.proofs.Common.{◌≡◌, ℤ, List, [], ◌∷◌, ◌++◌, Option, Some, None, Result, Ok, Err, false, refl, sym, ap, subst, ◌∙◌, slice_get, length, ◌-◌, suc, arith, ◌⊎◌, inl, inr}
 use Rattle.std.specs.Prelude.{IfOk}
 use Rattle.std.specs.List.{AllByRecursion, flat_map}
 use Rattle.values.specs.declared.fault.Fault.{Fault}
@@ -23,9 +23,10 @@ use Rattle.learner_sync.specs.Laws.{is_only_act, AccountsForLog, CanBeDone, Acts
 use Rattle.learner_sync.specs.declared.act.Act.{Act}
 use Rattle.learner_sync.specs.declared.act.Act.TheVariants as act
 use Rattle.replica.specs.Replica.{Replica}
+use Rattle.replica.specs.declared.item_outcome.LeaderNews.{LeaderNews}
 use Rattle.replica.specs.declared.item_outcome.LeaderNews.TheVariants as news
-use Rattle.replica.specs.Taking.{ItemEffect, nothing_loaded, no_effect, last_txn, apply_to_tree, with_image_state, rebuild_tree, carry_out, carry_out_all, with_learner, take_item, packets_of_act, TakesItem, IsAnswerable}
-use Rattle.replica.specs.Inner.{with_triggers, is_part_load, IsPartAlone}
+use Rattle.replica.specs.Taking.{ItemEffect, nothing_loaded, no_effect, last_txn, with_outcome, apply_to_tree, with_image_state, rebuild_tree, carry_out, carry_out_all, with_learner, take_item, packets_of_act, TakesItem, IsAnswerable}
+use Rattle.replica.specs.Inner.{with_told, is_part_load, IsPartAlone}
 use Rattle.replica.specs.declared.item_outcome.ItemOutcome.{ItemOutcome}
 
 -- ---- a part is the only act of its item
@@ -105,13 +106,13 @@ carried-refused t u acts a rest whole first-loading first e is done kept refused
 
 -- ---- the log's last transaction
 
-pub applied-told : (t : ItemEffect) (o : Option Txn) (triggers : List Trigger) (r : Replica)
-    → apply_to_tree (with_triggers t.triggers t.replica) o ≡ with_triggers triggers r
-    → apply_to_tree t o ≡ record t { triggers = triggers; replica = r }
-applied-told t None triggers r e =
-    ap (λ (u : ItemEffect). record t { triggers = u.triggers; replica = u.replica }) e
-applied-told t (Some txn) triggers r e =
-    ap (λ (u : ItemEffect). record t { triggers = u.triggers; replica = u.replica }) e
+pub applied-told : (t : ItemEffect) (o : Option Txn) (triggers : List Trigger) (told : Option LeaderNews) (r : Replica)
+    → apply_to_tree (with_told t.triggers t.news t.replica) o ≡ with_told triggers told r
+    → apply_to_tree t o ≡ record t { triggers = triggers; news = told; replica = r }
+applied-told t None triggers told r e =
+    ap (λ (u : ItemEffect). record t { triggers = u.triggers; news = u.news; replica = u.replica }) e
+applied-told t (Some txn) triggers told r e =
+    ap (λ (u : ItemEffect). record t { triggers = u.triggers; news = u.news; replica = u.replica }) e
 
 last-is : (log : List Txn) (t : Txn) → Some t ≡ slice_get log (length log - 1) → last_txn log ≡ Some t
 last-is [] t e = cc
@@ -121,16 +122,18 @@ last-is (u ∷ v ∷ log) t e =
     last-is (v ∷ log) t (e ∙ ap (slice_get (u ∷ v ∷ log)) at)
 
 -- It was applied to the tree.
-pub applied-last : (r : Replica) (triggers : List Trigger) (log : List Txn) (t : Txn) (tree : State) (outcome : Outcome)
+pub applied-last : (r : Replica) (triggers : List Trigger) (told : Option LeaderNews) (log : List Txn) (t : Txn)
+    (tree : State) (outcome : Outcome) (err : ℤ) → err ≡ outcome.err
     → log ≡ r.learner.log → Some t ≡ slice_get log (length log - 1) → tree ≡ (effect_of_txn r.tree t).state
     → outcome ≡ answer_of (effect_of_txn r.tree t)
-    → apply_to_tree (with_triggers triggers r) (last_txn r.learner.log)
-    ≡ with_triggers outcome.triggers (record r { tree = tree })
-applied-last r triggers log t tree outcome is last state answer =
-    ap (λ (log : List Txn). apply_to_tree (with_triggers triggers r) (last_txn log)) (sym is)
-    ∙ ap (apply_to_tree (with_triggers triggers r)) (last-is log t last)
-    ∙ ap (λ (s : State). with_triggers (effect_of_txn r.tree t).triggers (record r { tree = s })) (sym state)
-    ∙ ap (λ (o : Outcome). with_triggers o.triggers (record r { tree = tree })) (sym answer)
+    → apply_to_tree (with_told triggers told r) (last_txn r.learner.log)
+    ≡ with_outcome (with_told triggers told r) (record outcome { err = err }) tree
+applied-last r triggers told log t tree outcome err same is last state answer =
+    ap (λ (log : List Txn). apply_to_tree (with_told triggers told r) (last_txn log)) (sym is)
+    ∙ ap (apply_to_tree (with_told triggers told r)) (last-is log t last)
+    ∙ ap (with_outcome (with_told triggers told r) (answer_of (effect_of_txn r.tree t))) (sym state)
+    ∙ ap (λ (o : Outcome). with_outcome (with_told triggers told r) o tree) (sym answer)
+    ∙ ap (λ (n : ℤ). with_outcome (with_told triggers told r) (record outcome { err = n }) tree) (sym same)
 
 -- ---- a part that is learnt is the only act of its item
 
@@ -260,7 +263,7 @@ acts-written t (act.Apply ∷ acts) h w =
     by : (o : Option Txn) → ((u : ItemEffect) → (CanBeSent t → CanBeSent u) → Written (carry_out_all u acts))
         → Written (carry_out_all (apply_to_tree t o) acts)
     by None others = others t (λ sent. sent)
-    by (Some txn) others = others (apply_to_tree t (Some txn)) (λ sent. sent)
+    by (Some txn) others = others (apply_to_tree t (Some txn)) (λ sent. (sent.0, tt))
 acts-written t (act.LoadPart p ∷ acts) h w =
     by (with_loaded t.loading p) (λ loaded. acts-written (record t { loading = loaded }) acts h.1 w)
   where

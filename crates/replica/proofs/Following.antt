@@ -127,7 +127,7 @@ module _ (learners : LearnersFollow) (tells : ActsAccountForLog) where
   pub logs-are-followed : LogsAreFollowed
   logs-are-followed = record {
     made = λ epochs. record { tree = refl; learner = learners.made epochs };
-    primed = record { tree = refl; learner = learners.primed };
+    primed = λ session time_out. record { tree = refl; learner = learners.primed };
     takes = λ loading r i t f e. subst Follows e (takes-follow loading r i f);
     begins = λ r server_id f. record {
       tree = f.tree ∙ ap (state_after r.base) (sym (begins-follow r.learner.phase r server_id f));

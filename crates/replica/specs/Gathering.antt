@@ -37,7 +37,7 @@ optional_txn None = []
 optional_txn (Some t) = t ∷ []
 
 -- Whatever the tree is, all that the item does is what the learner learns, and the transaction that the log has gained,
--- if it has gained one.
+-- if it has gained one: `with_outcome` of the transaction's outcome and of the tree after it.
 pub record IsGathered (r : Replica) (i : Item) (learnt : Learner) : Type 0 where
   pub gained : Option Txn
   pub log : learnt.log ≡ r.learner.log ++ optional_txn gained

@@ -1,5 +1,5 @@
 -- The contracts of the private functions.
-use Rattle.std.specs.Prelude.{◌≡◌, Bool, true, false, List, [], ◌∷◌, None, Result, Ok, Err}
+use Rattle.std.specs.Prelude.{◌≡◌, Bool, true, false, List, [], ◌∷◌, Option, Result, Ok, Err}
 use Rattle.std.specs.List.{AllByRecursion}
 use Rattle.values.specs.declared.fault.Fault.{Fault}
 use Rattle.values.specs.declared.fault.ReadError.{ReadError}
@@ -10,12 +10,13 @@ use Rattle.learner_sync.specs.Learn.{LearnerStep}
 use Rattle.learner_sync.specs.declared.act.Act.{Act}
 use Rattle.learner_sync.specs.declared.act.Act.TheVariants as act
 use Rattle.replica.specs.Replica.{Replica}
+use Rattle.replica.specs.declared.item_outcome.LeaderNews.{LeaderNews}
 use Rattle.replica.specs.Taking.{ItemEffect, nothing_loaded, carry_out}
 
--- A replica and the triggers so far.
-abbrev pub with_triggers : List Trigger → Replica → ItemEffect
-with_triggers triggers r =
-    record { replies = []; triggers = triggers; news = None; loading = nothing_loaded; replica = r }
+-- A replica, and the triggers and the news so far.
+abbrev pub with_told : List Trigger → Option LeaderNews → Replica → ItemEffect
+with_told triggers told r =
+    record { replies = []; triggers = triggers; news = told; loading = nothing_loaded; replica = r }
 
 -- The acts, and the replica with the learner after the item; or the replica is as it was.
 abbrev pub UpdatesLearner : Result (List Act) ReadError → Result LearnerStep Fault → Replica → Replica → Type 0

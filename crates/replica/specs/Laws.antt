@@ -29,7 +29,7 @@ pub record FollowsItsLog (r : Replica) : Type 0 where
 -- This holds at the start, and nothing that a leader does ends it.
 pub record LogsAreFollowed : Type 0 where
   pub made : (epochs : EpochPair) → FollowsItsLog (new_replica epochs)
-  pub primed : FollowsItsLog primed_replica
+  pub primed : (session time_out : ℤ) → FollowsItsLog (primed_replica session time_out)
   pub takes : (loading : Loading) (r : Replica) (i : Item) (t : ItemEffect) → FollowsItsLog r
       → take_item loading r i ≡ Ok t
       → FollowsItsLog t.replica

@@ -1,8 +1,9 @@
 -- A tree that follows a leader.
-use Rattle.std.specs.Prelude.{refl}
+use Rattle.std.specs.Prelude.{ℤ, refl}
 use Rattle.std.specs.Coded.{Coded, code_by, coded×}
 use Rattle.settings.specs.Settings.{EpochPair}
 use Rattle.data_tree.specs.State.{State}
+use Rattle.data_tree.specs.Making.{with_session}
 use Rattle.data_tree.specs.Meaning.{fresh_state}
 use Rattle.learner_sync.specs.Learner.{Learner, new_learner, primed_learner}
 
@@ -22,9 +23,9 @@ replica_at l s = record { learner = l; base = s; tree = s }
 abbrev pub new_replica : EpochPair → Replica
 new_replica epochs = replica_at (new_learner epochs) fresh_state
 
--- A replica that serves in epoch 1.
-abbrev pub primed_replica : Replica
-primed_replica = replica_at primed_learner fresh_state
+-- A replica that serves in epoch 1, with one session.
+abbrev pub primed_replica : ℤ → ℤ → Replica
+primed_replica session time_out = replica_at primed_learner (with_session fresh_state session time_out)
 
 -- ---- code
 

@@ -9,7 +9,8 @@ use Rattle.values.specs.declared.fault.ReadError.TheVariants as errors
 use Rattle.jute.specs.Format.{◌>>=◌}
 use Rattle.txn_codec.specs.declared.txn.Txn.{Txn}
 use Rattle.data_tree.specs.State.{State}
-use Rattle.data_tree.specs.Meaning.{effect_of_txn, state_after}
+use Rattle.data_tree.specs.Meaning.{effect_of_txn, answer_of, state_after}
+use Rattle.data_tree.specs.declared.outcome.Outcome.{Outcome}
 use Rattle.data_tree.specs.declared.outcome.Trigger.{Trigger}
 use Rattle.snapshot_codec.specs.Made.{Loading, no_loaded_parts, with_loaded}
 use Rattle.snapshot_codec.specs.declared.part.ImagePart.TheVariants as part
@@ -35,7 +36,7 @@ pub record ItemEffect : Type 0 where
   pub replies : List QuorumPacket
   -- Triggers for the watchers, in order.
   pub triggers : List Trigger
-  -- What the leader asks or tells that concerns more than the replica.
+  -- What concerns more than the replica.
   pub news : Option LeaderNews
   -- The image that is being loaded.
   pub loading : Loading
@@ -55,12 +56,19 @@ last_txn [] = None
 last_txn (t ∷ []) = Some t
 last_txn (t ∷ u ∷ log) = last_txn (u ∷ log)
 
+-- A transaction has this outcome, which is told, and leaves this tree.
+abbrev pub with_outcome : ItemEffect → Outcome → State → ItemEffect
+with_outcome t outcome tree = record t {
+  triggers = outcome.triggers;
+  news = Some (news.Applied outcome.err);
+  replica = record t.replica { tree = tree };
+}
+
 -- A transaction is applied to the tree; an item has one at most.
 abbrev pub apply_to_tree : ItemEffect → Option Txn → ItemEffect
 apply_to_tree t None = t
 apply_to_tree t (Some txn) =
-    let meant = effect_of_txn t.replica.tree txn in
-    record t { triggers = meant.triggers; replica = record t.replica { tree = meant.state } }
+    let meant = effect_of_txn t.replica.tree txn in with_outcome t (answer_of meant) meant.state
 
 -- The image replaces the tree and is the base.
 abbrev pub with_image_state : ItemEffect → State → ItemEffect

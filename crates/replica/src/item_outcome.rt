@@ -4,13 +4,15 @@ use data_tree::Trigger;
 use quorum_packet::QuorumPacket;
 use values::Listed;
 
-/// What the leader asks or tells that concerns more than its replica.
+/// What an item tells that concerns more than the replica.
 #[derive(Debug, Drop)]
 pub enum LeaderNews {
     /// The leader asks whether the observer is alive, and which sessions are. This is its PING.
     Ping(QuorumPacket),
     /// The leader has done the oldest sync that it was asked for.
     SyncSettled,
+    /// A transaction was applied, the last one of the log. This is ZooKeeper's error code of it, 0 for success.
+    Applied(i32),
 }
 
 /// What an item of the leader's stream causes.
@@ -20,6 +22,6 @@ pub struct ItemOutcome {
     pub replies: Listed<QuorumPacket>,
     /// Triggers for the watchers, in order.
     pub triggers: Listed<Trigger>,
-    /// What is left for the caller to answer, if there is anything.
+    /// What it tells besides, if there is anything.
     pub news: Option<LeaderNews>,
 }

@@ -25,7 +25,7 @@ pub fn serving()
     learner_sync::law::serving();
 }
 
-/// An item that brings transactions does nothing but append at most one to the log, and apply it.
+/// An item that brings transactions does nothing but append at most one to the log, apply it, and tell its outcome.
 pub fn gathering()
     ensures { TransactionsAreGathered }
 {}

@@ -46,11 +46,15 @@ impl Replica {
         Replica::fresh(alloc, Learner::new(alloc, epochs))
     }
 
-    /// A replica that serves in epoch 1. Fails only if an allocation is refused.
-    pub fn primed(alloc: Global) -> Result<Replica, NoMemory>
-        ensures { IfOk result (λ r. r ≡ primed_replica) }
+    /// A replica that serves in epoch 1, and whose tree has one session with this timeout in milliseconds. Fails only if
+    /// an allocation is refused.
+    pub fn primed(alloc: Global, session: i64, time_out: i32) -> Result<Replica, NoMemory>
+        ensures { IfOk result (λ r. r ≡ primed_replica session time_out) }
     {
-        Replica::fresh(alloc, Learner::primed(alloc))
+        let mut replica = Replica::fresh(alloc, Learner::primed(alloc))?;
+        replica.base.put_session(session, time_out)?;
+        replica.tree.put_session(session, time_out)?;
+        Ok(replica)
     }
 
     // The tree and the base before any transaction.

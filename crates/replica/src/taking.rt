@@ -9,7 +9,7 @@ ghost use Rattle.quorum_packet.specs.Packet.{packet_format};
 ghost use Rattle.data_tree.specs.Meaning.{state_after};
 ghost use Rattle.learner_sync.specs.Learn.{learn_item};
 ghost use Rattle.replica.specs.Taking.{TakesItem, IsAnswerable, nothing_loaded, no_effect, last_txn, apply_to_tree, carry_out_all, take_item};
-ghost use Rattle.replica.specs.Inner.{with_triggers, UpdatesLearner, CarriesOutAct, IsPartAlone};
+ghost use Rattle.replica.specs.Inner.{with_told, UpdatesLearner, CarriesOutAct, IsPartAlone};
 
 use crate::item_outcome::{ItemOutcome, LeaderNews};
 use crate::replica::Replica;
@@ -28,16 +28,22 @@ impl Replica {
         self.learner.step(alloc, item)
     }
 
-    // Applies the log's last transaction to the tree.
-    fn apply_last(&mut self, alloc: Global, triggers: &mut Listed<Trigger>) -> Result<(), NoMemory>
+    // Applies the log's last transaction to the tree, and tells its error.
+    fn apply_last(
+        &mut self,
+        alloc: Global,
+        triggers: &mut Listed<Trigger>,
+        news: &mut Option<LeaderNews>,
+    ) -> Result<(), NoMemory>
         ensures { OnOk result
-            (apply_to_tree (with_triggers triggers.old self.old) (last_txn self.old.learner.log)
-            ≡ with_triggers triggers.new self.new) }
+            (apply_to_tree (with_told triggers.old news.old self.old) (last_txn self.old.learner.log)
+            ≡ with_told triggers.new news.new self.new) }
     {
         let Some(txn) = self.learner.since_base().last() else {
             return Ok(());
         };
         let outcome = self.tree.apply(alloc, txn)?;
+        *news = Some(LeaderNews::Applied(outcome.err));
         *triggers = outcome.triggers;
         Ok(())
     }
@@ -111,7 +117,7 @@ impl Replica {
                 *news = Some(LeaderNews::SyncSettled);
                 return Ok(());
             }
-            Act::Apply => return Ok(self.apply_last(alloc, triggers)?),
+            Act::Apply => return Ok(self.apply_last(alloc, triggers, news)?),
             Act::LoadPart(part) => return loader.part(alloc, part),
             Act::LoadImage => return Ok(self.load_image(alloc, loader)?),
             Act::DropImage => {
@@ -148,7 +154,7 @@ impl Replica {
     }
 
     /// Takes the next item of the leader's stream, and returns the packets for the leader, the triggers for watchers,
-    /// and what is left for the caller to answer.
+    /// and what else there is to tell.
     ///
     /// The faults are those of `Learner::step`, and `BadImage` if a part doesn't fit those before it. A refused item
     /// leaves the loader and the replica as they were. After a refused allocation both are unspecified, and the caller
@@ -170,8 +176,8 @@ impl Replica {
         if let [Act::Apply] = acts.as_slice() {
             let replies = Listed::from_vec(Vec::new(alloc));
             let mut triggers = Listed::from_vec(Vec::new(alloc));
-            self.apply_last(alloc, &mut triggers)?;
-            let news = None;
+            let mut news = None;
+            self.apply_last(alloc, &mut triggers, &mut news)?;
             return Ok(ItemOutcome {
                 replies,
                 triggers,

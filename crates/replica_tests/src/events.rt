@@ -2,7 +2,7 @@
 
 use jute::{put_int, put_long};
 use quorum_packet::{Item, PacketKind, QuorumPacket};
-use replica::Replica;
+use replica::{LeaderNews, Replica};
 use settings::{Epochs, ServerId};
 use snapshot_codec::{ImagePart, ImageSession, Loader};
 use std::alloc::Global;
@@ -23,6 +23,8 @@ pub enum Event {
     Packet(PacketKind, u32),
     /// An INFORM whose transaction creates this session, with this zxid.
     Session(i64, u32),
+    /// An INFORM whose transaction sets the data of a node that isn't there, with this zxid.
+    Missing(u32),
     /// A part of an image with this session.
     Part(i64),
     /// The end of an image.
@@ -39,8 +41,10 @@ pub enum Start {
 /// The view of a replica after some events.
 #[derive(Drop)]
 pub struct Seen {
-    /// The number of packets sent by each event that wasn't refused, and of things that it leaves to answer.
+    /// The number of packets sent by each event that wasn't refused, and of things that it tells besides.
     pub sent: Vec<usize>,
+    /// The error of each transaction whose application was told.
+    pub errors: Vec<i32>,
     /// The fault of the last event that was refused.
     pub refused: Option<Fault>,
     pub is_serving: bool,
@@ -68,15 +72,28 @@ pub fn packet(kind: PacketKind, zxid: i64, bytes: Option<Blob>) -> Item {
     })
 }
 
-// An INFORM whose transaction creates this session.
-fn session_comes(alloc: Global, session: i64, zxid: i64) -> Result<Item, NoMemory> {
+// The header of a transaction of this session and type.
+fn header(alloc: Global, session: i64, zxid: i64, code: i32) -> Result<Vec<u8>, NoMemory> {
     let mut bytes = Vec::new(alloc);
     put_long(&mut bytes, session)?;
     put_int(&mut bytes, 1)?;
     put_long(&mut bytes, zxid)?;
     put_long(&mut bytes, 1_000)?;
-    put_int(&mut bytes, -10)?;
+    put_int(&mut bytes, code)?;
+    Ok(bytes)
+}
+
+// An INFORM whose transaction creates this session.
+fn session_comes(alloc: Global, session: i64, zxid: i64) -> Result<Item, NoMemory> {
+    let mut bytes = header(alloc, session, zxid, -10)?;
     put_int(&mut bytes, 5_000)?;
+    Ok(packet(PacketKind::Inform, zxid, Some(Blob::from_vec(bytes))))
+}
+
+// An INFORM whose transaction sets the data of "/a" to null at version 1.
+fn data_comes(alloc: Global, zxid: i64) -> Result<Item, NoMemory> {
+    let mut bytes = header(alloc, 7, zxid, 5)?;
+    bytes.extend_from_slice(b"\0\0\0\x02/a\xff\xff\xff\xff\0\0\0\x01")?;
     Ok(packet(PacketKind::Inform, zxid, Some(Blob::from_vec(bytes))))
 }
 
@@ -86,12 +103,13 @@ fn greeting(alloc: Global) -> Result<Item, NoMemory> {
     Ok(packet(PacketKind::LeaderInfo, at(0), Some(version)))
 }
 
-// The number of packets sent for the event, and of things that are left for the caller to answer.
+// The number of packets sent for the event, and of things that it tells besides. Appends the error of a transaction.
 fn happen(
     alloc: Global,
     replica: &mut Replica,
     loader: &mut Loader,
     event: Event,
+    errors: &mut Vec<i32>,
 ) -> Result<usize, ReadError> {
     let item = match event {
         Event::Comes => return Ok(replica.start(alloc, ServerId::default())?.len()),
@@ -106,10 +124,14 @@ fn happen(
         Event::Greets => greeting(alloc)?,
         Event::Packet(kind, counter) => packet(kind, at(counter), None),
         Event::Session(session, counter) => session_comes(alloc, session, at(counter))?,
+        Event::Missing(counter) => data_comes(alloc, at(counter))?,
         Event::Part(id) => Item::Part(ImagePart::Session(ImageSession { id, timeout: 5_000 })),
         Event::End => Item::Part(ImagePart::End),
     };
     let brought = replica.take(alloc, loader, item)?;
+    if let Some(LeaderNews::Applied(err)) = &brought.news {
+        errors.push(*err)?;
+    }
     Ok(brought.replies.len() + usize::from(brought.news.is_some()))
 }
 
@@ -130,9 +152,10 @@ fn play(
     events: &[Event],
 ) -> Result<Seen, NoMemory> {
     let mut sent = Vec::new(alloc);
+    let mut errors = Vec::new(alloc);
     let mut refused = None;
     for event in events {
-        match happen(alloc, replica, loader, *event) {
+        match happen(alloc, replica, loader, *event, &mut errors) {
             Ok(count) => sent.push(count)?,
             Err(ReadError::Fault(fault)) => refused = Some(fault),
             Err(ReadError::NoMemory) => return Err(NoMemory),
@@ -140,6 +163,7 @@ fn play(
     }
     Ok(Seen {
         sent,
+        errors,
         refused,
         is_serving: replica.is_serving(),
         last_zxid: replica.learner().last_zxid(),
@@ -153,7 +177,7 @@ fn play(
 pub fn after(alloc: Global, start: Start, events: &[Event]) -> Result<Seen, NoMemory> {
     let mut replica = match start {
         Start::New => Replica::new(alloc, Epochs::default())?,
-        Start::Primed => Replica::primed(alloc)?,
+        Start::Primed => Replica::primed(alloc, 4, 10_000)?,
     };
     let mut loader = Loader::new(alloc);
     play(alloc, &mut replica, &mut loader, events)

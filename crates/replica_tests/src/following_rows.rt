@@ -37,9 +37,18 @@ fn transactions_are_applied(rt: HostRuntime) -> Result<(), Fail> {
 }
 
 #[test]
+fn the_error_of_a_transaction_is_told(rt: HostRuntime) -> Result<(), Fail> {
+    let twice = [Event::Session(7, 1), Event::Missing(2)];
+    let seen = after(rt.alloc(), Start::Primed, &twice)?;
+    assert!(rt; seen.sent.as_slice() == [1usize, 1].as_slice());
+    assert!(rt; seen.errors.as_slice() == [0i32, -101].as_slice() && seen.logged == 2);
+    Ok(())
+}
+
+#[test]
 fn clients_are_served_when_all_is_there(rt: HostRuntime) -> Result<(), Fail> {
     let served = after(rt.alloc(), Start::New, &SERVED)?;
-    assert!(rt; served.sent.as_slice() == [1usize, 1, 0, 0, 1].as_slice());
+    assert!(rt; served.sent.as_slice() == [1usize, 1, 0, 1, 1].as_slice());
     assert!(rt; served.is_serving && served.last_zxid == at(1));
     Ok(())
 }
@@ -56,7 +65,7 @@ fn what_the_leader_asks_is_handed_on(rt: HostRuntime) -> Result<(), Fail> {
     Ok(())
 }
 
-// A session of the base, and two more.
+// A session of the base, besides the one from the start, and two more.
 const THREE: [Event; 4] = [
     Event::Session(7, 1),
     Event::Checkpoint,
@@ -79,13 +88,13 @@ const TRUNCATED: [Event; 8] = [
 #[test]
 fn a_checkpoint_is_the_base_of_the_log(rt: HostRuntime) -> Result<(), Fail> {
     let three = after(rt.alloc(), Start::Primed, &THREE)?;
-    assert!(rt; three.sessions.as_slice() == [7i64, 8, 9].as_slice() && three.logged == 2);
+    assert!(rt; three.sessions.as_slice() == [4i64, 7, 8, 9].as_slice() && three.logged == 2);
     Ok(())
 }
 
 #[test]
 fn a_truncation_goes_back(rt: HostRuntime) -> Result<(), Fail> {
     let truncated = after(rt.alloc(), Start::Primed, &TRUNCATED)?;
-    assert!(rt; truncated.sessions.as_slice() == [7i64, 8].as_slice() && truncated.logged == 1);
+    assert!(rt; truncated.sessions.as_slice() == [4i64, 7, 8].as_slice() && truncated.logged == 1);
     Ok(())
 }

@@ -99,7 +99,7 @@ fn view(alloc: Global, replica: &mut Replica) -> Result<GatheredView, NoMemory> 
 
 // The view of a primed replica.
 fn gathered(alloc: Global) -> Result<GatheredView, NoMemory> {
-    let mut replica = Replica::primed(alloc)?;
+    let mut replica = Replica::primed(alloc, 4, 10_000)?;
     view(alloc, &mut replica)
 }
 
