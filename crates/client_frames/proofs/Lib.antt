@@ -1,2 +1,4 @@
 -- The length of the answer to a connect.
 mod Lengths
+-- The worked calls, by evaluation.
+pub mod Rows

@@ -18,8 +18,8 @@ connecting_after_request (Err e) = Err e
 abbrev pub connecting_in : List ℕ → Result Connecting Fault
 connecting_in frame = connecting_after_request (connect_request.read frame)
 
-abbrev pub session_request : ConnectRequest → SessionRequest
-session_request r = record { time_out = r.time_out; session_id = r.session_id; password = r.passwd }
+abbrev pub session_request_of : ConnectRequest → SessionRequest
+session_request_of r = record { time_out = r.time_out; session_id = r.session_id; password = r.passwd }
 
 -- The protocol version is 0.
 abbrev pub response_of : SessionResponse → ConnectResponse

@@ -1,2 +1,3 @@
 pub mod Call
 pub mod Connect
+pub mod Rows

@@ -3,32 +3,43 @@
 ghost use Rattle.std.specs.Prelude.{◌≡◌, IfOk};
 ghost use Rattle.jute.specs.Reads.{ReadsOwnedWhole};
 ghost use Rattle.client_records.specs.Kinds.{kind_of};
-ghost use Rattle.client_records.specs.Requests.{auth_packet, set_watches, add_watch};
-ghost use Rattle.client_frames.specs.Call.{value_if_read, body_or_unreadable, body_of_read, call_body, call_in};
+ghost use Rattle.client_records.specs.Requests.{path_alone, auth_packet, set_watches, add_watch};
+ghost use Rattle.client_frames.specs.Call.{value_if_read, call_or_unreadable, call_of_read, sync_of, sync_of_path, call_body, call_in};
 
 use client_records::{
     AddWatch, AuthPacket, PathAlone, PathAndWatch, ReadKind, RequestKind, SetWatches,
 };
+use forwarding::WriteKind;
 use jute::{ReadRecord, Reader, RequestHeader};
-use read_processor::{Request, may_watch};
+use read_processor::{Request, is_readable_path, may_watch};
 use std::alloc::Global;
-use values::{NoMemory, ReadError};
+use values::{NoMemory, ReadError, Str};
+
+/// A request that this server answers from what it has.
+#[derive(Drop)]
+pub enum LocalCall<'a> {
+    Read(Request<'a>),
+    SetWatches(SetWatches<'a>),
+    AddWatch(AddWatch<'a>),
+    /// The body isn't one of the header's type, or is a sync of a path that can't be read.
+    Unreadable,
+    Ping,
+    /// A check or a multi, which isn't forwarded.
+    Refused,
+    /// The header's type is unknown.
+    Unknown,
+}
 
 /// The body of a frame after its header.
 #[derive(Drop)]
 pub enum CallBody<'a> {
-    Read(Request<'a>),
-    SetWatches(SetWatches<'a>),
-    AddWatch(AddWatch<'a>),
-    Auth(AuthPacket<'a>),
-    CloseSession,
-    /// The body isn't one of the header's type.
-    Unreadable,
-    Ping,
-    /// A change or a sync; an observer does neither by itself.
-    Write,
-    /// The header's type is unknown.
-    Unknown,
+    /// A write, for the leader. Its body isn't read.
+    Forward(WriteKind),
+    /// A sync of a path, for the leader.
+    Sync(Str<'a>),
+    /// An auth; `None` if its body can't be read. It is answered at once, whatever waits.
+    Auth(Option<AuthPacket<'a>>),
+    Local(LocalCall<'a>),
 }
 
 /// A frame of a client.
@@ -53,33 +64,23 @@ fn read_or_none<'a, T: ReadRecord<'a>>(
     }
 }
 
-fn read_auth<'a>(alloc: Global, reader: &mut Reader<'a>) -> Result<CallBody<'a>, NoMemory>
+fn read_set_watches<'a>(alloc: Global, reader: &mut Reader<'a>) -> Result<LocalCall<'a>, NoMemory>
     ensures { IfOk result
-        (λ body. body ≡ body_or_unreadable CallBody.Auth (value_if_read (auth_packet.read reader.old))) }
+        (λ call. call ≡ call_or_unreadable LocalCall.SetWatches (value_if_read (set_watches.read reader.old))) }
 {
     match read_or_none(alloc, reader)? {
-        None => Ok(CallBody::Unreadable),
-        Some(packet) => Ok(CallBody::Auth(packet)),
+        None => Ok(LocalCall::Unreadable),
+        Some(asked) => Ok(LocalCall::SetWatches(asked)),
     }
 }
 
-fn read_set_watches<'a>(alloc: Global, reader: &mut Reader<'a>) -> Result<CallBody<'a>, NoMemory>
+fn read_add_watch<'a>(alloc: Global, reader: &mut Reader<'a>) -> Result<LocalCall<'a>, NoMemory>
     ensures { IfOk result
-        (λ body. body ≡ body_or_unreadable CallBody.SetWatches (value_if_read (set_watches.read reader.old))) }
+        (λ call. call ≡ call_or_unreadable LocalCall.AddWatch (value_if_read (add_watch.read reader.old))) }
 {
     match read_or_none(alloc, reader)? {
-        None => Ok(CallBody::Unreadable),
-        Some(asked) => Ok(CallBody::SetWatches(asked)),
-    }
-}
-
-fn read_add_watch<'a>(alloc: Global, reader: &mut Reader<'a>) -> Result<CallBody<'a>, NoMemory>
-    ensures { IfOk result
-        (λ body. body ≡ body_or_unreadable CallBody.AddWatch (value_if_read (add_watch.read reader.old))) }
-{
-    match read_or_none(alloc, reader)? {
-        None => Ok(CallBody::Unreadable),
-        Some(asked) => Ok(CallBody::AddWatch(asked)),
+        None => Ok(LocalCall::Unreadable),
+        Some(asked) => Ok(LocalCall::AddWatch(asked)),
     }
 }
 
@@ -88,24 +89,52 @@ fn read_request<'a>(
     alloc: Global,
     kind: ReadKind,
     reader: &mut Reader<'a>,
-) -> Result<CallBody<'a>, NoMemory>
-    ensures { IfOk result (λ body. body ≡ body_of_read kind reader.old) }
+) -> Result<LocalCall<'a>, NoMemory>
+    ensures { IfOk result (λ call. call ≡ call_of_read kind reader.old) }
 {
     if may_watch(kind) {
         return match read_or_none(alloc, reader)? {
-            None => Ok(CallBody::Unreadable),
+            None => Ok(LocalCall::Unreadable),
             Some(PathAndWatch { path, watch }) => {
-                Ok(CallBody::Read(Request { kind, path, watch }))
+                Ok(LocalCall::Read(Request { kind, path, watch }))
             }
         };
     }
     match read_or_none(alloc, reader)? {
-        None => Ok(CallBody::Unreadable),
+        None => Ok(LocalCall::Unreadable),
         Some(PathAlone { path }) => {
             let watch = false;
-            Ok(CallBody::Read(Request { kind, path, watch }))
+            Ok(LocalCall::Read(Request { kind, path, watch }))
         }
     }
+}
+
+// A sync is forwarded only for a path that a read may have.
+fn sync_of_path<'a>(path: Option<Str<'a>>) -> CallBody<'a>
+    ensures { result ≡ sync_of_path path.entry }
+{
+    let Some(path) = path else {
+        return CallBody::Local(LocalCall::Unreadable);
+    };
+    if !is_readable_path(path.as_str().as_bytes()) {
+        return CallBody::Local(LocalCall::Unreadable);
+    }
+    CallBody::Sync(path)
+}
+
+fn read_sync<'a>(alloc: Global, reader: &mut Reader<'a>) -> Result<CallBody<'a>, NoMemory>
+    ensures { IfOk result (λ body. body ≡ sync_of (value_if_read (path_alone.read reader.old))) }
+{
+    match read_or_none(alloc, reader)? {
+        None => Ok(CallBody::Local(LocalCall::Unreadable)),
+        Some(PathAlone { path }) => Ok(sync_of_path(path)),
+    }
+}
+
+fn read_auth<'a>(alloc: Global, reader: &mut Reader<'a>) -> Result<CallBody<'a>, NoMemory>
+    ensures { IfOk result (λ body. body ≡ CallBody.Auth (value_if_read (auth_packet.read reader.old))) }
+{
+    Ok(CallBody::Auth(read_or_none(alloc, reader)?))
 }
 
 fn read_body<'a>(
@@ -116,22 +145,23 @@ fn read_body<'a>(
     ensures { IfOk result (λ body. body ≡ call_body kind reader.old) }
 {
     let Some(kind) = kind else {
-        return Ok(CallBody::Unknown);
+        return Ok(CallBody::Local(LocalCall::Unknown));
     };
     match kind {
-        RequestKind::Read(kind) => read_request(alloc, kind, reader),
+        RequestKind::Read(kind) => Ok(CallBody::Local(read_request(alloc, kind, reader)?)),
+        RequestKind::SetWatches => Ok(CallBody::Local(read_set_watches(alloc, reader)?)),
+        RequestKind::AddWatch => Ok(CallBody::Local(read_add_watch(alloc, reader)?)),
+        RequestKind::Create => return Ok(CallBody::Forward(WriteKind::Create)),
+        RequestKind::Delete => return Ok(CallBody::Forward(WriteKind::Delete)),
+        RequestKind::SetData => return Ok(CallBody::Forward(WriteKind::SetData)),
+        RequestKind::SetAcl => return Ok(CallBody::Forward(WriteKind::SetAcl)),
+        RequestKind::CloseSession => return Ok(CallBody::Forward(WriteKind::CloseSession)),
+        RequestKind::Sync => read_sync(alloc, reader),
         RequestKind::Auth => read_auth(alloc, reader),
-        RequestKind::SetWatches => read_set_watches(alloc, reader),
-        RequestKind::AddWatch => read_add_watch(alloc, reader),
-        RequestKind::CloseSession => return Ok(CallBody::CloseSession),
-        RequestKind::Ping => return Ok(CallBody::Ping),
-        RequestKind::Create
-        | RequestKind::Delete
-        | RequestKind::SetData
-        | RequestKind::SetAcl
-        | RequestKind::Sync
-        | RequestKind::Check
-        | RequestKind::Multi => return Ok(CallBody::Write),
+        RequestKind::Ping => return Ok(CallBody::Local(LocalCall::Ping)),
+        RequestKind::Check | RequestKind::Multi => {
+            return Ok(CallBody::Local(LocalCall::Refused));
+        }
     }
 }
 

@@ -2,7 +2,7 @@
 
 ghost use Rattle.std.specs.Prelude.{◌≡◌, IfOk, OnOk, length};
 ghost use Rattle.jute.specs.Reads.{ReadsOwnedWhole};
-ghost use Rattle.client_frames.specs.Connect.{connecting_in, session_request, response_of, answer_to_connect};
+ghost use Rattle.client_frames.specs.Connect.{connecting_in, session_request_of, response_of, answer_to_connect};
 
 use client_records::{ConnectRequest, ConnectResponse};
 use jute::{ReadRecord, Reader, WriteRecord, put_frame, put_int};
@@ -35,8 +35,8 @@ pub fn read_connecting<'a>(alloc: Global, frame: &'a [u8]) -> Result<Connecting<
 }
 
 /// The session that the client asks for.
-pub fn session_request<'a>(request: ConnectRequest<'a>) -> SessionRequest<'a>
-    ensures { result ≡ session_request request.entry }
+pub fn session_request_of<'a>(request: ConnectRequest<'a>) -> SessionRequest<'a>
+    ensures { result ≡ session_request_of request.entry }
 {
     SessionRequest {
         time_out: request.time_out,

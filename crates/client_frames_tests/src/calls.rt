@@ -27,24 +27,64 @@ fn others(rt: HostRuntime) {
     let watch = b"\x00\x00\x00\x07\x00\x00\x00\x6a\x00\x00\x00\x02/a\x00\x00\x00\x01";
     assert_eq!(rt; asked(rt.alloc(), watch), "recursive watch");
     assert_eq!(rt;
-        asked(rt.alloc(), b"\x00\x00\x00\x07\xff\xff\xff\xf5"),
-        "closeSession"
-    );
-    assert_eq!(rt;
         asked(rt.alloc(), b"\x00\x00\x00\x07\x00\x00\x00\x0b"),
         "ping"
     );
     assert_eq!(rt;
-        asked(rt.alloc(), b"\x00\x00\x00\x07\x00\x00\x00\x01"),
-        "write"
-    );
-    assert_eq!(rt;
-        asked(rt.alloc(), b"\x00\x00\x00\x07\x00\x00\x00\x09"),
-        "write"
-    );
-    assert_eq!(rt;
         asked(rt.alloc(), b"\x00\x00\x00\x07\x00\x00\x00\x0f"),
         "unknown"
+    );
+}
+
+/// A write is told by its type alone. A check and a multi are no writes.
+#[test]
+fn writes(rt: HostRuntime) {
+    assert_eq!(rt;
+        asked(rt.alloc(), b"\x00\x00\x00\x07\x00\x00\x00\x01"),
+        "create"
+    );
+    assert_eq!(rt;
+        asked(rt.alloc(), b"\x00\x00\x00\x07\x00\x00\x00\x02\xff"),
+        "delete"
+    );
+    assert_eq!(rt;
+        asked(rt.alloc(), b"\x00\x00\x00\x07\x00\x00\x00\x05"),
+        "setData"
+    );
+    assert_eq!(rt;
+        asked(rt.alloc(), b"\x00\x00\x00\x07\x00\x00\x00\x07"),
+        "setACL"
+    );
+    assert_eq!(rt;
+        asked(rt.alloc(), b"\x00\x00\x00\x07\xff\xff\xff\xf5"),
+        "closeSession"
+    );
+    assert_eq!(rt;
+        asked(rt.alloc(), b"\x00\x00\x00\x07\x00\x00\x00\x0d"),
+        "refused"
+    );
+    assert_eq!(rt;
+        asked(rt.alloc(), b"\x00\x00\x00\x07\x00\x00\x00\x0e"),
+        "refused"
+    );
+}
+
+/// Of the root; of an empty path, of null, of a path without a slash, of one with a NUL, and without a body.
+#[test]
+fn syncs(rt: HostRuntime) {
+    let root = b"\x00\x00\x00\x07\x00\x00\x00\x09\x00\x00\x00\x01/";
+    assert_eq!(rt; asked(rt.alloc(), root), "sync of the root");
+    let empty = b"\x00\x00\x00\x07\x00\x00\x00\x09\x00\x00\x00\x00";
+    assert_eq!(rt; asked(rt.alloc(), empty), "unreadable");
+    let null = b"\x00\x00\x00\x07\x00\x00\x00\x09\xff\xff\xff\xff";
+    assert_eq!(rt; asked(rt.alloc(), null), "unreadable");
+    let relative = b"\x00\x00\x00\x07\x00\x00\x00\x09\x00\x00\x00\x01a";
+    assert_eq!(rt; asked(rt.alloc(), relative), "unreadable");
+    let nul = b"\x00\x00\x00\x07\x00\x00\x00\x09\x00\x00\x00\x02/\x00";
+    assert_eq!(rt; asked(rt.alloc(), nul), "unreadable");
+    assert_eq!(rt;
+        asked(rt.alloc(), b"\x00\x00\x00\x07\x00\x00\x00\x09"),
+        "unreadable"
     );
 }
 
@@ -55,7 +95,7 @@ fn short(rt: HostRuntime) {
     assert_eq!(rt; asked(rt.alloc(), path), "unreadable");
     assert_eq!(rt;
         asked(rt.alloc(), b"\x00\x00\x00\x07\x00\x00\x00\x64"),
-        "unreadable"
+        "unreadable auth"
     );
     assert_eq!(rt;
         asked(rt.alloc(), b"\x00\x00\x00\x07\x00\x00\x00\x65"),

@@ -8,10 +8,12 @@ mod calls;
 mod connects;
 
 use client_frames::{
-    CallBody, Connecting, answer_to_connect, read_call, read_connecting, session_request,
+    CallBody, Connecting, LocalCall, answer_to_connect, read_call, read_connecting,
+    session_request_of,
 };
 use client_records::codes::{PERSISTENT, RECURSIVE};
 use client_records::{AddWatch, ReadKind};
+use forwarding::WriteKind;
 use read_processor::{Request, may_watch};
 use sessions::{SessionRequest, SessionResponse};
 use std::alloc::Global;
@@ -48,18 +50,39 @@ fn watch_word(asked: &AddWatch<'_>) -> &'static str {
     }
 }
 
+// A request that isn't forwarded, in a word.
+fn local_word(call: &LocalCall<'_>) -> &'static str {
+    match call {
+        LocalCall::Read(request) => read_word(request),
+        LocalCall::SetWatches(_) => "setWatches",
+        LocalCall::AddWatch(asked) => watch_word(asked),
+        LocalCall::Unreadable => "unreadable",
+        LocalCall::Ping => "ping",
+        LocalCall::Refused => "refused",
+        LocalCall::Unknown => "unknown",
+    }
+}
+
+// A write that is forwarded, in a word.
+fn write_word(kind: WriteKind) -> &'static str {
+    match kind {
+        WriteKind::Create => "create",
+        WriteKind::Delete => "delete",
+        WriteKind::SetData => "setData",
+        WriteKind::SetAcl => "setACL",
+        WriteKind::CloseSession => "closeSession",
+    }
+}
+
 // The request of a body.
 fn word(body: &CallBody<'_>) -> &'static str {
     match body {
-        CallBody::Read(request) => read_word(request),
-        CallBody::SetWatches(_) => "setWatches",
-        CallBody::AddWatch(asked) => watch_word(asked),
-        CallBody::Auth(_) => "auth",
-        CallBody::CloseSession => "closeSession",
-        CallBody::Unreadable => "unreadable",
-        CallBody::Ping => "ping",
-        CallBody::Write => "write",
-        CallBody::Unknown => "unknown",
+        CallBody::Forward(kind) => write_word(*kind),
+        CallBody::Sync(path) if path.as_str() == "/" => "sync of the root",
+        CallBody::Sync(_) => "another sync",
+        CallBody::Auth(None) => "unreadable auth",
+        CallBody::Auth(Some(_)) => "auth",
+        CallBody::Local(call) => local_word(call),
     }
 }
 
@@ -86,7 +109,7 @@ fn is_fifth(connecting: Connecting<'_>, has_byte: bool) -> bool {
     if connecting.has_byte != has_byte || connecting.request.last_zxid_seen != 9 {
         return false;
     }
-    let request = session_request(connecting.request);
+    let request = session_request_of(connecting.request);
     request.time_out == 10_000 && request.session_id == 5 && has_secret(&request)
 }
 

@@ -9,6 +9,7 @@ use Rattle.client_records.specs.declared.response.GetDataResponse.{GetDataRespon
 use Rattle.client_records.specs.declared.response.GetChildrenResponse.{GetChildrenResponse}
 use Rattle.client_records.specs.declared.response.GetChildren2Response.{GetChildren2Response}
 use Rattle.client_records.specs.declared.response.GetAclResponse.{GetAclResponse}
+use Rattle.client_records.specs.declared.response.PathResponse.{PathResponse}
 
 unfoldable pub connect_response : Format ConnectResponse
 connect_response =
@@ -35,6 +36,10 @@ get_children2_response =
 unfoldable pub get_acl_response : Format GetAclResponse
 get_acl_response = mapped_format (λ v. record { acl = v.0; stat = v.1 }) (λ r. (r.acl, r.stat))
     (pair_of acls_format stat_format)
+
+-- Of CreateResponse and SyncResponse.
+unfoldable pub path_response : Format PathResponse
+path_response = mapped_format (λ v. record { path = v }) (λ r. r.path) text_format
 
 unfoldable pub watcher_event : Format WatcherEvent
 watcher_event =

@@ -32,5 +32,5 @@ pub use lengths::{acls_len, names_len};
 pub use request::{AddWatch, AuthPacket, PathAlone, PathAndWatch, SetWatches};
 pub use response::{
     Acls, ExistsResponse, GetAclResponse, GetChildren2Response, GetChildrenResponse,
-    GetDataResponse,
+    GetDataResponse, PathResponse,
 };

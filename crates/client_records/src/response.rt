@@ -1,13 +1,13 @@
-//! The responses to a client's reads, after the header of the frame.
+//! The responses to a client's requests, after the header of the frame.
 
 ghost use Rattle.std.specs.Prelude.{◌≡◌};
-ghost use Rattle.client_records.specs.Responses.{exists_response, get_data_response, get_children_response, get_children2_response, get_acl_response};
+ghost use Rattle.client_records.specs.Responses.{exists_response, get_data_response, get_children_response, get_children2_response, get_acl_response, path_response};
 
-use crate::fields::{Name, buffer_len, put_buffer, put_list, read_list};
+use crate::fields::{Name, buffer_len, put_buffer, put_list, put_text, read_list, text_len};
 use jute::{Acl, ReadRecord, Reader, Stat, WriteRecord, items_len};
 use std::alloc::Global;
 use std::marker::Model;
-use values::{Bytes, Listed, NoMemory, ReadError};
+use values::{Bytes, Listed, NoMemory, ReadError, Str};
 
 /// The ExistsResponse of zookeeper.jute.
 #[derive(Drop, PartialEq)]
@@ -191,5 +191,26 @@ impl<'a> WriteRecord for GetAclResponse<'a> {
     fn write(&self, out: &mut Vec<u8>) -> Result<(), NoMemory> {
         put_list(out, self.acl.as_slice())?;
         self.stat.write(out)
+    }
+}
+
+/// The CreateResponse and the SyncResponse of zookeeper.jute, which have the same field. It is only written.
+#[derive(Drop)]
+pub struct PathResponse<'a> {
+    /// The path of the node; `None` is null.
+    pub path: Option<Str<'a>>,
+}
+
+impl<'a> WriteRecord for PathResponse<'a> {
+    ghost format = { path_response };
+
+    #[tactic(auto, unfolding(crate::specs::Responses::path_response))]
+    fn written_len(&self) -> usize {
+        text_len(&self.path)
+    }
+
+    #[tactic(auto, unfolding(crate::specs::Responses::path_response))]
+    fn write(&self, out: &mut Vec<u8>) -> Result<(), NoMemory> {
+        put_text(out, &self.path)
     }
 }

@@ -3,7 +3,7 @@
 use crate::is_read;
 use client_records::{
     Acls, ConnectResponse, ExistsResponse, GetAclResponse, GetChildren2Response,
-    GetChildrenResponse, GetDataResponse, Name, WatcherEvent,
+    GetChildrenResponse, GetDataResponse, Name, PathResponse, WatcherEvent,
 };
 use jute::{Acl, Id, ReadRecord, Reader, Stat, WriteRecord, read_vector};
 use std::alloc::Global;
@@ -203,5 +203,17 @@ fn watcher_event(rt: HostRuntime) -> Result<(), Fail> {
     let mut out = Vec::new(rt.alloc());
     expected.write(&mut out)?;
     assert_eq!(rt; out.as_slice(), &bytes[..16]);
+    Ok(())
+}
+
+#[test]
+#[tactic(auto, unfolding(client_records::specs::Responses::path_response))]
+fn path_response(rt: HostRuntime) -> Result<(), Fail> {
+    let response = PathResponse {
+        path: Some(Str::new("/a/f")),
+    };
+    let mut out = Vec::new(rt.alloc());
+    response.write(&mut out)?;
+    assert_eq!(rt; out.as_slice(), b"\x00\x00\x00\x04/a/f".as_slice());
     Ok(())
 }

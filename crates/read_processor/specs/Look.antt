@@ -4,6 +4,7 @@ use Rattle.std.specs.List.{list_any, starts_with}
 use Rattle.std.specs.FinMap as finmap
 use Rattle.jute.specs.declared.owned.Id.{Id}
 use Rattle.jute.specs.declared.codes.TheConstants.{BAD_ARGUMENTS, NO_NODE, NO_AUTH}
+use Rattle.client_records.specs.Responses.{path_response}
 use Rattle.node_map.specs.declared.node.Node.{Node}
 use Rattle.data_tree.specs.State.{State}
 use Rattle.read_processor.specs.Kinds.{read_row, reply_body}
@@ -22,6 +23,10 @@ without_body error = record { error = error; body = Some [] }
 
 abbrev pub shown_look : List ℕ → Look
 shown_look body = record { error = pos 0; body = fitting_body body }
+
+-- The path that answers a create or a sync (CreateResponse and SyncResponse of zookeeper.jute).
+abbrev pub look_of_path : List ℕ → Look
+look_of_path path = shown_look (path_response.written (record { path = Some path }))
 
 abbrev pub look_at_node : List Id → Request → Option Node → Look
 look_at_node ids request None = without_body NO_NODE

@@ -20,6 +20,7 @@
 //!     None => close(),                    // more bytes than a frame holds
 //! }
 //!
+//! let synced = Look::of_path(alloc, "/a")?;
 //! let told = Look::of_event(alloc, &event)?.into_frame(NOTIFICATION_XID, -1);
 //! let renewal = renew(alloc, &tree, &set_watches)?;
 //! ```
@@ -41,7 +42,7 @@ pub use asking::{Ask, look_each};
 pub use body::Body;
 pub use kinds::{ReadRow, WatchTable, may_watch, read_row};
 pub use law::worked_looks;
-pub use reads::look;
+pub use reads::{is_readable_path, look};
 pub use renewal::{Renewal, renew};
 pub use request::Request;
 pub use shown::Look;

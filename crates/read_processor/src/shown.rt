@@ -1,19 +1,19 @@
-//! The answer to a read.
+//! The answer to a request.
 
 ghost use Rattle.std.specs.Prelude.{◌≡◌, IfOk};
 ghost use Rattle.read_processor.specs.Events.{look_of_event};
-ghost use Rattle.read_processor.specs.Look.{without_body};
+ghost use Rattle.read_processor.specs.Look.{without_body, look_of_path};
 ghost use Rattle.read_processor.specs.Reply.{reply_frame};
 
 use crate::body::{BODY_LIMIT, Body};
-use client_records::WatcherEvent;
 use client_records::codes::{OK, SYNC_CONNECTED};
+use client_records::{PathResponse, WatcherEvent};
 use jute::ReplyHeader;
 use std::alloc::Global;
 use values::{Blob, NoMemory, Str};
 use watch_manager::Event;
 
-/// The answer to a read.
+/// The answer to a request.
 #[derive(Drop)]
 pub struct Look {
     /// ZooKeeper's error code, or 0.
@@ -32,6 +32,25 @@ impl Look {
             error,
             body: Some(body),
         })
+    }
+
+    /// The path that answers a create or a sync. Fails only if an allocation is refused.
+    pub fn of_path(alloc: Global, path: &str) -> Result<Look, NoMemory>
+        ensures { IfOk result (λ look. look ≡ look_of_path path.now) }
+    {
+        if path.len() > BODY_LIMIT {
+            return Ok(Look {
+                error: OK,
+                body: None,
+            });
+        }
+        let body = Body::of(
+            alloc,
+            &PathResponse {
+                path: Some(Str::new(path)),
+            },
+        )?;
+        Ok(Look { error: OK, body })
     }
 
     /// The notification of an event. It answers no request, so its frame has the xid `NOTIFICATION_XID` and the zxid

@@ -6,7 +6,7 @@ use Rattle.jute.specs.Laws.{IsSound}
 use Rattle.jute.proofs.Public.{int_sound, long_sound, boolean_sound, buffer_sound, text_sound, name_sound, acl_sound, stat_sound, null_vector_sound, both_sound, mapped_sound}
 use Rattle.client_records.specs.Fields.{names_format}
 use Rattle.client_records.specs.Requests.{connect_request, path_and_watch, path_alone, set_watches, add_watch, auth_packet}
-use Rattle.client_records.specs.Responses.{connect_response, exists_response, get_data_response, get_children_response, get_children2_response, get_acl_response, watcher_event}
+use Rattle.client_records.specs.Responses.{connect_response, exists_response, get_data_response, get_children_response, get_children2_response, get_acl_response, path_response, watcher_event}
 use Rattle.client_records.proofs.law.records.Goals as goal
 
 names_sound : IsSound names_format
@@ -75,6 +75,10 @@ unfolding get_acl_response
 get_acl_response_sound =
     mapped_sound _ _ _ (λ v. refl) (λ r. refl) (both_sound _ _ (null_vector_sound acl_format acl_sound) stat_sound)
 
+path_response_sound : IsSound path_response
+unfolding path_response
+path_response_sound = mapped_sound _ _ _ (λ v. refl) (λ r. refl) text_sound
+
 watcher_event_sound : IsSound watcher_event
 unfolding watcher_event
 watcher_event_sound =
@@ -97,5 +101,6 @@ returns c = record {
   get_children_response = get_children_response_sound;
   get_children2_response = get_children2_response_sound;
   get_acl_response = get_acl_response_sound;
+  path_response = path_response_sound;
   watcher_event = watcher_event_sound;
 }

@@ -1,0 +1,82 @@
+//! What the reply to a write of a client shows.
+
+ghost use Rattle.std.specs.Prelude.{◌≡◌, IfOk};
+ghost use Rattle.std.specs.Option.{option_copied};
+ghost use Rattle.write_replies.specs.Replies.{written_path, stat_look, look_of_write, write_look};
+
+use client_records::ReadKind;
+use client_records::codes::OK;
+use data_tree::Tree;
+use forwarding::WriteKind;
+use read_processor::{Look, Request, look};
+use std::alloc::Global;
+use txn_codec::{Body, Operation};
+use values::{NoMemory, Str};
+
+// The path of a create and a setData.
+fn path_of_operation(operation: &Operation) -> Option<&str>
+    ensures { option_copied result ≡ written_path (Body.Single operation.now) }
+{
+    match operation {
+        Operation::Create(create) => Some(create.path.as_str()),
+        Operation::SetData(set_data) => Some(set_data.path.as_str()),
+        Operation::Delete(_) | Operation::Check(_) | Operation::Error(_) => None,
+    }
+}
+
+// The path of a create, a setData and a setACL.
+fn written_path(body: &Body) -> Option<&str>
+    ensures { option_copied result ≡ written_path body.now }
+{
+    match body {
+        Body::Single(operation) => path_of_operation(operation),
+        Body::SetAcl(set_acl) => Some(set_acl.path.as_str()),
+        Body::Multi(_) | Body::CreateSession(_) | Body::CloseSession => None,
+    }
+}
+
+// The Stat of a node, as an exists shows it.
+fn stat_look(alloc: Global, tree: &Tree, path: &str) -> Result<Look, NoMemory>
+    ensures { IfOk result (λ seen. seen ≡ stat_look tree.now path.now) }
+{
+    let request = Request {
+        kind: ReadKind::Exists,
+        path: Some(Str::new(path)),
+        watch: false,
+    };
+    look(alloc, tree, &[], &request)
+}
+
+// What the reply to a write without an error shows.
+fn look_of_write(alloc: Global, tree: &Tree, kind: WriteKind, body: &Body) -> Result<Look, NoMemory>
+    ensures { IfOk result (λ seen. seen ≡ look_of_write tree.now kind (written_path body.now)) }
+{
+    let Some(path) = written_path(body) else {
+        return Look::without_body(alloc, OK);
+    };
+    match kind {
+        WriteKind::Create => Look::of_path(alloc, path),
+        WriteKind::SetData | WriteKind::SetAcl => stat_look(alloc, tree, path),
+        WriteKind::Delete | WriteKind::CloseSession => Look::without_body(alloc, OK),
+    }
+}
+
+/// What the reply to a write shows, once its transaction was applied: with an error that error alone, else of a create
+/// the path, of a setData and a setACL the Stat of the node as the tree has it now, and of a delete nothing. `body` is the
+/// transaction's, and `error` ZooKeeper's error code of it, 0 for success.
+///
+/// Fails only if an allocation is refused.
+pub fn write_look(
+    alloc: Global,
+    tree: &Tree,
+    kind: WriteKind,
+    body: &Body,
+    error: i32,
+) -> Result<Look, NoMemory>
+    ensures { IfOk result (λ seen. seen ≡ write_look tree.now kind body.now error) }
+{
+    if error != 0 {
+        return Look::without_body(alloc, error);
+    }
+    look_of_write(alloc, tree, kind, body)
+}
