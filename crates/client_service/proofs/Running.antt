@@ -1,6 +1,6 @@
 -- Reads that wait for their answers are answered as if at once.
 use Rattle.std.proofs.Common.{◌≡◌, ◌≢◌, ℕ, ℤ, List, [], ◌∷◌, ◌++◌, map, take, Option, Some, None, Result, Ok, Err, Bool, true, false, cond, refl, sym, ap, subst, ◌∙◌, append_assoc}
-use Rattle.std.specs.Prelude.{is_some, if◌then◌else◌}
+use Rattle.std.specs.Prelude.{is_some, not, nat_lt, length, ◌||◌, if◌then◌else◌}
 use Rattle.std.specs.FinMap as finmap
 use Rattle.std.specs.Ordering.{eq_by_cmp, nat_cmp}
 use Rattle.std.specs.Cmp.{nat_cmp_total}
@@ -21,33 +21,42 @@ use Rattle.read_processor.specs.Watch.{watch_of}
 use Rattle.read_processor.specs.Reply.{reply_frame}
 use Rattle.client_frames.specs.Call.{call_in}
 use Rattle.client_frames.specs.declared.call.CallBody.TheVariants as bodies
+use Rattle.client_frames.specs.declared.call.LocalCall.TheVariants as locals
+use Rattle.forwarding.specs.Queue.{RequestQueue, pending_limit}
+use Rattle.forwarding.specs.Pending.{queue_in, is_idle, hold_frame}
 use Rattle.replica.specs.Replica.{Replica}
 use Rattle.values.specs.declared.fault.NoMemory.{NoMemory}
 use Rattle.client_service.specs.declared.output.Output.{Output}
 use Rattle.client_service.specs.World.{OpenConnection, OpenConnections, World}
 use Rattle.client_service.specs.Steps.{StepResult, prepend_outputs, no_output, and_then}
-use Rattle.client_service.specs.Clients.{is_open, without_client}
-use Rattle.client_service.specs.Serve.{close_client, send_or_close, with_watch_if, with_watching, send_reply, answer_read, serve_by, serve_as, serve_frame, serve_all, wait_if_open, wait_at, word_without_session, word_at, tell_or_serve, take_client_bytes, frames_of_client}
-use Rattle.client_service.specs.Inner.{rest_at, with_rest, world_with_rest, close_if_open, tell_if_open}
+use Rattle.client_service.specs.Clients.{is_open, heard_in, heard_connection, is_heard, without_client}
+use Rattle.client_service.specs.Serve.{close_client, send_or_close, with_watch_if, with_watching, send_reply, answer_read, with_pending, touch_client, header_len, is_refused_frame, serve_by, serve_as, serve_frame, serve_all, wait_if_heard, wait_at, word_without_session, word_at, tell_or_serve, take_client_bytes, frames_of_client}
+use Rattle.client_service.specs.Inner.{rest_at, with_rest, world_with_rest, close_if_heard, tell_if_heard}
 use Rattle.client_service.specs.Results.{MeetsStep, SoFar, MeetsOwing}
-use Rattle.client_service.specs.Runs.{AskedRead, answer_asked, answer_all_asked, look_asked, show_asked, show_all_asked, serve_if_open, RunsAreReads}
+use Rattle.client_service.specs.Runs.{AskedRead, answer_asked, answer_all_asked, look_asked, show_asked, show_all_asked, serve_if_heard, RunsAreReads}
 use Rattle.client_service.proofs.NatMaps.{same_key, eq_is, get-removed, get-kept}
+use Rattle.client_service.proofs.Heard.{heard_open, heard_still}
+use Rattle.client_service.proofs.Touching.{with_touched, touch_is}
+use Rattle.client_service.proofs.Headers.{has_header}
 use Rattle.client_service.proofs.Steps.{behind_behind, happening_on, then_meets, stops, same_left}
-use Rattle.client_service.proofs.Serving.{none_of, served_first, all_passed_over, none_whole, bad_length, not_open, at_open}
+use Rattle.client_service.proofs.Serving.{none_of, served_first, all_passed_over, none_whole, bad_length, not_heard, at_heard}
 
 -- ---- what answers leave
 
-absent : (b : Bool) (o : Option OpenConnection) → o ≡ None → cond b None o ≡ None
+absent : (b : Bool) (o : Option OpenConnection) → heard_in o ≡ None → heard_in (cond b None o) ≡ None
 absent true o none = refl
 absent false o none = none
 
--- Answers leave the replica, and of each connection that is still open its waiting bytes, its ids and its session.
+-- Answers leave the replica, and of each connection that is still open its waiting bytes, its ids, its session and its
+-- requests.
 pub record IsKept (v w : World) : Type 0 where
   pub replica : v.replica ≡ w.replica
   pub connections : (k : ℕ) → is_open k v.clients ≡ true
       → finmap.get v.clients.connections k ≡ finmap.get w.clients.connections k
   pub sessions : (k : ℕ) → is_open k v.clients ≡ true
       → finmap.get v.clients.sessions.connections k ≡ finmap.get w.clients.sessions.connections k
+  pub pending : (k : ℕ) → is_open k v.clients ≡ true
+      → finmap.get v.clients.pending.queues k ≡ finmap.get w.clients.pending.queues k
 
 module _ (stay : OtherConnectionsStay) where
   closed_kept : (n : ℕ) (v w : World) (ws : WatchTables) → IsKept v w
@@ -60,6 +69,9 @@ module _ (stay : OtherConnectionsStay) where
     sessions = λ k here.
         stay.closes v.clients.sessions n k (other k here)
         ∙ kept.sessions k (sym (ap is_some (get-kept v.clients.connections n k (other k here))) ∙ here);
+    pending = λ k here.
+        get-kept v.clients.pending.queues n k (other k here)
+        ∙ kept.pending k (sym (ap is_some (get-kept v.clients.connections n k (other k here))) ∙ here);
   }
     where
       other : (k : ℕ) → finmap.contains_key (finmap.remove v.clients.connections n) k ≡ true → k ≢ n
@@ -74,17 +86,29 @@ module _ (stay : OtherConnectionsStay) where
     replica = kept.replica;
     connections = kept.connections;
     sessions = kept.sessions;
+    pending = kept.pending;
   }
+
+  touched_kept : (n : ℕ) (v w : World) → IsKept v w → IsKept (touch_client n v) w
+  touched_kept n v w kept = subst (λ (u : World). IsKept u w) (sym (touch_is n v)) (record {
+    replica = kept.replica;
+    connections = kept.connections;
+    sessions = kept.sessions;
+    pending = kept.pending;
+  })
 
   shown_kept : (v w : World) (a : AskedRead) (seen : Look) → IsKept v w → IsKept (show_asked v a seen).after w
   shown_kept v w a seen kept = by (is_open a.number v.clients)
     where
+      touched : World
+      touched = touch_client a.number v
+
       next : World
-      next = with_watching v (with_watch_if a.number v.clients.watches (watch_of a.request seen.error))
+      next = with_watching touched (with_watch_if a.number v.clients.watches (watch_of a.request seen.error))
 
       by : (b : Bool) → IsKept (cond b (send_reply a.number next a.xid seen) (no_output v)).after w
-      by true = sent_kept a.number v w (with_watch_if a.number v.clients.watches (watch_of a.request seen.error))
-          (reply_frame a.xid v.replica.learner.last_zxid seen) kept
+      by true = sent_kept a.number touched w (with_watch_if a.number v.clients.watches (watch_of a.request seen.error))
+          (reply_frame a.xid touched.replica.learner.last_zxid seen) (touched_kept a.number v w kept)
       by false = kept
 
   look_same : (v w : World) (a : AskedRead) → IsKept v w → is_open a.number v.clients ≡ true
@@ -97,13 +121,17 @@ module _ (stay : OtherConnectionsStay) where
   one_shown : (v w : World) (a : AskedRead) → IsKept v w → answer_asked v a ≡ show_asked v a (look_asked w a)
   one_shown v w a kept = by (is_open a.number v.clients) refl
     where
-      show : Look → StepResult World
-      show seen = send_reply a.number
-          (with_watching v (with_watch_if a.number v.clients.watches (watch_of a.request seen.error))) a.xid seen
+      show : World → Look → StepResult World
+      show u seen = send_reply a.number
+          (with_watching u (with_watch_if a.number v.clients.watches (watch_of a.request seen.error))) a.xid seen
 
       by : (b : Bool) → is_open a.number v.clients ≡ b
-          → cond b (show (look_asked v a)) (no_output v) ≡ cond b (show (look_asked w a)) (no_output v)
-      by true here = ap show (look_same v w a kept here)
+          → cond b (answer_read a.number (touch_client a.number v) a.xid a.request) (no_output v)
+          ≡ cond b (show (touch_client a.number v) (look_asked w a)) (no_output v)
+      by true here =
+          ap (λ (u : World). answer_read a.number u a.xid a.request) (touch_is a.number v)
+          ∙ ap (show (with_touched a.number v)) (look_same v w a kept here)
+          ∙ ap (λ (u : World). show u (look_asked w a)) (sym (touch_is a.number v))
       by false here = refl
 
   each_shown : (asked : List AskedRead) (v w : World) → IsKept v w
@@ -123,50 +151,76 @@ module _ (stay : OtherConnectionsStay) where
       (shown_kept v w a (look_asked w a) kept))
 
 pub kept_itself : (w : World) → IsKept w w
-kept_itself w = record { replica = refl; connections = λ k here. refl; sessions = λ k here. refl }
+kept_itself w = record {
+  replica = refl;
+  connections = λ k here. refl;
+  sessions = λ k here. refl;
+  pending = λ k here. refl;
+}
 
--- A connection that isn't open stays closed.
+-- A connection that isn't heard stays unheard.
 
-closed_then : (n k : ℕ) (w : World) (frame : Option (List ℕ)) → is_open n w.clients ≡ false
-    → is_open n (send_or_close k w frame).after.clients ≡ false
-closed_then n k w (Some bytes) closed = closed
-closed_then n k w None closed = ap is_some (finmap.get-remove nat_cmp_total w.clients.connections k n
-    ∙ absent (eq_by_cmp nat_cmp n k) (finmap.get w.clients.connections n)
-    (none_of (finmap.get w.clients.connections n) closed))
+unheard_then : (n k : ℕ) (w : World) (frame : Option (List ℕ)) → is_heard n w.clients ≡ false
+    → is_heard n (send_or_close k w frame).after.clients ≡ false
+unheard_then n k w (Some bytes) unheard = unheard
+unheard_then n k w None unheard =
+    ap (λ (o : Option OpenConnection). is_some (heard_in o)) (finmap.get-remove nat_cmp_total w.clients.connections k n)
+    ∙ ap is_some (absent (eq_by_cmp nat_cmp n k) (finmap.get w.clients.connections n)
+    (none_of (heard_connection n w.clients) unheard))
 
-closed_after_one : (n : ℕ) (w : World) (a : AskedRead) → is_open n w.clients ≡ false
-    → is_open n (answer_asked w a).after.clients ≡ false
-closed_after_one n w a closed = by (is_open a.number w.clients)
+unheard_after_one : (n : ℕ) (w : World) (a : AskedRead) → is_heard n w.clients ≡ false
+    → is_heard n (answer_asked w a).after.clients ≡ false
+unheard_after_one n w a unheard = by (is_open a.number w.clients)
   where
-    by : (b : Bool) → is_open n (cond b (answer_read a.number w a.xid a.request) (no_output w)).after.clients ≡ false
+    answered : World → StepResult World
+    answered u = answer_read a.number u a.xid a.request
+
+    by : (b : Bool) → is_heard n (cond b (answered (touch_client a.number w)) (no_output w)).after.clients ≡ false
     by true =
         let seen = look_asked w a in
-        closed_then n a.number
-        (with_watching w (with_watch_if a.number w.clients.watches (watch_of a.request seen.error)))
-        (reply_frame a.xid w.replica.learner.last_zxid seen) closed
-    by false = closed
+        ap (λ (u : World). is_heard n (answered u).after.clients) (touch_is a.number w)
+        ∙ unheard_then n a.number
+        (with_watching (with_touched a.number w) (with_watch_if a.number w.clients.watches (watch_of a.request seen.error)))
+        (reply_frame a.xid w.replica.learner.last_zxid seen) unheard
+    by false = unheard
 
-pub closed_after : (n : ℕ) (asked : List AskedRead) (w : World) → is_open n w.clients ≡ false
-    → is_open n (answer_all_asked asked w).after.clients ≡ false
-closed_after n [] w closed = closed
-closed_after n (a ∷ asked) w closed = closed_after n asked (answer_asked w a).after (closed_after_one n w a closed)
+pub unheard_after : (n : ℕ) (asked : List AskedRead) (w : World) → is_heard n w.clients ≡ false
+    → is_heard n (answer_all_asked asked w).after.clients ≡ false
+unheard_after n [] w unheard = unheard
+unheard_after n (a ∷ asked) w unheard =
+    unheard_after n asked (answer_asked w a).after (unheard_after_one n w a unheard)
 
 -- ---- bytes that are kept
 
 abbrev pub rested : ℕ → List ℕ → StepResult World → StepResult World
 rested n rest h = record { outputs = h.outputs; after = world_with_rest n rest h.after }
 
-open_as : (m : OpenConnections) (n k : ℕ) (o : Option OpenConnection) (rest : List ℕ) → finmap.get m n ≡ o
-    → finmap.contains_key (with_rest m n o rest) k ≡ finmap.contains_key m k
-open_as m n k None rest at = refl
-open_as m n k (Some c) rest at =
-    ap is_some (finmap.get-insert nat_cmp_total m n (record c { rest = rest }) k)
+-- What is asked of a connection has the same answer with other bytes.
+same_as : (is : Option OpenConnection → Bool) (m : OpenConnections) (n k : ℕ) (o : Option OpenConnection) (rest : List ℕ)
+    → heard_in (finmap.get m n) ≡ o
+    → ((c : OpenConnection) → heard_in (finmap.get m n) ≡ Some c
+    → is (Some (record c { rest = rest })) ≡ is (finmap.get m n))
+    → is (finmap.get (with_rest m n o rest) k) ≡ is (finmap.get m k)
+same_as is m n k None rest at same = refl
+same_as is m n k (Some c) rest at same =
+    ap is (finmap.get-insert nat_cmp_total m n (record c { rest = rest }) k)
     ∙ by (eq_by_cmp nat_cmp k n) refl
   where
     by : (b : Bool) → eq_by_cmp nat_cmp k n ≡ b
-        → is_some (cond b (Some (record c { rest = rest })) (finmap.get m k)) ≡ is_some (finmap.get m k)
-    by true same = sym (ap is_some (ap (finmap.get m) (exact_unsigned k n (eq_is (nat_cmp k n) same)) ∙ at))
+        → is (cond b (Some (record c { rest = rest })) (finmap.get m k)) ≡ is (finmap.get m k)
+    by true here = same c at ∙ sym (ap is (ap (finmap.get m) (exact_unsigned k n (eq_is (nat_cmp k n) here))))
     by false differ = refl
+
+open_as : (m : OpenConnections) (n k : ℕ) (o : Option OpenConnection) (rest : List ℕ) → heard_in (finmap.get m n) ≡ o
+    → finmap.contains_key (with_rest m n o rest) k ≡ finmap.contains_key m k
+open_as m n k o rest at = same_as is_some m n k o rest at
+    (λ c here. sym (ap is_some (heard_open (finmap.get m n) c here)))
+
+heard_with : (m : OpenConnections) (n k : ℕ) (o : Option OpenConnection) (rest : List ℕ)
+    → heard_in (finmap.get m n) ≡ o
+    → is_some (heard_in (finmap.get (with_rest m n o rest) k)) ≡ is_some (heard_in (finmap.get m k))
+heard_with m n k o rest at = same_as (λ (o : Option OpenConnection). is_some (heard_in o)) m n k o rest at
+    (λ c here. ap is_some (heard_still (finmap.get m n) c rest here) ∙ sym (ap is_some here))
 
 -- Removed before or after an insertion of another key.
 swapped : (x y : Bool) (v o : Option OpenConnection) → (x ≡ true → y ≡ false)
@@ -180,12 +234,13 @@ gone true v o = refl
 gone false v o = refl
 
 -- The bytes of one connection are kept, and one connection is removed.
-rest_removed : (m : OpenConnections) (n k : ℕ) (o : Option OpenConnection) (rest : List ℕ) → finmap.get m n ≡ o
+rest_removed : (m : OpenConnections) (n k : ℕ) (o : Option OpenConnection) (rest : List ℕ)
+    → heard_in (finmap.get m n) ≡ o
     → finmap.remove (with_rest m n o rest) k
-    ≡ with_rest (finmap.remove m k) n (finmap.get (finmap.remove m k) n) rest
+    ≡ with_rest (finmap.remove m k) n (heard_in (finmap.get (finmap.remove m k) n)) rest
 rest_removed m n k None rest at =
     ap (λ (o : Option OpenConnection). with_rest (finmap.remove m k) n o rest)
-    (sym (finmap.get-remove nat_cmp_total m k n ∙ absent (eq_by_cmp nat_cmp n k) (finmap.get m n) at))
+    (sym (ap heard_in (finmap.get-remove nat_cmp_total m k n) ∙ absent (eq_by_cmp nat_cmp n k) (finmap.get m n) at))
 rest_removed m n k (Some c) rest at = by (eq_by_cmp nat_cmp n k) refl
   where
     new : OpenConnection
@@ -193,17 +248,17 @@ rest_removed m n k (Some c) rest at = by (eq_by_cmp nat_cmp n k) refl
 
     by : (b : Bool) → eq_by_cmp nat_cmp n k ≡ b
         → finmap.remove (finmap.insert m n new) k
-        ≡ with_rest (finmap.remove m k) n (finmap.get (finmap.remove m k) n) rest
+        ≡ with_rest (finmap.remove m k) n (heard_in (finmap.get (finmap.remove m k) n)) rest
     by true same =
         let is : n ≡ k = exact_unsigned n k (eq_is (nat_cmp n k) same) in
         subst (λ (j : ℕ). finmap.remove (finmap.insert m n new) j
-        ≡ with_rest (finmap.remove m j) n (finmap.get (finmap.remove m j) n) rest) is
+        ≡ with_rest (finmap.remove m j) n (heard_in (finmap.get (finmap.remove m j) n)) rest) is
         (finmap.same_map nat_cmp_total exact_unsigned _ _ (λ q.
         finmap.get-remove nat_cmp_total (finmap.insert m n new) n q
         ∙ ap (cond (eq_by_cmp nat_cmp q n) None) (finmap.get-insert nat_cmp_total m n new q)
         ∙ gone (eq_by_cmp nat_cmp q n) (Some new) (finmap.get m q)
         ∙ sym (finmap.get-remove nat_cmp_total m n q))
-        ∙ ap (λ (o : Option OpenConnection). with_rest (finmap.remove m n) n o rest) (sym (get-removed m n)))
+        ∙ ap (λ (o : Option OpenConnection). with_rest (finmap.remove m n) n (heard_in o) rest) (sym (get-removed m n)))
     by false differ =
         let other : n ≢ k = λ is. true≢false (sym (same_key n) ∙ ap (eq_by_cmp nat_cmp n) is ∙ differ) in
         finmap.same_map nat_cmp_total exact_unsigned _ _ (λ q.
@@ -214,7 +269,7 @@ rest_removed m n k (Some c) rest at = by (eq_by_cmp nat_cmp n k) refl
         ∙ sym (ap (cond (eq_by_cmp nat_cmp q n) (Some new)) (finmap.get-remove nat_cmp_total m k q))
         ∙ sym (finmap.get-insert nat_cmp_total (finmap.remove m k) n new q))
         ∙ ap (λ (o : Option OpenConnection). with_rest (finmap.remove m k) n o rest)
-        (sym (get-kept m k n other ∙ at))
+        (sym (ap heard_in (get-kept m k n other) ∙ at))
       where
         not_both : (q : ℕ) → n ≢ k → eq_by_cmp nat_cmp q k ≡ true → (b : Bool) → eq_by_cmp nat_cmp q n ≡ b
             → eq_by_cmp nat_cmp q n ≡ false
@@ -224,9 +279,9 @@ rest_removed m n k (Some c) rest at = by (eq_by_cmp nat_cmp n k) refl
 
 -- Keeping bytes is a step without outputs.
 pub waiting_is : (n : ℕ) (rest : List ℕ) (w : World) → wait_at n (Ok rest) w ≡ no_output (world_with_rest n rest w)
-waiting_is n rest w = by (finmap.get w.clients.connections n)
+waiting_is n rest w = by (heard_connection n w.clients)
   where
-    by : (o : Option OpenConnection) → wait_if_open n w o (Ok rest) ≡ no_output
+    by : (o : Option OpenConnection) → wait_if_heard n w o (Ok rest) ≡ no_output
         (record w { clients = record w.clients { connections = with_rest w.clients.connections n o rest } })
     by None = refl
     by (Some c) = refl
@@ -241,23 +296,28 @@ module _ (n : ℕ) (rest : List ℕ) where
       record {
         outputs = (send_or_close k w None).outputs;
         after = record w { clients = record c { connections = m } };
-      }) (rest_removed w.clients.connections n k (finmap.get w.clients.connections n) rest refl)
+      }) (rest_removed w.clients.connections n k (heard_connection n w.clients) rest refl)
 
   one_rested : (w : World) (a : AskedRead) → answer_asked (world_with_rest n rest w) a ≡ rested n rest (answer_asked w a)
   one_rested w a =
-      ap (λ b. cond b (answer_read a.number (world_with_rest n rest w) a.xid a.request) (no_output (world_with_rest n rest w)))
-      (open_as w.clients.connections n a.number (finmap.get w.clients.connections n) rest refl)
+      ap (λ b. cond b (answered (touch_client a.number (world_with_rest n rest w))) (no_output (world_with_rest n rest w)))
+      (open_as w.clients.connections n a.number (heard_connection n w.clients) rest refl)
       ∙ by (is_open a.number w.clients)
     where
-      by : (b : Bool) → cond b (answer_read a.number (world_with_rest n rest w) a.xid a.request)
-          (no_output (world_with_rest n rest w))
-          ≡ rested n rest (cond b (answer_read a.number w a.xid a.request) (no_output w))
+      answered : World → StepResult World
+      answered u = answer_read a.number u a.xid a.request
+
+      by : (b : Bool)
+          → cond b (answered (touch_client a.number (world_with_rest n rest w))) (no_output (world_with_rest n rest w))
+          ≡ rested n rest (cond b (answered (touch_client a.number w)) (no_output w))
       by false = refl
       by true =
           let seen = look_asked w a in
-          sent_rested a.number
-          (with_watching w (with_watch_if a.number w.clients.watches (watch_of a.request seen.error)))
+          ap answered (touch_is a.number (world_with_rest n rest w))
+          ∙ sent_rested a.number
+          (with_watching (with_touched a.number w) (with_watch_if a.number w.clients.watches (watch_of a.request seen.error)))
           (reply_frame a.xid w.replica.learner.last_zxid seen)
+          ∙ ap (λ (u : World). rested n rest (answered u)) (sym (touch_is a.number w))
 
   pub answered_rested : (asked : List AskedRead) (w : World)
       → answer_all_asked asked (world_with_rest n rest w) ≡ rested n rest (answer_all_asked asked w)
@@ -301,14 +361,19 @@ one_more asked w a =
     (sym (append-nil one.outputs))
     ∙ sym (happening_on (λ (w : World). false) answer_asked w asked (a ∷ []))
 
+-- A connection without requests isn't in the map.
+none_idle : (o : Option RequestQueue) → not (is_some o) ≡ true → o ≡ None
+none_idle None idle = refl
+none_idle (Some q) idle = absurd (true≢false (sym idle))
+
 module _ (serving : Bool) (frame : List ℕ) where
   -- The first frame is served, and then the others.
   pub frame_first : (n : ℕ) (others : Items (Unit {0}) (List ℕ)) (u : World)
       → serve_all serving n u (with_first frame others)
-      ≡ and_then (serve_if_open serving n frame u) (λ v. serve_all serving n v others)
-  frame_first n others u = by (is_open n u.clients) refl
+      ≡ and_then (serve_if_heard serving n frame u) (λ v. serve_all serving n v others)
+  frame_first n others u = by (is_heard n u.clients) refl
     where
-      by : (b : Bool) → is_open n u.clients ≡ b
+      by : (b : Bool) → is_heard n u.clients ≡ b
           → serve_all serving n u (with_first frame others)
           ≡ and_then (cond b (serve_frame serving n u frame) (no_output u)) (λ v. serve_all serving n v others)
       by true here = served_first serving n u (with_first frame others) frame others refl here
@@ -316,13 +381,47 @@ module _ (serving : Bool) (frame : List ℕ) where
           all_passed_over serving n u (with_first frame others) closed
           ∙ sym (all_passed_over serving n u others closed)
 
+  -- The frame of a read is served by answering it, if its connection has a session and no request.
+  read_served : (u : World) (a : AskedRead) (session : ℤ) → finmap.get u.clients.pending.queues a.number ≡ None
+      → session_of_connection u.clients.sessions a.number ≡ Some session
+      → call_in frame ≡ Ok (record { xid = a.xid; body = bodies.Local (locals.Read a.request) })
+      → serve_frame serving a.number u frame ≡ answer_read a.number (touch_client a.number u) a.xid a.request
+  read_served u a session none joined reads =
+      ap serve_on (touch_is a.number u)
+      ∙ ap (λ (o : Option RequestQueue).
+      if not (nat_lt (length (queue_in o)) pending_limit) || nat_lt (length frame) header_len
+      then close_client a.number v
+      else serve_by serving a.number v frame (session_of_connection v.clients.sessions a.number)) none
+      ∙ ap (λ (b : Bool).
+      if b
+      then close_client a.number v
+      else serve_by serving a.number v frame (session_of_connection v.clients.sessions a.number))
+      (has_header frame (record { xid = a.xid; body = bodies.Local (locals.Read a.request) }) reads)
+      ∙ ap (serve_by serving a.number v frame) joined
+      ∙ ap (serve_as a.number session v frame) reads
+      ∙ ap (λ (o : Option RequestQueue).
+      if not (is_some o)
+      then answer_read a.number v a.xid a.request
+      else no_output (with_pending v (hold_frame v.clients.pending a.number frame))) none
+      ∙ ap (λ (v : World). answer_read a.number v a.xid a.request) (sym (touch_is a.number u))
+    where
+      v : World
+      v = with_touched a.number u
+
+      -- What is done once the session is touched.
+      serve_on : World → StepResult World
+      serve_on v =
+          if is_refused_frame a.number v frame then close_client a.number v
+          else serve_by serving a.number v frame (session_of_connection v.clients.sessions a.number)
+
   -- A read may wait with those asked before it.
   pub read_waits : OtherConnectionsStay → (asked : List AskedRead) (w : World) (a : AskedRead) (session : ℤ)
-      → session_of_connection w.clients.sessions a.number ≡ Some session
-      → call_in frame ≡ Ok (record { xid = a.xid; body = bodies.Read a.request })
-      → and_then (answer_all_asked asked w) (serve_if_open serving a.number frame)
+      → is_heard a.number w.clients ≡ true
+      → session_of_connection w.clients.sessions a.number ≡ Some session → is_idle w.clients.pending a.number ≡ true
+      → call_in frame ≡ Ok (record { xid = a.xid; body = bodies.Local (locals.Read a.request) })
+      → and_then (answer_all_asked asked w) (serve_if_heard serving a.number frame)
       ≡ answer_all_asked (asked ++ a ∷ []) w
-  read_waits stay asked w a session joined reads =
+  read_waits stay asked w a session heard joined idle reads =
       ap (prepend_outputs h.outputs) (by (is_open a.number u.clients) refl) ∙ one_more asked w a
     where
       h : StepResult World
@@ -331,38 +430,43 @@ module _ (serving : Bool) (frame : List ℕ) where
       u : World
       u = h.after
 
-      served : is_open a.number u.clients ≡ true
-          → serve_frame serving a.number u frame ≡ answer_read a.number u a.xid a.request
-      served here =
-          ap (serve_by serving a.number u frame)
-          (ap session_in ((answered_kept stay asked w w (kept_itself w)).sessions a.number here) ∙ joined)
-          ∙ ap (serve_as a.number u) reads
+      kept : IsKept u w
+      kept = answered_kept stay asked w w (kept_itself w)
 
       by : (b : Bool) → is_open a.number u.clients ≡ b
-          → cond b (serve_frame serving a.number u frame) (no_output u)
-          ≡ cond b (answer_read a.number u a.xid a.request) (no_output u)
-      by true here = served here
-      by false closed = refl
+          → serve_if_heard serving a.number frame u
+          ≡ cond b (answer_read a.number (touch_client a.number u) a.xid a.request) (no_output u)
+      by true here =
+          ap (λ (b : Bool). cond b (serve_frame serving a.number u frame) (no_output u))
+          (ap (λ (o : Option OpenConnection). is_some (heard_in o)) (kept.connections a.number here) ∙ heard)
+          ∙ read_served u a session
+          (kept.pending a.number here ∙ none_idle (finmap.get w.clients.pending.queues a.number) idle)
+          (ap session_in (kept.sessions a.number here) ∙ joined) reads
+      by false closed =
+          ap (λ (o : Option OpenConnection). cond (is_some (heard_in o)) (serve_frame serving a.number u frame) (no_output u))
+          (none_of (finmap.get u.clients.connections a.number) closed)
 
   -- So may the read of a frame that others follow.
   frame_waits : OtherConnectionsStay → (asked : List AskedRead) (w : World) (a : AskedRead) (session : ℤ)
-      (others : Items (Unit {0}) (List ℕ)) → session_of_connection w.clients.sessions a.number ≡ Some session
-      → call_in frame ≡ Ok (record { xid = a.xid; body = bodies.Read a.request })
+      (others : Items (Unit {0}) (List ℕ)) → is_heard a.number w.clients ≡ true
+      → session_of_connection w.clients.sessions a.number ≡ Some session
+      → is_idle w.clients.pending a.number ≡ true
+      → call_in frame ≡ Ok (record { xid = a.xid; body = bodies.Local (locals.Read a.request) })
       → and_then (answer_all_asked asked w) (λ u. serve_all serving a.number u (with_first frame others))
       ≡ and_then (answer_all_asked (asked ++ a ∷ []) w) (λ u. serve_all serving a.number u others)
-  frame_waits stay asked w a session others joined reads =
+  frame_waits stay asked w a session others heard joined idle reads =
       let h = answer_all_asked asked w in
       ap (prepend_outputs h.outputs) (frame_first a.number others h.after)
-      ∙ in_turn h (serve_if_open serving a.number frame) (λ u. serve_all serving a.number u others)
+      ∙ in_turn h (serve_if_heard serving a.number frame) (λ u. serve_all serving a.number u others)
       ∙ ap (λ (g : StepResult World). and_then g (λ u. serve_all serving a.number u others))
-      (read_waits stay asked w a session joined reads)
+      (read_waits stay asked w a session heard joined idle reads)
 
 pub runs_are_reads : OtherConnectionsStay → RunsAreReads
 runs_are_reads stay = record {
   looks = λ asked w. each_shown stay asked w w (kept_itself w);
   rests = λ asked n rest w. answers_rest n rest asked w;
-  waits = λ serving asked w n session frame others xid r joined reads. frame_waits serving frame stay asked w
-      (record { number = n; xid = xid; request = r }) session others joined reads;
+  waits = λ serving asked w n session frame others xid r heard joined idle reads. frame_waits serving frame stay asked
+      w (record { number = n; xid = xid; request = r }) session others heard joined idle reads;
 }
 
 -- ---- a connection's frames, after the reads that wait
@@ -376,30 +480,30 @@ module _ (serving : Bool) (n : ℕ) (asked : List AskedRead) (w : World) (found 
   all_after = and_then h (λ u. serve_all serving n u found)
 
   pub one_frame : (frame : List ℕ) (others : Items (Unit {0}) (List ℕ)) → found ≡ with_first frame others
-      → all_after ≡ and_then (and_then h (serve_if_open serving n frame)) (λ u. serve_all serving n u others)
+      → all_after ≡ and_then (and_then h (serve_if_heard serving n frame)) (λ u. serve_all serving n u others)
   one_frame frame others is =
       ap (λ (fs : Items (Unit {0}) (List ℕ)). and_then h (λ u. serve_all serving n u fs)) is
       ∙ ap (prepend_outputs h.outputs) (frame_first serving frame n others h.after)
-      ∙ in_turn h (serve_if_open serving n frame) (λ u. serve_all serving n u others)
+      ∙ in_turn h (serve_if_heard serving n frame) (λ u. serve_all serving n u others)
 
   pub none_complete : (bytes : List ℕ) → found ≡ no_items (place_at tt bytes)
       → all_after ≡ answer_all_asked asked (world_with_rest n bytes w)
   none_complete bytes is =
       ap (prepend_outputs h.outputs) (none_whole serving n h.after found bytes is) ∙ kept_before n bytes asked w
 
-  pub none_taken : is_open n w.clients ≡ false → all_after ≡ h
-  none_taken closed =
-      ap (prepend_outputs h.outputs) (all_passed_over serving n h.after found (closed_after n asked w closed))
+  pub none_taken : is_heard n w.clients ≡ false → all_after ≡ h
+  none_taken unheard =
+      ap (prepend_outputs h.outputs) (all_passed_over serving n h.after found (unheard_after n asked w unheard))
       ∙ ap (λ (os : List Output). record { outputs = os; after = h.after }) (append-nil h.outputs)
 
   pub bad_after : (e : Fault) → found ≡ no_items (record { phase = tt; unread = Err e })
-      → all_after ≡ and_then h (close_if_open n)
-  bad_after e is = ap (prepend_outputs h.outputs) (by (is_open n h.after.clients) refl)
+      → all_after ≡ and_then h (close_if_heard n)
+  bad_after e is = ap (prepend_outputs h.outputs) (by (is_heard n h.after.clients) refl)
     where
-      by : (b : Bool) → is_open n h.after.clients ≡ b
+      by : (b : Bool) → is_heard n h.after.clients ≡ b
           → serve_all serving n h.after found ≡ cond b (close_client n h.after) (no_output h.after)
       by true here = bad_length serving n h.after found e is here
-      by false closed = all_passed_over serving n h.after found closed
+      by false unheard = all_passed_over serving n h.after found unheard
 
 -- ---- a connection's bytes, after the reads that wait
 
@@ -407,37 +511,37 @@ module _ (serving : Bool) (n : ℕ) (asked : List AskedRead) (w : World) (bytes 
   -- What the bytes do after the answers.
   abbrev pub bytes_after : StepResult World
   bytes_after = and_then (answer_all_asked asked w)
-      (λ u. take_client_bytes serving n u (finmap.get u.clients.connections n) bytes)
+      (λ u. take_client_bytes serving n u (heard_connection n u.clients) bytes)
 
   abbrev v : World
   v = world_with_rest n [] w
 
-  -- The bytes of a connection that isn't open are ignored.
-  pub none_waiting : None ≡ rest_at (finmap.get w.clients.connections n) → bytes_after ≡ answer_all_asked asked v
+  -- The bytes of a connection that isn't heard are ignored.
+  pub none_waiting : None ≡ rest_at (heard_connection n w.clients) → bytes_after ≡ answer_all_asked asked v
   none_waiting was =
       let u = (answer_all_asked asked w).after in
       ap (prepend_outputs (answer_all_asked asked w).outputs)
-      (not_open serving n u (finmap.get u.clients.connections n) bytes
-      (ap rest_at (none_of (finmap.get u.clients.connections n)
-      (closed_after n asked w (closed_if (finmap.get w.clients.connections n) was)))))
+      (not_heard serving n u (heard_connection n u.clients) bytes
+      (ap rest_at (none_of (heard_connection n u.clients)
+      (unheard_after n asked w (unheard_if (heard_connection n w.clients) was)))))
       ∙ kept_before n [] asked w
     where
-      closed_if : (o : Option OpenConnection) → None ≡ rest_at o → is_some o ≡ false
-      closed_if None e = refl
-      closed_if (Some c) e = absurd (true≢false (sym (ap is_some e)))
+      unheard_if : (o : Option OpenConnection) → None ≡ rest_at o → is_some o ≡ false
+      unheard_if None e = refl
+      unheard_if (Some c) e = absurd (true≢false (sym (ap is_some e)))
 
-  module _ (stay : OtherConnectionsStay) (waiting : List ℕ) (was : Some waiting ≡ rest_at (finmap.get w.clients.connections n)) where
+  module _ (stay : OtherConnectionsStay) (waiting : List ℕ) (was : Some waiting ≡ rest_at (heard_connection n w.clients)) where
     abbrev came : List ℕ
     came = waiting ++ bytes
 
     -- The waiting bytes are taken out before the answers, and what comes is told or served after them.
     abbrev then_done : World → StepResult World
-    then_done u = if is_open n u.clients then tell_or_serve serving n u came (word_at n v came) else no_output u
+    then_done u = if is_heard n u.clients then tell_or_serve serving n u came (word_at n v came) else no_output u
 
     one_taken : let u = (answer_all_asked asked w).after in
-        take_client_bytes serving n u (finmap.get u.clients.connections n) bytes
+        take_client_bytes serving n u (heard_connection n u.clients) bytes
         ≡ then_done (world_with_rest n [] u)
-    one_taken = by (finmap.get u.clients.connections n) refl
+    one_taken = by (heard_connection n u.clients) refl
       where
         u : World
         u = (answer_all_asked asked w).after
@@ -449,21 +553,25 @@ module _ (serving : Bool) (n : ℕ) (asked : List AskedRead) (w : World) (bytes 
         with_open o =
             record u { clients = record u.clients { connections = with_rest u.clients.connections n o [] } }
 
-        by : (o : Option OpenConnection) → finmap.get u.clients.connections n ≡ o
+        -- The word at the front, as far as the queue and the session of the connection let it be one.
+        word_by : Option RequestQueue → Option ConnectedClient → Option Word
+        word_by q j = if not (is_some q) then word_without_session (session_in j) (word_of (take 4 came)) else None
+
+        by : (o : Option OpenConnection) → heard_connection n u.clients ≡ o
             → take_client_bytes serving n u o bytes ≡ then_done (with_open o)
         by None none =
             ap (λ (b : Bool). cond b (tell_or_serve serving n u came (word_at n v came)) (no_output u))
             (sym (ap is_some none))
         by (Some c) some =
-            let here : is_open n u.clients ≡ true = ap is_some some in
-            at_open serving n u (Some c) bytes waiting
-            (ap rest_at (sym some ∙ kept.connections n here) ∙ sym was)
-            ∙ ap (λ (o : Option Word). tell_or_serve serving n (with_open (Some c)) came o)
-            (ap (λ (j : Option ConnectedClient). word_without_session (session_in j) (word_of (take 4 came)))
-            (kept.sessions n here))
+            let here : is_open n u.clients ≡ true = ap is_some (heard_open (finmap.get u.clients.connections n) c some) in
+            at_heard serving n u (Some c) bytes waiting
+            (ap rest_at (sym some ∙ ap heard_in (kept.connections n here)) ∙ sym was)
+            ∙ ap (tell_or_serve serving n (with_open (Some c)) came)
+            (ap (λ (q : Option RequestQueue). word_by q (finmap.get u.clients.sessions.connections n)) (kept.pending n here)
+            ∙ ap (word_by (finmap.get w.clients.pending.queues n)) (kept.sessions n here))
             ∙ ap (λ (b : Bool). cond b (tell_or_serve serving n (with_open (Some c)) came (word_at n v came))
             (no_output (with_open (Some c))))
-            (sym (open_as u.clients.connections n n (Some c) [] some ∙ here))
+            (sym (heard_with u.clients.connections n n (Some c) [] some ∙ ap is_some some))
 
     bytes_taken : bytes_after ≡ and_then (answer_all_asked asked v) then_done
     bytes_taken =
@@ -471,12 +579,12 @@ module _ (serving : Bool) (n : ℕ) (asked : List AskedRead) (w : World) (bytes 
         ∙ ap (λ (h : StepResult World). and_then h then_done) (sym (answered_rested n [] asked w))
 
     pub word_taken : (word : Word) → Some word ≡ word_at n v came
-        → bytes_after ≡ and_then (answer_all_asked asked v) (tell_if_open serving n word)
+        → bytes_after ≡ and_then (answer_all_asked asked v) (tell_if_heard serving n word)
     word_taken word is =
         let u = (answer_all_asked asked v).after in
         bytes_taken
         ∙ ap (λ (o : Option Word). prepend_outputs (answer_all_asked asked v).outputs
-        (cond (is_open n u.clients) (tell_or_serve serving n u came o) (no_output u))) (sym is)
+        (cond (is_heard n u.clients) (tell_or_serve serving n u came o) (no_output u))) (sym is)
 
     pub frames_taken : None ≡ word_at n v came
         → bytes_after ≡ and_then (answer_all_asked asked v)
@@ -484,8 +592,8 @@ module _ (serving : Bool) (n : ℕ) (asked : List AskedRead) (w : World) (bytes 
     frames_taken is =
         bytes_taken
         ∙ ap (λ (o : Option Word). prepend_outputs (answer_all_asked asked v).outputs
-        (cond (is_open n u.clients) (tell_or_serve serving n u came o) (no_output u))) (sym is)
-        ∙ ap (prepend_outputs (answer_all_asked asked v).outputs) (by (is_open n u.clients) refl)
+        (cond (is_heard n u.clients) (tell_or_serve serving n u came o) (no_output u))) (sym is)
+        ∙ ap (prepend_outputs (answer_all_asked asked v).outputs) (by (is_heard n u.clients) refl)
       where
         u : World
         u = (answer_all_asked asked v).after
@@ -493,9 +601,9 @@ module _ (serving : Bool) (n : ℕ) (asked : List AskedRead) (w : World) (bytes 
         all : World → StepResult World
         all u = serve_all serving n u (items_in frames_of_client (place_at tt came))
 
-        by : (b : Bool) → is_open n u.clients ≡ b → cond b (all u) (no_output u) ≡ all u
+        by : (b : Bool) → is_heard n u.clients ≡ b → cond b (all u) (no_output u) ≡ all u
         by true here = refl
-        by false closed = sym (all_passed_over serving n u (items_in frames_of_client (place_at tt came)) closed)
+        by false unheard = sym (all_passed_over serving n u (items_in frames_of_client (place_at tt came)) unheard)
 
 -- ---- what was looked up is shown
 
@@ -560,11 +668,11 @@ ends_owing (Err e) old whole now new left last asked after is m s =
 
 -- No read waits, so a frame is served at once.
 pub served_at_once : (r : Result (Unit {0}) NoMemory) (old new : List Output) (serving : Bool) (n : ℕ) (frame : List ℕ)
-    (w : World) (asked : List AskedRead) (after : World) → asked ≡ [] → is_open n w.clients ≡ true
+    (w : World) (asked : List AskedRead) (after : World) → asked ≡ [] → is_heard n w.clients ≡ true
     → MeetsStep r old (serve_frame serving n w frame) new after
-    → MeetsOwing r old (and_then (answer_all_asked asked w) (serve_if_open serving n frame)) new asked after
+    → MeetsOwing r old (and_then (answer_all_asked asked w) (serve_if_heard serving n frame)) new asked after
 served_at_once r old new serving n frame w asked after none here made =
-    settled_first r old old new (answer_all_asked asked w) (serve_if_open serving n frame) w asked after
+    settled_first r old old new (answer_all_asked asked w) (serve_if_heard serving n frame) w asked after
     (ap (λ (reads : List AskedRead). prepend_outputs old (answer_all_asked reads w)) none
     ∙ ap (λ (os : List Output). record { outputs = os; after = w }) (append-nil old)) none
     (subst (λ (b : Bool). MeetsStep r old (cond b (serve_frame serving n w frame) (no_output w)) new after) (sym here) made)

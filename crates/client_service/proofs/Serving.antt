@@ -2,7 +2,6 @@
 use Rattle.std.proofs.Common.{◌≡◌, ℕ, ◌-◌, ◌<◌, ◌≤◌, Bool, true, false, not, List, [], ◌++◌, length, drop, Option, Some, None, Ok, Err, refl, sym, ap, ◌∙◌, arith}
 use Rattle.std.specs.Prelude.{is_some}
 use Rattle.std.specs.Option.{unwrap_or}
-use Rattle.std.specs.FinMap as finmap
 use Rattle.std.proofs.lemmas.List.{length-append, drop_at}
 use mathlib.Core.Bool.{true≢false}
 use Rattle.values.specs.declared.fault.Fault.{Fault}
@@ -13,8 +12,9 @@ use Rattle.jute.specs.Stream.{items_in, place_at, with_first, no_items, Items, U
 use Rattle.jute.proofs.Public.{items_whole, items_short, items_refused, shorter_rest, refused_other}
 use Rattle.client_service.specs.World.{OpenConnection, World}
 use Rattle.client_service.specs.Steps.{StepResult, prepend_outputs, no_output, and_then, fold_steps}
-use Rattle.client_service.specs.Serve.{close_client, serve_frame, serve_all, word_at, is_closed, wait_if_open, wait_at, tell_or_serve, take_client_bytes, frames_of_client, client_frame_limit}
-use Rattle.client_service.specs.Inner.{rest_at, with_rest}
+use Rattle.client_service.specs.Clients.{heard_connection, is_heard}
+use Rattle.client_service.specs.Serve.{close_client, serve_frame, serve_all, word_at, is_unheard, wait_if_heard, wait_at, tell_or_serve, take_client_bytes, frames_of_client, client_frame_limit}
+use Rattle.client_service.specs.Inner.{rest_at, with_rest, world_with_rest}
 use Rattle.client_service.proofs.Steps.{behind_behind, passed_over, goes_on}
 use Rattle.client_service.proofs.Streams.{client_frame_sound, frames_streamed}
 
@@ -34,6 +34,7 @@ pub frame_whole : (bytes rest f : List ℕ) → IsBytes bytes → (frame_format 
     (items_in frames_of_client (place_at tt (drop (length bytes - length rest) bytes))))
     × (0 < length bytes - length rest)
     × (length bytes - length rest ≤ length bytes)
+    × (length f ≤ client_frame_limit)
 frame_whole bytes rest f fits e =
     let t = client_frame_sound.lawful.takes bytes f rest fits e in (
       items_whole frames_of_client frames_streamed tt bytes rest f e
@@ -41,6 +42,7 @@ frame_whole bytes rest f fits e =
           (sym (behind_text bytes t.text rest t.parts)),
       omega (arith, shorter bytes rest f e),
       omega arith,
+      t.spells.0,
     )
 
 pub frame_short : (bytes : List ℕ) → (frame_format client_frame_limit).read bytes ≡ Err Short
@@ -55,11 +57,11 @@ frame_refused bytes e other h = items_refused frames_of_client frames_streamed t
 
 -- ---- turns
 
-pub closed_is : (n : ℕ) (w : World) → finmap.contains_key w.clients.connections n ≡ false → is_closed n w ≡ true
-closed_is n w e = ap not e
+unheard_is : (n : ℕ) (w : World) → is_heard n w.clients ≡ false → is_unheard n w ≡ true
+unheard_is n w e = ap not e
 
-pub open_is : (n : ℕ) (w : World) → finmap.contains_key w.clients.connections n ≡ true → is_closed n w ≡ false
-open_is n w e = ap not e
+heard_is : (n : ℕ) (w : World) → is_heard n w.clients ≡ true → is_unheard n w ≡ false
+heard_is n w e = ap not e
 
 pub none_of : {A : Type 0} (o : Option A) → is_some o ≡ false → o ≡ None
 none_of None e = refl
@@ -71,63 +73,59 @@ left_at n left h = and_then h (wait_at n left)
 
 module _ (serving : Bool) (n : ℕ) (w : World) (found : Items (Unit {0}) (List ℕ)) where
   pub served_first : (f : List ℕ) (others : Items (Unit {0}) (List ℕ)) → found ≡ with_first f others
-      → finmap.contains_key w.clients.connections n ≡ true
+      → is_heard n w.clients ≡ true
       → serve_all serving n w found ≡ prepend_outputs (serve_frame serving n w f).outputs
       (serve_all serving n (serve_frame serving n w f).after others)
-  served_first f others is open_ =
+  served_first f others is heard =
       ap (serve_all serving n w) is
       ∙ ap (left_at n others.left.unread)
-      (goes_on (is_closed n) (serve_frame serving n) w f others.found (open_is n w open_))
+      (goes_on (is_unheard n) (serve_frame serving n) w f others.found (heard_is n w heard))
       ∙ sym (behind_behind (serve_frame serving n w f).outputs
-      (fold_steps (is_closed n) (serve_frame serving n) (serve_frame serving n w f).after others.found).outputs
+      (fold_steps (is_unheard n) (serve_frame serving n) (serve_frame serving n w f).after others.found).outputs
       (wait_at n others.left.unread
-      (fold_steps (is_closed n) (serve_frame serving n) (serve_frame serving n w f).after others.found).after))
+      (fold_steps (is_unheard n) (serve_frame serving n) (serve_frame serving n w f).after others.found).after))
 
-  pub all_passed_over : finmap.contains_key w.clients.connections n ≡ false → serve_all serving n w found ≡ no_output w
-  all_passed_over closed =
+  pub all_passed_over : is_heard n w.clients ≡ false → serve_all serving n w found ≡ no_output w
+  all_passed_over unheard =
       ap (left_at n found.left.unread)
-      (passed_over (is_closed n) (serve_frame serving n) w found.found (closed_is n w closed))
-      ∙ ap (λ (o : Option OpenConnection). wait_if_open n w o found.left.unread)
-      (none_of (finmap.get w.clients.connections n) closed)
+      (passed_over (is_unheard n) (serve_frame serving n) w found.found (unheard_is n w unheard))
+      ∙ ap (λ (o : Option OpenConnection). wait_if_heard n w o found.left.unread)
+      (none_of (heard_connection n w.clients) unheard)
 
   pub none_whole : (bytes : List ℕ) → found ≡ no_items (place_at tt bytes)
-      → serve_all serving n w found ≡ no_output
-      (record w {
-        clients = record
-            w.clients { connections = with_rest w.clients.connections n (finmap.get w.clients.connections n) bytes };
-      })
-  none_whole bytes is = ap (serve_all serving n w) is ∙ by (finmap.get w.clients.connections n)
+      → serve_all serving n w found ≡ no_output (world_with_rest n bytes w)
+  none_whole bytes is = ap (serve_all serving n w) is ∙ by (heard_connection n w.clients)
     where
-      by : (o : Option OpenConnection) → wait_if_open n w o (Ok bytes) ≡ no_output
+      by : (o : Option OpenConnection) → wait_if_heard n w o (Ok bytes) ≡ no_output
           (record w { clients = record w.clients { connections = with_rest w.clients.connections n o bytes } })
       by None = refl
       by (Some k) = refl
 
   pub bad_length : (e : Fault) → found ≡ no_items (record { phase = tt; unread = Err e })
-      → finmap.contains_key w.clients.connections n ≡ true → serve_all serving n w found ≡ close_client n w
-  bad_length e is open_ = ap (serve_all serving n w) is ∙ by (finmap.get w.clients.connections n) open_
+      → is_heard n w.clients ≡ true → serve_all serving n w found ≡ close_client n w
+  bad_length e is heard = ap (serve_all serving n w) is ∙ by (heard_connection n w.clients) heard
     where
-      by : (o : Option OpenConnection) → is_some o ≡ true → wait_if_open n w o (Err e) ≡ close_client n w
+      by : (o : Option OpenConnection) → is_some o ≡ true → wait_if_heard n w o (Err e) ≡ close_client n w
       by None h = absurd (true≢false (sym h))
       by (Some k) h = refl
 
 -- ---- bytes
 
 module _ (serving : Bool) (n : ℕ) (w : World) (o : Option OpenConnection) (bytes : List ℕ) where
-  pub not_open : rest_at o ≡ None → take_client_bytes serving n w o bytes ≡ no_output
+  pub not_heard : rest_at o ≡ None → take_client_bytes serving n w o bytes ≡ no_output
       (record w { clients = record w.clients { connections = with_rest w.clients.connections n o [] } })
-  not_open e = by o e
+  not_heard e = by o e
     where
       by : (o : Option OpenConnection) → rest_at o ≡ None → take_client_bytes serving n w o bytes ≡ no_output
           (record w { clients = record w.clients { connections = with_rest w.clients.connections n o [] } })
       by None e = refl
       by (Some k) e = absurd (true≢false (ap is_some e))
 
-  pub at_open : (rest : List ℕ) → rest_at o ≡ Some rest
+  pub at_heard : (rest : List ℕ) → rest_at o ≡ Some rest
       → take_client_bytes serving n w o bytes ≡ tell_or_serve serving n
       (record w { clients = record w.clients { connections = with_rest w.clients.connections n o [] } })
       (rest ++ bytes) (word_at n w (rest ++ bytes))
-  at_open rest e = by o e
+  at_heard rest e = by o e
     where
       by : (o : Option OpenConnection) → rest_at o ≡ Some rest
           → take_client_bytes serving n w o bytes ≡ tell_or_serve serving n

@@ -1,8 +1,9 @@
 -- Steps one after the other.
 use Rattle.std.proofs.Common.{◌≡◌, Bool, true, false, cond, List, [], ◌∷◌, ◌++◌, Result, Ok, Err, refl, sym, ap, subst, ◌∙◌, append_assoc}
+use Rattle.std.specs.Prelude.{OnOk}
 use Rattle.std.proofs.lemmas.List.{append-nil}
 use Rattle.values.specs.Gains.{Gains}
-use Rattle.values.proofs.Gaining.{gains_first, gains_behind}
+use Rattle.values.proofs.Gaining.{gains_all, gains_first, gains_behind}
 use Rattle.client_service.specs.declared.output.Output.{Output}
 use Rattle.values.specs.declared.fault.NoMemory.{NoMemory}
 pub use Rattle.client_service.specs.Results.{SoFar}
@@ -140,6 +141,12 @@ then_meets {S} (Err e) old mid new h next left after made m =
 pub first_stops : {S T : Type 0} (old new : List Output) (h : StepResult S) (next : S → StepResult T)
     → Gains old h.outputs new → Gains old (and_then h next).outputs new
 first_stops old new h next g = gains_first (next h.after).outputs g
+
+-- All outputs were appended, and then the state was to change.
+pub puts_meets : {S : Type 0} (r : Result (Unit {0}) NoMemory) (old new : List Output) (whole : StepResult S)
+    (after : S) → new ≡ old ++ whole.outputs → OnOk r (after ≡ whole.after) → MeetsStep r old whole new after
+puts_meets (Ok u) old new whole after put left = λ i. record { outputs = sym put i; after = sym left i }
+puts_meets (Err e) old new whole after put left = gains_all old whole.outputs new put
 
 -- Outputs were appended, and then a step was tried.
 pub behind_meets : {S : Type 0} (r : Result (Unit {0}) NoMemory) (old put mid new : List Output)

@@ -1,9 +1,10 @@
 -- The clients of an observer: the open connections, the session of each, and what they watch.
-use Rattle.std.specs.Prelude.{ℕ, negsuc, List, [], ◌∷◌, ◌++◌, map, Option, Some, None, Bool}
+use Rattle.std.specs.Prelude.{ℕ, negsuc, List, [], ◌∷◌, ◌++◌, map, Option, Some, None, is_some, Bool, false, if◌then◌else◌}
 use Rattle.std.specs.FinMap as finmap
 use Rattle.sessions.specs.Sessions.{close_connection, no_sessions}
 use Rattle.watch_manager.specs.declared.event.Event.{Event}
 use Rattle.watch_manager.specs.Watching.{without_watches_of, no_watch}
+use Rattle.forwarding.specs.Pending.{nothing_pending, drop_connection}
 use Rattle.client_records.specs.declared.codes.TheConstants.{NOTIFICATION_XID}
 use Rattle.read_processor.specs.Events.{look_of_event}
 use Rattle.read_processor.specs.Reply.{reply_frame}
@@ -16,23 +17,34 @@ use Rattle.client_service.specs.declared.world.Settings.{Settings}
 
 -- A connection without waiting bytes.
 abbrev pub idle_connection : OpenConnection
-idle_connection = record { rest = [] }
+idle_connection = record { rest = []; is_leaving = false }
 
 abbrev pub is_open : ℕ → Clients → Bool
 is_open n c = finmap.contains_key c.connections n
+
+abbrev pub heard_in : Option OpenConnection → Option OpenConnection
+heard_in None = None
+heard_in (Some connection) = if connection.is_leaving then None else Some connection
+
+-- The connection, if it is open and hasn't asked for the end of its session: only then its bytes are taken.
+abbrev pub heard_connection : ℕ → Clients → Option OpenConnection
+heard_connection n c = heard_in (finmap.get c.connections n)
+
+abbrev pub is_heard : ℕ → Clients → Bool
+is_heard n c = is_some (heard_connection n c)
 
 -- The clients with connection n open and in this state.
 abbrev pub with_connection : ℕ → OpenConnection → Clients → Clients
 with_connection n connection c = record c { connections = finmap.insert c.connections n connection }
 
--- A connection is removed, with its ids and its watches; its session stays.
+-- A connection is removed, with its ids, its watches and its requests; its session stays.
 abbrev pub without_client : ℕ → Clients → Clients
 without_client n c =
     record {
       connections = finmap.remove c.connections n;
       sessions = close_connection c.sessions n;
-      watches =
-          without_watches_of n c.watches;
+      watches = without_watches_of n c.watches;
+      pending = drop_connection c.pending n;
     }
 
 abbrev pub without_clients : List ℕ → Clients → Clients
@@ -53,6 +65,7 @@ no_clients settings = record {
   connections = finmap.empty;
   sessions = no_sessions (session_settings_of settings.server_id settings.timeouts settings.secret);
   watches = no_watch;
+  pending = nothing_pending;
 }
 
 -- ---- what clients are told

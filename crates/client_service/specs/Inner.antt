@@ -1,5 +1,5 @@
 -- The contracts of the private functions. No public contract cites this.
-use Rattle.std.specs.Prelude.{◌≡◌, ℕ, ℤ, List, Result, Ok, Err, Option, Some, None, Bool, length, drop, ◌<◌, ◌≤◌, if◌then◌else◌}
+use Rattle.std.specs.Prelude.{◌≡◌, ℕ, ℤ, List, Result, Ok, Err, Option, Some, None, Bool, true, length, drop, ◌<◌, ◌≤◌, if◌then◌else◌}
 use Rattle.std.specs.FinMap as finmap
 use Rattle.std.specs.Borrow.{Bor}
 use Rattle.values.specs.declared.fault.Fault.{Fault}
@@ -7,11 +7,13 @@ use Rattle.sessions.specs.Sessions.{session_of_connection}
 use Rattle.four_letter.specs.declared.word.Word.{Word}
 use Rattle.client_frames.specs.Call.{call_in}
 use Rattle.client_frames.specs.declared.call.CallBody.TheVariants as bodies
+use Rattle.client_frames.specs.declared.call.LocalCall.TheVariants as locals
+use Rattle.forwarding.specs.Pending.{is_idle}
 use Rattle.jute.specs.Stream.{place_at, items_in, with_first, no_items}
 use Rattle.client_service.specs.World.{OpenConnection, OpenConnections, World}
 use Rattle.client_service.specs.Steps.{StepResult, no_output}
-use Rattle.client_service.specs.Clients.{is_open}
-use Rattle.client_service.specs.Serve.{frames_of_client, close_client, tell_word}
+use Rattle.client_service.specs.Clients.{heard_connection, is_heard}
+use Rattle.client_service.specs.Serve.{frames_of_client, client_frame_limit, close_client, tell_word}
 use Rattle.client_service.specs.Runs.{AskedRead}
 
 -- The first frame and the bytes that it takes; or no frame is complete; or its length is out of bounds.
@@ -20,38 +22,45 @@ IsFirstFrame (Ok (Some f)) bytes =
     (items_in frames_of_client (place_at tt bytes)
     ≡ with_first f.0.now (items_in frames_of_client (place_at tt (drop f.1 bytes)))) × (0 < f.1)
     × (f.1 ≤ length bytes)
+    × (length f.0.now ≤ client_frame_limit)
 IsFirstFrame (Ok None) bytes = items_in frames_of_client (place_at tt bytes) ≡ no_items (place_at tt bytes)
 IsFirstFrame (Err e) bytes = items_in frames_of_client (place_at tt bytes)
     ≡ no_items (record { phase = tt; unread = Err e })
 
--- The waiting bytes of an open connection.
+-- The waiting bytes of a connection that is heard.
 abbrev pub rest_at : Option OpenConnection → Option (List ℕ)
 rest_at None = None
 rest_at (Some connection) = Some connection.rest
 
--- Replaces the waiting bytes of an open connection; a connection that isn't open stays closed.
+-- Replaces the waiting bytes of a connection, if it is heard; of no other a byte is kept.
 abbrev pub with_rest : OpenConnections → ℕ → Option OpenConnection → List ℕ → OpenConnections
 with_rest connections n None rest = connections
 with_rest connections n (Some connection) rest = finmap.insert connections n (record connection { rest = rest })
 
+-- An open connection is leaving from now on.
+abbrev pub with_leaver : OpenConnections → ℕ → Option OpenConnection → OpenConnections
+with_leaver connections n None = connections
+with_leaver connections n (Some connection) = finmap.insert connections n (record connection { is_leaving = true })
+
 abbrev pub world_with_rest : ℕ → List ℕ → World → World
 world_with_rest n rest w = record w {
   clients = record w.clients {
-    connections = with_rest w.clients.connections n (finmap.get w.clients.connections n) rest;
+    connections = with_rest w.clients.connections n (heard_connection n w.clients) rest;
   };
 }
 
--- The read that a frame asks for, of a connection that has a session.
+-- The read that a frame asks for, of a connection that has a session and no request that waits.
 pub record IsReadIn (n : ℕ) (w : World) (frame : List ℕ) (read : AskedRead) : Type 0 where
   pub session : ℤ
   pub joined : session_of_connection w.clients.sessions n ≡ Some session
-  pub asked : call_in frame ≡ Ok (record { xid = read.xid; body = bodies.Read read.request })
+  pub idle : is_idle w.clients.pending n ≡ true
+  pub asked : call_in frame ≡ Ok (record { xid = read.xid; body = bodies.Local (locals.Read read.request) })
   pub number : read.number ≡ n
 
 -- ---- after the reads that wait were answered, which may have closed the connection
 
-abbrev pub close_if_open : ℕ → World → StepResult World
-close_if_open n w = if is_open n w.clients then close_client n w else no_output w
+abbrev pub close_if_heard : ℕ → World → StepResult World
+close_if_heard n w = if is_heard n w.clients then close_client n w else no_output w
 
-abbrev pub tell_if_open : Bool → ℕ → Word → World → StepResult World
-tell_if_open serving n word w = if is_open n w.clients then tell_word serving n w word else no_output w
+abbrev pub tell_if_heard : Bool → ℕ → Word → World → StepResult World
+tell_if_heard serving n word w = if is_heard n w.clients then tell_word serving n w word else no_output w

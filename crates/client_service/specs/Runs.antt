@@ -1,5 +1,5 @@
 -- Reads that wait for their answers: a run of reads, with nothing else to be done between them.
-use Rattle.std.specs.Prelude.{◌≡◌, ℕ, ℤ, List, [], ◌∷◌, ◌++◌, map, Some, Ok, Bool, false, if◌then◌else◌}
+use Rattle.std.specs.Prelude.{◌≡◌, ℕ, ℤ, List, [], ◌∷◌, ◌++◌, map, Some, Ok, Bool, true, false, if◌then◌else◌}
 use Rattle.jute.specs.Stream.{Items, with_first}
 use Rattle.sessions.specs.Sessions.{session_of_connection, ids_of}
 use Rattle.read_processor.specs.declared.request.Request.{Request}
@@ -8,10 +8,12 @@ use Rattle.read_processor.specs.Look.{look_at_state}
 use Rattle.read_processor.specs.Watch.{watch_of}
 use Rattle.client_frames.specs.Call.{call_in}
 use Rattle.client_frames.specs.declared.call.CallBody.TheVariants as bodies
+use Rattle.client_frames.specs.declared.call.LocalCall.TheVariants as locals
+use Rattle.forwarding.specs.Pending.{is_idle}
 use Rattle.client_service.specs.World.{World}
 use Rattle.client_service.specs.Steps.{StepResult, no_output, and_then, fold_steps}
-use Rattle.client_service.specs.Clients.{is_open}
-use Rattle.client_service.specs.Serve.{with_watch_if, with_watching, send_reply, answer_read, serve_frame, serve_all, wait_at}
+use Rattle.client_service.specs.Clients.{is_open, is_heard}
+use Rattle.client_service.specs.Serve.{with_watch_if, with_watching, send_reply, answer_read, touch_client, serve_frame, serve_all, wait_at}
 
 -- A read that a connection asked for, with the xid of its reply.
 pub record AskedRead : Type 0 where
@@ -19,17 +21,18 @@ pub record AskedRead : Type 0 where
   pub xid : ℤ
   pub request : Request
 
--- A read is answered at the present state, if its connection is open by then.
+-- A read is answered at the present state, if its connection is open by then. Its frame touches the session.
 abbrev pub answer_asked : World → AskedRead → StepResult World
-answer_asked w a = if is_open a.number w.clients then answer_read a.number w a.xid a.request else no_output w
+answer_asked w a =
+    if is_open a.number w.clients then answer_read a.number (touch_client a.number w) a.xid a.request else no_output w
 
 -- All are answered, in the order in which they were asked.
 abbrev pub answer_all_asked : List AskedRead → World → StepResult World
 answer_all_asked asked w = fold_steps (λ (w : World). false) answer_asked w asked
 
--- A frame is served after them, if its connection is still open.
-abbrev pub serve_if_open : Bool → ℕ → List ℕ → World → StepResult World
-serve_if_open serving n frame w = if is_open n w.clients then serve_frame serving n w frame else no_output w
+-- A frame is served after them, if its connection is still heard.
+abbrev pub serve_if_heard : Bool → ℕ → List ℕ → World → StepResult World
+serve_if_heard serving n frame w = if is_heard n w.clients then serve_frame serving n w frame else no_output w
 
 -- ---- what they show is looked up first
 
@@ -42,7 +45,8 @@ abbrev pub show_asked : World → AskedRead → Look → StepResult World
 show_asked w a seen =
     if is_open a.number w.clients
     then send_reply a.number
-    (with_watching w (with_watch_if a.number w.clients.watches (watch_of a.request seen.error))) a.xid seen
+    (with_watching (touch_client a.number w) (with_watch_if a.number w.clients.watches (watch_of a.request seen.error)))
+    a.xid seen
     else no_output w
 
 abbrev pub show_all_asked : List AskedRead → List Look → World → StepResult World
@@ -61,12 +65,14 @@ pub record RunsAreReads : Type 0 where
   pub rests : (asked : List AskedRead) (n : ℕ) (rest : List ℕ) (w : World)
       → and_then (wait_at n (Ok rest) w) (answer_all_asked asked)
       ≡ and_then (answer_all_asked asked w) (wait_at n (Ok rest))
-  -- The read of a frame may wait with those asked before it.
+  -- The read of a frame may wait with those asked before it, where no other request of its connection waits.
   pub waits :
       (serving : Bool) (asked : List AskedRead) (w : World) (n : ℕ) (session : ℤ) (frame : List ℕ)
       (others : Items (Unit {0}) (List ℕ)) (xid : ℤ) (r : Request)
+      → is_heard n w.clients ≡ true
       → session_of_connection w.clients.sessions n ≡ Some session
-      → call_in frame ≡ Ok (record { xid = xid; body = bodies.Read r })
+      → is_idle w.clients.pending n ≡ true
+      → call_in frame ≡ Ok (record { xid = xid; body = bodies.Local (locals.Read r) })
       → and_then (answer_all_asked asked w) (λ u. serve_all serving n u (with_first frame others))
       ≡ and_then (answer_all_asked (asked ++ record { number = n; xid = xid; request = r } ∷ []) w)
       (λ u. serve_all serving n u others)

@@ -1,5 +1,5 @@
 -- What the bytes of a client do.
-use Rattle.std.specs.Prelude.{ℕ, ℤ, pos, List, [], ◌∷◌, ◌++◌, map, take, Option, Some, None, Result, Ok, Err, Bool, not, int_lt, ◌&&◌, if◌then◌else◌}
+use Rattle.std.specs.Prelude.{ℕ, ℤ, pos, List, [], ◌∷◌, ◌++◌, map, take, Option, Some, None, Result, Ok, Err, Bool, true, not, is_some, length, nat_lt, int_lt, ◌&&◌, ◌||◌, if◌then◌else◌}
 use Rattle.std.specs.Option.{unwrap_or}
 use Rattle.std.specs.Ordering.{int_eq}
 use Rattle.std.specs.FinMap as finmap
@@ -12,7 +12,8 @@ use Rattle.client_records.specs.declared.codes.TheConstants.{OK, UNIMPLEMENTED, 
 use Rattle.client_records.specs.declared.connect.ConnectRequest.{ConnectRequest}
 use Rattle.client_records.specs.declared.request.AuthPacket.{AuthPacket}
 use Rattle.sessions.specs.State.{SessionTable as Sessions}
-use Rattle.sessions.specs.Sessions.{session_of_connection, ids_of, ConnectResult, connect_session, AuthResult, add_auth, expire_guest}
+use Rattle.sessions.specs.Sessions.{session_of_connection, ids_of, ConnectResult, connect_session, refusal_response, AuthResult, add_auth, expire_owner}
+use Rattle.sessions.specs.declared.request.Connected.{Connected}
 use Rattle.sessions.specs.declared.request.SessionResponse.{SessionResponse}
 use Rattle.watch_manager.specs.Watching.{WatchTables, with_lasting_watch}
 use Rattle.watch_manager.specs.Summary.{summary}
@@ -31,18 +32,31 @@ use Rattle.read_processor.specs.Look.{look_at_state, without_body}
 use Rattle.read_processor.specs.Watch.{watch_of, watch_to_add}
 use Rattle.read_processor.specs.Renewal.{renew_watches}
 use Rattle.read_processor.specs.Reply.{reply_frame}
-use Rattle.client_service.specs.declared.output.Output.TheVariants.{ToClient, CloseClient}
+use Rattle.client_service.specs.declared.output.Output.TheVariants.{ToLeader, ToClient, CloseClient}
 use Rattle.client_frames.specs.declared.call.Call.{Call}
 use Rattle.client_frames.specs.declared.call.CallBody.{CallBody}
 use Rattle.client_frames.specs.declared.call.CallBody.TheVariants as bodies
+use Rattle.client_frames.specs.declared.call.LocalCall.{LocalCall}
+use Rattle.client_frames.specs.declared.call.LocalCall.TheVariants as locals
+use Rattle.forwarding.specs.State.{PendingTable}
+use Rattle.forwarding.specs.declared.request.WriteKind.{WriteKind}
+use Rattle.forwarding.specs.Queue.{is_close}
+use Rattle.forwarding.specs.Pending.{is_idle, is_full, connecting_to, push_connect, push_write, push_sync, hold_frame, touch_session}
+use Rattle.quorum_packet.specs.Packet.{packet_format}
+use Rattle.quorum_packet.specs.declared.packet.QuorumPacket.{QuorumPacket}
+use Rattle.learner_sync.specs.Answers.{request_of, session_request}
+use Rattle.client_service.specs.declared.output.Output.{Output}
 use Rattle.client_frames.specs.declared.connecting.Connecting.{Connecting}
 use Rattle.client_service.specs.World.{OpenConnection, Clients, World}
 use Rattle.client_frames.specs.Call.{call_in}
-use Rattle.client_frames.specs.Connect.{connecting_in, session_request, answer_to_connect}
+use Rattle.client_frames.specs.Connect.{connecting_in, session_request_of, answer_to_connect}
 use Rattle.client_service.specs.Steps.{StepResult, prepend_outputs, no_output, and_then, fold_steps}
-use Rattle.client_service.specs.Clients.{idle_connection, is_open, with_connection, without_client, notices_to}
+use Rattle.client_service.specs.Clients.{idle_connection, is_open, heard_connection, is_heard, with_connection, without_client, notices_to}
 
--- ---- what is sent to a client
+-- ---- what is sent
+
+abbrev pub to_leader : QuorumPacket → Output
+to_leader p = ToLeader (packet_format.written p)
 
 abbrev pub close_client : ℕ → World → StepResult World
 close_client n w = record { outputs = CloseClient n ∷ []; after = record w { clients = without_client n w.clients } }
@@ -105,6 +119,17 @@ answer_add_watch n w xid (Some watch) =
 abbrev pub with_sessions : World → Sessions → World
 with_sessions w sessions = record w { clients = record w.clients { sessions = sessions } }
 
+abbrev pub with_pending : World → PendingTable → World
+with_pending w pending = record w { clients = record w.clients { pending = pending } }
+
+abbrev pub touched_as : World → Option ℤ → World
+touched_as w None = w
+touched_as w (Some session) = with_pending w (touch_session w.clients.pending session)
+
+-- The session of the connection, if it has one, is touched: the leader will be told that its client was heard.
+abbrev pub touch_client : ℕ → World → World
+touch_client n w = touched_as w (session_of_connection w.clients.sessions n)
+
 -- An id is added; its reply has the zxid 0. If the id is refused, the connection is closed.
 abbrev pub send_auth_result : ℕ → World → ℤ → AuthResult → StepResult World
 send_auth_result n w xid shows =
@@ -115,13 +140,9 @@ send_auth_result n w xid shows =
 abbrev pub show_id : ℕ → World → ℤ → AuthPacket → StepResult World
 show_id n w xid packet = send_auth_result n w xid (add_auth w.clients.sessions n packet.scheme packet.auth)
 
--- The session ends, and its connection is still open.
-abbrev pub with_session_expired : World → Option ℤ → World
-with_session_expired w None = w
-with_session_expired w (Some session) = with_sessions w (expire_guest w.clients.sessions session).after
-
-abbrev pub end_session : ℕ → World → World
-end_session n w = with_session_expired w (session_of_connection w.clients.sessions n)
+abbrev pub answer_auth : ℕ → World → ℤ → Option AuthPacket → StepResult World
+answer_auth n w xid None = send_reply n w xid (without_body BAD_ARGUMENTS)
+answer_auth n w xid (Some packet) = show_id n w xid packet
 
 -- Closes the connection that has lost its session.
 abbrev pub close_client_if_some : World → Option ℕ → StepResult World
@@ -134,49 +155,128 @@ send_connect_response n has_byte response w =
     let frame = Some (answer_to_connect response has_byte) in
     if int_eq response.session_id (pos 0) then send_last n w frame else send_or_close n w frame
 
--- An older connection of the session is closed first.
-abbrev pub finish_connect : ℕ → World → Bool → ConnectResult → StepResult World
-finish_connect n w has_byte c =
-    and_then (close_client_if_some (with_sessions w c.after) c.connected.older)
-    (send_connect_response n has_byte c.connected.response)
+-- The response to a connect. An older connection of its session is closed first.
+abbrev pub answer_connect : ℕ → Bool → World → Connected → StepResult World
+answer_connect n has_byte w connected =
+    and_then (close_client_if_some w connected.older) (send_connect_response n has_byte connected.response)
+
+-- The leader is asked to create the session, and the connect waits until it has. No two connects wait for one session.
+abbrev pub ask_for_session : ℕ → Bool → World → SessionResponse → StepResult World
+ask_for_session n has_byte w response =
+    if is_some (connecting_to w.clients.pending response.session_id)
+    then send_connect_response n has_byte refusal_response w
+    else record {
+      outputs = to_leader (session_request response.session_id response.time_out) ∷ [];
+      after =
+          with_pending w
+          (push_connect w.clients.pending n
+          (record { session = response.session_id; time_out = response.time_out; has_read_only = has_byte }));
+    }
+
+-- The client wants a new session, and there is an id for it.
+abbrev pub is_new_session : ConnectRequest → SessionResponse → Bool
+is_new_session request response = int_eq request.session_id (pos 0) && not (int_eq response.session_id (pos 0))
+
+-- A session that lives is taken up at once, which touches it; a refusal is sent at once.
+abbrev pub finish_connect : ℕ → World → Connecting → ConnectResult → StepResult World
+finish_connect n w asked c =
+    let v = with_sessions w c.after in
+    if is_new_session asked.request c.connected.response
+    then ask_for_session n asked.has_byte v c.connected.response
+    else answer_connect n asked.has_byte (touch_client n v) c.connected
 
 -- A client may connect where clients are served, if it hasn't seen a zxid above the last one.
 abbrev pub may_connect : Bool → World → ConnectRequest → Bool
 may_connect serving w request = serving && not (int_lt w.replica.learner.last_zxid request.last_zxid_seen)
 
+-- A session lives while the tree has it.
+abbrev pub is_live : ℤ → World → Bool
+is_live session w = finmap.contains_key w.replica.tree.sessions session
+
 abbrev pub handle_connect : Bool → ℕ → World → Result Connecting Fault → StepResult World
 handle_connect serving n w (Err e) = close_client n w
 handle_connect serving n w (Ok c) =
     if may_connect serving w c.request
-    then finish_connect n w c.has_byte (connect_session w.clients.sessions n (session_request c.request))
+    then finish_connect n w c
+    (connect_session w.clients.sessions n (is_live c.request.session_id w) (session_request_of c.request))
     else close_client n w
 
--- ---- calls
+-- ---- requests that this server answers
 
-abbrev pub handle_call : ℕ → World → ℤ → CallBody → StepResult World
-handle_call n w xid (bodies.Read r) = answer_read n w xid r
-handle_call n w xid (bodies.SetWatches r) = answer_set_watches n w xid (renew_watches w.replica.tree r)
-handle_call n w xid (bodies.AddWatch r) = answer_add_watch n w xid (watch_to_add r)
-handle_call n w xid (bodies.Auth packet) = show_id n w xid packet
-handle_call n w xid bodies.CloseSession = send_reply_last n (end_session n w) xid (without_body OK)
-handle_call n w xid bodies.Unreadable = send_reply n w xid (without_body BAD_ARGUMENTS)
-handle_call n w xid bodies.Ping = send_reply n w PING_XID (without_body OK)
-handle_call n w xid bodies.Write = send_reply n w xid (without_body NOT_READ_ONLY)
-handle_call n w xid bodies.Unknown = send_reply_last n w xid (without_body UNIMPLEMENTED)
+-- A request is answered at the present state.
+abbrev pub handle_local : ℕ → World → ℤ → LocalCall → StepResult World
+handle_local n w xid (locals.Read r) = answer_read n w xid r
+handle_local n w xid (locals.SetWatches r) = answer_set_watches n w xid (renew_watches w.replica.tree r)
+handle_local n w xid (locals.AddWatch r) = answer_add_watch n w xid (watch_to_add r)
+handle_local n w xid locals.Unreadable = send_reply n w xid (without_body BAD_ARGUMENTS)
+handle_local n w xid locals.Ping = send_reply n w PING_XID (without_body OK)
+handle_local n w xid locals.Refused = send_reply n w xid (without_body NOT_READ_ONLY)
+handle_local n w xid locals.Unknown = send_reply_last n w xid (without_body UNIMPLEMENTED)
+
+-- It is answered in its turn: while an earlier request of the connection waits, the frame is held.
+abbrev pub handle_or_hold : ℕ → World → List ℕ → ℤ → LocalCall → StepResult World
+handle_or_hold n w frame xid call =
+    if is_idle w.clients.pending n then handle_local n w xid call
+    else no_output (with_pending w (hold_frame w.clients.pending n frame))
+
+-- ---- requests for the leader
+
+-- The frame goes to the leader as it came, with the ids of the connection, and waits for the leader's answer.
+abbrev pub forward_frame : ℕ → ℤ → World → List ℕ → PendingTable → StepResult World
+forward_frame n session w frame pending = record {
+  outputs = to_leader (request_of session frame (ids_of w.clients.sessions n)) ∷ [];
+  after = with_pending w pending;
+}
+
+abbrev pub with_leaving : ℕ → World → Option OpenConnection → World
+with_leaving n w None = w
+with_leaving n w (Some connection) =
+    record w { clients = with_connection n (record connection { is_leaving = true }) w.clients }
+
+-- After a closeSession nothing more is taken of the connection.
+abbrev pub leave_if_closing : ℕ → WriteKind → World → World
+leave_if_closing n kind w = if is_close kind then with_leaving n w (finmap.get w.clients.connections n) else w
+
+-- ---- frames
+
+-- Writes and syncs are forwarded at once, and an id is added at once, whatever waits.
+abbrev pub handle_call : ℕ → ℤ → World → List ℕ → ℤ → CallBody → StepResult World
+handle_call n session w frame xid (bodies.Forward kind) =
+    forward_frame n session (leave_if_closing n kind w) frame (push_write w.clients.pending n xid kind)
+handle_call n session w frame xid (bodies.Sync path) =
+    forward_frame n session w frame (push_sync w.clients.pending n xid path)
+handle_call n session w frame xid (bodies.Auth packet) = answer_auth n w xid packet
+handle_call n session w frame xid (bodies.Local call) = handle_or_hold n w frame xid call
 
 -- A frame whose header can't be read closes the connection.
-abbrev pub serve_as : ℕ → World → Result Call Fault → StepResult World
-serve_as n w (Ok c) = handle_call n w c.xid c.body
-serve_as n w (Err e) = close_client n w
+abbrev pub serve_as : ℕ → ℤ → World → List ℕ → Result Call Fault → StepResult World
+serve_as n session w frame (Ok c) = handle_call n session w frame c.xid c.body
+serve_as n session w frame (Err e) = close_client n w
 
--- Until the connection has a session, its frame is a ConnectRequest.
+-- The first frame is a ConnectRequest. While that waits for its session, the frames after it are held whole.
+abbrev pub connect_or_hold : Bool → ℕ → World → List ℕ → StepResult World
+connect_or_hold serving n w frame =
+    if is_idle w.clients.pending n then handle_connect serving n w (connecting_in frame)
+    else no_output (with_pending w (hold_frame w.clients.pending n frame))
+
 abbrev pub serve_by : Bool → ℕ → World → List ℕ → Option ℤ → StepResult World
-serve_by serving n w frame None = handle_connect serving n w (connecting_in frame)
-serve_by serving n w frame (Some session) = serve_as n w (call_in frame)
+serve_by serving n w frame None = connect_or_hold serving n w frame
+serve_by serving n w frame (Some session) = serve_as n session w frame (call_in frame)
 
--- A frame is answered at the present state.
+-- The bytes of a request's header.
+abbrev pub header_len : ℕ
+header_len = 8
+
+-- A frame that is too short for a header closes the connection, and so does one that comes while as many requests wait
+-- as may.
+abbrev pub is_refused_frame : ℕ → World → List ℕ → Bool
+is_refused_frame n w frame = is_full w.clients.pending n || nat_lt (length frame) header_len
+
 abbrev pub serve_frame : Bool → ℕ → World → List ℕ → StepResult World
-serve_frame serving n w frame = serve_by serving n w frame (session_of_connection w.clients.sessions n)
+serve_frame serving n w frame =
+    let v = touch_client n w in
+    if is_refused_frame n v frame then close_client n v
+    else serve_by serving n v frame (session_of_connection v.clients.sessions n)
 
 -- ---- words
 
@@ -211,19 +311,22 @@ figures_of serving w = figures_with serving w (watch_rows w.clients)
 abbrev pub tell_word : Bool → ℕ → World → Word → StepResult World
 tell_word serving n w word = send_last n w (Some (reply_text word (figures_of serving w)))
 
--- A connection that has a session can't send a word.
+-- A connection that has a session, or whose connect waits, can't send a word.
 abbrev pub word_without_session : Option ℤ → Option Word → Option Word
 word_without_session None word = word
 word_without_session (Some session) word = None
 
 -- The word in a connection's first four bytes; fewer bytes are none.
 abbrev pub word_at : ℕ → World → List ℕ → Option Word
-word_at n w bytes = word_without_session (session_of_connection w.clients.sessions n) (word_of (take 4 bytes))
+word_at n w bytes =
+    if is_idle w.clients.pending n
+    then word_without_session (session_of_connection w.clients.sessions n) (word_of (take 4 bytes)) else None
 
 -- ---- bytes
 
-abbrev pub is_closed : ℕ → World → Bool
-is_closed n w = not (is_open n w.clients)
+-- Nothing more is taken of the connection.
+abbrev pub is_unheard : ℕ → World → Bool
+is_unheard n w = not (is_heard n w.clients)
 
 abbrev pub with_waiting_bytes : ℕ → World → OpenConnection → List ℕ → World
 with_waiting_bytes n w connection rest =
@@ -234,9 +337,9 @@ abbrev pub wait_or_close : ℕ → World → OpenConnection → Unread → StepR
 wait_or_close n w connection (Ok rest) = no_output (with_waiting_bytes n w connection rest)
 wait_or_close n w connection (Err e) = close_client n w
 
-abbrev pub wait_if_open : ℕ → World → Option OpenConnection → Unread → StepResult World
-wait_if_open n w None left = no_output w
-wait_if_open n w (Some connection) left = wait_or_close n w connection left
+abbrev pub wait_if_heard : ℕ → World → Option OpenConnection → Unread → StepResult World
+wait_if_heard n w None left = no_output w
+wait_if_heard n w (Some connection) left = wait_or_close n w connection left
 
 -- The longest frame that a client may send, in bytes.
 abbrev pub client_frame_limit : ℕ
@@ -246,13 +349,13 @@ client_frame_limit = 1048575
 abbrev pub frames_of_client : PhasedStream (Unit {0}) (List ℕ)
 frames_of_client = stream_of (frame_format client_frame_limit)
 
--- Keeps the bytes after the frames, if the connection is still open.
+-- Keeps the bytes after the frames, if the connection is still heard.
 abbrev pub wait_at : ℕ → Unread → World → StepResult World
-wait_at n left w = wait_if_open n w (finmap.get w.clients.connections n) left
+wait_at n left w = wait_if_heard n w (heard_connection n w.clients) left
 
--- Serves all frames found, as long as the connection is open, and keeps the bytes after them.
+-- Serves all frames found, as long as the connection is heard, and keeps the bytes after them.
 abbrev pub serve_all : Bool → ℕ → World → Items (Unit {0}) (List ℕ) → StepResult World
-serve_all serving n w found = and_then (fold_steps (is_closed n) (serve_frame serving n) w found.found)
+serve_all serving n w found = and_then (fold_steps (is_unheard n) (serve_frame serving n) w found.found)
     (wait_at n found.left.unread)
 
 -- A connection's bytes are a four-letter word, or frames.
@@ -260,7 +363,7 @@ abbrev pub tell_or_serve : Bool → ℕ → World → List ℕ → Option Word �
 tell_or_serve serving n w bytes None = serve_all serving n w (items_in frames_of_client (place_at tt bytes))
 tell_or_serve serving n w bytes (Some word) = tell_word serving n w word
 
--- The bytes of a connection that isn't open are ignored.
+-- The bytes of a connection that isn't open, or that is leaving, are ignored.
 abbrev pub take_client_bytes : Bool → ℕ → World → Option OpenConnection → List ℕ → StepResult World
 take_client_bytes serving n w None bytes = no_output w
 take_client_bytes serving n w (Some connection) bytes =
@@ -277,8 +380,8 @@ open_client n w = if is_open n w.clients then w else record w { clients = with_c
 abbrev pub end_client : ℕ → World → World
 end_client n w = if is_open n w.clients then record w { clients = without_client n w.clients } else w
 
--- A session ends and its connection closes. An id that isn't a session's is ignored.
+-- The connection of the session closes; an id that no connection has is ignored. The session itself is the leader's.
 abbrev pub expire_session : World → ℤ → StepResult World
 expire_session w session =
-    let e = expire_guest w.clients.sessions session in
+    let e = expire_owner w.clients.sessions session in
     close_client_if_some (with_sessions w e.after) e.closed

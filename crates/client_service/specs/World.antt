@@ -1,17 +1,21 @@
 -- The state of an observer without that of its leader's stream: its settings, the replica that follows its leader, and
 -- its clients.
-use Rattle.std.specs.Prelude.{ℕ, List, refl}
+use Rattle.std.specs.Prelude.{ℕ, List, Bool, refl}
 use Rattle.std.specs.Ordering.{nat_cmp}
-use Rattle.std.specs.Coded.{Coded, code_by, coded×, coded_ℕ, coded_list}
+use Rattle.std.specs.Coded.{Coded, code_by, coded×, coded_ℕ, coded_bool, coded_list}
 use Rattle.std.specs.FinMap as finmap
 use Rattle.replica.specs.Replica.{Replica}
 use Rattle.sessions.specs.State.{SessionTable as Sessions, session_table_code as sessions_code}
 use Rattle.watch_manager.specs.Watching.{WatchTables, watch_tables_code}
+use Rattle.forwarding.specs.State.{PendingTable, pending_table_code}
 use Rattle.client_service.specs.declared.world.Settings.{Settings}
 
--- An open connection: the bytes of a frame that isn't complete yet.
+-- An open connection.
 pub record OpenConnection : Type 0 where
+  -- The bytes of a frame that isn't complete yet.
   pub rest : List ℕ
+  -- Its client has asked for the end of its session: what it sends from then on is dropped.
+  pub is_leaving : Bool
 
 -- The open connections by number.
 abbrev pub OpenConnections : Type 0
@@ -23,6 +27,8 @@ pub record Clients : Type 0 where
   pub sessions : Sessions
   -- The watches: connections and paths.
   pub watches : WatchTables
+  -- The requests that aren't answered yet.
+  pub pending : PendingTable
 
 -- Everything but the state of the leader's stream.
 pub record World : Type 0 where
@@ -34,17 +40,19 @@ pub record World : Type 0 where
 -- ---- codes
 
 abbrev pub open_connection_code : Coded OpenConnection
-open_connection_code = code_by (List ℕ) (coded_list coded_ℕ) (λ c. c.rest) (λ rest. record { rest = rest }) (λ _. refl)
+open_connection_code =
+    code_by (List ℕ × Bool) (coded× (coded_list coded_ℕ) coded_bool) (λ c. (c.rest, c.is_leaving))
+    (λ p. record { rest = p.0; is_leaving = p.1 }) (λ _. refl)
 
 abbrev pub open_connections_code : Coded OpenConnections
 open_connections_code = finmap.code {R = nat_cmp} coded_ℕ open_connection_code
 
 abbrev pub clients_code : Coded Clients
 clients_code =
-    code_by (OpenConnections × (Sessions × WatchTables))
-    (coded× open_connections_code (coded× sessions_code watch_tables_code))
-    (λ c. (c.connections, (c.sessions, c.watches)))
-    (λ p. record { connections = p.0; sessions = p.1.0; watches = p.1.1 }) (λ _. refl)
+    code_by (OpenConnections × (Sessions × (WatchTables × PendingTable)))
+    (coded× open_connections_code (coded× sessions_code (coded× watch_tables_code pending_table_code)))
+    (λ c. (c.connections, (c.sessions, (c.watches, c.pending))))
+    (λ p. record { connections = p.0; sessions = p.1.0; watches = p.1.1.0; pending = p.1.1.1 }) (λ _. refl)
 
 abbrev pub world_code : Coded Settings → Coded Replica → Coded World
 world_code settings replica =

@@ -3,32 +3,32 @@
 //! Laws of `observer_core` that go over this: `Agreeing`, `Apart`, `Closing`, `Joined`, `Logs`, `Playing`, `Served`,
 //! `Taking`, `Unmoved`, `WholeImages`.
 
-ghost use Rattle.std.specs.Prelude.{◌≡◌, true, OnOk};
-ghost use Rattle.std.specs.FinMap as finmap;
+ghost use Rattle.std.specs.Prelude.{◌≡◌, ◌≤◌, length, true, false, OnOk};
 ghost use Rattle.jute.specs.Stream.{items_in, place_at};
+ghost use Rattle.forwarding.specs.Pending.{is_full};
 ghost use Rattle.read_processor.specs.Asking.{LooksAtAsks};
-ghost use Rattle.client_service.specs.Clients.{is_open};
+ghost use Rattle.client_service.specs.Clients.{heard_connection, is_heard};
+ghost use Rattle.sessions.specs.Sessions.{session_of_connection};
 ghost use Rattle.client_service.specs.Steps.{and_then};
-ghost use Rattle.client_service.specs.Serve.{handle_call, serve_as, serve_frame, serve_all, frames_of_client, take_client_bytes, open_client, end_client};
+ghost use Rattle.client_service.specs.Serve.{serve_as, serve_by, serve_frame, serve_all, frames_of_client, client_frame_limit, take_client_bytes, open_client, end_client};
 ghost use Rattle.client_frames.specs.Call.{call_in};
 ghost use Rattle.client_service.specs.Results.{MeetsStep, MeetsOwing};
-ghost use Rattle.client_service.specs.Runs.{answer_all_asked, serve_if_open};
-ghost use Rattle.client_service.specs.Inner.{IsFirstFrame, rest_at, world_with_rest, close_if_open, tell_if_open};
+ghost use Rattle.client_service.specs.Runs.{answer_all_asked, serve_if_heard};
+ghost use Rattle.client_service.specs.Inner.{IsFirstFrame, rest_at, world_with_rest, close_if_heard, tell_if_heard};
 
 use crate::asked::AskedRead;
-use crate::joining::handle_connect;
+use crate::calls::answer_call;
+use crate::joining::connect_or_hold;
 use crate::output::Output;
-use crate::reading::{answer_add_watch, answer_renewal, answer_request, gathered_read};
-use crate::sending::{answer_without_body, answer_without_body_last, close_client};
-use crate::session::{end_session, show_id};
+use crate::reading::gathered_read;
+use crate::sending::close_client;
+use crate::session::touch_client;
 use crate::settling::settle_reads;
 use crate::word::{tell_word, word_at};
 use crate::world::World;
-use client_frames::{CallBody, read_call};
-use client_records::codes::{NOT_READ_ONLY, OK, PING_XID, UNIMPLEMENTED};
+use client_frames::read_call;
 use data_tree::Tree;
 use four_letter::Word;
-use jute::codes::BAD_ARGUMENTS;
 use jute::{Reader, read_frame};
 use read_processor::{Ask, Look};
 use std::alloc::Global;
@@ -37,68 +37,57 @@ use values::{ByteQueue, Fault, NoMemory, ReadError};
 /// The longest frame that a client may send, in bytes.
 pub const CLIENT_FRAME_LIMIT: u32 = 1_048_575;
 
-fn answer_call(
-    alloc: Global,
-    number: u64,
-    world: &mut World,
-    xid: i32,
-    body: &CallBody<'_>,
-    outputs: &mut Vec<Output>,
-) -> Result<(), NoMemory>
-    ensures { MeetsStep result outputs.old.items
-        (handle_call number world.old xid body.now)
-        outputs.new.items world.new }
-{
-    match body {
-        CallBody::Read(asked) => answer_request(alloc, number, world, xid, asked, outputs),
-        CallBody::SetWatches(asked) => answer_renewal(alloc, number, world, xid, asked, outputs),
-        CallBody::AddWatch(asked) => answer_add_watch(alloc, number, world, xid, asked, outputs),
-        CallBody::Auth(packet) => show_id(alloc, number, world, xid, packet, outputs),
-        CallBody::CloseSession => {
-            end_session(number, world);
-            answer_without_body_last(alloc, number, world, xid, OK, outputs)
-        }
-        CallBody::Unreadable => answer_without_body(
-            alloc,
-            number,
-            world,
-            xid,
-            BAD_ARGUMENTS,
-            outputs,
-        ),
-        CallBody::Ping => answer_without_body(alloc, number, world, PING_XID, OK, outputs),
-        CallBody::Write => answer_without_body(alloc, number, world, xid, NOT_READ_ONLY, outputs),
-        CallBody::Unknown => answer_without_body_last(
-            alloc,
-            number,
-            world,
-            xid,
-            UNIMPLEMENTED,
-            outputs,
-        ),
-    }
-}
+// The bytes of a request's header.
+const HEADER_LEN: usize = 8;
 
-// Serves a frame of a connection that has a session. A frame whose header can't be read closes the connection.
-fn serve_call(
+/// Serves a frame of a connection that has a session. A frame whose header can't be read closes the connection.
+///
+/// Fails only if an allocation is refused; then a prefix of the outputs has been appended.
+pub fn serve_call(
     alloc: Global,
     number: u64,
+    session: i64,
     world: &mut World,
     frame: &[u8],
     outputs: &mut Vec<Output>,
 ) -> Result<(), NoMemory>
+    requires fits { length frame.now ≤ client_frame_limit }
+    requires room { is_full world.old.clients.pending number ≡ false }
     ensures { MeetsStep result outputs.old.items
-        (serve_as number world.old (call_in frame.now))
+        (serve_as number session world.old frame.now (call_in frame.now))
         outputs.new.items world.new }
 {
     match read_call(alloc, frame) {
-        Ok(call) => answer_call(alloc, number, world, call.xid, &call.body, outputs),
+        Ok(call) => answer_call(alloc, number, session, world, frame, &call, outputs),
         Err(ReadError::NoMemory) => Err(NoMemory),
         Err(ReadError::Fault(_)) => close_client(number, world, outputs),
     }
 }
 
-// Serves one frame. Until the connection has a session, its frame is a ConnectRequest.
+// Serves a frame that isn't refused.
+fn serve_whole(
+    alloc: Global,
+    serving: bool,
+    number: u64,
+    world: &mut World,
+    frame: &[u8],
+    outputs: &mut Vec<Output>,
+) -> Result<(), NoMemory>
+    requires fits { length frame.now ≤ client_frame_limit }
+    requires room { is_full world.old.clients.pending number ≡ false }
+    ensures { let session = session_of_connection world.old.clients.sessions number in
+        MeetsStep result outputs.old.items
+        (serve_by serving number world.old frame.now session)
+        outputs.new.items world.new }
+{
+    match world.clients.sessions.session(number) {
+        None => connect_or_hold(alloc, serving, number, world, frame, outputs),
+        Some(session) => serve_call(alloc, number, session, world, frame, outputs),
+    }
+}
+
+// Serves one frame, which touches the session of its connection. It is refused if it is too short for a header, or if as
+// many requests wait as may.
 fn serve(
     alloc: Global,
     serving: bool,
@@ -107,17 +96,22 @@ fn serve(
     frame: &[u8],
     outputs: &mut Vec<Output>,
 ) -> Result<(), NoMemory>
+    requires { length frame.now ≤ client_frame_limit }
     ensures { MeetsStep result outputs.old.items
         (serve_frame serving number world.old frame.now)
         outputs.new.items world.new }
 {
-    match world.clients.sessions.session(number) {
-        None => handle_connect(alloc, serving, number, world, frame, outputs),
-        Some(_) => serve_call(alloc, number, world, frame, outputs),
+    touch_client(number, world)?;
+    if world.clients.pending.is_full(number) {
+        return close_client(number, world, outputs);
     }
+    if frame.len() < HEADER_LEN {
+        return close_client(number, world, outputs);
+    }
+    serve_whole(alloc, serving, number, world, frame, outputs)
 }
 
-fn serve_if_open(
+fn serve_if_heard(
     alloc: Global,
     serving: bool,
     number: u64,
@@ -125,18 +119,20 @@ fn serve_if_open(
     frame: &[u8],
     outputs: &mut Vec<Output>,
 ) -> Result<(), NoMemory>
+    requires { length frame.now ≤ client_frame_limit }
     ensures { MeetsStep result outputs.old.items
-        (serve_if_open serving number frame.now world.old)
+        (serve_if_heard serving number frame.now world.old)
         outputs.new.items world.new }
 {
-    if !world.clients.is_open(number) {
+    if !world.clients.is_heard(number) {
         return Ok(());
     }
     serve(alloc, serving, number, world, frame, outputs)
 }
 
-// Takes one frame of an open connection. While reads are gathered, a read of a connection that has a session waits for its
-// answer. Before any other frame is served, the reads that wait are answered, which may close its connection.
+// Takes one frame of a connection that is heard. While reads are gathered, a read waits for its answer if its connection has a
+// session and no request that waits for the leader. Before any other frame is served, the reads that wait are answered,
+// which may close its connection.
 fn take_frame<L: Fn(&Tree, &[Ask<'_>]) -> Result<Vec<Look>, NoMemory>>(
     alloc: Global,
     looker: &L,
@@ -148,10 +144,11 @@ fn take_frame<L: Fn(&Tree, &[Ask<'_>]) -> Result<Vec<Look>, NoMemory>>(
     frame: &[u8],
     outputs: &mut Vec<Output>,
 ) -> Result<(), NoMemory>
-    requires open { is_open number world.old.clients ≡ true }
+    requires heard { is_heard number world.old.clients ≡ true }
+    requires fits { length frame.now ≤ client_frame_limit }
     requires looks { LooksAtAsks (L.pre looker.now) (L.post looker.now) }
     ensures { MeetsOwing result outputs.old.items
-        (and_then (answer_all_asked asked.old.items world.old) (serve_if_open serving number frame.now))
+        (and_then (answer_all_asked asked.old.items world.old) (serve_if_heard serving number frame.now))
         outputs.new.items asked.new.items world.new }
 {
     sessions::others_stay();
@@ -162,11 +159,11 @@ fn take_frame<L: Fn(&Tree, &[Ask<'_>]) -> Result<Vec<Look>, NoMemory>>(
         }
     }
     if asked.is_empty() {
-        // Nothing is settled first, so the connection is still open.
+        // Nothing is settled first, so the connection is still heard.
         return serve(alloc, serving, number, world, frame, outputs);
     }
     settle_reads(alloc, looker, asked, world, outputs)?;
-    serve_if_open(alloc, serving, number, world, frame, outputs)
+    serve_if_heard(alloc, serving, number, world, frame, outputs)
 }
 
 // Returns the first frame and the bytes that it takes with its length; None while it is incomplete.
@@ -186,20 +183,20 @@ fn first_frame(bytes: &[u8]) -> Result<Option<(&[u8], usize)>, Fault>
     }
 }
 
-fn close_if_open(number: u64, world: &mut World, outputs: &mut Vec<Output>) -> Result<(), NoMemory>
+fn close_if_heard(number: u64, world: &mut World, outputs: &mut Vec<Output>) -> Result<(), NoMemory>
     ensures { MeetsStep result outputs.old.items
-        (close_if_open number world.old)
+        (close_if_heard number world.old)
         outputs.new.items world.new }
 {
-    if !world.clients.is_open(number) {
+    if !world.clients.is_heard(number) {
         return Ok(());
     }
     close_client(number, world, outputs)
 }
 
-// Replaces the waiting bytes of a connection and returns the old ones; None if it isn't open.
+// Replaces the waiting bytes of a connection and returns the old ones; None if it isn't open or is leaving.
 fn replace_rest(number: u64, world: &mut World, rest: ByteQueue) -> Option<ByteQueue>
-    ensures old { result ≡ rest_at (finmap.get world.old.clients.connections number) }
+    ensures old { result ≡ rest_at (heard_connection number world.old.clients) }
     ensures new { world.new ≡ world_with_rest number rest world.old }
 {
     world.clients.connections.replace_rest(number, rest)
@@ -216,14 +213,14 @@ fn settle_and_close<L: Fn(&Tree, &[Ask<'_>]) -> Result<Vec<Look>, NoMemory>>(
 ) -> Result<(), NoMemory>
     requires { LooksAtAsks (L.pre looker.now) (L.post looker.now) }
     ensures { MeetsOwing result outputs.old.items
-        (and_then (answer_all_asked asked.old.items world.old) (close_if_open number))
+        (and_then (answer_all_asked asked.old.items world.old) (close_if_heard number))
         outputs.new.items asked.new.items world.new }
 {
     settle_reads(alloc, looker, asked, world, outputs)?;
-    close_if_open(number, world, outputs)
+    close_if_heard(number, world, outputs)
 }
 
-// Takes the complete frames while the connection is open. The rest waits for more bytes.
+// Takes the complete frames while the connection is heard. The rest waits for more bytes.
 fn serve_all<L: Fn(&Tree, &[Ask<'_>]) -> Result<Vec<Look>, NoMemory>>(
     alloc: Global,
     looker: &L,
@@ -241,7 +238,7 @@ fn serve_all<L: Fn(&Tree, &[Ask<'_>]) -> Result<Vec<Look>, NoMemory>>(
         (λ w. serve_all serving number w (items_in frames_of_client (place_at tt waiting))))
         outputs.new.items asked.new.items world.new }
 {
-    'frame: while world.clients.is_open(number) {
+    'frame: while world.clients.is_heard(number) {
         match first_frame(waiting.as_slice()) {
             Ok(Some((frame, used))) => {
                 take_frame(
@@ -259,7 +256,7 @@ fn serve_all<L: Fn(&Tree, &[Ask<'_>]) -> Result<Vec<Look>, NoMemory>>(
     Ok(())
 }
 
-fn tell_if_open(
+fn tell_if_heard(
     alloc: Global,
     serving: bool,
     number: u64,
@@ -268,10 +265,10 @@ fn tell_if_open(
     outputs: &mut Vec<Output>,
 ) -> Result<(), NoMemory>
     ensures { MeetsStep result outputs.old.items
-        (tell_if_open serving number word world.old)
+        (tell_if_heard serving number word world.old)
         outputs.new.items world.new }
 {
-    if !world.clients.is_open(number) {
+    if !world.clients.is_heard(number) {
         return Ok(());
     }
     tell_word(alloc, serving, number, world, word, outputs)
@@ -290,15 +287,16 @@ fn settle_and_tell<L: Fn(&Tree, &[Ask<'_>]) -> Result<Vec<Look>, NoMemory>>(
 ) -> Result<(), NoMemory>
     requires { LooksAtAsks (L.pre looker.now) (L.post looker.now) }
     ensures { MeetsOwing result outputs.old.items
-        (and_then (answer_all_asked asked.old.items world.old) (tell_if_open serving number word))
+        (and_then (answer_all_asked asked.old.items world.old) (tell_if_heard serving number word))
         outputs.new.items asked.new.items world.new }
 {
     settle_reads(alloc, looker, asked, world, outputs)?;
-    tell_if_open(alloc, serving, number, world, word, outputs)
+    tell_if_heard(alloc, serving, number, world, word, outputs)
 }
 
-/// Takes a piece of a client's stream: a four-letter word, if the connection begins with one and has no session, or
-/// frames. `serving` says whether clients are served. The bytes of a connection that isn't open are ignored.
+/// Takes a piece of a client's stream: a four-letter word, if the connection begins with one and has no session and waits
+/// for none, or frames. `serving` says whether clients are served. The bytes of a connection that isn't open, or whose
+/// client has asked for the end of its session, are ignored.
 ///
 /// If `gathers` is set, a read waits in `asked`: its reply and its watch are still owed. Anything else is done after the
 /// reads that wait are answered, by one call of `looker`; so the caller answers what waits by [`settle_reads`] before it
@@ -319,7 +317,7 @@ pub fn take_client_bytes<L: Fn(&Tree, &[Ask<'_>]) -> Result<Vec<Look>, NoMemory>
     requires { LooksAtAsks (L.pre looker.now) (L.post looker.now) }
     ensures { MeetsOwing result outputs.old.items
         (and_then (answer_all_asked asked.old.items world.old)
-        (λ w. take_client_bytes serving number w (finmap.get w.clients.connections number) bytes.now))
+        (λ w. take_client_bytes serving number w (heard_connection number w.clients) bytes.now))
         outputs.new.items asked.new.items world.new }
 {
     let none = ByteQueue::new(alloc);

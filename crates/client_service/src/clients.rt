@@ -1,25 +1,27 @@
-//! The clients: open connections, sessions and watches.
+//! The clients: open connections, sessions, watches, and requests that wait.
 //!
 //! Laws of `observer_core` that go over this: `Agreeing`, `Apart`, `Joined`, `Playing`, `Served`, `Taking`, `Unmoved`.
 
 ghost use Rattle.std.specs.Prelude.{◌≡◌, ◌∷◌, OnOk, IfSome, IfNone, IfOk};
 ghost use Rattle.std.specs.FinMap as finmap;
-ghost use Rattle.client_service.specs.Clients.{idle_connection, is_open, with_connection, without_client, no_clients};
+ghost use Rattle.client_service.specs.Clients.{idle_connection, is_open, is_heard, with_connection, without_client, no_clients};
 
 use crate::connections::Connections;
 use crate::world::Settings;
+use forwarding::Pending;
 use sessions::Sessions;
 use std::alloc::Global;
 use std::marker::Model;
 use values::NoMemory;
 use watch_manager::Watches;
 
-/// The open connections, the session of each, and what they watch.
+/// The open connections, the session of each, what they watch, and their requests that aren't answered yet.
 #[derive(Drop)]
 pub struct Clients {
     pub connections: Connections,
     pub sessions: Sessions,
     pub watches: Watches,
+    pub pending: Pending,
 }
 
 impl Model for Clients {
@@ -29,7 +31,12 @@ impl Model for Clients {
 
     ghost coded = { clients_code };
 
-    ghost view = { λ c. record { connections = c.connections; sessions = c.sessions; watches = c.watches } };
+    ghost view = { λ c. record {
+      connections = c.connections;
+      sessions = c.sessions;
+      watches = c.watches;
+      pending = c.pending;
+    } };
 }
 
 impl Clients {
@@ -42,6 +49,7 @@ impl Clients {
             connections: Connections::new(alloc),
             sessions: Sessions::new(alloc, settings.server_id, settings.timeouts, secret),
             watches: Watches::new(alloc),
+            pending: Pending::new(alloc),
         })
     }
 
@@ -51,6 +59,14 @@ impl Clients {
         self.connections.is_open(number)
     }
 
+    /// Whether the connection is open and its client hasn't asked for the end of its session: only then its bytes are
+    /// taken.
+    pub fn is_heard(&self, number: u64) -> bool
+        ensures { result ≡ is_heard number self.now }
+    {
+        self.connections.is_heard(number)
+    }
+
     /// Opens a connection without waiting bytes and without a session.
     pub fn open(&mut self, alloc: Global, number: u64) -> Result<(), NoMemory>
         ensures { OnOk result (self.new ≡ with_connection number idle_connection self.old) }
@@ -58,13 +74,14 @@ impl Clients {
         self.connections.open(alloc, number)
     }
 
-    /// Closes a connection: its ids and watches go with it, its session stays. Allocates nothing.
+    /// Closes a connection: its ids, watches and requests go with it, its session stays. Allocates nothing.
     pub fn close(&mut self, number: u64)
         ensures { self.new ≡ without_client number self.old }
     {
         self.connections.close(number);
         self.sessions.close(number);
         self.watches.drop_conn(number);
+        self.pending.drop_connection(number);
     }
 
     /// Closes the connection with the least number and returns that number; None if no connection is open.
@@ -79,6 +96,7 @@ impl Clients {
             Some(number) => {
                 self.sessions.close(number);
                 self.watches.drop_conn(number);
+                self.pending.drop_connection(number);
                 Some(number)
             }
         }

@@ -1,8 +1,9 @@
 //! The open connections of clients, each with its unread bytes.
 
-ghost use Rattle.std.specs.Prelude.{◌≡◌, [], ◌∷◌, OnOk, IfSome, IfNone};
+ghost use Rattle.std.specs.Prelude.{◌≡◌, ◌∷◌, is_some, OnOk, IfSome, IfNone};
 ghost use Rattle.std.specs.FinMap as finmap;
-ghost use Rattle.client_service.specs.Inner.{rest_at, with_rest};
+ghost use Rattle.client_service.specs.Clients.{heard_in, idle_connection};
+ghost use Rattle.client_service.specs.Inner.{rest_at, with_rest, with_leaver};
 
 use std::alloc::Global;
 use std::collections::BTreeMap;
@@ -10,10 +11,13 @@ use std::marker::Model;
 use std::mem;
 use values::{ByteQueue, NoMemory};
 
-/// An open connection: the bytes of a frame that isn't complete yet.
+/// An open connection.
 #[derive(Drop)]
 pub struct Connection {
+    // The bytes of a frame that isn't complete yet.
     rest: ByteQueue,
+    // Its client has asked for the end of its session.
+    is_leaving: bool,
 }
 
 impl Model for Connection {
@@ -23,7 +27,7 @@ impl Model for Connection {
 
     ghost coded = { open_connection_code };
 
-    ghost view = { λ c. record { rest = c.rest } };
+    ghost view = { λ c. record { rest = c.rest; is_leaving = c.is_leaving } };
 }
 
 /// The open connections by number.
@@ -56,10 +60,11 @@ impl Connections {
 
     /// Opens a connection without waiting bytes. Fails only if an allocation is refused.
     pub fn open(&mut self, alloc: Global, number: u64) -> Result<(), NoMemory>
-        ensures { OnOk result (self.new ≡ finmap.insert self.old number (record { rest = [] })) }
+        ensures { OnOk result (self.new ≡ finmap.insert self.old number idle_connection) }
     {
         let connection = Connection {
             rest: ByteQueue::new(alloc),
+            is_leaving: false,
         };
         self.map.insert(number, connection)?;
         Ok(())
@@ -71,14 +76,41 @@ impl Connections {
         self.map.contains_key(&number)
     }
 
-    /// Replaces the waiting bytes of a connection and returns the old ones; None if it isn't open.
+    /// Whether the connection is open and not leaving.
+    pub fn is_heard(&self, number: u64) -> bool
+        ensures { result ≡ is_some (heard_in (finmap.get self.now number)) }
+    {
+        match self.map.get(&number) {
+            None => return false,
+            Some(connection) => !connection.is_leaving,
+        }
+    }
+
+    /// An open connection is leaving from now on.
+    pub fn leave(&mut self, number: u64)
+        ensures { self.new ≡ with_leaver self.old number (finmap.get self.old number) }
+    {
+        match self.map.get_mut(&number) {
+            None => return,
+            Some(connection) => {
+                connection.is_leaving = true;
+            }
+        }
+    }
+
+    /// Replaces the waiting bytes of a connection and returns the old ones; None if it isn't open or is leaving.
     pub fn replace_rest(&mut self, number: u64, rest: ByteQueue) -> Option<ByteQueue>
-        ensures old { result ≡ rest_at (finmap.get self.old number) }
-        ensures new { self.new ≡ with_rest self.old number (finmap.get self.old number) rest }
+        ensures old { result ≡ rest_at (heard_in (finmap.get self.old number)) }
+        ensures new { self.new ≡ with_rest self.old number (heard_in (finmap.get self.old number)) rest }
     {
         match self.map.get_mut(&number) {
             None => return None,
-            Some(connection) => Some(mem::replace(&mut connection.rest, rest)),
+            Some(connection) => {
+                if connection.is_leaving {
+                    return None;
+                }
+                Some(mem::replace(&mut connection.rest, rest))
+            }
         }
     }
 

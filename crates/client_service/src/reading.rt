@@ -12,9 +12,9 @@ ghost use Rattle.client_service.specs.Inner.{IsReadIn};
 use crate::asked::AskedRead;
 use crate::notice::notify_all;
 use crate::output::Output;
-use crate::sending::{answer, answer_without_body};
+use crate::sending::{answer_without_body, send_reply};
 use crate::world::World;
-use client_frames::{Call, CallBody, read_call};
+use client_frames::{Call, CallBody, LocalCall, read_call};
 use client_records::codes::OK;
 use client_records::{AddWatch, SetWatches};
 use jute::codes::BAD_ARGUMENTS;
@@ -77,15 +77,18 @@ fn set_watches(
 fn read_of_call(alloc: Global, number: u64, call: &Call<'_>) -> Result<Option<AskedRead>, NoMemory>
     ensures number { IfOk result (λ found. IfSome found (λ read. read.number ≡ number)) }
     ensures call { IfOk result
-        (λ found. IfSome found (λ read. call.now ≡ record { xid = read.xid; body = CallBody.Read read.request })) }
+        (λ found. IfSome found (λ read. call.now ≡ record { xid = read.xid; body = CallBody.Local (LocalCall.Read read.request) })) }
 {
     match &call.body {
-        CallBody::Read(request) => Ok(Some(AskedRead::of(alloc, number, call.xid, request)?)),
+        CallBody::Local(LocalCall::Read(request)) => Ok(Some(AskedRead::of(
+            alloc, number, call.xid, request,
+        )?)),
         _ => Ok(None),
     }
 }
 
-/// The read that a frame asks for; None if its connection has no session, or if it asks for anything else.
+/// The read that a frame asks for; None if its connection has no session, if an earlier request of it waits for the
+/// leader, or if it asks for anything else.
 pub fn gathered_read(
     alloc: Global,
     number: u64,
@@ -97,6 +100,9 @@ pub fn gathered_read(
     let Some(_session) = world.clients.sessions.session(number) else {
         return Ok(None);
     };
+    if !world.clients.pending.is_idle(number) {
+        return Ok(None);
+    }
     match read_call(alloc, frame) {
         Ok(call) => read_of_call(alloc, number, &call),
         Err(ReadError::NoMemory) => Err(NoMemory),
@@ -123,7 +129,7 @@ pub fn answer_request(
     let seen = look(alloc, world.replica.tree(), ids, asked)?;
     let watch = watch_of(asked, seen.error);
     set_watch_if(alloc, number, &mut world.clients.watches, &watch)?;
-    answer(number, world, xid, seen, outputs)
+    send_reply(number, world, xid, seen, outputs)
 }
 
 fn watch_each(

@@ -1,18 +1,38 @@
-//! What is sent to a client.
+//! What is sent to a client, and to the leader.
 //!
 //! Laws of `observer_core` that go over this: `Agreeing`, `Apart`, `Closing`, `Playing`, `Taking`, `Unmoved`.
 
-ghost use Rattle.std.specs.Prelude.{◌≡◌, IfOk};
+ghost use Rattle.std.specs.Prelude.{◌≡◌, ◌∷◌, [], IfOk};
+ghost use Rattle.values.specs.Gains.{Puts};
+ghost use Rattle.quorum_packet.specs.Packet.{packet_format};
 ghost use Rattle.read_processor.specs.Look.{without_body};
 ghost use Rattle.read_processor.specs.Reply.{reply_frame};
-ghost use Rattle.client_service.specs.Serve.{close_client, send_or_close, send_last, send_reply, send_reply_last};
+ghost use Rattle.client_service.specs.Serve.{to_leader, close_client, send_or_close, send_last, send_reply, send_reply_last};
 ghost use Rattle.client_service.specs.Results.{MeetsStep};
 
 use crate::output::Output;
 use crate::world::World;
+use quorum_packet::{QuorumPacket, write_packet};
 use read_processor::Look;
 use std::alloc::Global;
 use values::{Blob, NoMemory};
+
+/// Sends a packet to the leader.
+///
+/// Fails only if an allocation is refused; then nothing has been appended.
+pub fn send_to_leader(
+    alloc: Global,
+    packet: &QuorumPacket,
+    outputs: &mut Vec<Output>,
+) -> Result<(), NoMemory>
+    requires { packet_format.Writable packet.now }
+    ensures { Puts result outputs.old.items (to_leader packet.now ∷ []) outputs.new.items }
+{
+    let mut bytes = Vec::new(alloc);
+    write_packet(packet, &mut bytes)?;
+    outputs.push(Output::ToLeader(Blob::from_vec(bytes)))?;
+    Ok(())
+}
 
 /// Closes a connection; its session stays.
 pub fn close_client(
@@ -30,7 +50,7 @@ pub fn close_client(
 }
 
 /// Sends a frame. None is a reply too long for a frame; it closes the connection.
-pub fn send(
+pub fn send_frame(
     number: u64,
     world: &mut World,
     frame: Option<Blob>,
@@ -51,7 +71,7 @@ pub fn send(
 
 /// Sends a frame and closes the connection.
 #[tactic(auto, using(crate::proofs::Steps::then_meets, crate::proofs::Steps::first_stops))]
-pub fn send_last(
+pub fn send_frame_last(
     number: u64,
     world: &mut World,
     frame: Option<Blob>,
@@ -61,12 +81,12 @@ pub fn send_last(
         (send_last number world.old frame)
         outputs.new.items world.new }
 {
-    send(number, world, frame, outputs)?;
+    send_frame(number, world, frame, outputs)?;
     close_client(number, world, outputs)
 }
 
 /// Sends a reply with the zxid of the tree that it shows.
-pub fn answer(
+pub fn send_reply(
     number: u64,
     world: &mut World,
     xid: i32,
@@ -78,7 +98,7 @@ pub fn answer(
         outputs.new.items world.new }
 {
     let frame = seen.into_frame(xid, world.replica.learner().last_zxid());
-    send(number, world, frame, outputs)
+    send_frame(number, world, frame, outputs)
 }
 
 /// Sends a reply without a body. `error` is ZooKeeper's error code, 0 for success.
@@ -95,7 +115,7 @@ pub fn answer_without_body(
         outputs.new.items world.new }
 {
     let seen = Look::without_body(alloc, error)?;
-    answer(number, world, xid, seen, outputs)
+    send_reply(number, world, xid, seen, outputs)
 }
 
 /// Sends a reply without a body and closes the connection. `error` is ZooKeeper's error code, 0 for success.
@@ -113,5 +133,5 @@ pub fn answer_without_body_last(
 {
     let seen = Look::without_body(alloc, error)?;
     let frame = seen.into_frame(xid, world.replica.learner().last_zxid());
-    send_last(number, world, frame, outputs)
+    send_frame_last(number, world, frame, outputs)
 }

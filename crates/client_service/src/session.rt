@@ -1,15 +1,15 @@
-//! The ids and the session of a connection, and how a session ends.
+//! The ids and the session of a connection, and what is done when the session ends.
 //!
 //! Laws of `observer_core` that go over this: `Agreeing`, `Apart`, `Closing`, `Joined`, `Logs`, `Served`, `Taking`,
 //! `Unmoved`, `WholeImages`.
 
-ghost use Rattle.std.specs.Prelude.{◌≡◌};
-ghost use Rattle.client_service.specs.Serve.{with_sessions, show_id, end_session, close_client_if_some, expire_session};
-ghost use Rattle.sessions.specs.Sessions.{expire_guest};
+ghost use Rattle.std.specs.Prelude.{◌≡◌, OnOk};
+ghost use Rattle.client_service.specs.Serve.{with_sessions, touch_client, show_id, close_client_if_some, expire_session};
+ghost use Rattle.sessions.specs.Sessions.{expire_owner};
 ghost use Rattle.client_service.specs.Results.{MeetsStep};
 
 use crate::output::Output;
-use crate::sending::{close_client, send, send_last};
+use crate::sending::{close_client, send_frame, send_frame_last};
 use crate::world::World;
 use client_records::AuthPacket;
 use client_records::codes::{AUTH_FAILED, OK};
@@ -19,6 +19,17 @@ use values::{Bytes, NoMemory, Str};
 
 // The reply to an auth packet has 0 in place of a zxid.
 const NO_ZXID: i64 = 0;
+
+/// Touches the session of a connection, if it has one: the leader will be told that its client was heard. Fails only if
+/// an allocation is refused.
+pub fn touch_client(number: u64, world: &mut World) -> Result<(), NoMemory>
+    ensures { OnOk result (world.new ≡ touch_client number world.old) }
+{
+    match world.clients.sessions.session(number) {
+        None => return Ok(()),
+        Some(session) => world.clients.pending.touch(session),
+    }
+}
 
 /// Adds an id to a connection, or closes the connection if the id is refused.
 pub fn show_id(
@@ -37,22 +48,10 @@ pub fn show_id(
     let bytes = packet.auth.as_ref().map(Bytes::as_slice);
     if world.clients.sessions.auth(alloc, number, scheme, bytes)? {
         let seen = Look::without_body(alloc, OK)?;
-        send(number, world, seen.into_frame(xid, NO_ZXID), outputs)
+        send_frame(number, world, seen.into_frame(xid, NO_ZXID), outputs)
     } else {
         let seen = Look::without_body(alloc, AUTH_FAILED)?;
-        send_last(number, world, seen.into_frame(xid, NO_ZXID), outputs)
-    }
-}
-
-/// Ends the session of a connection and leaves the connection open; the caller closes it.
-pub fn end_session(number: u64, world: &mut World)
-    ensures { world.new ≡ end_session number world.old }
-{
-    match world.clients.sessions.session(number) {
-        None => return,
-        Some(session) => {
-            world.clients.sessions.expire(session);
-        }
+        send_frame_last(number, world, seen.into_frame(xid, NO_ZXID), outputs)
     }
 }
 
@@ -72,16 +71,16 @@ pub fn close_client_if_some(
     }
 }
 
-// Ends a session and returns its connection, which the caller closes.
+// Takes a session from its connection, which is returned for the caller to close.
 fn expire(session: &i64, world: &mut World) -> Option<u64>
-    ensures left { result ≡ (expire_guest world.old.clients.sessions session.now).closed }
-    ensures ended { let ended = expire_guest world.old.clients.sessions session.now in
+    ensures left { result ≡ (expire_owner world.old.clients.sessions session.now).closed }
+    ensures ended { let ended = expire_owner world.old.clients.sessions session.now in
         world.new ≡ with_sessions world.old ended.after }
 {
     world.clients.sessions.expire(*session)
 }
 
-/// Ends a session and closes its connection. An id that isn't a session's is ignored.
+/// Closes the connection of a session that has ended. An id that no connection has as its session is ignored.
 pub fn expire_session(
     session: &i64,
     world: &mut World,

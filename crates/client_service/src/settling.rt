@@ -11,7 +11,8 @@ use crate::asked::AskedRead;
 use crate::law::runs_of_reads;
 use crate::output::Output;
 use crate::reading::set_watch_if;
-use crate::sending::answer;
+use crate::sending::send_reply;
+use crate::session::touch_client;
 use crate::world::World;
 use data_tree::Tree;
 use read_processor::{Ask, Look, watch_of};
@@ -49,7 +50,7 @@ fn looks_of<L: Fn(&Tree, &[Ask<'_>]) -> Result<Vec<Look>, NoMemory>>(
     looker(world.replica.tree(), asks.as_slice())
 }
 
-// Leaves the watch of a read and sends its reply, if its connection is open.
+// Leaves the watch of a read and sends its reply, if its connection is open. The session is touched.
 fn show(
     alloc: Global,
     world: &mut World,
@@ -65,10 +66,11 @@ fn show(
     if !world.clients.is_open(number) {
         return Ok(());
     }
+    touch_client(number, world)?;
     let request = read.lend();
     let watch = watch_of(&request, seen.error);
     set_watch_if(alloc, number, &mut world.clients.watches, &watch)?;
-    answer(number, world, read.xid(), seen, outputs)
+    send_reply(number, world, read.xid(), seen, outputs)
 }
 
 fn show_each(

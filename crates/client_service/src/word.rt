@@ -1,4 +1,4 @@
-//! Four-letter words: a client may send one before it has a session.
+//! Four-letter words: a client may send one before it asks for a session.
 //!
 //! Laws of `observer_core` that go over this: `Agreeing`, `Apart`, `Playing`, `Served`, `Unmoved`, `Words`.
 
@@ -10,7 +10,7 @@ ghost use Rattle.client_service.specs.Results.{MeetsStep};
 
 use crate::clients::Clients;
 use crate::output::Output;
-use crate::sending::send_last;
+use crate::sending::send_frame_last;
 use crate::world::World;
 use four_letter::{Figures, WatchRow, Word, answer};
 use sessions::Sessions;
@@ -28,10 +28,14 @@ fn first_four(bytes: &[u8]) -> Option<[u8; 4]>
     }
 }
 
-/// The four-letter word in a connection's first four bytes; None if they are none, or if the connection has a session.
+/// The four-letter word in a connection's first four bytes; None if they are none, or if the connection has a session or
+/// waits for one.
 pub fn word_at(number: u64, world: &World, bytes: &[u8]) -> Option<Word>
     ensures { result ≡ word_at number world.now bytes.now }
 {
+    if !world.clients.pending.is_idle(number) {
+        return None;
+    }
     let Some(letters) = first_four(bytes) else {
         return None;
     };
@@ -119,5 +123,5 @@ pub fn tell_word(
         outputs.new.items world.new }
 {
     let bytes = answer_of(alloc, serving, world, word)?;
-    send_last(number, world, Some(bytes), outputs)
+    send_frame_last(number, world, Some(bytes), outputs)
 }

@@ -1,15 +1,16 @@
 -- All worked rows: those of words, evaluated step by step, and the others.
-use Rattle.std.proofs.Common.{◌≡◌, ℕ, List, [], ◌∷◌, ◌++◌, take, Option, Err, false, cond, refl, ap, ◌∙◌}
+use Rattle.std.proofs.Common.{◌≡◌, ℕ, List, [], ◌∷◌, ◌++◌, take, Bool, false, Option, None, Err, cond, refl, ap, ◌∙◌}
 use Rattle.std.specs.Prelude.{ℤ, pos, codes, is_some}
 use Rattle.std.specs.FinMap as finmap
+use Rattle.std.specs.FinSet as set
 use Rattle.std.specs.Ordering.{nat_cmp}
 use Rattle.values.specs.declared.fault.Fault.TheVariants.{BadLength}
 use Rattle.jute.specs.Frame.{frame_at}
 use Rattle.jute.specs.Format.{judged_at}
 use Rattle.jute.specs.Stream.{items_within, items_in, Items, place_at}
-use Rattle.data_tree.specs.Meaning.{fresh_state}
-use Rattle.sessions.specs.Sessions.{session_in}
+use Rattle.sessions.specs.Sessions.{session_in, session_of_connection}
 use Rattle.four_letter.specs.Words.{word_of}
+use Rattle.four_letter.specs.declared.word.Word.{Word}
 use Rattle.watch_manager.specs.Rows.{WorkedRows as FiringRows}
 use Rattle.client_service.specs.declared.world.Settings.{Settings}
 use Rattle.observer_core.specs.declared.event.Event.TheVariants.{ClientUp, ClientBytes}
@@ -18,12 +19,15 @@ use Rattle.client_service.specs.declared.output.Output.TheVariants.{ToClient, Cl
 use Rattle.client_service.specs.World.{OpenConnection, World}
 use Rattle.observer_core.specs.Machine.{Machine}
 use Rattle.client_service.specs.Steps.{StepResult, prepend_outputs}
-use Rattle.client_service.specs.Clients.{idle_connection, with_connection}
-use Rattle.client_service.specs.Serve.{word_without_session, with_waiting_bytes, wait_if_open, frames_of_client, tell_or_serve, take_client_bytes}
+use Rattle.client_service.specs.Clients.{idle_connection, heard_in, heard_connection, with_connection}
+use Rattle.client_service.specs.Serve.{word_without_session, with_waiting_bytes, frames_of_client, tell_or_serve, take_client_bytes}
 use Rattle.observer_core.specs.Play.{is_serving_clients, play, new_machine, primed_machine}
 use Rattle.observer_core.specs.Rows.{reply_of_create, set_data_inform_event, get_data_event, WorkedRows}
 use Rattle.client_service.proofs.NatMaps.{get-inserted}
-use Rattle.observer_core.proofs.Rows.{ReadAgain, NobodyTold, world_at, at_frames, in_hand, create_get, set_get, cut_get, create_twice, closed_passes, watch_told, idle_is}
+use Rattle.observer_core.proofs.Rows.{ReadAgain, NobodyTold, start, idle_at, heard, world_at, at_frames, in_hand, left_at, first_open}
+use Rattle.observer_core.proofs.WatchRows.{create_get, set_get, cut_get, create_twice, closed_passes, watch_told, idle_is}
+use Rattle.observer_core.proofs.ForwardedRows.{create_answered, error_answered, sync_answers}
+use Rattle.observer_core.proofs.SessionRows.{session_is_created, first_is_told}
 
 -- ---- connection 2 begins with a word, and no leader was followed
 
@@ -40,14 +44,24 @@ word_comes : (settings : Settings) (bytes : List ℕ)
 word_comes settings bytes =
     ap (λ (o : Option OpenConnection). put_out (cond (is_some o) (new_machine settings).world (opened settings)))
     (finmap.get-empty nat_cmp 2)
-    ∙ ap (λ (o : Option OpenConnection). (take_client_bytes false 2 (opened settings) o bytes).outputs ++ [])
+    ∙ ap (λ (o : Option OpenConnection). (take_client_bytes false 2 (opened settings) (heard_in o) bytes).outputs ++ [])
     (get-inserted finmap.empty 2 idle_connection)
-    ∙ ap (λ (session : Option ℤ). (tell_or_serve false 2 (with_waiting_bytes 2 (opened settings) idle_connection [])
-    bytes
-    (word_without_session session (word_of (take 4 bytes)))).outputs ++ []) (ap session_in (finmap.get-empty nat_cmp 2))
+    ∙ ap (λ (idle : Bool). (tell_or_serve false 2 v bytes (cond idle (word none_has) None)).outputs ++ [])
+    (idle_at set.empty 2)
+    ∙ ap (λ (session : Option ℤ). (tell_or_serve false 2 v bytes (word session)).outputs ++ [])
+    (ap session_in (finmap.get-empty nat_cmp 2))
   where
+    v : World
+    v = with_waiting_bytes 2 (opened settings) idle_connection []
+
+    none_has : Option ℤ
+    none_has = session_of_connection (new_machine settings).world.clients.sessions 2
+
+    word : Option ℤ → Option Word
+    word session = word_without_session session (word_of (take 4 bytes))
+
     put_out : World → List Output
-    put_out w = (take_client_bytes (is_serving_clients w) 2 w (finmap.get w.clients.connections 2) bytes).outputs ++ []
+    put_out w = (take_client_bytes (is_serving_clients w) 2 w (heard_connection 2 w.clients) bytes).outputs ++ []
 
 -- ---- a client that has a session sends a word's letters
 
@@ -59,11 +73,12 @@ letters_are_no_frame = refl
 letters_close : (settings : Settings)
     → (play (primed_machine settings) (ClientBytes 1 (codes "ruok") ∷ [])).outputs ≡ CloseClient 1 ∷ []
 letters_close settings =
-    let w = world_at settings (pos 0) [] fresh_state [] in
-    ap (λ (h : StepResult Machine). h.outputs ++ []) (in_hand settings (pos 0) [] fresh_state [] (codes "ruok"))
+    let w = world_at settings (pos 0) [] (start settings) set.empty [] in
+    ap (λ (h : StepResult Machine). h.outputs ++ [])
+    (in_hand settings (pos 0) [] (start settings) set.empty [] (codes "ruok"))
     ∙ ap (λ (i : Items (Unit {0}) (List ℕ)). (at_frames w i).outputs ++ []) letters_are_no_frame
-    ∙ ap (λ (o : Option OpenConnection). (wait_if_open 1 w o (Err BadLength)).outputs ++ [])
-    (get-inserted finmap.empty 1 (record { rest = [] }))
+    ∙ ap (λ (o : Option OpenConnection). (left_at 1 w (Err BadLength) o).outputs ++ [])
+    first_open
 
 -- ---- all of them
 
@@ -73,11 +88,16 @@ rows_hold again nobody rows = record {
   set_then_get = λ settings. ap (λ (h : StepResult Machine). h.outputs)
       (create_get again nobody settings (set_data_inform_event ∷ get_data_event ∷ [])
       ∙ ap (prepend_outputs (ToClient 1 reply_of_create ∷ []))
-      (set_get again nobody settings));
+      (set_get again nobody settings (heard settings set.empty)));
   cut_request = λ settings. ap (λ (h : StepResult Machine). h.outputs) (cut_get again nobody settings);
   same_zxid_twice = λ settings. ap (λ (h : StepResult Machine). h.outputs) (create_twice again nobody settings)
       ∙ closed_passes settings;
   watch_on_missing = λ settings. ap (λ (h : StepResult Machine). h.outputs) (watch_told again nobody rows settings);
+  forwarded_create = create_answered again nobody;
+  failed_create = error_answered again nobody;
+  forwarded_sync = sync_answers;
+  new_session = session_is_created again nobody;
+  heard_session = first_is_told;
   nothing = λ settings. refl;
   idle = λ settings. idle_is settings;
   ruok = λ settings. word_comes settings (codes "ruok");

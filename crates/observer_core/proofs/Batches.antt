@@ -1,6 +1,8 @@
 -- Transactions that are gathered and applied later as one list do what they do when each is taken at once.
-use Rattle.std.proofs.Common.{◌≡◌, ℕ, ◌≤◌, ◌+◌, List, [], ◌∷◌, ◌++◌, length, drop, false, Option, Some, None, Result, Ok, Err, refl, sym, ap, subst, ◌∙◌, append_assoc, length-append, arith}
+use Rattle.std.proofs.Common.{◌≡◌, ℕ, ◌≤◌, ◌+◌, ◌-◌, ℤ, Bool, true, List, [], ◌∷◌, ◌++◌, length, drop, false, Option, Some, None, Result, Ok, Err, refl, sym, ap, subst, ◌∙◌, append_assoc, length-append, arith}
+use Rattle.std.specs.List.{slice_get}
 use Rattle.std.proofs.lemmas.List.{append-nil, drop-append-le}
+use mathlib.Core.Bool.{true≢false}
 use Rattle.std.proofs.Math.Seq.{drop-length}
 use Rattle.values.specs.declared.fault.Fault.{Fault}
 use Rattle.values.specs.declared.fault.NoMemory.{NoMemory}
@@ -12,27 +14,32 @@ use Rattle.jute.specs.Format.{◌>>=◌}
 use Rattle.jute.specs.Stream.{Place, Items, with_first}
 use Rattle.txn_codec.specs.declared.txn.Txn.{Txn}
 use Rattle.data_tree.specs.State.{State}
-use Rattle.data_tree.specs.Meaning.{state_after, outcomes_of_txns}
+use Rattle.data_tree.specs.Meaning.{effect_of_txn, answer_of, state_after, outcomes_of_txns}
 use Rattle.data_tree.specs.declared.outcome.Outcome.{Outcome}
 use Rattle.snapshot_codec.specs.Made.{Loading}
 use Rattle.quorum_packet.specs.declared.item.Item.{Item}
 use Rattle.quorum_packet.specs.declared.phase.Phase.{Phase}
 use Rattle.learner_sync.specs.Learner.{Learner}
 use Rattle.replica.specs.Replica.{Replica}
-use Rattle.replica.specs.Taking.{ItemEffect, no_effect, apply_to_tree, take_item}
+use Rattle.replica.specs.Taking.{ItemEffect, no_effect, last_txn, apply_to_tree, take_item}
+use Rattle.replica.specs.declared.item_outcome.LeaderNews.{LeaderNews}
+use Rattle.replica.specs.declared.item_outcome.LeaderNews.TheVariants as news
+use Rattle.leader_answers.specs.declared.due.Due.{Due}
+use Rattle.leader_answers.specs.declared.due.Due.TheVariants.{Nothing, Admission, Ending, Reply}
+use Rattle.leader_answers.specs.Answering.{answer_due, is_due, lets_answer, give_answer, answer_txn, answer_optional_txn, answer_last_txn}
 use Rattle.replica.specs.Gathering.{optional_txn, IsGathered, Gathers}
 use Rattle.watch_manager.specs.declared.event.Event.{Event}
 use Rattle.watch_manager.specs.Watching.{WatchTables}
 use Rattle.watch_manager.specs.Watches.{fire}
 use Rattle.client_service.specs.declared.output.Output.{Output}
 use Rattle.client_service.specs.World.{Clients, World}
-use Rattle.client_service.specs.Steps.{StepResult, prepend_outputs, and_then}
+use Rattle.client_service.specs.Steps.{StepResult, prepend_outputs, no_output, and_then}
 use Rattle.client_service.specs.Clients.{notices_of}
 use Rattle.client_service.specs.Results.{MeetsStep}
-use Rattle.client_service.proofs.Steps.{SoFar, begins, steps, stops, stops_in_step, last_step, behind_behind, happening_on}
-use Rattle.observer_core.specs.Leader.{WorldAndLoading, StreamProgress, step_with_loading, send_effect, item_step, take_items}
+use Rattle.client_service.proofs.Steps.{SoFar, begins, same_left, steps, stops, stops_in_step, last_step, behind_behind, happening_on, then_meets}
+use Rattle.observer_core.specs.Leader.{WorldAndLoading, StreamProgress, answer_news, step_with_loading, send_effect, item_step, take_items}
 use Rattle.observer_core.specs.Gathering.{tell_outcome, tell_outcomes, apply_and_tell, apply_in_turn}
-use Rattle.observer_core.specs.Inner.{ReceivesItem, take_items_after, TakesNextItem}
+use Rattle.observer_core.specs.Inner.{ReceivesItem, take_items_after, gained_answers, answer_outcome, last_outcome, tell_and_answer, settle_and_answer, TakesNextItem}
 use Rattle.observer_core.proofs.Delivering.{quietly, taken_first, refused_first}
 
 -- ---- a list of transactions
@@ -83,12 +90,74 @@ settled (Err e) old new w txns left outcomes clients tree answers gains =
     subst (λ (h : StepResult World). Gains old h.outputs new) (sym (in_turn w txns))
     (subst (λ (os : List Outcome). Gains old (tell_outcomes w.clients os).outputs new) answers gains)
 
+-- The watchers of all were told, and then the client of the last was answered.
+abbrev with_told_clients : World → StepResult Clients → StepResult World
+with_told_clients w told = record { outputs = told.outputs; after = record w { clients = told.after } }
+
+pub told_answered : (r : Result (Unit {0}) NoMemory) (old mid new : List Output) (w : World) (outcomes : List Outcome)
+    (clients : Clients) (last : Option Outcome) (after : World)
+    → MeetsStep (Ok tt) old (tell_outcomes w.clients outcomes) mid clients → last ≡ last_outcome outcomes
+    → MeetsStep r mid (answer_outcome last (record w { clients = clients })) new after
+    → MeetsStep r old (tell_and_answer w outcomes) new after
+told_answered r old mid new w outcomes clients last after told is m =
+    then_meets r old mid new (with_told_clients w (tell_outcomes w.clients outcomes))
+    (answer_outcome (last_outcome outcomes)) (record w { clients = clients }) after (ap (with_told_clients w) told)
+    (subst (λ (o : Option Outcome). MeetsStep r mid (answer_outcome o (record w { clients = clients })) new after) is m)
+
+pub told_unanswered : (old new : List Output) (w : World) (outcomes : List Outcome) (clients : Clients)
+    → MeetsStep (Ok tt) old (tell_outcomes w.clients outcomes) new clients → None ≡ last_outcome outcomes
+    → MeetsStep (Ok tt) old (tell_and_answer w outcomes) new (record w { clients = clients })
+told_unanswered old new w outcomes clients told is =
+    let after : World = record w { clients = clients } in
+    told_answered (Ok tt) old new new w outcomes clients None after told is
+    (ap (λ (o : List Output). record { outputs = o; after = after }) (append-nil new))
+
+-- An allocation was refused while the watchers were told.
+pub told_stops : (old new : List Output) (w : World) (outcomes : List Outcome)
+    → Gains old (tell_outcomes w.clients outcomes).outputs new → Gains old (tell_and_answer w outcomes).outputs new
+told_stops old new w outcomes gains =
+    let told = with_told_clients w (tell_outcomes w.clients outcomes) in
+    gains_first (answer_outcome (last_outcome outcomes) told.after).outputs gains
+
+-- All were applied, their watchers were told, and the last was answered.
+pub applied_answered : (r : Result (Unit {0}) NoMemory) (old new : List Output) (w : World) (txns : List Txn)
+    (left : Replica) (outcomes : List Outcome) (after : World)
+    → left ≡ record w.replica { tree = state_after w.replica.tree txns }
+    → outcomes ≡ outcomes_of_txns w.replica.tree txns
+    → MeetsStep r old (tell_and_answer (record w { replica = left }) outcomes) new after
+    → MeetsStep r old (settle_and_answer w txns) new after
+applied_answered r old new w txns left outcomes after tree answers m =
+    subst (λ (h : StepResult World). MeetsStep r old h new after)
+    (sym (ap (λ (h : StepResult World). and_then h
+    (answer_outcome (last_outcome (outcomes_of_txns w.replica.tree txns)))) (in_turn w txns)
+    ∙ (λ i. tell_and_answer (record w { replica = sym tree i }) (sym answers i))))
+    m
+
 -- It leaves all but the tree and the clients, and doesn't ask what the learner knows.
 keeps_replica : (txns : List Txn) (w : World)
     → (apply_in_turn w txns).after.replica
     ≡ record w.replica { tree = (apply_in_turn w txns).after.replica.tree }
 keeps_replica [] w = refl
 keeps_replica (t ∷ txns) w = keeps_replica txns (apply_and_tell w t).after
+
+-- Of the clients it leaves all but the watches.
+keeps_clients : (txns : List Txn) (w : World)
+    → (apply_in_turn w txns).after.clients
+    ≡ record w.clients { watches = (apply_in_turn w txns).after.clients.watches }
+keeps_clients [] w = refl
+keeps_clients (t ∷ txns) w = keeps_clients txns (apply_and_tell w t).after
+
+-- Whom a transaction answers doesn't depend on the watches.
+answers_kept : (c : Clients) (watches : WatchTables) (gained : Option Txn)
+    → gained_answers (record c { watches = watches }) gained ≡ gained_answers c gained
+answers_kept c watches None = refl
+answers_kept c watches (Some t) = refl
+
+still_answers : (txns : List Txn) (w : World) (gained : Option Txn)
+    → gained_answers (apply_in_turn w txns).after.clients gained ≡ gained_answers w.clients gained
+still_answers txns w gained =
+    ap (λ (c : Clients). gained_answers c gained) (keeps_clients txns w)
+    ∙ answers_kept w.clients (apply_in_turn w txns).after.clients.watches gained
 
 abbrev with_learner_in : World → Learner → World
 with_learner_in w l = record w { replica = record w.replica { learner = l } }
@@ -100,6 +169,55 @@ moves : (l : Learner) (txns : List Txn) (w : World)
     → apply_in_turn (with_learner_in w l) txns ≡ moved l (apply_in_turn w txns)
 moves l [] w = refl
 moves l (t ∷ txns) w = ap (prepend_outputs (apply_and_tell w t).outputs) (moves l txns (apply_and_tell w t).after)
+
+-- ---- the last transaction of a list
+
+gained_at : (log : List Txn) (gained : Option Txn) → slice_get (log ++ optional_txn gained) (length log) ≡ gained
+gained_at [] None = refl
+gained_at [] (Some t) = refl
+gained_at (u ∷ log) gained = gained_at log gained
+
+last_gained : (log : List Txn) (t : Txn) → last_txn (log ++ t ∷ []) ≡ Some t
+last_gained [] t = refl
+last_gained (u ∷ []) t = refl
+last_gained (u ∷ v ∷ log) t = last_gained (v ∷ log) t
+
+outcome_at : (outcomes : List Outcome) (o : Outcome) → slice_get (outcomes ++ o ∷ []) (length outcomes) ≡ Some o
+outcome_at [] o = refl
+outcome_at (p ∷ outcomes) o = outcome_at outcomes o
+
+last_pushed : (outcomes : List Outcome) (o : Outcome) → last_outcome (outcomes ++ o ∷ []) ≡ Some o
+last_pushed outcomes o =
+    let more : length (outcomes ++ o ∷ []) ≡ length outcomes + 1 = length-append outcomes (o ∷ []) in
+    let at : length (outcomes ++ o ∷ []) - 1 ≡ length outcomes = omega (arith, more) in
+    ap (slice_get (outcomes ++ o ∷ [])) at ∙ outcome_at outcomes o
+
+outcomes_on : (s : State) (txns : List Txn) (t : Txn)
+    → outcomes_of_txns s (txns ++ t ∷ [])
+    ≡ outcomes_of_txns s txns ++ answer_of (effect_of_txn (state_after s txns) t) ∷ []
+outcomes_on s [] t = refl
+outcomes_on s (u ∷ txns) t =
+    ap (λ (os : List Outcome). answer_of (effect_of_txn s u) ∷ os) (outcomes_on (effect_of_txn s u).state txns t)
+
+-- The outcome of the last transaction, after the others were applied.
+last_applied : (w : World) (txns : List Txn) (t : Txn)
+    → last_outcome (outcomes_of_txns w.replica.tree (txns ++ t ∷ []))
+    ≡ Some (answer_of (effect_of_txn (apply_in_turn w txns).after.replica.tree t))
+last_applied w txns t =
+    let s = w.replica.tree in
+    ap last_outcome (outcomes_on s txns t)
+    ∙ last_pushed (outcomes_of_txns s txns) (answer_of (effect_of_txn (state_after s txns) t))
+    ∙ ap (λ (h : StepResult World). Some (answer_of (effect_of_txn h.after.replica.tree t))) (sym (in_turn w txns))
+
+-- A transaction that concerns no client has no answer.
+pub no_answer : (w : World) (t : Txn) (err : ℤ) → lets_answer w.clients t ≡ false → answer_txn w t err ≡ no_output w
+no_answer w t err none = by (answer_due w.clients t) none
+  where
+    by : (due : Due) → is_due due ≡ false → give_answer w t err due ≡ no_output w
+    by Nothing e = refl
+    by (Admission n) e = absurd (true≢false e)
+    by (Ending n) e = absurd (true≢false e)
+    by (Reply n kind) e = absurd (true≢false e)
 
 -- ---- what is owed for items
 
@@ -126,17 +244,29 @@ module _ (loading : Loading) (l : Learner) (i : Item) where
   Defers r gained = (tree : State) → take_item loading (record r { tree = tree }) i
       ≡ Ok (apply_to_tree (no_effect loading (record r { learner = l; tree = tree })) gained)
 
+  -- The news of the item, once those that wait are applied.
+  abbrev news_of : World → Option Txn → Option LeaderNews
+  news_of u None = None
+  news_of u (Some t) = Some (news.Applied (answer_of (effect_of_txn u.replica.tree t)).err)
+
+  abbrev applied_to : World → Option Txn → StepResult World
+  applied_to u gained = apply_in_turn (with_learner_in u l) (optional_txn gained)
+
+  -- What the item does then.
+  abbrev taken_to : World → Option Txn → StepResult World
+  taken_to u gained = and_then (applied_to u gained) (answer_news (news_of u gained))
+
   told_later : (u : World) (gained : Option Txn)
       → take_item loading u.replica i
       ≡ Ok (apply_to_tree (no_effect loading (record u.replica { learner = l })) gained)
-      → item_step (both loading u) i
-      ≡ Ok (step_with_loading loading (apply_in_turn (with_learner_in u l) (optional_txn gained)))
+      → item_step (both loading u) i ≡ Ok (step_with_loading loading (taken_to u gained))
   told_later u None e =
       ap (λ (r : Result ItemEffect Fault). r >>= λ t. Ok (step_with_loading t.loading (send_effect u t))) e
   told_later u (Some t) e =
       let h = apply_and_tell (with_learner_in u l) t in
       ap (λ (r : Result ItemEffect Fault). r >>= λ t. Ok (step_with_loading t.loading (send_effect u t))) e
-      ∙ ap (λ (os : List Output). Ok (step_with_loading loading (record { outputs = os; after = h.after })))
+      ∙ ap (λ (os : List Output). Ok (step_with_loading loading
+      (and_then (record { outputs = os; after = h.after }) (answer_news (news_of u (Some t))))))
       (sym (append-nil h.outputs))
 
   taken_later : (w u : World) (gained : Option Txn) → u.replica ≡ record w.replica { tree = u.replica.tree }
@@ -148,26 +278,74 @@ module _ (loading : Loading) (l : Learner) (i : Item) where
       ∙ d u.replica.tree
       ∙ ap (λ (r : Replica). Ok (apply_to_tree (no_effect loading (record r { learner = l })) gained)) (sym same)
 
-  -- It may be taken after those that wait.
+  module _ (pending : List Txn) (w : World) (gained : Option Txn) (d : Defers w.replica gained) where
+    abbrev owed_now : StepResult World
+    owed_now = apply_in_turn w pending
+
+    -- It is taken after those that wait.
+    taken_after : (others : Items Phase Item)
+        → owing pending loading w (with_first i others)
+        ≡ and_then (and_then owed_now (λ u. taken_to u gained)) (λ v. take_items item_step (both loading v) others)
+    taken_after others =
+        let u = owed_now.after in
+        let all = taken_to u gained in
+        ap (prepend_outputs owed_now.outputs)
+        (taken_first (both loading u) (with_first i others) i others (step_with_loading loading all) refl
+        (told_later u gained (taken_later w u gained (keeps_replica pending w) d)))
+        ∙ behind_behind owed_now.outputs all.outputs (take_items item_step (both loading all.after) others)
+
+    -- All of the list are applied in turn.
+    applied_on : and_then owed_now (λ u. applied_to u gained)
+        ≡ apply_in_turn (with_learner_in w l) (pending ++ optional_txn gained)
+    applied_on =
+        ap (λ (h : StepResult World). and_then h (λ (v : World). apply_in_turn v (optional_txn gained)))
+        (sym (moves l pending w))
+        ∙ sym (happening_on (λ (v : World). false) apply_and_tell (with_learner_in w l) pending
+        (optional_txn gained))
+
+  -- A transaction that answers nobody is only applied.
+  unanswered : (log : List Txn) (u : World) (gained : Option Txn) → l.log ≡ log ++ optional_txn gained
+      → gained_answers u.clients gained ≡ false → taken_to u gained ≡ applied_to u gained
+  unanswered log u None is none = refl
+  unanswered log u (Some t) is none =
+      let h = applied_to u (Some t) in
+      let err = (answer_of (effect_of_txn u.replica.tree t)).err in
+      ap (prepend_outputs h.outputs)
+      (ap (answer_optional_txn h.after err) (ap last_txn is ∙ last_gained log t) ∙ no_answer h.after t err none)
+      ∙ ap (λ (os : List Output). record { outputs = os; after = h.after }) (append-nil h.outputs)
+
+  -- It may be taken after those that wait, and wait with them.
   defers : (pending : List Txn) (w : World) (others : Items Phase Item) (gained : Option Txn)
-      → Defers w.replica gained
+      → Defers w.replica gained → l.log ≡ w.replica.learner.log ++ optional_txn gained
+      → gained_answers w.clients gained ≡ false
       → owing pending loading w (with_first i others)
       ≡ owing (pending ++ optional_txn gained) loading (with_learner_in w l) others
-  defers pending w others gained d =
+  defers pending w others gained d log none =
       let owed = apply_in_turn w pending in
-      let u = owed.after in
-      let more = apply_in_turn (with_learner_in u l) (optional_txn gained) in
-      let rest = take_items item_step (both loading more.after) others in
       let go : StepResult World → StepResult (StreamProgress Phase WorldAndLoading) =
       λ h. and_then h (λ (v : World). take_items item_step (both loading v) others) in
-      ap (prepend_outputs owed.outputs)
-      (taken_first (both loading u) (with_first i others) i others (step_with_loading loading more) refl
-      (told_later u gained (taken_later w u gained (keeps_replica pending w) d)))
-      ∙ behind_behind owed.outputs more.outputs rest
-      ∙ ap (λ (h : StepResult World). go (and_then h (λ (v : World). apply_in_turn v (optional_txn gained))))
-      (sym (moves l pending w))
-      ∙ ap go (sym (happening_on (λ (v : World). false) apply_and_tell (with_learner_in w l) pending
-      (optional_txn gained)))
+      taken_after pending w gained d others
+      ∙ ap (λ (h : StepResult World). go (prepend_outputs owed.outputs h))
+      (unanswered w.replica.learner.log owed.after gained log (still_answers pending w gained ∙ none))
+      ∙ ap go (applied_on pending w gained d)
+
+  -- Or it is applied with them, and answers its client.
+  answers : (pending : List Txn) (w : World) (others : Items Phase Item) (t : Txn) → Defers w.replica (Some t)
+      → owing pending loading w (with_first i others)
+      ≡ and_then (settle_and_answer (with_learner_in w l) (pending ++ t ∷ []))
+      (λ v. take_items item_step (both loading v) others)
+  answers pending w others t d =
+      let owed = apply_in_turn w pending in
+      let more = applied_to owed.after (Some t) in
+      let go : StepResult World → StepResult (StreamProgress Phase WorldAndLoading) =
+      λ h. and_then h (λ (v : World). take_items item_step (both loading v) others) in
+      let outcome = answer_of (effect_of_txn owed.after.replica.tree t) in
+      taken_after pending w (Some t) d others
+      ∙ ap go (behind_behind owed.outputs more.outputs (answer_last_txn more.after outcome.err)
+      ∙ ap (λ (h : StepResult World). and_then h (λ (v : World). answer_last_txn v outcome.err))
+      (applied_on pending w (Some t) d)
+      ∙ ap (λ (o : Option Outcome). and_then (apply_in_turn (with_learner_in w l) (pending ++ t ∷ []))
+      (answer_outcome o)) (sym (last_applied w pending t)))
 
 -- What waits is in the log after the first `done`.
 module _ (loading : Loading) (w : World) (i : Item) (s : Replica) (done : ℕ)
@@ -181,20 +359,79 @@ module _ (loading : Loading) (w : World) (i : Item) (s : Replica) (done : ℕ)
       ap (λ (log : List Txn). length log) g.log ∙ length-append w.replica.learner.log (optional_txn g.gained) in
       omega (arith, more, within)
 
-  waits : (others : Items Phase Item)
+  -- The transaction that the log has gained.
+  gained_is : slice_get s.learner.log (length w.replica.learner.log) ≡ g.gained
+  gained_is =
+      ap (λ (log : List Txn). slice_get log (length w.replica.learner.log)) g.log
+      ∙ gained_at w.replica.learner.log g.gained
+
+  abbrev Answers : Bool → Type 0
+  Answers b = gained_answers w.clients (slice_get s.learner.log (length w.replica.learner.log)) ≡ b
+
+  waiting_now : (gained : Option Txn) → s.learner.log ≡ w.replica.learner.log ++ optional_txn gained
+      → drop done s.learner.log ≡ drop done w.replica.learner.log ++ optional_txn gained
+  waiting_now gained is =
+      ap (drop done) is ∙ drop-append-le done w.replica.learner.log (optional_txn gained) within
+
+  waits : Answers false → (others : Items Phase Item)
       → take_items_after done (both loading w) (with_first i others)
       ≡ take_items_after done (both loading (record w { replica = s })) others
-  waits others =
+  waits none others =
       let log = w.replica.learner.log in
-      defers loading s.learner i (drop done log) w others g.gained (λ tree. g.taken loading tree)
+      defers loading s.learner i (drop done log) w others g.gained (λ tree. g.taken loading tree) g.log
+      (ap (gained_answers w.clients) (sym gained_is) ∙ none)
       ∙ ap (λ (txns : List Txn). owing txns loading (with_learner_in w s.learner) others)
-      (sym (drop-append-le done log (optional_txn g.gained) within) ∙ ap (drop done) (sym g.log))
+      (sym (waiting_now g.gained g.log))
       ∙ ap (λ (r : Replica). owing (drop done s.learner.log) loading (record w { replica = r }) others)
       (sym gathers.1)
 
-  pub gathered : (old : List Output)
+  pub gathered : Answers false → (old : List Output)
       → TakesNextItem (Ok tt) old done (both loading w) i old done (both loading (record w { replica = s }))
-  gathered old others = record { front = []; put = sym (append-nil old); leads = sym (waits others) }
+  gathered none old others = record { front = []; put = sym (append-nil old); leads = sym (waits none others) }
+
+  -- The transaction answers a client, so that all are settled.
+  abbrev settled_now : StepResult World
+  settled_now = settle_and_answer (record w { replica = s }) (drop done s.learner.log)
+
+  settles : Answers true → (others : Items Phase Item)
+      → take_items_after done (both loading w) (with_first i others)
+      ≡ and_then settled_now (λ v. take_items item_step (both loading v) others)
+  settles answers_it others =
+      by g.gained (λ tree. g.taken loading tree) g.log (ap (gained_answers w.clients) (sym gained_is) ∙ answers_it)
+    where
+      by : (gained : Option Txn) → Defers loading s.learner i w.replica gained
+          → s.learner.log ≡ w.replica.learner.log ++ optional_txn gained
+          → gained_answers w.clients gained ≡ true
+          → take_items_after done (both loading w) (with_first i others)
+          ≡ and_then settled_now (λ v. take_items item_step (both loading v) others)
+      by None d log none = absurd (true≢false (sym none))
+      by (Some t) d log answers_it =
+          let go : Replica → List Txn → StepResult (StreamProgress Phase WorldAndLoading) =
+          λ r txns. and_then (settle_and_answer (record w { replica = r }) txns)
+          (λ (v : World). take_items item_step (both loading v) others) in
+          answers loading s.learner i (drop done w.replica.learner.log) w others t d
+          ∙ ap (go (record w.replica { learner = s.learner })) (sym (waiting_now (Some t) log))
+          ∙ ap (λ (r : Replica). go r (drop done s.learner.log)) (sym gathers.1)
+
+  pub answered : Answers true → (old new : List Output) (after : World) (done-after : ℕ)
+      → done-after ≡ length after.replica.learner.log → MeetsStep (Ok tt) old settled_now new after
+      → TakesNextItem (Ok tt) old done (both loading w) i new done-after (both loading after)
+  answered answers_it old new after done-after all made others =
+      let whole = take_items_after done (both loading w) (with_first i others) in
+      let so_far = steps old whole old new whole settled_now (λ (v : World). take_items item_step (both loading v) others)
+      after (settles answers_it others) made (begins old whole) in
+      same_left old whole new (take_items item_step (both loading after) others)
+      (take_items_after done-after (both loading after) others)
+      (sym (nothing_waits (both loading after) done-after others all)) so_far
+
+  -- An allocation was refused while they were settled.
+  pub unanswered_stops : Answers true → (old new : List Output) (after : WorldAndLoading) (done-after : ℕ)
+      → Gains old settled_now.outputs new
+      → TakesNextItem (Err errors.NoMemory) old done (both loading w) i new done-after after
+  unanswered_stops answers_it old new after done-after gains others =
+      subst (λ (h : StepResult (StreamProgress Phase WorldAndLoading)). Gains old h.outputs new)
+      (sym (settles answers_it others))
+      (gains_first (take_items item_step (both loading settled_now.after) others).outputs gains)
 
 -- ---- an item that can't be gathered
 

@@ -21,8 +21,12 @@ use Rattle.client_service.specs.World.{OpenConnection, OpenConnections, Clients,
 use Rattle.observer_core.specs.Machine.{Leader, Machine}
 use Rattle.client_service.specs.Steps.{StepResult, prepend_outputs, no_output, and_then, fold_steps}
 use Rattle.client_service.specs.Clients.{without_client, close_clients, close_all_clients, notices_of}
-use Rattle.observer_core.specs.Leader.{to_leader, answers_to_news, WorldAndLoading, step_with_loading, send_effect, item_step, Delivery, delivery_of, deliver_item, is_refused, place_or_fault, place_after, StreamProgress, take_items, WorldAndLeader, leader_at, part_reader, with_leader, disconnect_all, with_leader_or_fault, take_leader_bytes}
-use Rattle.observer_core.specs.Inner.{send_outcome, ReceivesItem, DeliversItems, FollowsStream}
+use Rattle.observer_core.specs.Leader.{WorldAndLoading, step_with_loading, send_effect, item_step, Delivery, delivery_of, deliver_item, is_refused, place_or_fault, place_after, StreamProgress, take_items, WorldAndLeader, leader_at, part_reader, with_leader, disconnect_all, with_leader_or_fault, take_leader_bytes}
+use Rattle.client_service.specs.Serve.{with_watching, to_leader}
+use Rattle.forwarding.specs.Pending.{nothing_pending}
+use Rattle.data_tree.specs.declared.outcome.Trigger.{Trigger}
+use Rattle.quorum_packet.specs.declared.packet.QuorumPacket.{QuorumPacket}
+use Rattle.observer_core.specs.Inner.{tell_all, send_outcome, ReceivesItem, DeliversItems, FollowsStream}
 use Rattle.client_service.specs.Results.{MeetsStep}
 use Rattle.jute.specs.Format.{◌>>=◌}
 use Rattle.snapshot_codec.specs.Made.{Loading}
@@ -30,7 +34,6 @@ use Rattle.replica.specs.Replica.{Replica}
 use Rattle.replica.specs.declared.item_outcome.ItemOutcome.{ItemOutcome}
 use Rattle.replica.specs.Taking.{ItemEffect, TakesItem, take_item, without_leader}
 use Rattle.watch_manager.specs.declared.event.Event.{Event}
-use Rattle.watch_manager.specs.Watching.{WatchTables}
 use Rattle.watch_manager.specs.Watches.{fire}
 use Rattle.values.specs.declared.fault.ReadError.{ReadError}
 use Rattle.client_service.proofs.Steps.{SoFar, steps, ends, stops, stops_in_step, passed_over, behind_behind, then_meets}
@@ -130,19 +133,20 @@ told_first (Ok u) old mid new sent told is put = put ∙ ap (λ (o : List Output
     ∙ append_assoc old sent told
 told_first (Err e) old mid new sent told is gains = gains_behind old sent is gains
 
-pub told_meets : (r : Result (Unit {0}) NoMemory) (old mid new : List Output) (c : Clients) (brought : ItemOutcome)
-    (events : List (ℕ × Event)) (left : WatchTables)
-    → events ≡ (fire c.watches brought.triggers).events → left ≡ (fire c.watches brought.triggers).left
-    → mid ≡ old ++ map to_leader (brought.replies ++ answers_to_news brought.news) → Puts r mid (notices_of events) new
-    → MeetsStep r old (send_outcome c brought) new (record c { watches = left })
-told_meets (Ok u) old mid new c brought events left fired rest sent put =
-    let sends = map to_leader (brought.replies ++ answers_to_news brought.news) in
-    let all : new ≡ old ++ (sends ++ notices_of (fire c.watches brought.triggers).events) =
-    told_first (Ok tt) old mid new sends (notices_of (fire c.watches brought.triggers).events) sent
+pub told_meets : (r : Result (Unit {0}) NoMemory) (old mid new : List Output) (w after : World)
+    (packets : List QuorumPacket) (triggers : List Trigger) (events : List (ℕ × Event))
+    → events ≡ (fire w.clients.watches triggers).events
+    → after ≡ with_watching w (fire w.clients.watches triggers).left
+    → mid ≡ old ++ map to_leader packets → Puts r mid (notices_of events) new
+    → MeetsStep r old (tell_all w packets triggers) new after
+told_meets (Ok u) old mid new w after packets triggers events fired rest sent put =
+    let sends = map to_leader packets in
+    let all : new ≡ old ++ (sends ++ notices_of (fire w.clients.watches triggers).events) =
+    told_first (Ok tt) old mid new sends (notices_of (fire w.clients.watches triggers).events) sent
     (put ∙ ap (λ (es : List (ℕ × Event)). mid ++ notices_of es) fired) in
-    λ i. record { outputs = sym all i; after = record c { watches = sym rest i } }
-told_meets (Err e) old mid new c brought events left fired rest sent gains =
-    gains_behind old (map to_leader (brought.replies ++ answers_to_news brought.news)) sent
+    λ i. record { outputs = sym all i; after = sym rest i }
+told_meets (Err e) old mid new w after packets triggers events fired rest sent gains =
+    gains_behind old (map to_leader packets) sent
     (subst (λ (es : List (ℕ × Event)). Gains mid (notices_of es) new) fired gains)
 
 module _ (d : WorldAndLoading) (i : Item) (old : List Output) where
@@ -159,26 +163,17 @@ module _ (d : WorldAndLoading) (i : Item) (old : List Output) where
         replica = r;
       })) where
     -- The item was taken, and its effect was sent.
-    pub received : (new : List Output) (clients : Clients)
-        → MeetsStep (Ok tt) old (send_outcome d.world.clients brought) new clients
-        → ReceivesItem (Ok tt) old (item_step d i) d new
-        (record { loading = loading; world = record d.world { replica = r; clients = clients } })
-    received new clients told =
-        let after : WorldAndLoading = record {
-          loading = loading;
-          world =
-              record d.world { replica = r; clients = clients };
-        } in
-        subst (λ (m : Result (StepResult WorldAndLoading) Fault). ReceivesItem (Ok tt) old m d new after)
-        (sym (ap telling_it taken))
-        (ap (λ (h : StepResult Clients). record {
-          outputs = h.outputs;
-          after = record { loading = loading; world = record d.world { replica = r; clients = h.after } };
-        }) told)
+    pub received : (new : List Output) (after : World)
+        → MeetsStep (Ok tt) old (send_outcome (record d.world { replica = r }) brought) new after
+        → ReceivesItem (Ok tt) old (item_step d i) d new (record { loading = loading; world = after })
+    received new after told =
+        subst (λ (m : Result (StepResult WorldAndLoading) Fault).
+        ReceivesItem (Ok tt) old m d new (record { loading = loading; world = after }))
+        (sym (ap telling_it taken)) (ap (step_with_loading loading) told)
 
     -- An allocation was refused while its effect was sent.
     pub untold : (new : List Output) (after : WorldAndLoading)
-        → Gains old (send_outcome d.world.clients brought).outputs new
+        → Gains old (send_outcome (record d.world { replica = r }) brought).outputs new
         → ReceivesItem (Err errors.NoMemory) old (item_step d i) d new after
     untold new after gains =
         subst (λ (m : Result (StepResult WorldAndLoading) Fault). ReceivesItem (Err errors.NoMemory) old m d new after)
@@ -232,15 +227,17 @@ none_open old is =
     ap (λ (m : OpenConnections). close_clients (finmap.keys m) old) is ∙ ap (λ (ks : List ℕ). close_clients ks old)
     (keys-empty OpenConnection)
 
-pub disconnects : (r : Result (Unit {0}) NoMemory) (old new : List Output) (w : World) (clients : Clients)
-    → MeetsStep r old (close_all_clients w.clients) new clients → MeetsStep r old (disconnect_all w) new
-    (record w { replica = without_leader w.replica; clients = clients })
-disconnects (Ok u) old new w clients m =
+pub disconnects : (old new : List Output) (w : World) (clients : Clients)
+    → MeetsStep (Ok tt) old (close_all_clients w.clients) new clients
+    → MeetsStep (Ok tt) old (disconnect_all w) new
+    (record w { replica = without_leader w.replica; clients = record clients { pending = nothing_pending } })
+disconnects old new w clients m =
     ap (λ (h : StepResult Clients). record {
       outputs = h.outputs;
-      after = record w { replica = without_leader w.replica; clients = h.after };
+      after =
+          record w
+          { replica = without_leader w.replica; clients = record h.after { pending = nothing_pending } };
     }) m
-disconnects (Err e) old new w clients m = m
 
 -- ---- the leader is lost
 

@@ -1,6 +1,5 @@
 -- After every event the replica follows its log.
 use Rattle.std.proofs.Common.{◌≡◌, ℕ, List, Option, Some, None, Result, Ok, Err, false, sym, subst, refl}
-use Rattle.std.specs.FinMap as finmap
 use Rattle.values.specs.declared.fault.Fault.{Fault}
 use Rattle.jute.specs.Format.{◌>>=◌}
 use Rattle.jute.specs.Stream.{with_more_bytes}
@@ -13,12 +12,13 @@ use Rattle.observer_core.specs.declared.event.Event.{Event}
 use Rattle.observer_core.specs.declared.event.Event.TheVariants as event
 use Rattle.client_service.specs.World.{World}
 use Rattle.observer_core.specs.Machine.{Leader, Machine}
-use Rattle.observer_core.specs.Leader.{WorldAndLoading, step_with_loading, send_effect, item_step, Delivery, delivery_of, deliver_item, is_refused, deliver_all, place_after, part_reader, leader_at, meet_leader, with_leader_or_fault, take_leader_bytes, on_stream_end, end_leader}
+use Rattle.observer_core.specs.Leader.{tell_effect, answer_news, WorldAndLoading, step_with_loading, send_effect, item_step, Delivery, delivery_of, deliver_item, is_refused, deliver_all, place_after, part_reader, leader_at, meet_leader, with_leader_or_fault, take_leader_bytes, on_stream_end, end_leader}
+use Rattle.client_service.specs.Clients.{heard_connection}
 use Rattle.client_service.specs.Serve.{take_client_bytes, open_client, end_client, expire_session}
-use Rattle.observer_core.specs.Play.{is_serving_clients, play_event}
+use Rattle.observer_core.specs.Play.{is_serving_clients, play_event, primed_session}
 use Rattle.observer_core.specs.Logs.{MachinesFollowTheirLogs}
 use Rattle.observer_core.proofs.Keeping.{happening_keeps}
-use Rattle.observer_core.proofs.Unmoved.{client_same, open_same, end_same, expire_same}
+use Rattle.observer_core.proofs.Unmoved.{client_same, open_same, end_same, expire_same, news_same}
 
 abbrev Follows : World → Type 0
 Follows w = FollowsItsLog w.replica
@@ -35,7 +35,10 @@ module _ (law : ReplicasFollow) where
       by : (r : Result ItemEffect Fault) → take_item d.left.loading d.left.world.replica i ≡ r
           → Follows (delivery_of (r >>= λ t. Ok (step_with_loading t.loading (send_effect d.left.world t)))
           d.left).after.left.world
-      by (Ok t) e = law.takes d.left.loading d.left.world.replica i t f e
+      by (Ok t) e =
+          let told = (tell_effect d.left.world t).after in
+          still_follows told (answer_news t.news told).after (news_same t.news told)
+          (law.takes d.left.loading d.left.world.replica i t f e)
       by (Err e) refused = f
 
   leave_follows : (w : World) (leader : Result Leader Fault) → Follows w
@@ -74,7 +77,7 @@ module _ (law : ReplicasFollow) where
   happen_follows m event.LeaderEnd f = end_follows m.leader m.world f
   happen_follows m (event.ClientUp n) f = still_follows m.world (open_client n m.world) (open_same n m.world) f
   happen_follows m (event.ClientBytes n bytes) f =
-      let connection = finmap.get m.world.clients.connections n in
+      let connection = heard_connection n m.world.clients in
       still_follows m.world (take_client_bytes (is_serving_clients m.world) n m.world connection bytes).after
       (client_same (is_serving_clients m.world) n m.world connection bytes) f
   happen_follows m (event.ClientEnd n) f = still_follows m.world (end_client n m.world) (end_same n m.world) f
@@ -85,7 +88,7 @@ module _ (law : ReplicasFollow) where
   pub logs_are_followed : MachinesFollowTheirLogs
   logs_are_followed = record {
     starts = λ settings. law.made settings.epochs;
-    starts_primed = λ settings. law.primed;
+    starts_primed = λ settings. law.primed (primed_session settings) settings.timeouts.greatest;
     plays = happening_keeps (λ (m : Machine). Follows m.world) (λ (m : Machine). false) play_event
         (λ m e _. happen_follows m e);
   }

@@ -1,9 +1,9 @@
--- A predicate of connection numbers that holds for all keys of a map, and for all connections with a session or a
--- watch.
-use Rattle.std.proofs.Common.{◌≡◌, ℕ, ◌+◌, ◌==◌, ℤ, pos, Bool, true, false, ◌||◌, List, [], ◌∷◌, length, Option, Some, None, refl, sym, ap, ◌∙◌}
+-- A predicate of connection numbers that holds for all keys of a map, and for all connections with a session, a watch
+-- or a request that waits.
+use Rattle.std.proofs.Common.{◌≡◌, ◌≢◌, ℕ, ℤ, Bool, true, false, ◌||◌, List, [], ◌∷◌, length, Option, Some, None, refl, sym, ap, subst, ◌∙◌}
 use Rattle.std.specs.Prelude.{is_some, nat_lt}
 use Rattle.std.specs.List.{list_any}
-use Rattle.std.specs.Ordering.{eq_by_cmp, nat_cmp, int_eq}
+use Rattle.std.specs.Ordering.{eq_by_cmp, nat_cmp}
 use Rattle.std.specs.Cmp.{nat_cmp_total, eq_by_cmp_equiv}
 use Rattle.std.proofs.Math.Bool.{or-false}
 use Rattle.std.proofs.lemmas.Bool.{cond_both}
@@ -13,10 +13,9 @@ use Rattle.std.specs.FinMap as finmap
 use Rattle.std.specs.FinSet as set
 use mathlib.Core.Bool.{true≢false}
 use Rattle.jute.specs.declared.owned.Id.{Id}
-use Rattle.sessions.specs.declared.request.SessionRequest.{SessionRequest}
-use Rattle.sessions.specs.Credentials.{session_id_of, digest_id}
+use Rattle.sessions.specs.Credentials.{digest_id}
 use Rattle.sessions.specs.State.{ConnectedClient, SessionTable}
-use Rattle.sessions.specs.Sessions.{ConnectResult, AuthResult, new_connection, greatest_counter, ids_limit, is_same_id, with_id, is_valid, connection_of, close_connection, close_as, close_if_some, expire_guest, expire_as, open_new, connect_session, show_in, digest_text, auth_by, add_auth}
+use Rattle.sessions.specs.Sessions.{AuthResult, new_connection, ids_limit, is_same_id, with_id, connection_of, close_connection, close_as, close_if_some, give_session, show_in, digest_text, auth_by, add_auth}
 use Rattle.watch_manager.specs.Pairs.{WatchPairs, watch_cmp, same_connection}
 use Rattle.watch_manager.specs.Watching.{WatchTables}
 use Rattle.watch_manager.specs.Lasting.{LastingWatches}
@@ -25,7 +24,11 @@ use Rattle.watch_manager.specs.declared.mode.WatchMode.{WatchMode}
 use Rattle.watch_manager.proofs.Totals.{watch_total, watch_exact}
 use Rattle.read_processor.specs.declared.watch.Watch.{Watch}
 use Rattle.read_processor.specs.declared.watch.Watch.TheVariants as tables
-use Rattle.client_service.specs.Serve.{with_watch, with_watch_if, with_each_watch}
+use Rattle.forwarding.specs.Queue.{RequestQueue, with_oldest_settled}
+use Rattle.forwarding.specs.State.{PendingTable}
+use Rattle.forwarding.specs.Pending.{queue_in, queue_of, with_queue, put_queue, settle_first, settle_sync}
+use Rattle.client_service.specs.Serve.{with_watch}
+use Rattle.client_service.proofs.NatMaps.{get-beside}
 
 or_first : (a b : Bool) → b ≡ false → (a || b) ≡ true → a ≡ true
 or_first a b none h = sym (or-false a) ∙ ap (λ x. a || x) (sym none) ∙ h
@@ -75,16 +78,9 @@ module _ (test : ℕ → Bool) where
       by None none = absent_passes test s.connections n none all
       by (Some c) has = removed_passes test s.connections n all
 
-  one_closed_passes : (s : SessionTable) (o : Option ℕ) → Pass s → Pass (close_if_some s o)
+  pub one_closed_passes : (s : SessionTable) (o : Option ℕ) → Pass s → Pass (close_if_some s o)
   one_closed_passes s None all = all
   one_closed_passes s (Some n) all = closed_passes s n (λ k has. ap (λ b. b || same_connection n k) (all k has))
-
-  pub expired_passes : (s : SessionTable) (session : ℤ) → Pass s → Pass (expire_guest s session).after
-  expired_passes s session all = by (finmap.get s.guests session)
-    where
-      by : (o : Option (Option ℕ)) → Pass (expire_as s session o).after
-      by None = all
-      by (Some o) = one_closed_passes s o all
 
   module _ (s : SessionTable) (n : ℕ) (here : test n ≡ true) (all : Pass s) where
     shown_passes : (id : Id) (o : Option ConnectedClient) → Pass (show_in s n id o).after
@@ -101,22 +97,95 @@ module _ (test : ℕ → Bool) where
         by None = all
         by (Some text) = shown_passes (digest_id text) (finmap.get s.connections n)
 
-    opened_passes : (time_out : ℤ) → Pass (open_new s n time_out).after
-    opened_passes time_out =
-        let session = session_id_of s.terms.server_id (s.counter + 1) in
-        cond_both (s.counter == greatest_counter) _ _ (λ (x : ConnectResult). Pass x.after) (λ _. all)
-        (λ _. inserted_passes test s.connections n (new_connection session) here all)
+    -- A connection that passes gets a session.
+    pub given_passes : (session time_out : ℤ) → Pass (give_session s n session time_out).after
+    given_passes session time_out =
+        inserted_passes test (close_if_some s (connection_of s session)).connections n (new_connection session) here
+        (one_closed_passes s (connection_of s session) all)
 
-    pub connected_passes : (request : SessionRequest) → Pass (connect_session s n request).after
-    connected_passes request =
-        let session = request.session_id in
-        let older = connection_of s session in
-        let others = one_closed_passes s older all in
-        cond_both (int_eq session (pos 0)) _ _ (λ (x : ConnectResult). Pass x.after)
-        (λ _. opened_passes request.time_out)
-        (λ _. cond_both (is_valid s request) _ _ (λ (x : ConnectResult). Pass x.after)
-        (λ _. inserted_passes test (close_if_some s older).connections n (new_connection session) here others)
-        (λ _. all))
+-- ---- connections that have no session
+
+-- Adding an id gives no connection a session.
+pub auth_none : (s : SessionTable) (n : ℕ) (scheme bytes : Option (List ℕ)) (k : ℕ)
+    → finmap.get s.connections k ≡ None → finmap.get (add_auth s n scheme bytes).after.connections k ≡ None
+auth_none s n scheme bytes k none = by (digest_text scheme bytes)
+  where
+    Still : AuthResult → Type 0
+    Still x = finmap.get x.after.connections k ≡ None
+
+    added : (c : ConnectedClient) (id : Id) → finmap.get s.connections n ≡ Some c
+        → finmap.get (finmap.insert s.connections n (with_id c id)) k ≡ None
+    added c id there =
+        finmap.get-insert nat_cmp_total s.connections n (with_id c id) k
+        ∙ cond_both (eq_by_cmp nat_cmp k n) (Some (with_id c id)) (finmap.get s.connections k) (λ o. o ≡ None)
+        (λ same. absurd (true≢false (sym (ap is_some there)
+        ∙ ap (λ (m : ℕ). is_some (finmap.get s.connections m)) (sym (tells_apart exact_unsigned k n same))
+        ∙ ap is_some none)))
+        (λ other. none)
+
+    shown : (id : Id) (o : Option ConnectedClient) → finmap.get s.connections n ≡ o → Still (show_in s n id o)
+    shown id None there = none
+    shown id (Some c) there =
+        cond_both (list_any (λ shown. is_same_id shown id) c.ids) _ _ Still (λ _. none)
+        (λ _. cond_both (nat_lt (length c.ids) ids_limit) _ _ Still (λ _. added c id there) (λ _. none))
+
+    by : (o : Option (List ℕ)) → Still (auth_by s n o)
+    by None = none
+    by (Some text) = shown (digest_id text) (finmap.get s.connections n) refl
+
+-- Closing a connection gives none a session.
+pub closed_none : (s : SessionTable) (n k : ℕ) → finmap.get s.connections k ≡ None
+    → finmap.get (close_connection s n).connections k ≡ None
+closed_none s n k none = by (finmap.get s.connections n)
+  where
+    by : (o : Option ConnectedClient) → finmap.get (close_as s n o).connections k ≡ None
+    by None = none
+    by (Some c) =
+        finmap.get-remove nat_cmp_total s.connections n k
+        ∙ cond_both (eq_by_cmp nat_cmp k n) None (finmap.get s.connections k) (λ o. o ≡ None) (λ _. refl) (λ _. none)
+
+pub one_closed_none : (s : SessionTable) (o : Option ℕ) (k : ℕ) → finmap.get s.connections k ≡ None
+    → finmap.get (close_if_some s o).connections k ≡ None
+one_closed_none s None k none = none
+one_closed_none s (Some n) k none = closed_none s n k none
+
+-- Giving a session to a connection gives no other one.
+pub given_none : (s : SessionTable) (n : ℕ) (session time_out : ℤ) (k : ℕ) → k ≢ n
+    → finmap.get s.connections k ≡ None
+    → finmap.get (give_session s n session time_out).after.connections k ≡ None
+given_none s n session time_out k other none =
+    get-beside (close_if_some s (connection_of s session)).connections n k (new_connection session) other
+    ∙ one_closed_none s (connection_of s session) k none
+
+-- ---- connections of which a request waits
+
+module _ (test : ℕ → Bool) (p : PendingTable) (all : KeysPass test p.queues) where
+  -- No request waits of a connection of which none waited before.
+  pub put_passes : (n : ℕ) (change : RequestQueue → RequestQueue) → change [] ≡ []
+      → KeysPass test (put_queue p n (change (queue_of p n))).queues
+  put_passes n change none = by (finmap.get p.queues n) refl
+    where
+      Put : RequestQueue → Type 0
+      Put q = KeysPass test (with_queue p.queues n q)
+
+      gone : Put []
+      gone = removed_passes test p.queues n (λ k has. ap (λ b. b || same_connection n k) (all k has))
+
+      put : test n ≡ true → (q : RequestQueue) → Put q
+      put here [] = gone
+      put here (r ∷ rest) = inserted_passes test p.queues n (r ∷ rest) here all
+
+      by : (o : Option RequestQueue) → finmap.get p.queues n ≡ o → Put (change (queue_in o))
+      by None e = subst Put (sym none) gone
+      by (Some q) e = put (all n (ap is_some e)) (change q)
+
+  pub settled_passes : KeysPass test (settle_sync p).after.queues
+  settled_passes = by p.syncs
+    where
+      by : (syncs : List (Option ℕ)) → KeysPass test (settle_first p syncs).after.queues
+      by [] = all
+      by (None ∷ rest) = all
+      by (Some n ∷ rest) = put_passes n with_oldest_settled refl
 
 -- ---- connections that watch
 
@@ -153,14 +222,3 @@ module _ (test : ℕ → Bool) (n : ℕ) (here : test n ≡ true) where
   watched_passes w (tables.Data path) all = (pair_passes w.own path all.0, all.1, all.2)
   watched_passes w (tables.Child path) all = (all.0, pair_passes w.child path all.1, all.2)
   watched_passes w (tables.Lasting path mode) all = (all.0, all.1, lasting_passes w.lasting path mode all.2)
-
-  pub watched_if_passes : (w : WatchTables) (watch : Option Watch) → WatchersPass test w
-      → WatchersPass test (with_watch_if n w watch)
-  watched_if_passes w None all = all
-  watched_if_passes w (Some watch) all = watched_passes w watch all
-
-  pub watched_each_passes : (w : WatchTables) (watches : List Watch) → WatchersPass test w
-      → WatchersPass test (with_each_watch n w watches)
-  watched_each_passes w [] all = all
-  watched_each_passes w (watch ∷ others) all =
-      watched_each_passes (with_watch n w watch) others (watched_passes w watch all)

@@ -4,6 +4,7 @@ use Rattle.std.specs.Prelude.{is_some}
 use Rattle.std.specs.Option.{unwrap_or}
 use Rattle.std.proofs.lemmas.List.{append-nil}
 use Rattle.std.proofs.lemmas.Bool.{cases_lt}
+use Rattle.std.proofs.lemmas.Option.{none-some}
 use Rattle.std.specs.FinMap as finmap
 use Rattle.values.specs.declared.fault.Fault.{Fault}
 use Rattle.jute.specs.Frame.{frame_format}
@@ -23,16 +24,18 @@ use Rattle.client_service.specs.declared.output.Output.TheVariants.{CloseClient}
 use Rattle.client_service.specs.World.{OpenConnection, OpenConnections, World}
 use Rattle.observer_core.specs.Machine.{Leader, Machine}
 use Rattle.client_service.specs.Steps.{StepResult, prepend_outputs, no_output, and_then, fold_steps}
-use Rattle.client_service.specs.Clients.{idle_connection, is_open}
+use Rattle.client_service.specs.Clients.{idle_connection, is_open, heard_in, heard_connection}
 use Rattle.observer_core.specs.Leader.{WorldAndLoading, item_step, Delivery, deliver_item, is_refused, place_after, deliver_all, part_reader, leader_at, with_leader, with_leader_or_fault, take_leader_bytes}
-use Rattle.client_service.specs.Serve.{close_client, serve_frame, tell_word, word_without_session, word_at, is_closed, with_waiting_bytes, wait_or_close, wait_if_open, wait_at, client_frame_limit, frames_of_client, serve_all, tell_or_serve, take_client_bytes}
+use Rattle.forwarding.specs.Pending.{is_idle}
+use Rattle.client_service.specs.Serve.{close_client, serve_frame, tell_word, word_without_session, word_at, is_unheard, with_waiting_bytes, wait_or_close, wait_if_heard, wait_at, client_frame_limit, frames_of_client, serve_all, tell_or_serve, take_client_bytes}
 use Rattle.observer_core.specs.Play.{is_serving_clients, play_event, play}
+use Rattle.observer_core.proofs.Keeping.{happening_keeps}
 use Rattle.observer_core.proofs.Closing.{serve_closes}
 use Rattle.client_service.proofs.Steps.{behind_behind, passed_over, happening_on}
 use Rattle.client_service.proofs.NatMaps.{get-inserted, get-removed, insert-insert, insert-same}
 use Rattle.client_service.proofs.Streams.{frames_streamed}
 use Rattle.observer_core.proofs.Unmoved.{client_same}
-use Rattle.observer_core.proofs.Words.{same_front, still_says, has_said, still_waits, short_frame}
+use Rattle.observer_core.proofs.Words.{same_front, still_says, still_waits, short_frame}
 use Rattle.observer_core.proofs.Joined.{frames_one}
 use Rattle.replica.specs.Replica.{Replica}
 use Rattle.replica.specs.Taking.{is_serving}
@@ -123,26 +126,38 @@ leader_cut_anywhere m a b events = two_events m (LeaderBytes (a ++ b)) (LeaderBy
 
 -- The connection has no waiting bytes, if it is open.
 abbrev IsTaken : ℕ → World → Type 0
-IsTaken n w = (k : OpenConnection) → finmap.get w.clients.connections n ≡ Some k → k ≡ idle_connection
+IsTaken n w = (k : OpenConnection) → finmap.get w.clients.connections n ≡ Some k → k.rest ≡ []
+
+-- A connection that is heard isn't leaving.
+heard_is : (o : Option OpenConnection) (k : OpenConnection) → heard_in o ≡ Some k
+    → (o ≡ Some k) × (k.is_leaving ≡ false)
+heard_is None k e = absurd (none-some k e)
+heard_is (Some c) k e = by c.is_leaving refl e
+  where
+    by : (b : Bool) → c.is_leaving ≡ b → cond b None (Some c) ≡ Some k → (Some c ≡ Some k) × (k.is_leaving ≡ false)
+    by true leaves e = absurd (none-some k e)
+    by false stays e = (e, ap (λ (x : Option OpenConnection). (unwrap_or x k).is_leaving) (sym e) ∙ stays)
+
+-- It is idle without waiting bytes.
+idle_is : (k : OpenConnection) → k.rest ≡ [] → k.is_leaving ≡ false → k ≡ idle_connection
+idle_is k none stays = λ i. record { rest = none i; is_leaving = stays i }
 
 module _ (serving : Bool) (n : ℕ) where
+  abbrev IsIdle : World → Type 0
+  IsIdle w = finmap.get w.clients.connections n ≡ Some idle_connection
+
+  idle_heard : (w : World) → IsIdle w → heard_connection n w.clients ≡ Some idle_connection
+  idle_heard w there = ap heard_in there
+
   served_taken : (w : World) (frame : List ℕ) → IsTaken n w → IsTaken n (serve_frame serving n w frame).after
-  served_taken w frame t k e = t k (serve_closes serving n w frame n k e)
+  served_taken w frame t k e =
+      let had = serve_closes serving n w frame n k e in
+      had.rest ∙ t had.before had.there
 
   all_taken : (w : World) (fs : List (List ℕ)) → IsTaken n w
-      → IsTaken n (fold_steps (is_closed n) (serve_frame serving n) w fs).after
-  all_taken w [] t = t
-  all_taken w (f ∷ fs) t = by (is_closed n w)
-      (all_taken (serve_frame serving n w f).after fs (served_taken w f t))
-    where
-      by : (b : Bool) → IsTaken n (fold_steps (is_closed n) (serve_frame serving n)
-          (serve_frame serving n w f).after fs).after
-          → IsTaken n (cond b (no_output w)
-          (prepend_outputs (serve_frame serving n w f).outputs
-          (fold_steps (is_closed n) (serve_frame serving n) (serve_frame serving n w f).after
-          fs))).after
-      by true others = t
-      by false others = others
+      → IsTaken n (fold_steps (is_unheard n) (serve_frame serving n) w fs).after
+  all_taken w fs t =
+      happening_keeps (IsTaken n) (is_unheard n) (serve_frame serving n) (λ v frame _. served_taken v frame) w fs t
 
   -- The connection after the frames that came.
   abbrev left_at : StepResult World → Unread → StepResult World
@@ -150,79 +165,82 @@ module _ (serving : Bool) (n : ℕ) where
 
   -- The machine after further bytes of the client.
   abbrev then_client : StepResult World → List ℕ → StepResult World
-  then_client h more = and_then h
-      (λ w. take_client_bytes serving n w (finmap.get w.clients.connections n) more)
+  then_client h more = and_then h (λ w. take_client_bytes serving n w (heard_connection n w.clients) more)
 
   -- Bytes are kept again.
-  kept_again : (w : World) (rest : List ℕ) → finmap.get w.clients.connections n ≡ Some idle_connection
-      → with_waiting_bytes n (with_waiting_bytes n w idle_connection rest) (record { rest = rest }) [] ≡ w
+  kept_again : (w : World) (rest : List ℕ) → IsIdle w
+      → with_waiting_bytes n (with_waiting_bytes n w idle_connection rest)
+      (record { rest = rest; is_leaving = false }) [] ≡ w
   kept_again w rest there =
       ap (λ (c : OpenConnections). record w { clients = record w.clients { connections = c } })
-      (insert-insert w.clients.connections n idle_connection (record { rest = rest })
+      (insert-insert w.clients.connections n idle_connection (record { rest = rest; is_leaving = false })
       ∙ insert-same w.clients.connections n idle_connection there)
 
   -- The waiting bytes are joined with those that come.
-  taken_up : (w : World) (rest more : List ℕ) → finmap.get w.clients.connections n ≡ Some idle_connection
+  taken_up : (w : World) (rest more : List ℕ) → IsIdle w
       → tell_or_serve serving n w (rest ++ more) (word_at n w (rest ++ more))
       ≡ then_client (no_output (with_waiting_bytes n w idle_connection rest)) more
   taken_up w rest more there =
       sym (ap (λ (x : World). tell_or_serve serving n x (rest ++ more) (word_at n w (rest ++ more)))
       (kept_again w rest there))
       ∙ sym (ap (λ (o : Option OpenConnection). take_client_bytes serving n
-      (with_waiting_bytes n w idle_connection rest) o more)
-      (get-inserted w.clients.connections n (record { rest = rest })))
+      (with_waiting_bytes n w idle_connection rest) (heard_in o) more)
+      (get-inserted w.clients.connections n (record { rest = rest; is_leaving = false })))
 
   -- The bytes that wait don't make a word with those that come.
   abbrev SaysNone : World → Unread → List ℕ → Type 0
   SaysNone w unread more = (rest : List ℕ) → unread ≡ Ok rest → is_open n w.clients ≡ true
       → word_at n w (rest ++ more) ≡ None
 
-  waited_on : (w : World) (k : OpenConnection) (unread : Unread) (more : List ℕ) → finmap.get w.clients.connections n
-      ≡ Some k → k ≡ idle_connection → SaysNone w unread more →
+  waited_on : (w : World) (unread : Unread) (more : List ℕ) → IsIdle w → SaysNone w unread more →
       let left : Place (Unit {0}) = record { phase = tt; unread = unread } in
       serve_all serving n w (items_in frames_of_client (with_more_bytes left more))
-      ≡ then_client (wait_or_close n w k unread) more
-  waited_on w k (Ok rest) more there fresh says =
+      ≡ then_client (wait_or_close n w idle_connection unread) more
+  waited_on w (Ok rest) more there says =
       sym (ap (tell_or_serve serving n w (rest ++ more)) (says rest refl (ap is_some there)))
-      ∙ taken_up w rest more (there ∙ ap Some fresh)
-      ∙ sym (ap (λ (c : OpenConnection). then_client (wait_or_close n w c (Ok rest)) more) fresh)
-  waited_on w k (Err e) more there fresh says =
-      ap (λ (o : Option OpenConnection). wait_if_open n w o (Err e)) there
+      ∙ taken_up w rest more there
+  waited_on w (Err e) more there says =
+      ap (λ (o : Option OpenConnection). wait_if_heard n w o (Err e)) (idle_heard w there)
       ∙ sym (ap (λ (o : Option OpenConnection). prepend_outputs (CloseClient n ∷ [])
-      (take_client_bytes serving n (close_client n w).after o more)) (get-removed w.clients.connections n))
+      (take_client_bytes serving n (close_client n w).after (heard_in o) more)) (get-removed w.clients.connections n))
 
   served_on : (w : World) (o : Option OpenConnection) (left : Place (Unit {0})) (more : List ℕ)
-      → finmap.get w.clients.connections n ≡ o → IsTaken n w → SaysNone w left.unread more
+      → heard_connection n w.clients ≡ o → IsTaken n w → SaysNone w left.unread more
       → serve_all serving n w (items_in frames_of_client (with_more_bytes left more))
-      ≡ then_client (wait_if_open n w o left.unread) more
+      ≡ then_client (wait_if_heard n w o left.unread) more
   served_on w None left more there t says =
       let j = items_in frames_of_client (with_more_bytes left more) in
       ap (λ (h : StepResult World). left_at h j.left.unread)
-      (passed_over (is_closed n) (serve_frame serving n) w j.found
+      (passed_over (is_unheard n) (serve_frame serving n) w j.found
       (ap (λ (x : Option OpenConnection). not (is_some x)) there))
-      ∙ ap (λ (x : Option OpenConnection). wait_if_open n w x j.left.unread) there
+      ∙ ap (λ (x : Option OpenConnection). wait_if_heard n w x j.left.unread) there
       ∙ sym (ap (λ (x : Option OpenConnection). take_client_bytes serving n w x more) there)
-  served_on w (Some k) left more there t says = waited_on w k left.unread more there (t k there) says
+  served_on w (Some k) left more there t says =
+      let is = heard_is (finmap.get w.clients.connections n) k there in
+      let idle = idle_is k (t k is.0) is.1 in
+      waited_on w left.unread more (is.0 ∙ ap Some idle) says
+      ∙ sym (ap (λ (c : OpenConnection). then_client (wait_or_close n w c left.unread) more) idle)
 
   -- ---- frames, where the first piece has all of them or a prefix
 
-  module _ (w : World) (a b : List ℕ) (there : finmap.get w.clients.connections n ≡ Some idle_connection) where
+  module _ (w : World) (a b : List ℕ) (there : IsIdle w) where
     abbrev i : Items (Unit {0}) (List ℕ)
     i = items_in frames_of_client (place_at tt a)
 
-    -- Where a frame was found, its client then has a session or is closed.
+    -- Where a frame was found, its client then has a session, waits for one, or is closed.
     abbrev AllSayNone : Items (Unit {0}) (List ℕ) → Type 0
-    AllSayNone found = SaysNone (fold_steps (is_closed n) (serve_frame serving n) w found.found).after
+    AllSayNone found = SaysNone (fold_steps (is_unheard n) (serve_frame serving n) w found.found).after
         found.left.unread b
+
+    heard : is_unheard n w ≡ false
+    heard = ap (λ (o : Option OpenConnection). not (is_some o)) (idle_heard w there)
 
     all_say_none : word_at n w (a ++ b) ≡ None → (r : Result (List ℕ × List ℕ) Fault)
         → (frame_format client_frame_limit).read a ≡ r → AllSayNone i
     all_say_none none (Ok f) read =
         let others = items_in frames_of_client (place_at tt f.1) in
-        let v = (fold_steps (is_closed n) (serve_frame serving n) w (f.0 ∷ others.found)).after in
         subst AllSayNone (sym (items_whole frames_of_client frames_streamed tt a f.1 f.0 read))
-        (λ rest is here. has_said (session_of_connection v.clients.sessions n) (word_of (take 4 (rest ++ b)))
-        (frames_one serving n w f.0 others.found here))
+        (λ rest is here. frames_one serving n w f.0 others.found (rest ++ b) heard here)
     all_say_none none (Err e) read =
         subst AllSayNone (sym (items_refused frames_of_client frames_streamed tt a e read))
         (λ rest is here. ap (λ (x : List ℕ). word_at n w (x ++ b)) (sym (still_waits e a rest is)) ∙ none)
@@ -233,24 +251,25 @@ module _ (serving : Bool) (n : ℕ) where
         ≡ then_client (serve_all serving n w i) b
     both_served none =
         let j = items_in frames_of_client (with_more_bytes i.left b) in
-        let h = fold_steps (is_closed n) (serve_frame serving n) w i.found in
-        let g = fold_steps (is_closed n) (serve_frame serving n) h.after j.found in
+        let h = fold_steps (is_unheard n) (serve_frame serving n) w i.found in
+        let g = fold_steps (is_unheard n) (serve_frame serving n) h.after j.found in
         let waits = wait_at n i.left.unread h.after in
-        let t : IsTaken n w = λ (c : OpenConnection) is. some_is c idle_connection (sym is ∙ there) in
+        let t : IsTaken n w = λ (c : OpenConnection) is.
+        ap (λ (k : OpenConnection). k.rest) (some_is c idle_connection (sym is ∙ there)) in
         ap (serve_all serving n w) (comes_in_pieces frames_of_client frames_streamed (place_at tt a) b)
         ∙ ap (λ (x : StepResult World). left_at x j.left.unread)
-        (happening_on (is_closed n) (serve_frame serving n) w i.found j.found)
+        (happening_on (is_unheard n) (serve_frame serving n) w i.found j.found)
         ∙ sym (behind_behind h.outputs g.outputs (wait_at n j.left.unread g.after))
-        ∙ ap (prepend_outputs h.outputs) (served_on h.after (finmap.get h.after.clients.connections n) i.left b refl
+        ∙ ap (prepend_outputs h.outputs) (served_on h.after (heard_connection n h.after.clients) i.left b refl
         (all_taken w i.found t) (all_say_none none ((frame_format client_frame_limit).read a) refl))
         ∙ behind_behind h.outputs waits.outputs
-        (take_client_bytes serving n waits.after (finmap.get waits.after.clients.connections n) b)
+        (take_client_bytes serving n waits.after (heard_connection n waits.after.clients) b)
 
     -- Fewer bytes than a length prefix all wait.
     all_wait : length a < 4 → serve_all serving n w i ≡ no_output (with_waiting_bytes n w idle_connection a)
     all_wait short =
         ap (serve_all serving n w) (items_short frames_of_client frames_streamed tt a (short_frame a short))
-        ∙ ap (λ (o : Option OpenConnection). wait_if_open n w o (Ok a)) there
+        ∙ ap (λ (o : Option OpenConnection). wait_if_heard n w o (Ok a)) (idle_heard w there)
 
     -- A word is answered, and the bytes that come then are ignored.
     told_then : (word : Word) → tell_word serving n w word
@@ -258,34 +277,46 @@ module _ (serving : Bool) (n : ℕ) where
     told_then word =
         let h = tell_word serving n w word in
         sym (ap (λ (o : Option OpenConnection). prepend_outputs h.outputs
-        (take_client_bytes serving n h.after o b))
+        (take_client_bytes serving n h.after (heard_in o) b))
         (get-removed w.clients.connections n))
+
+    -- A connection that says a word isn't told another with more bytes.
+    still_said : (word : Word) → word_at n w a ≡ Some word → word_at n w (a ++ b) ≡ Some word
+    still_said word says = by (is_idle w.clients.pending n) says
+      where
+        said : List ℕ → Option Word
+        said bytes = word_without_session (session_of_connection w.clients.sessions n) (word_of (take 4 bytes))
+
+        by : (idle : Bool) → cond idle (said a) None ≡ Some word → cond idle (said (a ++ b)) None ≡ Some word
+        by true is = still_says (session_of_connection w.clients.sessions n) word a b is
+        by false is = absurd (none-some word is)
 
     said_or_served : (o : Option Word) → word_at n w a ≡ o
         → tell_or_serve serving n w (a ++ b) (word_at n w (a ++ b))
         ≡ then_client (tell_or_serve serving n w a o) b
     said_or_served (Some word) says =
-        ap (tell_or_serve serving n w (a ++ b))
-        (still_says (session_of_connection w.clients.sessions n) word a b says)
-        ∙ told_then word
+        ap (tell_or_serve serving n w (a ++ b)) (still_said word says) ∙ told_then word
     said_or_served None none = by (cases_lt (length a) 4)
       where
         by : (length a < 4) ⊎ (4 ≤ length a) → tell_or_serve serving n w (a ++ b) (word_at n w (a ++ b))
             ≡ then_client (serve_all serving n w i) b
         by (inl short) = taken_up w a b there ∙ sym (ap (λ (h : StepResult World). then_client h b) (all_wait short))
         by (inr enough) =
-            let none_yet = ap (word_without_session (session_of_connection w.clients.sessions n))
+            let none_yet = ap (λ (word : Option Word). cond (is_idle w.clients.pending n)
+            (word_without_session (session_of_connection w.clients.sessions n) word) None)
             (same_front a b enough) ∙ none in
             ap (tell_or_serve serving n w (a ++ b)) none_yet ∙ both_served none_yet
 
-  client_cut : (w : World) (o : Option OpenConnection) (a b : List ℕ) → finmap.get w.clients.connections n ≡ o
+  client_cut : (w : World) (o : Option OpenConnection) (a b : List ℕ) → heard_connection n w.clients ≡ o
       → take_client_bytes serving n w o (a ++ b)
       ≡ then_client (take_client_bytes serving n w o a) b
   client_cut w None a b there = sym
       (ap (λ (x : Option OpenConnection). take_client_bytes serving n w x b) there)
   client_cut w (Some k) a b there =
+      let stays = (heard_is (finmap.get w.clients.connections n) k there).1 in
+      let cleared = get-inserted w.clients.connections n (record k { rest = [] }) in
       ap (λ (x : List ℕ). tell_or_serve serving n v x (word_at n v x)) (sym (append_assoc k.rest a b))
-      ∙ said_or_served v (k.rest ++ a) b (get-inserted w.clients.connections n idle_connection)
+      ∙ said_or_served v (k.rest ++ a) b (cleared ∙ ap Some (idle_is (record k { rest = [] }) refl stays))
       (word_at n v (k.rest ++ a)) refl
     where
       v : World
@@ -296,12 +327,12 @@ pub client_cut_anywhere : (m : Machine) (n : ℕ) (a b : List ℕ) (events : Lis
 client_cut_anywhere m n a b events =
     two_events m (ClientBytes n (a ++ b)) (ClientBytes n a) (ClientBytes n b) events
     (ap (with_leader m.leader) (client_cut (is_serving_clients m.world) n m.world
-    (finmap.get m.world.clients.connections n) a b refl)
+    (heard_connection n m.world.clients) a b refl)
     ∙ ap (λ (r : Replica). with_leader m.leader (then_served first (is_serving r) b))
-    (sym (client_same (is_serving_clients m.world) n m.world (finmap.get m.world.clients.connections n) a)))
+    (sym (client_same (is_serving_clients m.world) n m.world (heard_connection n m.world.clients) a)))
   where
     first : StepResult World
-    first = take_client_bytes (is_serving_clients m.world) n m.world (finmap.get m.world.clients.connections n) a
+    first = take_client_bytes (is_serving_clients m.world) n m.world (heard_connection n m.world.clients) a
 
     then_served : StepResult World → Bool → List ℕ → StepResult World
-    then_served h served more = and_then h (λ w. take_client_bytes served n w (finmap.get w.clients.connections n) more)
+    then_served h served more = and_then h (λ w. take_client_bytes served n w (heard_connection n w.clients) more)

@@ -1,6 +1,6 @@
 -- The worked rows: what the bytes read as, the state after each transaction, and the reply to each request.
-use Rattle.std.proofs.Common.{◌≡◌, ◌≤◌, ℕ, List, [], ◌∷◌, ◌++◌, length, map, take, not, Option, Some, None, Result, Ok, Bool, true, false, cond, refl, sym, ap, ◌∙◌, arith, rules}
-use Rattle.std.specs.Prelude.{ℤ, pos, negsuc, codes, is_some}
+use Rattle.std.proofs.Common.{◌≡◌, ◌≤◌, ◌||◌, ℕ, List, [], ◌∷◌, ◌++◌, length, map, take, not, Option, Some, None, Result, Ok, Bool, true, false, cond, refl, sym, ap, ◌∙◌, arith, rules}
+use Rattle.std.specs.Prelude.{ℤ, pos, codes, is_some, nat_lt}
 use Rattle.std.specs.List.{AllByRecursion}
 use Rattle.std.specs.Cmp.{nat_cmp_total}
 use mathlib.Core.Bool.{true≢false}
@@ -19,14 +19,12 @@ use Rattle.jute.specs.Codes.{open_acl}
 use Rattle.jute.specs.Frame.{frame_at}
 use Rattle.jute.specs.Owned.{id_format, acl_format}
 use Rattle.jute.specs.Records.{stat_format, request_header, reply_header}
-use Rattle.client_records.specs.declared.kind.ReadKind.TheVariants.{Exists, GetData}
+use Rattle.client_records.specs.declared.kind.ReadKind.TheVariants.{GetData}
 use Rattle.client_records.specs.declared.kind.RequestKind.TheVariants as kinds
 use Rattle.client_records.specs.Kinds.{kind_of as request_kind_of}
 use Rattle.client_records.specs.Requests.{path_and_watch}
-use Rattle.client_records.specs.Responses.{get_data_response, watcher_event}
-use Rattle.client_records.specs.declared.codes.TheConstants.{NOTIFICATION_XID}
-use Rattle.jute.specs.declared.codes.TheConstants.{NO_NODE}
-use Rattle.jute.specs.Stream.{items_within, items_in, Items, place_at}
+use Rattle.client_records.specs.Responses.{get_data_response}
+use Rattle.jute.specs.Stream.{items_within, items_in, Items, Unread, place_at}
 use Rattle.quorum_packet.specs.declared.item.Item.{Item}
 use Rattle.quorum_packet.specs.declared.item.Item.TheVariants as item
 use Rattle.quorum_packet.specs.declared.packet.QuorumPacket.{QuorumPacket}
@@ -38,6 +36,7 @@ use Rattle.quorum_packet.specs.Items.{items_shown_at}
 use Rattle.txn_codec.specs.declared.txn.TxnHeader.{TxnHeader}
 use Rattle.txn_codec.specs.declared.txn.Create.{Create}
 use Rattle.txn_codec.specs.declared.txn.SetData.{SetData}
+use Rattle.txn_codec.specs.declared.txn.Operation.{Operation}
 use Rattle.txn_codec.specs.declared.txn.Operation.TheVariants as operations
 use Rattle.txn_codec.specs.declared.txn.Body.TheVariants as bodies
 use Rattle.txn_codec.specs.declared.txn.Txn.{Txn}
@@ -46,70 +45,74 @@ use Rattle.node_map.specs.Updates.{preset_node, new_node, with_data}
 use Rattle.node_map.specs.Stats.{shown_stat, java_int, length_or_zero}
 use Rattle.node_map.specs.declared.node.Node.{Node}
 use Rattle.data_tree.specs.State.{State}
-use Rattle.data_tree.specs.Meaning.{effect_of_txn, fresh_state, after_changes, create_new, create_taken, create_under, set_data_at, of_effect}
+use Rattle.data_tree.specs.Making.{with_session}
+use Rattle.data_tree.specs.Meaning.{effect_of_txn, answer_of, fresh_state, after_changes, create_new, create_taken, create_under, set_data_at, of_effect}
 use Rattle.data_tree.specs.declared.outcome.Trigger.{Trigger}
-use Rattle.data_tree.specs.declared.outcome.Trigger.TheVariants.{Created, ChildrenChanged}
 use Rattle.jute.specs.declared.owned.Id.{Id}
-use Rattle.sessions.specs.State.{ConnectedClient as SessionConnection}
-use Rattle.sessions.specs.Sessions.{session_in, session_of_connection, ids_in, ids_of, new_connection}
-use Rattle.sessions.specs.Credentials.{session_id_of}
+use Rattle.sessions.specs.State.{ConnectedClient as SessionConnection, SessionTable}
+use Rattle.sessions.specs.Sessions.{session_in, session_of_connection, connection_of, ids_in, ids_of, close_if_some, name_session, new_connection}
 use Rattle.watch_manager.specs.declared.event.Event.{Event as NodeEvent}
 use Rattle.watch_manager.specs.Pairs.{watch_cmp}
-use Rattle.watch_manager.specs.declared.event.EventKind.TheVariants.{NodeCreated}
 use Rattle.watch_manager.specs.Watching.{WatchTables, no_watch}
-use Rattle.watch_manager.specs.Rows.{watches_on, WorkedRows as FiringRows}
 use Rattle.watch_manager.specs.Watches.{FireResult, fire}
 use Rattle.watch_manager.specs.Laws.{AllPass, AllLastingPass, OnlyWatchersAreTold, NoEventKeepsWatches}
 use Rattle.read_processor.specs.Watch.{watch_of}
 use Rattle.client_service.specs.declared.world.Settings.{Settings}
 use Rattle.client_frames.specs.declared.call.Call.{Call}
-use Rattle.client_frames.specs.declared.call.CallBody.TheVariants.{Read}
-use Rattle.observer_core.specs.declared.event.Event.{Event}
+use Rattle.client_frames.specs.declared.call.CallBody.TheVariants.{Local}
+use Rattle.client_frames.specs.declared.call.LocalCall.{LocalCall}
+use Rattle.client_frames.specs.declared.call.LocalCall.TheVariants.{Read}
+use Rattle.forwarding.specs.Queue.{RequestQueue, pending_limit, answered_write}
+use Rattle.forwarding.specs.State.{TouchedSessions, PendingTable}
+use Rattle.forwarding.specs.Pending.{nothing_pending, queue_in, is_idle, hold_frame, touch_session}
+use Rattle.leader_answers.specs.Answering.{txn_number, reply_as, reply_of, is_due, lets_answer, answer_optional_txn, answer_last_txn}
+use Rattle.client_service.specs.declared.output.Output.{Output}
+use Rattle.observer_core.proofs.Batches.{no_answer}
 use Rattle.observer_core.specs.declared.event.Event.TheVariants.{ClientBytes}
 use Rattle.client_service.specs.declared.output.Output.TheVariants.{ToClient, CloseLeader, CloseClient}
 use Rattle.read_processor.specs.declared.shown.Look.{Look}
 use Rattle.read_processor.specs.declared.request.Request.{Request}
-use Rattle.read_processor.specs.Events.{look_of_event}
 use Rattle.read_processor.specs.Kinds.{reply_body as shown_body}
-use Rattle.read_processor.specs.Look.{look_at_state, without_body, look_at_node, shown_look}
+use Rattle.read_processor.specs.Look.{look_at_state, look_at_node, shown_look}
 use Rattle.read_processor.specs.Reply.{reply_frame}
 use Rattle.values.specs.Hex.{hex_bytes}
-use Rattle.observer_core.specs.Rows.{inform_of_create, inform_of_set_data, get_data_frame_start, get_data_frame_end, reply_of_create, reply_of_set_data, exists_watch_frame, reply_of_missing, event_of_create, create_inform_event, set_data_inform_event, get_data_event, exists_watch_event}
+use Rattle.observer_core.specs.Rows.{inform_of_create, inform_of_set_data, get_data_frame_start, get_data_frame_end, reply_of_create, reply_of_set_data, create_inform_event, set_data_inform_event, get_data_event}
 use Rattle.client_service.specs.World.{OpenConnection, OpenConnections, Clients, World}
 use Rattle.observer_core.specs.Machine.{Leader, Machine}
 use Rattle.client_frames.specs.Call.{call_in, call_after_header, call_body, read_as, read_with_flag, value_if_read}
-use Rattle.client_service.specs.Steps.{StepResult, prepend_outputs, no_output, fold_steps}
-use Rattle.client_service.specs.Clients.{without_client, close_clients, sent_to, notices_of}
+use Rattle.client_service.specs.Steps.{StepResult, prepend_outputs, no_output, and_then, fold_steps}
+use Rattle.client_service.specs.Clients.{heard_in, without_client, close_clients, no_clients, notices_of}
 use Rattle.replica.specs.Replica.{Replica}
-use Rattle.replica.specs.Taking.{nothing_loaded, no_effect as unled, with_learner, carry_out_all, without_leader}
+use Rattle.replica.specs.Taking.{nothing_loaded, last_txn, no_effect as unled, with_learner, carry_out_all, without_leader}
 use Rattle.learner_sync.specs.Learn.{LearnerStep, apply_txn}
 use Rattle.learner_sync.specs.declared.phase.Phase.TheVariants.{Serving}
 use Rattle.observer_core.specs.Leader.{WorldAndLoading, step_with_loading, send_effect, item_step, delivery_of, deliver_item, is_refused, part_reader, leader_at, with_leader_or_fault, place_after, with_leader, take_leader_bytes}
 use Rattle.four_letter.specs.Words.{word_of}
-use Rattle.client_service.specs.Serve.{send_or_close, send_reply, with_watch_if, with_watching, serve_as, serve_by, serve_frame, word_without_session, is_closed, with_waiting_bytes, wait_if_open, frames_of_client, serve_all, tell_or_serve, take_client_bytes}
-use Rattle.observer_core.specs.Play.{play_event, play, first_client, new_machine, primed_machine}
-use Rattle.client_service.proofs.NatMaps.{get-inserted, get-removed, insert-insert, entries-empty}
+use Rattle.four_letter.specs.declared.word.Word.{Word}
+use Rattle.client_service.specs.Serve.{close_client, send_or_close, send_reply, with_watch_if, with_watching, handle_local, with_pending, handle_or_hold, touched_as, serve_as, serve_by, header_len, is_refused_frame, serve_frame, word_without_session, is_unheard, with_waiting_bytes, wait_if_heard, wait_at, frames_of_client, serve_all, tell_or_serve, take_client_bytes}
+use Rattle.observer_core.specs.Play.{play_event, primed_session, first_client}
+use Rattle.client_service.proofs.NatMaps.{get-inserted, insert-insert, insert-same, entries-empty}
 
 -- ---- texts
 
-path_is_text : IsUtf8 (codes "/a")
+pub path_is_text : IsUtf8 (codes "/a")
 unfolding encode
 path_is_text = (codes "/a", (refl, refl))
 
-world_is_text : IsUtf8 (codes "world")
+pub world_is_text : IsUtf8 (codes "world")
 unfolding encode
 world_is_text = (codes "world", (refl, refl))
 
-anyone_is_text : IsUtf8 (codes "anyone")
+pub anyone_is_text : IsUtf8 (codes "anyone")
 unfolding encode
 anyone_is_text = (codes "anyone", (refl, refl))
 
 -- ---- the transactions
 
-abbrev create_header : TxnHeader
+abbrev pub create_header : TxnHeader
 create_header = record { client_id = pos 7; cxid = pos 1; zxid = pos 4294967297; time = pos 1000 }
 
-abbrev create_body : Create
+abbrev pub create_body : Create
 create_body = record {
   path = codes "/a";
   bytes = Some (codes "hi");
@@ -118,7 +121,7 @@ create_body = record {
   parent_cversion = pos 1;
 }
 
-abbrev create_txn : Txn
+abbrev pub create_txn : Txn
 create_txn = record { header = create_header; body = bodies.Single (operations.Create create_body) }
 
 abbrev set_header : TxnHeader
@@ -130,10 +133,10 @@ set_body = record { path = codes "/a"; bytes = None; version = pos 1 }
 abbrev set_txn : Txn
 set_txn = record { header = set_header; body = bodies.Single (operations.SetData set_body) }
 
-text_fits : (t : List ℕ) → IsUtf8 t → length t ≤ buffer_limit → text_format.Fits (Some t)
+pub text_fits : (t : List ℕ) → IsUtf8 t → length t ≤ buffer_limit → text_format.Fits (Some t)
 text_fits t is short = (rw (is_utf8-from_IsUtf8 t is) refl, short)
 
-create_fits : txn_format.Fits create_txn
+pub create_fits : txn_format.Fits create_txn
 unfolding acl_format id_format
 create_fits =
     let path = text_fits (codes "/a") path_is_text (omega arith) in
@@ -162,54 +165,61 @@ set_fits =
 
 -- ---- the states
 
-abbrev root : Node
+abbrev pub root : Node
 root = preset_node (set.insert set.empty (codes "zookeeper"))
 
-root_there : finmap.get fresh_state.nodes (codes "/") ≡ Some root
+pub root_there : finmap.get fresh_state.nodes (codes "/") ≡ Some root
 root_there = simp (finmap.get-insert {X = Node} nat_list_cmp_total)
 
-name_free : set.contains root.children (codes "a") ≡ false
+pub name_free : set.contains root.children (codes "a") ≡ false
 name_free = set.contains-insert nat_list_cmp_total set.empty (codes "zookeeper") (codes "a")
     ∙ set.contains-empty (slice_cmp nat_cmp) (codes "a")
 
-abbrev made : State
-made = after_changes fresh_state (create_new create_header create_body root).changes
+-- The tree at the start: the first session lives.
+abbrev pub start : Settings → State
+start settings = with_session fresh_state (primed_session settings) settings.timeouts.greatest
 
-made-is : (effect_of_txn fresh_state create_txn).state ≡ made
-made-is =
-    ap (λ (o : Option Node). (of_effect (create_under create_header create_body o) fresh_state).state) root_there
+abbrev pub made : Settings → State
+made settings = after_changes (start settings) (create_new create_header create_body root).changes
+
+pub made-is : (settings : Settings) → (effect_of_txn (start settings) create_txn).state ≡ made settings
+made-is settings =
+    let s = start settings in
+    ap (λ (o : Option Node). (of_effect (create_under create_header create_body o) s).state) root_there
     ∙ ap (λ (b : Bool). (of_effect
     (cond b (create_taken create_header create_body root) (create_new create_header create_body root))
-    fresh_state).state)
+    s).state)
     name_free
 
 abbrev node : Node
 node = new_node create_header create_body
 
-node_there : finmap.get made.nodes (codes "/a") ≡ Some node
-node_there = simp (finmap.get-insert {X = Node} nat_list_cmp_total)
+node_there : (settings : Settings) → finmap.get (made settings).nodes (codes "/a") ≡ Some node
+node_there settings = simp (finmap.get-insert {X = Node} nat_list_cmp_total)
 
-abbrev written : State
-written = after_changes made (set_data_at set_header set_body (Some node)).changes
+abbrev written : Settings → State
+written settings = after_changes (made settings) (set_data_at set_header set_body (Some node)).changes
 
-written-is : (effect_of_txn made set_txn).state ≡ written
-written-is = ap (λ (o : Option Node). (of_effect (set_data_at set_header set_body o) made).state) node_there
+written-is : (settings : Settings) → (effect_of_txn (made settings) set_txn).state ≡ written settings
+written-is settings =
+    ap (λ (o : Option Node). (of_effect (set_data_at set_header set_body o) (made settings)).state)
+    (node_there settings)
 
 abbrev written_node : Node
 written_node = with_data set_header set_body node
 
-written_there : finmap.get written.nodes (codes "/a") ≡ Some written_node
-written_there = simp (finmap.get-insert {X = Node} nat_list_cmp_total)
+written_there : (settings : Settings) → finmap.get (written settings).nodes (codes "/a") ≡ Some written_node
+written_there settings = simp (finmap.get-insert {X = Node} nat_list_cmp_total)
 
 -- ---- the leader's packets
 
-abbrev packet_of : ℤ → List ℕ → QuorumPacket
+abbrev pub packet_of : ℤ → List ℕ → QuorumPacket
 packet_of zxid bytes = record { kind = pos 8; zxid = zxid; bytes = Some bytes; authinfo = None }
 
-abbrev one_packet : QuorumPacket → Items Phase Item
+abbrev pub one_packet : QuorumPacket → Items Phase Item
 one_packet p = record { found = item.Packet p ∷ []; left = place_at Packets [] }
 
-create_found : items_shown_at (place_at Packets inform_of_create) ≡ one_packet
+pub create_found : items_shown_at (place_at Packets inform_of_create) ≡ one_packet
     (packet_of (pos 4294967297) (txn_format.written create_txn))
 unfolding items_within packet_format judged_at buffer_at vector_at read_n number_bytes acl_format id_format
 create_found = refl
@@ -221,7 +231,7 @@ set_found = refl
 
 -- ---- the client's frames
 
-abbrev one_frame : List ℕ → Items (Unit {0}) (List ℕ)
+abbrev pub one_frame : List ℕ → Items (Unit {0}) (List ℕ)
 one_frame f = record { found = f ∷ []; left = place_at tt [] }
 
 abbrev get_frame : List ℕ
@@ -230,7 +240,7 @@ get_frame = hex_bytes (codes "00000001 00000004 00000002 2f61 00")
 abbrev get_body : List ℕ
 get_body = hex_bytes (codes "00000002 2f61 00")
 
-get_found : items_in frames_of_client (place_at tt (get_data_frame_start ++ get_data_frame_end)) ≡ one_frame get_frame
+pub get_found : items_in frames_of_client (place_at tt (get_data_frame_start ++ get_data_frame_end)) ≡ one_frame get_frame
 unfolding items_within frame_at judged_at
 get_found = refl
 
@@ -272,13 +282,81 @@ abbrev wanted : Request
 wanted = record { kind = GetData; path = Some (codes "/a"); watch = false }
 
 abbrev asking : Call
-asking = record { xid = pos 1; body = Read wanted }
+asking = record { xid = pos 1; body = Local (Read wanted) }
 
 call_read : call_in get_frame ≡ Ok asking
 call_read =
     ap call_after_header header_read
     ∙ ap (λ k. Ok (record { xid = pos 1; body = call_body k get_body })) kind_read
-    ∙ ap (λ r. Ok (record { xid = pos 1; body = read_as (read_with_flag GetData) (value_if_read r) })) body_read
+    ∙ ap (λ r. Ok (record { xid = pos 1; body = Local (read_as (read_with_flag GetData) (value_if_read r)) })) body_read
+
+-- ---- where no request waits
+
+-- No request waits, and these sessions were touched.
+abbrev pub pending_at : TouchedSessions → PendingTable
+pending_at touched = record { queues = finmap.empty; syncs = []; connects = finmap.empty; touched = touched }
+
+pub idle_at : (touched : TouchedSessions) (n : ℕ) → is_idle (pending_at touched) n ≡ true
+idle_at touched n = ap (λ (o : Option RequestQueue). not (is_some o)) (finmap.get-empty nat_cmp n)
+
+-- The world when a frame of the session has come.
+abbrev pub heard_in_world : World → TouchedSessions → ℤ → World
+heard_in_world w touched session = with_pending w (pending_at (set.insert touched session))
+
+-- A frame of a connection that has a session.
+pub served_at : (w : World) (touched : TouchedSessions) (session : ℤ) (frame : List ℕ)
+    → session_of_connection w.clients.sessions 1 ≡ Some session → w.clients.pending ≡ pending_at touched
+    → nat_lt (length frame) header_len ≡ false
+    → serve_frame true 1 w frame ≡ serve_as 1 session (heard_in_world w touched session) frame (call_in frame)
+served_at w touched session frame joined none long =
+    let v = heard_in_world w touched session in
+    let served : World → StepResult World =
+    λ (u : World). cond (is_refused_frame 1 u frame) (close_client 1 u)
+    (serve_by true 1 u frame (session_of_connection u.clients.sessions 1)) in
+    let judged : Bool → StepResult World =
+    λ (refused : Bool). cond refused (close_client 1 v)
+    (serve_by true 1 v frame (session_of_connection w.clients.sessions 1)) in
+    ap (λ (o : Option ℤ). served (touched_as w o)) joined
+    ∙ ap (λ (p : PendingTable). served (with_pending w (touch_session p session))) none
+    ∙ ap (λ (o : Option RequestQueue).
+    judged (not (nat_lt (length (queue_in o)) pending_limit) || nat_lt (length frame) header_len))
+    (finmap.get-empty nat_cmp 1)
+    ∙ ap judged long
+    ∙ ap (serve_by true 1 v frame) joined
+
+-- A request isn't held.
+pub handled_at : (w : World) (touched : TouchedSessions) (frame : List ℕ) (xid : ℤ) (call : LocalCall)
+    → w.clients.pending ≡ pending_at touched → handle_or_hold 1 w frame xid call ≡ handle_local 1 w xid call
+handled_at w touched frame xid call none =
+    let handled : Bool → StepResult World =
+    λ idle. cond idle (handle_local 1 w xid call)
+    (no_output (with_pending w (hold_frame w.clients.pending 1 frame))) in
+    ap (λ (p : PendingTable). handled (is_idle p 1)) none ∙ ap handled (idle_at touched 1)
+
+-- An operation answers nobody.
+module _ (header : TxnHeader) (operation : Operation) where
+  abbrev txn_of : Txn
+  txn_of = record { header = header; body = bodies.Single operation }
+
+  nobody_asked : (c : Clients) (touched : TouchedSessions) → c.pending ≡ pending_at touched
+      → lets_answer c txn_of ≡ false
+  nobody_asked c touched none = by (connection_of c.sessions header.client_id)
+    where
+      answered : ℕ → Option RequestQueue → Bool
+      answered n o = is_due (reply_as n (answered_write (queue_in o) header.cxid (txn_number txn_of)))
+
+      by : (o : Option ℕ) → is_due (reply_of c txn_of o) ≡ false
+      by None = refl
+      by (Some n) =
+          ap (λ (p : PendingTable). answered n (finmap.get p.queues n)) none
+          ∙ ap (answered n) (finmap.get-empty nat_cmp n)
+
+  pub unasked : (w : World) (touched : TouchedSessions) (err : ℤ) → w.clients.pending ≡ pending_at touched
+      → last_txn w.replica.learner.log ≡ Some txn_of → answer_last_txn w err ≡ no_output w
+  unasked w touched err none last =
+      ap (answer_optional_txn w err) last ∙ no_answer w txn_of err (nobody_asked w.clients touched none)
+
+-- ---- the reply to a read
 
 -- A reply is sent, and its watch is set.
 abbrev shown_by : World → Look → StepResult World
@@ -286,24 +364,27 @@ shown_by w seen = send_reply 1 (with_watching w (with_watch_if 1 w.clients.watch
     (pos 1) seen
 
 -- The reply in a world whose tree has the node.
-answered_by : (w : World) (session : ℤ) (n : Node) (frame : List ℕ)
+answered_by : (w : World) (touched : TouchedSessions) (session : ℤ) (n : Node) (frame : List ℕ)
     → session_of_connection w.clients.sessions 1 ≡ Some session
-    → ids_of w.clients.sessions 1 ≡ []
+    → ids_of w.clients.sessions 1 ≡ [] → w.clients.pending ≡ pending_at touched
     → finmap.get w.replica.tree.nodes (codes "/a") ≡ Some n → look_at_node [] wanted (Some n) ≡ shown_look
     (shown_body GetData n) → n.children ≡ set.empty
     → reply_by w.replica.learner.last_zxid n 0 ≡ Some frame
-    → serve_frame true 1 w get_frame ≡ record { outputs = ToClient 1 frame ∷ []; after = w }
-answered_by w session n frame joined no_ids there shows childless is =
-    ap (serve_by true 1 w get_frame) joined
-    ∙ ap (serve_as 1 w) call_read
-    ∙ ap (λ (ids : List Id). shown_by w (look_at_state w.replica.tree ids wanted)) no_ids
-    ∙ ap (λ (o : Option Node). shown_by w (look_at_node [] wanted o)) there
-    ∙ ap (shown_by w) shows
-    ∙ ap (λ (c : set.FinSet (slice_cmp nat_cmp)). send_or_close 1 w
+    → serve_frame true 1 w get_frame
+    ≡ record { outputs = ToClient 1 frame ∷ []; after = heard_in_world w touched session }
+answered_by w touched session n frame joined no_ids none there shows childless is =
+    let v = heard_in_world w touched session in
+    served_at w touched session get_frame joined none refl
+    ∙ ap (serve_as 1 session v get_frame) call_read
+    ∙ handled_at v (set.insert touched session) get_frame (pos 1) (Read wanted) refl
+    ∙ ap (λ (ids : List Id). shown_by v (look_at_state w.replica.tree ids wanted)) no_ids
+    ∙ ap (λ (o : Option Node). shown_by v (look_at_node [] wanted o)) there
+    ∙ ap (shown_by v) shows
+    ∙ ap (λ (c : set.FinSet (slice_cmp nat_cmp)). send_or_close 1 v
     (reply_by w.replica.learner.last_zxid n (set.len c)))
     childless
-    ∙ ap (λ (k : ℕ). send_or_close 1 w (reply_by w.replica.learner.last_zxid n k)) no_children
-    ∙ ap (send_or_close 1 w) is
+    ∙ ap (λ (k : ℕ). send_or_close 1 v (reply_by w.replica.learner.last_zxid n k)) no_children
+    ∙ ap (send_or_close 1 v) is
 
 -- ---- watches
 
@@ -331,31 +412,46 @@ unwatched only silent triggers =
 abbrev pub ReadAgain : Type 0
 ReadAgain = (t : Txn) → txn_format.Fits t → value_of_whole txn_format (txn_format.written t) ≡ Ok t
 
+-- An open connection with these waiting bytes.
+abbrev pub open_with : List ℕ → OpenConnection
+open_with rest = record { rest = rest; is_leaving = false }
+
 abbrev pub at_first : List ℕ → OpenConnections
-at_first rest = finmap.insert finmap.empty 1 (record { rest = rest })
+at_first rest = finmap.insert finmap.empty 1 (open_with rest)
 
 -- Connection 1 is open and has the first session, and nothing is watched.
-abbrev pub clients_at : Settings → List ℕ → Clients
-clients_at settings rest = record {
+abbrev pub clients_at : Settings → TouchedSessions → List ℕ → Clients
+clients_at settings touched rest = record {
   connections = at_first rest;
   sessions = (first_client settings).sessions;
   watches = no_watch;
+  pending = pending_at touched;
 }
 
-abbrev first_session : Settings → ℤ
-first_session settings = session_id_of settings.server_id 1
+-- The first session is touched.
+abbrev pub heard : Settings → TouchedSessions → TouchedSessions
+heard settings touched = set.insert touched (primed_session settings)
 
-joined_first : (settings : Settings)
-    → session_of_connection (first_client settings).sessions 1 ≡ Some (first_session settings)
-joined_first settings = ap session_in
-    (get-inserted {X = SessionConnection} finmap.empty 1 (new_connection (first_session settings)))
+-- The sessions before connection 1 has one.
+abbrev pub nobody_yet : Settings → SessionTable
+nobody_yet settings = (name_session (no_clients settings).sessions settings.timeouts.greatest).after
 
-no_ids_first : (settings : Settings) → ids_of (first_client settings).sessions 1 ≡ []
-no_ids_first settings = ap ids_in
-    (get-inserted {X = SessionConnection} finmap.empty 1 (new_connection (first_session settings)))
+first_is : (settings : Settings) → finmap.get (first_client settings).sessions.connections 1
+    ≡ Some (new_connection (primed_session settings))
+first_is settings =
+    get-inserted {X = SessionConnection}
+    (close_if_some (nobody_yet settings) (connection_of (nobody_yet settings) (primed_session settings))).connections 1
+    (new_connection (primed_session settings))
 
-abbrev replica_at : ℤ → List Txn → State → Replica
-replica_at zxid log s = record {
+pub joined_first : (settings : Settings)
+    → session_of_connection (first_client settings).sessions 1 ≡ Some (primed_session settings)
+joined_first settings = ap session_in (first_is settings)
+
+pub no_ids_first : (settings : Settings) → ids_of (first_client settings).sessions 1 ≡ []
+no_ids_first settings = ap ids_in (first_is settings)
+
+abbrev replica_at : Settings → ℤ → List Txn → State → Replica
+replica_at settings zxid log s = record {
   learner = record {
     phase = Serving;
     accepted_epoch = pos 1;
@@ -366,27 +462,28 @@ replica_at zxid log s = record {
     proposals = [];
     is_complete = true;
   };
-  base = fresh_state;
+  base = start settings;
   tree = s;
 }
 
-abbrev world_with : Settings → ℤ → List Txn → State → Clients → World
+abbrev pub world_with : Settings → ℤ → List Txn → State → Clients → World
 world_with settings zxid log s clients =
-    record { settings = settings; replica = replica_at zxid log s; clients = clients }
+    record { settings = settings; replica = replica_at settings zxid log s; clients = clients }
 
 -- A world in epoch 1, with connection 1 open.
-abbrev pub world_at : Settings → ℤ → List Txn → State → List ℕ → World
-world_at settings zxid log s rest = world_with settings zxid log s (clients_at settings rest)
+abbrev pub world_at : Settings → ℤ → List Txn → State → TouchedSessions → List ℕ → World
+world_at settings zxid log s touched rest = world_with settings zxid log s (clients_at settings touched rest)
 
 -- A leader's stream without waiting bytes.
 abbrev pub beginning : Leader
 beginning = record { place = place_at Packets []; loading = nothing_loaded }
 
 -- A machine that follows a leader, in this world.
-abbrev pub following : Settings → ℤ → List Txn → State → List ℕ → Machine
-following settings zxid log s rest = record { leader = Some beginning; world = world_at settings zxid log s rest }
+abbrev pub following : Settings → ℤ → List Txn → State → TouchedSessions → List ℕ → Machine
+following settings zxid log s touched rest =
+    record { leader = Some beginning; world = world_at settings zxid log s touched rest }
 
-abbrev led : World → WorldAndLoading
+abbrev pub led : World → WorldAndLoading
 led w = record { loading = nothing_loaded; world = w }
 
 -- The effect of what was learnt from an item.
@@ -405,13 +502,13 @@ informed_of again settings last log s clients zxid t fits =
     ap (λ (r : Result Txn Fault). done w (r >>= λ u. apply_txn w.replica.learner u)) (again t fits)
 
 -- The machine after one packet.
-abbrev one_delivered : World → Result (StepResult WorldAndLoading) Fault → StepResult Machine
+abbrev pub one_delivered : World → Result (StepResult WorldAndLoading) Fault → StepResult Machine
 one_delivered w r =
     let h = delivery_of r (led w) in
     prepend_outputs (h.outputs ++ []) (with_leader_or_fault h.after.left.world
     (leader_at h.after.left.loading (place_after (place_at Packets []) h.after.fault)))
 
-inform_comes : (again : ReadAgain) (settings : Settings) (last : ℤ) (log : List Txn) (s : State) (clients : Clients)
+pub inform_comes : (again : ReadAgain) (settings : Settings) (last : ℤ) (log : List Txn) (s : State) (clients : Clients)
     (bytes : List ℕ) (zxid : ℤ) (t : Txn) → txn_format.Fits t →
     let w = world_with settings last log s clients in
     items_shown_at (place_at Packets bytes) ≡ one_packet (packet_of zxid (txn_format.written t))
@@ -424,84 +521,114 @@ inform_comes again settings last log s clients bytes zxid t fits found =
     (leader_at h.after.left.loading (place_after i.left h.after.fault)))) found
     ∙ ap (one_delivered w) (informed_of again settings last log s clients zxid t fits)
 
-abbrev pub after_create : Settings → List ℕ → Machine
-after_create settings rest = following settings (pos 4294967297) (create_txn ∷ []) made rest
+abbrev pub after_create : Settings → TouchedSessions → List ℕ → Machine
+after_create settings touched rest =
+    following settings (pos 4294967297) (create_txn ∷ []) (made settings) touched rest
 
-abbrev after_set : Settings → Machine
-after_set settings = following settings (pos 4294967298) (create_txn ∷ set_txn ∷ []) written []
+abbrev pub after_set : Settings → TouchedSessions → Machine
+after_set settings touched =
+    following settings (pos 4294967298) (create_txn ∷ set_txn ∷ []) (written settings) touched []
 
-abbrev with_watches : World → WatchTables → World
+abbrev pub with_watches : World → WatchTables → World
 with_watches w watches = record w { clients = record w.clients { watches = watches } }
 
--- The events of a transaction's triggers are sent.
-abbrev told_by : World → FireResult → Result (StepResult WorldAndLoading) Fault
-told_by w fired = Ok (record { outputs = notices_of fired.events; after = led (with_watches w fired.left) })
+-- Events are sent, and then answers.
+abbrev pub told : List Output → StepResult World → Result (StepResult WorldAndLoading) Fault
+told events answers = Ok (step_with_loading nothing_loaded (prepend_outputs events answers))
+
+-- The events of a transaction's triggers are sent, and then its client is answered.
+abbrev pub told_by : World → ℤ → FireResult → Result (StepResult WorldAndLoading) Fault
+told_by w err fired = told (notices_of fired.events) (answer_last_txn (with_watches w fired.left) err)
 
 -- The create takes effect, and the setData after it.
-abbrev meant_create : Settings → Clients → World
-meant_create settings clients =
-    world_with settings (pos 4294967297) (create_txn ∷ []) (effect_of_txn fresh_state create_txn).state clients
+abbrev pub meant_create : Settings → Clients → World
+meant_create settings clients = world_with settings (pos 4294967297) (create_txn ∷ [])
+    (effect_of_txn (start settings) create_txn).state clients
 
 abbrev meant_set : Settings → Clients → World
 meant_set settings clients = world_with settings (pos 4294967298) (create_txn ∷ set_txn ∷ [])
-    (effect_of_txn made set_txn).state clients
+    (effect_of_txn (made settings) set_txn).state clients
 
-create_comes : (again : ReadAgain) (nobody : NobodyTold) (settings : Settings) (rest : List ℕ)
-    → play_event (following settings (pos 0) [] fresh_state rest) create_inform_event
-    ≡ no_output (after_create settings rest)
-create_comes again nobody settings rest =
-    let clients = clients_at settings rest in
-    let w = world_with settings (pos 0) [] fresh_state clients in
-    inform_comes again settings (pos 0) [] fresh_state clients inform_of_create (pos 4294967297) create_txn
+abbrev pub create_error : Settings → ℤ
+create_error settings = (answer_of (effect_of_txn (start settings) create_txn)).err
+
+abbrev set_error : Settings → ℤ
+set_error settings = (answer_of (effect_of_txn (made settings) set_txn)).err
+
+pub create_comes : (again : ReadAgain) (nobody : NobodyTold) (settings : Settings) (touched : TouchedSessions)
+    (rest : List ℕ)
+    → play_event (following settings (pos 0) [] (start settings) touched rest) create_inform_event
+    ≡ no_output (after_create settings touched rest)
+create_comes again nobody settings touched rest =
+    let clients = clients_at settings touched rest in
+    let w = world_with settings (pos 0) [] (start settings) clients in
+    let err = create_error settings in
+    inform_comes again settings (pos 0) [] (start settings) clients inform_of_create (pos 4294967297) create_txn
     create_fits create_found
-    ∙ ap (λ (f : FireResult). one_delivered w (told_by (meant_create settings clients) f))
-    (nobody (effect_of_txn fresh_state create_txn).triggers)
-    ∙ ap (λ (s : State). no_output (following settings (pos 4294967297) (create_txn ∷ []) s rest)) made-is
+    ∙ ap (λ (f : FireResult). one_delivered w (told_by (meant_create settings clients) err f))
+    (nobody (effect_of_txn (start settings) create_txn).triggers)
+    ∙ ap (λ (h : StepResult World). one_delivered w (told [] h))
+    (unasked create_header (operations.Create create_body) (meant_create settings clients) touched err refl refl)
+    ∙ ap (λ (s : State). no_output (following settings (pos 4294967297) (create_txn ∷ []) s touched rest))
+    (made-is settings)
 
-set_comes : (again : ReadAgain) (nobody : NobodyTold) (settings : Settings)
-    → play_event (after_create settings []) set_data_inform_event
-    ≡ no_output (after_set settings)
-set_comes again nobody settings =
-    let clients = clients_at settings [] in
-    let w = (after_create settings []).world in
-    inform_comes again settings (pos 4294967297) (create_txn ∷ []) made clients inform_of_set_data (pos 4294967298)
-    set_txn set_fits set_found
-    ∙ ap (λ (f : FireResult). one_delivered w (told_by (meant_set settings clients) f))
-    (nobody (effect_of_txn made set_txn).triggers)
-    ∙ ap (λ (s : State). no_output (following settings (pos 4294967298) (create_txn ∷ set_txn ∷ []) s [])) written-is
+pub set_comes : (again : ReadAgain) (nobody : NobodyTold) (settings : Settings) (touched : TouchedSessions)
+    → play_event (after_create settings touched []) set_data_inform_event
+    ≡ no_output (after_set settings touched)
+set_comes again nobody settings touched =
+    let clients = clients_at settings touched [] in
+    let w = (after_create settings touched []).world in
+    let err = set_error settings in
+    inform_comes again settings (pos 4294967297) (create_txn ∷ []) (made settings) clients inform_of_set_data
+    (pos 4294967298) set_txn set_fits set_found
+    ∙ ap (λ (f : FireResult). one_delivered w (told_by (meant_set settings clients) err f))
+    (nobody (effect_of_txn (made settings) set_txn).triggers)
+    ∙ ap (λ (h : StepResult World). one_delivered w (told [] h))
+    (unasked set_header (operations.SetData set_body) (meant_set settings clients) touched err refl refl)
+    ∙ ap (λ (s : State). no_output (following settings (pos 4294967298) (create_txn ∷ set_txn ∷ []) s touched []))
+    (written-is settings)
 
 abbrev pub closed : Settings → Machine
 closed settings =
-    let w = (after_create settings []).world in
+    let w = (after_create settings set.empty []).world in
     record {
       leader = None;
       world =
-          record w { replica = without_leader w.replica; clients = without_client 1 (clients_at settings []) };
+          record w {
+            replica = without_leader w.replica;
+            clients = record (without_client 1 (clients_at settings set.empty [])) { pending = nothing_pending };
+          };
     }
 
-abbrev refusing : Settings → StepResult Machine
+abbrev pub refusing : Settings → StepResult Machine
 refusing settings = record { outputs = CloseLeader OutOfOrder ∷ CloseClient 1 ∷ []; after = closed settings }
 
 keys-first : finmap.keys (at_first []) ≡ 1 ∷ []
 keys-first = ap (λ (es : List (ℕ × OpenConnection)). map (λ (e : ℕ × OpenConnection). e.0) es)
-    (finmap.entries-insert nat_cmp_total finmap.empty 1 (record { rest = [] })
-    ∙ ap (finmap.put nat_cmp 1 (record { rest = [] })) (entries-empty OpenConnection))
+    (finmap.entries-insert nat_cmp_total finmap.empty 1 (open_with [])
+    ∙ ap (finmap.put nat_cmp 1 (open_with [])) (entries-empty OpenConnection))
 
 -- The zxid isn't above the last one.
-create_comes_again : (again : ReadAgain) (settings : Settings)
-    → play_event (after_create settings []) create_inform_event ≡ refusing settings
+pub create_comes_again : (again : ReadAgain) (settings : Settings)
+    → play_event (after_create settings set.empty []) create_inform_event ≡ refusing settings
 create_comes_again again settings =
-    inform_comes again settings (pos 4294967297) (create_txn ∷ []) made (clients_at settings []) inform_of_create
+    let clients = clients_at settings set.empty [] in
+    inform_comes again settings (pos 4294967297) (create_txn ∷ []) (made settings) clients inform_of_create
     (pos 4294967297) create_txn create_fits create_found
-    ∙ ap (λ (ks : List ℕ). lost (close_clients ks (clients_at settings []))) keys-first
+    ∙ ap (λ (ks : List ℕ). lost (close_clients ks clients)) keys-first
   where
     w : World
-    w = (after_create settings []).world
+    w = (after_create settings set.empty []).world
 
     lost : StepResult Clients → StepResult Machine
     lost h = prepend_outputs (CloseLeader OutOfOrder ∷ [])
         (with_leader {L = Leader} None
-        (record { outputs = h.outputs; after = record w { replica = without_leader w.replica; clients = h.after } }))
+        (record {
+          outputs = h.outputs;
+          after =
+              record w
+              { replica = without_leader w.replica; clients = record h.after { pending = nothing_pending } };
+        }))
 
 abbrev pub replying : List ℕ → Machine → StepResult Machine
 replying frame m = record { outputs = ToClient 1 frame ∷ []; after = m }
@@ -511,286 +638,112 @@ abbrev pub at_frames : World → Items (Unit {0}) (List ℕ) → StepResult Mach
 at_frames w i = with_leader (Some beginning) (serve_all true 1 w i)
 
 -- The waiting bytes of connection 1 are joined with those that come.
-pub in_hand : (settings : Settings) (zxid : ℤ) (log : List Txn) (s : State) (rest bytes : List ℕ)
-    → play_event (following settings zxid log s rest) (ClientBytes 1 bytes)
-    ≡ at_frames (world_at settings zxid log s [])
+pub in_hand : (settings : Settings) (zxid : ℤ) (log : List Txn) (s : State) (touched : TouchedSessions)
+    (rest bytes : List ℕ)
+    → play_event (following settings zxid log s touched rest) (ClientBytes 1 bytes)
+    ≡ at_frames (world_at settings zxid log s touched [])
     (items_in frames_of_client (place_at tt (rest ++ bytes)))
-in_hand settings zxid log s rest bytes =
-    let w = world_at settings zxid log s rest in
-    ap (λ (o : Option OpenConnection). with_leader (Some beginning) (take_client_bytes true 1 w o bytes))
-    (get-inserted finmap.empty 1 (record { rest = rest }))
-    ∙ ap (λ (session : Option ℤ). with_leader (Some beginning)
-    (tell_or_serve true 1 (with_waiting_bytes 1 w (record { rest = rest }) []) (rest ++ bytes)
-    (word_without_session session (word_of (take 4 (rest ++ bytes)))))) (joined_first settings)
+in_hand settings zxid log s touched rest bytes =
+    let w = world_at settings zxid log s touched rest in
+    let v = with_waiting_bytes 1 w (open_with rest) [] in
+    let came = rest ++ bytes in
+    let word : Option ℤ → Option Word = λ (session : Option ℤ). word_without_session session (word_of (take 4 came)) in
+    let said : Bool → Option ℤ → StepResult Machine =
+    λ (idle : Bool) (session : Option ℤ). with_leader (Some beginning)
+    (tell_or_serve true 1 v came (cond idle (word session) None)) in
+    ap (λ (o : Option OpenConnection). with_leader (Some beginning) (take_client_bytes true 1 w (heard_in o) bytes))
+    (get-inserted finmap.empty 1 (open_with rest))
+    ∙ ap (λ (session : Option ℤ). said (is_idle (pending_at touched) 1) session) (joined_first settings)
+    ∙ ap (λ (idle : Bool). said idle (Some (primed_session settings))) (idle_at touched 1)
     ∙ ap (λ (c : OpenConnections). at_frames (record w { clients = record w.clients { connections = c } })
-    (items_in frames_of_client (place_at tt (rest ++ bytes))))
-    (insert-insert finmap.empty 1 (record { rest = [] }) (record { rest = rest }))
+    (items_in frames_of_client (place_at tt came)))
+    (insert-insert finmap.empty 1 (open_with []) (open_with rest))
 
--- The unread bytes wait.
-left_waiting : (settings : Settings) (zxid : ℤ) (log : List Txn) (s : State) (rest : List ℕ)
-    → wait_if_open 1 (world_at settings zxid log s []) (finmap.get (at_first []) 1) (Ok rest) ≡ no_output
-    (world_at settings zxid log s rest)
-left_waiting settings zxid log s rest =
-    let w = world_at settings zxid log s [] in
-    ap (λ (o : Option OpenConnection). wait_if_open 1 w o (Ok rest))
-    (get-inserted finmap.empty 1 (record { rest = [] }))
-    ∙ ap (λ (c : OpenConnections). no_output (record w { clients = record w.clients { connections = c } }))
-    (insert-insert finmap.empty 1 (record { rest = rest }) (record { rest = [] }))
+-- The world with other open connections.
+abbrev pub with_connections : World → OpenConnections → World
+with_connections w c = record w { clients = record w.clients { connections = c } }
+
+-- What the bytes after the frames do, where the connection is this.
+abbrev pub left_at : ℕ → World → Unread → Option OpenConnection → StepResult World
+left_at n w unread o = wait_if_heard n w (heard_in o) unread
+
+-- A connection that is open and has no waiting bytes.
+module _ (n : ℕ) (w : World) (open_ : finmap.get w.clients.connections n ≡ Some (open_with [])) where
+  pub left_waiting : (rest : List ℕ)
+      → wait_at n (Ok rest) w
+      ≡ no_output (with_connections w (finmap.insert w.clients.connections n (open_with rest)))
+  left_waiting rest = ap (left_at n w (Ok rest)) open_
+
+  -- No bytes are left.
+  none_waiting : wait_at n (Ok []) w ≡ no_output w
+  none_waiting =
+      left_waiting [] ∙ ap (λ (c : OpenConnections). no_output (with_connections w c))
+      (insert-same w.clients.connections n (open_with []) open_)
+
+  heard_now : is_unheard n w ≡ false
+  heard_now = ap (λ (o : Option OpenConnection). not (is_some (heard_in o))) open_
+
+-- One frame comes, is served with one output, and nothing is left of the bytes.
+pub frame_served : (n : ℕ) (w v : World) (bytes frame : List ℕ) (output : Output)
+    → finmap.get w.clients.connections n ≡ Some (open_with [])
+    → finmap.get v.clients.connections n ≡ Some (open_with [])
+    → items_in frames_of_client (place_at tt bytes) ≡ one_frame frame
+    → serve_frame true n w frame ≡ record { outputs = output ∷ []; after = v }
+    → with_leader (Some beginning) (serve_all true n w (items_in frames_of_client (place_at tt bytes)))
+    ≡ (record { outputs = output ∷ []; after = record { leader = Some beginning; world = v } })
+frame_served n w v bytes frame output open_before open_after found served =
+    let waits : StepResult World → StepResult Machine =
+    λ (h : StepResult World). with_leader (Some beginning) (and_then h (wait_at n (Ok []))) in
+    ap (λ (i : Items (Unit {0}) (List ℕ)). with_leader (Some beginning) (serve_all true n w i)) found
+    ∙ ap waits (goes_on (is_unheard n) (serve_frame true n) w frame [] (heard_now n w open_before))
+    ∙ ap (λ (h : StepResult World). waits (prepend_outputs h.outputs (no_output h.after))) served
+    ∙ ap (λ (h : StepResult World). with_leader (Some beginning) (prepend_outputs (output ∷ []) h))
+    (none_waiting n v open_after)
+
+pub first_open : finmap.get (at_first []) 1 ≡ Some (open_with [])
+first_open = get-inserted finmap.empty 1 (open_with [])
 
 -- The last byte of a request comes.
-get_comes : (settings : Settings) (zxid : ℤ) (log : List Txn) (s : State) (rest bytes frame : List ℕ)
+get_comes : (settings : Settings) (zxid : ℤ) (log : List Txn) (s : State) (touched : TouchedSessions)
+    (rest bytes frame : List ℕ)
     → items_in frames_of_client (place_at tt (rest ++ bytes)) ≡ one_frame get_frame
-    → serve_frame true 1 (world_at settings zxid log s []) get_frame ≡ record {
-      outputs = ToClient 1 frame ∷ [];
-      after = world_at settings zxid log s [];
-    }
-    → play_event (following settings zxid log s rest) (ClientBytes 1 bytes)
-    ≡ replying frame (following settings zxid log s [])
-get_comes settings zxid log s rest bytes frame found replies =
-    let w = world_at settings zxid log s [] in
-    in_hand settings zxid log s rest bytes
-    ∙ ap (at_frames w) found
-    ∙ ap (λ (h : StepResult World). with_leader (Some beginning)
-    (prepend_outputs h.outputs (wait_if_open 1 h.after (finmap.get h.after.clients.connections 1) (Ok []))))
-    (goes_on (is_closed 1) (serve_frame true 1) w get_frame []
-    (ap (λ (o : Option OpenConnection). not (is_some o)) (get-inserted finmap.empty 1 (record { rest = [] }))))
-    ∙ ap (λ (h : StepResult World). with_leader (Some beginning)
-    (prepend_outputs (h.outputs ++ []) (wait_if_open 1 h.after (finmap.get h.after.clients.connections 1) (Ok []))))
-    replies
-    ∙ ap (λ (h : StepResult World). with_leader (Some beginning) (prepend_outputs (ToClient 1 frame ∷ []) h))
-    (left_waiting settings zxid log s [])
+    → serve_frame true 1 (world_at settings zxid log s touched []) get_frame
+    ≡ (record { outputs = ToClient 1 frame ∷ []; after = world_at settings zxid log s (heard settings touched) [] })
+    → play_event (following settings zxid log s touched rest) (ClientBytes 1 bytes)
+    ≡ replying frame (following settings zxid log s (heard settings touched) [])
+get_comes settings zxid log s touched rest bytes frame found replies =
+    in_hand settings zxid log s touched rest bytes
+    ∙ frame_served 1 (world_at settings zxid log s touched [])
+    (world_at settings zxid log s (heard settings touched) []) (rest ++ bytes) get_frame (ToClient 1 frame) first_open
+    first_open found replies
 
 -- The first part of a request comes.
-front_comes : (settings : Settings)
-    → play_event (following settings (pos 0) [] fresh_state []) (ClientBytes 1 get_data_frame_start) ≡ no_output
-    (following settings (pos 0) [] fresh_state get_data_frame_start)
+pub front_comes : (settings : Settings)
+    → play_event (following settings (pos 0) [] (start settings) set.empty []) (ClientBytes 1 get_data_frame_start)
+    ≡ no_output (following settings (pos 0) [] (start settings) set.empty get_data_frame_start)
 front_comes settings =
-    in_hand settings (pos 0) [] fresh_state [] get_data_frame_start
-    ∙ ap (at_frames (world_at settings (pos 0) [] fresh_state [])) get_waits
-    ∙ ap (λ (h : StepResult World). with_leader (Some beginning) h)
-    (left_waiting settings (pos 0) [] fresh_state get_data_frame_start)
+    let w = world_at settings (pos 0) [] (start settings) set.empty [] in
+    in_hand settings (pos 0) [] (start settings) set.empty [] get_data_frame_start
+    ∙ ap (at_frames w) get_waits
+    ∙ ap (λ (h : StepResult World). with_leader (Some beginning) h) (left_waiting 1 w first_open get_data_frame_start)
+    ∙ ap (λ (c : OpenConnections). no_output (record { leader = Some beginning; world = with_connections w c }))
+    (insert-insert finmap.empty 1 (open_with get_data_frame_start) (open_with []))
 
-get_after_create : (settings : Settings) (rest bytes : List ℕ) → items_in frames_of_client (place_at tt (rest ++ bytes))
-    ≡ one_frame get_frame
-    → play_event (after_create settings rest) (ClientBytes 1 bytes)
-    ≡ replying reply_of_create (after_create settings [])
-get_after_create settings rest bytes found =
-    get_comes settings (pos 4294967297) (create_txn ∷ []) made rest bytes reply_of_create found
-    (answered_by (after_create settings []).world (first_session settings) node reply_of_create (joined_first settings)
-    (no_ids_first settings) node_there refl refl create_replied)
+pub get_after_create : (settings : Settings) (touched : TouchedSessions) (rest bytes : List ℕ)
+    → items_in frames_of_client (place_at tt (rest ++ bytes)) ≡ one_frame get_frame
+    → play_event (after_create settings touched rest) (ClientBytes 1 bytes)
+    ≡ replying reply_of_create (after_create settings (heard settings touched) [])
+get_after_create settings touched rest bytes found =
+    get_comes settings (pos 4294967297) (create_txn ∷ []) (made settings) touched rest bytes reply_of_create found
+    (answered_by (after_create settings touched []).world touched (primed_session settings) node reply_of_create
+    (joined_first settings) (no_ids_first settings) refl (node_there settings) refl refl create_replied)
 
-get_after_set : (settings : Settings)
-    → play_event (after_set settings) get_data_event ≡ replying reply_of_set_data (after_set settings)
-get_after_set settings =
-    get_comes settings (pos 4294967298) (create_txn ∷ set_txn ∷ []) written []
+pub get_after_set : (settings : Settings) (touched : TouchedSessions)
+    → play_event (after_set settings touched) get_data_event
+    ≡ replying reply_of_set_data (after_set settings (heard settings touched))
+get_after_set settings touched =
+    get_comes settings (pos 4294967298) (create_txn ∷ set_txn ∷ []) (written settings) touched []
     (get_data_frame_start ++ get_data_frame_end)
     reply_of_set_data get_found
-    (answered_by (after_set settings).world (first_session settings) written_node reply_of_set_data
-    (joined_first settings)
-    (no_ids_first settings) written_there refl refl set_replied)
-
--- ---- a watch
-
-abbrev exists_frame : List ℕ
-exists_frame = hex_bytes (codes "00000002 00000003 00000002 2f61 01")
-
-abbrev exists_body : List ℕ
-exists_body = hex_bytes (codes "00000002 2f61 01")
-
-exists_found : items_in frames_of_client (place_at tt exists_watch_frame) ≡ one_frame exists_frame
-unfolding items_within frame_at judged_at
-exists_found = refl
-
-exists_header : request_header.read exists_frame ≡ Ok (record { xid = pos 2; kind = pos 3 }, exists_body)
-unfolding request_header
-exists_header = refl
-
-exists_kind : request_kind_of (pos 3) ≡ Some (kinds.Read Exists)
-unfolding request_kind_of
-exists_kind = refl
-
-exists_body_read : path_and_watch.read exists_body ≡ Ok (record { path = Some (codes "/a"); watch = true }, [])
-unfolding path_and_watch judged_at buffer_at
-exists_body_read = rw (is_utf8-from_IsUtf8 (codes "/a") path_is_text)
-
-abbrev watch_wanted : Request
-watch_wanted = record { kind = Exists; path = Some (codes "/a"); watch = true }
-
-exists_read : call_in exists_frame ≡ Ok (record { xid = pos 2; body = Read watch_wanted })
-exists_read =
-    ap call_after_header exists_header
-    ∙ ap (λ k. Ok (record { xid = pos 2; body = call_body k exists_body })) exists_kind
-    ∙ ap (λ r. Ok (record { xid = pos 2; body = read_as (read_with_flag Exists) (value_if_read r) })) exists_body_read
-
-nothing_there : finmap.get fresh_state.nodes (codes "/a") ≡ None
-nothing_there = simp (finmap.get-insert {X = Node} nat_list_cmp_total, finmap.get-empty {X = Node} (slice_cmp nat_cmp))
-
-missing_replied : reply_frame (pos 2) (pos 0) (without_body NO_NODE) ≡ Some reply_of_missing
-unfolding reply_header number_bytes
-missing_replied = refl
-
--- Connection 1 watches /a.
-abbrev one_watch : WatchTables
-one_watch = watches_on ((codes "/a", 1) ∷ []) []
-
-abbrev waiting : Settings → World
-waiting settings = with_watching (world_at settings (pos 0) [] fresh_state []) one_watch
-
-exists_served : (settings : Settings) → serve_frame true 1 (world_at settings (pos 0) [] fresh_state []) exists_frame
-    ≡ record { outputs = ToClient 1 reply_of_missing ∷ []; after = waiting settings }
-exists_served settings =
-    ap (serve_by true 1 w exists_frame) (joined_first settings)
-    ∙ ap (serve_as 1 w) exists_read
-    ∙ ap (λ (ids : List Id). looked (look_at_state w.replica.tree ids watch_wanted)) (no_ids_first settings)
-    ∙ ap (λ (o : Option Node). looked (look_at_node [] watch_wanted o)) nothing_there
-    ∙ ap (send_or_close 1 (waiting settings)) missing_replied
-  where
-    w : World
-    w = world_at settings (pos 0) [] fresh_state []
-
-    looked : Look → StepResult World
-    looked seen = send_reply 1 (with_watching w (with_watch_if 1 w.clients.watches (watch_of watch_wanted seen.error)))
-        (pos 2) seen
-
-abbrev awaiting : Settings → Machine
-awaiting settings = record { leader = Some beginning; world = waiting settings }
-
-exists_comes : (settings : Settings)
-    → play_event (primed_machine settings) exists_watch_event ≡ replying reply_of_missing (awaiting settings)
-exists_comes settings =
-    let w = world_at settings (pos 0) [] fresh_state [] in
-    let open_ = get-inserted finmap.empty 1 (record { rest = [] }) in
-    in_hand settings (pos 0) [] fresh_state [] exists_watch_frame
-    ∙ ap (at_frames w) exists_found
-    ∙ ap (λ (h : StepResult World). with_leader (Some beginning)
-    (prepend_outputs h.outputs (wait_if_open 1 h.after (finmap.get h.after.clients.connections 1) (Ok []))))
-    (goes_on (is_closed 1) (serve_frame true 1) w exists_frame []
-    (ap (λ (o : Option OpenConnection). not (is_some o)) open_))
-    ∙ ap (λ (h : StepResult World). with_leader (Some beginning)
-    (prepend_outputs (h.outputs ++ []) (wait_if_open 1 h.after (finmap.get h.after.clients.connections 1) (Ok []))))
-    (exists_served settings)
-    ∙ ap (λ (o : Option OpenConnection). with_leader (Some beginning)
-    (prepend_outputs (ToClient 1 reply_of_missing ∷ []) (wait_if_open 1 (waiting settings) o (Ok [])))) open_
-    ∙ ap (λ (c : OpenConnections). replying reply_of_missing
-    (record {
-      leader = Some beginning;
-      world = record (waiting settings) { clients = record (waiting settings).clients { connections = c } };
-    }))
-    (insert-insert finmap.empty 1 (record { rest = [] }) (record { rest = [] }))
-
--- The triggers of the create.
-create_triggers : (effect_of_txn fresh_state create_txn).triggers
-    ≡ Created (codes "/a") ∷ ChildrenChanged (codes "/") ∷ []
-create_triggers =
-    ap (λ (o : Option Node). (of_effect (create_under create_header create_body o) fresh_state).triggers) root_there
-    ∙ ap (λ (b : Bool). (of_effect
-    (cond b (create_taken create_header create_body root) (create_new create_header create_body root))
-    fresh_state).triggers) name_free
-
-abbrev node_created : NodeEvent
-node_created = record { kind = NodeCreated; path = codes "/a" }
-
-event_sent : reply_frame NOTIFICATION_XID (negsuc 0) (look_of_event node_created) ≡ Some event_of_create
-unfolding reply_header watcher_event number_bytes
-event_sent = refl
-
-watched_create_comes : (again : ReadAgain) (rows : FiringRows) (settings : Settings)
-    → play_event (awaiting settings) create_inform_event ≡ replying event_of_create (after_create settings [])
-watched_create_comes again rows settings =
-    let w = waiting settings in
-    let clients = w.clients in
-    inform_comes again settings (pos 0) [] fresh_state clients inform_of_create (pos 4294967297) create_txn
-    create_fits create_found
-    ∙ ap (λ (f : FireResult). one_delivered w (told_by (meant_create settings clients) f))
-    (ap (fire one_watch) create_triggers ∙ rows.created)
-    ∙ ap (λ (frame : Option (List ℕ)). one_delivered w
-    (Ok (record {
-      outputs = sent_to 1 frame ++ [];
-      after = led (with_watches (meant_create settings clients) no_watch);
-    }))) event_sent
-    ∙ ap (λ (s : State). replying event_of_create (following settings (pos 4294967297) (create_txn ∷ []) s [])) made-is
-
--- ---- the rows
-
-step : (m : Machine) (e : Event) (events : List Event) (h : StepResult Machine) → play_event m e ≡ h
-    → play m (e ∷ events) ≡ prepend_outputs h.outputs (play h.after events)
-step m e events h is = ap (λ (g : StepResult Machine). prepend_outputs g.outputs (play g.after events)) is
-
-pub create_get : (again : ReadAgain) (nobody : NobodyTold) (settings : Settings) (events : List Event)
-    → play (primed_machine settings) (create_inform_event ∷ get_data_event ∷ events)
-    ≡ prepend_outputs (ToClient 1 reply_of_create ∷ [])
-    (play (after_create settings []) events)
-create_get again nobody settings events =
-    step (primed_machine settings) create_inform_event (get_data_event ∷ events) (no_output (after_create settings []))
-    (create_comes again nobody settings [])
-    ∙ step (after_create settings []) get_data_event events (replying reply_of_create (after_create settings []))
-    (get_after_create settings [] (get_data_frame_start ++ get_data_frame_end) get_found)
-
-pub set_get : (again : ReadAgain) (nobody : NobodyTold) (settings : Settings)
-    → play (after_create settings []) (set_data_inform_event ∷ get_data_event ∷ [])
-    ≡ replying reply_of_set_data (after_set settings)
-set_get again nobody settings =
-    step (after_create settings []) set_data_inform_event (get_data_event ∷ []) (no_output (after_set settings))
-    (set_comes again nobody settings)
-    ∙ step (after_set settings) get_data_event [] (replying reply_of_set_data (after_set settings))
-    (get_after_set settings)
-
-pub cut_get : (again : ReadAgain) (nobody : NobodyTold) (settings : Settings)
-    → play (primed_machine settings)
-    (ClientBytes 1 get_data_frame_start ∷ create_inform_event ∷ ClientBytes 1 get_data_frame_end ∷ [])
-    ≡ replying reply_of_create (after_create settings [])
-cut_get again nobody settings =
-    step (primed_machine settings) (ClientBytes 1 get_data_frame_start)
-    (create_inform_event ∷ ClientBytes 1 get_data_frame_end ∷ [])
-    (no_output (following settings (pos 0) [] fresh_state get_data_frame_start)) (front_comes settings)
-    ∙ step (following settings (pos 0) [] fresh_state get_data_frame_start) create_inform_event
-    (ClientBytes 1 get_data_frame_end ∷ [])
-    (no_output (after_create settings get_data_frame_start)) (create_comes again nobody settings get_data_frame_start)
-    ∙ step (after_create settings get_data_frame_start) (ClientBytes 1 get_data_frame_end) []
-    (replying reply_of_create (after_create settings []))
-    (get_after_create settings get_data_frame_start get_data_frame_end get_found)
-
-pub create_twice : (again : ReadAgain) (nobody : NobodyTold) (settings : Settings)
-    → play (primed_machine settings)
-    (create_inform_event ∷ create_inform_event ∷ set_data_inform_event ∷ get_data_event ∷ []) ≡ prepend_outputs
-    (CloseLeader OutOfOrder ∷ CloseClient 1 ∷ []) (play (closed settings) (set_data_inform_event ∷ get_data_event ∷ []))
-create_twice again nobody settings =
-    step (primed_machine settings) create_inform_event
-    (create_inform_event ∷ set_data_inform_event ∷ get_data_event ∷ []) (no_output (after_create settings []))
-    (create_comes again nobody settings [])
-    ∙ step (after_create settings []) create_inform_event (set_data_inform_event ∷ get_data_event ∷ [])
-    (refusing settings)
-    (create_comes_again again settings)
-
-pub watch_told : (again : ReadAgain) (nobody : NobodyTold) (rows : FiringRows) (settings : Settings)
-    → play (primed_machine settings) (exists_watch_event ∷ create_inform_event ∷ set_data_inform_event ∷ [])
-    ≡ record { outputs = ToClient 1 reply_of_missing ∷ ToClient 1 event_of_create ∷ []; after = after_set settings }
-watch_told again nobody rows settings =
-    step (primed_machine settings) exists_watch_event (create_inform_event ∷ set_data_inform_event ∷ [])
-    (replying reply_of_missing (awaiting settings))
-    (exists_comes settings)
-    ∙ ap (prepend_outputs (ToClient 1 reply_of_missing ∷ []))
-    (step (awaiting settings) create_inform_event (set_data_inform_event ∷ [])
-    (replying event_of_create (after_create settings []))
-    (watched_create_comes again rows settings)
-    ∙ ap (prepend_outputs (ToClient 1 event_of_create ∷ []))
-    (step (after_create settings []) set_data_inform_event [] (no_output (after_set settings))
-    (set_comes again nobody settings)))
-
-pub idle_is : (settings : Settings)
-    → (play (new_machine settings) (create_inform_event ∷ get_data_event ∷ [])).outputs ≡ []
-idle_is settings = ap (λ (o : Option OpenConnection).
-    (with_leader {L = Leader} None (take_client_bytes false 1 (new_machine settings).world o
-    (get_data_frame_start ++ get_data_frame_end))).outputs
-    ++ []) (finmap.get-empty nat_cmp 1)
-
-pub closed_passes : (settings : Settings)
-    → (prepend_outputs (CloseLeader OutOfOrder ∷ CloseClient 1 ∷ [])
-    (play (closed settings) (set_data_inform_event ∷ get_data_event ∷ []))).outputs
-    ≡ CloseLeader OutOfOrder ∷ CloseClient 1 ∷ []
-closed_passes settings =
-    ap (λ (o : Option OpenConnection). (CloseLeader OutOfOrder ∷ CloseClient 1 ∷ [])
-    ++ ((with_leader {L = Leader} None
-    (take_client_bytes false 1 (closed settings).world o (get_data_frame_start ++ get_data_frame_end))).outputs
-    ++ []))
-    (get-removed (at_first []) 1)
+    (answered_by (after_set settings touched).world touched (primed_session settings) written_node reply_of_set_data
+    (joined_first settings) (no_ids_first settings) refl (written_there settings) refl refl set_replied)

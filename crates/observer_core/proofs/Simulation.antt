@@ -23,8 +23,9 @@ use Rattle.replica.specs.Laws.{awaits_image, ImagesComeInParts}
 use Rattle.client_service.specs.declared.output.Output.{Output}
 use Rattle.client_service.specs.World.{World}
 use Rattle.client_service.specs.Steps.{StepResult, prepend_outputs, no_output, and_then, fold_steps}
-use Rattle.observer_core.specs.Leader.{send_effect, WorldAndLoading, step_with_loading, item_step, whole_item_step, Delivery, delivery_of, deliver_item, is_refused, place_or_fault, place_after, StreamProgress, take_items}
+use Rattle.observer_core.specs.Leader.{tell_effect, send_effect, WorldAndLoading, step_with_loading, item_step, whole_item_step, Delivery, delivery_of, deliver_item, is_refused, place_or_fault, place_after, StreamProgress, take_items}
 use Rattle.client_service.proofs.Steps.{passed_over}
+use Rattle.observer_core.proofs.Unmoved.{news_same}
 
 -- ---- the relation
 
@@ -171,7 +172,8 @@ module _ (law : ImagesComeInParts) where
         (λ t e. (
           still_unloaded taken t (law.packets nothing_loaded w.replica k) e,
           all (is_snap k) nothing_loaded (send_effect w t).after
-              (λ owes. law.announced nothing_loaded w.replica k t (snap_kind k owes) e)
+              (λ owes. ap awaits_image (news_same t.news (tell_effect w t).after)
+              ∙ law.announced nothing_loaded w.replica k t (snap_kind k owes) e)
               (λ none. refl) order
               rest,
         )))

@@ -1,7 +1,7 @@
 -- Reads that wait while events are played.
 use Rattle.std.proofs.Common.{◌≡◌, List, [], ◌∷◌, ℕ, Option, Result, Ok, Err, Bool, sym, ap, subst, ◌∙◌}
 use Rattle.std.proofs.lemmas.List.{append-nil}
-use Rattle.std.specs.FinMap as finmap
+use Rattle.client_service.specs.Clients.{heard_connection}
 use Rattle.values.specs.declared.fault.NoMemory.{NoMemory}
 use Rattle.sessions.specs.Agreement.{OtherConnectionsStay}
 use Rattle.replica.specs.Replica.{Replica}
@@ -43,7 +43,7 @@ pub bytes_taken : OtherConnectionsStay → (r : Result (Unit {0}) NoMemory) (lea
     (asked : List AskedRead) (n : ℕ) (bytes : List ℕ) (old new : List Output) (asked_after : List AskedRead)
     (after : World)
     → MeetsOwing r old (and_then (answer_all_asked asked w)
-    (λ u. take_client_bytes (is_serving_clients w) n u (finmap.get u.clients.connections n) bytes)) new asked_after after
+    (λ u. take_client_bytes (is_serving_clients w) n u (heard_connection n u.clients) bytes)) new asked_after after
     → LeavesReads r old (and_then (answer_waiting asked (record { leader = leader; world = w }))
     (λ m. play_event m (ClientBytes n bytes))) new asked_after (record { leader = leader; world = after })
 bytes_taken stay r leader w asked n bytes old new asked_after after m =
@@ -56,7 +56,7 @@ bytes_taken stay r leader w asked n bytes old new asked_after after m =
     taken : Bool → StepResult World
     taken serving =
         prepend_outputs h.outputs
-        (take_client_bytes serving n h.after (finmap.get h.after.clients.connections n) bytes)
+        (take_client_bytes serving n h.after (heard_connection n h.after.clients) bytes)
 
     same : with_leader leader (taken (is_serving_clients w)) ≡ with_leader leader (taken (is_serving_clients h.after))
     same = ap (λ (s : Replica). with_leader leader (taken (is_serving s)))

@@ -1,6 +1,5 @@
 -- A machine that takes a leader's stream part by part, and one that takes whole images, stay alike.
 use Rattle.std.proofs.Common.{◌≡◌, ℕ, Bool, true, false, List, [], ◌∷◌, ◌++◌, Option, Some, None, Result, Ok, Err, refl, sym, ap, subst, ◌∙◌}
-use Rattle.std.specs.FinMap as finmap
 use Rattle.values.specs.declared.fault.Fault.{Fault}
 use Rattle.jute.specs.Stream.{Unread, Place, with_more_bytes, items_in}
 use Rattle.learner_sync.specs.Learner.{Learner}
@@ -23,6 +22,7 @@ use Rattle.client_service.specs.World.{World}
 use Rattle.observer_core.specs.Machine.{Leader, MachineBy, Machine}
 use Rattle.client_service.specs.Steps.{StepResult, prepend_outputs, no_output}
 use Rattle.observer_core.specs.Leader.{WorldAndLoading, item_step, whole_item_step, StreamProgress, take_items, leader_at, whole_end, part_reader, image_reader, with_leader, on_leader_fault, with_leader_or_fault, on_stream_end}
+use Rattle.client_service.specs.Clients.{heard_connection}
 use Rattle.client_service.specs.Serve.{take_client_bytes, open_client, end_client, expire_session}
 use Rattle.observer_core.specs.Play.{is_serving_clients, with_checkpoint, play_event_by, play_event, play_by, play, new_machine, primed_machine, new_by, primed_by}
 use Rattle.observer_core.specs.WholeImages.{HasSameEffect, PartsAreWholeImages}
@@ -132,7 +132,7 @@ module _ (law : ImagesComeInParts) (pieces : PiecesAreGrouped) (order : ItemsAre
   step_on w l p (event.ClientUp n) a =
       beside_same w l p (no_output (open_client n w)) (ap awaits_image (open_same n w)) a
   step_on w l p (event.ClientBytes n bytes) a =
-      let connection = finmap.get w.clients.connections n in
+      let connection = heard_connection n w.clients in
       beside_same w l p (take_client_bytes (is_serving_clients w) n w connection bytes)
       (ap awaits_image (client_same (is_serving_clients w) n w connection bytes)) a
   step_on w l p (event.ClientEnd n) a =

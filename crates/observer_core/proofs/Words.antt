@@ -56,12 +56,6 @@ pub says_none : (session : Option ℤ) (word : Option Word) → word ≡ None �
 says_none None word e = e
 says_none (Some session) word e = refl
 
--- A connection that has a session sends no word.
-pub has_said : (session : Option ℤ) (word : Option Word) → is_some session ≡ true
-    → word_without_session session word ≡ None
-has_said None word has = absurd (true≢false (sym has))
-has_said (Some session) word has = refl
-
 -- The first four bytes decide, whatever follows.
 pub same_front : (bytes more : List ℕ) → 4 ≤ length bytes → word_of (take 4 (bytes ++ more)) ≡ word_of (take 4 bytes)
 same_front bytes more enough = ap word_of (take-append-le 4 bytes more enough)

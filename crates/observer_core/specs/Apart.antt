@@ -9,18 +9,59 @@ use Rattle.client_service.specs.declared.output.Output.TheVariants.{ToLeader, To
 use Rattle.client_service.specs.World.{Clients, World}
 use Rattle.observer_core.specs.Machine.{Machine}
 use Rattle.sessions.specs.Sessions.{session_of_connection}
-use Rattle.client_service.specs.Steps.{StepResult}
+use Rattle.jute.specs.declared.owned.Id.{Id}
+use Rattle.quorum_packet.specs.Packet.{packet_format}
+use Rattle.learner_sync.specs.Answers.{request_of, session_request}
+use Rattle.txn_codec.specs.declared.txn.Txn.{Txn}
+use Rattle.forwarding.specs.declared.request.WriteKind.{WriteKind}
+use Rattle.forwarding.specs.declared.request.PendingConnect.{PendingConnect}
+use Rattle.forwarding.specs.declared.request.Settled.TheVariants.{Of}
+use Rattle.forwarding.specs.Queue.{waiting_connect}
+use Rattle.forwarding.specs.Pending.{queue_of, settle_sync}
+use Rattle.forwarding.specs.Laws.{Stays}
+use Rattle.client_service.specs.Steps.{StepResult, no_output}
 use Rattle.client_service.specs.Clients.{is_open}
+use Rattle.leader_answers.specs.declared.due.Due.TheVariants as dues
+use Rattle.leader_answers.specs.Answering.{answer_due, answer_txn, answer_sync}
 use Rattle.observer_core.specs.Agreement.{ClientsAgree}
 use Rattle.observer_core.specs.Play.{play_event}
 
--- Frames go to the client n alone, and nothing goes to the leader. The only connections closed are its own and those in
--- `left`.
-abbrev pub ConcernsOnly : ℕ → (ℕ → Type 0) → Output → Type 0
-ConcernsOnly n left (ToLeader bytes) = ⊥
-ConcernsOnly n left (ToClient k frame) = k ≡ n
-ConcernsOnly n left (CloseLeader e) = ⊥
-ConcernsOnly n left (CloseClient k) = (k ≡ n) ⊎ left k
+-- The packet forwards a request of this session.
+pub record IsForwarded (session : ℤ) (bytes : List ℕ) : Type 0 where
+  pub frame : List ℕ
+  pub ids : List Id
+  pub is : bytes ≡ packet_format.written (request_of session frame ids)
+
+-- The packet asks for this session.
+pub record IsAskedFor (session : ℤ) (bytes : List ℕ) : Type 0 where
+  pub time_out : ℤ
+  pub is : bytes ≡ packet_format.written (session_request session time_out)
+
+abbrev pub IsRequestOf : ℤ → List ℕ → Type 0
+IsRequestOf session bytes = IsForwarded session bytes ⊎ IsAskedFor session bytes
+
+-- The connection's connect waits for this session.
+pub record WaitsForSession (n : ℕ) (c : Clients) (session : ℤ) : Type 0 where
+  pub connect : PendingConnect
+  pub waits : waiting_connect (queue_of c.pending n) ≡ Some connect
+  pub same : connect.session ≡ session
+
+-- Frames go to the client n alone, and requests of the sessions in `own` to the leader. The only connections closed are
+-- its own and those in `left`.
+abbrev pub ConcernsOnly : ℕ → (ℤ → Type 0) → (ℕ → Type 0) → Output → Type 0
+ConcernsOnly n own left (ToLeader bytes) = (session : ℤ) × (own session × IsRequestOf session bytes)
+ConcernsOnly n own left (ToClient k frame) = k ≡ n
+ConcernsOnly n own left (CloseLeader e) = ⊥
+ConcernsOnly n own left (CloseClient k) = (k ≡ n) ⊎ left k
+
+-- The session that client n had, or the one that it got or asked for: it had none before, and has this one now, or waits
+-- for it, if it is still open.
+abbrev pub IsSessionOf : ℕ → Clients → Clients → ℤ → Type 0
+IsSessionOf n before after session =
+    (session_of_connection before.sessions n ≡ Some session)
+    ⊎ ((session_of_connection before.sessions n ≡ None)
+    × (is_open n after ≡ true
+    → (session_of_connection after.sessions n ≡ Some session) ⊎ WaitsForSession n after session))
 
 -- Client n took over the session of connection k: n had no session before, and has this one now if it is still open.
 pub record IsTakenUp (n : ℕ) (before after : Clients) (k : ℕ) : Type 0 where
@@ -33,7 +74,7 @@ pub record IsTakenUp (n : ℕ) (before after : Clients) (k : ℕ) : Type 0 where
 abbrev pub IsNotClosed : ℕ → List Output → Type 0
 IsNotClosed k outputs = AllByRecursion (λ output. output ≢ CloseClient k) outputs
 
--- Connection k keeps its waiting bytes, its session, its ids and its watches.
+-- Connection k keeps its waiting bytes, its session, its ids, its watches and its waiting requests.
 pub record IsUntouched (k : ℕ) (before after : Clients) : Type 0 where
   pub rest : finmap.get after.connections k ≡ finmap.get before.connections k
   pub session : finmap.get after.sessions.connections k ≡ finmap.get before.sessions.connections k
@@ -41,10 +82,11 @@ pub record IsUntouched (k : ℕ) (before after : Clients) : Type 0 where
   pub child : (path : List ℕ) → set.contains after.watches.child (path, k) ≡ set.contains before.watches.child (path, k)
   pub lasting : (path : List ℕ)
       → finmap.get after.watches.lasting (path, k) ≡ finmap.get before.watches.lasting (path, k)
+  pub waits : Stays k before.pending after.pending
 
--- The step concerns client n alone, and may close the connections in `left` besides.
-pub record IsApart (n : ℕ) (left : ℕ → Type 0) (w : World) (h : StepResult World) : Type 0 where
-  pub outputs : AllByRecursion (ConcernsOnly n left) h.outputs
+-- The step concerns client n alone, whose sessions are in `own`, and may close the connections in `left` besides.
+pub record IsApart (n : ℕ) (own : ℤ → Type 0) (left : ℕ → Type 0) (w : World) (h : StepResult World) : Type 0 where
+  pub outputs : AllByRecursion (ConcernsOnly n own left) h.outputs
   pub replica : h.after.replica ≡ w.replica
   -- Every other connection that isn't closed is untouched.
   pub others : (k : ℕ) → k ≢ n → IsNotClosed k h.outputs → IsUntouched k w.clients h.after.clients
@@ -53,7 +95,8 @@ pub record IsApart (n : ℕ) (left : ℕ → Type 0) (w : World) (h : StepResult
 -- untouched.
 pub record ReachesOnlyClient (n : ℕ) (m : Machine) (h : StepResult Machine) : Type 0 where
   pub leader : h.after.leader ≡ m.leader
-  pub world : IsApart n (IsTakenUp n m.world.clients h.after.world.clients) m.world
+  pub world : IsApart n (IsSessionOf n m.world.clients h.after.world.clients)
+      (IsTakenUp n m.world.clients h.after.world.clients) m.world
       (record { outputs = h.outputs; after = h.after.world })
 
 -- A client connects, sends, or leaves.
@@ -62,3 +105,31 @@ pub record ClientsAreApart : Type 0 where
   pub sends : (m : Machine) (n : ℕ) (bytes : List ℕ) → ClientsAgree m.world.clients
       → ReachesOnlyClient n m (play_event m (ClientBytes n bytes))
   pub goes : (m : Machine) (n : ℕ) → ReachesOnlyClient n m (play_event m (ClientEnd n))
+
+-- ---- how far an answer of the leader reaches
+
+-- The step sends frames to client n alone and closes no other connection. Every other connection is untouched.
+abbrev pub AnswersOnly : ℕ → World → StepResult World → Type 0
+AnswersOnly n w h = IsApart n (λ session. ⊥) (λ k. ⊥) w h
+
+pub record AnswersReachOneClient : Type 0 where
+  -- A transaction that was made of a write answers the client that has its session.
+  pub replies : (w : World) (t : Txn) (err : ℤ) (n : ℕ) (kind : WriteKind) → ClientsAgree w.clients
+      → answer_due w.clients t ≡ dues.Reply n kind
+      → (session_of_connection w.clients.sessions n ≡ Some t.header.client_id) × AnswersOnly n w (answer_txn w t err)
+  -- One that ends a session answers the client that has it, whose connection closes.
+  pub endings : (w : World) (t : Txn) (err : ℤ) (n : ℕ) → ClientsAgree w.clients
+      → answer_due w.clients t ≡ dues.Ending n
+      → (session_of_connection w.clients.sessions n ≡ Some t.header.client_id) × AnswersOnly n w (answer_txn w t err)
+  -- One that creates a session answers the client that waits for it. Then that client's requests go to the leader, and a
+  -- connection that had the session before is closed.
+  pub admissions : (w : World) (t : Txn) (err : ℤ) (n : ℕ) → ClientsAgree w.clients
+      → answer_due w.clients t ≡ dues.Admission n
+      → WaitsForSession n w.clients t.header.client_id
+      × IsApart n (λ session. session ≡ t.header.client_id)
+      (λ k. session_of_connection w.clients.sessions k ≡ Some t.header.client_id) w (answer_txn w t err)
+  -- Any other answers nobody.
+  pub others : (w : World) (t : Txn) (err : ℤ) → answer_due w.clients t ≡ dues.Nothing → answer_txn w t err ≡ no_output w
+  -- A SYNC answers the client whose sync is settled.
+  pub syncs : (w : World) (n : ℕ) → ClientsAgree w.clients → (settle_sync w.clients.pending).settled ≡ Of n
+      → AnswersOnly n w (answer_sync w)

@@ -1,5 +1,6 @@
 -- The contracts of the private functions. No public contract cites this.
-use Rattle.std.specs.Prelude.{◌≡◌, ℕ, List, ◌++◌, map, drop, Result, Ok, Err, Option, Some, None}
+use Rattle.std.specs.Prelude.{◌≡◌, ℕ, List, ◌++◌, map, drop, Result, Ok, Err, Option, Some, None, Bool, false, length, ◌-◌}
+use Rattle.std.specs.List.{slice_get}
 use Rattle.values.specs.Gains.{Gains}
 use Rattle.values.specs.declared.fault.Fault.{Fault}
 use Rattle.values.specs.declared.fault.NoMemory.{NoMemory}
@@ -11,9 +12,16 @@ use Rattle.quorum_packet.specs.declared.phase.Phase.{Phase}
 use Rattle.client_service.specs.declared.output.Output.{Output}
 use Rattle.client_service.specs.World.{Clients, World}
 use Rattle.observer_core.specs.Machine.{Leader, Machine}
-use Rattle.client_service.specs.Steps.{StepResult, and_then}
-use Rattle.observer_core.specs.Gathering.{apply_in_turn}
-use Rattle.observer_core.specs.Leader.{WorldAndLoading, StreamProgress, WorldAndLeader, to_leader, answers_to_news, item_step, take_items, with_leader}
+use Rattle.client_service.specs.Steps.{StepResult, no_output, and_then}
+use Rattle.observer_core.specs.Gathering.{tell_outcomes, apply_in_turn}
+use Rattle.observer_core.specs.Leader.{WorldAndLoading, StreamProgress, WorldAndLeader, answer_news, item_step, take_items, with_leader}
+use Rattle.client_service.specs.Serve.{to_leader}
+use Rattle.leader_answers.specs.Answering.{lets_answer, answer_last_txn}
+use Rattle.txn_codec.specs.declared.txn.Txn.{Txn}
+use Rattle.data_tree.specs.Meaning.{outcomes_of_txns}
+use Rattle.data_tree.specs.declared.outcome.Outcome.{Outcome}
+use Rattle.data_tree.specs.declared.outcome.Trigger.{Trigger}
+use Rattle.quorum_packet.specs.declared.packet.QuorumPacket.{QuorumPacket}
 use Rattle.client_service.specs.Clients.{notices_of}
 use Rattle.replica.specs.declared.item_outcome.ItemOutcome.{ItemOutcome}
 use Rattle.watch_manager.specs.Watches.{fire}
@@ -21,13 +29,17 @@ use Rattle.client_service.specs.Results.{MeetsStep, SoFar}
 use Rattle.client_service.specs.Runs.{AskedRead, answer_all_asked}
 
 -- The packets go to the leader, and an event to each watcher.
-abbrev pub send_outcome : Clients → ItemOutcome → StepResult Clients
-send_outcome c brought =
-    let fired = fire c.watches brought.triggers in
+abbrev pub tell_all : World → List QuorumPacket → List Trigger → StepResult World
+tell_all w packets triggers =
+    let fired = fire w.clients.watches triggers in
     record {
-      outputs = map to_leader (brought.replies ++ answers_to_news brought.news) ++ notices_of fired.events;
-      after = record c { watches = fired.left };
+      outputs = map to_leader packets ++ notices_of fired.events;
+      after = record w { clients = record w.clients { watches = fired.left } };
     }
+
+-- What an item brought is told, and then the clients that it concerns are answered.
+abbrev pub send_outcome : World → ItemOutcome → StepResult World
+send_outcome w brought = and_then (tell_all w brought.replies brought.triggers) (answer_news brought.news)
 
 -- A packet or part was taken; or it was refused, and nothing changed; or an allocation was refused.
 abbrev pub ReceivesItem : Result (Unit {0}) ReadError → List Output → Result (StepResult WorldAndLoading) Fault
@@ -44,6 +56,31 @@ abbrev pub take_items_after : ℕ → WorldAndLoading → Items Phase Item → S
 take_items_after done d found =
     and_then (apply_in_turn d.world (drop done d.world.replica.learner.log))
     (λ w. take_items item_step (record d { world = w }) found)
+
+-- Whether the transaction that the log has gained, if it has gained one, answers a request.
+abbrev pub gained_answers : Clients → Option Txn → Bool
+gained_answers c None = false
+gained_answers c (Some t) = lets_answer c t
+
+-- The log's newest transaction, which has this outcome, answers its client.
+abbrev pub answer_outcome : Option Outcome → World → StepResult World
+answer_outcome None w = no_output w
+answer_outcome (Some outcome) w = answer_last_txn w outcome.err
+
+abbrev pub last_outcome : List Outcome → Option Outcome
+last_outcome outcomes = slice_get outcomes (length outcomes - 1)
+
+-- The watchers of each outcome are told, and then the client of the last.
+abbrev pub tell_and_answer : World → List Outcome → StepResult World
+tell_and_answer w outcomes =
+    let told = tell_outcomes w.clients outcomes in
+    and_then (record { outputs = told.outputs; after = record w { clients = told.after } })
+    (answer_outcome (last_outcome outcomes))
+
+-- The transactions are applied one after the other, and the last answers its client.
+abbrev pub settle_and_answer : World → List Txn → StepResult World
+settle_and_answer w txns =
+    and_then (apply_in_turn w txns) (answer_outcome (last_outcome (outcomes_of_txns w.replica.tree txns)))
 
 -- One more item was taken or gathered; or it was refused, and what was gathered before it is settled; or an allocation
 -- was refused. The others are the items after it.

@@ -6,43 +6,46 @@ use Rattle.jute.specs.Format.{◌>>=◌}
 use Rattle.jute.specs.Stream.{Place, Items, Unread, with_more_bytes, items_in, place_at}
 use Rattle.snapshot_codec.specs.Made.{Loading}
 use Rattle.quorum_packet.specs.declared.item.Item.{Item}
-use Rattle.quorum_packet.specs.declared.packet.QuorumPacket.{QuorumPacket}
 use Rattle.quorum_packet.specs.declared.phase.Phase.{Phase}
 use Rattle.quorum_packet.specs.declared.phase.Phase.TheVariants.{Packets}
 use Rattle.quorum_packet.specs.Feed.{end_of}
 use Rattle.quorum_packet.specs.Items.{items_shown_at}
-use Rattle.quorum_packet.specs.Packet.{packet_format}
 use Rattle.quorum_packet.specs.WholeItems.{WholeItem, whole_items}
-use Rattle.learner_sync.specs.Answers.{ping_reply}
 use Rattle.replica.specs.declared.item_outcome.LeaderNews.{LeaderNews}
 use Rattle.replica.specs.declared.item_outcome.LeaderNews.TheVariants as news
 use Rattle.replica.specs.Taking.{ItemEffect, nothing_loaded, take_item, take_whole, follow_leader, without_leader}
 use Rattle.watch_manager.specs.Watches.{fire}
-use Rattle.client_service.specs.declared.output.Output.{Output}
-use Rattle.client_service.specs.declared.output.Output.TheVariants.{ToLeader, CloseLeader}
+use Rattle.client_service.specs.declared.output.Output.TheVariants.{CloseLeader}
 use Rattle.client_service.specs.World.{World}
 use Rattle.observer_core.specs.Machine.{Leader, MachineBy}
 use Rattle.client_service.specs.Steps.{StepResult, prepend_outputs, no_output, and_then, fold_steps}
 use Rattle.client_service.specs.Clients.{notices_of, close_all_clients}
+use Rattle.client_service.specs.Serve.{to_leader}
+use Rattle.leader_answers.specs.Answering.{answer_last_txn, answer_sync, answer_ping}
+use Rattle.forwarding.specs.Pending.{nothing_pending}
 
 -- ---- one packet, part or image
 
-abbrev pub to_leader : QuorumPacket → Output
-to_leader p = ToLeader (packet_format.written p)
-
--- A PING is answered with an empty table of sessions, since the leader knows none of them. Nobody waits for a sync.
-abbrev pub answers_to_news : Option LeaderNews → List QuorumPacket
-answers_to_news (Some (news.Ping ping)) = ping_reply ping [] ∷ []
-answers_to_news brought = []
-
 -- The packets go to the leader at once, and an event to each watcher; the watches that fired are used up.
-abbrev pub send_effect : World → ItemEffect → StepResult World
-send_effect w t =
+abbrev pub tell_effect : World → ItemEffect → StepResult World
+tell_effect w t =
     let fired = fire w.clients.watches t.triggers in
     record {
-      outputs = map to_leader (t.replies ++ answers_to_news t.news) ++ notices_of fired.events;
+      outputs = map to_leader t.replies ++ notices_of fired.events;
       after = record w { replica = t.replica; clients = record w.clients { watches = fired.left } };
     }
+
+-- A PING is answered, and so are the clients whose session was created or has ended, whose write was applied, or whose
+-- sync the leader has done.
+abbrev pub answer_news : Option LeaderNews → World → StepResult World
+answer_news None w = no_output w
+answer_news (Some (news.Ping ping)) w = answer_ping w ping
+answer_news (Some (news.Applied err)) w = answer_last_txn w err
+answer_news (Some news.SyncSettled) w = answer_sync w
+
+-- Events come before answers.
+abbrev pub send_effect : World → ItemEffect → StepResult World
+send_effect w t = and_then (tell_effect w t) (answer_news t.news)
 
 -- A world, and the image that is being loaded, apart from it.
 pub record WorldAndLoading : Type 0 where
@@ -168,11 +171,16 @@ meet_leader side None w =
     }
 meet_leader side (Some l) w = no_output (record { leader = Some l; world = w })
 
--- All connections are closed and their watches dropped. Proposals without a commit are forgotten.
+-- All connections are closed, and their watches and requests dropped. Proposals without a commit are forgotten.
 abbrev pub disconnect_all : World → StepResult World
 disconnect_all w =
     let closed = close_all_clients w.clients in
-    record { outputs = closed.outputs; after = record w { replica = without_leader w.replica; clients = closed.after } }
+    record {
+      outputs = closed.outputs;
+      after =
+          record w
+          { replica = without_leader w.replica; clients = record closed.after { pending = nothing_pending } };
+    }
 
 -- The leader is gone, and the clients are closed.
 abbrev pub on_leader_end : {L : Type 0} → World → StepResult (MachineBy L)

@@ -1,17 +1,16 @@
 -- `play`: the outputs of a machine for a list of events, and the machine after them.
-use Rattle.std.specs.Prelude.{pos, List, Option, Some, None, Bool, false}
-use Rattle.std.specs.FinMap as finmap
+use Rattle.std.specs.Prelude.{ℤ, List, Option, Some, None, Bool, false}
 use Rattle.replica.specs.Replica.{Replica, new_replica, primed_replica}
 use Rattle.replica.specs.Taking.{is_serving, checkpoint_replica}
-use Rattle.sessions.specs.Sessions.{connect_session}
-use Rattle.sessions.specs.declared.request.SessionRequest.{SessionRequest}
+use Rattle.sessions.specs.Credentials.{session_id_of}
+use Rattle.sessions.specs.Sessions.{name_session, give_session}
 use Rattle.client_service.specs.declared.world.Settings.{Settings}
 use Rattle.observer_core.specs.declared.event.Event.{Event}
 use Rattle.observer_core.specs.declared.event.Event.TheVariants.{LeaderUp, LeaderBytes, LeaderEnd, ClientUp, ClientBytes, ClientEnd, Expire, Checkpoint}
 use Rattle.client_service.specs.World.{Clients, World}
 use Rattle.observer_core.specs.Machine.{MachineBy, Machine}
 use Rattle.client_service.specs.Steps.{StepResult, no_output, fold_steps}
-use Rattle.client_service.specs.Clients.{idle_connection, with_connection, no_clients}
+use Rattle.client_service.specs.Clients.{idle_connection, heard_connection, with_connection, no_clients}
 use Rattle.observer_core.specs.Leader.{StreamReader, part_reader, with_leader, meet_leader, take_leader_bytes, end_leader}
 use Rattle.client_service.specs.Serve.{take_client_bytes, open_client, end_client, expire_session}
 
@@ -35,7 +34,7 @@ play_event_by side m LeaderEnd = end_leader side m.leader m.world
 play_event_by side m (ClientUp n) = with_world m (open_client n m.world)
 play_event_by side m (ClientBytes n bytes) =
     with_leader m.leader (take_client_bytes (is_serving_clients m.world) n m.world
-    (finmap.get m.world.clients.connections n) bytes)
+    (heard_connection n m.world.clients) bytes)
 play_event_by side m (ClientEnd n) = with_world m (end_client n m.world)
 play_event_by side m (Expire session) = with_leader m.leader (expire_session m.world session)
 play_event_by side m Checkpoint = with_world m (with_checkpoint m.world)
@@ -59,20 +58,25 @@ initial_machine settings replica leader clients =
 abbrev pub new_by : {L : Type 0} → StreamReader L → Settings → MachineBy L
 new_by side settings = initial_machine settings (new_replica settings.epochs) None (no_clients settings)
 
--- The connect of a client that has no session and asks for the shortest timeout.
-abbrev pub first_request : SessionRequest
-first_request = record { time_out = pos 0; session_id = pos 0; password = None }
+-- The id of the session that a primed machine begins with: the first that its server gives out.
+abbrev pub primed_session : Settings → ℤ
+primed_session settings = session_id_of settings.server_id 1
 
 -- Connection 1 is open and has the first session.
 abbrev pub first_client : Settings → Clients
 first_client settings =
     let nobody = no_clients settings in
+    let longest = settings.timeouts.greatest in
+    let named = (name_session nobody.sessions longest).after in
     with_connection 1 idle_connection
-    (record nobody { sessions = (connect_session nobody.sessions 1 first_request).after })
+    (record nobody { sessions = (give_session named 1 (primed_session settings) longest).after })
 
--- The machine follows a leader in epoch 1, with connection 1 open.
+-- The machine follows a leader in epoch 1. Its tree has the first session, with the greatest timeout, and connection 1
+-- has it.
 abbrev pub primed_by : {L : Type 0} → StreamReader L → Settings → MachineBy L
-primed_by side settings = initial_machine settings primed_replica (Some side.opened) (first_client settings)
+primed_by side settings =
+    initial_machine settings (primed_replica (primed_session settings) settings.timeouts.greatest) (Some side.opened)
+    (first_client settings)
 
 abbrev pub new_machine : Settings → Machine
 new_machine settings = new_by part_reader settings

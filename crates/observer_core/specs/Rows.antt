@@ -1,12 +1,13 @@
 -- Rows of bytes that were worked out by hand: events, and the outputs that they cause.
-use Rattle.std.specs.Prelude.{◌≡◌, ℕ, List, [], ◌∷◌, ◌++◌, codes}
+use Rattle.std.specs.Prelude.{◌≡◌, ℕ, pos, List, [], ◌∷◌, ◌++◌, codes}
 use Rattle.values.specs.Hex.{hex_bytes}
 use Rattle.values.specs.declared.fault.Fault.TheVariants.{OutOfOrder}
+use Rattle.settings.specs.Settings.{timeout_pair}
 use Rattle.client_service.specs.declared.world.Settings.{Settings}
 use Rattle.observer_core.specs.declared.event.Event.{Event}
 use Rattle.observer_core.specs.declared.event.Event.TheVariants.{LeaderBytes, ClientUp, ClientBytes}
 use Rattle.client_service.specs.declared.output.Output.{Output}
-use Rattle.client_service.specs.declared.output.Output.TheVariants.{ToClient, CloseLeader, CloseClient}
+use Rattle.client_service.specs.declared.output.Output.TheVariants.{ToLeader, ToClient, CloseLeader, CloseClient}
 use Rattle.observer_core.specs.Play.{play, new_machine, primed_machine}
 
 -- An INFORM of a create of /a with the data "hi", zxid 0x100000001.
@@ -56,6 +57,86 @@ reply_of_missing = hex_bytes (codes "00000010 00000002 0000000000000000 ffffff9b
 abbrev pub event_of_create : List ℕ
 event_of_create = hex_bytes (codes "0000001e ffffffff ffffffffffffffff 00000000 00000001 00000003 00000002 2f61")
 
+-- A create of /a with the data "hi", and the REQUEST that forwards it from connection 1 of server 3.
+abbrev pub framed_create : List ℕ
+framed_create = hex_bytes (codes "0000001c 00000004 00000001 00000002 2f61 00000002 6869 ffffffff 00000000")
+
+abbrev pub request_of_create : List ℕ
+request_of_create =
+    hex_bytes (codes "00000001 ffffffffffffffff 00000024 0300000000000001 00000004 00000001 00000002 2f61"
+    ++ codes " 00000002 6869 ffffffff 00000000 00000000")
+
+-- An INFORM of its transaction, zxid 0x100000001, and the reply.
+abbrev pub inform_of_forwarded : List ℕ
+inform_of_forwarded =
+    hex_bytes (codes "00000008 0000000100000001 0000004c 0300000000000001 00000004 0000000100000001"
+    ++ codes " 00000000000003e8 00000001 00000002 2f61 00000002 6869 00000001 0000001f 00000005 776f726c64"
+    ++ codes " 00000006 616e796f6e65 00 00000001 ffffffff")
+
+abbrev pub reply_of_forwarded : List ℕ
+reply_of_forwarded = hex_bytes (codes "00000016 00000004 0000000100000001 00000000 00000002 2f61")
+
+-- An INFORM of an ErrorTxn in its place, with the error -110, and the reply.
+abbrev pub inform_of_error : List ℕ
+inform_of_error =
+    hex_bytes (codes "00000008 0000000100000001 00000024 0300000000000001 00000004 0000000100000001"
+    ++ codes " 00000000000003e8 ffffffff ffffff92 ffffffff")
+
+abbrev pub reply_of_error : List ℕ
+reply_of_error = hex_bytes (codes "00000010 00000004 0000000100000001 ffffff92")
+
+-- A sync of /a, the REQUEST that forwards it, the leader's SYNC, and the reply.
+abbrev pub sync_frame : List ℕ
+sync_frame = hex_bytes (codes "0000000e 00000005 00000009 00000002 2f61")
+
+abbrev pub request_of_sync : List ℕ
+request_of_sync =
+    hex_bytes (codes "00000001 ffffffffffffffff 00000016 0300000000000001 00000005 00000009 00000002 2f61 00000000")
+
+abbrev pub sync_packet : List ℕ
+sync_packet = hex_bytes (codes "00000007 0000000000000000 ffffffff ffffffff")
+
+abbrev pub reply_of_sync : List ℕ
+reply_of_sync = hex_bytes (codes "00000016 00000005 0000000000000000 00000000 00000002 2f61")
+
+-- A ping of a client, and the reply before any transaction.
+abbrev pub client_ping : List ℕ
+client_ping = hex_bytes (codes "00000008 fffffffe 0000000b")
+
+abbrev pub reply_of_ping : List ℕ
+reply_of_ping = hex_bytes (codes "00000010 fffffffe 0000000000000000 00000000")
+
+-- A PING of the leader, and the answers to it: with the first session of server 3 and its timeout, and with no session.
+abbrev pub leader_ping : List ℕ
+leader_ping = hex_bytes (codes "00000005 0000000100000002 ffffffff ffffffff")
+
+abbrev pub answer_with_first : List ℕ
+answer_with_first = hex_bytes (codes "00000005 0000000100000002 0000000c 0300000000000001 00009c40 ffffffff")
+
+abbrev pub answer_with_none : List ℕ
+answer_with_none = hex_bytes (codes "00000005 0000000100000002 00000000 ffffffff")
+
+-- The connect of a client that asks for a new session with a timeout of 10 seconds, and the REQUEST for it.
+abbrev pub connect_frame : List ℕ
+connect_frame =
+    hex_bytes (codes "0000002c 00000000 0000000000000000 00002710 0000000000000000"
+    ++ codes " 00000010 00000000000000000000000000000000")
+
+abbrev pub request_of_session : List ℕ
+request_of_session =
+    hex_bytes (codes "00000001 ffffffffffffffff 00000014 0300000000000002 00000000 fffffff6 00002710 ffffffff")
+
+-- An INFORM of its createSession, zxid 0x100000001, and the response to the connect.
+abbrev pub inform_of_session : List ℕ
+inform_of_session =
+    hex_bytes (codes "00000008 0000000100000001 00000024 0300000000000002 00000000 0000000100000001"
+    ++ codes " 00000000000003e8 fffffff6 00002710 ffffffff")
+
+abbrev pub response_of_session : List ℕ
+response_of_session =
+    hex_bytes (codes "00000024 00000000 00002710 0300000000000002"
+    ++ codes " 00000010 5c75ddec095bce05f05804d58decb4ec")
+
 abbrev pub create_inform_event : Event
 create_inform_event = LeaderBytes inform_of_create
 
@@ -71,6 +152,17 @@ exists_watch_event = ClientBytes 1 exists_watch_frame
 -- The outputs of a primed machine, with any settings.
 abbrev pub PrimedAnswers : List Event → List Output → Type 0
 PrimedAnswers events outputs = (settings : Settings) → (play (primed_machine settings) events).outputs ≡ outputs
+
+-- The outputs of a primed machine of server 3.
+abbrev pub ServerThreeAnswers : List Event → List Output → Type 0
+ServerThreeAnswers events outputs =
+    (settings : Settings) → settings.server_id ≡ pos 3 → (play (primed_machine settings) events).outputs ≡ outputs
+
+-- The outputs of a primed machine of server 3, with timeouts from 4 to 40 seconds and an empty secret.
+abbrev pub SettledAnswers : List Event → List Output → Type 0
+SettledAnswers events outputs =
+    (settings : Settings) → settings.server_id ≡ pos 3 → settings.timeouts ≡ timeout_pair (pos 4000) (pos 40000)
+    → settings.secret ≡ [] → (play (primed_machine settings) events).outputs ≡ outputs
 
 -- A read shows the create, and a later one the setData.
 pub record WorkedRows : Type 0 where
@@ -88,6 +180,22 @@ pub record WorkedRows : Type 0 where
   -- A watch on a missing node fires for the create, and for nothing after it.
   pub watch_on_missing : PrimedAnswers (exists_watch_event ∷ create_inform_event ∷ set_data_inform_event ∷ [])
       (ToClient 1 reply_of_missing ∷ ToClient 1 event_of_create ∷ [])
+  -- A create is forwarded, and answered when its transaction comes.
+  pub forwarded_create : ServerThreeAnswers (ClientBytes 1 framed_create ∷ LeaderBytes inform_of_forwarded ∷ [])
+      (ToLeader request_of_create ∷ ToClient 1 reply_of_forwarded ∷ [])
+  -- A transaction that stands for one that failed answers with its error alone.
+  pub failed_create : ServerThreeAnswers (ClientBytes 1 framed_create ∷ LeaderBytes inform_of_error ∷ [])
+      (ToLeader request_of_create ∷ ToClient 1 reply_of_error ∷ [])
+  -- A sync is forwarded, and answered when the leader has done it.
+  pub forwarded_sync : ServerThreeAnswers (ClientBytes 1 sync_frame ∷ LeaderBytes sync_packet ∷ [])
+      (ToLeader request_of_sync ∷ ToClient 1 reply_of_sync ∷ [])
+  -- A connect waits until the leader has created its session.
+  pub new_session : SettledAnswers (ClientUp 2 ∷ ClientBytes 2 connect_frame ∷ LeaderBytes inform_of_session ∷ [])
+      (ToLeader request_of_session ∷ ToClient 2 response_of_session ∷ [])
+  -- The leader is told once of a session whose client was heard.
+  pub heard_session : SettledAnswers
+      (ClientBytes 1 client_ping ∷ LeaderBytes leader_ping ∷ LeaderBytes leader_ping ∷ [])
+      (ToClient 1 reply_of_ping ∷ ToLeader answer_with_first ∷ ToLeader answer_with_none ∷ [])
   pub nothing : PrimedAnswers [] []
   -- Without a leader and a client nothing is sent.
   pub idle : (settings : Settings)

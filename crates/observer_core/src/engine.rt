@@ -2,12 +2,15 @@
 //!
 //! Laws that go over this: `Agreeing`, `WholeImages`.
 
-ghost use Rattle.std.specs.Prelude.{◌≡◌, Some, IfOk, OnOk};
+ghost use Rattle.std.specs.Prelude.{◌≡◌, Some, None, IfOk, OnOk};
+ghost use Rattle.std.specs.FinMap as finmap;
 ghost use Rattle.std.specs.Thread.{IsSync};
 ghost use Rattle.data_tree.specs.Meaning.{state_after, outcomes_of_txns};
 ghost use Rattle.replica.specs.Gathering.{AppliesTxns};
 ghost use Rattle.read_processor.specs.Asking.{looks_at, LooksAtAsks};
-ghost use Rattle.observer_core.specs.Play.{initial_machine, first_client, new_machine, primed_machine};
+ghost use Rattle.sessions.specs.Sessions.{name_session, give_session};
+ghost use Rattle.client_service.specs.Clients.{idle_connection, with_connection};
+ghost use Rattle.observer_core.specs.Play.{initial_machine, new_machine, primed_machine};
 ghost use Rattle.observer_core.specs.Machine.{Machine as TheMachine};
 ghost use Rattle.observer_core.specs.Plays.{PlaysEvents};
 
@@ -70,19 +73,25 @@ impl Model for Engine {
     ghost view = { λ e. if e.closed then None else Some e.machine };
 }
 
-// Connection 1 is open and has the first session.
-fn first_client(alloc: Global, settings: &Settings) -> Result<Clients, NoMemory>
-    ensures { IfOk result (λ clients. clients ≡ first_client settings.now) }
+// Opens connection 1, and gives it a new session with this timeout. Returns the session's id.
+fn open_first(alloc: Global, time_out: i32, clients: &mut Clients) -> Result<i64, NoMemory>
+    requires { finmap.get clients.old.sessions.connections 1 ≡ None }
+    ensures session { let named = name_session clients.old.sessions time_out in
+        IfOk result (λ session. session ≡ named.connected.response.session_id) }
+    ensures clients { let named = name_session clients.old.sessions time_out in
+        let given = give_session named.after 1 named.connected.response.session_id time_out in
+        OnOk result (clients.new ≡ with_connection 1 idle_connection (record clients.old { sessions = given.after })) }
 {
-    let mut clients = Clients::new(alloc, settings)?;
     let request = SessionRequest {
-        time_out: 0,
+        time_out,
         session_id: 0,
         password: None,
     };
-    clients.sessions.connect(alloc, FIRST, &request)?;
+    let named = clients.sessions.connect(alloc, FIRST, false, &request)?;
+    let session = named.response.session_id;
+    clients.sessions.admit(alloc, FIRST, session, time_out)?;
     clients.open(alloc, FIRST)?;
-    Ok(clients)
+    Ok(session)
 }
 
 impl Engine {
@@ -99,14 +108,18 @@ impl Engine {
         Ok(Engine::started(config, replica, None, clients))
     }
 
-    /// An observer that follows a leader in epoch 1 and serves clients, with connection 1 open and in a session.
+    /// An observer that follows a leader in epoch 1 and serves clients. Its tree has the first session, with the greatest
+    /// timeout, and connection 1 is open and has that session.
     ///
     /// Fails only if an allocation is refused.
     pub fn primed(alloc: Global, config: Config) -> Result<Engine, NoMemory>
         ensures { IfOk result (λ e. e ≡ Some (primed_machine config.settings)) }
     {
-        let replica = Replica::primed(alloc)?;
-        let clients = first_client(alloc, &config.settings)?;
+        let settings = &config.settings;
+        let longest = settings.timeouts.greatest();
+        let mut clients = Clients::new(alloc, settings)?;
+        let session = open_first(alloc, longest, &mut clients)?;
+        let replica = Replica::primed(alloc, session, longest)?;
         let leader = Leader {
             feed: PacketFeed::new(alloc),
             loader: Loader::new(alloc),

@@ -7,8 +7,8 @@ ghost use Rattle.observer_core.specs.declared.event.Event.TheVariants.{LeaderByt
 ghost use Rattle.client_service.specs.Steps.{prepend_outputs};
 ghost use Rattle.observer_core.specs.Play.{play};
 ghost use Rattle.observer_core.specs.Logs.{MachinesFollowTheirLogs, RefusalsChangeNothing};
-ghost use Rattle.observer_core.specs.Agreement.{ConnectionsAgree, SessionsAreServed};
-ghost use Rattle.observer_core.specs.Apart.{ClientsAreApart};
+ghost use Rattle.observer_core.specs.Agreement.{ConnectionsAgree, SessionsAreServed, ConnectedSessionsLive, NothingWaitsInVain};
+ghost use Rattle.observer_core.specs.Apart.{ClientsAreApart, AnswersReachOneClient};
 ghost use Rattle.observer_core.specs.WholeImages.{PartsAreWholeImages};
 ghost use Rattle.observer_core.specs.Rows.{WorkedRows};
 
@@ -52,34 +52,75 @@ pub fn refusals_change_nothing()
     ensures { RefusalsChangeNothing }
 {}
 
-/// Every connection that has a session or a watch is open, each connection's session is a live guest session, and no
-/// two connections share a session: at the start, and after every list of events if it was so before.
+/// Every connection that has a session, a watch or a request that waits is open, no two connections share a session, and
+/// a connection whose connect waits has none: at the start, and after every list of events if it was so before.
 pub fn connections_agree()
     ensures { ConnectionsAgree }
 {
     sessions::sessions_and_connections_agree();
     watch_manager::law::firing();
+    forwarding::requests_and_syncs_agree();
 }
 
-/// Where clients aren't served no connection has a session: at the start, and after every list of events if it was so
-/// before and the connections agreed.
+/// Where clients aren't served no connection has a session, and none has a request that waits: at the start, and after
+/// every list of events if it was so before and the connections agreed.
 pub fn sessions_are_served()
     ensures { SessionsAreServed }
 {
     replica::law::serving();
-    connections_agree();
+    sessions::sessions_and_connections_agree();
+    watch_manager::law::firing();
+    forwarding::requests_and_syncs_agree();
 }
 
-/// An event of a client (it connects, sends or leaves) leaves the tree and the log. It sends no frame to another client
-/// and nothing to the leader. Every other connection that it doesn't close keeps its waiting bytes, its session, its
-/// ids and its watches. It closes another connection only if its client takes over that connection's session: the
-/// client had no session before, and has this one from then on while it is open.
+/// The session of each connection lives, that is, the tree has it: at the start, and after every list of events if it
+/// was so before, the connections agreed, and none had a session or a request that waits where clients weren't served.
+/// So a connection closes when its session ends.
+pub fn connected_sessions_live()
+    ensures { ConnectedSessionsLive }
+{
+    replica::law::serving();
+    sessions::sessions_and_connections_agree();
+    watch_manager::law::firing();
+    forwarding::requests_and_syncs_agree();
+}
+
+/// No request waits for one that was answered: what waits of each connection is nothing, or begins with a connect, a
+/// write or a sync that the leader hasn't answered yet. So it is at the start, and after every list of events if it was
+/// so before and the connections agreed.
+pub fn nothing_waits_in_vain()
+    ensures { NothingWaitsInVain }
+{
+    sessions::sessions_and_connections_agree();
+    watch_manager::law::firing();
+    forwarding::requests_and_syncs_agree();
+    forwarding::nothing_waits_in_vain();
+}
+
+/// An event of a client (it connects, sends or leaves) leaves the tree and the log. It sends no frame to another client,
+/// and to the leader only requests of its own session, or for a session that it asks for. Every other connection that it
+/// doesn't close keeps its waiting bytes, its session, its ids, its watches and its waiting requests. It closes another
+/// connection only if its client takes over that connection's session: the client had no session before, and has this
+/// one from then on while it is open.
 pub fn clients_are_apart()
     ensures { ClientsAreApart }
 {
     sessions::others_stay();
+    watch_manager::law::firing();
+    forwarding::other_connections_stay();
+}
+
+/// A transaction of the leader answers at most one client: the one that has its session and waits for it or whose
+/// session it ends, or the one that waits for the session that it creates. Then that client's requests that were held go
+/// to the leader, and an older connection of the session is closed. A SYNC answers at most the one whose sync it
+/// settles. Nothing else is sent, no other connection is closed, and every other connection keeps what it has.
+pub fn answers_reach_one_client()
+    ensures { AnswersReachOneClient }
+{
+    sessions::others_stay();
     sessions::sessions_and_connections_agree();
     watch_manager::law::firing();
+    forwarding::other_connections_stay();
 }
 
 /// The definitions, evaluated on rows of bytes that were worked out by hand.

@@ -2,7 +2,7 @@
 //!
 //! Laws that go over this: `Agreeing`, `Logs`, `Playing`, `Refusals`, `Served`, `Simulation`, `WholeImages`.
 
-ghost use Rattle.std.specs.Prelude.{◌≡◌, map, ◌∷◌, ◌++◌, [], IfOk};
+ghost use Rattle.std.specs.Prelude.{◌≡◌, map, ◌∷◌, [], IfOk, OnOk};
 ghost use Rattle.std.specs.List.{All};
 ghost use Rattle.values.specs.Gains.{Puts};
 ghost use Rattle.quorum_packet.specs.Feed.{CanBeWritten};
@@ -13,31 +13,24 @@ ghost use Rattle.replica.specs.Taking.{IsAnswerable};
 ghost use Rattle.client_service.specs.Clients.{close_all_clients};
 ghost use Rattle.client_service.specs.Steps.{prepend_outputs};
 ghost use Rattle.client_service.specs.declared.output.Output.TheVariants.{CloseLeader};
-ghost use Rattle.observer_core.specs.Leader.{to_leader, answers_to_news, part_reader, take_items, item_step, meet_leader, disconnect_all, take_leader_bytes, end_leader};
-ghost use Rattle.observer_core.specs.Inner.{send_outcome, ReceivesItem, DeliversItems, FollowsStream};
+ghost use Rattle.watch_manager.specs.Watches.{fire};
+ghost use Rattle.client_service.specs.Serve.{with_watching, to_leader};
+ghost use Rattle.observer_core.specs.Leader.{part_reader, take_items, item_step, answer_news, meet_leader, disconnect_all, take_leader_bytes, end_leader};
+ghost use Rattle.observer_core.specs.Inner.{tell_all, send_outcome, ReceivesItem, DeliversItems, FollowsStream};
 ghost use Rattle.client_service.specs.Results.{MeetsStep};
 
 use crate::gathering::{settle_txns, take_item};
 use crate::machine::{Leader, Machine};
-use client_service::{Clients, Output, World, notify_each};
-use data_tree::{Outcome, Tree};
-use learner_sync::ping_answer;
-use quorum_packet::{Item, PacketFeed, QuorumPacket, write_packet};
+use client_service::{Clients, Output, World, notify_each, send_to_leader};
+use data_tree::{Outcome, Tree, Trigger};
+use leader_answers::{answer_last_txn, answer_ping, answer_sync};
+use quorum_packet::{Item, PacketFeed, QuorumPacket};
 use replica::{ItemOutcome, LeaderNews};
 use snapshot_codec::Loader;
 use std::alloc::Global;
 use txn_codec::Txn;
-use values::{Blob, Fault, Listed, NoMemory, ReadError};
-
-fn send(alloc: Global, packet: &QuorumPacket, outputs: &mut Vec<Output>) -> Result<(), NoMemory>
-    requires { packet_format.Writable packet.now }
-    ensures { Puts result outputs.old.items (to_leader packet.now ∷ []) outputs.new.items }
-{
-    let mut bytes = Vec::new(alloc);
-    write_packet(packet, &mut bytes)?;
-    outputs.push(Output::ToLeader(Blob::from_vec(bytes)))?;
-    Ok(())
-}
+use values::{Fault, NoMemory, ReadError};
+use watch_manager::Event;
 
 // Sends packets to the leader, in order and one output each.
 fn send_each(
@@ -49,47 +42,82 @@ fn send_each(
     ensures { Puts result outputs.old.items (map to_leader packets.now) outputs.new.items }
 {
     for packet in packets {
-        send(alloc, packet, outputs)?;
+        send_to_leader(alloc, packet, outputs)?;
     }
     Ok(())
 }
 
-// The packets for the leader: the replies, and the answer to what it asks. A PING is answered with an empty table of
-// sessions, since the leader knows none of them.
-fn packets_for_leader(
+// The events of what changed. The watches that fired are used up.
+fn fire(
     alloc: Global,
-    replies: Listed<QuorumPacket>,
-    news: Option<LeaderNews>,
-) -> Result<Vec<QuorumPacket>, NoMemory>
-    requires writable { All packet_format.Writable replies }
-    requires answerable { IsAnswerable news }
-    ensures packets { IfOk result (λ packets. packets.items ≡ replies ++ answers_to_news news) }
-    ensures writable { IfOk result (λ packets. All packet_format.Writable packets.items) }
+    world: &mut World,
+    triggers: &[Trigger],
+) -> Result<Vec<(u64, Event)>, NoMemory>
+    ensures events { IfOk result (λ events. events.items ≡ (fire world.old.clients.watches triggers.now).events) }
+    ensures left { OnOk result
+        (world.new ≡ with_watching world.old (fire world.old.clients.watches triggers.now).left) }
 {
-    let mut packets = replies.into_vec();
-    if let Some(LeaderNews::Ping(ping)) = news {
-        packets.push(ping_answer(ping, Blob::from_vec(Vec::new(alloc))))?;
-    }
-    Ok(packets)
+    world.clients.watches.fire(alloc, triggers)
 }
 
-// Sends the packets for the leader, and then an event to each watcher.
+// Sends packets to the leader, and then an event to each watcher.
 fn tell(
     alloc: Global,
-    clients: &mut Clients,
+    world: &mut World,
+    packets: &[QuorumPacket],
+    triggers: &[Trigger],
+    outputs: &mut Vec<Output>,
+) -> Result<(), NoMemory>
+    requires { All packet_format.Writable packets.now }
+    ensures { MeetsStep result outputs.old.items
+        (tell_all world.old packets.now triggers.now)
+        outputs.new.items world.new }
+{
+    let events = fire(alloc, world, triggers)?;
+    send_each(alloc, packets, outputs)?;
+    notify_each(alloc, events.as_slice(), outputs)
+}
+
+// Answers a PING, or the clients that the news of the leader concerns.
+fn answer_news(
+    alloc: Global,
+    world: &mut World,
+    news: Option<LeaderNews>,
+    outputs: &mut Vec<Output>,
+) -> Result<(), NoMemory>
+    requires { IsAnswerable news }
+    ensures { MeetsStep result outputs.old.items (answer_news news world.old) outputs.new.items world.new }
+{
+    match news {
+        None => Ok(()),
+        Some(LeaderNews::Ping(ping)) => answer_ping(alloc, world, ping, outputs),
+        Some(LeaderNews::Applied(error)) => answer_last_txn(alloc, world, error, outputs),
+        Some(LeaderNews::SyncSettled) => answer_sync(alloc, world, outputs),
+    }
+}
+
+// Tells what an item brought, and then answers those that it concerns.
+#[tactic(auto, using(client_service::proofs::Steps::then_meets, client_service::proofs::Steps::first_stops))]
+fn send_outcome(
+    alloc: Global,
+    world: &mut World,
     brought: ItemOutcome,
     outputs: &mut Vec<Output>,
 ) -> Result<(), NoMemory>
     requires writable { All packet_format.Writable brought.replies }
     requires answerable { IsAnswerable brought.news }
     ensures { MeetsStep result outputs.old.items
-        (send_outcome clients.old brought)
-        outputs.new.items clients.new }
+        (send_outcome world.old brought)
+        outputs.new.items world.new }
 {
-    let events = clients.watches.fire(alloc, brought.triggers.as_slice())?;
-    let packets = packets_for_leader(alloc, brought.replies, brought.news)?;
-    send_each(alloc, packets.as_slice(), outputs)?;
-    notify_each(alloc, events.as_slice(), outputs)
+    tell(
+        alloc,
+        world,
+        brought.replies.as_slice(),
+        brought.triggers.as_slice(),
+        outputs,
+    )?;
+    answer_news(alloc, world, brought.news, outputs)
 }
 
 #[tactic(auto, using(crate::proofs::Delivering::all_of))]
@@ -108,7 +136,7 @@ pub(crate) fn receive_item(
         (record { loading = loader.new; world = world.new }) }
 {
     match world.replica.take(alloc, loader, item) {
-        Ok(brought) => Ok(tell(alloc, &mut world.clients, brought, outputs)?),
+        Ok(brought) => Ok(send_outcome(alloc, world, brought, outputs)?),
         Err(error) => Err(error),
     }
 }
@@ -189,15 +217,19 @@ fn close_all(clients: &mut Clients, outputs: &mut Vec<Output>) -> Result<(), NoM
     Ok(())
 }
 
-fn disconnect(world: &mut World, outputs: &mut Vec<Output>) -> Result<(), NoMemory>
+// Ends the replica's stream, and drops all clients and their requests.
+fn disconnect(alloc: Global, world: &mut World, outputs: &mut Vec<Output>) -> Result<(), NoMemory>
     ensures { MeetsStep result outputs.old.items (disconnect_all world.old) outputs.new.items world.new }
 {
     world.replica.end();
-    close_all(&mut world.clients, outputs)
+    close_all(&mut world.clients, outputs)?;
+    world.clients.pending.clear(alloc);
+    Ok(())
 }
 
 // Closes the leader for a fault, and then all clients.
 fn close_on_fault(
+    alloc: Global,
     fault: Fault,
     world: &mut World,
     outputs: &mut Vec<Output>,
@@ -207,7 +239,7 @@ fn close_on_fault(
         outputs.new.items world.new }
 {
     outputs.push(Output::CloseLeader(fault))?;
-    disconnect(world, outputs)
+    disconnect(alloc, world, outputs)
 }
 
 /// A leader has connected, and the observer introduces itself. While it has a leader, another one is ignored.
@@ -291,7 +323,7 @@ pub fn take_leader_bytes<D: Fn(&mut Tree, &[Txn]) -> Result<Vec<Outcome>, NoMemo
         None => Ok(()),
         Some(fault) => {
             machine.leader = None;
-            close_on_fault(fault, &mut machine.world, outputs)
+            close_on_fault(alloc, fault, &mut machine.world, outputs)
         }
     }
 }
@@ -299,7 +331,11 @@ pub fn take_leader_bytes<D: Fn(&mut Tree, &[Txn]) -> Result<Vec<Outcome>, NoMemo
 /// The leader is gone, and all clients are closed. A stream that ends inside a packet or an image is a fault.
 ///
 /// Fails only if an allocation is refused; then a prefix of the outputs has been appended.
-pub fn end_leader(machine: &mut Machine, outputs: &mut Vec<Output>) -> Result<(), NoMemory>
+pub fn end_leader(
+    alloc: Global,
+    machine: &mut Machine,
+    outputs: &mut Vec<Output>,
+) -> Result<(), NoMemory>
     ensures { MeetsStep result outputs.old.items
         (end_leader part_reader machine.old.leader machine.old.world)
         outputs.new.items machine.new }
@@ -310,7 +346,7 @@ pub fn end_leader(machine: &mut Machine, outputs: &mut Vec<Output>) -> Result<()
     let ended = leader.feed.end();
     drop(leader);
     match ended {
-        Ok(()) => disconnect(&mut machine.world, outputs),
-        Err(fault) => close_on_fault(fault, &mut machine.world, outputs),
+        Ok(()) => disconnect(alloc, &mut machine.world, outputs),
+        Err(fault) => close_on_fault(alloc, fault, &mut machine.world, outputs),
     }
 }

@@ -45,7 +45,7 @@ fn happen_alone<D: Fn(&mut Tree, &[Txn]) -> Result<Vec<Outcome>, NoMemory>>(
         Event::LeaderBytes(bytes) => {
             take_leader_bytes(alloc, doer, gather_from, machine, bytes.as_slice(), outputs)
         }
-        Event::LeaderEnd => end_leader(machine, outputs),
+        Event::LeaderEnd => end_leader(alloc, machine, outputs),
         Event::ClientUp(number) => open_client(alloc, *number, &mut machine.world),
         Event::ClientBytes(_, _) => unreachable!(),
         Event::ClientEnd(number) => {

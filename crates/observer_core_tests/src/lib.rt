@@ -92,11 +92,15 @@ pub fn has(engine: &Engine, path: &str) -> bool {
 }
 
 #[cfg(test)]
+mod forwarded;
+#[cfg(test)]
 mod held;
 #[cfg(test)]
 mod held_reads;
 #[cfg(test)]
 mod laws;
+#[cfg(test)]
+mod leader_sessions;
 #[cfg(test)]
 mod ordered;
 #[cfg(test)]

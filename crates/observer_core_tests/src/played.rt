@@ -1,7 +1,8 @@
 //! Events, and the outputs that they cause.
 use super::*;
 use crate::laws::{
-    call_clients_are_apart, call_connections_agree, call_cut_anywhere, call_logs_are_followed,
+    call_answers_reach_one_client, call_clients_are_apart, call_connections_agree,
+    call_cut_anywhere, call_logs_are_followed, call_nothing_waits_in_vain,
     call_parts_are_whole_images, call_plays_on, call_refusals_change_nothing,
     call_sessions_are_served, call_worked_rows,
 };
@@ -245,6 +246,8 @@ fn words(rt: HostRuntime) -> Result<(), Fail> {
 fn clients(rt: HostRuntime) -> Result<(), Fail> {
     call_connections_agree();
     call_clients_are_apart();
+    call_nothing_waits_in_vain();
+    call_answers_reach_one_client();
     assert!(rt; expires(rt.alloc(), primed(rt.alloc())?));
     Ok(())
 }

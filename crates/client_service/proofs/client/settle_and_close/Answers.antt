@@ -1,12 +1,12 @@
 use Rattle.client_service.specs.Runs.{answer_all_asked}
-use Rattle.client_service.specs.Inner.{close_if_open}
+use Rattle.client_service.specs.Inner.{close_if_heard}
 use Rattle.client_service.proofs.Running.{settled_first}
 use Rattle.client_service.proofs.client.settle_and_close.Goals as goal
 
 pub returns : goal.returns
 returns g c =
-    settled_first c.close_if_open.result c.args.outputs.now.items c.settle_reads.new.outputs.items
-    c.close_if_open.new.outputs.items (answer_all_asked c.args.asked.now.items c.args.world.now)
-    (close_if_open c.args.number) c.settle_reads.new.world
-    c.settle_reads.new.asked.items c.close_if_open.new.world c.in_ok-settle_reads.ensures.answered
-    c.in_ok-settle_reads.ensures.none_left c.close_if_open.ensures
+    settled_first c.close_if_heard.result c.args.outputs.now.items c.settle_reads.new.outputs.items
+    c.close_if_heard.new.outputs.items (answer_all_asked c.args.asked.now.items c.args.world.now)
+    (close_if_heard c.args.number) c.settle_reads.new.world
+    c.settle_reads.new.asked.items c.close_if_heard.new.world c.in_ok-settle_reads.ensures.answered
+    c.in_ok-settle_reads.ensures.none_left c.close_if_heard.ensures

@@ -5,7 +5,7 @@ use Rattle.client_service.specs.Steps.{StepResult, and_then}
 use Rattle.client_service.specs.Serve.{serve_all, word_at, frames_of_client}
 use Rattle.client_service.specs.Results.{MeetsOwing}
 use Rattle.client_service.specs.Runs.{answer_all_asked}
-use Rattle.client_service.specs.Inner.{world_with_rest, tell_if_open}
+use Rattle.client_service.specs.Inner.{world_with_rest, tell_if_heard}
 use Rattle.client_service.proofs.Steps.{begins, same_left}
 use Rattle.client_service.proofs.Running.{bytes_after, none_waiting, word_taken, frames_taken}
 use Rattle.client_service.proofs.client.take_client_bytes.Goals as goal
@@ -33,7 +33,7 @@ returns-in-Some-word_at g c =
     c.in-Some.ensures.new ∙ ap (λ (rest : List ℕ). world_with_rest n rest w) c.new-none.ensures in
     let came : c.as_slice.result.now ≡ c.in-Some.waiting ++ c.args.bytes.now =
     c.as_slice.ensures ∙ c.in_ok-add.ensures.ok in
-    let tell = tell_if_open c.args.serving n c.in-Some-word_at.word in
+    let tell = tell_if_heard c.args.serving n c.in-Some-word_at.word in
     subst (λ (h : StepResult World). MeetsOwing c.settle_and_tell.result c.args.outputs.now.items h
     c.settle_and_tell.new.outputs.items c.settle_and_tell.new.asked.items c.settle_and_tell.new.world)
     (ap (λ (u : World). and_then (answer_all_asked asked u) tell) left

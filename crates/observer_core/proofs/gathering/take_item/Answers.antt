@@ -1,8 +1,4 @@
-use Rattle.std.proofs.Common.{List, length, ap, ◌∙◌}
 use Rattle.std.proofs.lemmas.Result.{err_from_is_err_and}
-use Rattle.txn_codec.specs.declared.txn.Txn.{Txn}
-use Rattle.learner_sync.specs.Learner.{Learner}
-use Rattle.client_service.specs.World.{World}
 use Rattle.observer_core.specs.Leader.{WorldAndLoading}
 use Rattle.observer_core.proofs.Batches.{received_after, failed_after}
 use Rattle.observer_core.proofs.gathering.take_item.Goals as goal
@@ -24,8 +20,5 @@ returns-clause-takes g c =
     let after : WorldAndLoading = record { loading = c.receive_item.new.loader; world = c.receive_item.new.world } in
     received_after before c.args.item c.args.done.now c.args.outputs.now.items
     c.settle_txns.new.outputs.items c.settle_txns.new.world c.in_ok-settle_txns.ensures
-    c.receive_item.new.outputs.items after (length c.since_base.result.now)
-    (ap (λ (log : List Txn). length log) c.since_base.ensures
-    ∙ ap (λ (l : Learner). length l.log) c.learner.ensures
-    ∙ ap (λ (w : World). length w.replica.learner.log) c.world.view_is)
+    c.receive_item.new.outputs.items after c.log_len.result c.log_len.ensures
     c.in_ok-receive_item.ensures

@@ -11,6 +11,7 @@ returns c =
       connections = c.clients.inside.connections;
       sessions = c.clients.inside.sessions;
       watches = c.clients.inside.watches;
+      pending = c.clients.inside.pending;
     } in
     let old = c.args.outputs.now.items in
     let new = c.notify_each.new.outputs.items in

@@ -1,5 +1,5 @@
 use Rattle.std.proofs.Common.{drop, map}
-use Rattle.observer_core.specs.Leader.{to_leader}
+use Rattle.client_service.specs.Serve.{to_leader}
 use Rattle.client_service.proofs.Steps.{SoFar, putting}
 use Rattle.observer_core.proofs.leader.send_each.Given as goal
 

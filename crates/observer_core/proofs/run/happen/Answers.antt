@@ -1,7 +1,7 @@
 use Rattle.std.proofs.Common.{◌≡◌, Bool, ap, subst, ◌∙◌}
-use Rattle.std.specs.FinMap as finmap
 use Rattle.replica.specs.Taking.{is_serving}
 use Rattle.client_service.specs.World.{World}
+use Rattle.client_service.specs.Clients.{heard_connection}
 use Rattle.client_service.specs.Steps.{and_then}
 use Rattle.client_service.specs.Serve.{take_client_bytes}
 use Rattle.client_service.specs.Results.{MeetsOwing}
@@ -21,7 +21,7 @@ returns-in-ClientBytes g c =
     c.args.outputs.now.items c.take_client_bytes.new.outputs.items c.take_client_bytes.new.asked.items
     c.take_client_bytes.new.world (subst (λ (b : Bool). MeetsOwing c.take_client_bytes.result c.args.outputs.now.items
     (and_then (answer_all_asked c.args.asked.now.items c.machine.inside.world) (λ (u : World). take_client_bytes b c.in-ClientBytes.number u
-    (finmap.get u.clients.connections c.in-ClientBytes.number) c.in-ClientBytes.bytes)) c.take_client_bytes.new.outputs.items c.take_client_bytes.new.asked.items c.take_client_bytes.new.world) serves (rw c.as_slice.ensures at c.take_client_bytes.ensures))))
+    (heard_connection c.in-ClientBytes.number u.clients) c.in-ClientBytes.bytes)) c.take_client_bytes.new.outputs.items c.take_client_bytes.new.asked.items c.take_client_bytes.new.world) serves (rw c.as_slice.ensures at c.take_client_bytes.ensures))))
 
 pub returns-in_ok-settle_reads-in_default : goal.returns-in_ok-settle_reads-in_default
 returns-in_ok-settle_reads-in_default g c =

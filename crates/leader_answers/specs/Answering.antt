@@ -1,0 +1,197 @@
+-- What the leader's stream answers: connects, writes and syncs that wait, and the frames that are held until then.
+use Rattle.std.specs.Prelude.{ℕ, zero, suc, ℤ, List, [], ◌∷◌, Option, Some, None, Result, Ok, Err, Bool, true, false, ◌||◌, length, nat_lt, if◌then◌else◌}
+use Rattle.values.specs.declared.fault.Fault.{Fault}
+use Rattle.txn_codec.specs.declared.txn.Txn.{Txn}
+use Rattle.txn_codec.specs.declared.txn.Body.{Body}
+use Rattle.txn_codec.specs.declared.txn.Body.TheVariants as bodies
+use Rattle.txn_codec.specs.Kinds.{code_of, body_kind}
+use Rattle.quorum_packet.specs.declared.packet.QuorumPacket.{QuorumPacket}
+use Rattle.learner_sync.specs.Answers.{ping_reply, session_rows}
+use Rattle.replica.specs.Taking.{last_txn}
+use Rattle.sessions.specs.Sessions.{connection_of, ConnectResult, close_connection, give_session}
+use Rattle.client_records.specs.declared.codes.TheConstants.{OK}
+use Rattle.read_processor.specs.Look.{look_of_path, without_body}
+use Rattle.read_processor.specs.Reply.{reply_frame}
+use Rattle.client_frames.specs.declared.call.Call.{Call}
+use Rattle.client_frames.specs.declared.call.CallBody.{CallBody}
+use Rattle.client_frames.specs.declared.call.CallBody.TheVariants as calls
+use Rattle.client_frames.specs.Call.{call_in}
+use Rattle.write_replies.specs.Replies.{write_look}
+use Rattle.forwarding.specs.declared.request.WriteKind.{WriteKind}
+use Rattle.forwarding.specs.declared.request.PendingConnect.{PendingConnect}
+use Rattle.forwarding.specs.declared.request.Ready.{Ready}
+use Rattle.forwarding.specs.declared.request.Ready.TheVariants.{SettledSync, HeldFrame}
+use Rattle.forwarding.specs.declared.request.Settled.{Settled}
+use Rattle.forwarding.specs.declared.request.Settled.TheVariants.{NoSync, Gone, Of}
+use Rattle.forwarding.specs.Queue.{pending_limit, answered_write}
+use Rattle.forwarding.specs.Pending.{queue_of, is_full, take_ready, answer_write, pending_close, settle_sync, take_connect, connecting_to, take_touched}
+use Rattle.client_service.specs.World.{Clients, World}
+use Rattle.client_service.specs.Steps.{StepResult, no_output, and_then, fold_steps}
+use Rattle.client_service.specs.Serve.{to_leader, close_client, send_or_close, send_last, send_reply, with_sessions, with_pending, answer_connect, handle_local, serve_as, client_frame_limit, is_unheard}
+use Rattle.leader_answers.specs.declared.due.Due.{Due}
+use Rattle.leader_answers.specs.declared.due.Due.TheVariants.{Nothing, Admission, Ending, Reply}
+
+-- ---- what is ready
+
+-- Only requests that this server answers are held.
+abbrev pub handle_held : ℕ → World → ℤ → CallBody → StepResult World
+handle_held n w xid (calls.Local call) = handle_local n w xid call
+handle_held n w xid body = no_output w
+
+abbrev pub serve_held : ℕ → World → Result Call Fault → StepResult World
+serve_held n w (Ok c) = handle_held n w c.xid c.body
+serve_held n w (Err e) = close_client n w
+
+-- A sync is answered with its path, and a held frame as if it came now.
+abbrev pub answer_ready : ℕ → World → Ready → StepResult World
+answer_ready n w (SettledSync xid path) = send_reply n w xid (look_of_path path)
+answer_ready n w (HeldFrame frame) = serve_held n w (call_in frame)
+
+abbrev pub answer_if_ready : ℕ → World → Option Ready → (World → StepResult World) → StepResult World
+answer_if_ready n w None next = no_output w
+answer_if_ready n w (Some ready) next = and_then (answer_ready n w ready) next
+
+-- The requests in front are answered one after the other, up to the first that isn't ready, and at most so many.
+abbrev pub answer_up_to : ℕ → ℕ → World → StepResult World
+answer_up_to zero n w = no_output w
+answer_up_to (suc most) n w =
+    let taken = take_ready w.clients.pending n in
+    answer_if_ready n (with_pending w taken.after) taken.ready (answer_up_to most n)
+
+-- All requests in front that are ready are answered: a connection has no more than the limit.
+abbrev pub answer_front : ℕ → World → StepResult World
+answer_front n w = answer_up_to pending_limit n w
+
+-- ---- whom a transaction answers
+
+-- The type of a transaction, as a number.
+abbrev pub txn_number : Txn → ℤ
+txn_number t = code_of (body_kind t.body)
+
+-- The connection waits for this session.
+abbrev pub admission_of : Option ℕ → Due
+admission_of None = Nothing
+admission_of (Some n) = Admission n
+
+-- The connection has the session that ends.
+abbrev pub ending_of : Option ℕ → Due
+ending_of None = Nothing
+ending_of (Some n) = Ending n
+
+abbrev pub reply_as : ℕ → Option WriteKind → Due
+reply_as n None = Nothing
+reply_as n (Some kind) = Reply n kind
+
+-- The oldest write of the connection that has the transaction's session is answered, if it is this one.
+abbrev pub reply_of : Clients → Txn → Option ℕ → Due
+reply_of c t None = Nothing
+reply_of c t (Some n) = reply_as n (answered_write (queue_of c.pending n) t.header.cxid (txn_number t))
+
+abbrev pub due_by : Clients → Txn → Body → Due
+due_by c t (bodies.CreateSession time_out) = admission_of (connecting_to c.pending t.header.client_id)
+due_by c t bodies.CloseSession = ending_of (connection_of c.sessions t.header.client_id)
+due_by c t (bodies.Single operation) = reply_of c t (connection_of c.sessions t.header.client_id)
+due_by c t (bodies.SetAcl set_acl) = reply_of c t (connection_of c.sessions t.header.client_id)
+due_by c t (bodies.Multi parts) = reply_of c t (connection_of c.sessions t.header.client_id)
+
+-- What the transaction brings to a client here.
+abbrev pub answer_due : Clients → Txn → Due
+answer_due c t = due_by c t t.body
+
+abbrev pub is_due : Due → Bool
+is_due Nothing = false
+is_due (Admission n) = true
+is_due (Ending n) = true
+is_due (Reply n kind) = true
+
+-- Whether the transaction answers a client. Neither the tree nor the watches matter for that.
+abbrev pub lets_answer : Clients → Txn → Bool
+lets_answer c t = is_due (answer_due c t)
+
+-- ---- a write
+
+-- The reply has the zxid of the transaction. The requests that waited only for this write are answered after it.
+abbrev pub answer_write_as : ℕ → World → Txn → ℤ → WriteKind → StepResult World
+answer_write_as n w t err kind =
+    let v = with_pending w (answer_write w.clients.pending n t.header.cxid (txn_number t)).after in
+    let seen = write_look w.replica.tree kind t.body err in
+    and_then (send_or_close n v (reply_frame t.header.cxid t.header.zxid seen)) (answer_front n)
+
+-- ---- a session that was created
+
+-- A frame that was held until its connection had a session. None is longer than a client's may be.
+abbrev pub serve_next : ℕ → ℤ → World → List ℕ → StepResult World
+serve_next n session w frame =
+    if is_full w.clients.pending n || nat_lt client_frame_limit (length frame) then close_client n w
+    else serve_as n session w frame (call_in frame)
+
+-- The connection has the session that it asked for, and is answered. Then the frames that were held are served, as if
+-- they came now.
+abbrev pub admit_with : ℕ → World → PendingConnect → List (List ℕ) → ConnectResult → StepResult World
+admit_with n w connect frames given =
+    and_then (answer_connect n connect.has_read_only (with_sessions w given.after) given.connected)
+    (λ v. fold_steps (is_unheard n) (serve_next n connect.session) v frames)
+
+-- A connection whose connect waits has no session; one that had a session would lose it.
+abbrev pub admit_as : ℕ → World → List (List ℕ) → Option PendingConnect → StepResult World
+admit_as n w frames None = no_output w
+admit_as n w frames (Some connect) =
+    admit_with n w connect frames
+    (give_session (close_connection w.clients.sessions n) n connect.session connect.time_out)
+
+abbrev pub admit_client : ℕ → World → StepResult World
+admit_client n w =
+    let taken = take_connect w.clients.pending n in
+    admit_as n (with_pending w taken.after) taken.frames taken.connect
+
+-- ---- a session that has ended
+
+-- A closeSession that waits is answered, whatever waits before it, and the connection closes.
+abbrev pub close_ended : ℕ → World → ℤ → Option ℤ → StepResult World
+close_ended n w zxid None = close_client n w
+close_ended n w zxid (Some xid) = send_last n w (reply_frame xid zxid (without_body OK))
+
+-- ---- a transaction
+
+abbrev pub give_answer : World → Txn → ℤ → Due → StepResult World
+give_answer w t err Nothing = no_output w
+give_answer w t err (Admission n) = admit_client n w
+give_answer w t err (Ending n) = close_ended n w t.header.zxid (pending_close w.clients.pending n)
+give_answer w t err (Reply n kind) = answer_write_as n w t err kind
+
+-- A transaction that was applied, with this error, answers the client that it concerns.
+abbrev pub answer_txn : World → Txn → ℤ → StepResult World
+answer_txn w t err = give_answer w t err (answer_due w.clients t)
+
+abbrev pub answer_optional_txn : World → ℤ → Option Txn → StepResult World
+answer_optional_txn w err None = no_output w
+answer_optional_txn w err (Some t) = answer_txn w t err
+
+-- The newest transaction of the log was applied, with this error.
+abbrev pub answer_last_txn : World → ℤ → StepResult World
+answer_last_txn w err = answer_optional_txn w err (last_txn w.replica.learner.log)
+
+-- ---- a sync
+
+abbrev pub answer_settled : World → Settled → StepResult World
+answer_settled w NoSync = no_output w
+answer_settled w Gone = no_output w
+answer_settled w (Of n) = answer_front n w
+
+-- The leader has done the oldest sync that was forwarded.
+abbrev pub answer_sync : World → StepResult World
+answer_sync w =
+    let s = settle_sync w.clients.pending in
+    answer_settled (with_pending w s.after) s.settled
+
+-- ---- a PING
+
+-- A PING is answered with the sessions that were touched and live, each with its timeout in the tree. They are no longer
+-- touched then, but for those that the table has no room for.
+abbrev pub answer_ping : World → QuorumPacket → StepResult World
+answer_ping w ping =
+    let told = take_touched w.clients.pending w.replica.tree.sessions in
+    record {
+      outputs = to_leader (ping_reply ping (session_rows told.rows)) ∷ [];
+      after = with_pending w told.after;
+    }

@@ -1,0 +1,48 @@
+//! A PING of the leader.
+
+ghost use Rattle.std.specs.Prelude.{◌≡◌, ◌<◌, ◌^◌, length, IfOk, OnOk, Some};
+ghost use Rattle.forwarding.specs.Pending.{take_touched};
+ghost use Rattle.learner_sync.specs.Answers.{session_rows};
+ghost use Rattle.replica.specs.Taking.{IsAnswerable};
+ghost use Rattle.client_service.specs.Serve.{with_pending};
+ghost use Rattle.client_service.specs.Results.{MeetsStep};
+ghost use Rattle.leader_answers.specs.Answering.{answer_ping};
+
+use client_service::{Output, World, send_to_leader};
+use learner_sync::{ping_answer, session_table};
+use quorum_packet::QuorumPacket;
+use replica::LeaderNews;
+use std::alloc::Global;
+use values::{Blob, NoMemory};
+
+// Takes the sessions that were touched and live, as the table of a PING's answer.
+fn take_table(alloc: Global, world: &mut World) -> Result<Blob, NoMemory>
+    ensures table { let told = take_touched world.old.clients.pending world.old.replica.tree.sessions in
+        IfOk result (λ table. table ≡ session_rows told.rows) }
+    ensures after { let told = take_touched world.old.clients.pending world.old.replica.tree.sessions in
+        OnOk result (world.new ≡ with_pending world.old told.after) }
+    ensures short { IfOk result (λ table. length table < 2 ^ 31) }
+{
+    let timeouts = world.replica.tree().sessions();
+    let rows = world.clients.pending.take_touched(alloc, timeouts)?;
+    session_table(alloc, rows.as_slice())
+}
+
+/// Answers a PING with the sessions whose clients were heard since the last one, each with its timeout.
+///
+/// Fails only if an allocation is refused; then a prefix of the outputs has been appended.
+pub fn answer_ping(
+    alloc: Global,
+    world: &mut World,
+    ping: QuorumPacket,
+    outputs: &mut Vec<Output>,
+) -> Result<(), NoMemory>
+    requires { IsAnswerable (Some (LeaderNews.Ping ping)) }
+    ensures { MeetsStep result outputs.old.items
+        (answer_ping world.old ping)
+        outputs.new.items world.new }
+{
+    let table = take_table(alloc, world)?;
+    let answer = ping_answer(ping, table);
+    send_to_leader(alloc, &answer, outputs)
+}

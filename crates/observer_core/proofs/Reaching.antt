@@ -1,0 +1,200 @@
+-- What the leader's stream answers reaches one client alone.
+use Rattle.std.proofs.Common.{◌≡◌, ℕ, ℤ, Option, Some, None, refl, sym, ap, subst, ◌∙◌, arith}
+use Rattle.std.specs.Option.{unwrap_or}
+use Rattle.txn_codec.specs.declared.txn.Txn.{Txn}
+use Rattle.txn_codec.specs.declared.txn.Body.{Body}
+use Rattle.txn_codec.specs.declared.txn.Body.TheVariants as bodies
+use Rattle.forwarding.specs.declared.request.PendingConnect.{PendingConnect}
+use Rattle.forwarding.specs.declared.request.Settled.{Settled}
+use Rattle.forwarding.specs.declared.request.Settled.TheVariants.{NoSync, Gone, Of}
+use Rattle.forwarding.specs.declared.request.WriteKind.{WriteKind}
+use Rattle.forwarding.specs.Queue.{waiting_connect, answered_write}
+use Rattle.forwarding.specs.Pending.{queue_of, connecting_to, pending_close, settle_sync}
+use Rattle.forwarding.specs.Laws.{OtherQueuesStay}
+use Rattle.sessions.specs.Sessions.{session_of_connection, connection_of, close_connection}
+use Rattle.sessions.specs.Agreement.{AgreementIsKept, OtherConnectionsStay}
+use Rattle.watch_manager.specs.Laws.{OthersKeepWatches}
+use Rattle.client_service.specs.World.{Clients, World}
+use Rattle.client_service.specs.Steps.{no_output}
+use Rattle.client_service.specs.Serve.{with_pending}
+use Rattle.leader_answers.specs.declared.due.Due.{Due}
+use Rattle.leader_answers.specs.declared.due.Due.TheVariants as dues
+use Rattle.leader_answers.specs.Answering.{answer_front, txn_number, answer_due, due_by, admission_of, ending_of, reply_as, reply_of, give_answer, answer_txn, answer_settled, answer_sync}
+use Rattle.observer_core.specs.Agreement.{ClientsAgree}
+use Rattle.observer_core.specs.Apart.{WaitsForSession, IsApart, AnswersOnly, AnswersReachOneClient}
+use Rattle.observer_core.proofs.Answered.{front_makes, write_makes, ended_makes, admit_makes}
+use Rattle.observer_core.proofs.Plain.{Always, plain_ground, plain_answer_ground}
+use Rattle.observer_core.proofs.Agreeing.{owner_has}
+use Rattle.observer_core.proofs.Taking.{closed_fewer}
+use Rattle.observer_core.proofs.Apart.{then_apart, pending_apart, replies_apart, calls_apart, answers_apart, given_apart, NoSession, Nobody, Had}
+
+-- ---- whom a transaction answers
+
+-- The connection that something is due to, or this one if nothing is.
+abbrev due_to : ℕ → Due → ℕ
+due_to k dues.Nothing = k
+due_to k (dues.Admission n) = n
+due_to k (dues.Ending n) = n
+due_to k (dues.Reply n kind) = n
+
+-- What is due, as a number.
+abbrev due_place : Due → ℕ
+due_place dues.Nothing = 0
+due_place (dues.Admission n) = 1
+due_place (dues.Ending n) = 2
+due_place (dues.Reply n kind) = 3
+
+-- An admission is of the connection that waits for the session, and anything else is of the one that has it.
+record IsDueTo (c : Clients) (session : ℤ) (due : Due) : Type 0 where
+  admits : (n : ℕ) → due ≡ dues.Admission n → connecting_to c.pending session ≡ Some n
+  ends : (n : ℕ) → due ≡ dues.Ending n → connection_of c.sessions session ≡ Some n
+  replies : (n : ℕ) (kind : WriteKind) → due ≡ dues.Reply n kind → connection_of c.sessions session ≡ Some n
+
+apart_from : {X : Type 0} (d e : Due) → (due_place d ≡ due_place e → ⊥) → d ≡ e → X
+apart_from d e other same = absurd (other (ap due_place same))
+
+nothing_due : (c : Clients) (session : ℤ) → IsDueTo c session dues.Nothing
+nothing_due c session = record {
+  admits = λ n e. apart_from dues.Nothing (dues.Admission n) (λ x. omega arith) e;
+  ends = λ n e. apart_from dues.Nothing (dues.Ending n) (λ x. omega arith) e;
+  replies = λ n kind e. apart_from dues.Nothing (dues.Reply n kind) (λ x. omega arith) e;
+}
+
+due_is : (c : Clients) (t : Txn) → IsDueTo c t.header.client_id (answer_due c t)
+due_is c t = by t.body
+  where
+    session : ℤ
+    session = t.header.client_id
+
+    admitted : (o : Option ℕ) → connecting_to c.pending session ≡ o → IsDueTo c session (admission_of o)
+    admitted None is = nothing_due c session
+    admitted (Some m) is = record {
+      admits = λ n e. is ∙ ap (λ (d : Due). Some (due_to m d)) e;
+      ends = λ n e. apart_from (dues.Admission m) (dues.Ending n) (λ x. omega arith) e;
+      replies = λ n kind e. apart_from (dues.Admission m) (dues.Reply n kind) (λ x. omega arith) e;
+    }
+
+    ended : (o : Option ℕ) → connection_of c.sessions session ≡ o → IsDueTo c session (ending_of o)
+    ended None is = nothing_due c session
+    ended (Some m) is = record {
+      admits = λ n e. apart_from (dues.Ending m) (dues.Admission n) (λ x. omega arith) e;
+      ends = λ n e. is ∙ ap (λ (d : Due). Some (due_to m d)) e;
+      replies = λ n kind e. apart_from (dues.Ending m) (dues.Reply n kind) (λ x. omega arith) e;
+    }
+
+    replies_as : (m : ℕ) (o : Option WriteKind) → connection_of c.sessions session ≡ Some m
+        → IsDueTo c session (reply_as m o)
+    replies_as m None is = nothing_due c session
+    replies_as m (Some kind) is = record {
+      admits = λ n e. apart_from (dues.Reply m kind) (dues.Admission n) (λ x. omega arith) e;
+      ends = λ n e. apart_from (dues.Reply m kind) (dues.Ending n) (λ x. omega arith) e;
+      replies = λ n other e. is ∙ ap (λ (d : Due). Some (due_to m d)) e;
+    }
+
+    replied : (o : Option ℕ) → connection_of c.sessions session ≡ o → IsDueTo c session (reply_of c t o)
+    replied None is = nothing_due c session
+    replied (Some m) is = replies_as m (answered_write (queue_of c.pending m) t.header.cxid (txn_number t)) is
+
+    by : (b : Body) → IsDueTo c session (due_by c t b)
+    by (bodies.CreateSession time_out) = admitted (connecting_to c.pending session) refl
+    by bodies.CloseSession = ended (connection_of c.sessions session) refl
+    by (bodies.Single operation) = replied (connection_of c.sessions session) refl
+    by (bodies.SetAcl set_acl) = replied (connection_of c.sessions session) refl
+    by (bodies.Multi parts) = replied (connection_of c.sessions session) refl
+
+abbrev number_in : ℕ → Settled → ℕ
+number_in k NoSync = k
+number_in k Gone = k
+number_in k (Of n) = n
+
+module _ (kept : AgreementIsKept) (stay : OtherConnectionsStay) (keep_watches : OthersKeepWatches)
+    (queues : OtherQueuesStay) where
+  replies_reach : (w : World) (t : Txn) (err : ℤ) (n : ℕ) (kind : WriteKind) → ClientsAgree w.clients
+      → answer_due w.clients t ≡ dues.Reply n kind
+      → (session_of_connection w.clients.sessions n ≡ Some t.header.client_id) × AnswersOnly n w (answer_txn w t err)
+  replies_reach w t err n kind a is = (
+    owner_has w.clients.sessions t.header.client_id n a.sessions ((due_is w.clients t).replies n kind is),
+    subst (λ (due : Due). AnswersOnly n w (give_answer w t err due)) (sym is)
+        (write_makes n ⊥ Always (IsApart n NoSession Nobody) (plain_ground n)
+        (replies_apart NoSession Nobody stay keep_watches queues n) (plain_answer_ground n)
+        (answers_apart NoSession Nobody stay keep_watches queues n) w t err kind tt).is,
+  )
+
+  endings_reach : (w : World) (t : Txn) (err : ℤ) (n : ℕ) → ClientsAgree w.clients
+      → answer_due w.clients t ≡ dues.Ending n
+      → (session_of_connection w.clients.sessions n ≡ Some t.header.client_id) × AnswersOnly n w (answer_txn w t err)
+  endings_reach w t err n a is = (
+    owner_has w.clients.sessions t.header.client_id n a.sessions ((due_is w.clients t).ends n is),
+    subst (λ (due : Due). AnswersOnly n w (give_answer w t err due)) (sym is)
+        (ended_makes n ⊥ Always (IsApart n NoSession Nobody) (plain_ground n)
+        (replies_apart NoSession Nobody stay keep_watches queues n) w t.header.zxid (pending_close w.clients.pending n)
+        tt).is,
+  )
+
+  admissions_reach : (w : World) (t : Txn) (err : ℤ) (n : ℕ) → ClientsAgree w.clients
+      → answer_due w.clients t ≡ dues.Admission n
+      → WaitsForSession n w.clients t.header.client_id
+      × IsApart n (λ session. session ≡ t.header.client_id)
+      (λ k. session_of_connection w.clients.sessions k ≡ Some t.header.client_id) w (answer_txn w t err)
+  admissions_reach w t err n a is = (
+    record { connect = f.0; waits = f.1.0; same = f.1.1 },
+    subst (λ (due : Due). IsApart n Own left w (give_answer w t err due)) (sym is)
+        (admit_makes n ⊥ Always (IsApart n Own left) (plain_ground n)
+        (replies_apart Own left stay keep_watches queues n) Own (calls_apart Own left stay keep_watches queues n) May
+        (λ v given time_out free may u. given_apart Own left stay keep_watches queues n v given time_out may)
+        (plain_answer_ground n) (answers_apart Own left stay keep_watches queues n).drops w
+        (λ connect waits. (own connect waits, may connect waits)) tt).is,
+  )
+    where
+      session : ℤ
+      session = t.header.client_id
+
+      f : (c : PendingConnect) × ((waiting_connect (queue_of w.clients.pending n) ≡ Some c) × (c.session ≡ session))
+      f = a.pending.in_front session n ((due_is w.clients t).admits n is)
+
+      Own : ℤ → Type 0
+      Own other = other ≡ session
+
+      left : ℕ → Type 0
+      left = Had w session
+
+      May : World → ℤ → Type 0
+      May v other = (j : ℕ) → connection_of v.clients.sessions other ≡ Some j → left j
+
+      own : (connect : PendingConnect) → waiting_connect (queue_of w.clients.pending n) ≡ Some connect
+          → Own connect.session
+      own connect waits =
+          ap (λ (o : Option PendingConnect). (unwrap_or o connect).session) (sym waits ∙ f.1.0) ∙ f.1.1
+
+      -- The older connection of the session had it before.
+      may : (connect : PendingConnect) → waiting_connect (queue_of w.clients.pending n) ≡ Some connect → (j : ℕ)
+          → connection_of (close_connection w.clients.sessions n) connect.session ≡ Some j → left j
+      may connect waits j e =
+          let s = close_connection w.clients.sessions n in
+          closed_fewer w.clients.sessions n j session
+          (owner_has s session j (kept.closes w.clients.sessions n a.sessions)
+          (ap (connection_of s) (sym (own connect waits)) ∙ e))
+
+  -- ---- a sync
+
+  syncs_reach : (w : World) (n : ℕ) → ClientsAgree w.clients → (settle_sync w.clients.pending).settled ≡ Of n
+      → AnswersOnly n w (answer_sync w)
+  syncs_reach w n a is =
+      let p = w.clients.pending in
+      let v = with_pending w (settle_sync p).after in
+      subst (λ (o : Settled). AnswersOnly n w (answer_settled v o)) (sym is)
+      (then_apart NoSession Nobody n w (no_output v) (answer_front n)
+      (pending_apart NoSession Nobody stay keep_watches queues n w (settle_sync p).after
+      (λ k other. queues.settles p k (λ e. other (ap (number_in k) (sym e ∙ is)))))
+      (front_makes n ⊥ Always (IsApart n NoSession Nobody) (plain_ground n)
+      (replies_apart NoSession Nobody stay keep_watches queues n) (plain_answer_ground n)
+      (answers_apart NoSession Nobody stay keep_watches queues n) v tt).is)
+
+  pub answers_reach_one_client : AnswersReachOneClient
+  answers_reach_one_client = record {
+    replies = replies_reach;
+    endings = endings_reach;
+    admissions = admissions_reach;
+    others = λ w t err is. ap (give_answer w t err) is;
+    syncs = syncs_reach;
+  }

@@ -1,0 +1,596 @@
+-- What a connection's small steps keep, its frames keep.
+use Rattle.std.proofs.Common.{◌≡◌, ℕ, ◌+◌, ◌==◌, ℤ, pos, negsuc, Bool, true, false, cond, not, ◌||◌, ◌&&◌, List, [], ◌∷◌, ◌++◌, length, Option, Some, None, Result, Ok, Err, refl, sym, ap, ◌∙◌}
+use Rattle.std.specs.Prelude.{is_some, nat_lt}
+use Rattle.std.specs.Ordering.{int_eq}
+use Rattle.std.proofs.lemmas.Bool.{cond_both}
+use Rattle.std.specs.FinMap as finmap
+use mathlib.Core.Bool.{true≢false}
+use Rattle.values.specs.declared.fault.Fault.{Fault}
+use Rattle.jute.specs.Stream.{Unread, items_in, place_at}
+use Rattle.jute.specs.declared.codes.TheConstants.{BAD_ARGUMENTS}
+use Rattle.client_records.specs.declared.codes.TheConstants.{OK, UNIMPLEMENTED, AUTH_FAILED, NOT_READ_ONLY, PING_XID, NOTIFICATION_XID}
+use Rattle.client_records.specs.declared.request.AuthPacket.{AuthPacket}
+use Rattle.client_frames.specs.declared.call.Call.{Call}
+use Rattle.client_frames.specs.declared.call.CallBody.{CallBody}
+use Rattle.client_frames.specs.declared.call.CallBody.TheVariants as bodies
+use Rattle.client_frames.specs.declared.call.LocalCall.{LocalCall}
+use Rattle.client_frames.specs.declared.call.LocalCall.TheVariants as locals
+use Rattle.client_frames.specs.declared.connecting.Connecting.{Connecting}
+use Rattle.client_frames.specs.Call.{call_in}
+use Rattle.client_frames.specs.Connect.{connecting_in, session_request_of, answer_to_connect}
+use Rattle.sessions.specs.State.{SessionTable as Sessions, ConnectedClient as Joined}
+use Rattle.sessions.specs.Credentials.{session_id_of}
+use Rattle.sessions.specs.Sessions.{session_in, session_of_connection, ids_of, greatest_counter, is_valid, ConnectResult, session_response, refusal_response, give_session, name_session, connect_session, AuthResult, add_auth}
+use Rattle.sessions.specs.declared.request.SessionResponse.{SessionResponse}
+use Rattle.forwarding.specs.declared.request.WriteKind.{WriteKind}
+use Rattle.forwarding.specs.Queue.{RequestQueue, is_close, waiting_connect}
+use Rattle.forwarding.specs.State.{PendingTable}
+use Rattle.forwarding.specs.Pending.{queue_in, queue_of, is_idle, is_full, connecting_to, push_connect, push_write, push_sync, hold_frame, touch_session}
+use Rattle.learner_sync.specs.Answers.{session_request}
+use Rattle.read_processor.specs.declared.watch.Watch.{Watch}
+use Rattle.read_processor.specs.declared.renewal.Renewal.{Renewal}
+use Rattle.read_processor.specs.Look.{look_at_state, without_body}
+use Rattle.read_processor.specs.Watch.{watch_of, watch_to_add}
+use Rattle.read_processor.specs.Renewal.{renew_watches}
+use Rattle.read_processor.specs.Reply.{reply_frame}
+use Rattle.read_processor.specs.Events.{look_of_event}
+use Rattle.watch_manager.specs.declared.event.Event.{Event}
+use Rattle.four_letter.specs.Texts.{reply_text}
+use Rattle.four_letter.specs.declared.word.Word.{Word}
+use Rattle.client_service.specs.declared.output.Output.TheVariants.{ToClient}
+use Rattle.client_service.specs.World.{OpenConnection, World}
+use Rattle.client_service.specs.Steps.{StepResult, no_output, and_then, fold_steps}
+use Rattle.client_service.specs.Clients.{is_open, heard_in, heard_connection, with_connection, sent_to, notice_to, notices_to}
+use Rattle.client_service.specs.Serve.{to_leader, close_client, send_or_close, send_last, with_watching, with_watch, with_watch_if, with_each_watch, answer_set_watches, answer_add_watch, answer_auth, with_sessions, with_pending, touched_as, touch_client, send_auth_result, close_client_if_some, send_connect_response, ask_for_session, is_new_session, finish_connect, may_connect, is_live, handle_connect, handle_local, forward_frame, with_leaving, handle_call, serve_as, serve_by, header_len, is_refused_frame, serve_frame, figures_of, word_at, is_unheard, with_waiting_bytes, wait_if_heard, wait_at, frames_of_client, tell_or_serve, take_client_bytes}
+use Rattle.client_service.proofs.NatMaps.{get-inserted}
+
+abbrev pub IsOpen : ℕ → World → Type 0
+IsOpen n w = is_open n w.clients ≡ true
+
+-- A relation between a world and a step that is made in it.
+abbrev pub Steps : Type 1
+Steps = World → StepResult World → Type 0
+
+abbrev pub HasNone : ℕ → World → Type 0
+HasNone n w = finmap.get w.clients.sessions.connections n ≡ None
+
+abbrev pub NoConnect : ℕ → World → Type 0
+NoConnect n w = waiting_connect (queue_of w.clients.pending n) ≡ None
+
+-- The connection has the session that it is given, and an older one of the session is closed.
+abbrev pub given : ℕ → World → ℤ → ℤ → StepResult World
+given n w session time_out =
+    let c = give_session w.clients.sessions n session time_out in
+    close_client_if_some (with_sessions w c.after) c.connected.older
+
+-- The leader is asked for a session, and the connect waits for it.
+abbrev pub asked_for : ℕ → World → ℤ → ℤ → Bool → StepResult World
+asked_for n w session time_out has_byte = record {
+  outputs = to_leader (session_request session time_out) ∷ [];
+  after =
+      with_pending w
+      (push_connect w.clients.pending n
+      (record { session = session; time_out = time_out; has_read_only = has_byte }));
+}
+
+-- Connection n's small steps keep `A`, which is known of every world on the way. Where `Strict` holds they may require
+-- that the connection is open, or has no session.
+pub record IsGround (n : ℕ) (Strict : Type 0) (A : World → Type 0) : Type 0 where
+  pub closes : (w : World) → A w → A (close_client n w).after
+  pub watches : (w : World) (watch : Watch) → (Strict → IsOpen n w) → A w
+      → A (with_watching w (with_watch n w.clients.watches watch))
+  pub auths : (w : World) (scheme bytes : Option (List ℕ)) → (Strict → IsOpen n w) → A w
+      → A (with_sessions w (add_auth w.clients.sessions n scheme bytes).after)
+  pub touches : (w : World) (session : ℤ) → A w → A (with_pending w (touch_session w.clients.pending session))
+  pub opens : (w : World) (k : OpenConnection) → A w → A (record w { clients = with_connection n k w.clients })
+  pub writes : (w : World) (xid : ℤ) (kind : WriteKind) → is_full w.clients.pending n ≡ false → (Strict → IsOpen n w)
+      → A w → A (with_pending w (push_write w.clients.pending n xid kind))
+  pub syncs : (w : World) (xid : ℤ) (path : List ℕ) → is_full w.clients.pending n ≡ false → (Strict → IsOpen n w)
+      → A w → A (with_pending w (push_sync w.clients.pending n xid path))
+  pub holds : (w : World) (frame : List ℕ) → is_full w.clients.pending n ≡ false
+      → is_idle w.clients.pending n ≡ false → A w → A (with_pending w (hold_frame w.clients.pending n frame))
+  pub counts : (w : World) → HasNone n w → (w.clients.sessions.counter == greatest_counter) ≡ false → A w
+      → A (with_sessions w (record w.clients.sessions { counter = w.clients.sessions.counter + 1 }))
+  pub gives : (w : World) (session time_out : ℤ) → (Strict → HasNone n w) → NoConnect n w → (Strict → IsOpen n w)
+      → A w → A (given n w session time_out).after
+  pub asks : (w : World) (session time_out : ℤ) (has_byte : Bool) → HasNone n w
+      → is_idle w.clients.pending n ≡ true → connecting_to w.clients.pending session ≡ None → (Strict → IsOpen n w)
+      → A w → A (asked_for n w session time_out has_byte).after
+
+-- The relation holds of connection n's small steps that answer, and of one step after another.
+pub record HoldsOfReplies (n : ℕ) (A : World → Type 0) (Q : Steps) : Type 0 where
+  pub thens : (w : World) (h : StepResult World) (next : World → StepResult World) → Q w h → Q h.after (next h.after)
+      → Q w (and_then h next)
+  pub stays : (w : World) → Q w (no_output w)
+  pub closes : (w : World) → A w → Q w (close_client n w)
+  pub sends : (w : World) (bytes : List ℕ) → Q w (record { outputs = ToClient n bytes ∷ []; after = w })
+  pub watches : (w : World) (watch : Watch) → A w
+      → Q w (no_output (with_watching w (with_watch n w.clients.watches watch)))
+  pub auths : (w : World) (scheme bytes : Option (List ℕ)) → A w
+      → Q w (no_output (with_sessions w (add_auth w.clients.sessions n scheme bytes).after))
+
+-- The same for the steps that forward a request of a session of its own, or hold one.
+pub record HoldsOfCalls (n : ℕ) (A : World → Type 0) (Own : ℤ → Type 0) (Q : Steps) : Type 0 where
+  pub touches : (w : World) (session : ℤ) → A w
+      → Q w (no_output (with_pending w (touch_session w.clients.pending session)))
+  pub leaves : (w : World) (k : OpenConnection) → finmap.get w.clients.connections n ≡ Some k → A w
+      → Q w (no_output (record w { clients = with_connection n (record k { is_leaving = true }) w.clients }))
+  pub writes : (w : World) (session : ℤ) (frame : List ℕ) (xid : ℤ) (kind : WriteKind) → Own session → A w
+      → Q w (forward_frame n session w frame (push_write w.clients.pending n xid kind))
+  pub syncs : (w : World) (session : ℤ) (frame : List ℕ) (xid : ℤ) (path : List ℕ) → Own session → A w
+      → Q w (forward_frame n session w frame (push_sync w.clients.pending n xid path))
+  pub holds : (w : World) (frame : List ℕ) → is_idle w.clients.pending n ≡ false → A w
+      → Q w (no_output (with_pending w (hold_frame w.clients.pending n frame)))
+
+-- The same for the steps of a connect, which may take up a session of which `May` holds: each that lives. Every session
+-- is the connection's own.
+pub record HoldsOfConnects (n : ℕ) (A : World → Type 0) (Own : ℤ → Type 0) (May : World → ℤ → Type 0) (Q : Steps) : Type 0 where
+  pub own : (session : ℤ) → Own session
+  pub counts : (w : World) → HasNone n w → A w
+      → Q w (no_output (with_sessions w (record w.clients.sessions { counter = w.clients.sessions.counter + 1 })))
+  pub gives : (w : World) (session time_out : ℤ) → NoConnect n w → May w session → A w
+      → Q w (given n w session time_out)
+  pub asks : (w : World) (session time_out : ℤ) (has_byte : Bool) → HasNone n w
+      → is_idle w.clients.pending n ≡ true → A w → Q w (asked_for n w session time_out has_byte)
+  pub may : (w : World) (session : ℤ) → is_live session w ≡ true → May w session
+
+-- The step keeps `A`, and the relation holds of it.
+pub record Makes (A : World → Type 0) (Q : Steps) (w : World) (h : StepResult World) : Type 0 where
+  pub keeps : A h.after
+  pub is : Q w h
+
+-- ---- facts of Booleans
+
+pub first_false : (a b : Bool) → (a || b) ≡ false → a ≡ false
+first_false true b e = absurd (true≢false e)
+first_false false b e = refl
+
+pub first_true : (a b : Bool) → (a && b) ≡ true → a ≡ true
+first_true true b e = refl
+first_true false b e = absurd (true≢false (sym e))
+
+pub none_is : {X : Type 0} (o : Option X) → is_some o ≡ false → o ≡ None
+none_is None e = refl
+none_is (Some x) e = absurd (true≢false e)
+
+pub no_session : (o : Option Joined) → session_in o ≡ None → o ≡ None
+no_session None e = refl
+no_session (Some c) e = absurd (true≢false (ap is_some e))
+
+-- A connection of which nothing waits has no connect that waits.
+pub idle_queue : (p : PendingTable) (n : ℕ) → is_idle p n ≡ true → queue_of p n ≡ []
+idle_queue p n e = by (finmap.get p.queues n) e
+  where
+    by : (o : Option RequestQueue) → not (is_some o) ≡ true → queue_in o ≡ []
+    by None e = refl
+    by (Some q) e = absurd (true≢false (sym e))
+
+pub idle_connect : (p : PendingTable) (n : ℕ) → is_idle p n ≡ true → waiting_connect (queue_of p n) ≡ None
+idle_connect p n e = ap waiting_connect (idle_queue p n e)
+
+pub heard_there : (o : Option OpenConnection) (k : OpenConnection) → heard_in o ≡ Some k → o ≡ Some k
+heard_there None k e = absurd (true≢false (sym (ap is_some e)))
+heard_there (Some c) k e = by c.is_leaving e
+  where
+    by : (b : Bool) → cond b None (Some c) ≡ Some k → Some c ≡ Some k
+    by true e = absurd (true≢false (sym (ap is_some e)))
+    by false e = e
+
+pub heard_open : (n : ℕ) (w : World) → is_unheard n w ≡ false → IsOpen n w
+heard_open n w e = by (finmap.get w.clients.connections n) e
+  where
+    by : (o : Option OpenConnection) → not (is_some (heard_in o)) ≡ false → is_some o ≡ true
+    by None e = absurd (true≢false e)
+    by (Some c) e = refl
+
+-- ---- replies
+
+module _ (n : ℕ) (Strict : Type 0) (A : World → Type 0) (Q : Steps) (ground : IsGround n Strict A)
+    (r : HoldsOfReplies n A Q) where
+  pub then_makes : (w : World) (h : StepResult World) (next : World → StepResult World) → Makes A Q w h
+      → (A h.after → Makes A Q h.after (next h.after)) → Makes A Q w (and_then h next)
+  then_makes w h next first second =
+      let rest = second first.keeps in record { keeps = rest.keeps; is = r.thens w h next first.is rest.is }
+
+  pub stay_makes : (w : World) → A w → Makes A Q w (no_output w)
+  stay_makes w a = record { keeps = a; is = r.stays w }
+
+  pub close_makes : (w : World) → A w → Makes A Q w (close_client n w)
+  close_makes w a = record { keeps = ground.closes w a; is = r.closes w a }
+
+  pub send_makes : (w : World) (frame : Option (List ℕ)) → A w → Makes A Q w (send_or_close n w frame)
+  send_makes w None a = close_makes w a
+  send_makes w (Some bytes) a = record { keeps = a; is = r.sends w bytes }
+
+  pub send_last_makes : (w : World) (frame : Option (List ℕ)) → A w → Makes A Q w (send_last n w frame)
+  send_last_makes w frame a =
+      then_makes w (send_or_close n w frame) (close_client n) (send_makes w frame a)
+      (close_makes (send_or_close n w frame).after)
+
+  -- ---- watches
+
+  watch_makes : (w : World) (watch : Watch) → (Strict → IsOpen n w) → A w
+      → Makes A Q w (no_output (with_watching w (with_watch n w.clients.watches watch)))
+  watch_makes w watch here a = record { keeps = ground.watches w watch here a; is = r.watches w watch a }
+
+  watch_each_makes : (w : World) (watches : List Watch) → (Strict → IsOpen n w) → A w
+      → Makes A Q w (no_output (with_watching w (with_each_watch n w.clients.watches watches)))
+  watch_each_makes w [] here a = stay_makes w a
+  watch_each_makes w (watch ∷ others) here a =
+      let v = with_watching w (with_watch n w.clients.watches watch) in
+      then_makes w (no_output v)
+      (λ u. no_output (with_watching u (with_each_watch n u.clients.watches others))) (watch_makes w watch here a)
+      (watch_each_makes v others here)
+
+  watch_if_makes : (w : World) (watch : Option Watch) → (Strict → IsOpen n w) → A w
+      → Makes A Q w (no_output (with_watching w (with_watch_if n w.clients.watches watch)))
+  watch_if_makes w None here a = stay_makes w a
+  watch_if_makes w (Some watch) here a = watch_makes w watch here a
+
+  notice_makes : (w : World) (event : Event) → A w → Makes A Q w (record { outputs = notice_to n event; after = w })
+  notice_makes w event a = by (reply_frame NOTIFICATION_XID (negsuc 0) (look_of_event event))
+    where
+      by : (frame : Option (List ℕ)) → Makes A Q w (record { outputs = sent_to n frame; after = w })
+      by None = stay_makes w a
+      by (Some bytes) = send_makes w (Some bytes) a
+
+  notices_make : (w : World) (events : List Event) → A w
+      → Makes A Q w (record { outputs = notices_to n events; after = w })
+  notices_make w [] a = stay_makes w a
+  notices_make w (event ∷ others) a =
+      then_makes w (record { outputs = notice_to n event; after = w })
+      (λ u. record { outputs = notices_to n others; after = u }) (notice_makes w event a) (notices_make w others)
+
+  renewed_makes : (w : World) (xid : ℤ) (r : Option Renewal) → (Strict → IsOpen n w) → A w
+      → Makes A Q w (answer_set_watches n w xid r)
+  renewed_makes w xid None here a =
+      send_makes w (reply_frame xid w.replica.learner.last_zxid (without_body BAD_ARGUMENTS)) a
+  renewed_makes w xid (Some r) here a =
+      let frame = reply_frame xid w.replica.learner.last_zxid (without_body OK) in
+      let v = with_watching w (with_each_watch n w.clients.watches r.watches) in
+      then_makes w (record { outputs = notices_to n r.events; after = w })
+      (λ u. and_then (no_output (with_watching u (with_each_watch n u.clients.watches r.watches)))
+      (λ x. send_or_close n x frame))
+      (notices_make w r.events a)
+      (λ b. then_makes w (no_output v) (λ x. send_or_close n x frame) (watch_each_makes w r.watches here b)
+      (send_makes v frame))
+
+  added_makes : (w : World) (xid : ℤ) (o : Option Watch) → (Strict → IsOpen n w) → A w
+      → Makes A Q w (answer_add_watch n w xid o)
+  added_makes w xid None here a =
+      send_makes w (reply_frame xid w.replica.learner.last_zxid (without_body BAD_ARGUMENTS)) a
+  added_makes w xid (Some watch) here a =
+      let frame = reply_frame xid w.replica.learner.last_zxid (without_body OK) in
+      let v = with_watching w (with_watch n w.clients.watches watch) in
+      then_makes w (no_output v) (λ u. send_or_close n u frame) (watch_makes w watch here a) (send_makes v frame)
+
+  read_makes : (w : World) (xid : ℤ) (watch : Option Watch) (frame : Option (List ℕ)) → (Strict → IsOpen n w) → A w
+      → Makes A Q w (send_or_close n (with_watching w (with_watch_if n w.clients.watches watch)) frame)
+  read_makes w xid watch frame here a =
+      let v = with_watching w (with_watch_if n w.clients.watches watch) in
+      then_makes w (no_output v) (λ u. send_or_close n u frame) (watch_if_makes w watch here a) (send_makes v frame)
+
+  -- ---- ids
+
+  shown_makes : (w : World) (xid : ℤ) (packet : AuthPacket) → (Strict → IsOpen n w) → A w
+      → Makes A Q w (send_auth_result n w xid (add_auth w.clients.sessions n packet.scheme packet.auth))
+  shown_makes w xid packet here a =
+      then_makes w (no_output v) (λ u. answered u shows.is_accepted)
+      (record {
+        keeps = ground.auths w packet.scheme packet.auth here a;
+        is = r.auths w packet.scheme packet.auth a;
+      })
+      (by shows.is_accepted)
+    where
+      shows : AuthResult
+      shows = add_auth w.clients.sessions n packet.scheme packet.auth
+
+      v : World
+      v = with_sessions w shows.after
+
+      answered : World → Bool → StepResult World
+      answered u b = cond b (send_or_close n u (reply_frame xid (pos 0) (without_body OK)))
+          (send_last n u (reply_frame xid (pos 0) (without_body AUTH_FAILED)))
+
+      by : (b : Bool) → A v → Makes A Q v (answered v b)
+      by true b = send_makes v (reply_frame xid (pos 0) (without_body OK)) b
+      by false b = send_last_makes v (reply_frame xid (pos 0) (without_body AUTH_FAILED)) b
+
+  auth_makes : (w : World) (xid : ℤ) (o : Option AuthPacket) → (Strict → IsOpen n w) → A w
+      → Makes A Q w (answer_auth n w xid o)
+  auth_makes w xid None here a =
+      send_makes w (reply_frame xid w.replica.learner.last_zxid (without_body BAD_ARGUMENTS)) a
+  auth_makes w xid (Some packet) here a = shown_makes w xid packet here a
+
+  -- ---- requests that are answered here
+
+  pub local_makes : (w : World) (xid : ℤ) (c : LocalCall) → (Strict → IsOpen n w) → A w
+      → Makes A Q w (handle_local n w xid c)
+  local_makes w xid (locals.Read r) here a =
+      let seen = look_at_state w.replica.tree (ids_of w.clients.sessions n) r in
+      read_makes w xid (watch_of r seen.error) (reply_frame xid w.replica.learner.last_zxid seen) here a
+  local_makes w xid (locals.SetWatches r) here a = renewed_makes w xid (renew_watches w.replica.tree r) here a
+  local_makes w xid (locals.AddWatch r) here a = added_makes w xid (watch_to_add r) here a
+  local_makes w xid locals.Unreadable here a =
+      send_makes w (reply_frame xid w.replica.learner.last_zxid (without_body BAD_ARGUMENTS)) a
+  local_makes w xid locals.Ping here a =
+      send_makes w (reply_frame PING_XID w.replica.learner.last_zxid (without_body OK)) a
+  local_makes w xid locals.Refused here a =
+      send_makes w (reply_frame xid w.replica.learner.last_zxid (without_body NOT_READ_ONLY)) a
+  local_makes w xid locals.Unknown here a =
+      send_last_makes w (reply_frame xid w.replica.learner.last_zxid (without_body UNIMPLEMENTED)) a
+
+  pub greet_makes : (w : World) (has_byte : Bool) (response : SessionResponse) → A w
+      → Makes A Q w (send_connect_response n has_byte response w)
+  greet_makes w has_byte response a =
+      let frame = Some (answer_to_connect response has_byte) in
+      cond_both (int_eq response.session_id (pos 0)) _ _ (Makes A Q w) (λ _. send_last_makes w frame a)
+      (λ _. send_makes w frame a)
+
+  -- ---- requests for the leader
+
+  module _ (Own : ℤ → Type 0) (q : HoldsOfCalls n A Own Q) where
+    abbrev HasRoom : World → Type 0
+    HasRoom w = is_full w.clients.pending n ≡ false
+
+    push_makes : (w : World) (session : ℤ) (frame : List ℕ) (xid : ℤ) (kind : WriteKind) → Own session → HasRoom w
+        → (Strict → IsOpen n w) → A w
+        → Makes A Q w (forward_frame n session w frame (push_write w.clients.pending n xid kind))
+    push_makes w session frame xid kind own room here a =
+        record { keeps = ground.writes w xid kind room here a; is = q.writes w session frame xid kind own a }
+
+    write_makes : (w : World) (session : ℤ) (frame : List ℕ) (xid : ℤ) (kind : WriteKind) → Own session → HasRoom w
+        → (Strict → IsOpen n w) → A w → Makes A Q w (handle_call n session w frame xid (bodies.Forward kind))
+    write_makes w session frame xid kind own room here a = by (is_close kind)
+      where
+        p : PendingTable
+        p = push_write w.clients.pending n xid kind
+
+        leaves : (o : Option OpenConnection) → finmap.get w.clients.connections n ≡ o
+            → Makes A Q w (forward_frame n session (with_leaving n w o) frame p)
+        leaves None e = push_makes w session frame xid kind own room here a
+        leaves (Some k) e =
+            let v = with_leaving n w (Some k) in
+            then_makes w (no_output v)
+            (λ u. forward_frame n session u frame (push_write u.clients.pending n xid kind))
+            (record { keeps = ground.opens w (record k { is_leaving = true }) a; is = q.leaves w k e a })
+            (push_makes v session frame xid kind own room
+            (λ strict. ap is_some (get-inserted w.clients.connections n (record k { is_leaving = true }))))
+
+        by : (b : Bool) → Makes A Q w
+            (forward_frame n session (cond b (with_leaving n w (finmap.get w.clients.connections n)) w) frame p)
+        by true = leaves (finmap.get w.clients.connections n) refl
+        by false = push_makes w session frame xid kind own room here a
+
+    hold_makes : (w : World) (frame : List ℕ) → HasRoom w → is_idle w.clients.pending n ≡ false → A w
+        → Makes A Q w (no_output (with_pending w (hold_frame w.clients.pending n frame)))
+    hold_makes w frame room busy a =
+        record { keeps = ground.holds w frame room busy a; is = q.holds w frame busy a }
+
+    call_makes : (w : World) (session : ℤ) (frame : List ℕ) (xid : ℤ) (b : CallBody) → Own session → HasRoom w
+        → (Strict → IsOpen n w) → A w → Makes A Q w (handle_call n session w frame xid b)
+    call_makes w session frame xid (bodies.Forward kind) own room here a =
+        write_makes w session frame xid kind own room here a
+    call_makes w session frame xid (bodies.Sync path) own room here a =
+        record { keeps = ground.syncs w xid path room here a; is = q.syncs w session frame xid path own a }
+    call_makes w session frame xid (bodies.Auth packet) own room here a = auth_makes w xid packet here a
+    call_makes w session frame xid (bodies.Local c) own room here a =
+        cond_both (is_idle w.clients.pending n) _ _ (Makes A Q w) (λ _. local_makes w xid c here a)
+        (λ busy. hold_makes w frame room busy a)
+
+    -- A frame of a connection that has a session.
+    pub serve_as_makes : (w : World) (session : ℤ) (frame : List ℕ) (c : Result Call Fault) → Own session → HasRoom w
+        → (Strict → IsOpen n w) → A w → Makes A Q w (serve_as n session w frame c)
+    serve_as_makes w session frame (Ok c) own room here a = call_makes w session frame c.xid c.body own room here a
+    serve_as_makes w session frame (Err e) own room here a = close_makes w a
+
+    touch_makes : (w : World) (session : ℤ) → A w
+        → Makes A Q w (no_output (with_pending w (touch_session w.clients.pending session)))
+    touch_makes w session a = record { keeps = ground.touches w session a; is = q.touches w session a }
+
+    touched_makes : (w : World) (o : Option ℤ) → A w → Makes A Q w (no_output (touched_as w o))
+    touched_makes w None a = stay_makes w a
+    touched_makes w (Some session) a = touch_makes w session a
+
+    -- A connection is served after its session was touched.
+    pub touched_first : (w : World) (next : World → StepResult World)
+        → ((p : PendingTable) → p.queues ≡ w.clients.pending.queues → A (with_pending w p)
+        → Makes A Q (with_pending w p) (next (with_pending w p)))
+        → A w → Makes A Q w (next (touch_client n w))
+    touched_first w next then a = by (session_of_connection w.clients.sessions n)
+      where
+        by : (o : Option ℤ) → Makes A Q w (next (touched_as w o))
+        by None = then w.clients.pending refl a
+        by (Some session) =
+            let p = touch_session w.clients.pending session in
+            then_makes w (no_output (with_pending w p)) next (touch_makes w session a) (then p refl)
+
+    -- ---- connects
+
+    module _ (May : World → ℤ → Type 0) (c : HoldsOfConnects n A Own May Q) where
+      pub give_makes : (w : World) (session time_out : ℤ) → (Strict → HasNone n w) → NoConnect n w
+          → (Strict → IsOpen n w) → May w session → A w → Makes A Q w (given n w session time_out)
+      give_makes w session time_out none free here may a = record {
+        keeps = ground.gives w session time_out none free here a;
+        is = c.gives w session time_out free may a;
+      }
+
+      ask_makes : (w : World) (has_byte : Bool) (response : SessionResponse) → HasNone n w
+          → is_idle w.clients.pending n ≡ true → (Strict → IsOpen n w) → A w
+          → Makes A Q w (ask_for_session n has_byte w response)
+      ask_makes w has_byte response none idle here a =
+          let waits = connecting_to w.clients.pending response.session_id in
+          cond_both (is_some waits) _ _ (Makes A Q w) (λ _. greet_makes w has_byte refusal_response a)
+          (λ free. record {
+            keeps = ground.asks w response.session_id response.time_out has_byte none idle (none_is waits free) here a;
+            is = c.asks w response.session_id response.time_out has_byte none idle a;
+          })
+
+      -- No connection gets a session at once.
+      named_makes : (w : World) (asked : Connecting) (response : SessionResponse) → HasNone n w
+          → is_idle w.clients.pending n ≡ true → (Strict → IsOpen n w) → A w
+          → Makes A Q w (finish_connect n w asked
+          (record { connected = record { response = response; older = None }; after = w.clients.sessions }))
+      named_makes w asked response none idle here a =
+          cond_both (is_new_session asked.request response) _ _ (Makes A Q w)
+          (λ _. ask_makes w asked.has_byte response none idle here a)
+          (λ _. touched_first w (λ u. send_connect_response n asked.has_byte response u)
+          (λ p _ b. greet_makes (with_pending w p) asked.has_byte response b) a)
+
+      name_makes : (w : World) (asked : Connecting) (time_out : ℤ) → HasNone n w
+          → is_idle w.clients.pending n ≡ true → (Strict → IsOpen n w) → A w
+          → Makes A Q w (finish_connect n w asked (name_session w.clients.sessions time_out))
+      name_makes w asked time_out none idle here a =
+          cond_both (s.counter == greatest_counter) _ _ (λ (x : ConnectResult). Makes A Q w (finish_connect n w asked x))
+          (λ _. named_makes w asked refusal_response none idle here a)
+          (λ below. then_makes w (no_output v) finished
+          (record { keeps = ground.counts w none below a; is = c.counts w none a })
+          (named_makes v asked response none idle here))
+        where
+          s : Sessions
+          s = w.clients.sessions
+
+          v : World
+          v = with_sessions w (record s { counter = s.counter + 1 })
+
+          response : SessionResponse
+          response = session_response s.terms (session_id_of s.terms.server_id (s.counter + 1)) time_out
+
+          finished : World → StepResult World
+          finished u = finish_connect n u asked
+              (record { connected = record { response = response; older = None }; after = u.clients.sessions })
+
+      -- A session that lives is taken up at once.
+      reconnect_makes : (w : World) (asked : Connecting) (session time_out : ℤ)
+          → int_eq asked.request.session_id (pos 0) ≡ false → HasNone n w → is_idle w.clients.pending n ≡ true
+          → (Strict → IsOpen n w) → is_live session w ≡ true → A w
+          → Makes A Q w (finish_connect n w asked (give_session w.clients.sessions n session time_out))
+      reconnect_makes w asked session time_out other none idle here live a =
+          cond_both (is_new_session asked.request x.connected.response) _ _ (Makes A Q w)
+          (λ new. absurd (true≢false (sym (first_true (int_eq asked.request.session_id (pos 0)) _ new) ∙ other)))
+          (λ _. by (session_of_connection x.after n))
+        where
+          x : ConnectResult
+          x = give_session w.clients.sessions n session time_out
+
+          greet : World → StepResult World
+          greet = send_connect_response n asked.has_byte x.connected.response
+
+          by : (o : Option ℤ)
+              → Makes A Q w (and_then (close_client_if_some (touched_as (with_sessions w x.after) o) x.connected.older) greet)
+          by None =
+              then_makes w (given n w session time_out) greet
+              (give_makes w session time_out (λ _. none) (idle_connect w.clients.pending n idle) here
+              (c.may w session live) a)
+              (greet_makes (given n w session time_out).after asked.has_byte x.connected.response)
+          by (Some touched) =
+              let v = with_pending w (touch_session w.clients.pending touched) in
+              then_makes w (no_output v)
+              (λ u. and_then (given n u session time_out) greet) (touch_makes w touched a)
+              (λ b. then_makes v (given n v session time_out) greet
+              (give_makes v session time_out (λ _. none) (idle_connect w.clients.pending n idle) here
+              (c.may v session live) b)
+              (greet_makes (given n v session time_out).after asked.has_byte x.connected.response))
+
+      finish_makes : (w : World) (asked : Connecting) → HasNone n w → is_idle w.clients.pending n ≡ true
+          → (Strict → IsOpen n w) → A w
+          → Makes A Q w (finish_connect n w asked
+          (connect_session w.clients.sessions n (is_live asked.request.session_id w) (session_request_of asked.request)))
+      finish_makes w asked none idle here a =
+          cond_both (int_eq session (pos 0)) _ _ Finishes
+          (λ _. name_makes w asked asked.request.time_out none idle here a)
+          (λ other. cond_both (is_valid s (is_live session w) (session_request_of asked.request)) _ _ Finishes
+          (λ valid. reconnect_makes w asked session asked.request.time_out other none idle here
+          (first_true (is_live session w) _ valid) a)
+          (λ _. named_makes w asked refusal_response none idle here a))
+        where
+          s : Sessions
+          s = w.clients.sessions
+
+          session : ℤ
+          session = asked.request.session_id
+
+          Finishes : ConnectResult → Type 0
+          Finishes x = Makes A Q w (finish_connect n w asked x)
+
+      connect_makes : (serving : Bool) (w : World) (r : Result Connecting Fault) → HasNone n w
+          → is_idle w.clients.pending n ≡ true → (Strict → IsOpen n w) → A w
+          → Makes A Q w (handle_connect serving n w r)
+      connect_makes serving w (Err e) none idle here a = close_makes w a
+      connect_makes serving w (Ok asked) none idle here a =
+          cond_both (may_connect serving w asked.request) _ _ (Makes A Q w)
+          (λ _. finish_makes w asked none idle here a) (λ _. close_makes w a)
+
+      -- ---- frames
+
+      serve_by_makes : (serving : Bool) (w : World) (frame : List ℕ) (o : Option ℤ)
+          → session_of_connection w.clients.sessions n ≡ o → HasRoom w → (Strict → IsOpen n w) → A w
+          → Makes A Q w (serve_by serving n w frame o)
+      serve_by_makes serving w frame None e room here a =
+          cond_both (is_idle w.clients.pending n) _ _ (Makes A Q w)
+          (λ idle. connect_makes serving w (connecting_in frame)
+          (no_session (finmap.get w.clients.sessions.connections n) e) idle here a)
+          (λ busy. hold_makes w frame room busy a)
+      serve_by_makes serving w frame (Some session) e room here a =
+          serve_as_makes w session frame (call_in frame) (c.own session) room here a
+
+      after_touch_makes : (serving : Bool) (w : World) (frame : List ℕ) → (Strict → IsOpen n w) → A w
+          → Makes A Q w (cond (is_refused_frame n w frame) (close_client n w)
+          (serve_by serving n w frame (session_of_connection w.clients.sessions n)))
+      after_touch_makes serving w frame here a =
+          cond_both (is_refused_frame n w frame) _ _ (Makes A Q w) (λ _. close_makes w a)
+          (λ taken. serve_by_makes serving w frame (session_of_connection w.clients.sessions n) refl
+          (first_false (is_full w.clients.pending n) (nat_lt (length frame) header_len) taken) here a)
+
+      pub serve_makes : (serving : Bool) (w : World) (frame : List ℕ) → (Strict → IsOpen n w) → A w
+          → Makes A Q w (serve_frame serving n w frame)
+      serve_makes serving w frame here a =
+          touched_first w
+          (λ v. cond (is_refused_frame n v frame) (close_client n v)
+          (serve_by serving n v frame (session_of_connection v.clients.sessions n)))
+          (λ p _ b. after_touch_makes serving (with_pending w p) frame here b) a
+
+      pub frames_make : (serving : Bool) (w : World) (fs : List (List ℕ)) → A w
+          → Makes A Q w (fold_steps (is_unheard n) (serve_frame serving n) w fs)
+      frames_make serving w [] a = stay_makes w a
+      frames_make serving w (f ∷ fs) a =
+          cond_both (is_unheard n w) _ _ (Makes A Q w) (λ _. stay_makes w a)
+          (λ heard. then_makes w (serve_frame serving n w f)
+          (λ v. fold_steps (is_unheard n) (serve_frame serving n) v fs)
+          (serve_makes serving w f (λ _. heard_open n w heard) a)
+          (λ b. frames_make serving (serve_frame serving n w f).after fs b))
+
+      -- ---- bytes
+
+      module _ (rests : (w : World) (k : OpenConnection) (rest : List ℕ) → A w
+          → Q w (no_output (with_waiting_bytes n w k rest))) where
+        rest_makes : (w : World) (k : OpenConnection) (rest : List ℕ) → A w
+            → Makes A Q w (no_output (with_waiting_bytes n w k rest))
+        rest_makes w k rest a = record { keeps = ground.opens w (record k { rest = rest }) a; is = rests w k rest a }
+
+        wait_makes : (w : World) (o : Option OpenConnection) (left : Unread) → A w
+            → Makes A Q w (wait_if_heard n w o left)
+        wait_makes w None left a = stay_makes w a
+        wait_makes w (Some k) (Ok rest) a = rest_makes w k rest a
+        wait_makes w (Some k) (Err f) a = close_makes w a
+
+        pub client_makes : (serving : Bool) (w : World) (o : Option OpenConnection) (bytes : List ℕ) → A w
+            → Makes A Q w (take_client_bytes serving n w o bytes)
+        client_makes serving w None bytes a = stay_makes w a
+        client_makes serving w (Some k) bytes a =
+            then_makes w (no_output v) (λ u. tell_or_serve serving n u came (word_at n w came)) (rest_makes w k [] a)
+            (by (word_at n w came))
+          where
+            came : List ℕ
+            came = k.rest ++ bytes
+
+            v : World
+            v = with_waiting_bytes n w k []
+
+            by : (o : Option Word) → A v → Makes A Q v (tell_or_serve serving n v came o)
+            by None b =
+                let found = items_in frames_of_client (place_at tt came) in
+                let h = fold_steps (is_unheard n) (serve_frame serving n) v found.found in
+                then_makes v h (wait_at n found.left.unread) (frames_make serving v found.found b)
+                (wait_makes h.after (heard_connection n h.after.clients) found.left.unread)
+            by (Some word) b = send_last_makes v (Some (reply_text word (figures_of serving v))) b
