@@ -168,7 +168,7 @@ impl Desk {
         self.fresh.as_slice()
     }
 
-    /// The ports that got outputs in the last turn, or whose inboxes may have been full.
+    /// The ports that got outputs in the last turn, or of which it took messages.
     pub fn told(&self) -> &[usize] {
         self.notes.told.as_slice()
     }

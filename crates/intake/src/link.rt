@@ -212,7 +212,8 @@ impl Link {
         if ended {
             notes.ended.push(number)?;
         }
-        if count == self.inbox.capacity() {
+        // What was taken may bring no output, and the thread waits to send on more.
+        if count != 0 {
             self.tell(number, notes)?;
         }
         Ok(())

@@ -9,7 +9,7 @@ use values::NoMemory;
 pub struct Notes {
     /// The turn's number; it ensures that a port is noted once a turn.
     pub turn: u64,
-    /// The ports whose threads are to be told: they got outputs, or their inboxes may have been full.
+    /// The ports whose threads are to be told: they got outputs, or messages of theirs were taken.
     pub told: Vec<usize>,
     /// The ports whose `End` was taken.
     pub ended: Vec<usize>,

@@ -2,7 +2,9 @@
 
 ghost use Rattle.txn_codec.specs.Spelling.{body_format};
 
-use crate::messages::{child_path, create, parent_path, write_connect, write_inform};
+use crate::messages::{
+    TIMEOUT, child_path, create, create_session, parent_path, write_connect, write_inform,
+};
 use anyhow::{Context, Result, ensure};
 use apply_workers::OpenGate;
 use batcher::{Limits, SpreadThreshold};
@@ -15,11 +17,14 @@ use std::time::{Duration, Instant};
 use txn_codec::{Body, Txn, TxnHeader};
 use values::{Blob, Bytes};
 
-// The session of all transactions.
+// The session of all transactions but those that create one.
 const SESSION: i64 = 7;
 
 /// The connection of a primed engine.
 pub const CONNECTION: u64 = 1;
+
+// The session of that connection: the first one of server 1.
+const FIRST_SESSION: i64 = 0x100_0000_0000_0001;
 
 /// The zxid before the first transaction of epoch 1.
 pub const EPOCH: i64 = 0x1_0000_0000;
@@ -36,6 +41,8 @@ pub struct Load {
     pub events: u64,
     // The zxid of the last transaction.
     zxid: i64,
+    // The session that was created last.
+    session: i64,
     // The bytes of the next message.
     message: Vec<u8>,
     // The engine's outputs, until they are counted.
@@ -61,6 +68,7 @@ impl Load {
             replies: 0,
             events: 0,
             zxid: EPOCH,
+            session: FIRST_SESSION,
             message: Vec::new(alloc),
             outputs: Vec::new(alloc),
             took: Duration::ZERO,
@@ -89,9 +97,16 @@ impl Load {
     pub fn add_inform(&mut self, alloc: Global, body: Body) -> Result<()>
         requires { body_format.Writable body }
     {
+        self.add_inform_of(alloc, SESSION, body)
+    }
+
+    // Adds the next transaction to the message; it is of this session.
+    fn add_inform_of(&mut self, alloc: Global, session: i64, body: Body) -> Result<()>
+        requires { body_format.Writable body }
+    {
         let zxid = self.zxid.checked_add(1).context("no zxid is left")?;
         let header = TxnHeader {
-            client_id: SESSION,
+            client_id: session,
             cxid: 1,
             zxid,
             time: 1000,
@@ -157,7 +172,7 @@ impl Load {
         Ok(())
     }
 
-    /// Feeds events of the leader other than transactions. The outputs may be packets to it, and closed clients.
+    /// Feeds events other than transactions. The outputs may be packets to the leader, and closed clients.
     pub fn happen(&mut self, alloc: Global, events: &[Event<'_>]) -> Result<()> {
         self.engine.feed_inline(alloc, events, &mut self.outputs)?;
         ensure!(
@@ -171,13 +186,29 @@ impl Load {
         Ok(())
     }
 
-    /// A client connects, and gets a session.
+    /// A client connects, and gets its session when the leader has created it.
     pub fn open(&mut self, alloc: Global, connection: u64) -> Result<()> {
-        let events = [Event::ClientUp(connection)];
-        self.engine.feed_inline(alloc, &events, &mut self.outputs)?;
         let mut frame = Vec::new(alloc);
         write_connect(alloc, &mut frame)?;
-        self.feed_client(alloc, connection, frame.as_slice())
+        let events = [
+            Event::ClientUp(connection),
+            Event::ClientBytes(connection, Bytes::new(frame.as_slice())),
+        ];
+        self.happen(alloc, &events)?;
+        self.create_session(alloc)
+    }
+
+    // The leader creates the next session, for which a connect waits, and that is answered.
+    fn create_session(&mut self, alloc: Global) -> Result<()> {
+        let session = self.session.checked_add(1).context("no session is left")?;
+        self.session = session;
+        self.message.clear();
+        self.add_inform_of(alloc, session, create_session(TIMEOUT))?;
+        let events = [Event::LeaderBytes(Bytes::new(self.message.as_slice()))];
+        self.engine.feed_inline(alloc, &events, &mut self.outputs)?;
+        let sent = self.take_sent()?;
+        self.replies = add_count(self.replies, sent)?;
+        Ok(())
     }
 
     // Creates the nodes below a parent.

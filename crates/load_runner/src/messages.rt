@@ -28,6 +28,9 @@ const REQUEST_LIMIT: usize = 1024;
 // The longest frame of a client, in bytes.
 const FRAME_LIMIT: usize = 1_048_575;
 
+/// The timeout of sessions, in milliseconds.
+pub const TIMEOUT: i32 = 10_000;
+
 /// The default data of a node.
 pub const CONTENT: &[u8] = b"0123456789abcdef";
 
@@ -98,6 +101,13 @@ pub fn set_data(alloc: Global, path: Path, content: &[u8]) -> Result<Body>
     })))
 }
 
+/// A createSession.
+pub fn create_session(time_out: i32) -> Body
+    ensures { body_format.Writable result }
+{
+    Body::CreateSession(time_out)
+}
+
 /// Appends the packet by which a leader sends a transaction. An error may leave a prefix of it appended.
 #[tactic(auto, unfolding(quorum_packet::specs::Packet::packet_format))]
 pub fn write_inform(alloc: Global, txn: &Txn, out: &mut Vec<u8>) -> Result<()>
@@ -148,7 +158,7 @@ pub fn write_connect(alloc: Global, out: &mut Vec<u8>) -> Result<()> {
     let request = ConnectRequest {
         protocol_version: 0,
         last_zxid_seen: 0,
-        time_out: 10_000,
+        time_out: TIMEOUT,
         session_id: 0,
         passwd: None,
     };

@@ -1,20 +1,19 @@
 //! A leader and a client over loopback.
 
 use crate::rows::{
-    CONNECTED_LEN, ack, ack_epoch, connect, create, diff_and_new_leader, get, got, leader_info,
-    observer_info, up_to_date,
+    ack, ack_epoch, connect, connected, create, create_session, diff_and_new_leader, get,
+    got_with_session, leader_info, observer_info, session_request, up_to_date,
 };
 use mio::net::TcpListener as ClientListener;
 use serve::{options_of, serve_on};
 use std::alloc::Global;
-use std::io::{Read, Write};
+use std::io::{self, Read, Write};
 use std::net::{Ipv4Addr, Net, SocketAddr, SocketAddrV4, TcpListener, TcpStream};
 use std::rt::Files;
 use std::sync::Wait;
 use std::test::Fail;
 use std::thread::{Builder, Threads};
 use std::time::{Clock, Duration};
-use std::{io, thread};
 
 // Reads this many bytes, and returns whether they are the expected ones.
 fn reads(stream: &TcpStream, wanted: &[u8]) -> io::Result<bool> {
@@ -50,38 +49,25 @@ fn connection<R: Net<Stream = TcpStream>>(rt: &R, port: u16) -> io::Result<TcpSt
     Ok(stream)
 }
 
-// Opens a session, and reads the node until it is there, this many times at most. Returns whether it got the expected
-// reply.
-fn ask<R: Net<Stream = TcpStream> + Clock>(rt: &R, port: u16) -> io::Result<bool> {
+// Opens a session, which the leader creates when it is asked to, and reads the node. Returns whether the leader and the
+// client got what they expected.
+fn ask<R: Net<Stream = TcpStream>>(rt: &R, leader: &TcpStream, port: u16) -> io::Result<bool> {
     let stream = connection(rt, port)?;
     writes(&stream, connect())?;
-    let mut connected = [0u8; CONNECTED_LEN];
-    let mut reader = &stream;
-    reader.read_exact(&mut connected)?;
-    for _ in 0..1000 {
-        writes(&stream, get())?;
-        let mut header = [0u8; 4];
-        reader.read_exact(&mut header)?;
-        // A reply without a body: the node isn't there yet.
-        if header != [0, 0, 0, 90] {
-            let mut rest = [0u8; 16];
-            reader.read_exact(&mut rest)?;
-            thread::sleep(rt, Duration::from_millis(10));
-            continue;
-        }
-        let rest = got().get(4..).unwrap_or(&[]);
-        return reads(&stream, rest);
-    }
-    Ok(false)
+    let is_asked = reads(leader, session_request())?;
+    writes(leader, create_session())?;
+    let is_connected = reads(&stream, connected())?;
+    writes(&stream, get())?;
+    Ok(reads(&stream, got_with_session())? && is_asked && is_connected)
 }
 
 // The leader's thread: it takes one observer, leads it, and leaves when a client has read the node.
-fn lead_one<R: Net<Stream = TcpStream> + Clock>(rt: &R, listener: TcpListener, port: u16) -> bool {
+fn lead_one<R: Net<Stream = TcpStream>>(rt: &R, listener: TcpListener, port: u16) -> bool {
     let Ok((stream, _)) = listener.accept() else {
         return false;
     };
     let is_led = lead(&stream).unwrap_or(false);
-    is_led && ask(rt, port).unwrap_or(false)
+    is_led && ask(rt, &stream, port).unwrap_or(false)
 }
 
 // Serves a leader and a client, as the words ask. Returns the exit status, and whether both got what they expected.

@@ -38,22 +38,45 @@ pub fn create() -> &'static [u8] {
     \0\0\0\x01\0\0\0\x1f\0\0\0\x05world\0\0\0\x06anyone\0\0\0\0\x01\xff\xff\xff\xff"
 }
 
-/// A client's connect for a new session, and the length of its answer.
+/// A client's connect for a new session.
 pub fn connect() -> &'static [u8] {
     b"\0\0\0\x2d\0\0\0\0\0\0\0\0\0\0\0\0\0\0\x27\x10\0\0\0\0\0\0\0\0\0\0\0\x10\
     \0\0\0\0\0\0\0\0\0\0\0\0\0\0\0\0\0"
 }
 
-pub const CONNECTED_LEN: usize = 41;
+/// The observer's request for the session, which is its first one.
+pub fn session_request() -> &'static [u8] {
+    b"\0\0\0\x01\xff\xff\xff\xff\xff\xff\xff\xff\0\0\0\x14\x01\0\0\0\0\0\0\x01\
+    \0\0\0\0\xff\xff\xff\xf6\0\0\x27\x10\xff\xff\xff\xff"
+}
+
+/// An INFORM of the createSession, with the zxid 0x100000002.
+pub fn create_session() -> &'static [u8] {
+    b"\0\0\0\x08\0\0\0\x01\0\0\0\x02\0\0\0\x24\x01\0\0\0\0\0\0\x01\0\0\0\0\
+    \0\0\0\x01\0\0\0\x02\0\0\0\0\0\0\x03\xe8\xff\xff\xff\xf6\0\0\x27\x10\xff\xff\xff\xff"
+}
+
+/// The answer to the connect, with the session's password.
+pub fn connected() -> &'static [u8] {
+    b"\0\0\0\x25\0\0\0\0\0\0\x27\x10\x01\0\0\0\0\0\0\x01\0\0\0\x10\
+    \xb2\x55\x6e\x64\x8a\xf6\x0c\x50\x3e\x95\xb6\x7c\x11\x24\x61\x8e\0"
+}
 
 /// A client's getData of /a, with xid 1 and without a watch.
 pub fn get() -> &'static [u8] {
     b"\0\0\0\x0f\0\0\0\x01\0\0\0\x04\0\0\0\x02/a\0"
 }
 
-/// The reply to it.
+/// The reply to it after the create.
 pub fn got() -> &'static [u8] {
     b"\0\0\0\x5a\0\0\0\x01\0\0\0\x01\0\0\0\x01\0\0\0\0\0\0\0\x02hi\0\0\0\x01\0\0\0\x01\
+    \0\0\0\x01\0\0\0\x01\0\0\0\0\0\0\x03\xe8\0\0\0\0\0\0\x03\xe8\0\0\0\0\0\0\0\0\
+    \0\0\0\0\0\0\0\0\0\0\0\0\0\0\0\x02\0\0\0\0\0\0\0\x01\0\0\0\x01"
+}
+
+/// The reply to it after the createSession.
+pub fn got_with_session() -> &'static [u8] {
+    b"\0\0\0\x5a\0\0\0\x01\0\0\0\x01\0\0\0\x02\0\0\0\0\0\0\0\x02hi\0\0\0\x01\0\0\0\x01\
     \0\0\0\x01\0\0\0\x01\0\0\0\0\0\0\x03\xe8\0\0\0\0\0\0\x03\xe8\0\0\0\0\0\0\0\0\
     \0\0\0\0\0\0\0\0\0\0\0\0\0\0\0\x02\0\0\0\0\0\0\0\x01\0\0\0\x01"
 }
