@@ -3,13 +3,14 @@
 The bytes are put together here from the records of zookeeper.jute, and what is wanted comes from what those records
 say, not from the program.
 """
-import hashlib
 import struct
 
+from connecting import connecting
 from fronts import fronts, one_byte_a_line
+from pending import forwarded_limit, forwarded_many
 from records import (
-    CREATE, EXISTS, GET_CHILDREN, GET_DATA, INFORM, NO_NODE, SET_DATA, SET_WATCHES, buffer, client, create, leader,
-    packet, reply, request, transaction,
+    CREATE, EXISTS, GET_CHILDREN, GET_DATA, INFORM, NO_NODE, SET_DATA, SET_WATCHES, buffer, client, create, joined,
+    leader, packet, reply, request, transaction,
 )
 
 # As many components as a path has that fills half of the longest frame of a client.
@@ -42,6 +43,7 @@ def deep_path():
 FIRST = 1 << 32  # the zxid of epoch 1 before its first transaction
 NODES = 100
 CONNECTIONS = (1, 2, 3)
+SESSIONS = len(CONNECTIONS) - 1  # that are created between the creates and the setDatas
 CHANGED = 3  # of an event's type and of the state in it
 
 
@@ -49,27 +51,17 @@ def path_of(node):
     return b"/n%02d" % node
 
 
-def joined(connection):
-    """The lines in which a connection opens and gets a session, and the line with its answer. The session's number is
-    that of the connection, and its password is made of its id, where there is no secret."""
-    session = struct.pack(">q", (3 << 56) + connection)
-    asked = buffer(struct.pack(">iqiq", 0, 0, 10000, 0) + buffer(bytes(16)))
-    answer = struct.pack(">ii", 0, 10000) + session + buffer(hashlib.sha1(session).digest()[:16])
-    lines = [b"client %d up" % connection, b"client %d " % connection + asked.hex().encode()]
-    return lines, b"C %d " % connection + buffer(answer).hex().encode()
-
-
 def shown(node, version):
-    """A node's Stat behind its create, or behind its setData, and the zxid of the last transaction of that event."""
+    """A node's Stat after its create, or after its setData, and the last zxid of then."""
     made = FIRST + 1 + node
-    changed = made + NODES * version
+    changed = made + (NODES + SESSIONS) * version
     stat = struct.pack(">qqqqiiiqiiq", made, changed, 1000, 1000, version, 0, 0, 0, 4, 0, made)
-    return stat, FIRST + NODES * (version + 1)
+    return stat, FIRST + NODES * (version + 1) + SESSIONS
 
 
 def read(number, node, version, connection):
     """A read with this xid: every other one is an exists, the rest are getDatas, and all leave watches on data. Its
-    frame and the line with the reply. A node's data is its path, and behind the setData that of the next node."""
+    frame and the line with the reply. A node's data is its path, and after the setData that of the next node."""
     stat, zxid = shown(node, version)
     body = buffer(path_of(node)) + b"\1"
     if number % 2:
@@ -105,12 +97,13 @@ def many_reads():
         zxid = FIRST + 1 + node
         made.append(packet(INFORM, zxid, transaction(zxid, CREATE, create(path_of(node), path_of(node)))))
         body = buffer(path_of(node)) + buffer(path_of((node + 1) % NODES)) + struct.pack(">i", 1)
-        changed.append(packet(INFORM, zxid + NODES, transaction(zxid + NODES, SET_DATA, body)))
+        zxid += NODES + SESSIONS
+        changed.append(packet(INFORM, zxid, transaction(zxid, SET_DATA, body)))
     script, wanted = [b"server 3", b"primed", leader(b"".join(made))], []
     for connection in CONNECTIONS[1:]:
-        lines, answer = joined(connection)
+        lines, answers = joined(connection, FIRST + NODES + connection - 1)
         script += lines
-        wanted.append(answer)
+        wanted += answers
     lines, answers = read_in_turn()
     script += [*lines, leader(b"".join(changed))]
     wanted += answers
@@ -121,10 +114,12 @@ def many_reads():
         line, answers = read_at_once(connection)
         script.append(line)
         wanted += answers
-    wanted.append(b"end zxid=0x%x paths=%d" % (FIRST + 2 * NODES, NODES + 3))
+    wanted.append(b"end zxid=0x%x paths=%d" % (FIRST + 2 * NODES + SESSIONS, NODES + 3))
     return b"\n".join([*script, b""]), b"\n".join([*wanted, b""])
 
 
 def rows():
     """Returns each row as name, script and wanted output."""
-    return [("deep-path", *deep_path()), ("many-reads", *many_reads()), *fronts(), one_byte_a_line()]
+    made = [("deep-path", *deep_path()), ("many-reads", *many_reads())]
+    made += [("forwarded-limit", *forwarded_limit()), ("forwarded-many", *forwarded_many())]
+    return [*made, *connecting(), *fronts(), one_byte_a_line()]

@@ -1,0 +1,119 @@
+"""An observer: what it sends for the events of a script, line by line as a replay prints them."""
+from clients import Clients, Connection
+from jute import Fault
+from learner import DOWN, SERVING, Learner
+
+
+class Observer:
+    def __init__(self, server=1, epochs=(0, 0), timeouts=(4000, 40000), secret=b"", primed=False):
+        self.out = []
+        self.learner = Learner(server, (1, 1) if primed else epochs)
+        self.clients = Clients(self.learner, timeouts, secret, self.out)
+        if primed:
+            self.learner.phase = SERVING
+            it = self.clients.open[1] = Connection()
+            it.session = self.clients.new_session()
+            for tree in (self.learner.tree, self.learner.base):
+                tree.sessions[it.session] = timeouts[1]
+
+    # ---- the leader
+
+    def leader_up(self):
+        if self.learner.phase == DOWN:
+            self.clients.to_leader(self.learner.met())
+
+    def leader(self, content):
+        if self.learner.phase == DOWN:
+            return
+        try:
+            for effect in self.learner.items(content):
+                self.told(effect)
+        except Fault as fault:
+            self.lost(fault)
+
+    def told(self, effect):
+        for content in effect.sent:
+            self.clients.to_leader(content)
+        for kind, path in effect.triggers:
+            self.clients.fire(kind, path)
+        if effect.ping:
+            self.clients.pinged(effect.ping)
+        elif effect.is_sync:
+            self.clients.synced()
+        elif effect.txn:
+            self.clients.applied(effect.txn, effect.error)
+
+    def leader_end(self):
+        if self.learner.phase != DOWN:
+            self.lost(Fault(1) if self.learner.is_cut() else None)
+
+    def lost(self, fault):
+        """The leader is gone, or was closed for a fault."""
+        if fault:
+            self.out.append("L close " + fault.told())
+        self.learner.left()
+        self.clients.close_all()
+
+    # ---- clients
+
+    def client_up(self, number):
+        self.clients.open.setdefault(number, Connection())
+
+    def client(self, number, content):
+        self.clients.take(number, content)
+
+    def client_end(self, number):
+        self.clients.drop(number)
+
+    # ---- the end
+
+    def ended(self):
+        return f"end zxid=0x{self.learner.last % 2**64:x} paths={len(self.learner.tree.nodes)}"
+
+
+def replayed(script):
+    """Returns what a replay of a script prints, as bytes. The script has no bad line."""
+    settings, events = {}, []
+    for line in script.split(b"\n"):
+        line = line.decode()
+        word, _, rest = line.partition(" ")
+        if not line or line.startswith("#"):
+            continue
+        if word == "server":
+            settings["server"] = int(rest)
+        elif word in ("epochs", "timeouts"):
+            settings[word] = tuple(int(it) for it in rest.split(" "))
+        elif word == "secret":
+            settings["secret"] = bytes.fromhex(rest)
+        elif word == "primed":
+            settings["primed"] = True
+        else:
+            events.append((word, rest))
+    observer = Observer(**settings)
+    for word, rest in events:
+        play(observer, word, rest)
+    return "\n".join([*observer.out, observer.ended(), ""]).encode()
+
+
+def play(observer, word, rest):
+    if word == "leader":
+        if rest == "up":
+            observer.leader_up()
+        elif rest == "end":
+            observer.leader_end()
+        else:
+            observer.leader(bytes.fromhex(rest))
+    elif word == "client":
+        number, _, rest = rest.partition(" ")
+        if rest == "up":
+            observer.client_up(int(number))
+        elif rest == "end":
+            observer.client_end(int(number))
+        else:
+            observer.client(int(number), bytes.fromhex(rest))
+    elif word == "expire":
+        observer.clients.expire(int.from_bytes(bytes.fromhex(rest), "big", signed=True))
+    elif word == "checkpoint":
+        observer.learner.checkpoint()
+    else:
+        raise ValueError(f"{word} {rest}")

@@ -1,0 +1,125 @@
+"""Rows in which many requests of clients wait for the leader."""
+import struct
+
+from records import (
+    AUTH, CREATE, ERROR, EXISTS, INFORM, NODE_EXISTS, NO_NODE, OPEN_ACL, SYNC, SYNCED, buffer, client, create,
+    forwarded, from_client, joined, leader, packet, reply, request, session_of, transaction,
+)
+
+FIRST = 1 << 32  # the zxid of epoch 1 before its first transaction
+LIMIT = 1024  # of the requests of one connection that wait
+PING = request(-2, 11, b"")
+CREATED, CONNECTED = 1, 3  # an event's type, and the state in it
+
+
+def asked_create(xid, path):
+    """A client's frame that creates a node with the data "hi"."""
+    return request(xid, CREATE, buffer(path) + buffer(b"hi") + OPEN_ACL + struct.pack(">i", 0))
+
+
+def applied(number, kind, body, connection, xid):
+    """The INFORM of the transaction of that number, of a request of the connection's session with that xid."""
+    zxid = FIRST + number
+    return packet(INFORM, zxid, transaction(zxid, kind, body, session_of(connection), xid))
+
+
+def refused(number, connection, xid):
+    """The INFORM by which a create fails, as the node is there."""
+    return applied(number, ERROR, struct.pack(">i", NODE_EXISTS), connection, xid)
+
+
+def forwarded_limit():
+    """1,024 requests of a connection may wait, writes and frames that are held: each is answered in its turn. The next
+    frame closes the connection, also an auth, which wouldn't wait; what was forwarded is answered to nobody then."""
+    first = asked_create(1, b"/a")
+    creates = [asked_create(xid, b"/b%04d" % xid) for xid in range(2, LIMIT + 2)]
+    shown = request(-4, AUTH, struct.pack(">i", 0) + buffer(b"digest") + buffer(b"super:admin"))
+    script = [
+        b"server 3",
+        b"primed",
+        from_client(first + PING * (LIMIT - 1)),
+        leader(applied(1, CREATE, create(b"/a"), 1, 1)),
+        from_client(b"".join(creates)),
+        leader(refused(2, 1, 2)),
+        from_client(PING),
+        from_client(shown + PING),
+        leader(refused(3, 1, 3)),
+        b"",
+    ]
+    wanted = [forwarded(session_of(1), first), reply(1, FIRST + 1, 0, buffer(b"/a"))]
+    wanted += [reply(-2, FIRST + 1, 0)] * (LIMIT - 1)
+    wanted += [forwarded(session_of(1), frame) for frame in creates]
+    wanted += [reply(2, FIRST + 2, NODE_EXISTS), b"C 1 close", b"end zxid=0x100000003 paths=4", b""]
+    return b"\n".join(script), b"\n".join(wanted)
+
+
+TURNS = 40
+CONNECTIONS = (1, 2, 3)
+SESSIONS = len(CONNECTIONS) - 1  # that are created first
+STRANGER = 4  # the number of a session that no connection here has
+IN_TURN = (1, STRANGER, 2, 3)  # whose creates the leader does in a turn, in this order
+
+
+def path_of(turn, owner):
+    return b"/n%02d-%d" % (turn, owner)
+
+
+def asked_in_turns(connection):
+    """The frames of a connection: in each turn a create and, for connection 3, a sync of its path, else an exists."""
+    frames = []
+    for turn in range(TURNS):
+        path = path_of(turn, connection)
+        frames.append(asked_create(2 * turn + 1, path))
+        if connection == 3:
+            frames.append(request(2 * turn + 2, SYNC, buffer(path)))
+        else:
+            frames.append(request(2 * turn + 2, EXISTS, buffer(path) + b"\0"))
+    return frames
+
+
+def done_in_turn(turn):
+    """What the leader sends in a turn: four creates with one xid, and the SYNC for connection 3 before its create."""
+    sent = []
+    for at, owner in enumerate(IN_TURN, SESSIONS + 4 * turn + 1):
+        if owner == 3:
+            sent.append(packet(SYNCED, 0))
+        sent.append(applied(at, CREATE, create(path_of(turn, owner)), owner, 2 * turn + 1))
+    return b"".join(sent)
+
+
+def told_in_turn(turn):
+    """What clients are told in a turn. Connection 3 has watched for the node of the stranger."""
+    lines = []
+    for zxid, owner in enumerate(IN_TURN, FIRST + SESSIONS + 4 * turn + 1):
+        path = buffer(path_of(turn, owner))
+        if owner == STRANGER:
+            lines.append(reply(-1, -1, 0, struct.pack(">ii", CREATED, CONNECTED) + path, 3))
+            continue
+        stat = struct.pack(">qqqqiiiqiiq", zxid, zxid, 1000, 1000, 0, 0, 0, 0, 2, 0, zxid)
+        lines.append(reply(2 * turn + 1, zxid, 0, path, owner))
+        lines.append(reply(2 * turn + 2, zxid, 0, path if owner == 3 else stat, owner))
+    return lines
+
+
+def forwarded_many():
+    """Three connections have 40 writes each on the way, with reads and syncs between them. One event of the leader has
+    their transactions, those of a stranger and the SYNCs: each write is answered after its own transaction, and what
+    was asked after it on its connection before the leader's next one."""
+    script, wanted = [b"server 3", b"primed"], []
+    for number, connection in enumerate(CONNECTIONS[1:], 1):
+        lines, answers = joined(connection, FIRST + number)
+        script += lines
+        wanted += answers
+    for turn in range(TURNS):
+        script.append(client(1000 + turn, EXISTS, buffer(path_of(turn, STRANGER)) + b"\1", 3))
+        wanted.append(reply(1000 + turn, FIRST + SESSIONS, NO_NODE, connection=3))
+    for connection in CONNECTIONS:
+        frames = asked_in_turns(connection)
+        script.append(from_client(b"".join(frames), connection))
+        is_sent = frames if connection == 3 else frames[::2]
+        wanted += [forwarded(session_of(connection), frame) for frame in is_sent]
+    script += [leader(b"".join(done_in_turn(turn) for turn in range(TURNS))), b""]
+    for turn in range(TURNS):
+        wanted += told_in_turn(turn)
+    wanted += [b"end zxid=0x%x paths=%d" % (FIRST + SESSIONS + 4 * TURNS, 3 + 4 * TURNS), b""]
+    return b"\n".join(script), b"\n".join(wanted)
