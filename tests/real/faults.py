@@ -229,6 +229,8 @@ def one_that_does_not_read(bench):
     assert held < MOST_HELD, f"{held} KiB are held for a client that doesn't read"
     for _ in range(sent):
         assert greedy.frame(20), "what was asked for doesn't come"
+        # Others are served meanwhile; one that said nothing for its timeout would be closed.
+        assert served.stat("/") is not None
     greedy.close()
     served.leave()
     writer.stop()

@@ -129,6 +129,22 @@ class Process:
         return "\n".join(self.log.read_text(errors="replace").splitlines()[-lines:])
 
 
+def library(port, seconds=10, **how):
+    """Returns a kazoo client with a session of this timeout at a port."""
+    from kazoo.client import KazooClient
+
+    client = KazooClient(f"127.0.0.1:{port}", timeout=seconds, **how)
+    client.start(15)
+    return client
+
+
+def ended(*clients):
+    """Ends kazoo clients, with their sessions."""
+    for it in clients:
+        it.stop()
+        it.close()
+
+
 class Leader:
     """A real leader, which keeps its folder and ports when it is started again."""
 
@@ -172,13 +188,13 @@ class Leader:
 class Observer:
     """The observer under test, behind a leader's port."""
 
-    def __init__(self, program, folder, name="observer"):
-        self.program, self.folder, self.name = program, folder, name
+    def __init__(self, program, folder, name="observer", number=OBSERVER_ID):
+        self.program, self.folder, self.name, self.number = program, folder, name, number
         self.process, self.client = None, None
 
     def start(self, quorum, client=0, *options):
         """Starts it, and waits until it says on which port it serves."""
-        words = [*self.program, "serve", "--leader", quorum, "--client", client, "--id", OBSERVER_ID, "--log", *options]
+        words = [*self.program, "serve", "--leader", quorum, "--client", client, "--id", self.number, "--log", *options]
         self.out = self.folder / f"{self.name}.out"
         with open(self.out, "wb") as out:
             self.process = Process(self.name, words, self.folder, stdout=out)

@@ -6,7 +6,6 @@ import subprocess
 import time
 
 from kazoo.client import KazooClient
-from kazoo.exceptions import NotReadOnlyCallError, UnimplementedError
 
 from lab import JARS, JAVA, Failed, until, zxid_of
 from proxy import Proxy
@@ -99,7 +98,7 @@ def c_client(bench):
 
 
 def c_client_watches(bench):
-    """cli_mt leaves a watch by `wexists`, is told, and is refused a create with -119."""
+    """cli_mt leaves a watch by `wexists`, and is told; it makes a node, and is told that its watch there has fired."""
     writer = made(bench)
     with Shell([C_CLIENT, f"127.0.0.1:{bench.observer.client}"], bench.folder, "cli-watch") as shell:
         shell.waits("CONNECTED_STATE")
@@ -107,9 +106,14 @@ def c_client_watches(bench):
         time.sleep(0.5)
         writer.create(f"{READS}/later", b"")
         shell.waits("CREATED_EVENT")
-        shell.say(f"create {READS}/refused")
-        shell.waits("rc = -119")
+        shell.say(f"wexists {READS}/of-c")
+        time.sleep(0.5)
+        shell.say(f"create {READS}/of-c")
+        shell.waits(f"name = {READS}/of-c")
+        until("it is told of its node", lambda: shell.output().count("CREATED_EVENT") == 2)
         shell.ends()
+    writer.sync("/")
+    assert writer.exists(f"{READS}/of-c")
     writer.stop()
 
 
@@ -151,38 +155,41 @@ def java_comes_back(bench):
         writer.stop()
 
 
-def java_is_refused(bench):
-    """What a client may not change here it is refused, and the connection stays."""
+def java_writes(bench):
+    """ZooKeeperMain syncs, makes nodes, sets one and sees it, deletes one; its ephemeral goes when it ends."""
     writer = made(bench)
     with java(bench.observer.client, bench.folder, "java-write") as shell:
         shell.waits("SyncConnected")
-        shell.say(f"set {READS} x")
-        shell.waits("Not a read-only call")
-        shell.say(f"get {READS}")
-        shell.waits("data of this node")
+        shell.say(f"sync {READS}")
+        shell.waits("Sync is OK")
+        shell.say(f"create {READS}/of-java made")
+        shell.waits(f"Created {READS}/of-java")
+        shell.say(f"create -e {READS}/held")
+        shell.waits(f"Created {READS}/held")
+        shell.say(f"set {READS}/of-java data-after-the-set")
+        shell.say(f"get {READS}/of-java")
+        shell.waits("data-after-the-set")
+        shell.say(f"delete {READS}/a")
+        shell.say(f"get {READS}/a")
+        shell.waits("Node does not exist")
+        writer.sync("/")
+        assert writer.get(f"{READS}/of-java")[0] == b"data-after-the-set"
+        assert writer.exists(f"{READS}/held") and not writer.exists(f"{READS}/a")
         shell.ends()
+    until("its ephemeral is gone", lambda: not writer.exists(f"{READS}/held"))
     writer.stop()
 
 
-def kazoo_is_refused(bench):
-    """Changes and sync raise NotReadOnlyCallError; after what 3.4 hasn't got kazoo has to come back."""
+def kazoo_syncs(bench):
+    """After a sync a client reads here what was written at the leader before it, in each of 100 rounds."""
     writer, client = made(bench), KazooClient(f"127.0.0.1:{bench.observer.client}", timeout=10)
     client.start(15)
-    calls = [lambda: client.create(f"{READS}/new", b""), lambda: client.set(READS, b""), lambda: client.sync(READS)]
-    calls += [lambda: client.delete(f"{READS}/a"), lambda: client.set_acls(READS, client.get_acls(READS)[0])]
-    for call in calls:
-        try:
-            call()
-            raise AssertionError("a change is taken")
-        except NotReadOnlyCallError:
-            pass
-    assert client.get(READS)[0] == b"data of this node"
-    try:
-        client.create(f"{READS}/new", b"", include_data=True)
-        raise AssertionError("create2 is answered")
-    except UnimplementedError:
-        pass
-    assert client.retry(client.get, READS)[0] == b"data of this node"
+    for round_number in range(100):
+        data = b"%d" % round_number
+        writer.set(f"{READS}/a", data)
+        synced, read = client.sync_async(READS), client.get_async(f"{READS}/a")
+        assert synced.get(10) == READS
+        assert read.get(10)[0] == data
     for it in (client, writer):
         it.stop()
         it.close()
@@ -208,5 +215,5 @@ def kazoo_keeps_its_session(bench):
     Raw(bench.observer.client).leave()
 
 
-CHECKS = [c_client, c_client_watches, java_client, java_comes_back, java_is_refused, kazoo_is_refused]
-CHECKS += [kazoo_keeps_its_session]
+CHECKS = [c_client, c_client_watches, java_client, java_comes_back, java_writes]
+CHECKS += [kazoo_syncs, kazoo_keeps_its_session]

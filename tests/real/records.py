@@ -6,9 +6,10 @@ import threading
 from kazoo.client import KazooClient
 
 from lab import Observer, zxid_of
-from raw import Raw, boolean, buffer, int32, text
+from raw import Raw, buffer, int32, text
 
-SET_DATA, CLIENTS, REQUESTS = 5, 5, 200
+SET_DATA, SYNC = 5, 9
+CLIENTS, REQUESTS = 5, 200
 
 
 class Kept(Raw):
@@ -26,18 +27,20 @@ class Kept(Raw):
 
 
 def reads(client, chosen):
-    """Asks for what comes to mind, watches some of it, and is refused a change now and then."""
+    """Asks for what comes to mind, watches some of it, and asks for syncs and changes."""
     for _ in range(REQUESTS):
         path = f"/records/{chosen.randrange(12)}"
-        what = chosen.randrange(4)
+        what = chosen.randrange(5)
         if what == 0:
             client.data(path, True)
         elif what == 1:
             client.stat(path, True)
         elif what == 2:
             client.children("/records", True)
+        elif what == 3:
+            client.call(SYNC, text(path))
         else:
-            client.call(SET_DATA, text(path) + buffer(b"x") + int32(-1) + boolean(False))
+            client.call(SET_DATA, text(path) + buffer(b"x") + int32(-1))
 
 
 def changes(writer, chosen):

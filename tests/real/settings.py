@@ -1,7 +1,7 @@
 """What a later leader writes past 3.4 is refused: each setting that keeps it from that is needed."""
 from kazoo.client import KazooClient
 
-from lab import DIALECT, JARS, JAVA, Leader, Observer, Process
+from lab import DIALECT, JARS, JAVA, Leader, Observer, Process, until, word
 
 DIGEST, CLOSE_SESSION = DIALECT
 
@@ -14,7 +14,8 @@ def fault_of(bench, name, dialect, cause):
     try:
         leader.start(dialect)
         observer.start(leader.quorum)
-        observer.reaches(0)
+        # Opening a session there would be a transaction too.
+        until("the observer serves", lambda: word(observer.client, "isro") == "rw")
         client = KazooClient(f"127.0.0.1:{leader.client}")
         client.start(15)
         cause(client, leader)

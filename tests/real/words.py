@@ -1,5 +1,6 @@
 """The six four-letter words, against what the leader says of the same tree."""
 import socket
+import time
 
 from kazoo.client import KazooClient
 
@@ -24,9 +25,14 @@ def srvr(bench):
     for number in range(30):
         client.create(f"/words-{number}", b"", ephemeral=number % 2 == 0)
     client.create("/words", b"")
-    bench.observer.reaches(zxid_of(bench.leader.client))
-    lines = word(bench.observer.client, "srvr").splitlines()
-    theirs = {it.partition(": ")[0]: it.partition(": ")[2] for it in word(bench.leader.client, "srvr").splitlines()}
+    # A session of an earlier check may end meanwhile, which is a transaction too.
+    for _ in range(100):
+        bench.observer.reaches(zxid_of(bench.leader.client))
+        lines = word(bench.observer.client, "srvr").splitlines()
+        theirs = {it.partition(": ")[0]: it.partition(": ")[2] for it in word(bench.leader.client, "srvr").splitlines()}
+        if lines[1] == f"Zxid: {theirs['Zxid']}":
+            break
+        time.sleep(0.1)
     assert lines[0] == "Connections: 0", lines
     assert lines[1] == f"Zxid: {theirs['Zxid']}", lines
     assert lines[2] == "Mode: observer", lines

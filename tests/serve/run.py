@@ -2,8 +2,9 @@
 """tests/serve/run.py [PROGRAM]: faults over sockets, tried at `serve` of the built program.
 
 It plays a small leader and many clients: some are reset, some are cut in the middle of a frame, some say nothing, some
-don't read, some send what is no frame; and leaders that fault, or end in the middle of an image. PROGRAM is
-crates/replay_runner/out/replay_runner where none is named. The last line is `N passed, M failed`.
+don't read, some send what is no frame, some go while their session or a write of theirs waits for the leader; and
+leaders that fault, or end in the middle of an image. PROGRAM is crates/replay_runner/out/replay_runner where none is
+named. The last line is `N passed, M failed`.
 """
 import os
 import random
@@ -17,187 +18,17 @@ import threading
 import time
 
 sys.dont_write_bytecode = True
-
-TOP = os.path.dirname(os.path.dirname(os.path.dirname(os.path.realpath(__file__))))
-PROGRAM = os.path.join(TOP, "crates", "replay_runner", "out", "replay_runner")
-
-hexa = bytes.fromhex
-
-# What a leader of epoch 1 sends to an observer that has nothing, and what it is answered.
-LEADERINFO = hexa("00000011 0000000100000000 00000004 00010000 ffffffff")
-DIFF = hexa("0000000d 0000000000000000 ffffffff ffffffff")
-SNAP = hexa("0000000f 0000000100000000 ffffffff ffffffff")
-NEWLEADER = hexa("0000000a 0000000100000000 ffffffff ffffffff")
-UPTODATE = hexa("0000000c 0000000100000000 ffffffff ffffffff")
-OBSERVERINFO = hexa("00000010 0000000000000000 0000000c 0000000000000001 00010000 ffffffff")
-ACKEPOCH = hexa("00000012 0000000000000000 00000004 00000000 ffffffff")
-ACK = hexa("00000003 0000000100000000 ffffffff ffffffff")
-
-# An INFORM of a create of /a with the data "hi", a getData of it, and its answer.
-CREATE = hexa(
-    "00000008 0000000100000001 0000004c 0000000000000007 00000001 0000000100000001 00000000000003e8 00000001"
-    "00000002 2f61 00000002 6869 00000001 0000001f 00000005 776f726c64 00000006 616e796f6e65 00 00000001 ffffffff"
+import forwarded  # noqa: E402
+from leader import CLOSE_SESSION, CREATE, ERROR, EPOCH_1, received  # noqa: E402
+from server import (  # noqa: E402
+    ACKEPOCH, CONNECT, CONNECTED_LEN, GET, GOT_LEN, LEADERINFO, OBSERVERINFO, PING, PINGED_LEN, SNAP, UPTODATE, Server,
+    got, hexa, is_closed, reset, wait_until,
 )
-GET = hexa("0000000f 00000001 00000004 00000002 2f61 00")
-GOT = hexa(
-    "0000005a 00000001 0000000100000001 00000000 00000002 6869 0000000100000001 0000000100000001"
-    "00000000000003e8 00000000000003e8 00000000 00000000 00000000 0000000000000000 00000002 00000000 0000000100000001"
-)
-CONNECT = hexa("0000002d 00000000 0000000000000000 00002710 0000000000000000 00000010") + bytes(17)
-CONNECTED_LEN = 41
-PING = hexa("00000008 fffffffe 0000000b")
-PINGED_LEN = 20
-
-
-def received(connection, count):
-    """Returns so many bytes, or fewer where the connection ends before."""
-    found = b""
-    while len(found) < count:
-        piece = connection.recv(min(count - len(found), 1 << 20))
-        if not piece:
-            break
-        found += piece
-    return found
-
-
-def is_closed(connection):
-    """Returns whether the peer has closed, or does so within the time limit, and sends nothing before."""
-    try:
-        return connection.recv(1) == b""
-    except ConnectionError:
-        return True
-
-
-def reset(connection):
-    """Closes a connection so that the peer sees a reset."""
-    connection.setsockopt(socket.SOL_SOCKET, socket.SO_LINGER, struct.pack("ii", 1, 0))
-    connection.close()
-
-
-def wait_until(holds, seconds):
-    """Returns whether something holds within so many seconds."""
-    until = time.monotonic() + seconds
-    while not holds():
-        if time.monotonic() > until:
-            return False
-        time.sleep(0.01)
-    return True
-
-
-class Server:
-    """A leader, and the program that follows it."""
-
-    def __init__(self, *words, serves=True, limit=None):
-        self.leader_socket = socket.socket()
-        self.leader_socket.bind(("127.0.0.1", 0))
-        self.leader_socket.listen(5)
-        self.leader_socket.settimeout(10)
-        leader_port = str(self.leader_socket.getsockname()[1])
-        self.program = subprocess.Popen(
-            [PROGRAM, "serve", "--leader", leader_port, "--client", "0", *words],
-            stdout=subprocess.PIPE,
-            stderr=subprocess.PIPE,
-            preexec_fn=limit,
-        )
-        self.leader, _ = self.leader_socket.accept()
-        self.leader.settimeout(10)
-        line = self.program.stdout.readline()
-        assert line.startswith(b"serving "), line
-        self.port = int(line.split()[1])
-        if serves:
-            self.handshake()
-
-    def handshake(self):
-        assert received(self.leader, len(OBSERVERINFO))[-12:] == OBSERVERINFO[-12:]
-        self.leader.sendall(LEADERINFO)
-        assert received(self.leader, len(ACKEPOCH)) == ACKEPOCH
-        self.leader.sendall(DIFF + NEWLEADER)
-        assert received(self.leader, len(ACK)) == ACK
-        self.leader.sendall(UPTODATE)
-        assert received(self.leader, len(ACK)) == ACK
-        self.leader.sendall(CREATE)
-        # Whoever is served after this sees the node.
-        client = self.client()
-        assert wait_until(lambda: self.asks(client) == GOT, 5)
-        client.close()
-
-    def asks(self, client):
-        client.sendall(GET)
-        reply = received(client, 20)
-        return reply + received(client, 4 + int.from_bytes(reply[:4], "big") - len(reply))
-
-    def connection(self):
-        """Returns a connection that has said nothing yet."""
-        connection = socket.create_connection(("127.0.0.1", self.port), 10)
-        connection.setsockopt(socket.IPPROTO_TCP, socket.TCP_NODELAY, 1)
-        return connection
-
-    def client(self):
-        """Returns a connection with a session."""
-        connection = self.connection()
-        connection.sendall(CONNECT)
-        assert len(received(connection, CONNECTED_LEN)) == CONNECTED_LEN
-        return connection
-
-    def is_serving(self):
-        """Returns whether a new client gets its answer."""
-        try:
-            with self.client() as client:
-                return self.asks(client) == GOT
-        except (AssertionError, ConnectionError):
-            return False
-
-    def threads(self):
-        return len(os.listdir(f"/proc/{self.program.pid}/task"))
-
-    def descriptors(self):
-        return len(os.listdir(f"/proc/{self.program.pid}/fd"))
-
-    def memory(self):
-        """Returns how many megabytes it holds."""
-        with open(f"/proc/{self.program.pid}/statm", encoding="ascii") as it:
-            return int(it.read().split()[1]) * 4096 / 1e6
-
-    def processor(self):
-        """Returns how many seconds of a processor it has used."""
-        with open(f"/proc/{self.program.pid}/stat", encoding="ascii") as it:
-            fields = it.read().rpartition(")")[2].split()
-        return (int(fields[11]) + int(fields[12])) / os.sysconf("SC_CLK_TCK")
-
-    def is_at_base(self, seconds=5):
-        """Returns whether only the leader's thread, the acceptor's and the main one are left."""
-        return wait_until(lambda: self.threads() == 3, seconds)
-
-    def ends(self, status=0, seconds=1.0):
-        """The leader goes. Returns what standard error was told, where the program ends so and in time."""
-        began = time.monotonic()
-        self.leader.close()
-        self.leader_socket.close()
-        _, errors = self.program.communicate(timeout=20)
-        took = time.monotonic() - began
-        assert self.program.returncode == status, f"status {self.program.returncode}: {errors.decode()}"
-        assert took < seconds, f"it took {took:.2f} s to end"
-        return errors.decode()
-
-    def kill(self):
-        if self.program.poll() is None:
-            self.program.kill()
-            self.program.wait()
-        self.program.stdout.close()
-        self.program.stderr.close()
-        self.leader.close()
-        self.leader_socket.close()
-
-    def __enter__(self):
-        return self
-
-    def __exit__(self, *_):
-        self.kill()
 
 
 def run(*words):
     """Runs the program to its end. Returns its status and what standard error was told."""
-    ran = subprocess.run([PROGRAM, "serve", *words], stdin=subprocess.DEVNULL, capture_output=True, timeout=20)
+    ran = subprocess.run([Server.PROGRAM, "serve", *words], stdin=subprocess.DEVNULL, capture_output=True, timeout=20)
     return ran.returncode, ran.stderr.decode()
 
 
@@ -258,7 +89,7 @@ def test_names_and_addresses():
         leader.bind(("127.0.0.1", 0))
         leader.listen(5)
         words = ["--leader", f"localhost:{leader.getsockname()[1]}", "--client", "127.0.0.1:0", "--id", "7"]
-        program = subprocess.Popen([PROGRAM, "serve", *words], stdout=subprocess.PIPE, stderr=subprocess.PIPE)
+        program = subprocess.Popen([Server.PROGRAM, "serve", *words], stdout=subprocess.PIPE, stderr=subprocess.PIPE)
         connection, _ = leader.accept()
         found = received(connection, len(OBSERVERINFO))
         assert found == OBSERVERINFO.replace(hexa("0000000000000001 00010000"), hexa("0000000000000007 00010000"))
@@ -277,9 +108,9 @@ def test_frames_come_in_pieces():
             client.sendall(GET[:at])
             time.sleep(0.002)
             client.sendall(GET[at:])
-            assert received(client, len(GOT)) == GOT
+            assert got(client)
         client.sendall(PING * 100 + GET)
-        assert received(client, 100 * PINGED_LEN + len(GOT)).endswith(GOT)
+        assert len(received(client, 100 * PINGED_LEN)) == 100 * PINGED_LEN and got(client)
         client.close()
         server.ends()
 
@@ -289,7 +120,7 @@ def test_a_half_closed_client_is_answered():
         client = server.client()
         client.sendall(GET * 40)
         client.shutdown(socket.SHUT_WR)
-        assert received(client, 40 * len(GOT)) == GOT * 40
+        assert got(client, 40)
         assert is_closed(client)
         assert server.is_at_base()
         server.ends()
@@ -307,7 +138,7 @@ def test_resets_and_cuts():
             else:
                 client.close()
         assert server.is_at_base(), server.threads()
-        assert server.descriptors() == base
+        assert wait_until(lambda: server.descriptors() <= base, 5), server.descriptors()
         assert server.is_serving()
         server.ends()
 
@@ -373,15 +204,14 @@ def test_a_client_that_does_not_read():
         assert server.memory() < 200, server.memory()
         began = time.monotonic()
         for _ in range(100):
-            assert server.asks(idle) == GOT
+            assert server.answers(idle)
         assert time.monotonic() - began < 2
         # Once it reads, it gets each answer.
         stuck.settimeout(10)
         rest = (GET * 500)[sent % len(GET) :] + GET * count
         sender = threading.Thread(target=stuck.sendall, args=(rest[: count * len(GET) - sent],))
         sender.start()
-        for _ in range(count):
-            assert received(stuck, len(GOT)) == GOT
+        assert got(stuck, count)
         sender.join()
         stuck.close()
         idle.close()
@@ -416,7 +246,7 @@ def test_many_connections_at_once():
                 reset(connection)
         assert server.is_serving()
         assert server.is_at_base(), server.threads()
-        assert server.descriptors() == base
+        assert wait_until(lambda: server.descriptors() <= base, 5), server.descriptors()
         server.ends()
 
 
@@ -457,26 +287,26 @@ def test_connections_while_it_ends():
 
 def test_faults_of_the_leader():
     with Server("--log", serves=False) as server:
-        received(server.leader, len(OBSERVERINFO))
-        server.leader.sendall(UPTODATE)
-        assert is_closed(server.leader)
+        received(server.stream, len(OBSERVERINFO))
+        server.stream.sendall(UPTODATE)
+        assert is_closed(server.stream)
         told = server.ends()
         assert "F12 UnexpectedPacket" in told, told
     with Server("--log") as server:
         client = server.client()
-        server.leader.sendall(hexa("00000008 0000000100000002 ffffff00"))
-        assert is_closed(server.leader) and is_closed(client)
+        server.leader.send(hexa("00000008 0000000100000002 ffffff00"))
+        assert server.leader.is_closed() and is_closed(client)
         told = server.ends()
         assert "F2 BadLength" in told and "DIFF" in told, told
 
 
 def test_the_end_in_an_image():
     with Server("--log", serves=False) as server:
-        received(server.leader, len(OBSERVERINFO))
-        server.leader.sendall(LEADERINFO)
-        received(server.leader, len(ACKEPOCH))
+        received(server.stream, len(OBSERVERINFO))
+        server.stream.sendall(LEADERINFO)
+        received(server.stream, len(ACKEPOCH))
         # The image says that it has three sessions, and ends in the first.
-        server.leader.sendall(SNAP + hexa("00000003 0000"))
+        server.stream.sendall(SNAP + hexa("00000003 0000"))
         told = server.ends()
         assert "SNAP" not in told and "ended" in told, told
 
@@ -484,7 +314,8 @@ def test_the_end_in_an_image():
 def test_a_leader_that_is_reset():
     with Server() as server:
         clients = [server.client() for _ in range(10)]
-        reset(server.leader)
+        server.leader.leave()
+        reset(server.stream)
         server.ends()
         for client in clients:
             assert is_closed(client)
@@ -511,7 +342,7 @@ def test_most_clients():
         first, second = server.client(), server.client()
         third = server.connection()
         assert is_closed(third)
-        assert server.asks(first) == GOT and server.asks(second) == GOT
+        assert server.answers(first) and server.answers(second)
         first.close()
         assert server.threads() <= 5
 
@@ -534,17 +365,19 @@ def test_what_is_recorded_replays():
         name = os.path.join(room, "record")
         with Server("--record", name, "--id", "1") as server:
             client = server.client()
-            sent = b"".join(server.asks(client) for _ in range(3))
+            client.sendall(GET * 3)
+            sent = received(client, 3 * GOT_LEN)
             client.close()
             server.is_at_base()
+            last = server.leader.last
             server.ends()
-        replayed = subprocess.run([PROGRAM, "replay", name], capture_output=True, timeout=20)
+        replayed = subprocess.run([Server.PROGRAM, "replay", name], capture_output=True, timeout=20)
         assert replayed.returncode == 0, replayed.stderr
         lines = replayed.stdout.decode().splitlines()
         mine = [line.split()[2] for line in lines if line.startswith("C 2 ")]
         assert bytes.fromhex("".join(mine[1:])) == sent, lines
         assert lines[0] == "L " + OBSERVERINFO.hex()
-        assert lines[-1] == "end zxid=0x100000001 paths=4"
+        assert lines[-1] == f"end zxid=0x{EPOCH_1 + last:x} paths=4"
 
 
 def test_a_record_that_cannot_be_written():
@@ -559,18 +392,11 @@ def test_want_of_memory():
 
     with Server("--log", limit=limit) as server:
         clients = [server.client() for _ in range(3)]
-        path = "/big"
-        data = bytes(1_000_000)
+        data = forwarded.buffer(bytes(1_000_000)) + forwarded.OPEN_ACL
         for number in range(2, 2000):
-            zxid = (1 << 32) + number
-            name = f"{path}{number}".encode()
-            txn = struct.pack(">qiqqi", 7, number, zxid, 1000, 1)
-            txn += struct.pack(">i", len(name)) + name + struct.pack(">i", len(data)) + data
-            txn += struct.pack(">ii", 1, 31) + struct.pack(">i", 5) + b"world" + struct.pack(">i", 6) + b"anyone"
-            txn += struct.pack(">?i", False, number)
-            packet = struct.pack(">iqi", 8, zxid, len(txn)) + txn + struct.pack(">i", -1)
+            body = forwarded.buffer(b"/big%d" % number) + data + struct.pack(">?i", False, number)
             try:
-                server.leader.sendall(packet)
+                server.leader.informs(CREATE, body)
             except OSError:
                 break
         assert server.program.wait(10) == 4
@@ -579,13 +405,275 @@ def test_want_of_memory():
             assert is_closed(client)
 
 
+def test_writes_are_forwarded_and_answered():
+    with Server() as server:
+        client = server.connection()
+        session = forwarded.joined(client)
+        client.sendall(forwarded.create(1, b"/b") + forwarded.get_data(2, b"/b"))
+        asked = server.leader.asked()
+        assert asked[:3] == (session, 1, CREATE) and asked.ids == [], asked
+        # Nobody else is held up, and what is held isn't answered yet.
+        assert server.is_serving()
+        client.setblocking(False)
+        try:
+            raise AssertionError(client.recv(1))
+        except BlockingIOError:
+            client.settimeout(10)
+        zxid = server.leader.does(asked)
+        assert forwarded.replied(client) == (1, zxid, 0, forwarded.buffer(b"/b"))
+        read = forwarded.replied(client)
+        assert read[:3] == (2, zxid, 0) and read.body.startswith(forwarded.buffer(b"hi")), read
+        # A write that fails, a sync, and an id that goes with what comes after it.
+        shown = forwarded.frame(-4, 100, bytes(4) + forwarded.buffer(b"digest") + forwarded.buffer(b"super:admin"))
+        client.sendall(forwarded.create(3, b"/b") + shown + forwarded.sync(4, b"/"))
+        assert forwarded.replied(client) == (-4, 0, 0, b"")
+        write, sync = server.leader.asked(), server.leader.asked()
+        assert write.ids == [] and sync.ids == [(b"digest", b"super:xQJmxLMiHGwaqBvst5y6rkB6HQs=")], (write, sync)
+        server.leader.does(sync)
+        zxid = server.leader.refuses(write, -110)
+        assert forwarded.replied(client) == (3, zxid, -110, b"")
+        assert forwarded.replied(client) == (4, zxid, 0, forwarded.buffer(b"/"))
+        client.close()
+        server.ends()
+
+
+def test_clients_that_go_while_they_wait():
+    with Server() as server:
+        assert server.is_at_base()
+        base, clients = server.descriptors(), []
+        for turn in range(100):
+            client = server.connection()
+            session = forwarded.joined(client)
+            client.sendall(forwarded.create(1, b"/n%d" % turn) + forwarded.sync(2, b"/") + GET)
+            clients.append((client, session))
+        asked = [server.leader.asked() for _ in range(200)]
+        gone = {session for turn, (_, session) in enumerate(clients) if turn % 4}
+        for turn, (client, _) in enumerate(clients):
+            if turn % 2:
+                reset(client)
+            elif turn % 4:
+                client.close()
+        assert wait_until(lambda: server.threads() == 3 + 25, 5), server.threads()
+        zxids = {}
+        for request in asked:
+            zxid = server.leader.does(request)
+            if request.kind == CREATE:
+                zxids[request.session] = zxid
+        for client, session in clients:
+            if session in gone:
+                continue
+            assert forwarded.replied(client)[:3] == (1, zxids[session], 0)
+            assert forwarded.replied(client)[::2] == (2, 0)
+            assert forwarded.replied(client)[::2] == (1, 0)
+            client.close()
+        assert server.is_at_base(), server.threads()
+        assert wait_until(lambda: server.descriptors() <= base, 5), server.descriptors()
+        server.ends()
+
+
+def test_the_end_with_writes_waiting():
+    with Server() as server:
+        clients = [server.client() for _ in range(50)]
+        for client in clients:
+            client.sendall(forwarded.create(1, b"/b") + GET + forwarded.sync(2, b"/") + PING)
+        for _ in range(100):
+            server.leader.asked()
+        server.ends()
+        for client in clients:
+            assert is_closed(client)
+            client.close()
+
+
+def test_clients_that_go_while_they_connect():
+    with Server() as server:
+        assert server.is_at_base()
+        base, server.leader.creates = server.descriptors(), False
+        clients = [server.connection() for _ in range(100)]
+        for client in clients:
+            client.sendall(CONNECT + GET + forwarded.create(2, b"/b"))
+        asked = [server.leader.asked() for _ in clients]
+        for turn, client in enumerate(clients):
+            if turn % 2:
+                reset(client)
+            elif turn % 4:
+                client.close()
+        assert wait_until(lambda: server.threads() == 3 + 25, 5), server.threads()
+        # None is answered yet, and nobody else is held up.
+        clients[0].setblocking(False)
+        try:
+            raise AssertionError(clients[0].recv(1))
+        except BlockingIOError:
+            clients[0].settimeout(10)
+        with server.leader.lock:
+            server.leader.creates = True
+            for request in asked:
+                server.leader.create(request)
+        assert server.is_serving()
+        left = {forwarded.connected(client).id: client for client in clients[::4]}
+        assert all(got(client) for client in left.values())
+        # Only the creates of those that are left go to the leader.
+        while left:
+            request = server.leader.asked()
+            server.leader.refuses(request, -110)
+            assert forwarded.replied(left.pop(request.session))[::2] == (2, -110)
+        for client in clients[::4]:
+            client.close()
+        assert server.is_at_base(), server.threads()
+        assert wait_until(lambda: server.descriptors() <= base, 5), server.descriptors()
+        server.ends()
+
+
+def test_the_end_with_connects_waiting():
+    with Server() as server:
+        server.leader.creates = False
+        clients = [server.connection() for _ in range(50)]
+        for client in clients:
+            client.sendall(CONNECT + GET + PING)
+        for _ in clients:
+            server.leader.asked()
+        server.ends()
+        for client in clients:
+            assert is_closed(client)
+            client.close()
+
+
+def test_sessions_end():
+    with Server() as server:
+        client = server.connection()
+        session = forwarded.joined(client)
+        # What comes after a closeSession is dropped; a write before it isn't answered, as the leader keeps that here.
+        client.sendall(forwarded.create(1, b"/b") + forwarded.frame(2, CLOSE_SESSION) + GET + PING)
+        assert forwarded.replied(client) == (2, EPOCH_1 + server.leader.last, 0, b"")
+        assert is_closed(client) and session not in server.leader.sessions
+        # The leader ends a session by itself.
+        expired, other = server.connection(), server.client()
+        server.leader.end(forwarded.joined(expired))
+        assert is_closed(expired) and server.answers(other)
+        other.close()
+        server.ends()
+
+
+def test_a_session_is_taken_up():
+    with Server() as server:
+        older, thief = server.connection(), server.connection()
+        older.sendall(forwarded.CONNECT)
+        session = forwarded.connected(older)
+        thief.sendall(session._replace(password=bytes(16)).connect())
+        assert forwarded.connected(thief) == (0, 0, bytes(16)) and is_closed(thief) and server.answers(older)
+        newer = server.connection()
+        newer.sendall(session.connect())
+        assert forwarded.connected(newer) == session and is_closed(older) and server.answers(newer)
+        newer.close()
+        server.ends()
+
+
+def test_pings_keep_sessions():
+    with Server() as server:
+        idle, silent, joining = (server.connection() for _ in range(3))
+        pinging, reading = forwarded.joined(idle), forwarded.joined(silent)
+        # The client of the handshake had read, and has gone since.
+        assert server.leader.pinged() == [(pinging - 1, 10000)]
+        assert server.leader.pinged() == []
+        for _ in range(20):
+            idle.sendall(PING)
+            assert len(received(idle, PINGED_LEN)) == PINGED_LEN
+            assert server.leader.pinged() == [(pinging, 10000)]
+        assert server.leader.pinged() == []
+        # What was held after a connect touches nothing, and what comes then does.
+        server.leader.creates = False
+        joining.sendall(forwarded.CONNECT + PING)
+        server.leader.create(server.leader.asked())
+        joined = forwarded.connected(joining).id
+        assert len(received(joining, PINGED_LEN)) == PINGED_LEN and server.leader.pinged() == []
+        assert server.answers(joining) and server.answers(silent)
+        assert server.leader.pinged() == [(reading, 10000), (joined, 10000)]
+        for client in (idle, silent, joining):
+            client.close()
+        server.ends()
+
+
+def test_pipelined_writes_are_answered_in_order():
+    count, ahead = 1000, 400
+    chance = random.Random(11)
+    with Server() as server:
+        client = server.connection()
+        forwarded.joined(client)
+        free, zxids, went_wrong = threading.Semaphore(ahead), [], []
+
+        def lead():
+            """Does what comes, several at once, with transactions of others between."""
+            done = 0
+            while done < count:
+                requests = [server.leader.asked()]
+                while done + len(requests) < count and chance.randrange(8):
+                    requests.append(server.leader.asked())
+                told = b""
+                with server.leader.lock:
+                    for request in requests:
+                        if chance.randrange(3) == 0:
+                            told += server.leader.made(ERROR, struct.pack(">i", -110))
+                        told += server.leader.done(request)
+                        zxids.append(EPOCH_1 + server.leader.last)
+                    server.leader.send(told)
+                done += len(requests)
+
+        def ask():
+            for turn in range(count):
+                free.acquire()
+                path = b"/n%d" % turn
+                client.sendall(forwarded.create(2 * turn, path, path) + forwarded.get_data(2 * turn + 1, path))
+
+        def tried(job):
+            try:
+                job()
+            except Exception as why:
+                went_wrong.append(why)
+
+        threads = [threading.Thread(target=tried, args=(it,), daemon=True) for it in (lead, ask)]
+        for thread in threads:
+            thread.start()
+        for turn in range(count):
+            path = forwarded.buffer(b"/n%d" % turn)
+            written, read = forwarded.replied(client), forwarded.replied(client)
+            assert written == (2 * turn, zxids[turn], 0, path), (written, went_wrong)
+            assert read[:3] == (2 * turn + 1, zxids[turn], 0) and read.body.startswith(path), (read, went_wrong)
+            free.release()
+        for thread in threads:
+            thread.join()
+        assert not went_wrong, went_wrong
+        client.close()
+        server.ends()
+
+
+def test_recorded_writes_replay():
+    with tempfile.TemporaryDirectory() as room:
+        name = os.path.join(room, "record")
+        with Server("--record", name, "--id", "1") as server:
+            client = server.client()
+            client.sendall(forwarded.create(1, b"/b") + forwarded.sync(2, b"/b") + GET)
+            for _ in range(2):
+                server.leader.does(server.leader.asked())
+            sent = b"".join(forwarded.buffer(forwarded.text(client)) for _ in range(3))
+            client.close()
+            server.is_at_base()
+            last = server.leader.last
+            server.ends()
+        replayed = subprocess.run([Server.PROGRAM, "replay", name], capture_output=True, timeout=20)
+        assert replayed.returncode == 0, replayed.stderr
+        lines = replayed.stdout.decode().splitlines()
+        mine = [line.split()[2] for line in lines if line.startswith("C 2 ")]
+        assert bytes.fromhex("".join(mine[1:])) == sent, lines
+        # Two sessions, the create and the sync.
+        assert len([line for line in lines if line.startswith("L 00000001ffffffffffffffff")]) == 4, lines
+        assert lines[-1] == f"end zxid=0x{EPOCH_1 + last:x} paths=5"
+
+
 def main(words):
-    global PROGRAM
     # 500 clients take three descriptors each of the program, and one here.
     most = resource.getrlimit(resource.RLIMIT_NOFILE)[1]
     resource.setrlimit(resource.RLIMIT_NOFILE, (most, most))
     if words and not words[0].startswith("-"):
-        PROGRAM = os.path.realpath(words.pop(0))
+        Server.PROGRAM = os.path.realpath(words.pop(0))
     passed = failed = 0
     for name, test in list(globals().items()):
         if not name.startswith("test_") or (words and name[len("test_") :] not in words):

@@ -1,0 +1,67 @@
+"""What clients ask for, and what they are answered."""
+import struct
+from typing import NamedTuple
+
+from leader import CREATE, SYNC, buffer, received
+
+GET_DATA = 4
+OPEN_ACL = struct.pack(">ii", 1, 31) + b"\0\0\0\5world" + b"\0\0\0\6anyone"
+CONNECT = struct.pack(">iiqiqi", 44, 0, 0, 10000, 0, 16) + bytes(16)
+
+
+class Reply(NamedTuple):
+    xid: int
+    zxid: int
+    error: int
+    body: bytes
+
+
+def text(connection):
+    """Takes the next frame."""
+    return received(connection, struct.unpack(">i", received(connection, 4))[0])
+
+
+def frame(xid, kind, body=b""):
+    return buffer(struct.pack(">ii", xid, kind) + body)
+
+
+def create(xid, path, content=b"hi", flags=0):
+    return frame(xid, CREATE, buffer(path) + buffer(content) + OPEN_ACL + struct.pack(">i", flags))
+
+
+def get_data(xid, path):
+    return frame(xid, GET_DATA, buffer(path) + b"\0")
+
+
+def sync(xid, path):
+    return frame(xid, SYNC, buffer(path))
+
+
+class Session(NamedTuple):
+    """A session as its client knows it."""
+
+    id: int
+    timeout: int
+    password: bytes
+
+    def connect(self):
+        """The frame that takes it up on another connection."""
+        return buffer(struct.pack(">iqiq", 0, 0, self.timeout, self.id) + buffer(self.password))
+
+
+def connected(connection):
+    """Takes the answer to a connect, and returns the session."""
+    _, timeout, session, _ = struct.unpack(">iiqi", (content := text(connection))[:20])
+    return Session(session, timeout, content[20:36])
+
+
+def joined(connection):
+    """Gets a session, and returns its id."""
+    connection.sendall(CONNECT)
+    return connected(connection).id
+
+
+def replied(connection):
+    """Takes the next reply."""
+    content = text(connection)
+    return Reply(*struct.unpack(">iqi", content[:16]), content[16:])
