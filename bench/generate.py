@@ -28,10 +28,11 @@ def text(it):
 OPEN_ACL = struct.pack(">ii", 1, 31) + text(b"world") + text(b"anyone")
 
 
-def inform(number, kind, body, authinfo=NULL):
+def inform(number, kind, body, authinfo=NULL, session=SESSION, cxid=None):
     """Returns the packet in which the leader tells of its transaction of that number: 1 for the first one."""
     zxid = EPOCH * 2**32 + number
-    transaction = struct.pack(">qiqqi", SESSION, number, zxid, 1000 + number, kind) + body
+    cxid = number if cxid is None else cxid
+    transaction = struct.pack(">qiqqi", session, cxid, zxid, 1000 + number, kind) + body
     return struct.pack(">iq", INFORM, zxid) + text(transaction) + authinfo
 
 

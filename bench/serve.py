@@ -20,6 +20,7 @@ other work makes a round worse and never better. The exit status is 0 where all 
 """
 import argparse
 import pathlib
+import queue
 import re
 import resource
 import shutil
@@ -28,6 +29,7 @@ import struct
 import subprocess
 import sys
 import tempfile
+import threading
 import time
 
 sys.dont_write_bytecode = True
@@ -41,7 +43,8 @@ CLIENTS, DEPTH = 8, 100
 ANSWER = 16 + 4 + LONG_CONTENT + 68
 EPOCH = generate.EPOCH << 32
 NULL = generate.NULL
-LEADERINFO, DIFF, NEWLEADER, UPTODATE, PING = 17, 13, 10, 12, 5
+LEADERINFO, DIFF, NEWLEADER, UPTODATE, PING, REQUEST = 17, 13, 10, 12, 5, 1
+CREATE_SESSION, CLOSE_SESSION = -10, -11
 FIGURE = re.compile(r"rate=(\d+) p50=([\d.]+) p99=([\d.]+)")
 OPEN_FILES = 20_000
 
@@ -67,7 +70,8 @@ def transactions(width, content, sets):
 
 
 class Server:
-    """The program as a server behind a leader that this script plays."""
+    """The program as a server behind a leader that this script plays. A thread takes what the observer sends, and
+    creates the sessions that its clients ask for."""
 
     def __init__(self, program):
         with socket.create_server(("127.0.0.1", 0)) as listener:
@@ -79,13 +83,20 @@ class Server:
         self.answers = self.leader.makefile("rb")
         self.port = int(self.ran.stdout.readline().split()[1])
         self.bring_up()
+        # The number of the last transaction, and who may send the next one.
+        self.last, self.sending = 0, threading.Lock()
+        self.pinged = queue.Queue()
+        self.following = threading.Thread(target=self.follow, daemon=True)
+        self.following.start()
 
     def __enter__(self):
         return self
 
     def __exit__(self, *_):
-        self.leader.close()
+        self.leader.shutdown(socket.SHUT_RDWR)
+        self.following.join()
         self.answers.close()
+        self.leader.close()
         try:
             self.ran.wait(10)
         finally:
@@ -93,10 +104,30 @@ class Server:
             self.ran.stdout.close()
 
     def answered(self):
-        """Takes a packet of the observer, and returns its kind and zxid."""
-        kind, zxid, length = struct.unpack(">iqi", self.answers.read(16))
-        self.answers.read(max(length, 0) + 4)
-        return kind, zxid
+        """Takes a packet of the observer, of which no client has shown an id, and returns its kind and data."""
+        kind, _, length = struct.unpack(">iqi", self.answers.read(16))
+        data = self.answers.read(max(length, 0))
+        self.answers.read(4)
+        return kind, data
+
+    def follow(self):
+        """Creates and closes sessions, and passes on that a PING was answered."""
+        while True:
+            try:
+                kind, data = self.answered()
+            except (OSError, ValueError, struct.error):
+                return  # The observer, or this script, has closed the connection.
+            if kind == PING:
+                self.pinged.put(None)
+            elif kind == REQUEST:
+                session, xid, asked = struct.unpack(">qii", data[:16])
+                if asked in (CREATE_SESSION, CLOSE_SESSION):
+                    self.inform(asked, data[16:], session, xid)
+
+    def inform(self, kind, body, session, xid):
+        with self.sending:
+            self.last += 1
+            self.leader.sendall(generate.inform(self.last, kind, body, session=session, cxid=xid))
 
     def bring_up(self):
         self.answered()
@@ -106,12 +137,14 @@ class Server:
         self.answered()
         self.answered()
 
-    def take(self, written):
-        """Sends packets, and returns the seconds until all of them have been done, which the answer to a PING shows."""
-        began = time.perf_counter()
-        self.leader.sendall(written + packet(PING, 0))
-        while self.answered()[0] != PING:
-            pass
+    def take(self, written, count):
+        """Sends so many transactions, and returns the seconds until all of them have been done, which the answer to a
+        PING shows."""
+        with self.sending:
+            began = time.perf_counter()
+            self.leader.sendall(written + packet(PING, 0))
+            self.last += count
+        self.pinged.get()
         return time.perf_counter() - began
 
     def resident(self):
@@ -250,7 +283,7 @@ def backlog(options, figures):
     words = [options.engine, str(PARENTS), str(options.children), str(options.sets), "0"]
     for _ in range(options.rounds):
         with Server(options.program) as server:
-            figures.add("INFORMs a second over the socket", count / server.take(written))
+            figures.add("INFORMs a second over the socket", count / server.take(written, count))
         if options.engine:
             status, seconds, _ = timed(words, subprocess.DEVNULL)
             if status:
@@ -305,7 +338,7 @@ def main():
         wanted = [it for it in measured if options.only in (None, it)]
         if wanted:
             with Server(options.program) as server:
-                server.take(transactions(options.children, LONG_CONTENT, 0)[0])
+                server.take(*transactions(options.children, LONG_CONTENT, 0))
                 # Idle first, before the allocator has memory to spare.
                 for it in sorted(wanted):
                     measured[it](server, tools, options, figures)

@@ -9,7 +9,9 @@
 It needs no ZooKeeper, and an observer can't tell it from one: it sends each packet as a leader of 3.4 does. An observer
 comes (OBSERVERINFO), is told the epoch (LEADERINFO), and says how far it is (ACKEPOCH). It gets what it lacks: a DIFF,
 with the transactions that the log still has, a TRUNC, or a SNAP with an image of the tree. NEWLEADER follows, which it
-acknowledges, and UPTODATE. From then on it gets each transaction by an INFORM, and a PING each half tick.
+acknowledges, and UPTODATE. From then on it gets each transaction by an INFORM, and a PING each half tick. What the
+observer's clients ask for comes as a REQUEST: sessions are created and closed, a sync is answered by a SYNC, and any
+other change fails, since this leader alone makes changes.
 
 The changes begin when an observer follows, and more may come meanwhile. After the last one the leader goes, and ends
 with status 0; with status 1 where its observers have gone before.
@@ -25,12 +27,14 @@ from dataclasses import dataclass
 from typing import List, Optional
 
 from jute import Reader, buffer, int32, int64, text, vector
-from tree import CLOSE_SESSION, CREATE, CREATE_SESSION, DELETE, SET_DATA, Transaction, Tree
+from tree import CLOSE_SESSION, CREATE, CREATE_SESSION, DELETE, ERROR, SET_DATA, Transaction, Tree
 
-REQUEST, PROPOSAL, ACK, COMMIT, PING, REVALIDATE, INFORM, NEWLEADER = 1, 2, 3, 4, 5, 6, 8, 10
+REQUEST, PROPOSAL, ACK, COMMIT, PING, SYNC, INFORM, NEWLEADER = 1, 2, 3, 4, 5, 7, 8, 10
 UPTODATE, DIFF, TRUNC, SNAP, OBSERVERINFO, LEADERINFO, ACKEPOCH = 12, 13, 14, 15, 16, 17, 18
 NAMES = {DIFF: "DIFF", TRUNC: "TRUNC", SNAP: "SNAP"}
 PROTOCOL = 0x10000
+# The type of a client's request for a sync, and the error of a change that no client may make.
+SYNC_REQUEST, UNIMPLEMENTED = 9, -6
 
 
 def say(what: str) -> None:
@@ -81,6 +85,21 @@ class Leader:
             say(f"0x{it.zxid:x} {what}")
             for learner in self.learners:
                 learner.send(Packet(INFORM, it.zxid, it.write()))
+
+    def answer(self, learner: "Learner", reader: Reader) -> None:
+        """Does what a client of an observer asks for. The observer answers the client when it sees the transaction."""
+        client, cxid, kind = reader.int64(), reader.int32(), reader.int32()
+        named = f"0x{client & 2**64 - 1:x}"
+        if kind == CREATE_SESSION:
+            timeout = reader.int32()
+            self.propose(f"createSession {named}, for {learner.name}", kind, int32(timeout), client, cxid)
+        elif kind == CLOSE_SESSION:
+            self.propose(f"closeSession {named}, for {learner.name}", kind, b"", client, cxid)
+        elif kind == SYNC_REQUEST:
+            with self.lock:
+                learner.send(Packet(SYNC, 0))
+        else:
+            self.propose(f"a request of {named} fails", ERROR, int32(UNIMPLEMENTED), client, cxid)
 
     def forget_log(self) -> None:
         """Drops the log, as a leader that starts anew from its snapshot has none."""
@@ -199,8 +218,8 @@ class Learner:
     def serve(self) -> None:
         while True:
             packet = self.next()
-            if packet.kind in (REQUEST, REVALIDATE):
-                say(f"{self.name} sends a request, which this leader leaves unanswered")
+            if packet.kind == REQUEST:
+                self.leader.answer(self, Reader(packet.data or b""))
 
 
 # The session that makes and sets the nodes, and the first of those that hold an ephemeral for a while.

@@ -4,7 +4,7 @@ from typing import Dict, Set, Tuple
 
 from jute import OPEN_ACL, Reader, Stat, boolean, buffer, int32, int64, text
 
-CREATE, DELETE, SET_DATA, CREATE_SESSION, CLOSE_SESSION = 1, 2, 5, -10, -11
+CREATE, DELETE, SET_DATA, CREATE_SESSION, CLOSE_SESSION, ERROR = 1, 2, 5, -10, -11, -1
 # The keys of ACL lists in an image: of the nodes that are always there, and of the open list that clients give.
 FIXED, OPEN = -1, 1
 
