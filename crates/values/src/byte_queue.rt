@@ -1,6 +1,6 @@
 //! Bytes between a connection and a reader.
 
-ghost use Rattle.std.specs.Prelude.{◌≡◌, ◌≤◌, ◌++◌, ◌↔◌, [], IsTrue, OnOk, OnErr, length, drop};
+ghost use Rattle.std.specs.Prelude.{◌≡◌, ◌≤◌, ◌+◌, ◌++◌, ◌↔◌, [], IsTrue, OnOk, OnErr, length, drop};
 
 use crate::fault::NoMemory;
 use std::alloc::Global;
@@ -30,6 +30,19 @@ impl Model for ByteQueue {
     ghost view = { λ q. drop q.start q.buffer.items };
 
     ghost invariant = { λ q. q.start + q.start ≤ length q.buffer.items };
+}
+
+// Drops that many bytes at the front. They are at least as many as the others, so that these are moved at once, by a copy
+// that doesn't overlap.
+fn drop_bytes(bytes: &mut Vec<u8>, count: usize)
+    requires front { count ≤ length bytes.old.items }
+    requires half { length bytes.old.items ≤ count + count }
+    ensures { bytes.new.items ≡ drop count bytes.old.items }
+{
+    let rest = bytes.len() - count;
+    let (front, back) = bytes.split_at_mut(count);
+    front[..rest].copy_from_slice(back);
+    bytes.truncate(rest);
 }
 
 impl ByteQueue {
@@ -76,8 +89,7 @@ impl ByteQueue {
         self.start += count;
         let waiting = self.buffer.len() - self.start;
         if waiting < self.start {
-            self.buffer.copy_within(self.start.., 0);
-            self.buffer.truncate(waiting);
+            drop_bytes(&mut self.buffer, self.start);
             self.start = 0;
         }
         if waiting == 0 && self.buffer.capacity() > KEPT {
