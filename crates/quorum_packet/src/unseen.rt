@@ -1,6 +1,6 @@
 //! The part of an incomplete value that wasn't scanned yet, so that no byte is scanned again for each piece.
 
-ghost use Rattle.std.specs.Prelude.{◌≡◌, ◌<◌, Err, IfOk, IfErr, IfSome, OnOk, drop};
+ghost use Rattle.std.specs.Prelude.{◌≡◌, ◌<◌, Err, IfOk, IfErr, IfSome, OnOk, drop, is_some};
 ghost use Rattle.jute.specs.Format.{text_or_empty};
 ghost use Rattle.quorum_packet.specs.Items.{found_format};
 ghost use Rattle.quorum_packet.specs.Packet.{packet_format};
@@ -175,11 +175,13 @@ fn scan_list(bytes: &[u8], unseen: &mut Unseen) -> Result<(), Fault>
     looked
 }
 
-/// Scans the new bytes of the value at the front, if it was looked at before. Returns its refusal, if there is one.
+/// Scans the new bytes of the value at the front, if it was looked at before, and notes up to where. Returns its
+/// refusal, if there is one.
 #[tactic(auto, unfolding(jute::specs::Format::judged_at))]
 pub fn scan_new_bytes(phase: &Phase, bytes: &[u8], unseen: &mut Option<Unseen>) -> Result<(), Fault>
     requires { MayBeUnseen bytes.now unseen.old }
     ensures kept { MayBeUnseen bytes.now unseen.new }
+    ensures noted { is_some unseen.new ≡ is_some unseen.old }
     ensures seen { OnOk result (IfSome unseen.new (IsAllSeen phase.now)) }
     ensures err { IfErr result (λ e. (found_format phase.now).read bytes.now ≡ Err e) }
     ensures stops { IfErr result (λ e. IfSome unseen.new (λ u. StopsAt phase.now bytes.now u e)) }
