@@ -22,7 +22,6 @@ use crate::joining::connect_or_hold;
 use crate::output::Output;
 use crate::reading::gathered_read;
 use crate::sending::close_client;
-use crate::session::touch_client;
 use crate::settling::settle_reads;
 use crate::word::{tell_word, word_at};
 use crate::world::World;
@@ -64,28 +63,6 @@ pub fn serve_call(
     }
 }
 
-// Serves a frame that isn't refused.
-fn serve_whole(
-    alloc: Global,
-    serving: bool,
-    number: u64,
-    world: &mut World,
-    frame: &[u8],
-    outputs: &mut Vec<Output>,
-) -> Result<(), NoMemory>
-    requires fits { length frame.now ≤ client_frame_limit }
-    requires room { is_full world.old.clients.pending number ≡ false }
-    ensures { let session = session_of_connection world.old.clients.sessions number in
-        MeetsStep result outputs.old.items
-        (serve_by serving number world.old frame.now session)
-        outputs.new.items world.new }
-{
-    match world.clients.sessions.session(number) {
-        None => connect_or_hold(alloc, serving, number, world, frame, outputs),
-        Some(session) => serve_call(alloc, number, session, world, frame, outputs),
-    }
-}
-
 // Serves one frame, which touches the session of its connection. It is refused if it is too short for a header, or if as
 // many requests wait as may.
 fn serve(
@@ -101,14 +78,20 @@ fn serve(
         (serve_frame serving number world.old frame.now)
         outputs.new.items world.new }
 {
-    touch_client(number, world)?;
+    let session = world.clients.sessions.session(number);
+    if let Some(session) = session {
+        world.clients.pending.touch(session)?;
+    }
     if world.clients.pending.is_full(number) {
         return close_client(number, world, outputs);
     }
     if frame.len() < HEADER_LEN {
         return close_client(number, world, outputs);
     }
-    serve_whole(alloc, serving, number, world, frame, outputs)
+    match session {
+        None => connect_or_hold(alloc, serving, number, world, frame, outputs),
+        Some(session) => serve_call(alloc, number, session, world, frame, outputs),
+    }
 }
 
 fn serve_if_heard(

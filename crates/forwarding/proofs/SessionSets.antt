@@ -1,5 +1,5 @@
 -- A set of sessions, read as a finite set of numbers.
-use Rattle.std.proofs.Common.{◌≡◌, ℤ, List, [], ◌∷◌, Bool, true, false, cond, ◌||◌, Some, None, refl, sym, ap, ◌∙◌, map, length, arith}
+use Rattle.std.proofs.Common.{◌≡◌, ℤ, List, [], ◌∷◌, Bool, true, false, cond, ◌||◌, ◌⊎◌, inl, inr, Option, Some, None, IfSome, true≢false, subst, refl, sym, ap, ◌∙◌, map, length, arith}
 use Rattle.std.specs.declared.cmp.Ordering.TheVariants.{Less}
 use Rattle.std.specs.FinMap as finmap
 use Rattle.std.specs.FinMap.Entries.{by_order}
@@ -8,12 +8,15 @@ use Rattle.std.proofs.lemmas.Map.Keys.{sorted_head, sorted_tail}
 use Rattle.std.specs.BTreeSet as sorted
 use Rattle.std.specs.BTreeSet.{BTreeSet}
 use Rattle.std.specs.List.{list_any, AllByRecursion}
-use Rattle.std.specs.Ordering.{eq_by_cmp, int_cmp}
+use Rattle.std.specs.Option.{option_eq}
+use Rattle.std.specs.Ordering.{eq_by_cmp, int_cmp, int_eq}
 use Rattle.std.specs.Cmp.{int_cmp_total, eq_by_cmp_equiv}
 use Rattle.std.proofs.lemmas.Map.Lookups.{exact_signed}
 use Rattle.std.specs.FinSet as set
 use Rattle.forwarding.specs.State.{TouchedSessions}
 use Rattle.forwarding.specs.Pending.{sorted_touched}
+use Rattle.forwarding.specs.Inner.{IsTouched}
+use Rattle.forwarding.proofs.Maps.{same_or_other}
 
 abbrev set_of : List ℤ → TouchedSessions
 set_of keys = set.from_list keys
@@ -38,6 +41,38 @@ keys-insert k s n u =
     by : (t b : Bool) → cond t true b ≡ (t || b)
     by true b = refl
     by false b = refl
+
+pub touched_by_insert : (s : TouchedSessions) (k : ℤ) → IsTouched (set.insert s k) k
+touched_by_insert s k =
+    set.contains-insert int_cmp_total s k k
+    ∙ ap (λ b. b || set.contains s k) ((eq_by_cmp_equiv int_cmp_total).refl k)
+
+-- A session that is in the set adds nothing.
+pub insert_touched : (s : TouchedSessions) (k : ℤ) → IsTouched s k → set.insert s k ≡ s
+insert_touched s k has =
+    set.same_set int_cmp_total exact_signed _ _ (λ q. set.contains-insert int_cmp_total s k q
+    ∙ by q (same_or_other int_cmp_total exact_signed q k))
+  where
+    or_true : (b : Bool) → (b || true) ≡ true
+    or_true true = refl
+    or_true false = refl
+
+    by : (q : ℤ) → (q ≡ k) ⊎ (eq_by_cmp int_cmp q k ≡ false)
+        → (eq_by_cmp int_cmp q k || set.contains s q) ≡ set.contains s q
+    by q (inl e) =
+        ap (λ b. eq_by_cmp int_cmp q k || b) (ap (set.contains s) e ∙ has)
+        ∙ or_true (eq_by_cmp int_cmp q k)
+        ∙ sym (ap (set.contains s) e ∙ has)
+    by q (inr apart) = ap (λ b. b || set.contains s q) apart
+
+pub last_touched : (t : TouchedSessions) (last : Option ℤ) (k : ℤ) → option_eq int_eq last (Some k) ≡ true
+    → IfSome last (IsTouched t) → IsTouched t k
+last_touched t None k e h = absurd (true≢false (sym e))
+last_touched t (Some s) k e h = by (same_or_other int_cmp_total exact_signed s k)
+  where
+    by : (s ≡ k) ⊎ (eq_by_cmp int_cmp s k ≡ false) → IsTouched t k
+    by (inl is) = subst (IsTouched t) is h
+    by (inr apart) = absurd (true≢false (sym e ∙ apart))
 
 -- Numbers as entries.
 abbrev marked : List ℤ → List (ℤ × Unit {0})

@@ -1,12 +1,13 @@
--- The contracts of the private functions. No public contract cites this.
-use Rattle.std.specs.Prelude.{◌≡◌, ℕ, ◌-◌, ◌<◌, List, ◌∷◌, [], take, Option, None, Some, is_some, Bool, true, false, length}
+-- The contracts of the private functions, and what always holds inside a type. No public contract cites this.
+use Rattle.std.specs.Prelude.{◌≡◌, ℕ, ℤ, ◌-◌, ◌<◌, List, ◌∷◌, [], take, Option, None, Some, is_some, Bool, true, false, length}
 use Rattle.std.specs.List.{remove}
 use Rattle.std.specs.FinMap as finmap
+use Rattle.std.specs.FinSet as set
 use Rattle.forwarding.specs.declared.request.PendingWrite.{PendingWrite}
 use Rattle.forwarding.specs.declared.request.PendingRequest.{PendingRequest}
 use Rattle.forwarding.specs.declared.request.PendingRequest.TheVariants.{Connect, Write, Sync, Held}
 use Rattle.forwarding.specs.Queue.{RequestQueue, is_close, oldest_write, without_oldest_write, ready_request}
-use Rattle.forwarding.specs.State.{RequestQueues}
+use Rattle.forwarding.specs.State.{RequestQueues, TouchedSessions}
 
 -- The connection's queue is this now, if it has one; it may be empty.
 abbrev pub with_changed : RequestQueues → ℕ → (RequestQueue → RequestQueue) → Option RequestQueue → RequestQueues
@@ -54,3 +55,6 @@ first_sync (place ∷ rest) = Some place
 
 abbrev pub without_newest : List (Option ℕ) → List (Option ℕ)
 without_newest syncs = take (length syncs - 1) syncs
+
+abbrev pub IsTouched : TouchedSessions → ℤ → Type 0
+IsTouched touched session = set.contains touched session ≡ true

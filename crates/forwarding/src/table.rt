@@ -250,10 +250,11 @@ impl Pending {
 
     /// Takes the connect in front of the connection's requests, and everything else of the connection: returns the frames
     /// that are held after the connect, and drops what may wait beside them. Without a connect nothing changes. After a
-    /// refused allocation the connection may have lost its requests.
+    /// refused allocation the connection has no requests either.
     pub fn take_connect(&mut self, alloc: Global, number: u64) -> Result<TakenConnect, NoMemory>
-        ensures { IfOk result (λ taken. take_connect self.old number
+        ensures ok { IfOk result (λ taken. take_connect self.old number
             ≡ record { connect = taken.connect; frames = taken.frames; after = self.new }) }
+        ensures err { OnErr result (self.new ≡ drop_connection self.old number) }
     {
         let Some(connect) = self.queues.connect(number) else {
             return Ok(TakenConnect::none(alloc));

@@ -14,17 +14,23 @@ use values::NoMemory;
 #[derive(Drop)]
 pub struct Touched {
     sessions: BTreeSet<i64>,
+    // One of them, the last that was touched: it mostly is the next as well.
+    last: Option<i64>,
 }
 
 impl Model for Touched {
     ghost use Rattle.std.specs.FinSet as set;
+    ghost use Rattle.std.specs.Prelude.{IfSome};
     ghost use Rattle.forwarding.specs.State.{TouchedSessions, session_ids_code};
+    ghost use Rattle.forwarding.specs.Inner.{IsTouched};
 
     ghost Value = { TouchedSessions };
 
     ghost coded = { session_ids_code };
 
     ghost view = { λ t. set.from_list t.sessions.keys };
+
+    ghost invariant = { λ t. IfSome t.last (IsTouched (set.from_list t.sessions.keys)) };
 }
 
 impl Touched {
@@ -34,15 +40,30 @@ impl Touched {
     {
         Touched {
             sessions: BTreeSet::new(alloc),
+            last: None,
         }
     }
 
     /// Adds a session; it may be there already. A refused allocation changes nothing.
+    #[inline(always)]
     pub fn touch(&mut self, session: i64) -> Result<(), NoMemory>
         ensures ok { OnOk result (self.new ≡ set.insert self.old session) }
         ensures err { OnErr result (self.new ≡ self.old) }
     {
+        if self.last == Some(session) {
+            return Ok(());
+        }
+        self.insert(session)
+    }
+
+    // Apart from `touch`, so that the common case is small where it is called.
+    #[inline(never)]
+    fn insert(&mut self, session: i64) -> Result<(), NoMemory>
+        ensures ok { OnOk result (self.new ≡ set.insert self.old session) }
+        ensures err { OnErr result (self.new ≡ self.old) }
+    {
         self.sessions.insert(session)?;
+        self.last = Some(session);
         Ok(())
     }
 
