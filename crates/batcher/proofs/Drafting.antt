@@ -2,7 +2,7 @@
 use Rattle.std.proofs.Common.{◌≡◌, ◌≢◌, ℕ, zero, suc, ◌+◌, ◌-◌, ◌<◌, ◌≤◌, nat_eq, nat_lt, List, [], ◌∷◌, ◌++◌, Bool, true, false, cond, ◌||◌, Option, Some, None, is_some, Result, Ok, Err, OnOk, set, get_or, refl, sym, ap, ◌∙◌, subst, arith, length, drop, take, map, Bor}
 use Rattle.std.specs.List.{zip}
 use Rattle.std.specs.Option.{option_map_or}
-use Rattle.std.specs.BTreeMap.{get_by_text}
+use Rattle.batcher.specs.Inner.Keys.{get_by_path}
 use Rattle.std.proofs.lemmas.Bool.Decides.{nat_tests}
 use mathlib.Core.Bool.{true≢false}
 use Rattle.std.proofs.lemmas.List.{length-append, length-map, length-take, map-append}
@@ -18,13 +18,13 @@ use Rattle.batcher.specs.declared.met.Met.TheVariants.{Nothing}
 use Rattle.batcher.specs.Groups.{group_with, group_count, group_for, group_of_next, tagged_txns, paths_in, txn_groups_of}
 use Rattle.batcher.specs.Front.{IsFrontOf}
 use Rattle.batcher.specs.Cut.{cut, is_barrier_alone, is_batch, groups_if_tagged, groups_of}
-use Rattle.batcher.specs.Inner.Joining.{OwnTheirPaths, unowned_paths, with_txn_at, with_member, all_met, met_group}
+use Rattle.batcher.specs.Inner.Joining.{unowned_paths, with_txn_at, with_member, all_met, met_group}
 use Rattle.batcher.specs.Inner.Taking.{group_within_limit, group_taken, tagged_front_after, HasTaken, BeginsWithBarrier}
 use Rattle.batcher.specs.Inner.Drafts.{txns_in, tagged_in, IsDraft}
 use Rattle.batcher.proofs.Steps.{IsNext}
 use Rattle.batcher.proofs.Owning.{none}
 use Rattle.batcher.proofs.Members.{GainsPath, classes_of-behind, length-classes_of}
-use Rattle.batcher.proofs.Unowned.{others_are_there, owner_now, own_more}
+use Rattle.batcher.proofs.Unowned.{others_are_there, owner_now}
 use Rattle.batcher.proofs.Taking.{begins_with_barrier, taken_is_cut, taken_is_front, taken_is_grouped}
 use Rattle.batcher.proofs.Meeting.{or_true, met_is, group_for-below}
 
@@ -79,12 +79,12 @@ for_no_path draft is (p ∷ ps) e = absurd (true≢false (sym e ∙ not_zero (le
     not_zero n = grind (arith, nat_tests)
 
 pub for_paths : (draft : Draft) → IsDraft draft → (paths : List Bytes) → nat_eq (length paths) 0 ≡ false
-    → met_group (length draft.groups.items) (all_met (get_by_text draft.owners) Nothing paths)
+    → met_group (length draft.groups.items) (all_met (get_by_path draft.owners) Nothing paths)
     ≡ group_for (tagged_in draft) paths
 for_paths draft is [] e = absurd (true≢false e)
 for_paths draft is (p ∷ ps) e =
-    ap (λ n. met_group n (all_met (get_by_text draft.owners) Nothing (p ∷ ps))) (opened_in draft is)
-    ∙ met_is (tagged_in draft) (get_by_text draft.owners) is.owners p ps
+    ap (λ n. met_group n (all_met (get_by_path draft.owners) Nothing (p ∷ ps))) (opened_in draft is)
+    ∙ met_is (tagged_in draft) (get_by_path draft.owners) is.owners p ps
 
 by_the_paths : (before : List GroupedTxn) (t : Txn) → is_barrier t ≡ false
     → group_of_next before t ≡ group_for before (footprint t)
@@ -149,9 +149,9 @@ pub record Gained (old new : Draft) (k : ℕ) (t : Txn) : Type 0 where
   pub taken : tagged_in new ≡ tagged_in old ++ (k, t) ∷ []
 
 pub gained : (old new : Draft) (k : ℕ) (t : Txn) (paths : List Bytes) → IsDraft old
-    → group_for (tagged_in old) (footprint t) ≡ Some k → paths ≡ unowned_paths (get_by_text old.owners) (footprint t)
+    → group_for (tagged_in old) (footprint t) ≡ Some k → paths ≡ unowned_paths (get_by_path old.owners) (footprint t)
     → new.numbers.items ≡ old.numbers.items ++ k ∷ [] → txns_in new ≡ txns_in old ++ t ∷ []
-    → ((q : Bytes) → get_by_text new.owners q ≡ cond (has_path paths q) (Some k) (get_by_text old.owners q))
+    → ((q : Bytes) → get_by_path new.owners q ≡ cond (has_path paths q) (Some k) (get_by_path old.owners q))
     → new.groups.items ≡ with_member old.groups.items k (length (txns_in old)) paths → Gained old new k t
 gained old new k t paths is for are numbers txns owners groups =
     record {
@@ -169,9 +169,6 @@ gained old new k t paths is for are numbers txns owners groups =
             ∙ ap (λ n. with_member (txn_groups_of (tagged_in old)) k n paths) (sym (length_in old is))
             ∙ sym (classes_of-behind (tagged_in old) k t paths gains below)
             ∙ ap txn_groups_of (sym taken);
-        own = subst (OwnTheirPaths (get_by_text new.owners)) (sym groups)
-            (own_more (get_by_text old.owners) (get_by_text new.owners) old.groups.items k (length (txns_in old)) paths
-            (footprint t) are opened is.own owners);
       };
       taken = taken;
     }
@@ -186,9 +183,6 @@ gained old new k t paths is for are numbers txns owners groups =
 
     below : k ≤ group_count (tagged_in old)
     below = group_for-below (tagged_in old) (footprint t) k for
-
-    opened : k ≤ length old.groups.items
-    opened = subst (λ n. k ≤ n) (sym (opened_in old is)) below
 
     taken : tagged_in new ≡ tagged_in old ++ (k, t) ∷ []
     taken = (λ i. zip (numbers i) (txns i)) ∙ zip-behind old.numbers.items (txns_in old) k t is.numbers

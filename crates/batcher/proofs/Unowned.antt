@@ -1,19 +1,15 @@
 -- The paths of a transaction that no group owns, and a group that gains them.
-use Rattle.std.proofs.Common.{◌≡◌, ℕ, zero, suc, ◌+◌, ◌≤◌, List, [], ◌∷◌, ◌++◌, Bool, true, false, cond, ◌||◌, ◌&&◌, Option, Some, None, is_none, refl, sym, ap, ◌∙◌, subst, arith, length, drop, append_assoc}
+use Rattle.std.proofs.Common.{◌≡◌, ℕ, ◌+◌, List, [], ◌∷◌, ◌++◌, Bool, true, false, cond, ◌||◌, ◌&&◌, Option, Some, None, is_none, refl, sym, ap, ◌∙◌, subst, drop, append_assoc}
 use Rattle.std.specs.Ordering.{eq_by_cmp}
-use Rattle.std.specs.FinSet as set
 use Rattle.std.proofs.lemmas.Map.Views.{any-filter_same, tells_apart}
 use Rattle.std.proofs.lemmas.Map.Lookups.{exact_bytes}
-use mathlib.Core.Bool.{true≢false}
-use Rattle.ephemerals.specs.Orders.{Bytes, Names, path_cmp}
-use Rattle.ephemerals.proofs.Totals.{path_total}
+use Rattle.ephemerals.specs.Orders.{Bytes, path_cmp}
 use Rattle.txn_codec.specs.declared.txn.Txn.{Txn}
 use Rattle.data_tree.specs.Footprint.{has_path, footprint}
 use Rattle.data_tree.specs.Commuting.{GroupedTxn}
-use Rattle.batcher.specs.Class.{TxnGroup}
 use Rattle.batcher.specs.declared.met.Met.{Met}
 use Rattle.batcher.specs.Groups.{group_with, group_for, paths_in}
-use Rattle.batcher.specs.Inner.Joining.{group_has, OwnTheirPaths, unowned_paths, met_with, all_met, with_member}
+use Rattle.batcher.specs.Inner.Joining.{unowned_paths, met_with, all_met}
 use Rattle.batcher.proofs.Steps.{IsNext}
 use Rattle.batcher.proofs.Owning.{same, none, or_else, group_with-behind, met_or_new}
 use Rattle.batcher.proofs.Members.{paths_here, paths_there}
@@ -68,46 +64,6 @@ owner_now before k t q =
     by None true = refl
     by None false = refl
     by (Some j) b = refl
-
--- ---- a group that gains paths
-
-in_union : {P : Type 0} (s : Names) (ps : List Bytes) (q : Bytes) → (set.contains s q ≡ true → P)
-    → (has_path ps q ≡ true → P) → set.contains (set.union s (set.from_list ps)) q ≡ true → P
-in_union {P} s ps q old new h =
-    by (set.contains s q) refl
-    (sym (set.contains-union path_total s (set.from_list ps) q
-    ∙ ap (λ b. set.contains s q || b) (set.contains-from_list path_total ps q)) ∙ h)
-  where
-    by : (b : Bool) → set.contains s q ≡ b → (b || has_path ps q) ≡ true → P
-    by true e h = old e
-    by false e h = new h
-
--- A path of one of the groups was there before, or it is one that the group gains.
-gained_or_there : {P : Type 0} (cs : List TxnGroup) (k place : ℕ) (ps : List Bytes) (j : ℕ) (q : Bytes) → k ≤ length cs
-    → (group_has cs j q ≡ true → P) → (j ≡ k → has_path ps q ≡ true → P)
-    → group_has (with_member cs k place ps) j q ≡ true → P
-gained_or_there [] k place ps zero q le old new h =
-    in_union set.empty ps q (λ e. absurd (true≢false (sym e ∙ set.contains-empty path_cmp q))) (new (omega arith)) h
-gained_or_there [] k place ps (suc j) q le old new h = absurd (true≢false (sym h))
-gained_or_there (c ∷ cs) zero place ps zero q le old new h = in_union c.paths ps q old (new refl) h
-gained_or_there (c ∷ cs) zero place ps (suc j) q le old new h = old h
-gained_or_there (c ∷ cs) (suc k) place ps zero q le old new h = old h
-gained_or_there (c ∷ cs) (suc k) place ps (suc j) q le old new h =
-    gained_or_there cs k place ps j q (omega arith) old (λ e. new (ap suc e)) h
-
-pub own_more : (owner now : Bytes → Option ℕ) (cs : List TxnGroup) (k place : ℕ) (ps paths : List Bytes)
-    → ps ≡ unowned_paths owner paths → k ≤ length cs → OwnTheirPaths owner cs
-    → ((q : Bytes) → now q ≡ cond (has_path ps q) (Some k) (owner q))
-    → OwnTheirPaths now (with_member cs k place ps)
-own_more owner now cs k place ps paths are le own is j q =
-    gained_or_there cs k place ps j q le
-    (λ e. is q ∙ ap (λ b. cond b (Some k) (owner q)) (owned e) ∙ own j q e)
-    (λ e h. is q ∙ ap (λ b. cond b (Some k) (owner q)) h ∙ ap Some (sym e))
-  where
-    owned : group_has cs j q ≡ true → has_path ps q ≡ false
-    owned e =
-        ap (λ xs. has_path xs q) are ∙ has_unowned owner paths q
-        ∙ ap (λ o. is_none o && has_path paths q) (own j q e)
 
 -- ---- the paths of a transaction, one after the other
 

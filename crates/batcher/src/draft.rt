@@ -1,7 +1,7 @@
 //! A batch while it grows.
 
 ghost use Rattle.std.specs.Prelude.{◌≡◌, ◌++◌, ◌∷◌, [], Some, IfOk, OnOk, IsTrue, if◌then◌else◌};
-ghost use Rattle.std.specs.BTreeMap.{get_by_text};
+ghost use Rattle.batcher.specs.Inner.Keys.{get_by_path};
 ghost use Rattle.std.specs.Ordering.{eq_by_cmp};
 ghost use Rattle.ephemerals.specs.Orders.{Bytes, path_cmp};
 ghost use Rattle.data_tree.specs.Footprint.{has_path, footprint};
@@ -12,6 +12,7 @@ ghost use Rattle.batcher.specs.Inner.Taking.{HasTaken, tagged_front_after};
 ghost use Rattle.batcher.specs.Inner.Drafts.{tagged_in, IsDraft};
 
 use crate::group::Group;
+use crate::key::PathKey;
 use crate::limits::Limits;
 use crate::met::{Met, met_by};
 use footprint::{borrow_paths, is_barrier};
@@ -27,35 +28,33 @@ pub struct Draft<'a> {
     /// The group of each.
     pub numbers: Vec<usize>,
     /// The group that has a path. So a transaction finds the groups that it meets by its own paths.
-    pub owners: BTreeMap<String, usize>,
+    pub owners: BTreeMap<PathKey<'a>, usize>,
     pub groups: Vec<Group>,
 }
 
-fn own_path(
-    owners: &mut BTreeMap<String, usize>,
-    alloc: Global,
+fn own_path<'a>(
+    owners: &mut BTreeMap<PathKey<'a>, usize>,
     group: usize,
-    path: &str,
+    path: &'a str,
 ) -> Result<(), NoMemory>
-    ensures { OnOk result ((q : Bytes) → get_by_text owners.new q
-        ≡ (if eq_by_cmp path_cmp q path.now then Some group else get_by_text owners.old q)) }
+    ensures { OnOk result ((q : Bytes) → get_by_path owners.new q
+        ≡ (if eq_by_cmp path_cmp q path.now then Some group else get_by_path owners.old q)) }
 {
-    owners.insert(String::from_str(alloc, path)?, group)?;
+    owners.insert(PathKey::new(path), group)?;
     Ok(())
 }
 
 // Gives the paths to a group.
-fn own(
-    owners: &mut BTreeMap<String, usize>,
-    alloc: Global,
+fn own<'a>(
+    owners: &mut BTreeMap<PathKey<'a>, usize>,
     group: usize,
-    paths: &[Str<'_>],
+    paths: &[Str<'a>],
 ) -> Result<(), NoMemory>
-    ensures { OnOk result ((path : Bytes) → get_by_text owners.new path
-        ≡ (if has_path paths.now path then Some group else get_by_text owners.old path)) }
+    ensures { OnOk result ((path : Bytes) → get_by_path owners.new path
+        ≡ (if has_path paths.now path then Some group else get_by_path owners.old path)) }
 {
     for path in paths {
-        own_path(owners, alloc, group, path.as_str())?;
+        own_path(owners, group, path.as_str())?;
     }
     Ok(())
 }
@@ -114,9 +113,9 @@ impl<'a> Draft<'a> {
         requires { IsDraft self.now }
         ensures group { IfOk result (λ group. group ≡ group_for (tagged_in self.now) paths.now) }
         ensures unowned { OnOk result
-            (unowned.new.items ≡ unowned_paths (get_by_text self.now.owners) paths.now) }
+            (unowned.new.items ≡ unowned_paths (get_by_path self.now.owners) paths.now) }
     {
-        let met = met_by(&self.owners, self.groups.as_slice(), paths, unowned)?;
+        let met = met_by(&self.owners, paths, unowned)?;
         if paths.is_empty() {
             return Ok(Some(self.groups.len().saturating_sub(1)));
         }
@@ -129,18 +128,18 @@ impl<'a> Draft<'a> {
         alloc: Global,
         group: usize,
         txn: &'a Txn,
-        unowned: &[Str<'_>],
+        unowned: &[Str<'a>],
     ) -> Result<(), NoMemory>
         requires draft { IsDraft self.old }
         requires group { group_for (tagged_in self.old) (footprint txn.now) ≡ Some group }
         requires unowned { unowned.now
-            ≡ unowned_paths (get_by_text self.old.owners) (footprint txn.now) }
+            ≡ unowned_paths (get_by_path self.old.owners) (footprint txn.now) }
         ensures draft { OnOk result (IsDraft self.new) }
         ensures taken { OnOk result
             (tagged_in self.new ≡ tagged_in self.old ++ (group, txn.now) ∷ []) }
     {
         add_to(&mut self.groups, alloc, group, self.txns.len(), unowned)?;
-        own(&mut self.owners, alloc, group, unowned)?;
+        own(&mut self.owners, group, unowned)?;
         self.numbers.push(group)?;
         self.txns.push(txn)?;
         Ok(())

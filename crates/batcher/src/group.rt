@@ -28,13 +28,10 @@ impl Model for Group {
     ghost view = { λ g. record { members = g.members.items; paths = g.paths } };
 }
 
-// Adds a path to a set. Only a new path allocates.
+// Adds a path to a set.
 fn add_path(alloc: Global, names: &mut TextSet, path: &str) -> Result<(), NoMemory>
     ensures { OnOk result (names.new ≡ set.insert names.old path.now) }
 {
-    if names.contains(path) {
-        return Ok(());
-    }
     names.insert(String::from_str(alloc, path)?)?;
     Ok(())
 }

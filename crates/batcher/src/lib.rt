@@ -24,6 +24,7 @@ mod cutting;
 mod draft;
 mod front;
 mod group;
+mod key;
 pub mod law;
 mod lent;
 mod limits;

@@ -1,13 +1,12 @@
 -- The state of a draft of a batch.
 use Rattle.std.specs.Prelude.{◌≡◌, List, length, map}
 use Rattle.std.specs.List.{zip}
-use Rattle.std.specs.BTreeMap.{get_by_text}
+use Rattle.batcher.specs.Inner.Keys.{get_by_path}
 use Rattle.ephemerals.specs.Orders.{Bytes}
 use Rattle.txn_codec.specs.declared.txn.Txn.{Txn}
 use Rattle.data_tree.specs.Commuting.{GroupedTxn}
 use Rattle.batcher.specs.declared.draft.Draft.{Draft}
 use Rattle.batcher.specs.Groups.{group_with, txn_groups_of}
-use Rattle.batcher.specs.Inner.Joining.{OwnTheirPaths}
 
 abbrev pub txns_in : Draft → List Txn
 txns_in draft = map (λ t. t.now) draft.txns.items
@@ -19,6 +18,5 @@ tagged_in draft = zip draft.numbers.items (txns_in draft)
 -- The groups, and the index that finds them, are those of its transactions.
 pub record IsDraft (draft : Draft) : Type 0 where
   pub numbers : length draft.numbers.items ≡ length (txns_in draft)
-  pub owners : (path : Bytes) → get_by_text draft.owners path ≡ group_with (tagged_in draft) path
+  pub owners : (path : Bytes) → get_by_path draft.owners path ≡ group_with (tagged_in draft) path
   pub groups : draft.groups.items ≡ txn_groups_of (tagged_in draft)
-  pub own : OwnTheirPaths (get_by_text draft.owners) draft.groups.items

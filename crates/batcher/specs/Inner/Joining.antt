@@ -1,7 +1,6 @@
 -- A transaction that gets a group.
-use Rattle.std.specs.Prelude.{◌≡◌, ℕ, zero, suc, Bool, true, false, List, [], ◌∷◌, ◌++◌, Option, Some, None, is_none, ◌==◌, if◌then◌else◌}
-use Rattle.std.specs.List.{filter, slice_get}
-use Rattle.std.specs.Option.{option_map_or}
+use Rattle.std.specs.Prelude.{ℕ, zero, suc, List, [], ◌∷◌, ◌++◌, Option, Some, None, is_none, ◌==◌, if◌then◌else◌}
+use Rattle.std.specs.List.{filter}
 use Rattle.std.specs.FinSet as set
 use Rattle.ephemerals.specs.Orders.{Bytes}
 use Rattle.batcher.specs.Class.{TxnGroup, empty_group}
@@ -21,25 +20,11 @@ with_member (c ∷ cs) (suc k) place paths = c ∷ with_member cs k place paths
 
 -- ---- the groups that have paths
 
--- There is a group of this number, and it has the path.
-abbrev pub group_has : List TxnGroup → ℕ → Bytes → Bool
-group_has groups k path = option_map_or (λ g. set.contains g.paths path) (slice_get groups k) false
-
--- Each group owns the paths that it has.
-abbrev pub OwnTheirPaths : (Bytes → Option ℕ) → List TxnGroup → Type 0
-OwnTheirPaths owner groups = (k : ℕ) (path : Bytes) → group_has groups k path ≡ true → owner path ≡ Some k
-
 -- The paths that no group owns.
 abbrev pub unowned_paths : (Bytes → Option ℕ) → List Bytes → List Bytes
 unowned_paths owner paths = filter (λ path. is_none (owner path)) paths
 
 -- ---- the groups that are met
-
--- One group was met, and it has the path.
-abbrev pub met_has : List TxnGroup → Met → Bytes → Bool
-met_has groups Nothing path = false
-met_has groups (Group k) path = group_has groups k path
-met_has groups Several path = false
 
 -- The groups met so far, and the owner of one more path.
 abbrev pub met_with : Met → Option ℕ → Met

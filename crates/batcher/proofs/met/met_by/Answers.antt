@@ -1,5 +1,5 @@
 use Rattle.std.proofs.Common.{◌∙◌, ap, ◌++◌, ◌∷◌, []}
-use Rattle.std.specs.BTreeMap.{get_by_text}
+use Rattle.batcher.specs.Inner.Keys.{get_by_path}
 use Rattle.batcher.specs.Inner.Joining.{met_with, unowned_paths}
 use Rattle.batcher.proofs.Steps.{next_is}
 use Rattle.batcher.proofs.Unowned.{met_next, unowned_next}
@@ -7,7 +7,7 @@ use Rattle.batcher.proofs.met.met_by.Goals as goal
 
 pub loop-path-preserved : goal.loop-path-preserved
 loop-path-preserved c =
-    let owner = get_by_text c.args.owners.now in
+    let owner = get_by_path c.args.owners.now in
     let next =
     next_is c.args.paths.now c.loop-path.path-index c.path-item.result c.loop-path-test.true c.path-item.is in
     record {
