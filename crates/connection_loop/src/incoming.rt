@@ -1,6 +1,6 @@
 //! The bytes of a connection, until they are sent on.
 
-ghost use Rattle.std.specs.Prelude.{◌≡◌, ◌≢◌, ◌+◌, IfSome, IsTrue};
+ghost use Rattle.std.specs.Prelude.{◌≡◌, ◌≢◌, ◌≤◌, ◌+◌, ◌-◌, IfSome, IsTrue, length, take, drop};
 ghost use Rattle.connection_loop.specs.Frames.{whole_frames_length};
 
 use crate::frames::whole_frames;
@@ -86,6 +86,21 @@ fn next_frames(waiting: &[u8], missing: usize) -> Option<Piece>
     })
 }
 
+// Moves the bytes from one place up to another to the start: at once where they don't overlap it.
+fn move_to_start(bytes: &mut [u8], start: usize, end: usize)
+    requires order { start ≤ end }
+    requires inside { end ≤ length bytes.old }
+    ensures { take (end - start) bytes.new ≡ take (end - start) (drop start bytes.old) }
+{
+    let len = end - start;
+    if len > start {
+        bytes.copy_within(start..end, 0);
+        return;
+    }
+    let (front, back) = bytes.split_at_mut(start);
+    front[..len].copy_from_slice(&back[..len]);
+}
+
 impl Incoming {
     /// No bytes yet. The buffer is allocated for the first read.
     pub fn new(alloc: Global, cutting: Cutting) -> Incoming {
@@ -103,19 +118,28 @@ impl Incoming {
         self.buffer.get(self.start..self.end).unwrap_or(&[])
     }
 
-    /// Whether nothing more can be read before something is sent on.
+    /// Whether nothing more has to be read before something is sent on: a piece is ready, and more than half of the
+    /// buffer waits.
     pub fn is_full(&self) -> bool {
-        self.waiting().len() >= READ_LEN
+        self.waiting().len() > READ_LEN / 2 && self.next().is_some()
     }
 
-    // Moves the waiting bytes to the buffer's start.
+    // Moves the waiting bytes to the buffer's start if there is no room after them. Mostly at most half of the buffer waits
+    // then, so at most as many bytes are moved as were sent on.
     fn make_room(&mut self) {
-        let len = self.waiting().len();
-        if self.start > 0 && self.start <= self.end && self.end <= self.buffer.len() {
-            self.buffer.copy_within(self.start..self.end, 0);
-        }
+        let (start, end) = (self.start, self.end);
         self.start = 0;
-        self.end = len;
+        self.end = 0;
+        if end <= start || end > self.buffer.len() {
+            return;
+        }
+        if end < READ_LEN {
+            self.start = start;
+            self.end = end;
+            return;
+        }
+        move_to_start(self.buffer.as_mut_slice(), start, end);
+        self.end = end - start;
     }
 
     /// Reads as much as there is room for, and returns the number of bytes.
