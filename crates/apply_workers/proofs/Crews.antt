@@ -1,6 +1,6 @@
 -- Seats before and after their workers' work.
-use Rattle.std.proofs.Common.{◌≡◌, ℕ, zero, suc, ◌+◌, ◌<◌, Bool, true, ◌||◌, List, [], ◌∷◌, ◌++◌, map, reverse, length, get_or, sym, refl, ap, ◌∙◌, subst, arith, All}
-use Rattle.std.proofs.lemmas.List.{reverse-append, length-reverse}
+use Rattle.std.proofs.Common.{◌≡◌, zero, suc, ◌+◌, Bool, true, ◌||◌, List, [], ◌∷◌, ◌++◌, map, reverse, length, sym, refl, ap, ◌∙◌, subst, arith, All}
+use Rattle.std.proofs.lemmas.List.{map-append, reverse-append, length-reverse}
 use Rattle.apply_board.specs.Sitting.{BoardId, Sitting}
 use Rattle.apply_board.specs.Seats.{IsIdle, IsOpener, any_spent}
 use Rattle.apply_workers.specs.declared.crew.Worker.{Worker}
@@ -61,17 +61,22 @@ module _ {W F : Type 0} where
   ready_fits board works [] h = absurd h.0
   ready_fits board works (w ∷ ws) h = seats_fit board (w ∷ ws) h.0.2
 
-  pub pointwise : (crew : List (Worker W F)) (ts : List (Sitting W F)) → length ts ≡ length crew
-      → ((i : ℕ) (w : Worker W F) (t : Sitting W F) → i < length crew
-      → IsWorked (get_or crew i w).seat (get_or ts i t)) → AreWorked (seats_of crew) ts
-  pointwise [] [] n h = tt
-  pointwise [] (t ∷ ts) n h = absurd (omega arith)
-  pointwise (w ∷ ws) [] n h = absurd (omega arith)
-  pointwise (w ∷ ws) (t ∷ ts) n h = (
-    h 0 w t (omega arith),
-    pointwise ws ts (omega arith)
-        (λ i v u l. h (suc i) v u (omega arith)),
-  )
+  worked_append : (ss ts : List (Sitting W F)) (s t : Sitting W F) → AreWorked ss ts → IsWorked s t
+      → AreWorked (ss ++ s ∷ []) (ts ++ t ∷ [])
+  worked_append [] [] s t h is = (is, tt)
+  worked_append [] (u ∷ ts) s t h is = absurd h
+  worked_append (r ∷ ss) [] s t h is = absurd h
+  worked_append (r ∷ ss) (u ∷ ts) s t h is = (h.0, worked_append ss ts s t h.1 is)
+
+  -- The last worker has worked as well.
+  pub last_worked : (crew rest : List (Worker W F)) (last : Worker W F) (ts all : List (Sitting W F)) (t : Sitting W F)
+      → crew ≡ rest ++ last ∷ [] → all ≡ ts ++ t ∷ [] → AreWorked (seats_of rest) ts → IsWorked last.seat t
+      → AreWorked (seats_of crew) all
+  last_worked crew rest last ts all t is are h worked =
+      subst (λ (l : List (Worker W F)). AreWorked (seats_of l) all) (sym is)
+      (subst (λ (l : List (Sitting W F)). AreWorked l all) (sym (map-append (λ (w : Worker W F). w.seat) rest (last ∷ [])))
+      (subst (AreWorked (seats_of rest ++ last.seat ∷ [])) (sym are)
+      (worked_append (seats_of rest) ts last.seat t h worked)))
 
   worked_length : (ss ts : List (Sitting W F)) → AreWorked ss ts → length ts ≡ length ss
   worked_length [] [] h = refl

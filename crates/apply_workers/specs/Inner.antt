@@ -1,6 +1,8 @@
 -- What only private contracts cite.
-use Rattle.std.specs.Prelude.{◌≡◌, ℕ, List, [], ◌∷◌, slice_set}
+use Rattle.std.specs.Prelude.{◌≡◌, ℕ, ◌<◌, List, [], ◌∷◌, Option, IfSome, slice_set}
+use Rattle.txn_codec.specs.declared.txn.Txn.{Txn}
 use Rattle.batcher.specs.Class.{TxnGroup}
+use Rattle.batcher.specs.Front.{TxnFront, IsFrontOf}
 use Rattle.apply_board.specs.Sitting.{BoardId, Sitting}
 use Rattle.apply_board.specs.Seats.{AreAllSeats, works_of}
 use Rattle.apply_workers.specs.Working.{IsWorked}
@@ -42,3 +44,7 @@ abbrev pub finished_groups : List State → List (List Outcome) → List (Group 
 finished_groups [] answers = []
 finished_groups (c ∷ cs) [] = []
 finished_groups (c ∷ cs) (os ∷ answers) = Home (Done c os) ∷ finished_groups cs answers
+
+-- A batch at the front of these transactions, if there is one, that has one of them.
+abbrev pub IsNextBatch : Option TxnFront → List Txn → Type 0
+IsNextBatch next txns = IfSome next (λ front. IsFrontOf front txns × (0 < front.count))

@@ -10,8 +10,7 @@ use crate::job::{Job, work};
 use crate::starts::{AllStart, Starts};
 use apply_board::{Board, Group, Seat, Yields};
 use std::alloc::Global;
-use std::thread;
-use std::thread::Threads;
+use std::thread::{Threads, join};
 use values::NoMemory;
 
 // A worker with its number.
@@ -21,8 +20,7 @@ struct Worker<W: Yields<F>, F> {
     seat: Seat<W, F>,
 }
 
-// Up to this many workers, one for each seat, the opener's first. They are numbered backwards, so that the last one has
-// number 0: `map_vec` runs the last one on the calling thread.
+// Up to this many workers, one for each seat, the opener's first. Its worker has number 0.
 fn make_workers<W: Yields<F> + Drop, F: Drop>(
     alloc: Global,
     board: &Board<W, F>,
@@ -39,19 +37,19 @@ fn make_workers<W: Yields<F> + Drop, F: Drop>(
         let Some(seat) = board.seat(&mut opener) else {
             break;
         };
-        let number = crew.len();
+        let number = crew.len() + 1;
         crew.push_reserved(Worker { number, seat });
     }
-    let number = crew.len();
     crew.push_reserved(Worker {
-        number,
+        number: 0,
         seat: opener,
     });
     crew.reverse();
     Ok(crew)
 }
 
-// The workers' seats once all works are claimed.
+// The workers' seats once all works are claimed. The first worker works on the calling thread, which starts the threads
+// of all others: where one new thread starts another, the system mostly puts both on the same processor.
 fn run_workers<
     W: Job<F> + Drop + Send + Sync,
     F: Drop + Send + Sync,
@@ -59,21 +57,33 @@ fn run_workers<
     R: Threads + Sync,
 >(
     rt: &R,
+    alloc: Global,
     board: &Board<W, F>,
-    crew: Vec<Worker<W, F>>,
+    mut crew: Vec<Worker<W, F>>,
     gate: &G,
 ) -> Result<Vec<Seat<W, F>>, NoMemory>
     requires { All (λ w. (w.seat.board ≡ board.now) × IsIdle w.seat) crew.items }
     ensures { IfOk result (λ v. AreWorked (map (λ w. w.seat) crew.items) v.items) }
 {
-    let seats = thread::map_vec(
-        rt,
-        crew,
-        &|worker: Worker<W, F>| -> Seat<W, F>
-            requires { (worker.seat.board ≡ board.now) × IsIdle worker.seat }
-            ensures { IsWorked worker.seat result }
-        { work(board, worker.seat, worker.number, gate) },
-    )?;
+    let Some(last) = crew.pop() else {
+        return Ok(Vec::new(alloc));
+    };
+    if crew.is_empty() {
+        let mut seats = Vec::new(alloc);
+        seats.push(work(board, last.seat, last.number, gate))?;
+        return Ok(seats);
+    }
+    let one = move || -> Seat<W, F>
+        requires { (last.seat.board ≡ board.now) × IsIdle last.seat }
+        ensures { IsWorked last.seat result }
+    { work(board, last.seat, last.number, gate) };
+    let others = move || -> Result<Vec<Seat<W, F>>, NoMemory>
+        requires { All (λ w. (w.seat.board ≡ board.now) × IsIdle w.seat) crew.items }
+        ensures { IfOk result (λ v. AreWorked (map (λ w. w.seat) crew.items) v.items) }
+    { run_workers(rt, alloc, board, crew, gate) };
+    let (seat, seats) = join(rt, one, others);
+    let mut seats = seats?;
+    seats.push(seat)?;
     Ok(seats)
 }
 
@@ -134,6 +144,6 @@ pub fn run_on<
 {
     let (board, opener) = Board::open(alloc, works)?;
     let crew = make_workers(alloc, &board, opener, workers_on(workers, starts))?;
-    let seats = run_workers(rt, &board, crew, gate)?;
+    let seats = run_workers(rt, alloc, &board, crew, gate)?;
     Ok(board.close(seats))
 }

@@ -1,15 +1,16 @@
 //! A list of transactions, applied one after the other or in batches.
 ghost use Rattle.std.specs.Prelude.{◌≡◌, ◌++◌, IfOk, OnOk};
 ghost use Rattle.data_tree.specs.Meaning.{state_after, outcomes_of_txns};
+ghost use Rattle.apply_workers.specs.Inner.{IsNextBatch};
 
 use crate::batch::apply_lent;
 use crate::gate::Gate;
 use crate::starts::AllStart;
 use crate::work_size::is_worth_spreading;
-use batcher::{Limits, SpreadThreshold, front_of};
+use batcher::{Front, LentBatch, Limits, SpreadThreshold, front_of};
 use data_tree::{Outcome, Tree};
 use std::alloc::Global;
-use std::thread::Threads;
+use std::thread::{Threads, join_mut};
 use txn_codec::Txn;
 use values::NoMemory;
 
@@ -45,37 +46,55 @@ pub fn apply_list_inline(
     Ok(outcomes)
 }
 
-// Cuts the transactions into batches, applies each by workers, and appends the outcomes.
+// The batch at the front of the list, or none where its next transactions aren't worth threads.
+fn next_batch(
+    alloc: Global,
+    txns: &[Txn],
+    limits: &Limits,
+    threshold: &SpreadThreshold,
+) -> Result<Option<Front>, NoMemory>
+    ensures { IfOk result (λ next. IsNextBatch next txns.now) }
+{
+    let (next, _) = txns.split_at(limits.batch().min(txns.len()));
+    if next.is_empty() || limits.workers() <= 1 || !is_worth_spreading(next, threshold) {
+        return Ok(None);
+    }
+    Ok(Some(front_of(alloc, txns, limits)?))
+}
+
+// Applies the batch by workers and appends its outcomes. Meanwhile one more thread cuts the batch after it.
 fn spread_onto<G: Gate + Sync, R: Threads + Sync>(
     rt: &R,
     alloc: Global,
     tree: &mut Tree,
-    txns: &[Txn],
+    batch: &LentBatch<'_>,
+    later: &[Txn],
     limits: &Limits,
+    threshold: &SpreadThreshold,
     gate: &G,
     outcomes: &mut Vec<Outcome>,
-) -> Result<(), NoMemory>
-    ensures tree { OnOk result (tree.new ≡ state_after tree.old txns.now) }
+) -> Result<Option<Front>, NoMemory>
+    ensures tree { OnOk result (tree.new ≡ state_after tree.old batch.now) }
     ensures outcomes { OnOk result
-        (outcomes.new.items ≡ outcomes.old.items ++ outcomes_of_txns tree.old txns.now) }
+        (outcomes.new.items ≡ outcomes.old.items ++ outcomes_of_txns tree.old batch.now) }
+    ensures next { IfOk result (λ next. IsNextBatch next later.now) }
 {
-    let mut rest = txns;
-    while !rest.is_empty() {
-        let front = front_of(alloc, rest, limits)?;
-        let batch = front.lend(rest);
-        let mut answered = apply_lent(rt, alloc, tree, &batch, limits.workers(), gate, &AllStart)?;
-        outcomes.append(&mut answered)?;
-        let (_, later) = rest.split_at(front.len());
-        rest = later;
-    }
-    Ok(())
+    let mut cut = || next_batch(alloc, later, limits, threshold);
+    let mut apply = || apply_lent(rt, alloc, tree, batch, limits.workers(), gate, &AllStart);
+    let (next, answered) = if later.is_empty() {
+        (Ok(None), apply())
+    } else {
+        join_mut(rt, &mut cut, &mut apply)
+    };
+    outcomes.append(&mut answered?)?;
+    next
 }
 
 /// Applies the transactions in batches within the limits, each as [`apply_batch`](crate::apply_batch) does, and returns
-/// the outcomes in their order. Tree and outcomes are those of applying the transactions one after the other. Of each
-/// `limits.batch()` transactions that are less work than the threshold, and of all of them where there is one worker,
-/// no batch is made: they are applied to the tree itself, and pass no gate. A refused allocation leaves the tree
-/// unspecified, and the caller drops it.
+/// the outcomes in their order. Tree and outcomes are those of applying the transactions one after the other. While
+/// the workers apply a batch, one more thread cuts the one after it. Where the next `limits.batch()` transactions are
+/// less work than the threshold, and everywhere if there is one worker, no batch is made of them: they are applied to
+/// the tree itself, and pass no gate. A refused allocation leaves the tree unspecified, and the caller drops it.
 pub fn apply_list<G: Gate + Sync, R: Threads + Sync>(
     rt: &R,
     alloc: Global,
@@ -90,14 +109,32 @@ pub fn apply_list<G: Gate + Sync, R: Threads + Sync>(
 {
     let mut outcomes = Vec::with_capacity(alloc, txns.len())?;
     let mut rest = txns;
+    let mut next = next_batch(alloc, rest, limits, threshold)?;
     while !rest.is_empty() {
-        let (next, later) = rest.split_at(limits.batch().min(rest.len()));
-        if limits.workers() > 1 && is_worth_spreading(next, threshold) {
-            spread_onto(rt, alloc, tree, next, limits, gate, &mut outcomes)?;
-        } else {
-            apply_onto(alloc, tree, next, &mut outcomes)?;
+        match next {
+            None => {
+                let (front, later) = rest.split_at(limits.batch().min(rest.len()));
+                apply_onto(alloc, tree, front, &mut outcomes)?;
+                next = next_batch(alloc, later, limits, threshold)?;
+                rest = later;
+            }
+            Some(front) => {
+                let (_, later) = rest.split_at(front.len());
+                let batch = front.lend(rest);
+                next = spread_onto(
+                    rt,
+                    alloc,
+                    tree,
+                    &batch,
+                    later,
+                    limits,
+                    threshold,
+                    gate,
+                    &mut outcomes,
+                )?;
+                rest = later;
+            }
         }
-        rest = later;
     }
     Ok(outcomes)
 }

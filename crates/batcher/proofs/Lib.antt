@@ -1,5 +1,7 @@
 -- Paths and transactions that are taken one after the other.
 mod Steps
+-- Keys that are read one after the other.
+mod KeyLists
 -- The group that is met.
 mod Meeting
 -- The paths of a transaction that no group owns, and a group that gains them.

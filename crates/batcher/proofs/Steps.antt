@@ -24,14 +24,14 @@ use Rattle.data_tree.specs.Footprint.{has_path}
 abbrev pub IsNext : {A : Type 0} → List A → ℕ → A → Type 0
 IsNext xs i x = drop i xs ≡ x ∷ drop (i + 1) xs
 
-pub next_is : {A : Type 0} (xs : List A) (i : ℕ) (x : A) → i < length xs → x ≡ get_or xs i x → IsNext xs i x
-next_is xs i x within is =
-    drop-cons xs i x within
-    ∙ (λ j. sym is j ∷ drop (suc i) xs)
-    ∙ ap (λ n. x ∷ drop n xs) (more i)
+pub next_at : {A : Type 0} (xs : List A) (i : ℕ) (d : A) → i < length xs → IsNext xs i (get_or xs i d)
+next_at xs i d within = drop-cons xs i d within ∙ ap (λ n. get_or xs i d ∷ drop n xs) (more i)
   where
     more : (i : ℕ) → suc i ≡ i + 1
     more i = omega arith
+
+pub next_is : {A : Type 0} (xs : List A) (i : ℕ) (x : A) → i < length xs → x ≡ get_or xs i x → IsNext xs i x
+next_is xs i x within is = next_at xs i x within ∙ (λ j. sym is j ∷ drop (i + 1) xs)
 
 one_less : (a b c : Bool) → ((a || b) || c) ≡ (b || (a || c))
 one_less true true c = refl

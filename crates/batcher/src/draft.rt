@@ -12,7 +12,7 @@ ghost use Rattle.batcher.specs.Inner.Taking.{HasTaken, tagged_front_after};
 ghost use Rattle.batcher.specs.Inner.Drafts.{tagged_in, IsDraft};
 
 use crate::group::Group;
-use crate::key::PathKey;
+use crate::key::{PathKey, read_keys};
 use crate::limits::Limits;
 use crate::met::{Met, met_by};
 use footprint::{borrow_paths, is_barrier};
@@ -104,10 +104,12 @@ impl<'a> Draft<'a> {
         })
     }
 
-    // The group for a transaction with these paths, if there is one, and the paths that no group owns yet.
+    // The group for a transaction with these paths, if there is one, and the paths that no group owns yet. The keys are
+    // replaced by those of the paths.
     fn group_for(
         &self,
         paths: &[Str<'a>],
+        keys: &mut Vec<PathKey<'a>>,
         unowned: &mut Vec<Str<'a>>,
     ) -> Result<Option<usize>, NoMemory>
         requires { IsDraft self.now }
@@ -115,7 +117,8 @@ impl<'a> Draft<'a> {
         ensures unowned { OnOk result
             (unowned.new.items ≡ unowned_paths (get_by_path self.now.owners) paths.now) }
     {
-        let met = met_by(&self.owners, paths, unowned)?;
+        read_keys(paths, keys)?;
+        let met = met_by(&self.owners, keys.as_slice(), unowned)?;
         if paths.is_empty() {
             return Ok(Some(self.groups.len().saturating_sub(1)));
         }
@@ -151,6 +154,7 @@ impl<'a> Draft<'a> {
         alloc: Global,
         txn: &'a Txn,
         paths: &[Str<'a>],
+        keys: &mut Vec<PathKey<'a>>,
         unowned: &mut Vec<Str<'a>>,
         limits: &Limits,
     ) -> Result<bool, NoMemory>
@@ -166,7 +170,7 @@ impl<'a> Draft<'a> {
         if is_barrier(alloc, txn, paths)? {
             return Ok(false);
         }
-        match self.group_for(paths, unowned)? {
+        match self.group_for(paths, keys, unowned)? {
             None => return Ok(false),
             Some(group) => {
                 if group >= limits.groups() {
@@ -187,13 +191,21 @@ impl<'a> Draft<'a> {
     {
         let most = limits.batch().min(txns.len());
         let mut draft = Draft::with_capacity(alloc, most)?;
-        // One transaction's paths, and those that no group owns yet; the vectors are reused for each.
+        // One transaction's paths, their keys, and the paths that no group owns yet; the vectors are reused for each.
         let mut paths = Vec::new(alloc);
+        let mut keys = Vec::new(alloc);
         let mut unowned = Vec::new(alloc);
         for txn in txns {
             paths.clear();
             borrow_paths(txn, &mut paths)?;
-            if !draft.take(alloc, txn, paths.as_slice(), &mut unowned, limits)? {
+            if !draft.take(
+                alloc,
+                txn,
+                paths.as_slice(),
+                &mut keys,
+                &mut unowned,
+                limits,
+            )? {
                 return Ok(draft);
             }
         }

@@ -1,7 +1,9 @@
 //! Paths as the keys of a map.
 
-ghost use Rattle.std.specs.Prelude.{◌≡◌};
-ghost use Rattle.batcher.specs.Inner.Keys.{tail_of};
+ghost use Rattle.std.specs.Prelude.{◌≡◌, All, OnOk};
+ghost use Rattle.batcher.specs.Inner.Keys.{tail_of, paths_of, HasItsTail};
+
+use values::{NoMemory, Str};
 
 /// A path, compared by its last eight bytes first. The paths of a batch mostly begin alike and end apart, so one
 /// comparison of two numbers mostly tells them apart.
@@ -32,4 +34,24 @@ impl<'a> PathKey<'a> {
             path,
         }
     }
+
+    /// The path.
+    pub fn path(&self) -> &'a str
+        ensures { result.now ≡ self.now.path.now }
+    {
+        self.path
+    }
+}
+
+/// Replaces the keys by those of the paths. A path's bytes are mostly not in the caches yet; read one after the other, with
+/// nothing else between, the processor fetches those of many paths at once.
+pub fn read_keys<'a>(paths: &[Str<'a>], keys: &mut Vec<PathKey<'a>>) -> Result<(), NoMemory>
+    ensures paths { OnOk result (paths_of keys.new.items ≡ paths.now) }
+    ensures tails { OnOk result (All HasItsTail keys.new.items) }
+{
+    keys.clear();
+    for path in paths {
+        keys.push(PathKey::new(path.as_str()))?;
+    }
+    Ok(())
 }

@@ -1,7 +1,7 @@
 //! The groups that a transaction meets.
 
-ghost use Rattle.std.specs.Prelude.{◌≡◌, ◌++◌, ◌∷◌, [], Some, IfOk, OnOk};
-ghost use Rattle.batcher.specs.Inner.Keys.{get_by_path};
+ghost use Rattle.std.specs.Prelude.{◌≡◌, ◌++◌, ◌∷◌, [], Some, All, IfOk, OnOk};
+ghost use Rattle.batcher.specs.Inner.Keys.{get_by_path, paths_of, HasItsTail};
 ghost use Rattle.batcher.specs.Inner.Joining.{met_with, all_met, unowned_paths};
 ghost use Rattle.batcher.specs.declared.met.Met.TheVariants.{Nothing};
 
@@ -18,10 +18,11 @@ pub enum Met {
     Several,
 }
 
-fn owner<'p>(owners: &BTreeMap<PathKey<'p>, usize>, path: &'p str) -> Option<usize>
-    ensures { result ≡ get_by_path owners.now path.now }
+fn owner<'p>(owners: &BTreeMap<PathKey<'p>, usize>, key: &PathKey<'p>) -> Option<usize>
+    requires { HasItsTail key.now }
+    ensures { result ≡ get_by_path owners.now key.now.path.now }
 {
-    owners.get(&PathKey::new(path)).copied()
+    owners.get(key).copied()
 }
 
 // The groups met so far, and one more.
@@ -44,36 +45,39 @@ fn met_with(met: Met, group: usize) -> Met
 fn meet<'p>(
     met: Met,
     owners: &BTreeMap<PathKey<'p>, usize>,
-    path: &'p str,
+    key: &PathKey<'p>,
     unowned: &mut Vec<Str<'p>>,
 ) -> Result<Met, NoMemory>
-    ensures met { IfOk result (λ more. more ≡ met_with met (get_by_path owners.now path.now)) }
+    requires { HasItsTail key.now }
+    ensures met { IfOk result (λ more. more ≡ met_with met (get_by_path owners.now key.now.path.now)) }
     ensures unowned { OnOk result (unowned.new.items
-        ≡ unowned.old.items ++ unowned_paths (get_by_path owners.now) (path.now ∷ [])) }
+        ≡ unowned.old.items ++ unowned_paths (get_by_path owners.now) (key.now.path.now ∷ [])) }
 {
-    match owner(owners, path) {
+    match owner(owners, key) {
         None => {
-            unowned.push(Str::new(path))?;
+            unowned.push(Str::new(key.path()))?;
             Ok(met)
         }
         Some(group) => Ok(met_with(met, group)),
     }
 }
 
-/// The groups that own one of the paths, and the paths that none owns.
+/// The groups that own one of the paths with these keys, and the paths that none owns.
 pub fn met_by<'p>(
     owners: &BTreeMap<PathKey<'p>, usize>,
-    paths: &[Str<'p>],
+    keys: &[PathKey<'p>],
     unowned: &mut Vec<Str<'p>>,
 ) -> Result<Met, NoMemory>
-    ensures met { IfOk result (λ met. met ≡ all_met (get_by_path owners.now) Nothing paths.now) }
+    requires { All HasItsTail keys.now }
+    ensures met { IfOk result (λ met.
+        met ≡ all_met (get_by_path owners.now) Nothing (paths_of keys.now)) }
     ensures unowned { OnOk result
-        (unowned.new.items ≡ unowned_paths (get_by_path owners.now) paths.now) }
+        (unowned.new.items ≡ unowned_paths (get_by_path owners.now) (paths_of keys.now)) }
 {
     unowned.clear();
     let mut met = Met::Nothing;
-    for path in paths {
-        met = meet(met, owners, path.as_str(), unowned)?;
+    for key in keys {
+        met = meet(met, owners, key, unowned)?;
     }
     Ok(met)
 }

@@ -1,5 +1,5 @@
 -- Paths as the keys of a map.
-use Rattle.std.specs.Prelude.{ℕ, ◌-◌, ◌++◌, length, drop, replicate, Option}
+use Rattle.std.specs.Prelude.{◌≡◌, ℕ, ◌-◌, List, ◌++◌, map, length, drop, replicate, Option}
 use Rattle.std.specs.Int.{from_be_bytes, w64}
 use Rattle.std.specs.declared.cmp.Ordering.{Ordering}
 use Rattle.std.specs.Ordering.{nat_cmp, ordering_then}
@@ -14,6 +14,12 @@ last_eight p = drop (length p - 8) p
 -- The last eight bytes as a number, with zeros after those of a shorter path.
 abbrev pub tail_of : Bytes → ℕ
 tail_of p = from_be_bytes w64 (last_eight p ++ drop (length (last_eight p)) (replicate 8 0))
+
+abbrev pub HasItsTail : PathKey → Type 0
+HasItsTail key = key.tail ≡ tail_of key.path.now
+
+abbrev pub paths_of : List PathKey → List Bytes
+paths_of keys = map (λ key. key.path.now) keys
 
 -- By their last bytes, and then by all.
 abbrev pub compare_keys : ℕ → Bytes → PathKey → Ordering

@@ -1,9 +1,0 @@
-use Rattle.std.proofs.Common.{length}
-use Rattle.apply_workers.proofs.AppendedLists.{IsOnTheWay}
-use Rattle.apply_workers.proofs.list.spread_onto.Given as goal
-
-abbrev pub invariant-loop-rest : goal.invariant-loop-rest
-invariant-loop-rest g l = IsOnTheWay l.fn.tree l.txns l.fn.outcomes.items l.tree l.rest l.outcomes.items
-
-abbrev pub decreases-loop-rest : goal.decreases-loop-rest
-decreases-loop-rest g l = length l.rest
