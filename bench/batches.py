@@ -28,7 +28,7 @@ SMALL, CREATES, SETS, TIMES = 16, 262_144, 16_384, 16
 # The bytes of a node's data; how many transactions there are, and how often they are done.
 SIZES = {64: (16_384, 8), 1024: (16_384, 8), 4096: (4096, 16), 65_536: (1024, 4)}
 # Multis are done in batches of several lengths, since several workers pay in long ones only.
-LONG, LONG_MULTIS, LONG_TIMES = 4096, 4096, 2
+LONG, LONG_MULTIS, LONG_TIMES = 4096, 4096, 12
 LENGTHS = (256, 512, 1024, 4096)
 PAYING = 1024
 WORKS, WORK_TIMES = 65_536, 16
@@ -57,11 +57,13 @@ class Load:
 
 
 class Txns:
-    """Transactions of a kind, with so many bytes of data for a node, done so many times, in batches of a length."""
+    """Transactions of a kind, with so many bytes of data for a node, done so many times, in batches of a length, and as
+    lists of a length, that of a batch where it isn't given."""
 
-    def __init__(self, kind, count, size, times, length=LENGTH):
+    def __init__(self, kind, count, size, times, length=LENGTH, list_length=None):
         self.words, self.done, self.length = [kind, count, size, times], count * times, length
         self.batches, self.groups = self.counts(length)
+        self.list_length = list_length or length
 
     def counts(self, length):
         """How many batches of this length there are, and how many groups in all of them."""
@@ -87,10 +89,10 @@ class Txns:
         return Load(["batch"] + self.words + [workers, self.length], self.done, self.batches, self.groups)
 
     def inline(self):
-        return Load(["inline"] + self.words + [self.length], self.done, 0, 0)
+        return Load(["inline"] + self.words + [self.list_length], self.done, 0, 0)
 
     def listed(self, workers):
-        return Load(["list"] + self.words + [workers, self.length], self.done, 0, 0)
+        return Load(["list"] + self.words + [workers, self.length, self.list_length], self.done, 0, 0)
 
 
 def small():
@@ -117,7 +119,9 @@ def lists():
         for size in SWEEP_SIZES:
             times = max(1, SWEEP_SIZES[-1] // size // 4)
             found[f"{length:,} sets of {size:,} bytes"] = (Txns("sets", 1024, size, times, length), size == SWEEP_SIZES[-1])
-    found[f"{PAYING:,} multis"] = (Txns("multis", LONG_MULTIS, LONG, LONG_TIMES, PAYING), True)
+    found[f"{PAYING:,} multis"] = (Txns("multis", LONG_MULTIS, LONG, LONG_TIMES, PAYING), False)
+    found[f"{LONG_MULTIS:,} multis, batches of {PAYING:,}"] = (
+        Txns("multis", LONG_MULTIS, LONG, LONG_TIMES, PAYING, LONG_MULTIS), True)
     return found
 
 

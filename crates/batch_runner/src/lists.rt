@@ -40,13 +40,15 @@ pub fn lists_by_workers<R: Threads + Clock + Sync>(
     alloc: Global,
     txns: &[Txn],
     times: u32,
+    length: usize,
     limits: &Limits,
 ) -> Result<Tally> {
+    ensure!(length > 0, "a list is empty");
     let always = SpreadThreshold::ALWAYS;
     let mut tally = Tally::new();
     let mut tree = tree(alloc)?;
     for _ in 0..times {
-        for list in txns.chunks(limits.batch()) {
+        for list in txns.chunks(length) {
             let since = Instant::now(rt)?;
             let outcomes = apply_list(rt, alloc, &mut tree, list, limits, &always, &OpenGate)?;
             tally.count_all(outcomes.as_slice());

@@ -17,11 +17,11 @@
 //! `batch_runner batch KIND COUNT BYTES TIMES WORKERS LENGTH`: they are moved into batches of up to LENGTH, each of
 //! which is applied by up to WORKERS workers and dropped.
 //!
-//! `batch_runner inline KIND COUNT BYTES TIMES LENGTH`: they are applied as lists of up to LENGTH, one after the other,
-//! and stay.
+//! `batch_runner inline KIND COUNT BYTES TIMES LIST`: they are applied as lists of up to LIST, one after the other, and
+//! stay.
 //!
-//! `batch_runner list KIND COUNT BYTES TIMES WORKERS LENGTH`: the same, but each list is applied in batches by up to
-//! WORKERS workers; by one worker it isn't cut.
+//! `batch_runner list KIND COUNT BYTES TIMES WORKERS LENGTH LIST`: the same with lists of up to LIST, each of which is
+//! applied in batches of up to LENGTH by up to WORKERS workers; by one worker it isn't cut.
 //!
 //! `batch_runner board WORKS TIMES WORKERS`: WORKS empty works are claimed at a board and given back, by up to WORKERS
 //! workers.
@@ -60,8 +60,8 @@ use works::claimed;
 const USAGE: &str =
     "wanted: cut KIND COUNT BYTES TIMES, or move KIND COUNT BYTES TIMES, or lend KIND COUNT BYTES TIMES, \
     or apply KIND COUNT BYTES TIMES, or keep KIND COUNT BYTES TIMES, \
-    or batch KIND COUNT BYTES TIMES WORKERS LENGTH, or inline KIND COUNT BYTES TIMES LENGTH, \
-    or list KIND COUNT BYTES TIMES WORKERS LENGTH, or board WORKS TIMES WORKERS";
+    or batch KIND COUNT BYTES TIMES WORKERS LENGTH, or inline KIND COUNT BYTES TIMES LIST, \
+    or list KIND COUNT BYTES TIMES WORKERS LENGTH LIST, or board WORKS TIMES WORKERS";
 
 // The words after the program's name.
 fn words(rt: &HostRuntime) -> Result<Vec<String>> {
@@ -108,7 +108,8 @@ fn apply_together<R: Threads + Clock + Sync>(
         return lists_inline(rt, alloc, txns, times, length);
     }
     if word == "list" {
-        return lists_by_workers(rt, alloc, txns, times, &limits_of(words)?);
+        let length = number(words, 7)? as usize;
+        return lists_by_workers(rt, alloc, txns, times, length, &limits_of(words)?);
     }
     if word == "batch" {
         return by_workers(rt, alloc, txns, times, &limits_of(words)?);
