@@ -1,1 +1,3 @@
+pub mod Buffers
 pub mod Fronts
+pub mod LongFrames

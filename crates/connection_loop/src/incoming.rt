@@ -1,12 +1,17 @@
 //! The bytes of a connection, until they are sent on.
 
-ghost use Rattle.std.specs.Prelude.{◌≡◌, ◌≢◌, ◌≤◌, ◌+◌, ◌-◌, IfSome, IsTrue, length, take, drop};
+ghost use Rattle.std.specs.Prelude.{◌≡◌, ◌≢◌, ◌≤◌, ◌<◌, ◌+◌, ◌-◌, ◌/◌, ◌↔◌, IfSome, IsSome, IsTrue, IfOk, OnOk, OnErr, length, take, drop, vec_len};
+ghost use Rattle.std.specs.Bool.{OnFalse};
+ghost use Rattle.std.specs.Io.{StartsWith, appended_bytes};
+ghost use Rattle.std.specs.Io.KnownBytes.{Keeps, Consumes, IsAtEnd};
 ghost use Rattle.connection_loop.specs.Frames.{whole_frames_length};
+ghost use Rattle.connection_loop.specs.Incoming.{buffer_length, nothing_unsent, first_frame_length, piece_for_client, last_piece, next_piece};
 
 use crate::frames::whole_frames;
 use std::alloc::Global;
 use std::io;
 use std::io::Read;
+use std::marker::Model;
 use values::{Blob, NoMemory};
 
 /// The most bytes that are read at once and wait to be sent on.
@@ -31,11 +36,12 @@ pub struct Piece {
     pub len: usize,
     /// Whether a frame ends in it.
     pub ends_frame: bool,
-    // The number of bytes of its last frame that come after it, if that frame is longer than the buffer.
-    missing: usize,
+    /// The number of bytes of its last frame that come after it, if that frame is longer than the buffer.
+    pub missing: usize,
 }
 
-/// The bytes of a connection that weren't sent on yet.
+/// The bytes of a connection that weren't sent on yet. Its model has them in the order in which they were read: what is
+/// read is added at the end, and a piece is taken off the front.
 #[derive(Drop)]
 pub struct Incoming {
     cutting: Cutting,
@@ -46,8 +52,25 @@ pub struct Incoming {
     missing: usize,
 }
 
+impl Model for Incoming {
+    ghost use Rattle.std.specs.Prelude.{◌≤◌, slice_range, vec_len};
+    ghost use Rattle.connection_loop.specs.Incoming.{Unsent, buffer_length};
+
+    ghost Value = { Unsent };
+
+    ghost view = { λ i. record {
+      bytes = slice_range i.buffer.items i.start i.end;
+      missing = i.missing;
+      cutting = i.cutting;
+    } };
+
+    ghost invariant = { λ i. (i.start ≤ i.end) × (i.end ≤ vec_len i.buffer) × (vec_len i.buffer ≤ buffer_length) };
+}
+
 // The length of the frame that the bytes begin with, its length prefix included.
-fn frame_len(bytes: &[u8]) -> usize {
+fn frame_len(bytes: &[u8]) -> usize
+    ensures { result ≡ first_frame_length bytes.now }
+{
     match bytes.first_chunk::<4>() {
         Some(length) => (u32::from_be_bytes(*length) as usize).saturating_add(4),
         None => 0,
@@ -56,9 +79,14 @@ fn frame_len(bytes: &[u8]) -> usize {
 
 // The next piece of a client's bytes. The first `missing` bytes belong to a frame that was sent on in part.
 fn next_frames(waiting: &[u8], missing: usize) -> Option<Piece>
+    requires { 0 < length waiting.now }
+    ensures piece { result ≡ piece_for_client waiting.now missing }
     ensures frames { missing ≡ 0
         → IfSome result (λ p. IsTrue p.ends_frame → p.len ≡ whole_frames_length 16 waiting.now) }
     ensures rest { missing ≢ 0 → IfSome result (λ p. p.len + p.missing ≡ missing) }
+    ensures within { IfSome result (λ p. (0 < p.len) × (p.len ≤ length waiting.now)) }
+    ensures full { buffer_length ≤ length waiting.now → IsSome result }
+    ensures ends { IfSome result (λ p. IsTrue p.ends_frame ↔ (p.missing ≡ 0)) }
 {
     if missing > 0 {
         let len = waiting.len().min(missing);
@@ -101,9 +129,32 @@ fn move_to_start(bytes: &mut [u8], start: usize, end: usize)
     front[..len].copy_from_slice(&back[..len]);
 }
 
+// Moves the waiting bytes to the buffer's start if there is no room after them, and returns where they begin then.
+// Mostly at most half of the buffer waits then, so at most as many bytes are moved as were sent on.
+fn make_room(buffer: &mut Vec<u8>, start: usize, end: usize) -> usize
+    requires order { start ≤ end }
+    requires inside { end ≤ vec_len buffer.old }
+    ensures waiting { take (end - start) (drop result buffer.new.items)
+        ≡ take (end - start) (drop start buffer.old.items) }
+    ensures len { vec_len buffer.new ≡ vec_len buffer.old }
+    ensures inside { result + (end - start) ≤ vec_len buffer.new }
+    ensures room { end - start < buffer_length → result + (end - start) < buffer_length }
+{
+    if start == end {
+        return 0;
+    }
+    if end < READ_LEN {
+        return start;
+    }
+    move_to_start(buffer.as_mut_slice(), start, end);
+    0
+}
+
 impl Incoming {
     /// No bytes yet. The buffer is allocated for the first read.
-    pub fn new(alloc: Global, cutting: Cutting) -> Incoming {
+    pub fn new(alloc: Global, cutting: Cutting) -> Incoming
+        ensures { result ≡ nothing_unsent cutting }
+    {
         Incoming {
             cutting,
             buffer: Vec::new(alloc),
@@ -114,48 +165,54 @@ impl Incoming {
     }
 
     /// The bytes that weren't sent on yet.
-    pub fn waiting(&self) -> &[u8] {
-        self.buffer.get(self.start..self.end).unwrap_or(&[])
+    pub fn waiting(&self) -> &[u8]
+        ensures bytes { result.now ≡ self.now.bytes }
+        ensures fits { length self.now.bytes ≤ buffer_length }
+    {
+        &self.buffer[self.start..self.end]
     }
 
     /// Whether nothing more has to be read before something is sent on: a piece is ready, and more than half of the
     /// buffer waits.
-    pub fn is_full(&self) -> bool {
+    pub fn is_full(&self) -> bool
+        ensures full { IsTrue result
+            ↔ ((buffer_length / 2 < length self.now.bytes) × IsSome (next_piece self.now)) }
+        ensures room { OnFalse result (length self.now.bytes < buffer_length) }
+    {
         self.waiting().len() > READ_LEN / 2 && self.next().is_some()
     }
 
-    // Moves the waiting bytes to the buffer's start if there is no room after them. Mostly at most half of the buffer waits
-    // then, so at most as many bytes are moved as were sent on.
-    fn make_room(&mut self) {
-        let (start, end) = (self.start, self.end);
-        self.start = 0;
-        self.end = 0;
-        if end <= start || end > self.buffer.len() {
-            return;
-        }
-        if end < READ_LEN {
-            self.start = start;
-            self.end = end;
-            return;
-        }
-        move_to_start(self.buffer.as_mut_slice(), start, end);
-        self.end = end - start;
-    }
-
-    /// Reads as much as there is room for, and returns the number of bytes.
-    pub fn read_from<R: Read>(&mut self, reader: &mut R) -> io::Result<usize> {
-        self.make_room();
+    /// Reads as much as there is room for, which mustn't be none, and adds it at the end. Returns the number of bytes,
+    /// which is 0 at the end of the stream. An error leaves the bytes as they were.
+    pub fn read_from<R: Read>(&mut self, reader: &mut R) -> io::Result<usize>
+        requires { length self.old.bytes < buffer_length }
+        ensures kept { OnOk result (StartsWith self.new.bytes self.old.bytes) }
+        ensures count { IfOk result (λ n. length self.new.bytes ≡ length self.old.bytes + n) }
+        ensures read { OnOk result (Consumes (R.remaining reader.old) (R.remaining reader.new)
+            (appended_bytes self.old.bytes self.new.bytes)) }
+        ensures end { IfOk result (λ n. n ≡ 0 → IsAtEnd (R.remaining reader.new)) }
+        ensures err { OnErr result (self.new.bytes ≡ self.old.bytes) }
+        ensures unread { OnErr result (Keeps (R.remaining reader.old) (R.remaining reader.new)) }
+        ensures cut { (self.new.missing ≡ self.old.missing) × (self.new.cutting ≡ self.old.cutting) }
+        ensures fits { length self.new.bytes ≤ buffer_length }
+    {
+        let len = self.end - self.start;
+        self.start = make_room(&mut self.buffer, self.start, self.end);
+        self.end = self.start + len;
         self.buffer.resize(READ_LEN, 0)?;
-        if self.end > self.buffer.len() {
-            return Ok(0);
-        }
         let count = reader.read(&mut self.buffer[self.end..])?;
-        self.end = self.end.saturating_add(count);
+        self.end += count;
         Ok(count)
     }
 
     /// The next piece to send on. A client's frame waits until it is complete, or fills the buffer.
-    pub fn next(&self) -> Option<Piece> {
+    pub fn next(&self) -> Option<Piece>
+        ensures piece { result ≡ next_piece self.now }
+        ensures within { IfSome result (λ p. (0 < p.len) × (p.len ≤ length self.now.bytes)) }
+        ensures full { buffer_length ≤ length self.now.bytes → IsSome result }
+        ensures ends { self.now.cutting ≡ Cutting.Frames
+            → IfSome result (λ p. IsTrue p.ends_frame ↔ (p.missing ≡ 0)) }
+    {
         let waiting = self.waiting();
         if waiting.is_empty() {
             return None;
@@ -167,7 +224,11 @@ impl Incoming {
     }
 
     /// All waiting bytes, for a connection that brings no more.
-    pub fn last(&self) -> Option<Piece> {
+    pub fn last(&self) -> Option<Piece>
+        ensures piece { result ≡ last_piece self.now.bytes }
+        ensures within { IfSome result (λ p. (0 < p.len) × (p.len ≤ length self.now.bytes)) }
+        ensures some { 0 < length self.now.bytes → IsSome result }
+    {
         let len = self.waiting().len();
         if len == 0 {
             return None;
@@ -179,11 +240,16 @@ impl Incoming {
         })
     }
 
-    /// Takes the piece off the front. Fails only if an allocation is refused.
-    pub fn take(&mut self, alloc: Global, piece: Piece) -> Result<Blob, NoMemory> {
-        let bytes = self.waiting().get(..piece.len).unwrap_or(&[]);
-        let blob = Blob::new(alloc, bytes)?;
-        self.start = self.start.saturating_add(piece.len);
+    /// Takes the piece off the front. Fails only if an allocation is refused, and changes nothing then.
+    pub fn take(&mut self, alloc: Global, piece: Piece) -> Result<Blob, NoMemory>
+        requires { piece.len ≤ length self.old.bytes }
+        ensures bytes { IfOk result (λ blob. blob ≡ take piece.len self.old.bytes) }
+        ensures rest { OnOk result (self.new
+            ≡ record self.old { bytes = drop piece.len self.old.bytes; missing = piece.missing }) }
+        ensures err { OnErr result (self.new ≡ self.old) }
+    {
+        let blob = Blob::new(alloc, &self.waiting()[..piece.len])?;
+        self.start += piece.len;
         self.missing = piece.missing;
         Ok(blob)
     }
