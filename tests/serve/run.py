@@ -2,9 +2,9 @@
 """tests/serve/run.py [PROGRAM]: faults over sockets, tried at `serve` of the built program.
 
 It plays a small leader and many clients: some are reset, some are cut in the middle of a frame, some say nothing, some
-don't read, some send what is no frame, some go while their session or a write of theirs waits for the leader; and
-leaders that fault, or end in the middle of an image. PROGRAM is crates/replay_runner/out/replay_runner where none is
-named. The last line is `N passed, M failed`.
+don't read, some send what is no frame, some go while their session or a write of theirs waits for the leader, and many
+of these load it together with clients that pipeline; and leaders that fault, or end in the middle of an image. PROGRAM
+is crates/replay_runner/out/replay_runner where none is named. The last line is `N passed, M failed`.
 """
 import os
 import random
@@ -16,9 +16,11 @@ import sys
 import tempfile
 import threading
 import time
+from concurrent.futures import ThreadPoolExecutor
 
 sys.dont_write_bytecode = True
 import forwarded  # noqa: E402
+import load  # noqa: E402
 from leader import CLOSE_SESSION, CREATE, ERROR, EPOCH_1, received  # noqa: E402
 from server import (  # noqa: E402
     ACKEPOCH, CONNECT, CONNECTED_LEN, GET, GOT_LEN, LEADERINFO, OBSERVERINFO, PING, PINGED_LEN, SNAP, UPTODATE, Server,
@@ -180,7 +182,7 @@ def test_random_bytes():
         for turn in range(200):
             client = server.client() if turn % 2 else server.connection()
             try:
-                client.sendall(chance.randbytes(chance.randrange(1, 5000)))
+                client.sendall(bytes(chance.choices(range(256), k=chance.randrange(1, 5000))))
             except ConnectionError:
                 pass
             client.close()
@@ -666,6 +668,41 @@ def test_recorded_writes_replay():
         # Two sessions, the create and the sync.
         assert len([line for line in lines if line.startswith("L 00000001ffffffffffffffff")]) == 4, lines
         assert lines[-1] == f"end zxid=0x{EPOCH_1 + last:x} paths=5"
+
+
+def test_a_load_of_all_kinds():
+    with Server() as server:
+        assert server.is_at_base(load.SECONDS), server.threads()
+        base, before = server.descriptors(), server.memory()
+        nodes = [load.made(server.leader, size) for size in (0, 2, 100, 900)]
+        bursts = [(2000, 1), (2000, 4), (600, 1), (600, 4), (300, 1), (300, 20)]
+        pipelining = [load.Pipelining(server, nodes, seed, *burst) for seed, burst in enumerate(bursts)]
+        unknown, silent = [server.connection() for _ in range(10)], [server.client() for _ in range(10)]
+        stuck = [server.client() for _ in range(5)]
+        assert wait_until(lambda: server.threads() == 3 + 31, load.SECONDS), server.threads()
+        stop = threading.Event()
+        with ThreadPoolExecutor(2 * len(pipelining) + 1) as pool:
+            jobs = [pool.submit(client.read) for client in pipelining]
+            jobs += [pool.submit(client.ask, stop) for client in pipelining] + [pool.submit(load.push, stuck, stop)]
+            try:
+                most = load.cut_many(server, 200, 8)
+            finally:
+                stop.set()
+        for job in jobs:
+            job.result()
+        # Of a client that sends more than it reads, 1 MiB of requests, 1 MiB of answers and little more may be kept.
+        assert most - before < 2.5 * len(pipelining + stuck), (before, most)
+        # Who has said nothing gets a session, and whoever has one is answered.
+        for client in unknown:
+            client.sendall(CONNECT)
+            assert len(received(client, CONNECTED_LEN)) == CONNECTED_LEN
+        assert all(server.answers(client) for client in unknown + silent)
+        for client in unknown + silent + stuck:
+            client.close()
+        assert server.is_at_base(load.SECONDS), server.threads()
+        assert wait_until(lambda: server.descriptors() <= base, load.SECONDS), server.descriptors()
+        assert server.is_serving()
+        server.ends(seconds=load.SECONDS)
 
 
 def main(words):
