@@ -1,3 +1,4 @@
 pub mod Buffers
 pub mod Fronts
+pub mod Gathering
 pub mod LongFrames

@@ -8,8 +8,8 @@
 //! A session sends on at most 16 whole frames at once, and the next ones when the hub has taken these and the answers
 //! are written: a client that sends much, or doesn't read, blocks only itself. It is proved which bytes are whole
 //! frames ([`whole_frames`]), that the bytes of a connection wait in the order in which they were read, and which of
-//! them are taken next (`incoming.rt`); the rest of the code is proved safe. Tests show what happens if a read or a
-//! write fails.
+//! them are taken next (`incoming.rt`), and that the bytes of the outputs are written in their order, each once
+//! (`outgoing.rt`); the rest of the code is proved safe. Tests show what happens if a read or a write fails.
 #![tactic(auto)]
 
 mod bell;

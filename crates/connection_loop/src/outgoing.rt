@@ -1,10 +1,15 @@
 //! The bytes to send to a connection, until they are written.
 
+ghost use Rattle.std.specs.Prelude.{◌≡◌, ◌↔◌, ◌≤◌, [], IfOk, OnOk, OnErr, IsTrue, drop, length};
+ghost use Rattle.std.specs.Io.KnownBytes.{WriteAppends};
+ghost use Rattle.connection_loop.specs.Outgoing.{nothing_unwritten, with_output, HasGathered};
+
 use intake::Port;
 use observer_core::Output;
 use std::alloc::Global;
 use std::io;
 use std::io::Write;
+use std::marker::Model;
 use values::{Fault, NoMemory};
 
 /// No more outputs are gathered once this many bytes are.
@@ -24,8 +29,26 @@ pub struct Outgoing {
     fault: Option<Fault>,
 }
 
+impl Model for Outgoing {
+    ghost use Rattle.std.specs.Prelude.{◌≤◌, drop, vec_len};
+    ghost use Rattle.connection_loop.specs.Outgoing.{Unwritten};
+
+    ghost Value = { Unwritten };
+
+    ghost view = { λ o. record {
+      bytes = drop o.at o.bytes.items;
+      closing = o.closing;
+      fault = o.fault;
+    } };
+
+    ghost invariant = { λ o. o.at ≤ vec_len o.bytes };
+}
+
 impl Outgoing {
-    pub fn new(alloc: Global) -> Outgoing {
+    /// Nothing to write. The buffer is allocated for the first output.
+    pub fn new(alloc: Global) -> Outgoing
+        ensures { result ≡ nothing_unwritten }
+    {
         Outgoing {
             alloc,
             bytes: Vec::new(alloc),
@@ -36,22 +59,30 @@ impl Outgoing {
     }
 
     /// Whether everything gathered is written.
-    pub fn is_written(&self) -> bool {
-        self.at >= self.bytes.len()
+    pub fn is_written(&self) -> bool
+        ensures { IsTrue result ↔ (self.now.bytes ≡ []) }
+    {
+        self.bytes[self.at..].is_empty()
     }
 
     /// Whether the connection is to be closed after what was gathered.
-    pub fn is_closing(&self) -> bool {
+    pub fn is_closing(&self) -> bool
+        ensures { result ≡ self.now.closing }
+    {
         self.closing
     }
 
     /// The fault for which the leader is closed.
-    pub fn fault(&self) -> Option<Fault> {
+    pub fn fault(&self) -> Option<Fault>
+        ensures { result ≡ self.now.fault }
+    {
         self.fault
     }
 
     // Empties the buffer for the next outputs.
-    fn clear(&mut self) {
+    fn clear(&mut self)
+        ensures { self.new ≡ record self.old { bytes = [] } }
+    {
         if self.bytes.capacity() > KEPT {
             self.bytes = Vec::new(self.alloc);
         } else {
@@ -60,7 +91,11 @@ impl Outgoing {
         self.at = 0;
     }
 
-    fn put(&mut self, output: Output) -> Result<(), NoMemory> {
+    // Adds an output. A refused allocation changes nothing.
+    fn put(&mut self, output: Output) -> Result<(), NoMemory>
+        ensures ok { OnOk result (self.new ≡ with_output self.old output) }
+        ensures err { OnErr result (self.new ≡ self.old) }
+    {
         match output {
             Output::ToLeader(bytes) | Output::ToClient(_, bytes) => {
                 self.bytes.extend_from_slice(bytes.as_slice())?;
@@ -74,9 +109,12 @@ impl Outgoing {
         Ok(())
     }
 
-    /// Gathers the port's outputs while they are few, up to one that closes the connection. Returns whether there was
-    /// an output. Fails only if an allocation is refused.
-    pub fn gather(&mut self, port: &mut Port) -> Result<bool, NoMemory> {
+    /// Gathers the port's outputs while they are few, up to one that closes the connection. All gathered before has to be
+    /// written. Returns whether there was an output. Fails only if an allocation is refused.
+    pub fn gather(&mut self, port: &mut Port) -> Result<bool, NoMemory>
+        requires { self.old.bytes ≡ [] }
+        ensures { IfOk result (HasGathered self.old self.new port.old port.new) }
+    {
         self.clear();
         let mut found = false;
         for _ in 0..u64::MAX {
@@ -93,10 +131,14 @@ impl Outgoing {
     }
 
     /// Writes the rest, as far as the writer takes it, and returns the number of bytes.
-    pub fn write_to<W: Write>(&mut self, writer: &mut W) -> io::Result<usize> {
-        let rest = self.bytes.get(self.at..).unwrap_or(&[]);
-        let count = writer.write(rest)?;
-        self.at = self.at.saturating_add(count);
+    pub fn write_to<W: Write>(&mut self, writer: &mut W) -> io::Result<usize>
+        ensures written { WriteAppends (W.contents writer.old) (W.contents writer.new) result self.old.bytes }
+        ensures rest { IfOk result (λ n. self.new ≡ record self.old { bytes = drop n self.old.bytes }) }
+        ensures bound { IfOk result (λ n. n ≤ length self.old.bytes) }
+        ensures err { OnErr result (self.new ≡ self.old) }
+    {
+        let count = writer.write(&self.bytes[self.at..])?;
+        self.at += count;
         Ok(count)
     }
 }
