@@ -10,7 +10,7 @@ use crate::text_set::TextSet;
 use std::alloc::{AllocError, Global};
 use std::collections::BTreeMap;
 use std::marker::Model;
-use values::NoMemory;
+use values::{NoMemory, TextQuery};
 
 /// Pairs of a session and a path, stored as a set of sessions for each path.
 #[derive(Drop)]
@@ -48,7 +48,7 @@ impl ByPath {
             set.contains sessions.now v ≡ set.contains self.now (v, path.now)) }
         ensures none { IfNone result ((v : ℤ) → set.contains self.now (v, path.now) ≡ false) }
     {
-        match self.map.get(path) {
+        match self.map.get(TextQuery(path)) {
             None => return None,
             Some(sessions) => Some(sessions),
         }
@@ -59,7 +59,7 @@ impl ByPath {
         ensures ok { OnOk result (self.new ≡ set.insert self.old (session, path.now)) }
         ensures err { OnErr result (self.new ≡ self.old) }
     {
-        match self.map.get_mut(path) {
+        match self.map.get_mut(TextQuery(path)) {
             Some(sessions) => {
                 sessions.insert(session)?;
                 Ok(())
@@ -79,7 +79,7 @@ impl ByPath {
         ensures emptied { IsTrue result →
             (v : ℤ) → set.contains self.new (v, path.now) ≡ false }
     {
-        match self.map.get_mut(path) {
+        match self.map.get_mut(TextQuery(path)) {
             None => return false,
             Some(sessions) => {
                 sessions.remove(session);
@@ -93,7 +93,7 @@ impl ByPath {
         requires { (v : ℤ) → set.contains self.old (v, path.now) ≡ false }
         ensures { self.new ≡ self.old }
     {
-        self.map.remove(path);
+        self.map.remove(TextQuery(path));
     }
 
     /// Removes a pair.
@@ -121,7 +121,7 @@ impl ByPath {
         ensures none { IfNone result ((v : ℤ) → set.contains self.old (v, path.now) ≡ false) }
         ensures rest { self.new ≡ without_path path.now self.old }
     {
-        self.map.remove(path)
+        self.map.remove(TextQuery(path))
     }
 }
 

@@ -22,7 +22,7 @@ use std::collections::BTreeMap;
 use std::collections::btree_map::Iter;
 use std::marker::Model;
 use txn_codec::{Create, SetAcl, SetData, TxnHeader, child_of, is_path, name_of, parent_of};
-use values::NoMemory;
+use values::{NoMemory, TextQuery};
 
 /// Nodes by path.
 #[derive(Drop)]
@@ -88,7 +88,7 @@ impl NodeMap {
     pub fn get(&self, path: &str) -> Option<&Node>
         ensures { option_copied result ≡ finmap.get self.now path.now }
     {
-        self.map.get(path)
+        self.map.get(TextQuery(path))
     }
 
     /// The number of nodes.
@@ -131,14 +131,14 @@ impl NodeMap {
         ensures value { result ≡ finmap.get self.old path.now }
         ensures removed { self.new ≡ finmap.remove self.old path.now }
     {
-        self.map.remove(path)
+        self.map.remove(TextQuery(path))
     }
 
     pub(crate) fn get_mut(&mut self, path: &str) -> Option<&mut Node>
         ensures* writes_back { sem 𝓛 (LendsNode self.entry path.now result) }
         ensures value { option_copied_mut result ≡ finmap.get self.old path.now }
     {
-        self.map.get_mut(path)
+        self.map.get_mut(TextQuery(path))
     }
 
     // Replaces the node at the path, if there is one.

@@ -2,3 +2,5 @@
 pub mod Gaining
 -- A key inserted into a set and removed again. Public.
 pub mod SetSteps
+-- Bytes that are ordered eight at a time.
+pub mod WordOrder

@@ -32,8 +32,8 @@ impl Model for ByteQueue {
     ghost invariant = { λ q. q.start + q.start ≤ length q.buffer.items };
 }
 
-// Drops that many bytes at the front. They are at least as many as the others, so that these are moved at once, by a copy
-// that doesn't overlap.
+// Drops that many bytes at the front. They are at least as many as the others, so that these are moved at once, by a
+// copy that doesn't overlap.
 fn drop_bytes(bytes: &mut Vec<u8>, count: usize)
     requires front { count ≤ length bytes.old.items }
     requires half { length bytes.old.items ≤ count + count }
