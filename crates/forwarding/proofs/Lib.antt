@@ -1,5 +1,3 @@
--- A map as a finite map.
-pub mod Maps
 -- A set of sessions as a finite set.
 pub mod SessionSets
 -- The requests of one connection.

@@ -16,7 +16,7 @@ use Rattle.std.specs.FinSet as set
 use Rattle.forwarding.specs.State.{TouchedSessions}
 use Rattle.forwarding.specs.Pending.{sorted_touched}
 use Rattle.forwarding.specs.Inner.{IsTouched}
-use Rattle.forwarding.proofs.Maps.{same_or_other}
+use Rattle.session_map.proofs.Maps.{same_or_other}
 
 abbrev set_of : List ℤ → TouchedSessions
 set_of keys = set.from_list keys

@@ -5,6 +5,7 @@ use Rattle.std.specs.Coded.{Coded, code_by, coded×, coded⊎, coded_ℕ, coded_
 use mathlib.Core.Logic.{inl, inr}
 use Rattle.std.specs.FinMap as finmap
 use Rattle.std.specs.FinSet as set
+use Rattle.session_map.specs.SessionMap.{ConnectionBySession, connection_by_session_code}
 use Rattle.forwarding.specs.declared.request.WriteKind.{WriteKind}
 use Rattle.forwarding.specs.declared.request.WriteKind.TheVariants.{Create, Delete, SetData, SetAcl, CloseSession}
 use Rattle.forwarding.specs.declared.request.PendingConnect.{PendingConnect}
@@ -20,7 +21,7 @@ RequestQueues = finmap.FinMap nat_cmp RequestQueue
 
 -- For each session that a connect waits for, the connection.
 abbrev pub WaitingConnects : Type 0
-WaitingConnects = finmap.FinMap int_cmp ℕ
+WaitingConnects = ConnectionBySession
 
 abbrev pub TouchedSessions : Type 0
 TouchedSessions = set.FinSet int_cmp
@@ -111,15 +112,12 @@ queue_code = coded_list request_code
 abbrev pub queues_code : Coded RequestQueues
 queues_code = finmap.code {R = nat_cmp} coded_ℕ queue_code
 
-abbrev pub connects_code : Coded WaitingConnects
-connects_code = finmap.code {R = int_cmp} coded_ℤ coded_ℕ
-
 abbrev pub session_ids_code : Coded TouchedSessions
 session_ids_code = set.code {R = int_cmp} coded_ℤ
 
 abbrev pub pending_table_code : Coded PendingTable
 pending_table_code =
     code_by (RequestQueues × (List (Option ℕ) × (WaitingConnects × TouchedSessions)))
-    (coded× queues_code (coded× (coded_list (coded_option coded_ℕ)) (coded× connects_code session_ids_code)))
+    (coded× queues_code (coded× (coded_list (coded_option coded_ℕ)) (coded× connection_by_session_code session_ids_code)))
     (λ s. (s.queues, (s.syncs, (s.connects, s.touched))))
     (λ p. record { queues = p.0; syncs = p.1.0; connects = p.1.1.0; touched = p.1.1.1 }) (λ _. refl)

@@ -2,8 +2,8 @@
 //!
 //! An observer forwards writes, syncs and requests for sessions to the leader. Each waits until the leader's stream
 //! answers it, and what comes after it on the same connection is held. For each connection there is a queue, the oldest
-//! request first: a connect in front, or none; writes and syncs that were forwarded; and frames that are held whole. The
-//! leader answers syncs by their order alone, so there is one list of the syncs of all connections, too.
+//! request first: a connect in front, or none; writes and syncs that were forwarded; and frames that are held whole.
+//! The leader answers syncs by their order alone, so there is one list of the syncs of all connections, too.
 //!
 //! ```text
 //! let mut pending = Pending::new(alloc);
@@ -17,7 +17,6 @@
 //! The sessions whose clients were heard are kept, too, until the leader asks for them.
 #![tactic(auto)]
 
-mod connects;
 mod law;
 mod queue;
 mod queues;

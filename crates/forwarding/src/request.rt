@@ -80,7 +80,8 @@ impl PendingWrite {
     }
 }
 
-/// A sync that was forwarded. The leader settles it when this replica has caught up; the client is answered in its turn.
+/// A sync that was forwarded. The leader settles it when this replica has caught up; the client is answered in its
+/// turn.
 #[derive(Drop)]
 pub struct PendingSync {
     pub xid: i32,

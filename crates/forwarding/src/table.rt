@@ -5,10 +5,9 @@
 ghost use Rattle.std.specs.Prelude.{◌≡◌, ℕ, [], OnOk, OnErr, IfOk, IsTrue, None, true, false, drop};
 ghost use Rattle.std.specs.FinMap as finmap;
 ghost use Rattle.forwarding.specs.Queue.{answered_write};
-ghost use Rattle.forwarding.specs.Pending.{nothing_pending, queue_of, has_no_request, is_idle, is_full, push_connect, push_write, push_sync, hold_frame, answer_write, pending_close, settle_sync, take_ready, take_connect, connecting_to, drop_connection, touch_session, take_touched, touched_limit};
+ghost use Rattle.forwarding.specs.Pending.{nothing_pending, queue_of, has_no_request, is_idle, is_full, push_connect, push_write, push_sync, hold_frame, answer_write, pending_close, settle_sync, take_ready, take_connect, connecting_to, drop_connection, without_connect, touch_session, take_touched, touched_limit};
 ghost use Rattle.forwarding.specs.Agreement.{PendingAgrees};
 
-use crate::connects::Connects;
 use crate::queue::Queue;
 use crate::queues::Queues;
 use crate::request::{
@@ -18,6 +17,7 @@ use crate::request::{
 use crate::syncs::Syncs;
 use crate::touched::Touched;
 use data_tree::Timeouts;
+use session_map::SessionMap;
 use std::alloc::Global;
 use std::marker::Model;
 use values::{Blob, NoMemory, Text};
@@ -31,7 +31,7 @@ pub const TOUCHED_LIMIT: usize = 87_381;
 pub struct Pending {
     queues: Queues,
     syncs: Syncs,
-    connects: Connects,
+    connects: SessionMap,
     touched: Touched,
 }
 
@@ -58,6 +58,18 @@ fn beyond_limit(rows: &[(i64, i32)]) -> &[(i64, i32)]
     &rows[TOUCHED_LIMIT..]
 }
 
+// Removes the connect, if there is one.
+fn remove_connect(connects: &mut SessionMap, connect: Option<PendingConnect>)
+    ensures { connects.new ≡ without_connect connects.old connect }
+{
+    match connect {
+        None => return,
+        Some(connect) => {
+            connects.remove(connect.session);
+        }
+    }
+}
+
 impl Pending {
     /// No request and no session. Allocates nothing.
     pub fn new(alloc: Global) -> Pending
@@ -66,7 +78,7 @@ impl Pending {
         Pending {
             queues: Queues::new(alloc),
             syncs: Syncs::new(alloc),
-            connects: Connects::new(alloc),
+            connects: SessionMap::new(alloc),
             touched: Touched::new(alloc),
         }
     }
@@ -129,14 +141,14 @@ impl Pending {
         ensures ok { OnOk result (self.new ≡ push_connect self.old number connect) }
         ensures err { OnErr result (self.new ≡ self.old) }
     {
-        self.connects.add(connect.session, number)?;
+        self.connects.set(connect.session, number)?;
         match self
             .queues
             .push(alloc, number, PendingRequest::Connect(connect))
         {
             Ok(()) => Ok(()),
             Err(refused) => {
-                self.connects.remove(Some(connect));
+                remove_connect(&mut self.connects, Some(connect));
                 Err(refused)
             }
         }
@@ -195,8 +207,8 @@ impl Pending {
         self.queues.push(alloc, number, PendingRequest::Held(frame))
     }
 
-    /// Removes the connection's oldest write and returns its kind, if a transaction of this xid and type answers it: its
-    /// own type, or `ERROR_TXN`. The write overtakes an older sync that still waits.
+    /// Removes the connection's oldest write and returns its kind, if a transaction of this xid and type answers it:
+    /// its own type, or `ERROR_TXN`. The write overtakes an older sync that still waits.
     pub fn answer_write(&mut self, number: u64, xid: i32, txn_kind: i32) -> Option<WriteKind>
         ensures { answer_write self.old number xid txn_kind ≡ record { kind = result; after = self.new } }
     {
@@ -232,7 +244,7 @@ impl Pending {
         let Some(queue) = self.queues.take(number) else {
             return None;
         };
-        self.connects.remove(queue.connect());
+        remove_connect(&mut self.connects, queue.connect());
         // The list of all syncs is gone through only for a connection that has some in it.
         if !queue.has_unsettled() {
             return Some(queue);
@@ -248,9 +260,9 @@ impl Pending {
         self.take_requests(number);
     }
 
-    /// Takes the connect in front of the connection's requests, and everything else of the connection: returns the frames
-    /// that are held after the connect, and drops what may wait beside them. Without a connect nothing changes. After a
-    /// refused allocation the connection has no requests either.
+    /// Takes the connect in front of the connection's requests, and everything else of the connection: returns the
+    /// frames that are held after the connect, and drops what may wait beside them. Without a connect nothing changes.
+    /// After a refused allocation the connection has no requests either.
     pub fn take_connect(&mut self, alloc: Global, number: u64) -> Result<TakenConnect, NoMemory>
         ensures ok { IfOk result (λ taken. take_connect self.old number
             ≡ record { connect = taken.connect; frames = taken.frames; after = self.new }) }

@@ -13,7 +13,7 @@ use Rattle.jute.specs.declared.owned.Id.{Id}
 use Rattle.sessions.specs.State.{SessionSettings, ConnectedClient, SessionOwners, ConnectedClients, SessionTable}
 use Rattle.sessions.specs.Sessions.{no_sessions, close_connection, close_as, close_if_some, expire_owner, session_response, give_session, new_connection, with_session_connected, with_id, ids_in, ids_of, ids_limit}
 use Rattle.sessions.specs.Agreement.{SessionsAgree, SessionsAreApart}
-use Rattle.sessions.proofs.Maps.{none-some, some-some, apart, other, same_or_other, inserted, inserted_elsewhere, removed, removed_elsewhere, at_inserted, at_removed, remove_absent, insert_removed, remove_past_insert}
+use Rattle.session_map.proofs.Maps.{none-some, some-some, apart, other, same_or_other, inserted, inserted_elsewhere, removed, removed_elsewhere, at_inserted, at_removed, remove_absent, insert_removed, remove_past_insert}
 
 -- A connection that has this session.
 abbrev pub Has : ℤ → ConnectedClients → ℕ → Type 0

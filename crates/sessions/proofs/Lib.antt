@@ -1,5 +1,3 @@
--- A map as a finite map.
-pub mod Maps
 -- Session ids.
 pub mod Numbers
 -- The steps that keep sessions and connections in agreement.

@@ -1,8 +1,9 @@
 -- What an observer knows of its clients' sessions.
 use Rattle.std.specs.Prelude.{ℕ, ℤ, List, refl}
-use Rattle.std.specs.Ordering.{nat_cmp, int_cmp}
+use Rattle.std.specs.Ordering.{nat_cmp}
 use Rattle.std.specs.Coded.{Coded, code_by, coded×, coded_ℕ, coded_ℤ, coded_list}
 use Rattle.std.specs.FinMap as finmap
+use Rattle.session_map.specs.SessionMap.{ConnectionBySession, connection_by_session_code}
 use Rattle.settings.specs.Settings.{TimeoutPair}
 use Rattle.jute.specs.declared.owned.Id.{Id}
 
@@ -19,7 +20,7 @@ pub record ConnectedClient : Type 0 where
 
 -- For each session that a connection has here, that connection. Which sessions there are, the tree knows.
 abbrev pub SessionOwners : Type 0
-SessionOwners = finmap.FinMap int_cmp ℕ
+SessionOwners = ConnectionBySession
 
 -- The connections that have a session, by number.
 abbrev pub ConnectedClients : Type 0
@@ -62,15 +63,12 @@ connected_client_code =
     code_by (ℤ × List Id) (coded× coded_ℤ (coded_list id_code)) (λ c. (c.session, c.ids))
     (λ p. record { session = p.0; ids = p.1 }) (λ _. refl)
 
-abbrev pub session_owners_code : Coded SessionOwners
-session_owners_code = finmap.code {R = int_cmp} coded_ℤ coded_ℕ
-
 abbrev pub connected_clients_code : Coded ConnectedClients
 connected_clients_code = finmap.code {R = nat_cmp} coded_ℕ connected_client_code
 
 abbrev pub session_table_code : Coded SessionTable
 session_table_code =
     code_by (SessionSettings × (ℕ × (SessionOwners × ConnectedClients)))
-    (coded× session_settings_code (coded× coded_ℕ (coded× session_owners_code connected_clients_code)))
+    (coded× session_settings_code (coded× coded_ℕ (coded× connection_by_session_code connected_clients_code)))
     (λ s. (s.terms, (s.counter, (s.owners, s.connections))))
     (λ p. record { terms = p.0; counter = p.1.0; owners = p.1.1.0; connections = p.1.1.1 }) (λ _. refl)

@@ -3,9 +3,9 @@
 //! Which sessions there are, the leader says, and the data tree has them. A client that asks for a new session is given
 //! an id at once, and the leader is asked to create the session: the high byte of the id is the server id, and the 7
 //! bytes below are a counter from 1 on. The connection has the session when the leader has created it, see
-//! [`Sessions::admit`]. The password is computed from the observer's secret and the session id, so no password is stored.
-//! A session outlives its connection: a client that reconnects with id and password has it again, and an older connection
-//! of the session is closed.
+//! [`Sessions::admit`]. The password is computed from the observer's secret and the session id, so no password is
+//! stored. A session outlives its connection: a client that reconnects with id and password has it again, and an older
+//! connection of the session is closed.
 //!
 //! ```text
 //! let mut sessions = Sessions::new(alloc, server_id, timeouts, secret);
@@ -25,7 +25,6 @@
 mod connections;
 mod credentials;
 mod law;
-mod owners;
 mod request;
 mod table;
 

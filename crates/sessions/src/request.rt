@@ -16,8 +16,8 @@ pub struct SessionRequest<'a> {
     pub password: Option<Bytes<'a>>,
 }
 
-/// The fields of a ConnectResponse. All zeros are a refusal, after which the caller closes the connection; no id that is
-/// given out is 0.
+/// The fields of a ConnectResponse. All zeros are a refusal, after which the caller closes the connection; no id that
+/// is given out is 0.
 #[derive(Clone, Copy)]
 pub struct SessionResponse {
     /// The timeout of the session, in milliseconds.

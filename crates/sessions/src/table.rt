@@ -13,9 +13,9 @@ ghost use Rattle.sessions.specs.Agreement.{SessionsAgree};
 
 use crate::connections::Connections;
 use crate::credentials::{COUNTERS, digest_id, password, session_id};
-use crate::owners::Owners;
 use crate::request::{Connected, PASSWORD_LEN, SessionRequest, SessionResponse};
 use jute::Id;
+use session_map::SessionMap;
 use settings::{Secret, ServerId, TimeoutBounds};
 use std::alloc::Global;
 use std::marker::Model;
@@ -27,8 +27,8 @@ pub const IDS_LIMIT: usize = 1024;
 /// The most bytes of a text that an id is made of. A client's frame is shorter.
 pub const AUTH_LIMIT: usize = 1_048_576;
 
-/// The sessions that an observer's connections have: for each session its connection, and for each connection its session
-/// and its ids.
+/// The sessions that an observer's connections have: for each session its connection, and for each connection its
+/// session and its ids.
 #[derive(Drop)]
 pub struct Sessions {
     server_id: ServerId,
@@ -36,7 +36,7 @@ pub struct Sessions {
     secret: Secret,
     // The number of session ids given out so far.
     counter: u64,
-    owners: Owners,
+    owners: SessionMap,
     connections: Connections,
 }
 
@@ -81,8 +81,8 @@ fn refused_connect() -> Connected
     }
 }
 
-// The text of the scheme "digest"; None for any other scheme, for more than `AUTH_LIMIT` bytes, and for bytes that aren't
-// UTF-8.
+// The text of the scheme "digest"; None for any other scheme, for more than `AUTH_LIMIT` bytes, and for bytes that
+// aren't UTF-8.
 fn digest_text<'a>(scheme: Option<&str>, bytes: Option<&'a [u8]>) -> Option<&'a str>
     ensures { let given = option_copied scheme.entry in
         option_copied result ≡ digest_text given (option_copied bytes.entry) }
@@ -129,7 +129,7 @@ impl Sessions {
             timeouts,
             secret,
             counter: 0,
-            owners: Owners::new(alloc),
+            owners: SessionMap::new(alloc),
             connections: Connections::new(alloc),
         }
     }
@@ -161,8 +161,8 @@ impl Sessions {
         self.connections.count()
     }
 
-    /// The ids of the connection, in the order in which they were added: at most `IDS_LIMIT`, and each can be written in
-    /// a packet.
+    /// The ids of the connection, in the order in which they were added: at most `IDS_LIMIT`, and each can be written
+    /// in a packet.
     pub fn ids(&self, connection: u64) -> &[Id]
         ensures ids { result.now ≡ ids_of self.now connection }
         ensures few { length result.now ≤ ids_limit }
@@ -217,8 +217,8 @@ impl Sessions {
         }
     }
 
-    /// Gives a session that the leader has created to a connection that has none, and takes it from an older connection.
-    /// A refused allocation changes nothing.
+    /// Gives a session that the leader has created to a connection that has none, and takes it from an older
+    /// connection. A refused allocation changes nothing.
     pub fn admit(
         &mut self,
         alloc: Global,
@@ -250,8 +250,8 @@ impl Sessions {
 
     /// Answers the connect of a connection that has no session. A request for a new session is given an id, and the
     /// connection has the session when the leader has created it, see `admit`. Of any other session the connection gets
-    /// the one that it names, if that lives and the password is its own. `lives` says whether the tree has it. A refusal is
-    /// a response with all fields 0. A refused allocation changes nothing.
+    /// the one that it names, if that lives and the password is its own. `lives` says whether the tree has it. A
+    /// refusal is a response with all fields 0. A refused allocation changes nothing.
     pub fn connect(
         &mut self,
         alloc: Global,

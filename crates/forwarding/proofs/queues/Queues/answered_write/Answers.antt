@@ -5,7 +5,7 @@ use Rattle.std.proofs.lemmas.Int.{to_z-of_z}
 use Rattle.std.specs.FinMap as finmap
 use Rattle.forwarding.specs.Queue.{answered_write}
 use Rattle.forwarding.specs.Pending.{queue_in}
-use Rattle.forwarding.proofs.Maps.{get-seen}
+use Rattle.session_map.proofs.Maps.{get-seen}
 use Rattle.forwarding.proofs.queues.Queues.answered_write.Goals as goal
 
 pub returns-in-None : goal.returns-in-None

@@ -5,7 +5,7 @@ use Rattle.std.proofs.lemmas.Bool.{eqb-true}
 use Rattle.std.specs.FinMap as finmap
 use Rattle.forwarding.specs.Queue.{RequestQueue}
 use Rattle.forwarding.specs.Inner.{has_empty}
-use Rattle.forwarding.proofs.Maps.{get-seen}
+use Rattle.session_map.proofs.Maps.{get-seen}
 use Rattle.forwarding.proofs.queues.Queues.has_empty.Goals as goal
 
 pub returns-in-None : goal.returns-in-None

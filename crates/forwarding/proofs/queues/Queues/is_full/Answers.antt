@@ -6,7 +6,7 @@ use Rattle.std.specs.FinMap as finmap
 use Rattle.std.proofs.lemmas.Bool.{ltb-true, ltb-false, leb-true, leb-false}
 use Rattle.forwarding.specs.Queue.{pending_limit}
 use Rattle.forwarding.specs.Pending.{queue_in}
-use Rattle.forwarding.proofs.Maps.{get-seen}
+use Rattle.session_map.proofs.Maps.{get-seen}
 use Rattle.forwarding.proofs.queues.Queues.is_full.Goals as goal
 
 at_least : (a b : ℕ) → nat_le a b ≡ not (nat_lt b a)

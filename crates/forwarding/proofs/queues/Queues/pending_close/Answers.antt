@@ -4,7 +4,7 @@ use Rattle.std.proofs.lemmas.Map.Lookups.{exact_unsigned}
 use Rattle.std.specs.FinMap as finmap
 use Rattle.forwarding.specs.Queue.{oldest_close}
 use Rattle.forwarding.specs.Pending.{queue_in}
-use Rattle.forwarding.proofs.Maps.{get-seen}
+use Rattle.session_map.proofs.Maps.{get-seen}
 use Rattle.forwarding.proofs.queues.Queues.pending_close.Goals as goal
 
 pub returns-in-None : goal.returns-in-None

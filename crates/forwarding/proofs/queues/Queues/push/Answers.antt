@@ -7,7 +7,7 @@ use Rattle.std.proofs.lemmas.Result.{on_ok_weaker, on_err_weaker}
 use Rattle.std.specs.FinMap as finmap
 use Rattle.forwarding.specs.Queue.{RequestQueue}
 use Rattle.forwarding.specs.Pending.{queue_in}
-use Rattle.forwarding.proofs.Maps.{get-seen, seen-insert, insert_same}
+use Rattle.session_map.proofs.Maps.{get-seen, seen-insert, insert_same}
 use Rattle.forwarding.proofs.queues.Queues.push.Goals as goal
 
 pub returns-in-Some-clause-ok : goal.returns-in-Some-clause-ok

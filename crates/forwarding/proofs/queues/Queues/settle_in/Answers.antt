@@ -5,7 +5,7 @@ use Rattle.std.proofs.lemmas.Map.Lookups.{exact_unsigned}
 use Rattle.std.specs.FinMap as finmap
 use Rattle.forwarding.specs.Queue.{with_oldest_settled}
 use Rattle.forwarding.specs.Inner.{with_changed}
-use Rattle.forwarding.proofs.Maps.{get-seen, seen-insert}
+use Rattle.session_map.proofs.Maps.{get-seen, seen-insert}
 use Rattle.forwarding.proofs.queues.Queues.settle_in.Goals as goal
 
 pub returns-in-None : goal.returns-in-None

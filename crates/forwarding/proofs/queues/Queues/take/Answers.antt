@@ -2,7 +2,7 @@ use Rattle.std.proofs.Common.{sym, ap, ◌∙◌}
 use Rattle.std.specs.Cmp.{nat_cmp_total}
 use Rattle.std.proofs.lemmas.Map.Lookups.{exact_unsigned}
 use Rattle.std.specs.FinMap as finmap
-use Rattle.forwarding.proofs.Maps.{get-seen, seen-remove}
+use Rattle.session_map.proofs.Maps.{get-seen, seen-remove}
 use Rattle.forwarding.proofs.queues.Queues.take.Goals as goal
 
 pub returns-clause-was : goal.returns-clause-was

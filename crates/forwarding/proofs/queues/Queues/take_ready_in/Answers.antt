@@ -6,7 +6,7 @@ use Rattle.std.specs.FinMap as finmap
 use Rattle.forwarding.specs.Queue.{RequestQueue, ready_request, without_front_if}
 use Rattle.forwarding.specs.Pending.{queue_in}
 use Rattle.forwarding.specs.Inner.{with_changed}
-use Rattle.forwarding.proofs.Maps.{get-seen, seen-insert}
+use Rattle.session_map.proofs.Maps.{get-seen, seen-insert}
 use Rattle.forwarding.proofs.queues.Queues.take_ready_in.Goals as goal
 
 pub returns-in-None-clause-ready : goal.returns-in-None-clause-ready

@@ -6,7 +6,7 @@ use Rattle.std.proofs.lemmas.Map.Lookups.{exact_signed}
 use Rattle.std.specs.FinMap as finmap
 use Rattle.forwarding.specs.State.{pending_table_of}
 use Rattle.forwarding.specs.Pending.{is_idle}
-use Rattle.forwarding.proofs.Maps.{remove_absent, remove_inserted}
+use Rattle.session_map.proofs.Maps.{remove_absent, remove_inserted}
 use Rattle.forwarding.proofs.Agreeing.{agreement_is_kept}
 use Rattle.forwarding.proofs.table.Pending.push_connect.Goals as goal
 
@@ -20,7 +20,7 @@ invariant_of-self-in-Ok c =
     let fits : SFits w64 c.args.connect.session = search rules in
     rw (
       c.in-Ok.ensures.ok,
-      c.in_ok-add.ensures.ok
+      c.in_ok-set.ensures.ok
           ∙ ap (λ session. finmap.insert c.self.inside.connects session c.args.number)
           (to_z-of_z w64 c.args.connect.session fits),
     )
@@ -33,8 +33,8 @@ invariant_of-self-in-Err c =
     let fits : SFits w64 c.args.connect.session = search rules in
     rw (
       c.in-Err.ensures.err,
-      c.remove.ensures
-          ∙ ap (λ m. finmap.remove m c.args.connect.session) (c.in_ok-add.ensures.ok
+      c.remove_connect.ensures
+          ∙ ap (λ m. finmap.remove m c.args.connect.session) (c.in_ok-set.ensures.ok
           ∙ ap (λ session. finmap.insert c.self.inside.connects session c.args.number)
           (to_z-of_z w64 c.args.connect.session fits))
           ∙ remove_inserted int_cmp_total exact_signed c.self.inside.connects c.args.connect.session c.args.number
@@ -49,8 +49,8 @@ returns-in-Err-clause-err c =
     let fits : SFits w64 c.args.connect.session = search rules in
     rw (
       c.in-Err.ensures.err,
-      c.remove.ensures
-          ∙ ap (λ m. finmap.remove m c.args.connect.session) (c.in_ok-add.ensures.ok
+      c.remove_connect.ensures
+          ∙ ap (λ m. finmap.remove m c.args.connect.session) (c.in_ok-set.ensures.ok
           ∙ ap (λ session. finmap.insert c.self.inside.connects session c.args.number)
           (to_z-of_z w64 c.args.connect.session fits))
           ∙ remove_inserted int_cmp_total exact_signed c.self.inside.connects c.args.connect.session c.args.number

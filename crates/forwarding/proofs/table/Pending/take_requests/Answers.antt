@@ -18,7 +18,7 @@ returns-in_default-clause-rest c =
 
 pub invariant_of-self-then-not-has_unsettled : goal.invariant_of-self-then-not-has_unsettled
 invariant_of-self-then-not-has_unsettled c =
-    rw (c.take.ensures.removed, c.remove.ensures ∙ ap (without_connect c.self.inside.connects) c.connect.ensures)
+    rw (c.take.ensures.removed, c.remove_connect.ensures ∙ ap (without_connect c.self.inside.connects) c.connect.ensures)
     (subst (λ s. PendingAgrees s)
     (drops_requests _ c.args.number c.in-Some.queue c.self.invariant (sym c.take.ensures.was ∙ c.in-Some.is)
     (sym c.has_unsettled.ensures ∙ c.if-not-has_unsettled.true))
@@ -28,7 +28,7 @@ pub returns-then-not-has_unsettled-clause-rest : goal.returns-then-not-has_unset
 returns-then-not-has_unsettled-clause-rest c =
     rw (
       c.take.ensures.removed,
-      c.remove.ensures ∙ ap (without_connect c.self.inside.connects) c.connect.ensures,
+      c.remove_connect.ensures ∙ ap (without_connect c.self.inside.connects) c.connect.ensures,
       ← c.self.view_is,
     )
     (sym (drops_requests _ c.args.number c.in-Some.queue c.self.invariant (sym c.take.ensures.was ∙ c.in-Some.is)
@@ -38,7 +38,7 @@ pub invariant_of-self-2 : goal.invariant_of-self-2
 invariant_of-self-2 c =
     rw (
       c.take.ensures.removed,
-      c.remove.ensures ∙ ap (without_connect c.self.inside.connects) c.connect.ensures,
+      c.remove_connect.ensures ∙ ap (without_connect c.self.inside.connects) c.connect.ensures,
       c.disown.ensures,
     )
     (subst (λ s. PendingAgrees s)

@@ -5,7 +5,7 @@ use Rattle.std.proofs.lemmas.Map.Lookups.{exact_unsigned}
 use Rattle.std.proofs.lemmas.Int.{to_z-of_z}
 use Rattle.jute.specs.declared.owned.Id.{Id}
 use Rattle.sessions.specs.State.{ConnectedClient}
-use Rattle.sessions.proofs.Maps.{seen-insert}
+use Rattle.session_map.proofs.Maps.{seen-insert}
 use Rattle.sessions.proofs.connections.Connections.add.Goals as goal
 
 pub returns-clause-ok : goal.returns-clause-ok

@@ -2,7 +2,7 @@ use Rattle.std.proofs.Common.{ap, sym, ◌∙◌}
 use Rattle.std.specs.FinMap as finmap
 use Rattle.std.specs.Cmp.{nat_cmp_total}
 use Rattle.std.proofs.lemmas.Map.Lookups.{exact_unsigned}
-use Rattle.sessions.proofs.Maps.{get-seen}
+use Rattle.session_map.proofs.Maps.{get-seen}
 use Rattle.sessions.proofs.connections.Connections.get.Goals as goal
 
 pub returns : goal.returns

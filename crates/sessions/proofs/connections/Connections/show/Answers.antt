@@ -6,7 +6,7 @@ use Rattle.std.proofs.lemmas.Map.Lookups.{exact_unsigned}
 use Rattle.std.proofs.lemmas.Result.{on_ok_weaker, on_err_weaker}
 use Rattle.sessions.specs.State.{ConnectedClient}
 use Rattle.sessions.specs.Inner.{with_shown_id}
-use Rattle.sessions.proofs.Maps.{get-seen, seen-insert, insert_same}
+use Rattle.session_map.proofs.Maps.{get-seen, seen-insert, insert_same}
 use Rattle.sessions.proofs.connections.Connections.show.Goals as goal
 
 pub returns-in-None-clause-ok : goal.returns-in-None-clause-ok

@@ -18,6 +18,10 @@ none-some x e = cc
 pub some-some : {A : Type 0} {x y : A} → Some x ≡ Some y → x ≡ y
 some-some e = cc
 
+pub not-some : {A : Type 0} (r : Option A) → ((x : A) → r ≡ Some x → ⊥) → r ≡ None
+not-some None h = refl
+not-some (Some x) h = absurd (h x refl)
+
 module _ {K : Type 0} {R : K → K → Ordering} (o : IsTotalOrder R) (exact : CmpEqualImpliesEq R) where
   same_key : (k : K) → eq_by_cmp R k k ≡ true
   same_key k = ap is_eq (tied_itself o k)
@@ -111,6 +115,17 @@ module _ {K X : Type 0} {R : K → K → Ordering} (o : IsTotalOrder R) (exact :
       by q (inr e) = removed_elsewhere (finmap.insert m k v) k q e ∙ inserted_elsewhere m k v q e
           ∙ sym (removed_elsewhere m k q e)
 
+  pub insert_removed : (m : finmap.FinMap R X) (k : K) (v : X)
+      → finmap.insert (finmap.remove m k) k v ≡ finmap.insert m k v
+  insert_removed m k v = finmap.same_map o exact _ _ (λ q. by q (same_or_other o exact q k))
+    where
+      by : (q : K) → (q ≡ k) ⊎ (eq_by_cmp R q k ≡ false)
+          → finmap.get (finmap.insert (finmap.remove m k) k v) q ≡ finmap.get (finmap.insert m k v) q
+      by q (inl e) = ap (finmap.get (finmap.insert (finmap.remove m k) k v)) e ∙ inserted (finmap.remove m k) k v
+          ∙ sym (inserted m k v) ∙ sym (ap (finmap.get (finmap.insert m k v)) e)
+      by q (inr e) = inserted_elsewhere (finmap.remove m k) k v q e ∙ removed_elsewhere m k q e
+          ∙ sym (inserted_elsewhere m k v q e)
+
   pub insert_inserted : (m : finmap.FinMap R X) (k : K) (v w : X)
       → finmap.insert (finmap.insert m k w) k v ≡ finmap.insert m k v
   insert_inserted m k v w = finmap.same_map o exact _ _ (λ q. by q (same_or_other o exact q k))
@@ -121,6 +136,25 @@ module _ {K X : Type 0} {R : K → K → Ordering} (o : IsTotalOrder R) (exact :
           ∙ sym (inserted m k v) ∙ sym (ap (finmap.get (finmap.insert m k v)) e)
       by q (inr e) = inserted_elsewhere (finmap.insert m k w) k v q e ∙ inserted_elsewhere m k w q e
           ∙ sym (inserted_elsewhere m k v q e)
+
+  -- Changes at two keys.
+  pub remove_past_insert : (m : finmap.FinMap R X) (k : K) (v : X) (j : K) → eq_by_cmp R j k ≡ false
+      → finmap.remove (finmap.insert m k v) j ≡ finmap.insert (finmap.remove m j) k v
+  remove_past_insert m k v j apart = finmap.same_map o exact _ _ (λ q. by q (same_or_other o exact q j))
+    where
+      else_at : (q : K) → eq_by_cmp R q j ≡ false → (q ≡ k) ⊎ (eq_by_cmp R q k ≡ false)
+          → finmap.get (finmap.insert m k v) q ≡ finmap.get (finmap.insert (finmap.remove m j) k v) q
+      else_at q f (inl e) = ap (finmap.get (finmap.insert m k v)) e ∙ inserted m k v
+          ∙ sym (inserted (finmap.remove m j) k v) ∙ sym (ap (finmap.get (finmap.insert (finmap.remove m j) k v)) e)
+      else_at q f (inr e) = inserted_elsewhere m k v q e ∙ sym (removed_elsewhere m j q f)
+          ∙ sym (inserted_elsewhere (finmap.remove m j) k v q e)
+
+      by : (q : K) → (q ≡ j) ⊎ (eq_by_cmp R q j ≡ false)
+          → finmap.get (finmap.remove (finmap.insert m k v) j) q ≡ finmap.get (finmap.insert (finmap.remove m j) k v) q
+      by q (inl e) = ap (finmap.get (finmap.remove (finmap.insert m k v) j)) e ∙ removed (finmap.insert m k v) j
+          ∙ sym (removed m j) ∙ sym (inserted_elsewhere (finmap.remove m j) k v j apart)
+          ∙ sym (ap (finmap.get (finmap.insert (finmap.remove m j) k v)) e)
+      by q (inr e) = removed_elsewhere (finmap.insert m k v) j q e ∙ else_at q e (same_or_other o exact q k)
 
   -- ---- what a value at a key says about the map before the change
 

@@ -3,8 +3,8 @@ use Rattle.std.specs.FinMap as finmap
 use Rattle.std.specs.Cmp.{int_cmp_total}
 use Rattle.std.proofs.lemmas.Map.Lookups.{exact_signed}
 use Rattle.std.proofs.lemmas.Int.{to_z-of_z}
-use Rattle.forwarding.proofs.Maps.{get-seen}
-use Rattle.forwarding.proofs.connects.Connects.get.Goals as goal
+use Rattle.session_map.proofs.Maps.{get-seen}
+use Rattle.session_map.proofs.session_map.SessionMap.get.Goals as goal
 
 pub returns : goal.returns
 returns c =

@@ -3,8 +3,8 @@ use Rattle.std.specs.FinMap as finmap
 use Rattle.std.specs.Cmp.{int_cmp_total}
 use Rattle.std.proofs.lemmas.Map.Lookups.{exact_signed}
 use Rattle.std.proofs.lemmas.Int.{to_z-of_z}
-use Rattle.sessions.proofs.Maps.{get-seen, seen-remove}
-use Rattle.sessions.proofs.owners.Owners.remove.Goals as goal
+use Rattle.session_map.proofs.Maps.{get-seen, seen-remove}
+use Rattle.session_map.proofs.session_map.SessionMap.remove.Goals as goal
 
 pub returns-clause-was : goal.returns-clause-was
 returns-clause-was c =

@@ -1,6 +1,4 @@
-//! The sessions that connections have here, each with its connection.
-//!
-//! Laws that go over this: `Agreeing`.
+//! The map, modelled as a finite map.
 
 ghost use Rattle.std.specs.Prelude.{◌≡◌, OnOk, OnErr};
 ghost use Rattle.std.specs.FinMap as finmap;
@@ -10,41 +8,41 @@ use std::collections::BTreeMap;
 use std::marker::Model;
 use values::NoMemory;
 
-/// For each session that a connection has here, that connection.
+/// For each of some sessions a connection.
 #[derive(Drop)]
-pub struct Owners {
+pub struct SessionMap {
     map: BTreeMap<i64, u64>,
 }
 
-impl Model for Owners {
+impl Model for SessionMap {
     ghost use Rattle.std.specs.FinMap as finmap;
-    ghost use Rattle.sessions.specs.State.{SessionOwners, session_owners_code};
+    ghost use Rattle.session_map.specs.SessionMap.{ConnectionBySession, connection_by_session_code};
 
-    ghost Value = { SessionOwners };
+    ghost Value = { ConnectionBySession };
 
-    ghost coded = { session_owners_code };
+    ghost coded = { connection_by_session_code };
 
-    ghost view = { λ o. finmap.from_entries o.map.entries };
+    ghost view = { λ s. finmap.from_entries s.map.entries };
 }
 
-impl Owners {
+impl SessionMap {
     /// No session. Allocates nothing.
-    pub fn new(alloc: Global) -> Owners
+    pub fn new(alloc: Global) -> SessionMap
         ensures { result ≡ finmap.empty }
     {
-        Owners {
+        SessionMap {
             map: BTreeMap::new(alloc),
         }
     }
 
-    /// The connection that has the session, if there is one.
+    /// The session's connection; None if the session isn't in the map.
     pub fn get(&self, session: i64) -> Option<u64>
         ensures { result ≡ finmap.get self.now session }
     {
         self.map.get(&session).copied()
     }
 
-    /// Gives the session to a connection, in place of the one that has it. A refused allocation changes nothing.
+    /// Gives the session a connection, in place of the one that it has. A refused allocation changes nothing.
     pub fn set(&mut self, session: i64, connection: u64) -> Result<(), NoMemory>
         ensures ok { OnOk result (self.new ≡ finmap.insert self.old session connection) }
         ensures err { OnErr result (self.new ≡ self.old) }
@@ -53,7 +51,7 @@ impl Owners {
         Ok(())
     }
 
-    /// Takes the session from its connection, which is returned.
+    /// Removes the session and returns its connection; None if the session isn't in the map.
     pub fn remove(&mut self, session: i64) -> Option<u64>
         ensures was { result ≡ finmap.get self.old session }
         ensures removed { self.new ≡ finmap.remove self.old session }
