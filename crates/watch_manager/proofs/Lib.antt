@@ -32,3 +32,7 @@ pub mod Aboves
 mod Lengths
 -- What holds of lasting watches for each firing.
 mod LastingLaws
+-- A table without a watch.
+mod Emptiness
+-- Where nothing is watched, a trigger has no event.
+mod Unwatched

@@ -17,11 +17,11 @@ use Rattle.watch_manager.specs.declared.event.EventKind.{EventKind}
 use Rattle.ephemerals.proofs.Ascending.{any-ascending}
 use Rattle.watch_manager.proofs.Tables.{unwatched}
 
-front_empty : {A : Type 0} (xs ys : List A) → xs ++ ys ≡ [] → xs ≡ []
+pub front_empty : {A : Type 0} (xs ys : List A) → xs ++ ys ≡ [] → xs ≡ []
 front_empty [] ys e = refl
 front_empty (x ∷ xs) ys e = absurd (let more : length (x ∷ (xs ++ ys)) ≡ 0 = ap length e in omega (arith, more))
 
-rest_empty : {A : Type 0} (xs ys : List A) → xs ++ ys ≡ [] → ys ≡ []
+pub rest_empty : {A : Type 0} (xs ys : List A) → xs ++ ys ≡ [] → ys ≡ []
 rest_empty [] ys e = e
 rest_empty (x ∷ xs) ys e = absurd (let more : length (x ∷ (xs ++ ys)) ≡ 0 = ap length e in omega (arith, more))
 
@@ -76,7 +76,7 @@ untouched-others kind path already child none e =
     (λ c. ap (λ s. not (set.contains s c)) none ∙ ap not (set.contains-empty nat_cmp c))
     (none_told kind path (connections_not_told already (watchers_of path child)) e))))
 
-after-silent : (w : WatchTables) (t : Trigger) → events_of_trigger w t ≡ [] → watches_after w t ≡ w
+pub after-silent : (w : WatchTables) (t : Trigger) → events_of_trigger w t ≡ [] → watches_after w t ≡ w
 after-silent w (Created path) e =
     λ i. record w { own = untouched _ path w.own (lasting_watchers path w.lasting) e i }
 after-silent w (Deleted path) e =

@@ -1,6 +1,6 @@
 //! The watches by path: for each path the connections that watch it.
 
-ghost use Rattle.std.specs.Prelude.{◌≡◌, ℕ, OnOk, OnErr, IfOk, IfSome, IfNone, IsTrue, not, false, String};
+ghost use Rattle.std.specs.Prelude.{◌≡◌, ◌↔◌, ℕ, OnOk, OnErr, IfOk, IfSome, IfNone, IsTrue, not, false, String};
 ghost use Rattle.std.specs.FinSet as set;
 ghost use Rattle.std.specs.Map.Iter.{ShowsInOrder, deref_pair};
 ghost use Rattle.ephemerals.specs.Grouped.{all_pairs, by_bytes};
@@ -14,7 +14,7 @@ use std::alloc::Global;
 use std::collections::BTreeMap;
 use std::collections::btree_map::Iter;
 use std::marker::Model;
-use values::NoMemory;
+use values::{NoMemory, TextQuery};
 
 /// Pairs of a path and a connection, stored as a set of connections for each path.
 #[derive(Drop)]
@@ -45,11 +45,27 @@ impl ByPath {
         }
     }
 
+    // Whether no path has a connection.
+    fn is_unwatched(&self) -> bool
+        ensures { IsTrue result ↔ (self.now ≡ set.empty) }
+    {
+        for (_, conns) in self.iter() {
+            if !conns.is_empty() {
+                return false;
+            }
+        }
+        true
+    }
+
     /// Whether no path is watched.
     pub fn is_empty(&self) -> bool
-        ensures { IsTrue result → self.now ≡ set.empty }
+        ensures { IsTrue result ↔ (self.now ≡ set.empty) }
     {
-        self.map.is_empty()
+        // A path's set goes with its last connection, so the first path decides.
+        match self.map.first_key_value() {
+            None => true,
+            Some((_, conns)) => conns.is_empty() && self.is_unwatched(),
+        }
     }
 
     /// The connections that watch the path; None if no connection does.
@@ -57,7 +73,7 @@ impl ByPath {
         ensures some { IfSome result (λ conns. conns.now ≡ watchers_of path.now self.now) }
         ensures none { IfNone result (watchers_of path.now self.now ≡ set.empty) }
     {
-        match self.map.get(path) {
+        match self.map.get(TextQuery(path)) {
             None => return None,
             Some(conns) => Some(conns),
         }
@@ -78,7 +94,7 @@ impl ByPath {
             (λ added. added ≡ not (set.contains self.old (path.now, conn))) }
         ensures err { OnErr result (self.new ≡ self.old) }
     {
-        match self.map.get_mut(path) {
+        match self.map.get_mut(TextQuery(path)) {
             Some(conns) => Ok(conns.insert(conn)?),
             None => {
                 let mut conns = ConnSet::new(alloc);
@@ -95,7 +111,7 @@ impl ByPath {
         ensures emptied { IsTrue result →
             (c : ℕ) → set.contains self.new (path.now, c) ≡ false }
     {
-        match self.map.get_mut(path) {
+        match self.map.get_mut(TextQuery(path)) {
             None => return false,
             Some(conns) => {
                 conns.remove(conn);
@@ -109,7 +125,7 @@ impl ByPath {
         requires { (c : ℕ) → set.contains self.old (path.now, c) ≡ false }
         ensures { self.new ≡ self.old }
     {
-        self.map.remove(path);
+        self.map.remove(TextQuery(path));
     }
 
     /// Removes a pair.
@@ -136,6 +152,6 @@ impl ByPath {
         ensures none { IfNone result (watchers_of path.now self.old ≡ set.empty) }
         ensures rest { self.new ≡ without_watches_on path.now self.old }
     {
-        self.map.remove(path)
+        self.map.remove(TextQuery(path))
     }
 }

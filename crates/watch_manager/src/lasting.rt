@@ -1,6 +1,6 @@
 //! The watches that aren't used up.
 
-ghost use Rattle.std.specs.Prelude.{◌≡◌, OnOk, OnErr, IfOk};
+ghost use Rattle.std.specs.Prelude.{◌≡◌, ◌↔◌, OnOk, OnErr, IfOk, IsTrue};
 ghost use Rattle.std.specs.FinMap as finmap;
 ghost use Rattle.watch_manager.specs.Lasting.{watches_in, persistent_watchers, lasting_watchers};
 ghost use Rattle.watch_manager.specs.Watching.{without_lasting_of};
@@ -46,6 +46,13 @@ impl LastingTable {
             persistent: WatchTable::new(alloc),
             recursive: RecursiveTable::new(alloc),
         }
+    }
+
+    /// Whether there is no watch.
+    pub fn is_empty(&self) -> bool
+        ensures { IsTrue result ↔ (self.now ≡ finmap.empty) }
+    {
+        self.persistent.is_empty() && self.recursive.table().is_empty()
     }
 
     /// The persistent watches.

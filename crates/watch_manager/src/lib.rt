@@ -2,8 +2,8 @@
 //!
 //! There are three tables. Data watches and child watches (ZooKeeper Programmer's Guide, "Watches") are finite sets of
 //! pairs of a path and a connection. Lasting watches aren't used up: a persistent one is on a path, and a recursive one
-//! on a path and all below it. `fire` takes the triggers of transactions, uses up the data and child watches on them, and
-//! returns each event with its connection. `specs/Watches.antt` defines this, and `fire` is proved to do it.
+//! on a path and all below it. `fire` takes the triggers of transactions, uses up the data and child watches on them,
+//! and returns each event with its connection. `specs/Watches.antt` defines this, and `fire` is proved to do it.
 //!
 //! ```text
 //! let mut watches = Watches::new(alloc);

@@ -2,7 +2,7 @@
 //!
 //! Laws that go over this: `Others`, `Silent`, `Told`.
 
-ghost use Rattle.std.specs.Prelude.{◌≡◌, OnOk, OnErr, IfSome, IfNone, IsTrue, String};
+ghost use Rattle.std.specs.Prelude.{◌≡◌, ◌↔◌, OnOk, OnErr, IfSome, IfNone, IsTrue, String};
 ghost use Rattle.std.specs.FinSet as set;
 ghost use Rattle.std.specs.Map.Iter.{ShowsInOrder, deref_pair};
 ghost use Rattle.ephemerals.specs.Grouped.{all_pairs, by_bytes};
@@ -52,7 +52,7 @@ impl WatchTable {
 
     /// Whether no path is watched.
     pub fn is_empty(&self) -> bool
-        ensures { IsTrue result → self.now ≡ set.empty }
+        ensures { IsTrue result ↔ (self.now ≡ set.empty) }
     {
         self.by_path.is_empty()
     }

@@ -2,7 +2,7 @@
 //!
 //! Laws that go over this: `Silent`, `Told`.
 
-ghost use Rattle.std.specs.Prelude.{◌≡◌, OnOk, OnErr, IfOk};
+ghost use Rattle.std.specs.Prelude.{◌≡◌, ◌↔◌, OnOk, OnErr, IfOk, IsTrue};
 ghost use Rattle.std.specs.FinSet as set;
 ghost use Rattle.watch_manager.specs.Lasting.{mode_of};
 ghost use Rattle.watch_manager.specs.Watching.{no_watch, with_lasting_watch, without_watches_of};
@@ -53,6 +53,13 @@ impl Watches {
             child: WatchTable::new(alloc),
             lasting: LastingTable::new(alloc),
         }
+    }
+
+    /// Whether there is no watch.
+    pub fn is_empty(&self) -> bool
+        ensures { IsTrue result ↔ (self.now ≡ no_watch) }
+    {
+        self.own.is_empty() && self.child.is_empty() && self.lasting.is_empty()
     }
 
     /// Sets a data watch; it may be set already. Any text may be watched, even if it isn't a path. A refused allocation
@@ -171,6 +178,9 @@ impl Watches {
         ensures left { OnOk result (self.new ≡ (fire self.old triggers.now).left) }
         ensures err { OnErr result (self.new ≡ self.old) }
     {
+        if self.is_empty() {
+            return Ok(Vec::new(alloc));
+        }
         let events = self.tell_all(alloc, triggers)?;
         // Without an event no watch is used up.
         if events.is_empty() {
