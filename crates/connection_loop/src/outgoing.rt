@@ -109,8 +109,8 @@ impl Outgoing {
         Ok(())
     }
 
-    /// Gathers the port's outputs while they are few, up to one that closes the connection. All gathered before has to be
-    /// written. Returns whether there was an output. Fails only if an allocation is refused.
+    /// Gathers the port's outputs while they are few, up to one that closes the connection. All gathered before has to
+    /// be written. Returns whether there was an output. Fails only if an allocation is refused.
     pub fn gather(&mut self, port: &mut Port) -> Result<bool, NoMemory>
         requires { self.old.bytes ≡ [] }
         ensures { IfOk result (HasGathered self.old self.new port.old port.new) }
