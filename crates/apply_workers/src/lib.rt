@@ -17,9 +17,9 @@
 //! other, since groups have no cell in common (the law `groups_come_home`). A single worker moves no cells: it applies
 //! the transactions to the tree, and passes the gate for each group at the group's first transaction.
 //!
-//! `apply_list` applies a list of any length: it cuts batches from it, which borrow their transactions, and applies each
-//! as `apply_batch` does, while one more thread cuts the next. What is less work than a threshold is applied to the tree
-//! itself, as `apply_list_inline` does with the whole list.
+//! `apply_list` applies a list of any length: it cuts batches from it, which borrow their transactions, and applies
+//! each as `apply_batch` does, while one more thread cuts the next. What is less work than a threshold is applied to
+//! the tree itself, as `apply_list_inline` does with the whole list.
 //!
 //! ```text
 //! let batch = cut(alloc, txns, &limits)?;

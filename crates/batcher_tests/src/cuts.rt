@@ -41,7 +41,8 @@ fn usual(alloc: Global, words: &str) -> Result<String, Fail> {
     cut_of(alloc, words, 256, 64)
 }
 
-// The batch at the front of the list, lent from there, with the default limits; and the number of transactions after it.
+// The batch at the front of the list, lent from there, with the default limits; and the number of transactions after
+// it.
 fn lent(alloc: Global, words: &str) -> Result<String, Fail> {
     let txns = read_txns(alloc, words)?;
     let front = front_of(alloc, txns.as_slice(), &Limits::new(4, 256, 64)?)?;

@@ -63,8 +63,8 @@ pub fn serve_call(
     }
 }
 
-// Serves one frame, which touches the session of its connection. It is refused if it is too short for a header, or if as
-// many requests wait as may.
+// Serves one frame, which touches the session of its connection. It is refused if it is too short for a header, or if
+// as many requests wait as may.
 fn serve(
     alloc: Global,
     serving: bool,
@@ -113,9 +113,9 @@ fn serve_if_heard(
     serve(alloc, serving, number, world, frame, outputs)
 }
 
-// Takes one frame of a connection that is heard. While reads are gathered, a read waits for its answer if its connection has a
-// session and no request that waits for the leader. Before any other frame is served, the reads that wait are answered,
-// which may close its connection.
+// Takes one frame of a connection that is heard. While reads are gathered, a read waits for its answer if its
+// connection has a session and no request that waits for the leader. Before any other frame is served, the reads that
+// wait are answered, which may close its connection.
 fn take_frame<L: Fn(&Tree, &[Ask<'_>]) -> Result<Vec<Look>, NoMemory>>(
     alloc: Global,
     looker: &L,
@@ -277,13 +277,13 @@ fn settle_and_tell<L: Fn(&Tree, &[Ask<'_>]) -> Result<Vec<Look>, NoMemory>>(
     tell_if_heard(alloc, serving, number, world, word, outputs)
 }
 
-/// Takes a piece of a client's stream: a four-letter word, if the connection begins with one and has no session and waits
-/// for none, or frames. `serving` says whether clients are served. The bytes of a connection that isn't open, or whose
-/// client has asked for the end of its session, are ignored.
+/// Takes a piece of a client's stream: a four-letter word, if the connection begins with one and has no session and
+/// waits for none, or frames. `serving` says whether clients are served. The bytes of a connection that isn't open, or
+/// whose client has asked for the end of its session, are ignored.
 ///
-/// If `gathers` is set, a read waits in `asked`: its reply and its watch are still owed. Anything else is done after the
-/// reads that wait are answered, by one call of `looker`; so the caller answers what waits by [`settle_reads`] before it
-/// does anything else to the world. Otherwise a read is answered at once.
+/// If `gathers` is set, a read waits in `asked`: its reply and its watch are still owed. Anything else is done after
+/// the reads that wait are answered, by one call of `looker`; so the caller answers what waits by [`settle_reads`]
+/// before it does anything else to the world. Otherwise a read is answered at once.
 ///
 /// Fails only if an allocation is refused; then a prefix of the outputs has been appended.
 pub fn take_client_bytes<L: Fn(&Tree, &[Ask<'_>]) -> Result<Vec<Look>, NoMemory>>(

@@ -217,8 +217,8 @@ fn handle_connect(
     }
 }
 
-/// Serves a frame of a connection that has no session. The first is a ConnectRequest; while that waits, the frames after
-/// it are held.
+/// Serves a frame of a connection that has no session. The first is a ConnectRequest; while that waits, the frames
+/// after it are held.
 ///
 /// Fails only if an allocation is refused; then a prefix of the outputs has been appended.
 pub fn connect_or_hold(

@@ -4,24 +4,24 @@
 //! replica, and the [`Clients`] with their sessions and watches (specs/World). What clients do to it is defined by
 //! steps (specs/Steps), each of which gives outputs and the world after it.
 //!
-//! A frame of a client is a step (specs/Serve), answered at the present state, and touches the session of its connection:
-//! the leader is told later whose clients were heard. The first frame of a connection asks for a session. A new session is
-//! the leader's to create: it is asked, and the connect waits, and so do the frames after it, which are held whole. A
-//! session that lives in the replica's tree is taken up at once. The other frames read and leave watches, add an id, set
-//! watches again, write, or ask for the end of the session; after that nothing more is taken of the connection. The caller
-//! says whether clients are served; while they aren't, no client gets a session. A connection that has asked for no
-//! session yet may begin with a four-letter word in place of a frame: it is answered, whether clients are served or not,
-//! and closed. A connection's ids, watches and requests go with it in one step (specs/Clients), and its session stays the
-//! leader's. A client's bytes make a step of each frame that they complete. specs/Results states what a function returns
-//! and leaves, refused allocations included.
+//! A frame of a client is a step (specs/Serve), answered at the present state, and touches the session of its
+//! connection: the leader is told later whose clients were heard. The first frame of a connection asks for a session. A
+//! new session is the leader's to create: it is asked, and the connect waits, and so do the frames after it, which are
+//! held whole. A session that lives in the replica's tree is taken up at once. The other frames read and leave watches,
+//! add an id, set watches again, write, or ask for the end of the session; after that nothing more is taken of the
+//! connection. The caller says whether clients are served; while they aren't, no client gets a session. A connection
+//! that has asked for no session yet may begin with a four-letter word in place of a frame: it is answered, whether
+//! clients are served or not, and closed. A connection's ids, watches and requests go with it in one step
+//! (specs/Clients), and its session stays the leader's. A client's bytes make a step of each frame that they complete.
+//! specs/Results states what a function returns and leaves, refused allocations included.
 //!
 //! A write, the end of a session and a sync are forwarded to the leader, and wait; a later request of the connection is
 //! held until they are answered, so that replies come in the order of the requests. `forwarding` knows what waits, and
 //! the crate above answers it from the leader's stream, with what this crate sends and serves.
 //!
-//! A read may wait for its answer, as an [`AskedRead`], while other reads follow (specs/Runs). [`settle_reads`] looks all
-//! of them up in one call of a closure, which may use several threads, and then leaves their watches and sends their
-//! replies in order. The law [`runs_of_reads`] says that this is what answering each at once does.
+//! A read may wait for its answer, as an [`AskedRead`], while other reads follow (specs/Runs). [`settle_reads`] looks
+//! all of them up in one call of a closure, which may use several threads, and then leaves their watches and sends
+//! their replies in order. The law [`runs_of_reads`] says that this is what answering each at once does.
 //!
 //! `client_frames` reads what a frame asks; `read_processor` makes the reply to a read and its frame; `sessions` knows
 //! the session of each connection, `watch_manager` the watches, and `four_letter` the answers to words. This crate says
@@ -29,7 +29,8 @@
 //! watchers of a change.
 //!
 //! `client` cuts the bytes into frames, with `joining`, `calls`, `reading` and `session` for the requests of a frame,
-//! `settling` for reads that wait, `word` for four-letter words, and `sending` and `notice` for what is sent. specs/Inner has the contracts of their private functions; no public contract needs it.
+//! `settling` for reads that wait, `word` for four-letter words, and `sending` and `notice` for what is sent.
+//! specs/Inner has the contracts of their private functions; no public contract needs it.
 //!
 //! ```text
 //! let clients = Clients::new(alloc, &settings)?;                       // no connection, and no session yet

@@ -28,8 +28,8 @@ fn first_four(bytes: &[u8]) -> Option<[u8; 4]>
     }
 }
 
-/// The four-letter word in a connection's first four bytes; None if they are none, or if the connection has a session or
-/// waits for one.
+/// The four-letter word in a connection's first four bytes; None if they are none, or if the connection has a session
+/// or waits for one.
 pub fn word_at(number: u64, world: &World, bytes: &[u8]) -> Option<Word>
     ensures { result ≡ word_at number world.now bytes.now }
 {

@@ -12,7 +12,8 @@ use read_processor::Look;
 use std::alloc::Global;
 use values::NoMemory;
 
-/// A session has ended, by the transaction of this zxid: answers the closeSession that waits, and closes the connection.
+/// A session has ended, by the transaction of this zxid: answers the closeSession that waits, and closes the
+/// connection.
 ///
 /// Fails only if an allocation is refused; then a prefix of the outputs has been appended.
 pub fn close_ended(

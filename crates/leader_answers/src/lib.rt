@@ -5,19 +5,19 @@
 //! answered, as specs/Answering defines.
 //!
 //! [`answer_due`] says whom an applied transaction answers, and how ([`Due`]), and [`answer_last_txn`] does it. A
-//! createSession admits the connection that waits for the session: it gets the session and the answer to its connect, and
-//! then the frames are served that were held until then. A closeSession answers the closeSession that waits, and closes
-//! the connection of the session. Any other transaction answers the oldest write of the connection that has its session,
-//! if it was made of it. [`answer_sync`] answers the oldest sync that was forwarded. What came after the answered
-//! request, and waits for nothing else, is answered next. [`answer_ping`] tells the leader which sessions' clients
-//! were heard.
+//! createSession admits the connection that waits for the session: it gets the session and the answer to its connect,
+//! and then the frames are served that were held until then. A closeSession answers the closeSession that waits, and
+//! closes the connection of the session. Any other transaction answers the oldest write of the connection that has its
+//! session, if it was made of it. [`answer_sync`] answers the oldest sync that was forwarded. What came after the
+//! answered request, and waits for nothing else, is answered next. [`answer_ping`] tells the leader which sessions'
+//! clients were heard.
 //!
 //! The caller says what the leader's stream has brought, once the replica has taken it. Each function gives a step, as
 //! those of `client_service` do.
 //!
 //! ```text
 //! // the replica has applied a transaction, with this error
-//! answer_last_txn(alloc, &mut world, error, &mut outputs)?;   // appends Output::ToClient(7, reply), for one that waited
+//! answer_last_txn(alloc, &mut world, error, &mut outputs)?; // appends Output::ToClient(7, reply), for one that waited
 //! // the leader has done a sync, and then it asks who was heard
 //! answer_sync(alloc, &mut world, &mut outputs)?;
 //! answer_ping(alloc, &mut world, ping, &mut outputs)?;        // appends Output::ToLeader(answer)

@@ -38,9 +38,9 @@ fn txn_number(txn: &Txn) -> i32
     txn.body.kind().code()
 }
 
-/// The newest transaction of the log was applied, with ZooKeeper's error code of it, 0 for success. If it admits a client,
-/// ends the session of one or was made of a write that waits here, that client is answered, and so are its later requests
-/// up to the next that waits for the leader.
+/// The newest transaction of the log was applied, with ZooKeeper's error code of it, 0 for success. If it admits a
+/// client, ends the session of one or was made of a write that waits here, that client is answered, and so are its
+/// later requests up to the next that waits for the leader.
 ///
 /// Fails only if an allocation is refused; then a prefix of the outputs has been appended.
 pub fn answer_last_txn(

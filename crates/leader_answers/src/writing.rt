@@ -41,8 +41,8 @@ pub fn reply_to_write(
     write_look(alloc, world.replica.tree(), kind, &txn.body, error)
 }
 
-/// Answers the oldest write of a connection, which the transaction of this header and type answers, and then the requests
-/// that waited only for this write.
+/// Answers the oldest write of a connection, which the transaction of this header and type answers, and then the
+/// requests that waited only for this write.
 ///
 /// Fails only if an allocation is refused; then a prefix of the outputs has been appended.
 pub fn answer_write(

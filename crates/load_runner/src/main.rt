@@ -23,11 +23,11 @@
 //! `load_runner logs PARENTS CHILDREN KEPT TIMES`: after creates of such nodes TIMES leaders connect, each of which
 //! truncates all of these transactions but the first KEPT.
 //!
-//! `load_runner spread KIND PARENTS CHILDREN CONTENT COUNT TIMES WORKERS LENGTH LEAST`: after creates of such nodes, those
-//! below the root with CONTENT bytes of data, TIMES events come, each with COUNT transactions of the leader (`creates` or
-//! `sets`) or reads of a client (`gets` or `names`). The engine has WORKERS workers and batches of up to LENGTH
-//! transactions, and spreads only batches with LEAST bytes of data or more and runs of LEAST reads or more; with 0 workers
-//! it does all on the calling thread. Standard error has the nanoseconds that it took for these events.
+//! `load_runner spread KIND PARENTS CHILDREN CONTENT COUNT TIMES WORKERS LENGTH LEAST`: after creates of such nodes,
+//! those below the root with CONTENT bytes of data, TIMES events come, each with COUNT transactions of the leader
+//! (`creates` or `sets`) or reads of a client (`gets` or `names`). The engine has WORKERS workers and batches of up to
+//! LENGTH transactions, and spreads only batches with LEAST bytes of data or more and runs of LEAST reads or more; with
+//! 0 workers it does all on the calling thread. Standard error has the nanoseconds that it took for these events.
 #![tactic(auto)]
 
 mod choice;

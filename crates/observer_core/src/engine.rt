@@ -108,8 +108,8 @@ impl Engine {
         Ok(Engine::started(config, replica, None, clients))
     }
 
-    /// An observer that follows a leader in epoch 1 and serves clients. Its tree has the first session, with the greatest
-    /// timeout, and connection 1 is open and has that session.
+    /// An observer that follows a leader in epoch 1 and serves clients. Its tree has the first session, with the
+    /// greatest timeout, and connection 1 is open and has that session.
     ///
     /// Fails only if an allocation is refused.
     pub fn primed(alloc: Global, config: Config) -> Result<Engine, NoMemory>
@@ -223,11 +223,11 @@ impl Engine {
         self.play(alloc, &doer, &looker, usize::MAX, false, events, outputs)
     }
 
-    /// Does what `feed_inline` does, on several threads. The transactions of one event of the leader are cut into batches
-    /// within the limits of the configuration, and each batch is applied by up to so many workers, which pass `gate` for
-    /// each of its groups. Reads that follow each other with nothing else to be done between them, in one event or in
-    /// several, are answered by as many workers, which pass `gate` for each read. The first worker is the calling
-    /// thread, which waits for the others.
+    /// Does what `feed_inline` does, on several threads. The transactions of one event of the leader are cut into
+    /// batches within the limits of the configuration, and each batch is applied by up to so many workers, which pass
+    /// `gate` for each of its groups. Reads that follow each other with nothing else to be done between them, in one
+    /// event or in several, are answered by as many workers, which pass `gate` for each read. The first worker is the
+    /// calling thread, which waits for the others.
     pub fn feed<G: Gate + Sync, R: Threads + Sync>(
         &mut self,
         rt: &R,

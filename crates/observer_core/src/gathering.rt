@@ -192,7 +192,8 @@ pub fn take_item<D: Fn(&mut Tree, &[Txn]) -> Result<Vec<Outcome>, NoMemory>>(
     Ok(())
 }
 
-// The fewest bytes of a read in a client's stream: its length, its xid, its type, and a path of one byte with its length.
+// The fewest bytes of a read in a client's stream: its length, its xid, its type, and a path of one byte with its
+// length.
 const SHORTEST_READ: usize = 17;
 
 /// Whether the clients' bytes in these events are as many as so many reads have at least. This is an estimate, on which

@@ -52,8 +52,8 @@ pub fn refusals_change_nothing()
     ensures { RefusalsChangeNothing }
 {}
 
-/// Every connection that has a session, a watch or a request that waits is open, no two connections share a session, and
-/// a connection whose connect waits has none: at the start, and after every list of events if it was so before.
+/// Every connection that has a session, a watch or a request that waits is open, no two connections share a session,
+/// and a connection whose connect waits has none: at the start, and after every list of events if it was so before.
 pub fn connections_agree()
     ensures { ConnectionsAgree }
 {
@@ -97,11 +97,11 @@ pub fn nothing_waits_in_vain()
     forwarding::nothing_waits_in_vain();
 }
 
-/// An event of a client (it connects, sends or leaves) leaves the tree and the log. It sends no frame to another client,
-/// and to the leader only requests of its own session, or for a session that it asks for. Every other connection that it
-/// doesn't close keeps its waiting bytes, its session, its ids, its watches and its waiting requests. It closes another
-/// connection only if its client takes over that connection's session: the client had no session before, and has this
-/// one from then on while it is open.
+/// An event of a client (it connects, sends or leaves) leaves the tree and the log. It sends no frame to another
+/// client, and to the leader only requests of its own session, or for a session that it asks for. Every other
+/// connection that it doesn't close keeps its waiting bytes, its session, its ids, its watches and its waiting
+/// requests. It closes another connection only if its client takes over that connection's session: the client had no
+/// session before, and has this one from then on while it is open.
 pub fn clients_are_apart()
     ensures { ClientsAreApart }
 {
@@ -111,8 +111,8 @@ pub fn clients_are_apart()
 }
 
 /// A transaction of the leader answers at most one client: the one that has its session and waits for it or whose
-/// session it ends, or the one that waits for the session that it creates. Then that client's requests that were held go
-/// to the leader, and an older connection of the session is closed. A SYNC answers at most the one whose sync it
+/// session it ends, or the one that waits for the session that it creates. Then that client's requests that were held
+/// go to the leader, and an older connection of the session is closed. A SYNC answers at most the one whose sync it
 /// settles. Nothing else is sent, no other connection is closed, and every other connection keeps what it has.
 pub fn answers_reach_one_client()
     ensures { AnswersReachOneClient }

@@ -5,19 +5,19 @@
 //! of which gives outputs and the world after it.
 //!
 //! A packet of the leader, or a part of an image, is a step (specs/Leader): the replica takes it, its answers are sent,
-//! the watchers of what it changed are told at once, and then `leader_answers` answers a PING, or the client whose session
-//! was created or has ended, whose write was applied, or whose sync is done. If it is refused, the leader and all clients
-//! are closed, the transactions that wait for a commit are forgotten, and nothing else changes. A frame of a client is a
-//! step of `client_service`, answered at the present state. Clients are served from the moment the leader has brought the
-//! replica up to date until the leader is gone. An event makes a step of each item that it completes.
+//! the watchers of what it changed are told at once, and then `leader_answers` answers a PING, or the client whose
+//! session was created or has ended, whose write was applied, or whose sync is done. If it is refused, the leader and
+//! all clients are closed, the transactions that wait for a commit are forgotten, and nothing else changes. A frame of
+//! a client is a step of `client_service`, answered at the present state. Clients are served from the moment the leader
+//! has brought the replica up to date until the leader is gone. An event makes a step of each item that it completes.
 //!
-//! `replica` follows the leader and keeps the tree; `client_service` does what a client's bytes ask; `leader_answers` gives
-//! clients what they wait for. This crate says in which order all this happens, and what is sent. specs/Plays states what `feed_inline` and `feed` return, refused
-//! allocations included. Each item is told as soon as it is read. In an event of the leader that may be worth threads,
-//! `feed` gathers the transactions instead: worker threads apply them as one list, in batches, before anything that
-//! could tell the difference. A transaction that answers a client ends such a list. Likewise `feed` lets reads wait while
-//! nothing but reads follows, in the same event or in the next, and worker threads answer them together. No answer
-//! depends on either.
+//! `replica` follows the leader and keeps the tree; `client_service` does what a client's bytes ask; `leader_answers`
+//! gives clients what they wait for. This crate says in which order all this happens, and what is sent. specs/Plays
+//! states what `feed_inline` and `feed` return, refused allocations included. Each item is told as soon as it is read.
+//! In an event of the leader that may be worth threads, `feed` gathers the transactions instead: worker threads apply
+//! them as one list, in batches, before anything that could tell the difference. A transaction that answers a client
+//! ends such a list. Likewise `feed` lets reads wait while nothing but reads follows, in the same event or in the next,
+//! and worker threads answer them together. No answer depends on either.
 //!
 //! `leader` does the leader's steps, with `gathering` for the transactions of an event, and `run` plays the events.
 //! specs/Gathering and specs/Inner have the contracts of their private functions; no public contract needs them.

@@ -101,10 +101,10 @@ fn happen<
     }
 }
 
-/// Plays the events in order and appends the outputs of each. In an event of the leader with `gather_from` bytes or more
-/// transactions wait for each other, and the closure `doer` applies a list of them to the tree; in a shorter one each is
-/// applied at once. If `gathers` is set, reads wait for each other, and `looker` answers a run of them; otherwise each
-/// is answered at once.
+/// Plays the events in order and appends the outputs of each. In an event of the leader with `gather_from` bytes or
+/// more transactions wait for each other, and the closure `doer` applies a list of them to the tree; in a shorter one
+/// each is applied at once. If `gathers` is set, reads wait for each other, and `looker` answers a run of them;
+/// otherwise each is answered at once.
 ///
 /// Fails only if an allocation is refused; then a prefix of the outputs has been appended.
 pub fn run<

@@ -64,8 +64,8 @@ const WANTED: [&[u8]; 8] = [
     b"\0\0\0\x20\xff\xff\xff\xff\xff\xff\xff\xff\xff\xff\xff\xff\0\0\0\0\0\0\0\x01\0\0\0\x03\0\0\0\x04/a/y",
 ];
 
-// Whether the outputs and the nodes are right. The first and the last child are made in one group, so the watchers would
-// be told in another order if they were told group by group.
+// Whether the outputs and the nodes are right. The first and the last child are made in one group, so the watchers
+// would be told in another order if they were told group by group.
 fn plays_in_order<R: Threads + Sync>(
     rt: &R,
     alloc: Global,

@@ -8,8 +8,8 @@
 //! `look_each` answers several reads of one tree; an `Ask` is a read with the ids of its client (specs/Asking).
 //!
 //! A read may leave a watch, which `watch_of` returns (specs/Watch), and an event is sent in the same form as a reply
-//! (specs/Events). The watch that an addWatch asks for is `watch_to_add`'s. A client that reconnects sends the watches that it had; `renew` returns the events that it missed
-//! and the watches to set again (specs/Renewal).
+//! (specs/Events). The watch that an addWatch asks for is `watch_to_add`'s. A client that reconnects sends the watches
+//! that it had; `renew` returns the events that it missed and the watches to set again (specs/Renewal).
 //!
 //! ```text
 //! let request = Request { kind: ReadKind::GetData, path, watch };

@@ -80,7 +80,8 @@ pub fn look_all<G: Gate + Sync, R: Threads + Sync>(
     look_all_on(rt, alloc, tree, asks, readers, gate, &AllStart)
 }
 
-/// The same, with only those of the readers' threads started that may be. Whichever these are, the answers are the same.
+/// The same, with only those of the readers' threads started that may be. Whichever these are, the answers are the
+/// same.
 pub fn look_all_on<G: Gate + Sync, R: Threads + Sync, S: Starts>(
     rt: &R,
     alloc: Global,

@@ -40,8 +40,8 @@ impl Replica {
         Ok(())
     }
 
-    /// Applies the log's transactions after the first `done` by the closure, and returns their outcomes. Each outcome has
-    /// what taking the transaction's item would have brought: its triggers, and the error of `LeaderNews::Applied`.
+    /// Applies the log's transactions after the first `done` by the closure, and returns their outcomes. Each outcome
+    /// has what taking the transaction's item would have brought: its triggers, and the error of `LeaderNews::Applied`.
     ///
     /// Fails if the closure does. Then the tree is unspecified, and the caller drops the replica.
     pub fn apply_gathered<D: Fn(&mut Tree, &[Txn]) -> Result<Vec<Outcome>, NoMemory>>(

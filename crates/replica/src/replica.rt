@@ -46,8 +46,8 @@ impl Replica {
         Replica::fresh(alloc, Learner::new(alloc, epochs))
     }
 
-    /// A replica that serves in epoch 1, and whose tree has one session with this timeout in milliseconds. Fails only if
-    /// an allocation is refused.
+    /// A replica that serves in epoch 1, and whose tree has one session with this timeout in milliseconds. Fails only
+    /// if an allocation is refused.
     pub fn primed(alloc: Global, session: i64, time_out: i32) -> Result<Replica, NoMemory>
         ensures { IfOk result (λ r. r ≡ primed_replica session time_out) }
     {

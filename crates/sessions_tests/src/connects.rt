@@ -97,7 +97,8 @@ fn two_sessions(alloc: Global) -> Result<Sessions, Fail> {
     Ok(sessions)
 }
 
-// The responses to two connections of a server that ask for new sessions, and the sessions of the connections afterwards.
+// The responses to two connections of a server that ask for new sessions, and the sessions of the connections
+// afterwards.
 fn first_two(alloc: Global, server_id: i32) -> Result<String, Fail> {
     let mut sessions = sessions_of(alloc, server_id)?;
     let mut text = ask_for_new(alloc, &mut sessions, 1)?;

@@ -1,7 +1,8 @@
 //! The replies to writes that were forwarded to the leader.
 //!
 //! A write of a client is made into a transaction by the leader. Once that was applied, the client is answered:
-//! [`write_look`] says what its reply shows (specs/Replies), from the transaction, its error and the tree as it is then.
+//! [`write_look`] says what its reply shows (specs/Replies), from the transaction, its error and the tree as it is
+//! then.
 //!
 //! ```text
 //! let seen = write_look(alloc, tree, WriteKind::Create, &txn.body, 0)?;   // the path of the new node

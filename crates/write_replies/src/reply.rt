@@ -62,8 +62,8 @@ fn look_of_write(alloc: Global, tree: &Tree, kind: WriteKind, body: &Body) -> Re
 }
 
 /// What the reply to a write shows, once its transaction was applied: with an error that error alone, else of a create
-/// the path, of a setData and a setACL the Stat of the node as the tree has it now, and of a delete nothing. `body` is the
-/// transaction's, and `error` ZooKeeper's error code of it, 0 for success.
+/// the path, of a setData and a setACL the Stat of the node as the tree has it now, and of a delete nothing. `body` is
+/// the transaction's, and `error` ZooKeeper's error code of it, 0 for success.
 ///
 /// Fails only if an allocation is refused.
 pub fn write_look(
