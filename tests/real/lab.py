@@ -193,11 +193,14 @@ class Observer:
         self.process, self.client = None, None
 
     def start(self, quorum, client=0, *options):
-        """Starts it, and waits until it says on which port it serves."""
-        words = [*self.program, "serve", "--leader", quorum, "--client", client, "--id", self.number, "--log", *options]
+        """Starts it behind one leader, and waits until it says on which port it serves."""
+        self.run("--leader", quorum, "--client", client, "--id", self.number, "--log", *options)
+
+    def run(self, *options):
+        """Starts it with these options, and waits until it says on which port it serves."""
         self.out = self.folder / f"{self.name}.out"
         with open(self.out, "wb") as out:
-            self.process = Process(self.name, words, self.folder, stdout=out)
+            self.process = Process(self.name, [*self.program, "serve", *options], self.folder, stdout=out)
         self.client = until("`serving PORT` is printed", self.said, START_SECONDS)
 
     def said(self):
