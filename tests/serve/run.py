@@ -1,5 +1,5 @@
 #!/usr/bin/env python3
-"""tests/serve/run.py [PROGRAM]: faults over sockets, tried at `serve` of the built program.
+"""tests/serve/run.py [PROGRAM] [--long] [NAME ..]: faults over sockets, tried at `serve` of the built program.
 
 It plays a small leader and many clients: some are reset, some are cut in the middle of a frame, some say nothing, some
 don't read, some send what is no frame, some go while their session or a write of theirs waits for the leader, and many
@@ -21,11 +21,16 @@ from concurrent.futures import ThreadPoolExecutor
 sys.dont_write_bytecode = True
 import forwarded  # noqa: E402
 import load  # noqa: E402
+import next_leaders  # noqa: E402
+import several  # noqa: E402
+import silence  # noqa: E402
 from leader import CLOSE_SESSION, CREATE, ERROR, EPOCH_1, received  # noqa: E402
 from server import (  # noqa: E402
-    ACKEPOCH, CONNECT, CONNECTED_LEN, GET, GOT_LEN, LEADERINFO, OBSERVERINFO, PING, PINGED_LEN, SNAP, UPTODATE, Server,
-    got, hexa, is_closed, reset, wait_until,
+    ACKEPOCH, CONNECT, CONNECTED_LEN, GET, GOT_LEN, LEADERINFO, OBSERVERINFO, PING, PINGED_LEN, SNAP, UPTODATE, Program,
+    Server, got, hexa, is_closed, reset, wait_until,
 )
+
+MODULES = (sys.modules[__name__], next_leaders, silence)
 
 
 def run(*words):
@@ -705,24 +710,35 @@ def test_a_load_of_all_kinds():
         server.ends(seconds=load.SECONDS)
 
 
+def tests():
+    """Yields each test with its name, module by module."""
+    for module in MODULES:
+        for name, it in list(vars(module).items()):
+            if name.startswith("test_"):
+                yield name[len("test_") :], it
+
+
 def main(words):
     # 500 clients take three descriptors each of the program, and one here.
     most = resource.getrlimit(resource.RLIMIT_NOFILE)[1]
     resource.setrlimit(resource.RLIMIT_NOFILE, (most, most))
-    if words and not words[0].startswith("-"):
-        Server.PROGRAM = os.path.realpath(words.pop(0))
+    if "--long" in words:
+        words.remove("--long")
+        several.LONG = True
+    if words and os.path.isfile(words[0]):
+        Program.PROGRAM = os.path.realpath(words.pop(0))
     passed = failed = 0
-    for name, test in list(globals().items()):
-        if not name.startswith("test_") or (words and name[len("test_") :] not in words):
+    for name, test in tests():
+        if words and name not in words:
             continue
         began = time.monotonic()
         try:
             test()
             passed += 1
-            print(f"ok {name[len('test_'):]} ({time.monotonic() - began:.1f} s)", flush=True)
+            print(f"ok {name} ({time.monotonic() - began:.1f} s)", flush=True)
         except Exception as why:  # each failure is told, and the others go on
             failed += 1
-            print(f"FAILED {name[len('test_'):]}: {type(why).__name__} {why}", flush=True)
+            print(f"FAILED {name}: {type(why).__name__} {why}", flush=True)
             if os.environ.get("TRACE"):
                 import traceback
 
