@@ -12,7 +12,7 @@ from lab import Gone, ended, library, until, word, zxid_of
 from raw import Raw
 from reads import client_of, compare
 from seen import Reader, Seen, Writer
-from voters import OUR_OBSERVER, SILENCE, START_SECONDS, Ensemble, Follower
+from voters import OUR_OBSERVER, SILENCE, START_SECONDS, Ensemble, Follower, shown
 
 KILLS, WRITERS, NODES = 6, 4, 200
 # A session of this many seconds is so long that only the sync limit counts, and one of those so short that it counts.
@@ -51,7 +51,7 @@ class Bench:
         self.ensemble.stop()
 
     def tails(self):
-        own = f"--- {self.observer.process.log.name}\n{self.observer.process.tail(40)}\n" if self.observer.process else ""
+        own = shown(self.observer.process, 40) if self.observer.process else ""
         return own + self.ensemble.tails()
 
     def mended(self, *options):
@@ -453,9 +453,9 @@ def locks(bench):
 
 
 def written(bench, path, count, data):
-    client = library(bench.ensemble.hosts())
+    client = library(bench.ensemble.leader().client)
     for number in range(count):
-        client.retry(client.create, f"{path}-{number}", data)
+        client.create(f"{path}-{number}", data)
     ended(client)
     bench.observer.reaches(zxid_of(bench.ensemble.leader().client))
 
@@ -513,9 +513,12 @@ def restored_below_a_checkpoint(bench):
 
 
 def one_id(bench):
-    """Killed and started again under one id: a new client has an id of its own, and when it closes, the lock of an
-    older client lives, which resumes its session."""
+    """Killed and started again under one id: the first session is another one than that of the first run, and when it
+    closes, the lock of the older client lives, which resumes its session."""
     bench.mended()
+    bench.observer.stop()
+    bench.observer.begin(bench.ensemble.servers())
+    until("the observer serves", bench.observer.serves)
     holder = Seen(bench.observer.client, LONG)
     try:
         lock = holder.client.Lock("/one-id", "holder")
@@ -524,6 +527,7 @@ def one_id(bench):
         port, began = bench.observer.client, time.monotonic()
         bench.observer.kill()
         bench.observer.begin(bench.ensemble.servers(), port)
+        until("the observer serves", bench.observer.serves)
         other = Seen(port)
         say(f"the holder's session is 0x{holder.session:x}, the new client's 0x{other.session:x}")
         assert other.session != holder.session and other.session >> 56 == holder.session >> 56 == OUR_OBSERVER

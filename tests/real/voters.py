@@ -45,6 +45,12 @@ def has_word(port, asked, part):
         return False
 
 
+def shown(process, lines):
+    """Returns the last lines of a log, the longest of them cut off."""
+    tail = "\n".join(it[:200] for it in process.tail(lines).splitlines())
+    return f"--- {process.log.name}\n{tail}\n"
+
+
 class Peer:
     """A real server, which keeps its folder and ports when it is started again."""
 
@@ -155,10 +161,6 @@ class Ensemble:
         """The addresses of the voters, as our observer is given them."""
         return ",".join(f"127.0.0.1:{it.quorum}" for it in self.voters)
 
-    def hosts(self):
-        """The addresses of the voters, as a client is given them."""
-        return ",".join(f"127.0.0.1:{it.client}" for it in self.voters)
-
     def mended(self):
         """Brings each voter up that was killed or frozen, and returns the one that leads."""
         for it in self.voters:
@@ -172,8 +174,7 @@ class Ensemble:
             it.stop()
 
     def tails(self):
-        parts = [(it.process.log.name, it.process.tail()) for it in (*self.voters, self.java) if it.process]
-        return "\n".join(f"--- {name}\n{text}" for name, text in parts)
+        return "".join(shown(it.process, 6) for it in (*self.voters, self.java) if it.process)
 
 
 class Follower(Observer):

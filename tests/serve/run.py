@@ -19,6 +19,8 @@ import time
 from concurrent.futures import ThreadPoolExecutor
 
 sys.dont_write_bytecode = True
+import checkpoints  # noqa: E402
+import commands  # noqa: E402
 import forwarded  # noqa: E402
 import load  # noqa: E402
 import next_leaders  # noqa: E402
@@ -30,79 +32,13 @@ from server import (  # noqa: E402
     Server, got, hexa, is_closed, reset, wait_until,
 )
 
-MODULES = (sys.modules[__name__], next_leaders, silence)
-
-
-def run(*words):
-    """Runs the program to its end. Returns its status and what standard error was told."""
-    ran = subprocess.run([Server.PROGRAM, "serve", *words], stdin=subprocess.DEVNULL, capture_output=True, timeout=20)
-    return ran.returncode, ran.stderr.decode()
-
-
-def test_command_lines():
-    good = ["--leader", "1", "--client", "0"]
-    bad = [
-        [],
-        ["--leader", "1"],
-        ["--client", "1"],
-        ["--leader", "1", "--client"],
-        good + ["--leader", "1"],
-        good + ["--log", "--log"],
-        good + ["--workers"],
-        good + ["--workers", "0"],
-        good + ["--workers", "65"],
-        good + ["--workers", "+4"],
-        good + ["--batch", "0"],
-        good + ["--batch", "4097"],
-        good + ["--id", "0"],
-        good + ["--id", "256"],
-        good + ["--max-clients", "0"],
-        good + ["--record"],
-        good + ["--verbose"],
-        good + ["more"],
-        ["--leader", "65536", "--client", "0"],
-        ["--leader", "-1", "--client", "0"],
-        ["--leader", "", "--client", "0"],
-        ["--leader", "1", "--client", ":5"],
-        ["--leader", "localhost:", "--client", "0"],
-    ]
-    for words in bad:
-        assert run(*words) == (2, "usage\n"), words
-
-
-def test_what_cannot_be_opened():
-    with socket.socket() as taken, socket.socket() as closed:
-        taken.bind(("127.0.0.1", 0))
-        taken.listen(5)
-        closed.bind(("127.0.0.1", 0))
-        here, gone = str(taken.getsockname()[1]), str(closed.getsockname()[1])
-        assert run("--leader", gone, "--client", "0") == (3, "cannot open\n")
-        assert run("--leader", "no-such-host.invalid:2888", "--client", "0") == (3, "cannot open\n")
-        assert run("--leader", here, "--client", here) == (3, "cannot open\n")
-        assert run("--leader", here, "--client", "0", "--record", "/no/such/folder/file") == (3, "cannot open\n")
-        status, told = run("--leader", gone, "--client", "0", "--log")
-        lines = told.splitlines()
-        assert status == 3 and len(lines) == 2 and gone in lines[0] and lines[1] == "cannot open", told
+MODULES = (commands, sys.modules[__name__], next_leaders, silence, checkpoints)
 
 
 def test_a_client_reads():
     with Server() as server:
         assert server.is_serving()
         assert server.ends() == ""
-
-
-def test_names_and_addresses():
-    with socket.socket() as leader:
-        leader.bind(("127.0.0.1", 0))
-        leader.listen(5)
-        words = ["--leader", f"localhost:{leader.getsockname()[1]}", "--client", "127.0.0.1:0", "--id", "7"]
-        program = subprocess.Popen([Server.PROGRAM, "serve", *words], stdout=subprocess.PIPE, stderr=subprocess.PIPE)
-        connection, _ = leader.accept()
-        found = received(connection, len(OBSERVERINFO))
-        assert found == OBSERVERINFO.replace(hexa("0000000000000001 00010000"), hexa("0000000000000007 00010000"))
-        connection.close()
-        assert program.wait(10) == 0
-        program.communicate()
 
 
 def test_frames_come_in_pieces():

@@ -34,6 +34,17 @@ def at_once(jobs):
             raise AssertionError(f"{name}: {type(it.exception()).__name__} {it.exception()}") from it.exception()
 
 
+class Heard(socket.socket):
+    """A connection that keeps all bytes that come."""
+
+    heard = b""
+
+    def recv(self, *how):
+        content = super().recv(*how)
+        self.heard += content
+        return content
+
+
 class Line:
     """A connection of the observer's to a server, until clients are served over it."""
 
@@ -133,7 +144,7 @@ class Seat:
 
     def accept(self):
         """Takes the observer's next connection."""
-        self.lines.append(Line(self.socket.accept()[0]))
+        self.lines.append(Line(Heard(fileno=self.socket.accept()[0].detach())))
         return self.lines[-1]
 
     def end(self):
@@ -148,9 +159,9 @@ class Following(Program):
     # Its own thread, the acceptor's, the finder's, and the leader's.
     THREADS = 4
 
-    def __init__(self, seats, *words, option="--servers", limit=None):
+    def __init__(self, seats, *words, option="--servers", others="", limit=None):
         self.seats, self.errors = seats, tempfile.TemporaryFile()
-        servers = ",".join(f"127.0.0.1:{it.port}" for it in seats)
+        servers = others + ",".join(f"127.0.0.1:{it.port}" for it in seats)
         self.start([option, servers, "--client", "0", "--id", str(ID), *words], self.errors, limit)
         self.takes_clients()
 
