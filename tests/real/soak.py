@@ -20,8 +20,10 @@ from seen import SET_DATA, Reader, Seen, Writer
 from voters import SILENCE
 
 CHANGES, CLIENTS, RAW_CLIENTS, NODES = 12, 4, 3, 300
-# What a client that is killed or told to stop may take until all clients are back, in seconds.
-KILLED, FROZEN = 2, 15
+# How long it may take until all clients are back, in seconds: after a kill, a stop and a freeze, and after the voters
+# have a leader that writes, where that takes them longer.
+LIMITS = {"killed": 2, "stopped": 4, "frozen": 13}
+AFTER_WRITES = 1.5
 TIMEOUT = 30
 # Each loop rests so long between two requests, in seconds.
 REST = 0.01
@@ -126,10 +128,10 @@ class Frames:
 
 
 def changed(bench, how, clients, reader):
-    """Loses the leader in one way, and waits until all clients are back. Returns a line that tells of it."""
+    """Loses the leader in one way, and waits until all clients are back. Returns a line that tells of it, and whether
+    that was in time."""
     voters = bench.ensemble
     leader, before = voters.leader(), len(bench.observer.logged())
-    limit = FROZEN if how == "frozen" else KILLED if how == "killed" else 2 * KILLED
     writer = Writer(voters.follower().client, "/soak-number", 40_000, int(time.time() * 1000) % 10**12)
     try:
         began = time.monotonic()
@@ -148,10 +150,11 @@ def changed(bench, how, clients, reader):
     stale = [read for asked, read, found in list(reader.reads) if asked > max(first + LAG, began) and found < number]
     stale = [it - began for it in stale if how != "frozen" or it > began + SILENCE + 1.5]
     way = logged(bench, before, "DIFF", "SNAP", "TRUNC")
-    line = f"{how}: cut off at {cut:.2f} s, all are back at {back:.2f} s ({way})"
+    written = first - began
+    line = f"{how}: cut off at {cut:.2f} s, the voters write at {written:.2f} s, all are back at {back:.2f} s ({way})"
     assert not stale, f"{line}, and older values were read at {stale[:5]}"
     voters.mended()
-    return line, back <= limit
+    return line, back <= max(LIMITS[how], written + AFTER_WRITES)
 
 
 def replays(bench, connections):

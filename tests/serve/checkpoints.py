@@ -39,7 +39,8 @@ class Written:
                 body = buffer(b"/n%d" % number) + buffer(content) + struct.pack(">i", self.versions[number])
                 leader.informs(SET_DATA, body)
                 size -= len(body)
-        leader.pinged()
+        # A build with checks takes some seconds for a mebibyte.
+        leader.pinged(60)
 
     def is_read(self, server):
         """A new client reads each node as it was written last. Returns all bytes that it was sent."""
@@ -63,7 +64,7 @@ def taken(server):
 
 def is_taken(server, count):
     """Waits until so many checkpoints are taken; they are looked for once a second."""
-    assert wait_until(lambda: len(taken(server)) >= count, 5), server.said()
+    assert wait_until(lambda: len(taken(server)) >= count, 30), server.said()
 
 
 def replayed(name):
@@ -90,7 +91,7 @@ def test_checkpoints():
             written.make(leader)
             sent.append(written.is_read(server))
             for number in range(2):
-                written.grow(leader, MEBIBYTE * 3 // 2)
+                written.grow(leader, MEBIBYTE * 9 // 8)
                 is_taken(server, number + 1)
                 sent.append(written.is_read(server))
             # What comes after a checkpoint can be taken back.
@@ -127,7 +128,7 @@ def test_no_checkpoints():
     with Following([seat], "--checkpoint", "0", "--log", "info") as server:
         leader = seat.accept().leads(1)
         written.make(leader)
-        written.grow(leader, 3 * MEBIBYTE)
+        written.grow(leader, MEBIBYTE * 9 // 8)
         time.sleep(1.5)
         assert not taken(server), server.said()
         written.is_read(server)

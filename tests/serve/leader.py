@@ -180,10 +180,10 @@ class Leader:
         """Tells that a write has failed, and returns the zxid of that."""
         return self.informs(ERROR, struct.pack(">i", error), request.session, request.xid)
 
-    def pinged(self):
+    def pinged(self, seconds=SECONDS):
         """Sends a PING, and returns the table of its answer: sessions and their timeouts."""
         self.send(packet(PING, self.zxid()))
-        return self.pings.get(timeout=SECONDS)
+        return self.pings.get(timeout=seconds)
 
     # ---- the end
 
