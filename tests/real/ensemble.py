@@ -213,7 +213,7 @@ def all_down(bench):
         except Gone:
             asked += 1
         time.sleep(0.5)
-    assert "no leader among" in bench.observer.logged(), bench.observer.process.tail()
+    assert "no leader yet: " in bench.observer.logged(), bench.observer.process.tail()
     again = time.monotonic()
     bench.mended()
     until("the client is back", lambda: client.back(began), 30)
@@ -338,23 +338,26 @@ def java_frozen(bench):
 
 
 def started_while_frozen(bench):
-    """Started while the leader is frozen, it says which servers don't answer, and serves behind the next leader."""
+    """Started while the leader is frozen, with the frozen server alone: the port is open, and a line says why nobody is
+    served. With all of them it serves behind the next leader."""
     bench.mended()
     leader = bench.ensemble.leader()
-    other = Follower(bench.program, bench.folder, "while-frozen", 102)
+    alone, other = (Follower(bench.program, bench.folder, f"while-frozen-{number}", number) for number in (102, 103))
     leader.freeze()
     try:
         began = time.monotonic()
+        alone.begin(f"127.0.0.1:{leader.quorum}")
         other.begin(bench.ensemble.servers())
-        until("a line names the frozen server", lambda: f":{leader.quorum}" in other.logged(), 15)
-        said = time.monotonic() - began
-        assert word(other.client, "ruok") == "imok" and word(other.client, "isro") == "null"
+        assert word(alone.client, "ruok") == "imok" and word(alone.client, "isro") == "null"
         other.waits_until_it_serves(40)
-        say(f"the line came after {said:.1f} s, and it serves after {time.monotonic() - began:.1f} s")
-        line = next(it for it in other.logged().splitlines() if f":{leader.quorum}" in it)
+        say(f"behind the next leader it serves after {time.monotonic() - began:.1f} s")
+        wanted = f"no leader yet: 127.0.0.1:{leader.quorum} silent"
+        until("a line says why", lambda: wanted in alone.logged(), 15)
+        line = next(it for it in alone.logged().splitlines() if wanted in it)
         say(line)
         assert "WARN" in line, line
     finally:
+        alone.stop()
         other.stop()
         bench.mended()
 

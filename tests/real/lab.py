@@ -17,6 +17,8 @@ from client import EXISTS, Client, Gone  # noqa: E402
 from jute import boolean, text  # noqa: E402
 
 JAVA = pathlib.Path("/usr/share/java")
+# Starts a program with another clock than the machine's.
+FAKETIME = "/usr/bin/faketime"
 JARS = ("zookeeper.jar", "slf4j-simple.jar", "log4j-1.2.jar")
 LEADER_ID, OBSERVER_ID = 9, 3
 TIMEOUTS = (4000, 40000)

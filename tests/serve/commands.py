@@ -1,4 +1,7 @@
 """Command lines: what is wrong with one, what can't be opened, and the ids of sessions."""
+import json
+import os
+import re
 import socket
 import struct
 import subprocess
@@ -164,6 +167,45 @@ def test_ids_from_a_counter():
             # There is none left.
             other.sendall(CONNECT)
             assert other.recv(100)[8:16] in (b"", bytes(8)) and is_closed(other)
+
+
+TIMED = re.compile(r"\d{4}-\d\d-\d\dT\d\d:\d\d:\d\d\.\d{3}Z (DEBUG|INFO |WARN |ERROR) (leader|client|log|hub|serve) .+")
+
+
+def told_with(*words, **environment):
+    """Serves a client, loses its leader, and returns the lines of the log."""
+    before = dict(os.environ)
+    os.environ.pop("JOURNAL_STREAM", None)
+    os.environ.update(environment)
+    try:
+        with Following([Seat()], *words) as server:
+            line = server.seats[0].accept()
+            line.leads(1)
+            server.client().close()
+            line.close()
+            server.seats[0].accept().introduced()
+            return server.said().splitlines()
+    finally:
+        os.environ.clear()
+        os.environ.update(before)
+
+
+def test_levels_and_formats_of_the_log():
+    shown = {}
+    for level in ("off", "error", "warn", "info", "debug"):
+        lines = told_with("--log", level)
+        assert all(TIMED.fullmatch(it) for it in lines), lines
+        shown[level] = {it.split()[1] for it in lines}
+    assert shown["off"] == shown["error"] == set() and shown["warn"] == {"WARN"}, shown
+    assert shown["info"] == {"INFO", "WARN"} and shown["debug"] == {"DEBUG", "INFO", "WARN"}, shown
+    assert {it.split()[1] for it in told_with("--log")} == shown["info"]
+    assert {it.split()[1] for it in told_with()} == shown["warn"]
+    for it in told_with("--log", "debug", "--log-format", "json"):
+        entry = json.loads(it)
+        assert set(entry) == {"ts", "level", "target", "msg"} and entry["level"] in ("DEBUG", "INFO", "WARN"), it
+    # systemd's journal has times of its own.
+    lines = told_with("--log", JOURNAL_STREAM="8:1234")
+    assert lines and all(it.split()[0] in ("INFO", "WARN") for it in lines), lines
 
 
 def test_an_id_that_is_not_given():

@@ -1,4 +1,5 @@
 """What becomes of clients, of what they have asked for, and of the tree, when one leader ends and the next one comes."""
+import os
 import random
 import signal
 import socket
@@ -8,7 +9,7 @@ import time
 import forwarded
 import several
 from leader import CREATE, PING, PROPOSAL, buffer, packet
-from server import CREATE_A, PING as CLIENT_PING, is_closed, reset, wait_until
+from server import CREATE_A, PING as CLIENT_PING, TOP, is_closed, reset, wait_until
 from several import (
     ACK, DIFF, EPOCH, LEADERINFO, NEWLEADER, SNAP, TRUNC, UPTODATE, Following, Seat, at_once, image,
 )
@@ -246,13 +247,13 @@ def test_many_clients_at_the_end_of_a_leader():
 
 def test_one_of_two_servers_says_nothing():
     silent, seat = Seat(), Seat()
-    with Following([silent, seat], "--log", "info") as server:
+    with Following([silent, seat], "--log", "debug") as server:
         began = time.monotonic()
         line = seat.accept()
         took = time.monotonic() - began
         assert 2.9 < took < 4.5, took
         line.leads(1)
-        assert f":{silent.port}" in server.said(), server.said()
+        assert f"127.0.0.1:{silent.port} says nothing" in server.said(), server.said()
         assert silent.accept().introduced() == 0 and server.word(b"isro") == b"rw"
 
 
@@ -304,8 +305,7 @@ def test_it_gives_up():
         began = time.monotonic()
         told = server.ends(8)
         assert 0.8 < time.monotonic() - began < 3, time.monotonic() - began
-        assert told.startswith("observer: ") and len(told.splitlines()) == 1, told
-        assert f"127.0.0.1:{server.seats[0].port}" in told, told
+        assert told == f"observer: no leader within 1 s among 127.0.0.1:{server.seats[0].port} (refused)\n", told
     with Following([Seat()], "--give-up", "2", "--log", "off") as server:
         line = server.seats[0].accept()
         line.leads(1)
@@ -340,13 +340,15 @@ REFUSED = {
 
 
 def ends_by(fault, line, server):
-    """The program ends with status 7 and one line, which names the fault, the server, and what to do."""
+    """The program ends with status 7 and one line, which names the fault, the server, and what docs/OPERATING.md says
+    of it."""
     assert line.closed_after() < 2
     told = server.ends(7)
-    port = server.seats[0].port
-    lines = told.splitlines()
-    assert len(lines) == 1 and lines[0].startswith(f"observer: {fault} from 127.0.0.1:{port}: "), told
-    assert len(lines[0]) > len(f"observer: {fault} from 127.0.0.1:{port}: ") + 10, told
+    begin = f"observer: {fault} from 127.0.0.1:{server.seats[0].port}: "
+    assert told.startswith(begin) and len(told.splitlines()) == 1, told
+    with open(os.path.join(TOP, "docs", "OPERATING.md"), encoding="utf-8") as it:
+        page = " ".join(it.read().replace("`", "").split())
+    assert told[len(begin) :].strip() in page, f"docs/OPERATING.md doesn't say: {told[len(begin):].strip()}"
 
 
 def refuses_while_it_serves(fault, content):

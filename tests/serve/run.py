@@ -36,7 +36,7 @@ MODULES = (commands, sys.modules[__name__], next_leaders, silence, checkpoints)
 
 
 def test_a_client_reads():
-    with Server() as server:
+    with Server("--log", "off") as server:
         assert server.is_serving()
         assert server.ends() == ""
 
@@ -233,14 +233,14 @@ def test_faults_of_the_leader():
         received(server.stream, len(OBSERVERINFO))
         server.stream.sendall(UPTODATE)
         assert is_closed(server.stream)
-        told = server.ends()
-        assert "F12 UnexpectedPacket" in told, told
+        told = server.ends(status=7)
+        assert told.splitlines()[-1].startswith("observer: F12 UnexpectedPacket from 127.0.0.1:"), told
     with Server("--log") as server:
         client = server.client()
         server.leader.send(hexa("00000008 0000000100000002 ffffff00"))
         assert server.leader.is_closed() and is_closed(client)
-        told = server.ends()
-        assert "F2 BadLength" in told and "DIFF" in told, told
+        told = server.ends(status=7)
+        assert told.splitlines()[-1].startswith("observer: F2 BadLength from 127.0.0.1:") and "DIFF" in told, told
 
 
 def test_the_end_in_an_image():
@@ -324,9 +324,10 @@ def test_what_is_recorded_replays():
 
 
 def test_a_record_that_cannot_be_written():
-    with Server("--record", "/dev/full") as server:
+    with Server("--record", "/dev/full", "--log", "off") as server:
         assert server.is_serving()
-        assert server.ends(status=3) == "cannot open\n"
+        told = server.ends(status=3).splitlines()
+        assert told == ["observer: the record could not be written to its end", "cannot open"], told
 
 
 def test_want_of_memory():
