@@ -4,13 +4,15 @@
     bench/memory.py PROGRAM                   as bench/memory.py crates/replay_runner/out/replay_runner
     bench/memory.py PROGRAM --checkpoint 0    without checkpoints, for comparison (--count 2000000 is enough)
     bench/memory.py PROGRAM --nodes 1000000   beside so many nodes, on which the pause of a checkpoint rests
+    bench/memory.py PROGRAM --rate 0          as fast as they are taken
 
-It is the leader: it brings the observer up to date, makes the nodes, and sends the transactions as fast as they are
-taken, written beforehand, so that only their zxids are filled in, and many in each write. Of ten transactions seven set
-the data of a node, one creates a node, one deletes it again, and one is a write that the leader refuses. After each
-part a PING is sent, whose answer shows that all of it was applied, and the resident set is read. A client reads all the
-while, one request after the other, and its longest wait is measured. The exit status is 0 where the greatest resident
-set of the last half is less than 2% above the greatest of the half before.
+It is the leader: it brings the observer up to date, makes the nodes, and sends the transactions, 100,000 a second, many
+in each write: they are written beforehand, so that only their zxids are filled in. (A checkpoint is looked for once a
+second, so the more come in a second, the more the greatest log rests on when that second ends.) Of ten transactions
+seven set the data of a node, one creates a node, one deletes it again, and one is a write that the leader refuses. After
+each part a PING is sent, whose answer shows that all of it was applied, and the resident set is read. A client reads all
+the while, one request after the other, and its longest wait is measured. The exit status is 0 where the greatest
+resident set of the last half is less than 2% above the greatest of the half before.
 """
 import argparse
 import os
@@ -31,7 +33,7 @@ from serve import DIFF, LEADERINFO, NEWLEADER, PING, REQUEST, UPTODATE, packet  
 
 EPOCH = generate.EPOCH << 32
 DELETE, ERROR, CREATE_SESSION, CLOSE_SESSION = 2, -1, -10, -11
-PARENTS, CHILDREN = 100, 1000
+PARENTS = 100
 # The transactions of a write to the socket.
 CHUNK = 1000
 GROWTH = 1.02
@@ -197,7 +199,8 @@ def judged(sizes):
     """Prints how much the greatest of the last half is above that of the half before. Returns whether that is little."""
     first, last = max(sizes[: len(sizes) // 2 + 1]), max(sizes[len(sizes) // 2 + 1 :])
     passes = last < first * GROWTH
-    print(f"{'PASS' if passes else 'FAIL'}  the last half: {first:,} to {last:,} KiB, {100 * (last / first - 1):+.2f}% (below 2%)")
+    word, growth = "PASS" if passes else "FAIL", 100 * (last / first - 1)
+    print(f"{word}  at most {first:,} KiB in the first half, {last:,} in the last: {growth:+.2f}% (below 2%)")
     return passes
 
 
@@ -213,6 +216,9 @@ def measure(options):
     for number in range(options.parts):
         for at in range(part // CHUNK):
             server.take(prepared[at % len(prepared)])
+            if options.rate:
+                due = began + (number * part + (at + 1) * CHUNK) / options.rate
+                time.sleep(max(0, due - time.perf_counter()))
         server.settles()
         sizes.append(server.resident())
         if options.parts <= 20 or (number + 1) % (options.parts // 20) == 0:
@@ -241,6 +247,7 @@ def main():
         ("nodes", 10_000, "how many nodes there are"),
         ("content", 16, "the bytes of data of each transaction"),
         ("checkpoint", 64, "the program's option"),
+        ("rate", 100_000, "how many are sent in a second; 0: as many as are taken"),
         ("parts", 100, "how often the resident set is read"),
     ):
         parser.add_argument(f"--{name}", type=int, default=number, help=f"{what} ({number:,})")

@@ -8,7 +8,7 @@ import time
 
 import forwarded
 import several
-from leader import CREATE, PING, PROPOSAL, buffer, packet
+from leader import CREATE, INFORM, PING, PROPOSAL, buffer, packet
 from server import CREATE_A, PING as CLIENT_PING, TOP, is_closed, reset, wait_until
 from several import (
     ACK, DIFF, EPOCH, LEADERINFO, NEWLEADER, SNAP, TRUNC, UPTODATE, Following, Seat, at_once, image,
@@ -320,7 +320,7 @@ def test_it_gives_up():
 
 def refused(kind, zxid, body, session=7, xid=1):
     """An INFORM of a transaction as it stands, whose fields may be wrong."""
-    return packet(8, zxid, struct.pack(">qiqqi", session, xid, zxid, 1000, kind) + body)
+    return packet(INFORM, zxid, struct.pack(">qiqqi", session, xid, zxid, 1000, kind) + body)
 
 
 def created(path, flags=b"\0"):
@@ -330,6 +330,7 @@ def created(path, flags=b"\0"):
 NEXT = EPOCH + 1
 # What a leader of epoch 1 sends to those whom it serves, and the fault that this is.
 REFUSED = {
+    "F1 Short": packet(INFORM, NEXT),
     "F2 BadLength": bytes.fromhex("00000008 0000000100000001 ffffff00"),
     "F3 BadText": refused(CREATE, NEXT, created(b"/\xc0\xaf")),
     "F4 BadPath": refused(CREATE, NEXT, created(b"a")),
