@@ -1,0 +1,4 @@
+pub mod Checkpoints
+pub mod Ends
+pub mod Finding
+pub mod Patience
