@@ -17,7 +17,7 @@ use values::{Fault, NoMemory};
 pub struct LeaderGone {
     /// The leader's port, by which the next leader may be followed.
     pub port: Port,
-    /// The fault for which the engine closed it, if it did.
+    /// The fault for which the engine refused its bytes, if it did. An end inside a packet is none.
     pub fault: Option<Fault>,
     /// Whether it ended because an allocation was refused.
     pub wants_memory: bool,
@@ -55,7 +55,7 @@ struct Session {
     unanswered: bool,
     // The stream brings no more.
     ended: bool,
-    // The fault for which the engine closed the connection, which had ended already.
+    // The fault for which the engine refused the last bytes of a connection that has ended.
     late_fault: Option<Fault>,
     wants_memory: bool,
     // For how many milliseconds, about, there was nothing to do.
@@ -247,12 +247,13 @@ impl Session {
         }
     }
 
-    // Takes the outputs for a connection that has ended, and drops them. A leader may end right after the bytes for
-    // which it is closed, so the fault is kept.
+    // Takes the outputs for a connection that has ended, and drops them. A leader may end right after bytes that are
+    // refused, so the fault is kept. An end inside a packet is none: it says only that the rest is missing.
     fn drop_outputs(&mut self) {
         for _ in 0..u64::MAX {
             match self.port.receive() {
                 None => return,
+                Some(Output::CloseLeader(Fault::Short)) => {}
                 Some(Output::CloseLeader(fault)) => self.late_fault = Some(fault),
                 Some(_) => {}
             }

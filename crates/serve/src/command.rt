@@ -1,10 +1,9 @@
 //! The command `serve`.
 
 use crate::failure::Failure;
-use crate::options::{Address, Options, options_of};
-use crate::serving::{logger, try_serve_on};
-use log::error;
+use crate::serving::{Origin, try_serve_on};
 use mio::net::TcpListener;
+use serve_options::{Address, Command, Options, Servers, VERSION_LINES, command_of, help};
 use std::alloc::Global;
 use std::io;
 use std::net::{Net, TcpStream, ToSocketAddrs};
@@ -43,26 +42,42 @@ fn run<
         + Sync
         + 'static,
 >(rt: &R, alloc: Global, options: &Options<'_>) -> Result<(), Failure> {
-    let log = logger(rt, options.log);
-    let leader = match connect(rt, &options.leader) {
-        Ok(leader) => leader,
-        Err(error) => {
-            let Address { host, port } = options.leader;
-            error!(log; target: "leader", "{host}:{port}: {error}");
-            return Err(Failure::from(error));
-        }
+    let origin = match &options.servers {
+        Servers::Leader(address) => Origin::Stream(connect(rt, address)?),
+        Servers::Any(_) => Origin::Search,
     };
-    let listener = match listen(rt, &options.client) {
-        Ok(listener) => listener,
-        Err(error) => {
-            let Address { host, port } = options.client;
-            error!(log; target: "client", "{host}:{port}: {error}");
-            return Err(Failure::from(error));
-        }
-    };
+    let listener = listen(rt, &options.client)?;
     let port = listener.local_addr()?.port();
     println!(rt; "serving {port}")?;
-    try_serve_on(rt, alloc, options, leader, listener)
+    try_serve_on(rt, alloc, options, origin, listener)
+}
+
+// Prints what a command asks for, or serves.
+fn obey<
+    R: Threads
+        + Wait
+        + Net<Stream = TcpStream>
+        + Clock
+        + Files
+        + Print
+        + Eprint
+        + Copy
+        + Send
+        + Sync
+        + 'static,
+>(rt: &R, alloc: Global, command: &Command<'_>) -> Result<(), Failure> {
+    match command {
+        Command::Serve(options) => run(rt, alloc, options),
+        Command::Help => {
+            let text = help(alloc)?;
+            print!(rt; "{text}")?;
+            Ok(())
+        }
+        Command::Version => {
+            print!(rt; "{VERSION_LINES}")?;
+            Ok(())
+        }
+    }
 }
 
 fn tell<R: Eprint>(rt: &R, failure: Failure) -> u8 {
@@ -85,10 +100,15 @@ pub fn serve<
         + Sync
         + 'static,
 >(rt: &R, alloc: Global, words: &[String]) -> u8 {
-    let Some(options) = options_of(words) else {
-        return tell(rt, Failure::Usage);
+    let command = match command_of(alloc, words) {
+        Ok(command) => command,
+        Err(error) => {
+            // If standard error can't be written, only the status tells the failure.
+            let _ = eprintln!(rt; "observer: {error}");
+            return tell(rt, Failure::Usage);
+        }
     };
-    match run(rt, alloc, &options) {
+    match obey(rt, alloc, &command) {
         Ok(()) => 0,
         Err(failure) => tell(rt, failure),
     }

@@ -4,7 +4,7 @@ use std::alloc::{AllocError, AllocFailed};
 use std::io;
 use std::io::ErrorKind;
 use thiserror::Error;
-use values::NoMemory;
+use values::{Fault, NoMemory};
 
 /// The reason why a server couldn't be started, or ended before its leader did.
 #[derive(Clone, Copy, Debug, PartialEq, Eq, Error)]
@@ -18,6 +18,12 @@ pub enum Failure {
     /// An allocation was refused.
     #[error("no memory")]
     NoMemory,
+    /// What the leader sent was refused.
+    #[error("refused: {0}")]
+    Refused(Fault),
+    /// No leader was found in time.
+    #[error("no leader")]
+    NoLeader,
 }
 
 impl Failure {
@@ -27,6 +33,8 @@ impl Failure {
             Failure::Usage => 2,
             Failure::Failed => 3,
             Failure::NoMemory => 4,
+            Failure::Refused(_) => 7,
+            Failure::NoLeader => 8,
         }
     }
 }

@@ -281,6 +281,7 @@ impl<L: Log, W: Write + Drop> Hub<L, W> {
         rt: &R,
         served: Result<(), Failure>,
     ) -> Result<(), Failure> {
+        self.leading.stop_search();
         for _ in 0..u64::MAX {
             if self.from_acceptor.pop().is_err() {
                 break;

@@ -8,7 +8,7 @@ use crate::search::Search;
 use crate::servers::Server;
 use crate::silence::{Silence, SilenceLimits};
 use connection_loop::LeaderGone;
-use following::{Judgement, Outcome, Verdict, verdict};
+use following::{Judgement, Outcome, Verdict};
 use intake::{Message, Port};
 use learner_sync::Phase;
 use log::Log;
@@ -52,22 +52,18 @@ pub struct Leading {
 }
 
 impl Leading {
-    pub fn new(
-        source: Source,
-        resting: Port,
-        limits: SilenceLimits,
-        give_up: Option<u64>,
-    ) -> Leading {
+    /// `give_up` is in seconds.
+    pub fn new(source: Source, limits: SilenceLimits, give_up: Option<u64>) -> Leading {
         Leading {
             source,
             thread: None,
-            resting: Some(resting),
+            resting: None,
             silence: Silence::new(limits),
             is_given_up: false,
             is_greeted: false,
             served_since: None,
             unserved_since: 0,
-            give_up: give_up.unwrap_or(u64::MAX),
+            give_up: give_up.unwrap_or(u64::MAX).saturating_mul(1000),
         }
     }
 
@@ -79,6 +75,13 @@ impl Leading {
     pub fn ring(&self) {
         if let Some(leader) = &self.thread {
             leader.bell.ring();
+        }
+    }
+
+    /// Ends the search for a leader.
+    pub fn stop_search(&self) {
+        if let Source::Search(search) = &self.source {
+            search.stop();
         }
     }
 
@@ -165,21 +168,39 @@ fn leader_bytes(messages: &[(usize, Message)]) -> Option<u64> {
 impl<L: Log, W: Write + Drop> Hub<L, W> {
     // Notes what the last turn, which ended at this time, tells of the leader.
     pub(crate) fn note_leader(&mut self, now: u64) {
-        if let Some(bytes) = leader_bytes(self.desk.fresh()) {
+        let heard = leader_bytes(self.desk.fresh());
+        if heard.is_some() {
             self.leading.silence.heard(now);
-            self.log_keeper.received(bytes);
         }
         match self.desk.engine().learner().phase() {
             Phase::Down | Phase::Hello => {}
             Phase::Serving => {
                 self.leading.is_greeted = true;
-                if self.leading.served_since.is_none() {
-                    self.leading.served_since = Some(now);
-                    let without = now.saturating_sub(self.leading.unserved_since);
-                    self.journal.serving(self.desk.engine().learner(), without);
-                }
+                self.note_serving(now);
+                // What comes before is mostly an image, after which the log is empty.
+                self.log_keeper.received(heard.unwrap_or(0));
             }
             _ => self.leading.is_greeted = true,
+        }
+    }
+
+    fn note_serving(&mut self, now: u64) {
+        if self.leading.served_since.is_some() {
+            return;
+        }
+        self.leading.served_since = Some(now);
+        let without = now.saturating_sub(self.leading.unserved_since);
+        self.journal.serving(self.desk.engine().learner(), without);
+    }
+
+    /// Opens port 0, before any other.
+    pub fn open_leader_port(&mut self) -> Result<(), Failure> {
+        match self.desk.add_port(CAPACITY) {
+            Ok(port) => {
+                self.leading.resting = Some(port);
+                Ok(())
+            }
+            Err(_) => Err(Failure::NoMemory),
         }
     }
 
@@ -338,7 +359,7 @@ impl<L: Log, W: Write + Drop> Hub<L, W> {
             self.over = Some(refused);
             return;
         };
-        match verdict(fault) {
+        match Verdict::after(fault) {
             Verdict::SameEngine => search.lost(outcome, reason, now),
             Verdict::NewProcess => self.over = Some(refused),
             Verdict::Pause => {

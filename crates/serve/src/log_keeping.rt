@@ -93,7 +93,7 @@ impl<L: Log, W: Write + Drop> Hub<L, W> {
                 self.journal.checkpoint_left_out(expected, nodes);
                 BETWEEN_LOOKS
             }
-            Due::Due => {
+            Due::Now => {
                 if self.log_keeper.ask(&mut self.desk) {
                     0
                 } else {

@@ -23,14 +23,21 @@ impl fmt::Display for Server {
     }
 }
 
+impl Server {
+    /// The server at an address. Fails only if an allocation is refused.
+    pub fn new(alloc: Global, address: Address<'_>) -> Result<Server, NoMemory> {
+        Ok(Server {
+            host: String::from_str(alloc, address.host)?,
+            port: address.port,
+        })
+    }
+}
+
 /// The servers at these addresses. Fails only if an allocation is refused.
 pub fn servers_of(alloc: Global, addresses: &[Address<'_>]) -> Result<Vec<Server>, NoMemory> {
     let mut servers = Vec::with_capacity(alloc, addresses.len())?;
     for address in addresses {
-        servers.push(Server {
-            host: String::from_str(alloc, address.host)?,
-            port: address.port,
-        })?;
+        servers.push(Server::new(alloc, *address)?)?;
     }
     Ok(servers)
 }
