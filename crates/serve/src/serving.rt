@@ -12,7 +12,7 @@ use log::sink::Console;
 use log::{LevelFilter, Log, Logged};
 use mio::net::TcpListener;
 use observer_core::{Config, Settings};
-use settings::{Epochs, Secret, TimeoutBounds};
+use settings::{Epochs, FirstCounter, Secret, TimeoutBounds};
 use std::alloc::Global;
 use std::io::Write;
 use std::net::{Net, TcpStream};
@@ -37,6 +37,7 @@ fn config_of(alloc: Global, options: &Options<'_>) -> Config {
         epochs: Epochs::default(),
         timeouts: TimeoutBounds::default(),
         secret: Secret::empty(alloc),
+        first_counter: FirstCounter::default(),
     };
     Config::from_settings(settings, options.limits).with_threshold(WORTH_THREADS)
 }

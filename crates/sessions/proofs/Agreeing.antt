@@ -7,12 +7,13 @@ use Rattle.std.specs.Cmp.{nat_cmp_total, int_cmp_total}
 use Rattle.std.proofs.lemmas.List.Elements.{All-nil, All-push}
 use Rattle.std.proofs.lemmas.Map.Lookups.{exact_unsigned, exact_signed}
 use Rattle.std.specs.FinMap as finmap
-use Rattle.settings.specs.Settings.{is_server_id}
+use Rattle.settings.specs.Settings.{is_server_id, is_first_counter}
 use Rattle.jute.specs.Owned.{id_format}
 use Rattle.jute.specs.declared.owned.Id.{Id}
 use Rattle.sessions.specs.State.{SessionSettings, ConnectedClient, SessionOwners, ConnectedClients, SessionTable}
 use Rattle.sessions.specs.Sessions.{no_sessions, close_connection, close_as, close_if_some, expire_owner, session_response, give_session, new_connection, with_session_connected, with_id, ids_in, ids_of, ids_limit}
 use Rattle.sessions.specs.Agreement.{SessionsAgree, SessionsAreApart}
+use Rattle.sessions.proofs.Numbers.{first_below}
 use Rattle.session_map.proofs.Maps.{none-some, some-some, apart, other, same_or_other, inserted, inserted_elsewhere, removed, removed_elsewhere, at_inserted, at_removed, remove_absent, insert_removed, remove_past_insert}
 
 -- A connection that has this session.
@@ -30,10 +31,11 @@ AtConnection connections key new n c =
 
 -- ---- nothing yet
 
-pub starts : (terms : SessionSettings) → IsTrue (is_server_id terms.server_id) → SessionsAgree (no_sessions terms)
-starts terms h = record {
+pub starts : (terms : SessionSettings) → IsTrue (is_server_id terms.server_id)
+    → IsTrue (is_first_counter terms.first_counter) → SessionsAgree (no_sessions terms)
+starts terms h fits = record {
   server_id = h;
-  counter = omega arith;
+  counter = first_below terms.first_counter fits;
   owners = λ n c e. absurd (none-some c (sym (finmap.get-empty nat_cmp n) ∙ e));
   connections = λ session n e. absurd (none-some n (sym (finmap.get-empty int_cmp session) ∙ e));
   ids = λ n c e. absurd (none-some c (sym (finmap.get-empty nat_cmp n) ∙ e));
