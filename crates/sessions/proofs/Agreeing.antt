@@ -10,7 +10,7 @@ use Rattle.std.specs.FinMap as finmap
 use Rattle.settings.specs.Settings.{is_server_id, is_first_counter}
 use Rattle.jute.specs.Owned.{id_format}
 use Rattle.jute.specs.declared.owned.Id.{Id}
-use Rattle.sessions.specs.State.{SessionSettings, ConnectedClient, SessionOwners, ConnectedClients, SessionTable}
+use Rattle.sessions.specs.State.{SessionSettings, ConnectedClient, SessionOwners, ConnectedClients, SessionTable, session_table_of}
 use Rattle.sessions.specs.Sessions.{no_sessions, close_connection, close_as, close_if_some, expire_owner, session_response, give_session, new_connection, with_session_connected, with_id, ids_in, ids_of, ids_limit}
 use Rattle.sessions.specs.Agreement.{SessionsAgree, SessionsAreApart}
 use Rattle.sessions.proofs.Numbers.{first_below}
@@ -31,16 +31,20 @@ AtConnection connections key new n c =
 
 -- ---- nothing yet
 
-pub starts : (terms : SessionSettings) → IsTrue (is_server_id terms.server_id)
-    → IsTrue (is_first_counter terms.first_counter) → SessionsAgree (no_sessions terms)
-starts terms h fits = record {
+pub none_agree : (terms : SessionSettings) (counter : ℕ) → IsTrue (is_server_id terms.server_id) → counter < 2 ^ 56
+    → SessionsAgree (session_table_of terms counter finmap.empty finmap.empty)
+none_agree terms counter h below = record {
   server_id = h;
-  counter = first_below terms.first_counter fits;
+  counter = below;
   owners = λ n c e. absurd (none-some c (sym (finmap.get-empty nat_cmp n) ∙ e));
   connections = λ session n e. absurd (none-some n (sym (finmap.get-empty int_cmp session) ∙ e));
   ids = λ n c e. absurd (none-some c (sym (finmap.get-empty nat_cmp n) ∙ e));
   writable = λ n c e. absurd (none-some c (sym (finmap.get-empty nat_cmp n) ∙ e));
 }
+
+pub starts : (terms : SessionSettings) → IsTrue (is_server_id terms.server_id)
+    → IsTrue (is_first_counter terms.first_counter) → SessionsAgree (no_sessions terms)
+starts terms h fits = none_agree terms terms.first_counter h (first_below terms.first_counter fits)
 
 -- ---- no two connections have one session
 

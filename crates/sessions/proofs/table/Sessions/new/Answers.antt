@@ -1,8 +1,9 @@
-use Rattle.std.proofs.Common.{subst}
+use Rattle.std.proofs.Common.{subst, arith}
 use Rattle.std.specs.Prelude.{IsTrue}
-use Rattle.settings.specs.Settings.{is_server_id, is_first_counter}
+use Rattle.settings.specs.Settings.{is_server_id}
 use Rattle.sessions.specs.State.{SessionSettings}
-use Rattle.sessions.proofs.Agreeing.{starts}
+use Rattle.sessions.proofs.Agreeing.{none_agree}
+use Rattle.sessions.proofs.Numbers.{first_below}
 use Rattle.sessions.proofs.table.Sessions.new.Goals as goal
 
 pub invariant_of-result : goal.invariant_of-result
@@ -13,6 +14,7 @@ invariant_of-result c =
       secret = c.args.secret;
       first_counter = c.args.first_counter;
     } in
-    rw (c.new.ensures, c.new-2.ensures, c.number-counter.ensures.number) (starts terms
+    let below = first_below c.number-counter.result c.number-counter.ensures.bounds in
+    rw (c.new.ensures, c.new-2.ensures) (none_agree terms _
     (subst (λ n. IsTrue (is_server_id n)) c.number-number.ensures.number c.number-number.ensures.bounds)
-    (subst (λ n. IsTrue (is_first_counter n)) c.number-counter.ensures.number c.number-counter.ensures.bounds))
+    (omega (arith, below)))
