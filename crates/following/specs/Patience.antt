@@ -1,5 +1,5 @@
 -- When a silent leader is given up. Times are in milliseconds.
-use Rattle.std.specs.Prelude.{ℕ, ◌+◌, ◌-◌, ◌*◌, ◌/◌, ◌^◌, ◌==◌, ℤ, pos, negsuc, Bool, false, min, max, Option, Some, None, if◌then◌else◌}
+use Rattle.std.specs.Prelude.{ℕ, ◌+◌, ◌-◌, ◌*◌, ◌/◌, ◌^◌, ◌==◌, ℤ, pos, negsuc, Bool, true, false, min, max, Option, Some, None, if◌then◌else◌}
 use Rattle.following.specs.declared.patience.Stage.{Stage}
 use Rattle.following.specs.declared.patience.Stage.TheVariants.{Greeting, Synchronising, Serving}
 use Rattle.following.specs.declared.patience.Judgement.{Judgement}
@@ -8,7 +8,7 @@ use Rattle.following.specs.declared.patience.Judgement.TheVariants.{Wait, Second
 pub record LeaderWait : Type 0 where
   -- when the leader was heard, or was connected
   pub heard : ℕ
-  -- whether the last judgement was that it is to be looked again, or that it is given up
+  -- whether the last judgement was that a second look is to be taken, and nothing was heard since
   pub looks_again : Bool
 
 abbrev pub new_wait : ℕ → LeaderWait
@@ -30,8 +30,13 @@ judgement_on wait now limit =
     then (if wait.looks_again then GivenUp (now - wait.heard) else SecondLook)
     else Wait (patience_left wait now limit)
 
+abbrev pub is_second_look : Judgement → Bool
+is_second_look (Wait _) = false
+is_second_look SecondLook = true
+is_second_look (GivenUp _) = false
+
 abbrev pub after_judging : LeaderWait → ℕ → Option ℕ → LeaderWait
-after_judging wait now limit = record wait { looks_again = (patience_left wait now limit == 0) }
+after_judging wait now limit = record wait { looks_again = is_second_look (judgement_on wait now limit) }
 
 -- ---- limits; each is None where there is none
 

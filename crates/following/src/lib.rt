@@ -15,6 +15,7 @@
 mod checkpoints;
 mod ends;
 mod finding;
+pub mod law;
 mod patience;
 
 pub use checkpoints::{Checkpoints, Due};

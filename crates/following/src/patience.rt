@@ -34,6 +34,7 @@ pub enum Judgement {
 #[derive(Clone, Copy, Debug)]
 pub struct Patience {
     heard: u64,
+    // Whether the last judgement was `SecondLook`, and nothing was heard since.
     looks_again: bool,
 }
 
@@ -81,13 +82,12 @@ impl Patience {
             self.looks_again = false;
             return Judgement::Wait(left);
         }
-        let judgement = if self.looks_again {
-            Judgement::GivenUp { silent }
-        } else {
+        self.looks_again = !self.looks_again;
+        if self.looks_again {
             Judgement::SecondLook
-        };
-        self.looks_again = true;
-        judgement
+        } else {
+            Judgement::GivenUp { silent }
+        }
     }
 }
 
