@@ -20,6 +20,8 @@ pub struct Journal<L> {
     // Reads the leader's first packets, until the one that says how the observer is brought up to date.
     greeting: Option<PacketFeed>,
     synchronisation: &'static str,
+    // The epoch of the leader that clients were last served with.
+    served_epoch: Option<i32>,
     // When it was last told that no leader is found, in milliseconds of the server's stopwatch.
     searched: u64,
 }
@@ -45,6 +47,7 @@ impl<L: Log> Journal<L> {
             phase: Phase::Down,
             greeting: None,
             synchronisation: "",
+            served_epoch: None,
             searched: 0,
         }
     }
@@ -66,9 +69,9 @@ impl<L: Log> Journal<L> {
         warn!(self.log; target: "client", "a connection was closed at once: {error}");
     }
 
-    /// A server that may lead has accepted a connection.
+    /// A server has accepted a connection. Whether it leads, its LEADERINFO tells.
     pub fn leader_connected(&self, server: &Server) {
-        info!(self.log; target: "leader", "{server} connected");
+        debug!(self.log; target: "leader", "{server} connected");
     }
 
     /// A server accepted a connection, and no thread could be started for it.
@@ -77,31 +80,38 @@ impl<L: Log> Journal<L> {
     }
 
     /// Clients are served, after so many milliseconds without a leader.
-    pub fn serving(&self, learner: &Learner, without: u64) {
-        let (_, current) = learner.epochs();
+    pub fn serving(&mut self, learner: &Learner, without: u64) {
+        let (_, epoch) = learner.epochs();
         let zxid = learner.last_zxid();
         let word = self.synchronisation;
         info!(self.log; target: "leader",
-            "{word} in epoch {current}: serving from zxid {zxid:#x} on, after {without} ms without a leader");
+            "{word} in epoch {epoch}: serving from zxid {zxid:#x} on, after {without} ms without a leader");
+        if self.served_epoch == Some(epoch) {
+            warn!(self.log; target: "leader",
+                "the epoch is the same as before: a client that comes back with its session can read, and not write");
+        }
+        self.served_epoch = Some(epoch);
     }
 
-    /// The leader has been silent for so many milliseconds, and its connection is closed.
-    pub fn leader_silent(&self, server: &Server, silent: u64) {
-        warn!(self.log; target: "leader", "{server} silent for {silent} ms: closed");
+    /// The leader has been silent for so many milliseconds, and its connection is closed. A server that hasn't said
+    /// anything is one that doesn't lead, which is no news.
+    pub fn leader_silent(&self, server: &Server, silent: u64, is_greeted: bool) {
+        if is_greeted {
+            warn!(self.log; target: "leader", "{server} silent for {silent} ms: closed");
+        } else {
+            debug!(self.log; target: "leader", "{server} says nothing: closed");
+        }
     }
 
     /// The leader's connection is gone.
-    pub fn leader_gone(&self, server: Option<&Server>, fault: Option<Fault>) {
-        let Some(server) = server else {
-            return;
-        };
+    pub fn leader_gone(&self, server: &Server, fault: Option<Fault>, is_greeted: bool) {
         match fault {
             Some(fault) => {
                 let number = fault.number();
-                let word = fault.word();
-                warn!(self.log; target: "leader", "{server} closed: F{number} {word}");
+                warn!(self.log; target: "leader", "{server} closed: F{number} {fault}");
             }
-            None => warn!(self.log; target: "leader", "{server} ended"),
+            None if is_greeted => warn!(self.log; target: "leader", "{server} ended"),
+            None => debug!(self.log; target: "leader", "{server} ended"),
         }
     }
 

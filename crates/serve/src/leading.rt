@@ -291,7 +291,8 @@ impl<L: Log, W: Write + Drop> Hub<L, W> {
                 leader.bell.stop();
                 self.leading.is_given_up = true;
                 if let Some(server) = self.leading.server() {
-                    self.journal.leader_silent(server, silent);
+                    let is_greeted = self.leading.is_greeted;
+                    self.journal.leader_silent(server, silent, is_greeted);
                 }
                 u64::MAX
             }
@@ -346,7 +347,10 @@ impl<L: Log, W: Write + Drop> Hub<L, W> {
     // Judges what the end of a leader means, unless the server ends anyway.
     fn judge_end(&mut self, fault: Option<Fault>, now: u64) {
         let served = self.leading.served(now);
-        self.journal.leader_gone(self.leading.server(), fault);
+        if let Some(server) = self.leading.server() {
+            self.journal
+                .leader_gone(server, fault, self.leading.is_greeted);
+        }
         if self.over.is_some() {
             return;
         }
