@@ -106,11 +106,7 @@ fn named_server(alloc: Global, options: &Options<'_>) -> Result<Server, Failure>
 }
 
 // A search among the servers of the options, and its thread's part.
-fn search_of(
-    alloc: Global,
-    options: &Options<'_>,
-    now: u64,
-) -> Result<(Search, Finder), Failure> {
+fn search_of(alloc: Global, options: &Options<'_>, now: u64) -> Result<(Search, Finder), Failure> {
     let addresses = match &options.servers {
         Servers::Leader(address) => slice::from_ref(address),
         Servers::Any(addresses) => addresses.as_slice(),
@@ -156,11 +152,7 @@ fn start<
     R: Threads + Wait + Net<Stream = TcpStream> + Clock + Copy + Send + Sync + 'static,
     L: Log,
     W: Write + Drop,
->(
-    rt: &R,
-    hub: &mut Hub<L, W>,
-    beginning: Beginning,
-) -> Result<Option<JoinHandle<()>>, Failure> {
+>(rt: &R, hub: &mut Hub<L, W>, beginning: Beginning) -> Result<Option<JoinHandle<()>>, Failure> {
     match beginning {
         Beginning::Stream(stream) => {
             hub.follow(rt, stream)?;
@@ -283,7 +275,9 @@ pub fn try_serve_on<
     record.begin(options.server_id, first_counter.number());
     let journal = Journal::new(alloc, logger(rt, options.log));
     let config = config_of(alloc, options, first_counter);
-    serve_with(rt, alloc, options, config, origin, listener, journal, record)
+    serve_with(
+        rt, alloc, options, config, origin, listener, journal, record,
+    )
 }
 
 /// Follows the leader and serves clients until the leader's connection ends. Returns the exit status: 0 then, 3 if
@@ -300,13 +294,7 @@ pub fn serve_on<
         + Send
         + Sync
         + 'static,
->(
-    rt: &R,
-    alloc: Global,
-    options: &Options<'_>,
-    leader: TcpStream,
-    listener: TcpListener,
-) -> u8 {
+>(rt: &R, alloc: Global, options: &Options<'_>, leader: TcpStream, listener: TcpListener) -> u8 {
     match try_serve_on(rt, alloc, options, Origin::Stream(leader), listener) {
         Ok(()) => 0,
         Err(failure) => failure.status(),
