@@ -29,7 +29,7 @@ use std::rt::Files;
 use std::sync::{Arc, Wait};
 use std::thread::{JoinHandle, Threads};
 use std::time::{Clock, Duration, SystemTime};
-use std::{fs, io, slice, thread};
+use std::{fs, io, net, slice, thread};
 
 // Work that is less than this is done by the hub's thread: starting threads takes as long as storing some megabytes.
 // Small reads are quicker on one thread even in runs of some thousands.
@@ -149,7 +149,14 @@ fn begin_at(
 
 // Follows the connection, or starts the thread that looks for a leader.
 fn start<
-    R: Threads + Wait + Net<Stream = TcpStream> + Clock + Copy + Send + Sync + 'static,
+    R: Threads
+        + Wait
+        + Net<Stream = TcpStream, Listener = net::TcpListener>
+        + Clock
+        + Copy
+        + Send
+        + Sync
+        + 'static,
     L: Log,
     W: Write + Drop,
 >(rt: &R, hub: &mut Hub<L, W>, beginning: Beginning) -> Result<Option<JoinHandle<()>>, Failure> {
@@ -171,7 +178,14 @@ fn start<
 
 // Serves with a hub that has no connection yet.
 fn serve_hub<
-    R: Threads + Wait + Net<Stream = TcpStream> + Clock + Copy + Send + Sync + 'static,
+    R: Threads
+        + Wait
+        + Net<Stream = TcpStream, Listener = net::TcpListener>
+        + Clock
+        + Copy
+        + Send
+        + Sync
+        + 'static,
     L: Log,
     W: Write + Drop,
 >(
@@ -203,7 +217,14 @@ fn serve_hub<
 // Serves with a desk of its own. The desk is dropped with the hub, at the single end of this function and nowhere else:
 // each drop of an observer is proved anew.
 fn serve_with<
-    R: Threads + Wait + Net<Stream = TcpStream> + Clock + Copy + Send + Sync + 'static,
+    R: Threads
+        + Wait
+        + Net<Stream = TcpStream, Listener = net::TcpListener>
+        + Clock
+        + Copy
+        + Send
+        + Sync
+        + 'static,
     L: Log + Drop,
     W: Write + Drop,
 >(
@@ -254,7 +275,7 @@ fn serve_with<
 pub fn try_serve_on<
     R: Threads
         + Wait
-        + Net<Stream = TcpStream>
+        + Net<Stream = TcpStream, Listener = net::TcpListener>
         + Clock
         + Files
         + Eprint
@@ -286,7 +307,7 @@ pub fn try_serve_on<
 pub fn serve_on<
     R: Threads
         + Wait
-        + Net<Stream = TcpStream>
+        + Net<Stream = TcpStream, Listener = net::TcpListener>
         + Clock
         + Files
         + Eprint
