@@ -45,9 +45,16 @@ impl Clients {
         ensures { IfOk result (λ clients. clients ≡ no_clients settings.now) }
     {
         let secret = settings.secret.clone()?;
+        let sessions = Sessions::new(
+            alloc,
+            settings.server_id,
+            settings.timeouts,
+            secret,
+            settings.first_counter,
+        );
         Ok(Clients {
             connections: Connections::new(alloc),
-            sessions: Sessions::new(alloc, settings.server_id, settings.timeouts, secret),
+            sessions,
             watches: Watches::new(alloc),
             pending: Pending::new(alloc),
         })

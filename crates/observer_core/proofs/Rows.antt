@@ -434,7 +434,7 @@ heard settings touched = set.insert touched (primed_session settings)
 
 -- The sessions before connection 1 has one.
 abbrev pub nobody_yet : Settings → SessionTable
-nobody_yet settings = (name_session (no_clients settings).sessions settings.timeouts.greatest).after
+nobody_yet settings = record (no_clients settings).sessions { counter = settings.first_counter + 1 }
 
 first_is : (settings : Settings) → finmap.get (first_client settings).sessions.connections 1
     ≡ Some (new_connection (primed_session settings))
