@@ -5,12 +5,12 @@ use crate::serving::{Origin, try_serve_on};
 use mio::net::TcpListener;
 use serve_options::{Address, Command, Options, Servers, VERSION_LINES, command_of, help};
 use std::alloc::Global;
-use std::io;
 use std::net::{Net, TcpStream, ToSocketAddrs};
 use std::rt::Files;
 use std::sync::Wait;
 use std::thread::Threads;
 use std::time::Clock;
+use std::{io, net};
 
 // Connects to the leader without delay (TCP_NODELAY): the observer's packets are small, and none is to wait for an
 // acknowledgement.
@@ -32,7 +32,7 @@ fn listen<R: Net>(rt: &R, address: &Address<'_>) -> io::Result<TcpListener> {
 fn run<
     R: Threads
         + Wait
-        + Net<Stream = TcpStream>
+        + Net<Stream = TcpStream, Listener = net::TcpListener>
         + Clock
         + Files
         + Print
@@ -56,7 +56,7 @@ fn run<
 fn obey<
     R: Threads
         + Wait
-        + Net<Stream = TcpStream>
+        + Net<Stream = TcpStream, Listener = net::TcpListener>
         + Clock
         + Files
         + Print
@@ -90,7 +90,7 @@ fn tell<R: Eprint>(rt: &R, failure: Failure) -> u8 {
 pub fn serve<
     R: Threads
         + Wait
-        + Net<Stream = TcpStream>
+        + Net<Stream = TcpStream, Listener = net::TcpListener>
         + Clock
         + Files
         + Print

@@ -59,7 +59,8 @@ impl<L: Log> Journal<L> {
     /// A client's connection was accepted.
     pub fn client_came(&self, number: usize, address: Option<SocketAddr>) {
         match address {
-            Some(address) => debug!(self.log; target: "client", "{number} connected from {address}"),
+            Some(address) =>
+                debug!(self.log; target: "client", "{number} connected from {address}"),
             None => debug!(self.log; target: "client", "{number} connected"),
         }
     }

@@ -14,7 +14,6 @@ use learner_sync::Phase;
 use log::Log;
 use std::alloc::Global;
 use std::io::Write;
-use std::mem;
 use std::net::{Net, TcpStream};
 use std::sync::{Arc, Mutex, Wait};
 use std::thread::Threads;
@@ -278,24 +277,35 @@ impl<L: Log, W: Write + Drop> Hub<L, W> {
     // Gives the leader up where it has been silent for too long. Returns for how many milliseconds there is nothing to
     // do.
     fn judge_silence(&mut self, now: u64) -> u64 {
-        let Some(leader) = &self.leading.thread else {
-            return u64::MAX;
-        };
         if self.leading.is_given_up {
             return u64::MAX;
         }
-        match self.leading.silence.judge(self.desk.engine(), now) {
+        let mut silence = self.leading.silence;
+        let judgement = silence.judge(self.desk.engine(), now);
+        self.leading.silence = silence;
+        match judgement {
             Judgement::Wait(left) => left,
-            Judgement::SecondLook => self.leading.silence.rest(now),
+            Judgement::SecondLook => silence.rest(now),
             Judgement::GivenUp { silent } => {
-                leader.bell.stop();
+                self.leading.stop();
                 self.leading.is_given_up = true;
-                if let Some(server) = self.leading.server() {
-                    let is_greeted = self.leading.is_greeted;
-                    self.journal.leader_silent(server, silent, is_greeted);
-                }
+                self.tell_silent(silent);
                 u64::MAX
             }
+        }
+    }
+
+    fn tell_silent(&self, silent: u64) {
+        if let Some(server) = self.leading.server() {
+            let is_greeted = self.leading.is_greeted;
+            self.journal.leader_silent(server, silent, is_greeted);
+        }
+    }
+
+    fn tell_gone(&self, fault: Option<Fault>) {
+        if let Some(server) = self.leading.server() {
+            let is_greeted = self.leading.is_greeted;
+            self.journal.leader_gone(server, fault, is_greeted);
         }
     }
 
@@ -347,10 +357,7 @@ impl<L: Log, W: Write + Drop> Hub<L, W> {
     // Judges what the end of a leader means, unless the server ends anyway.
     fn judge_end(&mut self, fault: Option<Fault>, now: u64) {
         let served = self.leading.served(now);
-        if let Some(server) = self.leading.server() {
-            self.journal
-                .leader_gone(server, fault, self.leading.is_greeted);
-        }
+        self.tell_gone(fault);
         if self.over.is_some() {
             return;
         }

@@ -1,8 +1,7 @@
 //! Why a server isn't followed.
 
-use std::fmt;
-use std::io;
 use std::io::ErrorKind;
+use std::{fmt, io};
 use values::Fault;
 
 /// Why a server isn't followed.

@@ -29,7 +29,7 @@ use std::rt::Files;
 use std::sync::{Arc, Wait};
 use std::thread::{JoinHandle, Threads};
 use std::time::{Clock, Duration, SystemTime};
-use std::{fs, io, slice, thread};
+use std::{fs, io, net, slice, thread};
 
 // Work that is less than this is done by the hub's thread: starting threads takes as long as storing some megabytes.
 // Small reads are quicker on one thread even in runs of some thousands.
@@ -106,11 +106,7 @@ fn named_server(alloc: Global, options: &Options<'_>) -> Result<Server, Failure>
 }
 
 // A search among the servers of the options, and its thread's part.
-fn search_of(
-    alloc: Global,
-    options: &Options<'_>,
-    now: u64,
-) -> Result<(Search, Finder), Failure> {
+fn search_of(alloc: Global, options: &Options<'_>, now: u64) -> Result<(Search, Finder), Failure> {
     let addresses = match &options.servers {
         Servers::Leader(address) => slice::from_ref(address),
         Servers::Any(addresses) => addresses.as_slice(),
@@ -153,14 +149,17 @@ fn begin_at(
 
 // Follows the connection, or starts the thread that looks for a leader.
 fn start<
-    R: Threads + Wait + Net<Stream = TcpStream> + Clock + Copy + Send + Sync + 'static,
+    R: Threads
+        + Wait
+        + Net<Stream = TcpStream, Listener = net::TcpListener>
+        + Clock
+        + Copy
+        + Send
+        + Sync
+        + 'static,
     L: Log,
     W: Write + Drop,
->(
-    rt: &R,
-    hub: &mut Hub<L, W>,
-    beginning: Beginning,
-) -> Result<Option<JoinHandle<()>>, Failure> {
+>(rt: &R, hub: &mut Hub<L, W>, beginning: Beginning) -> Result<Option<JoinHandle<()>>, Failure> {
     match beginning {
         Beginning::Stream(stream) => {
             hub.follow(rt, stream)?;
@@ -179,7 +178,14 @@ fn start<
 
 // Serves with a hub that has no connection yet.
 fn serve_hub<
-    R: Threads + Wait + Net<Stream = TcpStream> + Clock + Copy + Send + Sync + 'static,
+    R: Threads
+        + Wait
+        + Net<Stream = TcpStream, Listener = net::TcpListener>
+        + Clock
+        + Copy
+        + Send
+        + Sync
+        + 'static,
     L: Log,
     W: Write + Drop,
 >(
@@ -211,7 +217,14 @@ fn serve_hub<
 // Serves with a desk of its own. The desk is dropped with the hub, at the single end of this function and nowhere else:
 // each drop of an observer is proved anew.
 fn serve_with<
-    R: Threads + Wait + Net<Stream = TcpStream> + Clock + Copy + Send + Sync + 'static,
+    R: Threads
+        + Wait
+        + Net<Stream = TcpStream, Listener = net::TcpListener>
+        + Clock
+        + Copy
+        + Send
+        + Sync
+        + 'static,
     L: Log + Drop,
     W: Write + Drop,
 >(
@@ -262,7 +275,7 @@ fn serve_with<
 pub fn try_serve_on<
     R: Threads
         + Wait
-        + Net<Stream = TcpStream>
+        + Net<Stream = TcpStream, Listener = net::TcpListener>
         + Clock
         + Files
         + Eprint
@@ -283,7 +296,9 @@ pub fn try_serve_on<
     record.begin(options.server_id, first_counter.number());
     let journal = Journal::new(alloc, logger(rt, options.log));
     let config = config_of(alloc, options, first_counter);
-    serve_with(rt, alloc, options, config, origin, listener, journal, record)
+    serve_with(
+        rt, alloc, options, config, origin, listener, journal, record,
+    )
 }
 
 /// Follows the leader and serves clients until the leader's connection ends. Returns the exit status: 0 then, 3 if
@@ -292,7 +307,7 @@ pub fn try_serve_on<
 pub fn serve_on<
     R: Threads
         + Wait
-        + Net<Stream = TcpStream>
+        + Net<Stream = TcpStream, Listener = net::TcpListener>
         + Clock
         + Files
         + Eprint
@@ -300,13 +315,7 @@ pub fn serve_on<
         + Send
         + Sync
         + 'static,
->(
-    rt: &R,
-    alloc: Global,
-    options: &Options<'_>,
-    leader: TcpStream,
-    listener: TcpListener,
-) -> u8 {
+>(rt: &R, alloc: Global, options: &Options<'_>, leader: TcpStream, listener: TcpListener) -> u8 {
     match try_serve_on(rt, alloc, options, Origin::Stream(leader), listener) {
         Ok(()) => 0,
         Err(failure) => failure.status(),
