@@ -1,8 +1,9 @@
 //! The command `serve`.
 
-use crate::failure::Failure;
 use crate::serving::{Origin, try_serve_on};
+use following::Finding;
 use mio::net::TcpListener;
+use serve_failures::{Failure, Server, Step};
 use serve_options::{Address, Command, Options, Servers, VERSION_LINES, command_of, help};
 use std::alloc::Global;
 use std::net::{Net, TcpStream, ToSocketAddrs};
@@ -28,6 +29,32 @@ fn listen<R: Net>(rt: &R, address: &Address<'_>) -> io::Result<TcpListener> {
     }
 }
 
+// The failure of a step with an address. The error of a name that can't be resolved has no number of the system.
+fn failure(alloc: Global, step: Step, address: &Address<'_>, error: io::Error) -> Failure {
+    match Server::new(alloc, *address) {
+        Ok(server) => Failure::system(alloc, step, &server, error),
+        Err(error) => Failure::from(error),
+    }
+}
+
+// Where the first leader comes from: a connection to it, or a search.
+fn origin_of<R: Net<Stream = TcpStream>>(
+    rt: &R,
+    alloc: Global,
+    options: &Options<'_>,
+) -> Result<Origin, Failure> {
+    match &options.servers {
+        Servers::Leader(address) => match connect(rt, address) {
+            Ok(stream) => Ok(Origin::Stream(stream)),
+            Err(error) => Err(failure(alloc, Step::Connect, address, error)),
+        },
+        Servers::Any(servers) => match Finding::new(servers.len(), options.server_id) {
+            Some(finding) => Ok(Origin::Search(finding)),
+            None => Err(Failure::NoMemory),
+        },
+    }
+}
+
 // Opens the sockets, prints the port for clients, and serves.
 fn run<
     R: Threads
@@ -42,11 +69,11 @@ fn run<
         + Sync
         + 'static,
 >(rt: &R, alloc: Global, options: &Options<'_>) -> Result<(), Failure> {
-    let origin = match &options.servers {
-        Servers::Leader(address) => Origin::Stream(connect(rt, address)?),
-        Servers::Any(_) => Origin::Search,
+    let origin = origin_of(rt, alloc, options)?;
+    let listener = match listen(rt, &options.client) {
+        Ok(listener) => listener,
+        Err(error) => return Err(failure(alloc, Step::Bind, &options.client, error)),
     };
-    let listener = listen(rt, &options.client)?;
     let port = listener.local_addr()?.port();
     println!(rt; "serving {port}")?;
     try_serve_on(rt, alloc, options, origin, listener)
@@ -80,12 +107,6 @@ fn obey<
     }
 }
 
-fn tell<R: Eprint>(rt: &R, failure: Failure) -> u8 {
-    // If standard error can't be written, only the status tells the failure.
-    let _ = eprintln!(rt; "{failure}");
-    failure.status()
-}
-
 /// Serves as the words after `serve` ask, and returns the exit status. If it isn't 0, the reason is on standard error.
 pub fn serve<
     R: Threads
@@ -100,16 +121,12 @@ pub fn serve<
         + Sync
         + 'static,
 >(rt: &R, alloc: Global, words: &[String]) -> u8 {
-    let command = match command_of(alloc, words) {
-        Ok(command) => command,
-        Err(error) => {
-            // If standard error can't be written, only the status tells the failure.
-            let _ = eprintln!(rt; "observer: {error}");
-            return tell(rt, Failure::Usage);
-        }
+    let obeyed = match command_of(alloc, words) {
+        Ok(command) => obey(rt, alloc, &command),
+        Err(error) => Err(Failure::of_options(alloc, &error)),
     };
-    match obey(rt, alloc, &command) {
+    match obeyed {
         Ok(()) => 0,
-        Err(failure) => tell(rt, failure),
+        Err(failure) => failure.tell(rt),
     }
 }

@@ -1,9 +1,8 @@
 //! The thread that connects to the servers that may lead.
 
-use crate::reason::Reason;
-use crate::servers::Server;
 use intake::Waker as HubWaker;
 use rtrb::{Consumer, Producer};
+use serve_failures::{Reason, Server};
 use std::alloc::Global;
 use std::io;
 use std::net::{Net, SocketAddr, TcpStream, ToSocketAddrs};

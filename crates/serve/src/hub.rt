@@ -2,7 +2,6 @@
 
 use crate::accept::Door;
 use crate::connections::{Client, Handed, start_client};
-use crate::failure::Failure;
 use crate::journal::Journal;
 use crate::leading::Leading;
 use crate::log_keeping::LogKeeper;
@@ -14,6 +13,7 @@ use intake::{Desk, Port, Waker as HubWaker};
 use log::Log;
 use mio::net::TcpStream;
 use rtrb::Consumer;
+use serve_failures::Failure;
 use std::alloc::Global;
 use std::collections::BTreeMap;
 use std::collections::btree_map::Entry;
@@ -129,7 +129,7 @@ impl<L: Log, W: Write + Drop> Hub<L, W> {
                 entry.insert(start_client(rt, self.alloc, sides, handed)?);
                 Ok(())
             }
-            Entry::Occupied(_) => Err(Failure::Failed),
+            Entry::Occupied(_) => Err(Failure::NoThread),
         }
     }
 
@@ -295,7 +295,7 @@ impl<L: Log, W: Write + Drop> Hub<L, W> {
             over?;
         }
         if !self.record.is_whole() {
-            return Err(Failure::Failed);
+            return Err(Failure::RecordCut);
         }
         Ok(())
     }

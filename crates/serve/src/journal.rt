@@ -1,12 +1,10 @@
 //! The log lines of a server, one for each event.
 
-use crate::failure::Failure;
-use crate::reason::Reason;
-use crate::servers::Server;
 use intake::{Desk, Message};
 use learner_sync::{Learner, Phase};
 use log::{Log, debug, info, warn};
 use quorum_packet::{Item, PacketFeed, PacketKind};
+use serve_failures::{Failure, Reason, Server};
 use std::alloc::Global;
 use std::net::SocketAddr;
 use values::{Blob, Fault};

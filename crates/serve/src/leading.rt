@@ -1,17 +1,15 @@
 //! The leader's side of the hub: the leader that is followed, its silence, its end, and the next one.
 
 use crate::connections::{Handed, Leader, start_leader};
-use crate::failure::Failure;
 use crate::hub::{CAPACITY, Hub};
-use crate::reason::Reason;
 use crate::search::Search;
-use crate::servers::Server;
 use crate::silence::{Silence, SilenceLimits};
 use connection_loop::LeaderGone;
 use following::{Judgement, Outcome, Verdict};
 use intake::{Message, Port};
 use learner_sync::Phase;
 use log::Log;
+use serve_failures::{Failure, Reason, Server};
 use std::alloc::Global;
 use std::io::Write;
 use std::net::{Net, TcpStream};
@@ -23,8 +21,8 @@ use values::Fault;
 /// Where leaders come from.
 #[derive(Drop)]
 pub enum Source {
-    /// One connection, with whose end the server ends.
-    Once(Server),
+    /// One connection, with whose end this server ends; its server is the first of these.
+    Once(Vec<Server>),
     /// Several servers, one of which leads at a time.
     Search(Search),
 }
@@ -100,7 +98,7 @@ impl Leading {
 
     fn server(&self) -> Option<&Server> {
         match &self.source {
-            Source::Once(server) => Some(server),
+            Source::Once(servers) => servers.first(),
             Source::Search(search) => search.followed(),
         }
     }
@@ -309,6 +307,28 @@ impl<L: Log, W: Write + Drop> Hub<L, W> {
         }
     }
 
+    // No leader was found in time.
+    fn no_leader(&self) -> Failure {
+        let seconds = self.leading.give_up / 1000;
+        match &self.leading.source {
+            Source::Once(servers) => {
+                Failure::no_leader(self.alloc, seconds, servers.as_slice(), &[Reason::Silent])
+            }
+            Source::Search(search) => {
+                let (servers, reasons) = search.tried();
+                Failure::no_leader(self.alloc, seconds, servers, reasons)
+            }
+        }
+    }
+
+    // How serving ends after a leader, where it ends then.
+    fn ending(&self, fault: Option<Fault>) -> Result<(), Failure> {
+        match (fault, self.leading.server()) {
+            (Some(fault), Some(server)) => Err(Failure::refused(self.alloc, fault, server)),
+            (None, _) | (_, None) => Ok(()),
+        }
+    }
+
     /// Looks after the leader. Returns for how many milliseconds there is nothing to do.
     pub(crate) fn attend_leader<R: Threads + Wait + Net + Clock + Copy + Send + Sync + 'static>(
         &mut self,
@@ -326,7 +346,7 @@ impl<L: Log, W: Write + Drop> Hub<L, W> {
         let unserved = now.saturating_sub(self.leading.unserved_since);
         let left = self.leading.give_up.saturating_sub(unserved);
         if left == 0 {
-            self.over = Some(Err(Failure::NoLeader));
+            self.over = Some(Err(self.no_leader()));
         }
         Ok(rest.min(left))
     }
@@ -362,22 +382,19 @@ impl<L: Log, W: Write + Drop> Hub<L, W> {
             return;
         }
         let (outcome, reason) = self.leading.outcome(served);
-        let refused = match fault {
-            None => Ok(()),
-            Some(fault) => Err(Failure::Refused(fault)),
-        };
+        let ending = self.ending(fault);
         let Source::Search(search) = &mut self.leading.source else {
-            self.over = Some(refused);
+            self.over = Some(ending);
             return;
         };
         match Verdict::after(fault) {
             Verdict::SameEngine => search.lost(outcome, reason, now),
-            Verdict::NewProcess => self.over = Some(refused),
+            Verdict::NewProcess => self.over = Some(ending),
             Verdict::Pause => {
                 let reason = fault.map(Reason::Faulty).unwrap_or(reason);
                 search.lost(Outcome::Refused, reason, now);
                 if search.is_hopeless() {
-                    self.over = Some(refused);
+                    self.over = Some(ending);
                 }
             }
         }

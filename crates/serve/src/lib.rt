@@ -4,23 +4,20 @@
 mod accept;
 mod command;
 mod connections;
-mod failure;
 mod finder;
 mod hub;
 mod journal;
 mod leading;
 mod log_keeping;
-mod reason;
 mod record;
 mod search;
-mod servers;
 mod serving;
 mod silence;
 mod stopwatch;
 
 pub use command::serve;
 pub use connection_loop::{LeaderGone, leader_loop, session_loop};
-pub use failure::Failure;
 pub use record::{Record, put_message};
+pub use serve_failures::Failure;
 pub use serve_options::{Address, Command, Options, Servers, command_of};
 pub use serving::serve_on;

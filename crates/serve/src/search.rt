@@ -1,10 +1,9 @@
 //! The search for a leader among several servers.
 
 use crate::finder::{Attempt, FinderBell};
-use crate::reason::Reason;
-use crate::servers::Server;
 use following::{Candidate, Finding, Outcome};
 use rtrb::{Consumer, Producer};
+use serve_failures::{Reason, Server};
 use std::alloc::Global;
 use std::net::TcpStream;
 use std::sync::Arc;

@@ -1,7 +1,6 @@
 //! The server, once its sockets are open.
 
 use crate::accept::{Accepting, Acceptor, Door, accept_all, open_door};
-use crate::failure::Failure;
 use crate::finder::{Finder, FinderBell, find_all};
 use crate::hub::Hub;
 use crate::journal::Journal;
@@ -9,7 +8,6 @@ use crate::leading::{Leading, Source};
 use crate::log_keeping::LogKeeper;
 use crate::record::Record;
 use crate::search::Search;
-use crate::servers::{Server, servers_of};
 use crate::silence::SilenceLimits;
 use crate::stopwatch::Stopwatch;
 use batcher::SpreadThreshold;
@@ -20,7 +18,8 @@ use log::{LevelFilter, Log, Logged};
 use mio::net::TcpListener;
 use observer_core::{Config, Settings};
 use rtrb::RingBuffer;
-use serve_options::{Options, Servers};
+use serve_failures::{Failure, Server, Step, servers_of};
+use serve_options::{Address, Options, Servers};
 use settings::{Epochs, FirstCounter, Secret, TimeoutBounds};
 use std::alloc::Global;
 use std::io::Write;
@@ -70,10 +69,17 @@ pub fn logger<R: Eprint + Copy>(rt: &R, most: LevelFilter) -> Logged<R, Console<
 }
 
 // The file for the record, if there is one.
-fn record_file<R: Files>(rt: &R, name: Option<&str>) -> io::Result<Option<R::File>> {
-    match name {
-        None => Ok(None),
-        Some(name) => Ok(Some(fs::create(rt, name)?)),
+fn record_file<R: Files>(
+    rt: &R,
+    alloc: Global,
+    name: Option<&str>,
+) -> Result<Option<R::File>, Failure> {
+    let Some(name) = name else {
+        return Ok(None);
+    };
+    match fs::create(rt, name) {
+        Ok(file) => Ok(Some(file)),
+        Err(error) => Err(Failure::system(alloc, Step::Open, &name, error)),
     }
 }
 
@@ -83,7 +89,7 @@ pub enum Origin {
     /// This connection, with whose end the server ends.
     Stream(TcpStream),
     /// The servers among the options, one of which leads at a time.
-    Search,
+    Search(Finding),
 }
 
 // What is still to be started when the hub is there.
@@ -93,28 +99,22 @@ enum Beginning {
     Finder(Finder),
 }
 
-// The leader that the options name. Of several servers, which are searched for it, this is the first.
-fn named_server(alloc: Global, options: &Options<'_>) -> Result<Server, Failure> {
-    let address = match &options.servers {
-        Servers::Leader(address) => Some(*address),
-        Servers::Any(addresses) => addresses.first().copied(),
-    };
-    match address {
-        Some(address) => Ok(Server::new(alloc, address)?),
-        None => Err(Failure::Usage),
+// The addresses of the servers that may lead.
+fn addresses_in<'a>(options: &'a Options<'a>) -> &'a [Address<'a>] {
+    match &options.servers {
+        Servers::Leader(address) => slice::from_ref(address),
+        Servers::Any(addresses) => addresses.as_slice(),
     }
 }
 
-// A search among the servers of the options, and its thread's part.
-fn search_of(alloc: Global, options: &Options<'_>, now: u64) -> Result<(Search, Finder), Failure> {
-    let addresses = match &options.servers {
-        Servers::Leader(address) => slice::from_ref(address),
-        Servers::Any(addresses) => addresses.as_slice(),
-    };
-    let servers = Arc::new(alloc, servers_of(alloc, addresses)?)?;
-    let Some(finding) = Finding::new(servers.len(), options.server_id) else {
-        return Err(Failure::Usage);
-    };
+// A search among these servers, and its thread's part.
+fn search_among(
+    alloc: Global,
+    servers: Vec<Server>,
+    finding: Finding,
+    now: u64,
+) -> Result<(Search, Finder), Failure> {
+    let servers = Arc::new(alloc, servers)?;
     let (orders, from_hub) = RingBuffer::new(alloc, 1)?;
     let (to_hub, from_finder) = RingBuffer::new(alloc, 1)?;
     let bell = Arc::new(alloc, FinderBell::new())?;
@@ -135,13 +135,11 @@ fn begin_at(
     origin: Origin,
     now: u64,
 ) -> Result<(Source, Beginning), Failure> {
+    let servers = servers_of(alloc, addresses_in(options))?;
     match origin {
-        Origin::Stream(stream) => {
-            let source = Source::Once(named_server(alloc, options)?);
-            Ok((source, Beginning::Stream(stream)))
-        }
-        Origin::Search => {
-            let (search, finder) = search_of(alloc, options, now)?;
+        Origin::Stream(stream) => Ok((Source::Once(servers), Beginning::Stream(stream))),
+        Origin::Search(finding) => {
+            let (search, finder) = search_among(alloc, servers, finding, now)?;
             Ok((Source::Search(search), Beginning::Finder(finder)))
         }
     }
@@ -170,7 +168,7 @@ fn start<
             let mine = *rt;
             match thread::spawn(rt, move || find_all(&mine, finder, &waker)) {
                 Ok(finding) => Ok(Some(finding)),
-                Err(_) => Err(Failure::Failed),
+                Err(_) => Err(Failure::NoThread),
             }
         }
     }
@@ -205,7 +203,7 @@ fn serve_hub<
             accepting.join(rt);
             served
         }
-        Err(_) => Err(Failure::Failed),
+        Err(_) => Err(Failure::NoThread),
     };
     let ended = hub.end(rt, served);
     if let Some(finding) = finding {
@@ -291,7 +289,7 @@ pub fn try_serve_on<
     listener: TcpListener,
 ) -> Result<(), Failure> {
     let first_counter = first_counter(rt, options)?;
-    let file = record_file(rt, options.record)?;
+    let file = record_file(rt, alloc, options.record)?;
     let mut record = Record::new(alloc, file);
     record.begin(options.server_id, first_counter.number());
     let journal = Journal::new(alloc, logger(rt, options.log));
