@@ -83,7 +83,7 @@ impl Silence {
             Some(looked) => now.saturating_sub(looked) < BETWEEN_LOOKS,
         };
         if !is_fresh {
-            self.least = None;
+            self.least = engine.least_timeout();
             self.looked = Some(now);
         }
     }

@@ -1,5 +1,5 @@
 -- The options: the word of each, and what its value may be.
-use Rattle.std.specs.Prelude.{ℕ, ◌-◌, ◌^◌, List, codes}
+use Rattle.std.specs.Prelude.{ℕ, ◌-◌, ◌^◌, ◌≤◌, List, codes}
 use Rattle.serve_options.specs.declared.row.Name.{Name}
 use Rattle.serve_options.specs.declared.row.Name.TheVariants.{Leader, Servers, Client, Id, Counter, Workers, Batch, MaxClients, Tick, InitLimit, SyncLimit, Checkpoint, GiveUp, Record, Log, LogFormat, Help, Version}
 use Rattle.serve_options.specs.declared.row.Bounds.{Bounds}
@@ -49,3 +49,13 @@ option_kind Log = kinds.Level
 option_kind LogFormat = kinds.Format
 option_kind Help = kinds.Nothing
 option_kind Version = kinds.Nothing
+
+abbrev pub kind_bounds : Kind → Bounds
+kind_bounds (kinds.Number bounds) = bounds
+kind_bounds kind = record { least = 0; most = 2 ^ 64 - 1 }
+
+abbrev pub option_bounds : Name → Bounds
+option_bounds name = kind_bounds (option_kind name)
+
+abbrev pub IsWithin : Bounds → ℕ → Type 0
+IsWithin bounds number = (bounds.least ≤ number) × (number ≤ bounds.most)

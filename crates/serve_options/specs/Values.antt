@@ -1,5 +1,5 @@
 -- The values of options.
-use Rattle.std.specs.Prelude.{ℕ, List, Option, Some, None, nat_le, if◌then◌else◌, codes}
+use Rattle.std.specs.Prelude.{◌≡◌, ◌≢◌, ℕ, List, [], ◌++◌, ◌⊎◌, Option, Some, None, nat_le, if◌then◌else◌, codes}
 use Rattle.std.specs.Str.{bytes_eq}
 use Rattle.log.specs.declared.level.LevelFilter.{LevelFilter}
 use Rattle.log.specs.declared.level.LevelFilter.TheVariants.{Off, Error, Warn, Info, Debug}
@@ -32,3 +32,14 @@ format_of text =
     if bytes_eq text (codes "text") then Some Text
     else (if bytes_eq text (codes "json") then Some Json
     else None)
+
+-- A host before a colon and a port: as it is, or in brackets.
+abbrev pub SpellsHost : List ℕ → List ℕ → Type 0
+SpellsHost text host = (host ≢ []) × ((text ≡ host) ⊎ (text ≡ codes "[" ++ host ++ codes "]"))
+
+-- A text spells a host and a port: a port alone is one of this machine.
+pub record SpellsAddress (text host : List ℕ) (port : ℕ) : Type 0 where
+  pub digits : List ℕ
+  pub is_port : port_of digits ≡ Some port
+  pub spelled : ((text ≡ digits) × (host ≡ codes "127.0.0.1"))
+      ⊎ ((front : List ℕ) × SpellsHost front host × (text ≡ front ++ codes ":" ++ digits))

@@ -1,12 +1,17 @@
 //! The commands of `serve`.
 
-ghost use Rattle.std.specs.Prelude.{◌≡◌, IfOk};
+ghost use Rattle.std.specs.Prelude.{◌≡◌, Some, IfSome, IfOk, option_map};
+ghost use Rattle.serve_options.specs.Rows.{option_bounds, IsWithin};
+ghost use Rattle.serve_options.specs.Values.{number_within};
+ghost use Rattle.serve_options.specs.Given.{value_of, number_given, number_answer};
 ghost use Rattle.serve_options.specs.Commands.{IsWithinBounds};
 
 use crate::error::OptionError;
 use crate::given::{Given, find_given, given_in, spelled};
 use crate::row::{Bounds, Kind, Name};
-use crate::value::{Address, LogFormat, address_of, addresses_of, format_of, has_host, level_of, number_within};
+use crate::value::{
+    Address, LogFormat, address_of, addresses_of, format_of, has_host, level_of, number_within,
+};
 use batcher::Limits;
 use log::LevelFilter;
 use settings::ServerId;
@@ -62,9 +67,6 @@ pub enum Command<'a> {
 // How many groups a batch has at most.
 const GROUPS: usize = 64;
 
-// The id of a server that is given none.
-const DEFAULT_ID: i32 = 1;
-
 const ANY: Bounds = Bounds {
     least: 0,
     most: u64::MAX,
@@ -78,15 +80,21 @@ fn invalid<'a>(name: Name, value: &'a str) -> OptionError<'a> {
     }
 }
 
-fn bounds_of(name: Name) -> Bounds {
+fn bounds_of(name: Name) -> Bounds
+    ensures { result ≡ option_bounds name }
+{
     match name.row().kind {
         Kind::Number(bounds) => bounds,
-        Kind::Nothing | Kind::Address | Kind::Addresses | Kind::File | Kind::Level | Kind::Format => ANY,
+        Kind::Nothing | Kind::Address | Kind::Addresses | Kind::File | Kind::Level | Kind::Format =>
+            ANY,
     }
 }
 
 // The number of an option, given or not.
-fn number_in<'a>(given: &[Given<'a>], name: Name) -> Result<Option<u64>, OptionError<'a>> {
+fn number_in<'a>(given: &[Given<'a>], name: Name) -> Result<Option<u64>, OptionError<'a>>
+    ensures value { number_answer result ≡ option_map (number_within (option_bounds name)) (value_of name given.now) }
+    ensures bounds { IfOk result (λ found. IfSome found (IsWithin (option_bounds name))) }
+{
     let Some(value) = spelled(given, name) else {
         return Ok(None);
     };
@@ -97,7 +105,10 @@ fn number_in<'a>(given: &[Given<'a>], name: Name) -> Result<Option<u64>, OptionE
 }
 
 // The number of an option that has one without being given.
-fn number<'a>(given: &[Given<'a>], name: Name) -> Result<u64, OptionError<'a>> {
+fn number<'a>(given: &[Given<'a>], name: Name) -> Result<u64, OptionError<'a>>
+    ensures value { IfOk result (λ number. number_given name given.now ≡ Some number) }
+    ensures bounds { IfOk result (IsWithin (option_bounds name)) }
+{
     match number_in(given, name)? {
         Some(number) => Ok(number),
         None => Err(OptionError::NoValue(name)),
@@ -211,10 +222,7 @@ fn has(words: &[String], option: &str) -> bool {
 
 /// Reads the words after `serve`. Where `--help` is among them, or else `--version`, nothing else counts. Fails with
 /// the first thing that is wrong, or if an allocation is refused.
-pub fn command_of<'a>(
-    alloc: Global,
-    words: &'a [String],
-) -> Result<Command<'a>, OptionError<'a>> {
+pub fn command_of<'a>(alloc: Global, words: &'a [String]) -> Result<Command<'a>, OptionError<'a>> {
     if has(words, "--help") {
         return Ok(Command::Help);
     }

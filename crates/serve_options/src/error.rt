@@ -13,7 +13,10 @@ pub enum OptionError<'a> {
     Unknown(&'a str),
     /// A word that is no option, and the one that it is near to.
     #[error("{word}: no such option (did you mean {near}?)")]
-    Misspelled { word: &'a str, near: Name },
+    Misspelled {
+        word: &'a str,
+        near: Name,
+    },
     #[error("{0} is given twice")]
     Twice(Name),
     #[error("{0} has no value")]

@@ -1,7 +1,9 @@
 //! The options that are given, with their values as they are spelled.
 
-ghost use Rattle.std.specs.Prelude.{◌≡◌, ◌++◌, map, string_bytes, OnOk, IfOk, IfSome, IfNone, ◌≢◌};
+ghost use Rattle.std.specs.Prelude.{◌≡◌, ◌≢◌, map, string_bytes, IfOk, IfSome, IfNone, option_map};
+ghost use Rattle.serve_options.specs.declared.row.Name.{Name as OptionName};
 ghost use Rattle.serve_options.specs.Rows.{option_word};
+ghost use Rattle.serve_options.specs.Given.{given_of, value_of};
 
 use crate::error::OptionError;
 use crate::near::nearest;
@@ -16,7 +18,10 @@ pub struct Given<'a> {
 }
 
 // The option of this name.
-fn name_of(word: &str) -> Option<Name> {
+fn name_of(word: &str) -> Option<Name>
+    ensures known { IfSome result (λ name. option_word name ≡ word.now) }
+    ensures unknown { IfNone result ((name : OptionName) → option_word name ≢ word.now) }
+{
     for name in NAMES {
         if name.row().word == word {
             return Some(name);
@@ -59,7 +64,9 @@ fn value_in<'a>(name: Name, words: &'a [String]) -> Result<Option<&'a str>, Opti
 }
 
 /// The option of this name among those that are given.
-pub fn find_given<'a>(given: &[Given<'a>], name: Name) -> Option<Given<'a>> {
+pub fn find_given<'a>(given: &[Given<'a>], name: Name) -> Option<Given<'a>>
+    ensures { result ≡ given_of name given.now }
+{
     for option in given {
         if option.name == name {
             return Some(*option);
@@ -69,10 +76,7 @@ pub fn find_given<'a>(given: &[Given<'a>], name: Name) -> Option<Given<'a>> {
 }
 
 /// The options that the words give, each at most once.
-pub fn given_in<'a>(
-    alloc: Global,
-    words: &'a [String],
-) -> Result<Vec<Given<'a>>, OptionError<'a>> {
+pub fn given_in<'a>(alloc: Global, words: &'a [String]) -> Result<Vec<Given<'a>>, OptionError<'a>> {
     let mut given = Vec::new(alloc);
     let mut rest = words;
     while let [word, others @ ..] = rest {
@@ -91,7 +95,9 @@ pub fn given_in<'a>(
 }
 
 /// The value of an option as it is spelled: the one that is given, or the one that it has without.
-pub fn spelled<'a>(given: &[Given<'a>], name: Name) -> Option<&'a str> {
+pub fn spelled<'a>(given: &[Given<'a>], name: Name) -> Option<&'a str>
+    ensures { option_map (λ text. text.now) result ≡ value_of name given.now }
+{
     match find_given(given, name) {
         Some(option) => option.value,
         None => match name.row().without {

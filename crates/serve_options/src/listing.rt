@@ -17,7 +17,12 @@ fn put_row(out: &mut String, row: &Row) -> Result<(), AllocError> {
     write!(out, "\n  {word} {value}\n      {help}\n")?;
     match kind {
         Kind::Nothing => {}
-        Kind::Address | Kind::Addresses | Kind::Number(_) | Kind::File | Kind::Level | Kind::Format => {
+        Kind::Address
+        | Kind::Addresses
+        | Kind::Number(_)
+        | Kind::File
+        | Kind::Level
+        | Kind::Format => {
             writeln!(out, "      {kind}")?;
         }
     }

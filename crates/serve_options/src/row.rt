@@ -2,6 +2,7 @@
 
 ghost use Rattle.std.specs.Prelude.{◌≡◌};
 ghost use Rattle.serve_options.specs.Rows.{option_word, option_kind};
+ghost use Rattle.serve_options.specs.Defaults.{option_default, default_value};
 
 use std::fmt;
 
@@ -144,15 +145,23 @@ const CLIENT: Row = Row {
 const ID: Row = Row {
     word: "--id",
     value: "N",
-    kind: Kind::Number(Bounds { least: 1, most: 255 }),
-    without: Without::Meaning("it has to be there, but for a leader that is a port alone, where it is 1"),
+    kind: Kind::Number(Bounds {
+        least: 1,
+        most: 255,
+    }),
+    without: Without::Meaning(
+        "it has to be there, but for a leader that is a port alone, where it is 1",
+    ),
     help: "the id of this server, which no other server of the ensemble has",
 };
 
 const COUNTER: Row = Row {
     word: "--counter",
     value: "N",
-    kind: Kind::Number(Bounds { least: 0, most: 72_057_594_037_927_934 }),
+    kind: Kind::Number(Bounds {
+        least: 0,
+        most: 72_057_594_037_927_934,
+    }),
     without: Without::Meaning("the clock, so that no id is given out again"),
     help: "the ids of sessions begin after this number",
 };
@@ -168,7 +177,10 @@ const WORKERS: Row = Row {
 const BATCH: Row = Row {
     word: "--batch",
     value: "N",
-    kind: Kind::Number(Bounds { least: 1, most: 4096 }),
+    kind: Kind::Number(Bounds {
+        least: 1,
+        most: 4096,
+    }),
     without: Without::Value("256"),
     help: "the most transactions that are applied together",
 };
@@ -176,7 +188,10 @@ const BATCH: Row = Row {
 const MAX_CLIENTS: Row = Row {
     word: "--max-clients",
     value: "N",
-    kind: Kind::Number(Bounds { least: 1, most: u64::MAX }),
+    kind: Kind::Number(Bounds {
+        least: 1,
+        most: u64::MAX,
+    }),
     without: Without::Meaning("any number"),
     help: "how many clients may be connected at a time; one more is closed at once",
 };
@@ -184,7 +199,10 @@ const MAX_CLIENTS: Row = Row {
 const TICK: Row = Row {
     word: "--tick",
     value: "MS",
-    kind: Kind::Number(Bounds { least: 1, most: 3_600_000 }),
+    kind: Kind::Number(Bounds {
+        least: 1,
+        most: 3_600_000,
+    }),
     without: Without::Value("2000"),
     help: "the milliseconds of a tick, as `tickTime` of the ensemble",
 };
@@ -192,7 +210,10 @@ const TICK: Row = Row {
 const INIT_LIMIT: Row = Row {
     word: "--init-limit",
     value: "N",
-    kind: Kind::Number(Bounds { least: 0, most: 1_000_000 }),
+    kind: Kind::Number(Bounds {
+        least: 0,
+        most: 1_000_000,
+    }),
     without: Without::Value("10"),
     help: "the ticks that a leader may be silent until it has brought this server up to date; 0: as long as it likes",
 };
@@ -200,7 +221,10 @@ const INIT_LIMIT: Row = Row {
 const SYNC_LIMIT: Row = Row {
     word: "--sync-limit",
     value: "N",
-    kind: Kind::Number(Bounds { least: 0, most: 1_000_000 }),
+    kind: Kind::Number(Bounds {
+        least: 0,
+        most: 1_000_000,
+    }),
     without: Without::Value("5"),
     help: "the ticks that it may be silent afterwards; 0: as long as it likes",
 };
@@ -208,7 +232,10 @@ const SYNC_LIMIT: Row = Row {
 const CHECKPOINT: Row = Row {
     word: "--checkpoint",
     value: "MIB",
-    kind: Kind::Number(Bounds { least: 0, most: 1_048_576 }),
+    kind: Kind::Number(Bounds {
+        least: 0,
+        most: 1_048_576,
+    }),
     without: Without::Value("64"),
     help: "the least MiB of the leader's bytes between two checkpoints, which empty the log in memory; 0: none is taken",
 };
@@ -216,7 +243,10 @@ const CHECKPOINT: Row = Row {
 const GIVE_UP: Row = Row {
     word: "--give-up",
     value: "SECONDS",
-    kind: Kind::Number(Bounds { least: 1, most: 31_536_000 }),
+    kind: Kind::Number(Bounds {
+        least: 1,
+        most: 31_536_000,
+    }),
     without: Without::Meaning("a leader is looked for without end"),
     help: "how long a leader is looked for before the server ends",
 };
@@ -266,6 +296,7 @@ impl Name {
     pub fn row(self) -> Row
         ensures word { result.word.now ≡ option_word self }
         ensures kind { result.kind ≡ option_kind self }
+        ensures default { default_value result.without ≡ option_default self }
     {
         match self {
             Name::Leader => LEADER,

@@ -1,7 +1,8 @@
 //! The values of options.
 
-ghost use Rattle.std.specs.Prelude.{◌≡◌, IfSome, OnOk, IfOk};
-ghost use Rattle.serve_options.specs.Values.{number_within, port_of, SpellsAddress, level_of, format_of};
+ghost use Rattle.std.specs.Prelude.{◌≡◌, ℕ, IfSome};
+ghost use Rattle.serve_options.specs.Rows.{IsWithin};
+ghost use Rattle.serve_options.specs.Values.{number_within, port_of, SpellsHost, SpellsAddress, level_of, format_of};
 
 use crate::row::Bounds;
 use log::LevelFilter;
@@ -33,7 +34,8 @@ const MOST_SERVERS: usize = 64;
 
 /// The number that a text spells in decimal digits, if it is within the bounds.
 pub fn number_within(bounds: Bounds, text: &str) -> Option<u64>
-    ensures { result ≡ number_within bounds text.now }
+    ensures value { result ≡ number_within bounds text.now }
+    ensures bounds { IfSome result (IsWithin bounds) }
 {
     let number = number_up_to(bounds.most, text.as_bytes())?;
     if number < bounds.least {
@@ -50,7 +52,9 @@ fn port_of(text: &str) -> Option<u16>
 }
 
 // An IPv6 address is in brackets, since a port follows it.
-fn host_of(text: &str) -> Option<&str> {
+fn host_of(text: &str) -> Option<&str>
+    ensures { IfSome result (λ host. SpellsHost text.now host.now) }
+{
     let host = match text.strip_prefix("[") {
         Some(inner) => inner.strip_suffix("]")?,
         None => text,
@@ -62,7 +66,9 @@ fn host_of(text: &str) -> Option<&str> {
 }
 
 /// The address that a text spells as PORT or HOST:PORT. A port alone is one of this machine.
-pub fn address_of(text: &str) -> Option<Address<'_>> {
+pub fn address_of(text: &str) -> Option<Address<'_>>
+    ensures { IfSome result (λ address. SpellsAddress text.now address.host.now address.port) }
+{
     match text.rsplit_once(":") {
         None => Some(Address {
             host: LOCAL,
