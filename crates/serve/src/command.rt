@@ -4,10 +4,11 @@ use crate::serving::{Origin, try_serve_on};
 use following::Finding;
 use mio::net::TcpListener;
 use serve_failures::{Failure, Server, Step};
+use serve_log::has_journal;
 use serve_options::{Address, Command, Options, Servers, VERSION_LINES, command_of, help};
 use std::alloc::Global;
 use std::net::{Net, TcpStream, ToSocketAddrs};
-use std::rt::Files;
+use std::rt::{Env, Files};
 use std::sync::Wait;
 use std::thread::Threads;
 use std::time::Clock;
@@ -62,6 +63,7 @@ fn run<
         + Net<Stream = TcpStream, Listener = net::TcpListener>
         + Clock
         + Files
+        + Env
         + Print
         + Eprint
         + Copy
@@ -76,7 +78,9 @@ fn run<
     };
     let port = listener.local_addr()?.port();
     println!(rt; "serving {port}")?;
-    try_serve_on(rt, alloc, options, origin, listener)
+    // Where the journal of the system reads the log, it puts the time in front.
+    let has_time = !has_journal(rt);
+    try_serve_on(rt, alloc, options, origin, listener, has_time)
 }
 
 // Prints what a command asks for, or serves.
@@ -86,6 +90,7 @@ fn obey<
         + Net<Stream = TcpStream, Listener = net::TcpListener>
         + Clock
         + Files
+        + Env
         + Print
         + Eprint
         + Copy
@@ -114,6 +119,7 @@ pub fn serve<
         + Net<Stream = TcpStream, Listener = net::TcpListener>
         + Clock
         + Files
+        + Env
         + Print
         + Eprint
         + Copy

@@ -13,12 +13,12 @@ use crate::stopwatch::Stopwatch;
 use batcher::SpreadThreshold;
 use following::Finding;
 use intake::Desk;
-use log::sink::Console;
-use log::{LevelFilter, Log, Logged};
+use log::Log;
 use mio::net::TcpListener;
 use observer_core::{Config, Settings};
 use rtrb::RingBuffer;
 use serve_failures::{Failure, Server, Step, servers_of};
+use serve_log::logger;
 use serve_options::{Address, Options, Servers};
 use settings::{Epochs, FirstCounter, Secret, TimeoutBounds};
 use std::alloc::Global;
@@ -61,11 +61,6 @@ fn config_of(alloc: Global, options: &Options<'_>, first_counter: FirstCounter) 
         first_counter,
     };
     Config::from_settings(settings, options.limits).with_threshold(WORTH_THREADS)
-}
-
-/// A logger to standard error, or one that drops everything.
-pub fn logger<R: Eprint + Copy>(rt: &R, most: LevelFilter) -> Logged<R, Console<R>> {
-    Logged::new(*rt, most, Console(*rt))
 }
 
 // The file for the record, if there is one.
@@ -269,7 +264,7 @@ fn serve_with<
     }
 }
 
-/// The same as `serve_on`, with the reason why it ended.
+/// The same as `serve_on`, with the reason why it ended. `has_time` says whether a line of the log begins with the time.
 pub fn try_serve_on<
     R: Threads
         + Wait
@@ -287,12 +282,14 @@ pub fn try_serve_on<
     options: &Options<'_>,
     origin: Origin,
     listener: TcpListener,
+    has_time: bool,
 ) -> Result<(), Failure> {
     let first_counter = first_counter(rt, options)?;
     let file = record_file(rt, alloc, options.record)?;
     let mut record = Record::new(alloc, file);
     record.begin(options.server_id, first_counter.number());
-    let journal = Journal::new(alloc, logger(rt, options.log));
+    let log = logger(rt, options.log, options.log_format, has_time);
+    let journal = Journal::new(alloc, log);
     let config = config_of(alloc, options, first_counter);
     serve_with(
         rt, alloc, options, config, origin, listener, journal, record,
@@ -314,7 +311,7 @@ pub fn serve_on<
         + Sync
         + 'static,
 >(rt: &R, alloc: Global, options: &Options<'_>, leader: TcpStream, listener: TcpListener) -> u8 {
-    match try_serve_on(rt, alloc, options, Origin::Stream(leader), listener) {
+    match try_serve_on(rt, alloc, options, Origin::Stream(leader), listener, true) {
         Ok(()) => 0,
         Err(failure) => failure.status(),
     }
