@@ -2,11 +2,11 @@
 
 use crate::connections::{Handed, Leader, start_leader};
 use crate::hub::{CAPACITY, Hub};
-use crate::search::Search;
 use crate::silence::{Silence, SilenceLimits};
 use connection_loop::LeaderGone;
 use following::{Judgement, Outcome, Verdict};
 use intake::{Message, Port};
+use leader_search::Search;
 use learner_sync::Phase;
 use log::Log;
 use serve_failures::{Failure, Reason, Server};

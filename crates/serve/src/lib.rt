@@ -4,13 +4,11 @@
 mod accept;
 mod command;
 mod connections;
-mod finder;
 mod hub;
 mod journal;
 mod leading;
 mod log_keeping;
 mod record;
-mod search;
 mod serving;
 mod silence;
 mod stopwatch;

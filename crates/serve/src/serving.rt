@@ -1,23 +1,21 @@
 //! The server, once its sockets are open.
 
 use crate::accept::{Accepting, Acceptor, Door, accept_all, open_door};
-use crate::finder::{Finder, FinderBell, find_all};
 use crate::hub::Hub;
 use crate::journal::Journal;
 use crate::leading::{Leading, Source};
 use crate::log_keeping::LogKeeper;
 use crate::record::Record;
-use crate::search::Search;
 use crate::silence::SilenceLimits;
 use crate::stopwatch::Stopwatch;
 use batcher::SpreadThreshold;
 use following::Finding;
 use intake::Desk;
+use leader_search::{Finder, find_all, search_among};
 use log::Log;
 use mio::net::TcpListener;
 use observer_core::{Config, Settings};
-use rtrb::RingBuffer;
-use serve_failures::{Failure, Server, Step, servers_of};
+use serve_failures::{Failure, Step, servers_of};
 use serve_log::logger;
 use serve_options::{Address, Options, Servers};
 use settings::{Epochs, FirstCounter, Secret, TimeoutBounds};
@@ -100,27 +98,6 @@ fn addresses_in<'a>(options: &'a Options<'a>) -> &'a [Address<'a>] {
         Servers::Leader(address) => slice::from_ref(address),
         Servers::Any(addresses) => addresses.as_slice(),
     }
-}
-
-// A search among these servers, and its thread's part.
-fn search_among(
-    alloc: Global,
-    servers: Vec<Server>,
-    finding: Finding,
-    now: u64,
-) -> Result<(Search, Finder), Failure> {
-    let servers = Arc::new(alloc, servers)?;
-    let (orders, from_hub) = RingBuffer::new(alloc, 1)?;
-    let (to_hub, from_finder) = RingBuffer::new(alloc, 1)?;
-    let bell = Arc::new(alloc, FinderBell::new())?;
-    let finder = Finder {
-        servers: Arc::try_clone(&servers)?,
-        orders: from_hub,
-        to_hub,
-        bell: Arc::try_clone(&bell)?,
-    };
-    let search = Search::new(alloc, finding, servers, orders, from_finder, bell, now)?;
-    Ok((search, finder))
 }
 
 // Prepares for the first leader.

@@ -1,8 +1,8 @@
 //! The search for a leader among several servers.
 
-use crate::finder::{Attempt, FinderBell};
+use crate::finder::{Attempt, Finder, FinderBell};
 use following::{Candidate, Finding, Outcome};
-use rtrb::{Consumer, Producer};
+use rtrb::{Consumer, Producer, RingBuffer};
 use serve_failures::{Reason, Server};
 use std::alloc::Global;
 use std::net::TcpStream;
@@ -34,33 +34,6 @@ pub struct Search {
 }
 
 impl Search {
-    /// A search that begins now. Fails only if an allocation is refused.
-    pub fn new(
-        alloc: Global,
-        finding: Finding,
-        servers: Arc<Vec<Server>, Global>,
-        orders: Producer<usize>,
-        from_finder: Consumer<Attempt>,
-        bell: Arc<FinderBell, Global>,
-        now: u64,
-    ) -> Result<Search, NoMemory> {
-        let mut reasons = Vec::with_capacity(alloc, servers.len())?;
-        for _ in servers.iter() {
-            reasons.push(Reason::Untried)?;
-        }
-        let mut search = Search {
-            finding,
-            servers,
-            reasons,
-            orders,
-            from_finder,
-            bell,
-            place: Place::Trying,
-        };
-        search.choose(now);
-        Ok(search)
-    }
-
     /// The servers, and why each isn't followed.
     pub fn tried(&self) -> (&[Server], &[Reason]) {
         (self.servers.as_slice(), self.reasons.as_slice())
@@ -148,4 +121,44 @@ impl Search {
     pub fn stop(&self) {
         self.bell.stop();
     }
+}
+
+// Why each server isn't followed, before any was tried.
+fn untried(alloc: Global, servers: &[Server]) -> Result<Vec<Reason>, NoMemory> {
+    let mut reasons = Vec::with_capacity(alloc, servers.len())?;
+    for _ in servers {
+        reasons.push(Reason::Untried)?;
+    }
+    Ok(reasons)
+}
+
+/// A search among these servers that begins now, and what its thread needs. Fails only if an allocation is refused.
+pub fn search_among(
+    alloc: Global,
+    servers: Vec<Server>,
+    finding: Finding,
+    now: u64,
+) -> Result<(Search, Finder), NoMemory> {
+    let reasons = untried(alloc, servers.as_slice())?;
+    let servers = Arc::new(alloc, servers)?;
+    let (orders, from_hub) = RingBuffer::new(alloc, 1)?;
+    let (to_hub, from_finder) = RingBuffer::new(alloc, 1)?;
+    let bell = Arc::new(alloc, FinderBell::new())?;
+    let finder = Finder {
+        servers: Arc::try_clone(&servers)?,
+        orders: from_hub,
+        to_hub,
+        bell: Arc::try_clone(&bell)?,
+    };
+    let mut search = Search {
+        finding,
+        servers,
+        reasons,
+        orders,
+        from_finder,
+        bell,
+        place: Place::Trying,
+    };
+    search.choose(now);
+    Ok((search, finder))
 }

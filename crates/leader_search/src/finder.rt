@@ -58,10 +58,10 @@ impl FinderBell {
 /// The state of the thread that connects to servers. It takes the places of servers to be tried, one at a time.
 #[derive(Drop)]
 pub struct Finder {
-    pub servers: Arc<Vec<Server>, Global>,
-    pub orders: Consumer<usize>,
-    pub to_hub: Producer<Attempt>,
-    pub bell: Arc<FinderBell, Global>,
+    pub(crate) servers: Arc<Vec<Server>, Global>,
+    pub(crate) orders: Consumer<usize>,
+    pub(crate) to_hub: Producer<Attempt>,
+    pub(crate) bell: Arc<FinderBell, Global>,
 }
 
 // Connects to an address. The packets of an observer are small, and none is to wait for an acknowledgement, so the
