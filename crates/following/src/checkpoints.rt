@@ -20,10 +20,10 @@ pub enum Due {
     TooLong { expected: u64 },
 }
 
-/// The plan of checkpoints. One is due when the leader's bytes since the last one pass a least number, and 256 bytes for
-/// each node: then the log weighs more than the tree. It is put off until ten times the last pause went by, so that the
-/// engine pauses for a tenth of the time at most, and left out where it would pause for over 2,500 ms, by what the last
-/// one took for its nodes: a leader cuts a learner off that doesn't answer its PINGs.
+/// The plan of checkpoints. One is due when the leader's bytes since the last one pass a least number, and 256 for each
+/// node, for then the log may weigh more than the tree. It is put off until ten times the last pause went by, so that
+/// the engine pauses for a tenth of the time at most. It is left out where the engine would pause for over 2,500 ms, by
+/// what the last one took for its nodes: a leader cuts off a learner that doesn't answer its PINGs.
 #[derive(Clone, Copy, Debug)]
 pub struct Checkpoints {
     least_mebibytes: u64,
@@ -92,7 +92,7 @@ impl Checkpoints {
         Due::Now
     }
 
-    /// One was taken; the engine paused for so long, in milliseconds, for a tree of so many nodes.
+    /// One was taken now; the engine paused for so long, in milliseconds, for a tree of so many nodes.
     pub fn taken(&mut self, now: u64, pause: u64, nodes: u64)
         ensures { self.new ≡ after_taking self.old now pause nodes }
     {

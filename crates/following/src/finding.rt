@@ -116,7 +116,8 @@ impl Finding {
         }
     }
 
-    /// Takes in what became of a server that was tried. The search goes on behind that server.
+    /// Takes in what became of a server that was tried. The search goes on behind that server; a number that no server
+    /// has counts by its remainder.
     pub fn report(&mut self, server: usize, outcome: Outcome)
         ensures { self.new ≡ after_outcome self.old server outcome }
     {

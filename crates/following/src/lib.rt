@@ -1,5 +1,5 @@
-//! What a server that follows leaders decides by time: which server it tries next, and after what pause; what the end of
-//! a leader means; when a silent leader is given up; when a checkpoint is due.
+//! What a server that follows leaders decides by time: which server it tries next, and after what pause; what the end
+//! of a leader means; when a silent leader is given up; when a checkpoint is due.
 //!
 //! Each decision is a value that is told what happens, with the time in milliseconds of a clock that never goes back.
 //! Nothing here reads a clock, waits, or has a connection; a caller does.

@@ -91,13 +91,12 @@ impl Patience {
     }
 }
 
-/// For how many milliseconds a leader may be silent at this stage; None: for ever. A tick is in milliseconds, the limits
-/// in ticks (0: none), and the least timeout among the sessions that are connected here, if there is one, in
-/// milliseconds.
+/// For how many milliseconds a leader may be silent at this stage; None: for ever. A tick and the least timeout among
+/// the sessions that are connected here, if there is one, are in milliseconds, and the limits in ticks (0: none).
 ///
 /// Before its LEADERINFO it is 3,000 ms, until its UPTODATE `init_limit`, and then `sync_limit`, but no longer than
 /// three quarters of the least timeout, so that no client is served past its session. A leader that lives is heard each
-/// half tick, so the timeout leaves it at least three of these.
+/// half tick, and it is given three of these, however short the timeout is.
 pub fn silence_limit(
     stage: Stage,
     tick: u64,

@@ -1,4 +1,4 @@
-//! Searches, waits and checkpoints in words, at the numbers of docs/OPERATING.
+//! Searches, waits, limits, checkpoints and verdicts, in words.
 
 use following::{Checkpoints, Finding, Outcome, Patience, Stage, Verdict, silence_limit};
 use settings::ServerId;
@@ -50,9 +50,23 @@ fn wait(alloc: Global) -> Result<String, Fail> {
     Ok(format!(in alloc; "{first:?} {stopped:?} {kept:?} {silent:?} {gone:?}")?)
 }
 
-// Ticks of 2,000 ms, 10 of them to synchronise and 5 to serve.
-fn limit(alloc: Global, stage: Stage, least_timeout: Option<i32>) -> Result<String, Fail> {
-    Ok(format!(in alloc; "{:?}", silence_limit(stage, 2000, 10, 5, least_timeout))?)
+// With ticks of 2,000 ms, 10 of them to synchronise and 5 to serve: before LEADERINFO, before UPTODATE, without a
+// session, and with one of 8 s and of 3 s.
+fn limits(alloc: Global) -> Result<String, Fail> {
+    let serving = Stage::Serving;
+    let rows = [
+        (Stage::Greeting, None),
+        (Stage::Synchronising, None),
+        (serving, None),
+        (serving, Some(8000)),
+        (serving, Some(3000)),
+    ];
+    let mut text = String::new(alloc);
+    for (stage, least_timeout) in &rows {
+        let limit = silence_limit(*stage, 2000, 10, 5, *least_timeout).unwrap_or(0);
+        text.push_str(format!(in alloc; "{limit} ")?.as_str())?;
+    }
+    Ok(text)
 }
 
 // Of a tree of a million nodes, for which 256 MB are to come; then of one that grew tenfold.
@@ -68,6 +82,14 @@ fn checkpoints(alloc: Global) -> Result<String, Fail> {
     let again = plan.judge(6300, 1_000_000);
     let long = plan.judge(6300, 10_000_000);
     Ok(format!(in alloc; "{small:?} {first:?} {soon:?} {again:?} {long:?}")?)
+}
+
+// Of a leader that just ended, of an old one, and of one that cut too far.
+fn verdicts(alloc: Global) -> Result<String, Fail> {
+    let ended = Verdict::after(None);
+    let old = Verdict::after(Some(Fault::EpochTooSmall));
+    let cut = Verdict::after(Some(Fault::CannotTruncate));
+    Ok(format!(in alloc; "{ended:?} {old:?} {cut:?}")?)
 }
 
 #[test]
@@ -93,21 +115,8 @@ fn silences(rt: HostRuntime) -> Result<(), Fail> {
 
 #[test]
 fn limits_of_silence(rt: HostRuntime) -> Result<(), Fail> {
-    let alloc = rt.alloc();
-    assert_eq!(rt; limit(alloc, Stage::Greeting, None)?.as_str(), "Some(3000)");
-    assert_eq!(rt;
-        limit(alloc, Stage::Synchronising, None)?.as_str(),
-        "Some(20000)"
-    );
-    assert_eq!(rt; limit(alloc, Stage::Serving, None)?.as_str(), "Some(10000)");
-    assert_eq!(rt;
-        limit(alloc, Stage::Serving, Some(8000))?.as_str(),
-        "Some(6000)"
-    );
-    assert_eq!(rt;
-        limit(alloc, Stage::Serving, Some(3000))?.as_str(),
-        "Some(3000)"
-    );
+    let text = limits(rt.alloc())?;
+    assert_eq!(rt; text.as_str(), "3000 20000 10000 6000 3000 ");
     Ok(())
 }
 
@@ -123,11 +132,7 @@ fn checkpoints_by_bytes(rt: HostRuntime) -> Result<(), Fail> {
 
 #[test]
 fn ends(rt: HostRuntime) -> Result<(), Fail> {
-    assert_eq!(rt; Verdict::after(None), Verdict::SameEngine);
-    assert_eq!(rt; Verdict::after(Some(Fault::EpochTooSmall)), Verdict::Pause);
-    assert_eq!(rt;
-        Verdict::after(Some(Fault::CannotTruncate)),
-        Verdict::NewProcess
-    );
+    let text = verdicts(rt.alloc())?;
+    assert_eq!(rt; text.as_str(), "SameEngine Pause NewProcess");
     Ok(())
 }
