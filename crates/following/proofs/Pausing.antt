@@ -6,9 +6,9 @@ use Rattle.std.proofs.lemmas.List.Sums.{sum_by-cons}
 use Rattle.std.proofs.lemmas.Bool.Decides.{nat_tests}
 use Rattle.following.specs.declared.finding.Outcome.{Outcome}
 use Rattle.following.specs.declared.finding.Outcome.TheVariants.{NotLeading, Ended, Silent, Refused}
-use Rattle.following.specs.Finding.{LeaderSearch, IsSearch, least_pause, longest_pause, refusal_limit, long_service, longer_pause, with_jitter, after_outcome, after_try, after_failure, after_refusal, after_service, following_server}
+use Rattle.following.specs.Finding.{LeaderSearch, IsSearch, least_pause, longest_pause, refusal_limit, long_service, longer_pause, with_jitter, after_outcome, after_try, after_failure, after_refusal, after_service, following_server, service_of}
 use Rattle.following.proofs.Rounds.{tried_count}
-use Rattle.following.specs.Searches.{search_after, pause_before, pauses_after, IsVain, EndsInVain, PausesAreBounded, RoundsInVainPause, RoundsInVainGrow, ServedGoesOnAtOnce, JitterIsATenth}
+use Rattle.following.specs.Searches.{search_after, pause_before, pauses_after, IsVain, EndsInVain, PausesAreBounded, RoundsInVainPause, RoundsInVainGrow, ServedGoesOn, JitterIsATenth}
 
 pub jitter_is_a_tenth : JitterIsATenth
 jitter_is_a_tenth pause id h =
@@ -73,12 +73,16 @@ served_keeps search served is =
       id = is.id;
       within = is.within;
       unfinished = omega arith;
-      pause = omega arith;
+      pause = pause (leb long_service served);
       short = short (leb long_service served);
       long = long (leb long_service served);
       refusals = omega arith;
     }
   where
+    pause : (b : Bool) → cond b 0 least_pause ≤ longest_pause
+    pause true = omega arith
+    pause false = omega arith
+
     short : (b : Bool) → least_pause ≤ cond b least_pause search.round_pause
     short true = omega arith
     short false = is.short
@@ -252,24 +256,55 @@ rounds_in_vain_grow search (outcome ∷ outcomes) is fresh n vain = rest_grows s
 
 -- ---- served
 
-abbrev NoPause : LeaderSearch → Type 0
-NoPause search = with_jitter search.pause search.server_id ≡ 0
+abbrev HasPause : ℕ → LeaderSearch → Type 0
+HasPause pause search = with_jitter search.pause search.server_id ≡ pause
 
-at_once : (search : LeaderSearch) (served : ℕ) → 0 < served
-    → NoPause (cond (eqb served 0) (after_failure search) (after_service search served))
-at_once search served h =
+served_on : (search : LeaderSearch) (served pause : ℕ) → 0 < served → HasPause pause (after_service search served)
+    → HasPause pause (cond (eqb served 0) (after_failure search) (after_service search served))
+served_on search served pause some h =
     subst
-    (λ (b : Bool). NoPause (cond b (after_failure search) (after_service search served)))
-    (sym (more-neqb served h)) none
+    (λ (b : Bool). HasPause pause (cond b (after_failure search) (after_service search served)))
+    (sym (more-neqb served some)) h
   where
     more-neqb : (n : ℕ) → 0 < n → eqb n 0 ≡ false
     more-neqb n h = grind (arith, nat_tests)
 
+long_on : (search : LeaderSearch) (served : ℕ) → long_service ≤ served → HasPause 0 (after_service search served)
+long_on search served h =
+    subst (λ (b : Bool). with_jitter (cond b 0 least_pause) search.server_id ≡ 0) (sym (long served h)) none
+  where
+    long : (n : ℕ) → long_service ≤ n → leb long_service n ≡ true
+    long n h = grind (arith, nat_tests)
+
     none : 0 + 0 * search.server_id / 2550 ≡ 0
     none = rw zero-mul refl
 
-pub served_goes_on_at_once : ServedGoesOnAtOnce
-served_goes_on_at_once search server NotLeading h = absurd (omega arith)
-served_goes_on_at_once search server (Ended served) h = at_once search served h
-served_goes_on_at_once search server (Silent served) h = at_once search served h
-served_goes_on_at_once search server Refused h = absurd (omega arith)
+brief_on : (search : LeaderSearch) (served : ℕ) → served < long_service
+    → HasPause (with_jitter least_pause search.server_id) (after_service search served)
+brief_on search served h =
+    subst
+    (λ (b : Bool). with_jitter (cond b 0 least_pause) search.server_id ≡ with_jitter least_pause search.server_id)
+    (sym (brief served h)) refl
+  where
+    brief : (n : ℕ) → n < long_service → leb long_service n ≡ false
+    brief n h = grind (arith, nat_tests)
+
+pub served_goes_on : ServedGoesOn
+served_goes_on = record { long = long; brief = brief }
+  where
+    long : (search : LeaderSearch) (server : ℕ) (outcome : Outcome) → long_service ≤ service_of outcome
+        → pause_before (after_outcome search server outcome) ≡ 0
+    long search server NotLeading h = absurd (omega arith)
+    long search server (Ended served) h = served_on search served 0 (omega arith) (long_on search served h)
+    long search server (Silent served) h = served_on search served 0 (omega arith) (long_on search served h)
+    long search server Refused h = absurd (omega arith)
+
+    brief : (search : LeaderSearch) (server : ℕ) (outcome : Outcome) → 0 < service_of outcome
+        → service_of outcome < long_service
+        → pause_before (after_outcome search server outcome) ≡ with_jitter least_pause search.server_id
+    brief search server NotLeading some h = absurd (omega arith)
+    brief search server (Ended served) some h =
+        served_on search served (with_jitter least_pause search.server_id) some (brief_on search served h)
+    brief search server (Silent served) some h =
+        served_on search served (with_jitter least_pause search.server_id) some (brief_on search served h)
+    brief search server Refused some h = absurd (omega arith)

@@ -4,7 +4,7 @@ use Rattle.std.proofs.lemmas.Bool.{lt-leb, ltb-false}
 use Rattle.std.proofs.Math.Nat.{lt-mul-div-succ, mul-le-mul_left}
 use Rattle.following.specs.declared.checkpoints.Due.{Due}
 use Rattle.following.specs.declared.checkpoints.Due.TheVariants.{NotYet, Now, TooLong}
-use Rattle.following.specs.Checkpoints.{CheckpointPlan, after_receiving, after_taking, due_at, has_grown, is_rested, expected_pause, longest_checkpoint}
+use Rattle.following.specs.Checkpoints.{CheckpointPlan, after_receiving, after_taking, due_at, has_grown, is_rested, expected_pause, longest_checkpoint, many_nodes}
 use Rattle.following.specs.Plans.{plan_after, NoneIsDueAgainAtOnce, NoneIsDueAtNone, DueIsShort}
 
 -- The answer by its tests.
@@ -53,7 +53,7 @@ due_now-short false true true expected h = ltb-false longest_checkpoint expected
 pub due_is_short : DueIsShort
 due_is_short plan now nodes fits h =
     let long : ℕ = plan.pause * nodes in
-    let divisor : ℕ = max plan.nodes 1 in
+    let divisor : ℕ = max plan.nodes many_nodes in
     let expected : expected_pause plan nodes ≤ longest_checkpoint =
     due_now-short (eqb plan.least_mebibytes 0) (has_grown plan nodes) (is_rested plan now) (expected_pause plan nodes) h in
     let whole : min long (2 ^ 64 - 1) ≡ long = omega arith in

@@ -34,9 +34,13 @@ has_grown plan nodes = nat_lt (max (plan.least_mebibytes * 2 ^ 20) (nodes * 256)
 abbrev pub is_rested : CheckpointPlan → ℕ → Bool
 is_rested plan now = nat_le (10 * plan.pause) (now - plan.taken)
 
+-- A smaller tree's pause is mostly the log's drop, and says nothing of a larger tree.
+abbrev pub many_nodes : ℕ
+many_nodes = 1000000
+
 -- As long a pause for each node as the last one; numbers of 64 bits end at the greatest.
 abbrev pub expected_pause : CheckpointPlan → ℕ → ℕ
-expected_pause plan nodes = min (plan.pause * nodes) (2 ^ 64 - 1) / max plan.nodes 1
+expected_pause plan nodes = min (plan.pause * nodes) (2 ^ 64 - 1) / max plan.nodes many_nodes
 
 abbrev pub longest_checkpoint : ℕ
 longest_checkpoint = 2500

@@ -5,13 +5,12 @@ use Rattle.values.specs.declared.fault.Fault.TheVariants.{Short, BadLength, BadT
 use Rattle.following.specs.declared.ends.Verdict.{Verdict}
 use Rattle.following.specs.declared.ends.Verdict.TheVariants.{SameEngine, Pause, NewProcess}
 
--- An engine that read nothing wrong goes on, and so does one that met an end inside a packet (F1). An image that
--- contradicts itself (F10) and an old epoch (F11) are that server's fault, so another one is tried after a pause. What
--- can't be read (F2 to F8, F12) would come again, and what was cut too far (F9) can't be: only an empty engine is sent
--- an image in place of them.
+-- An engine that read nothing wrong goes on. An image that contradicts itself (F10) and an old epoch (F11) are that
+-- server's fault, so another one is tried after a pause. What can't be read (F1 to F8, F12) would come again, and what
+-- was cut too far (F9) can't be: only an empty engine is sent an image in place of them.
 abbrev pub verdict_after : Option Fault → Verdict
 verdict_after None = SameEngine
-verdict_after (Some Short) = SameEngine
+verdict_after (Some Short) = NewProcess
 verdict_after (Some BadLength) = NewProcess
 verdict_after (Some BadText) = NewProcess
 verdict_after (Some BadPath) = NewProcess

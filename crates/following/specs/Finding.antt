@@ -94,10 +94,15 @@ abbrev pub after_refusal : LeaderSearch → LeaderSearch
 after_refusal search =
     record (after_failure search) { pause = search.round_pause; refusals = min (search.refusals + 1) refusal_limit }
 
+-- A leader that was lost after it served for long is followed by the next try at once; one that hardly served, by the
+-- least pause, so that one that ends again and again isn't tried in haste.
+abbrev pub pause_after_service : ℕ → ℕ
+pause_after_service served = if nat_le long_service served then 0 else least_pause
+
 abbrev pub after_service : LeaderSearch → ℕ → LeaderSearch
 after_service search served =
     record search {
-      pause = 0;
+      pause = pause_after_service served;
       failed = 0;
       round_pause = (if nat_le long_service served then least_pause else search.round_pause);
       refusals = 0;
@@ -115,7 +120,7 @@ after_try search Refused = after_refusal search
 after_try search outcome =
     if service_of outcome == 0 then after_failure search else after_service search (service_of outcome)
 
--- The next try is at the server behind the one that was tried.
+-- The next try is at the server after the one that was tried.
 abbrev pub after_outcome : LeaderSearch → ℕ → Outcome → LeaderSearch
 after_outcome search server outcome =
     record (after_try search outcome) { next = following_server search.count server }

@@ -1,7 +1,7 @@
 -- What holds of each plan of checkpoints.
 use Rattle.std.specs.Prelude.{◌≡◌, ℕ, ◌<◌, ◌≤◌, ◌+◌, ◌*◌, ◌^◌, max, List, [], ◌∷◌}
 use Rattle.following.specs.declared.checkpoints.Due.TheVariants.{NotYet, Now}
-use Rattle.following.specs.Checkpoints.{CheckpointPlan, after_receiving, after_taking, due_at}
+use Rattle.following.specs.Checkpoints.{CheckpointPlan, after_receiving, after_taking, due_at, many_nodes}
 
 -- So many bytes came, one after another.
 abbrev pub plan_after : CheckpointPlan → List ℕ → CheckpointPlan
@@ -20,8 +20,9 @@ abbrev pub NoneIsDueAtNone : Type 0
 NoneIsDueAtNone =
     (plan : CheckpointPlan) (now nodes : ℕ) → plan.least_mebibytes ≡ 0 → due_at plan now nodes ≡ NotYet
 
--- At one that is due the engine pauses for 2,500 ms at most, if each node takes it as long as the last time.
+-- At one that is due the engine pauses for 2,500 ms at most, if each node takes it as long as the last time, at which
+-- there were a million at least.
 abbrev pub DueIsShort : Type 0
 DueIsShort =
     (plan : CheckpointPlan) (now nodes : ℕ) → plan.pause * nodes < 2 ^ 64 → due_at plan now nodes ≡ Now
-    → plan.pause * nodes < 2501 * max plan.nodes 1
+    → plan.pause * nodes < 2501 * max plan.nodes many_nodes

@@ -3,7 +3,7 @@ use Rattle.std.specs.Prelude.{◌≡◌, ℕ, ◌<◌, ◌≤◌, ◌+◌, ◌*�
 use Rattle.std.specs.List.{range_with_len, AllByRecursion}
 use Rattle.following.specs.declared.finding.Outcome.{Outcome}
 use Rattle.following.specs.declared.finding.Outcome.TheVariants.{NotLeading, Ended, Silent, Refused}
-use Rattle.following.specs.Finding.{LeaderSearch, IsSearch, least_pause, longest_pause, refusal_limit, with_jitter, longer_pause, first_search, candidate_of, after_outcome, service_of, is_hopeless}
+use Rattle.following.specs.Finding.{LeaderSearch, IsSearch, least_pause, longest_pause, long_service, refusal_limit, with_jitter, longer_pause, first_search, candidate_of, after_outcome, service_of, is_hopeless}
 
 abbrev pub search_after : LeaderSearch → List Outcome → LeaderSearch
 search_after search [] = search
@@ -82,13 +82,16 @@ PausesAreWorked =
     ≡ 100 ∷ 150 ∷ 225 ∷ 337 ∷ 505 ∷ 757 ∷ 1135 ∷ 1702 ∷ 2000 ∷ 2000 ∷ [])
     × (pauses_after (first_search 1 1)
     (NotLeading ∷ NotLeading ∷ Ended 9999 ∷ NotLeading ∷ Silent 10000 ∷ NotLeading ∷ [])
-    ≡ 100 ∷ 150 ∷ 0 ∷ 225 ∷ 0 ∷ 100 ∷ [])
+    ≡ 100 ∷ 150 ∷ 100 ∷ 225 ∷ 0 ∷ 100 ∷ [])
 
--- After a leader that was served the search goes on at once.
-abbrev pub ServedGoesOnAtOnce : Type 0
-ServedGoesOnAtOnce =
-    (search : LeaderSearch) (server : ℕ) (outcome : Outcome) → 0 < service_of outcome
-    → pause_before (after_outcome search server outcome) ≡ 0
+-- After a leader that served clients for long the search goes on at once, and after one that hardly did, after the
+-- least pause.
+pub record ServedGoesOn : Type 0 where
+  pub long : (search : LeaderSearch) (server : ℕ) (outcome : Outcome) → long_service ≤ service_of outcome
+      → pause_before (after_outcome search server outcome) ≡ 0
+  pub brief : (search : LeaderSearch) (server : ℕ) (outcome : Outcome) → 0 < service_of outcome
+      → service_of outcome < long_service
+      → pause_before (after_outcome search server outcome) ≡ with_jitter least_pause search.server_id
 
 -- A pause and the part that is a server's own: up to a tenth, and more for a greater id.
 abbrev pub JitterIsATenth : Type 0

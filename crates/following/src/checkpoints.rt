@@ -11,6 +11,9 @@ const BYTES_A_NODE: u64 = 256;
 
 const LONGEST_PAUSE: u64 = 2500;
 
+// A smaller tree's pause is mostly the log's drop, and says nothing of a larger tree.
+const MANY_NODES: u64 = 1_000_000;
+
 /// Whether a checkpoint is due.
 #[derive(Clone, Copy, Debug, PartialEq, Eq)]
 pub enum Due {
@@ -121,6 +124,6 @@ impl Checkpoints {
     fn expected_pause(&self, nodes: u64) -> u64
         ensures { result ≡ expected_pause self.now nodes }
     {
-        self.pause.saturating_mul(nodes) / self.nodes.max(1)
+        self.pause.saturating_mul(nodes) / self.nodes.max(MANY_NODES)
     }
 }

@@ -17,13 +17,13 @@ pub enum Verdict {
 }
 
 impl Verdict {
-    /// What the end of a leader means: of one that ended or fell silent, without a fault, or of one whose bytes were
-    /// refused with this fault.
+    /// What the end of a leader means: of one that ended, also inside a packet, or fell silent, without a fault; or of
+    /// one whose bytes were refused with this fault.
     pub fn after(fault: Option<Fault>) -> Verdict
         ensures { result ≡ verdict_after fault }
     {
         match fault {
-            None | Some(Fault::Short) => Verdict::SameEngine,
+            None => Verdict::SameEngine,
             Some(Fault::BadImage | Fault::EpochTooSmall) => Verdict::Pause,
             Some(_) => Verdict::NewProcess,
         }

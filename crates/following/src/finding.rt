@@ -177,10 +177,11 @@ impl Finding {
     fn serve(&mut self, served: u64)
         ensures { self.new ≡ after_service self.old served }
     {
-        self.pause = 0;
+        self.pause = LEAST_PAUSE;
         self.failed = 0;
         self.refusals = 0;
         if served >= LONG_SERVICE {
+            self.pause = 0;
             self.round_pause = LEAST_PAUSE;
         }
     }
