@@ -7,7 +7,7 @@ use serve_failures::{Failure, Server, Step};
 use serve_options::{Address, Command, Options, Servers, VERSION_LINES, command_of, help};
 use std::alloc::Global;
 use std::net::{Net, TcpStream, ToSocketAddrs};
-use std::rt::Files;
+use std::rt::{Env, Files};
 use std::sync::Wait;
 use std::thread::Threads;
 use std::time::Clock;
@@ -62,6 +62,7 @@ fn run<
         + Net<Stream = TcpStream, Listener = net::TcpListener>
         + Clock
         + Files
+        + Env
         + Print
         + Eprint
         + Copy
@@ -86,6 +87,7 @@ fn obey<
         + Net<Stream = TcpStream, Listener = net::TcpListener>
         + Clock
         + Files
+        + Env
         + Print
         + Eprint
         + Copy
@@ -114,6 +116,7 @@ pub fn serve<
         + Net<Stream = TcpStream, Listener = net::TcpListener>
         + Clock
         + Files
+        + Env
         + Print
         + Eprint
         + Copy

@@ -6,7 +6,6 @@ mod command;
 mod connections;
 mod finder;
 mod hub;
-mod journal;
 mod leading;
 mod log_keeping;
 mod record;

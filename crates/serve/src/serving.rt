@@ -3,7 +3,6 @@
 use crate::accept::{Accepting, Acceptor, Door, accept_all, open_door};
 use crate::finder::{Finder, FinderBell, find_all};
 use crate::hub::Hub;
-use crate::journal::Journal;
 use crate::leading::{Leading, Source};
 use crate::log_keeping::LogKeeper;
 use crate::record::Record;
@@ -13,18 +12,19 @@ use crate::stopwatch::Stopwatch;
 use batcher::SpreadThreshold;
 use following::Finding;
 use intake::Desk;
-use log::sink::Console;
-use log::{LevelFilter, Log, Logged};
+use log::Log;
 use mio::net::TcpListener;
 use observer_core::{Config, Settings};
 use rtrb::RingBuffer;
 use serve_failures::{Failure, Server, Step, servers_of};
+use serve_journal::Journal;
+use serve_log::{has_journal, logger};
 use serve_options::{Address, Options, Servers};
 use settings::{Epochs, FirstCounter, Secret, TimeoutBounds};
 use std::alloc::Global;
 use std::io::Write;
 use std::net::{Net, TcpStream};
-use std::rt::Files;
+use std::rt::{Env, Files};
 use std::sync::{Arc, Wait};
 use std::thread::{JoinHandle, Threads};
 use std::time::{Clock, Duration, SystemTime};
@@ -61,11 +61,6 @@ fn config_of(alloc: Global, options: &Options<'_>, first_counter: FirstCounter) 
         first_counter,
     };
     Config::from_settings(settings, options.limits).with_threshold(WORTH_THREADS)
-}
-
-/// A logger to standard error, or one that drops everything.
-pub fn logger<R: Eprint + Copy>(rt: &R, most: LevelFilter) -> Logged<R, Console<R>> {
-    Logged::new(*rt, most, Console(*rt))
 }
 
 // The file for the record, if there is one.
@@ -276,6 +271,7 @@ pub fn try_serve_on<
         + Net<Stream = TcpStream, Listener = net::TcpListener>
         + Clock
         + Files
+        + Env
         + Eprint
         + Copy
         + Send
@@ -292,7 +288,9 @@ pub fn try_serve_on<
     let file = record_file(rt, alloc, options.record)?;
     let mut record = Record::new(alloc, file);
     record.begin(options.server_id, first_counter.number());
-    let journal = Journal::new(alloc, logger(rt, options.log));
+    let log = logger(rt, options.log, options.log_format, !has_journal(rt));
+    let journal = Journal::new(alloc, log);
+    journal.started(options, listener.local_addr()?.port());
     let config = config_of(alloc, options, first_counter);
     serve_with(
         rt, alloc, options, config, origin, listener, journal, record,
@@ -308,6 +306,7 @@ pub fn serve_on<
         + Net<Stream = TcpStream, Listener = net::TcpListener>
         + Clock
         + Files
+        + Env
         + Eprint
         + Copy
         + Send
