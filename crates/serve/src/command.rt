@@ -4,7 +4,6 @@ use crate::serving::{Origin, try_serve_on};
 use following::Finding;
 use mio::net::TcpListener;
 use serve_failures::{Failure, Server, Step};
-use serve_log::has_journal;
 use serve_options::{Address, Command, Options, Servers, VERSION_LINES, command_of, help};
 use std::alloc::Global;
 use std::net::{Net, TcpStream, ToSocketAddrs};
@@ -78,9 +77,7 @@ fn run<
     };
     let port = listener.local_addr()?.port();
     println!(rt; "serving {port}")?;
-    // Where the journal of the system reads the log, it puts the time in front.
-    let has_time = !has_journal(rt);
-    try_serve_on(rt, alloc, options, origin, listener, has_time)
+    try_serve_on(rt, alloc, options, origin, listener)
 }
 
 // Prints what a command asks for, or serves.

@@ -2,7 +2,6 @@
 
 use crate::accept::Door;
 use crate::connections::{Client, Handed, start_client};
-use crate::journal::Journal;
 use crate::leading::Leading;
 use crate::log_keeping::LogKeeper;
 use crate::record::Record;
@@ -14,6 +13,7 @@ use log::Log;
 use mio::net::TcpStream;
 use rtrb::Consumer;
 use serve_failures::Failure;
+use serve_journal::Journal;
 use std::alloc::Global;
 use std::collections::BTreeMap;
 use std::collections::btree_map::Entry;
@@ -230,6 +230,8 @@ impl<L: Log, W: Write + Drop> Hub<L, W> {
                 break;
             }
             let by_log = self.look_at_log();
+            self.journal
+                .connections_refused(self.door.refused(), self.clock.last());
             if !found && took == 0 {
                 self.wait(rt, by_leader.min(by_log));
             }

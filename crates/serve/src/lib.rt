@@ -5,7 +5,6 @@ mod accept;
 mod command;
 mod connections;
 mod hub;
-mod journal;
 mod leading;
 mod log_keeping;
 mod record;

@@ -2,7 +2,6 @@
 
 use crate::accept::{Accepting, Acceptor, Door, accept_all, open_door};
 use crate::hub::Hub;
-use crate::journal::Journal;
 use crate::leading::{Leading, Source};
 use crate::log_keeping::LogKeeper;
 use crate::record::Record;
@@ -16,13 +15,14 @@ use log::Log;
 use mio::net::TcpListener;
 use observer_core::{Config, Settings};
 use serve_failures::{Failure, Step, servers_of};
-use serve_log::logger;
+use serve_journal::Journal;
+use serve_log::{has_journal, logger};
 use serve_options::{Address, Options, Servers};
 use settings::{Epochs, FirstCounter, Secret, TimeoutBounds};
 use std::alloc::Global;
 use std::io::Write;
 use std::net::{Net, TcpStream};
-use std::rt::Files;
+use std::rt::{Env, Files};
 use std::sync::{Arc, Wait};
 use std::thread::{JoinHandle, Threads};
 use std::time::{Clock, Duration, SystemTime};
@@ -241,13 +241,14 @@ fn serve_with<
     }
 }
 
-/// The same as `serve_on`, with the reason why it ended. `has_time` says whether a line of the log begins with the time.
+/// The same as `serve_on`, with the reason why it ended.
 pub fn try_serve_on<
     R: Threads
         + Wait
         + Net<Stream = TcpStream, Listener = net::TcpListener>
         + Clock
         + Files
+        + Env
         + Eprint
         + Copy
         + Send
@@ -259,14 +260,14 @@ pub fn try_serve_on<
     options: &Options<'_>,
     origin: Origin,
     listener: TcpListener,
-    has_time: bool,
 ) -> Result<(), Failure> {
     let first_counter = first_counter(rt, options)?;
     let file = record_file(rt, alloc, options.record)?;
     let mut record = Record::new(alloc, file);
     record.begin(options.server_id, first_counter.number());
-    let log = logger(rt, options.log, options.log_format, has_time);
+    let log = logger(rt, options.log, options.log_format, !has_journal(rt));
     let journal = Journal::new(alloc, log);
+    journal.started(options, listener.local_addr()?.port());
     let config = config_of(alloc, options, first_counter);
     serve_with(
         rt, alloc, options, config, origin, listener, journal, record,
@@ -282,13 +283,14 @@ pub fn serve_on<
         + Net<Stream = TcpStream, Listener = net::TcpListener>
         + Clock
         + Files
+        + Env
         + Eprint
         + Copy
         + Send
         + Sync
         + 'static,
 >(rt: &R, alloc: Global, options: &Options<'_>, leader: TcpStream, listener: TcpListener) -> u8 {
-    match try_serve_on(rt, alloc, options, Origin::Stream(leader), listener, true) {
+    match try_serve_on(rt, alloc, options, Origin::Stream(leader), listener) {
         Ok(()) => 0,
         Err(failure) => failure.status(),
     }

@@ -8,12 +8,24 @@ use crate::row::Bounds;
 use log::LevelFilter;
 use replay_script::number_up_to;
 use std::alloc::{AllocError, Global};
+use std::fmt;
 
 /// A host and a port.
 #[derive(Clone, Copy, Debug, PartialEq, Eq)]
 pub struct Address<'a> {
     pub host: &'a str,
     pub port: u16,
+}
+
+impl<'a> fmt::Display for Address<'a> {
+    fn fmt<W: fmt::Write>(&self, f: &mut fmt::Formatter<W>) -> fmt::Result {
+        let Address { host, port } = self;
+        if host.contains(":") {
+            write!(f, "[{host}]:{port}")
+        } else {
+            write!(f, "{host}:{port}")
+        }
+    }
 }
 
 /// How a line of the log is written.

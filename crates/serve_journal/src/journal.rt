@@ -1,57 +1,49 @@
 //! The log lines of a server, one for each event.
 
+use crate::greeting::Greeting;
+use crate::settings_line::SettingsLine;
 use intake::{Desk, Message};
 use learner_sync::{Learner, Phase};
 use log::{Log, debug, info, warn};
-use quorum_packet::{Item, PacketFeed, PacketKind};
-use serve_failures::{Failure, Reason, Server};
+use serve_failures::{Failure, Reason, Server, Tried, fault_hint};
+use serve_log::{Pace, Refusals};
+use serve_options::{Options, VERSION};
 use std::alloc::Global;
 use std::net::SocketAddr;
-use values::{Blob, Fault};
+use values::Fault;
 
 /// Writes what happens to the logger.
 #[derive(Drop)]
 pub struct Journal<L> {
-    alloc: Global,
     log: L,
     phase: Phase,
-    // Reads the leader's first packets, until the one that says how the observer is brought up to date.
-    greeting: Option<PacketFeed>,
-    synchronisation: &'static str,
+    greeting: Greeting,
     // The epoch of the leader that clients were last served with.
     served_epoch: Option<i32>,
-    // When it was last told that no leader is found, in milliseconds of the server's stopwatch.
-    searched: u64,
-}
-
-// Between two lines that no leader is found, in milliseconds.
-const BETWEEN_SEARCHES: u64 = 10_000;
-
-// The word for a packet that says how the observer is brought up to date.
-fn synchronisation(code: i32) -> Option<&'static str> {
-    match PacketKind::from_code(code)? {
-        PacketKind::Diff => Some("DIFF"),
-        PacketKind::Trunc => Some("TRUNC"),
-        PacketKind::Snap => Some("SNAP"),
-        _ => None,
-    }
+    searching: Pace,
+    refusals: Refusals,
 }
 
 impl<L: Log> Journal<L> {
     pub fn new(alloc: Global, log: L) -> Journal<L> {
         Journal {
-            alloc,
             log,
             phase: Phase::Down,
-            greeting: None,
-            synchronisation: "",
+            greeting: Greeting::new(alloc),
             served_epoch: None,
-            searched: 0,
+            searching: Pace::new(),
+            refusals: Refusals::new(),
         }
     }
 
-    pub fn log(&self) -> &L {
-        &self.log
+    /// The server has started, and listens for clients at this port.
+    pub fn started(&self, options: &Options<'_>, port: u16) {
+        let settings = SettingsLine { options, port };
+        info!(self.log; target: "start", "kezhundam {VERSION}, {settings}");
+        if options.default_id {
+            warn!(self.log; target: "start",
+                "no --id: this server has the id 1, and is counted as the server of the ensemble that has it");
+        }
     }
 
     /// A client's connection was accepted.
@@ -82,9 +74,10 @@ impl<L: Log> Journal<L> {
     pub fn serving(&mut self, learner: &Learner, without: u64) {
         let (_, epoch) = learner.epochs();
         let zxid = learner.last_zxid();
-        let word = self.synchronisation;
+        let word = self.greeting.word();
+        let bytes = self.greeting.bytes();
         info!(self.log; target: "leader",
-            "{word} in epoch {epoch}: serving from zxid {zxid:#x} on, after {without} ms without a leader");
+            "{word} in epoch {epoch}: serving from zxid {zxid:#x} on, after {bytes} bytes, and {without} ms without a leader");
         if self.served_epoch == Some(epoch) {
             warn!(self.log; target: "leader",
                 "the epoch is the same as before: a client that comes back with its session can read, and not write");
@@ -107,7 +100,9 @@ impl<L: Log> Journal<L> {
         match fault {
             Some(fault) => {
                 let number = fault.number();
-                warn!(self.log; target: "leader", "{server} closed: F{number} {fault}");
+                let word = fault.word();
+                let hint = fault_hint(fault);
+                warn!(self.log; target: "leader", "{server} closed: F{number} {word}: {hint}");
             }
             None if is_greeted => warn!(self.log; target: "leader", "{server} ended"),
             None => debug!(self.log; target: "leader", "{server} ended"),
@@ -116,12 +111,17 @@ impl<L: Log> Journal<L> {
 
     /// No leader is found yet: a line in ten seconds says why, server by server.
     pub fn no_leader(&mut self, servers: &[Server], reasons: &[Reason], now: u64) {
-        if now < self.searched.saturating_add(BETWEEN_SEARCHES) {
-            return;
+        if self.searching.is_due(now) {
+            let tried = Tried { servers, reasons };
+            warn!(self.log; target: "leader", "no leader among {tried}");
         }
-        self.searched = now;
-        for (server, reason) in servers.iter().zip(reasons) {
-            warn!(self.log; target: "leader", "no leader yet: {server} {reason}");
+    }
+
+    /// So many connections were refused since the start, for want of a place: a line in ten seconds says how many more
+    /// there were.
+    pub fn connections_refused(&mut self, all: u64, now: u64) {
+        if let Some(fresh) = self.refusals.report(all, now) {
+            warn!(self.log; target: "client", "{fresh} connections were closed at once: --max-clients");
         }
     }
 
@@ -143,39 +143,16 @@ impl<L: Log> Journal<L> {
         warn!(self.log; target: "hub", "a turn took {took} ms, for {events} messages");
     }
 
-    // Reads the leader's packets up to the one that says how the observer is brought up to date.
-    fn greet(&mut self, bytes: &Blob) {
-        let Some(mut feed) = self.greeting.take() else {
-            return;
-        };
-        if feed.feed(bytes.as_slice()).is_err() {
-            return;
-        }
-        for _ in 0..u64::MAX {
-            match feed.next(self.alloc) {
-                Ok(Some(Item::Packet(packet))) => {
-                    if let Some(word) = synchronisation(packet.kind) {
-                        self.synchronisation = word;
-                        return;
-                    }
-                }
-                Ok(Some(Item::Part(_))) | Err(_) => return,
-                Ok(None) => break,
-            }
-        }
-        self.greeting = Some(feed);
-    }
-
     fn message(&mut self, port: usize, message: &Message) {
         match message {
             Message::Up => {
                 if port == 0 {
-                    self.greeting = Some(PacketFeed::new(self.alloc));
+                    self.greeting.begin();
                 }
             }
             Message::Bytes(bytes) => {
                 if port == 0 {
-                    self.greet(bytes);
+                    self.greeting.take(bytes.as_slice());
                 }
             }
             Message::End => {
