@@ -94,7 +94,7 @@ module _ (laws : LowerLaws) where
     own = λ session. tt;
     counts = λ w none a. tt;
     gives = λ w session time_out free may a. tt;
-    asks = λ w session time_out has_byte none idle a. tt;
+    asks = λ w time_out has_byte none idle a b. tt;
     may = λ w session live. tt;
   }
 

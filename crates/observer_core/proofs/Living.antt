@@ -309,7 +309,7 @@ connects_live n = record {
       let x = give_session w.clients.sessions n session time_out in
       left_live (with_sessions w x.after) x.connected.older
       (λ m has e. given_live w session may live m has (given_fewer w.clients.sessions n session time_out m has e));
-  asks = λ w session time_out has_byte none idle a live. live;
+  asks = λ w time_out has_byte none idle a b live. live;
   may = λ w session live. live;
 }
   where

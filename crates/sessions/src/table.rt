@@ -2,9 +2,11 @@
 //!
 //! Laws that go over this: `Agreeing`, `Kept`, `NewIds`, `Others`.
 
-ghost use Rattle.std.specs.Prelude.{◌≡◌, ◌≤◌, OnErr, IfOk, IfNone, None, nat_lt, length};
+ghost use Rattle.std.specs.Prelude.{◌≡◌, ◌≤◌, ℤ, OnErr, IfOk, IfNone, None, nat_lt, length};
 ghost use Rattle.std.specs.Option.{option_copied};
-ghost use Rattle.std.specs.List.{All};
+ghost use Rattle.std.specs.List.{All, list_any};
+ghost use Rattle.std.specs.Ordering.{eq_by_cmp, int_cmp};
+ghost use Rattle.std.specs.Map.Iter.{ShowsInOrder, deref};
 ghost use Rattle.std.specs.FinMap as finmap;
 ghost use Rattle.jute.specs.Owned.{id_format};
 ghost use Rattle.sessions.specs.State.{session_settings_of};
@@ -18,6 +20,7 @@ use jute::Id;
 use session_map::SessionMap;
 use settings::{FirstCounter, Secret, ServerId, TimeoutBounds};
 use std::alloc::Global;
+use std::collections::btree_map::Keys;
 use std::marker::Model;
 use values::NoMemory;
 
@@ -157,6 +160,15 @@ impl Sessions {
         ensures agrees { SessionsAgree self.now }
     {
         self.owners.get(session)
+    }
+
+    /// The sessions that connections have here, each once, in ascending order of their ids.
+    pub fn connected(&self) -> Keys<'_, i64, u64>
+        ensures members { (session : ℤ) →
+            list_any (eq_by_cmp int_cmp session) result ≡ finmap.contains_key self.now.owners session }
+        ensures runs { ShowsInOrder (deref {X = ℤ}) }
+    {
+        self.owners.sessions()
     }
 
     /// The number of connections that have a session.
