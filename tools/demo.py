@@ -1,4 +1,4 @@
-"""`./observer demo`: a leader, the observer behind it and a client of the observer, each of which says what happens.
+"""`./observer demo`: a leader, the observer that follows it and a client of the observer, which say what happens.
 
 The leader and the client are examples/leader.py and examples/client.py. All three run on 127.0.0.1, on ports that the
 system picks. The leader goes after its last change, the observer ends when its leader goes, and the client ends after
@@ -69,7 +69,7 @@ def play(program, until, parts):
     """Starts the three, and waits for their ends. Returns the exit statuses that aren't 0, by their names."""
     changes = ("--changes", CHANGES, "--interval", INTERVAL, "--tick", TICK)
     parts.append(Part("leader", example("leader.py", "--port", 0, *changes)))
-    words = ["serve", "--leader", parts[0].port(until), "--client", "0", "--log"]
+    words = ["serve", "--leader", parts[0].port(until), "--client", "0", "--id", "1", "--counter", "0", "--log"]
     parts.append(Part("observer", program + words))
     port = parts[1].port(until)
     parts.append(Part("client", example("client.py", "--port", port, "--events", EVENTS)))

@@ -103,6 +103,7 @@ fn audit_script(alloc: Global, script: Script, path: &str) -> Result<Option<(i32
 {
     let Script {
         server_id,
+        first_counter,
         epochs,
         timeouts,
         secret,
@@ -115,6 +116,7 @@ fn audit_script(alloc: Global, script: Script, path: &str) -> Result<Option<(i32
         epochs,
         timeouts,
         secret,
+        first_counter,
     };
     let engine = engine_of(alloc, primed, settings, default_limits())?;
     feed(alloc, engine, events.as_slice(), path)

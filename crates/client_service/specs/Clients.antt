@@ -63,7 +63,8 @@ close_all_clients c = close_clients (finmap.keys c.connections) c
 abbrev pub no_clients : Settings → Clients
 no_clients settings = record {
   connections = finmap.empty;
-  sessions = no_sessions (session_settings_of settings.server_id settings.timeouts settings.secret);
+  sessions = no_sessions
+      (session_settings_of settings.server_id settings.timeouts settings.secret settings.first_counter);
   watches = no_watch;
   pending = nothing_pending;
 }

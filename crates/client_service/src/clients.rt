@@ -1,6 +1,7 @@
 //! The clients: open connections, sessions, watches, and requests that wait.
 //!
-//! Laws of `observer_core` that go over this: `Agreeing`, `Apart`, `Joined`, `Playing`, `Served`, `Taking`, `Unmoved`.
+//! Laws of `observer_core` that go over this: `Agreeing`, `Apart`, `GivenIds`, `Joined`, `Leaderless`, `Playing`,
+//! `Served`, `Taking`, `Unmoved`.
 
 ghost use Rattle.std.specs.Prelude.{◌≡◌, ◌∷◌, OnOk, IfSome, IfNone, IfOk};
 ghost use Rattle.std.specs.FinMap as finmap;
@@ -45,9 +46,16 @@ impl Clients {
         ensures { IfOk result (λ clients. clients ≡ no_clients settings.now) }
     {
         let secret = settings.secret.clone()?;
+        let sessions = Sessions::new(
+            alloc,
+            settings.server_id,
+            settings.timeouts,
+            secret,
+            settings.first_counter,
+        );
         Ok(Clients {
             connections: Connections::new(alloc),
-            sessions: Sessions::new(alloc, settings.server_id, settings.timeouts, secret),
+            sessions,
             watches: Watches::new(alloc),
             pending: Pending::new(alloc),
         })

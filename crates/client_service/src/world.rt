@@ -2,7 +2,7 @@
 
 use crate::clients::Clients;
 use replica::Replica;
-use settings::{Epochs, Secret, ServerId, TimeoutBounds};
+use settings::{Epochs, FirstCounter, Secret, ServerId, TimeoutBounds};
 use std::marker::Model;
 
 /// The settings of an observer: the part of its configuration that its answers depend on.
@@ -12,6 +12,7 @@ pub struct Settings {
     pub epochs: Epochs,
     pub timeouts: TimeoutBounds,
     pub secret: Secret,
+    pub first_counter: FirstCounter,
 }
 
 /// Everything but the state of the leader's stream.

@@ -4,6 +4,7 @@ use crate::incoming::{Cutting, Incoming};
 use crate::outgoing::Outgoing;
 use crate::waiting::LONGEST_REST;
 use intake::{Full, Message, Port, PortEnd};
+use observer_core::Output;
 use std::alloc::Global;
 use std::io::{ErrorKind, Read, Write};
 use std::sync::Wait;
@@ -14,8 +15,9 @@ use values::{Fault, NoMemory};
 /// How the leader's connection ended.
 #[derive(Drop)]
 pub struct LeaderGone {
-    pub end: PortEnd,
-    /// The fault for which the engine closed it, if it did.
+    /// The leader's port, by which the next leader may be followed.
+    pub port: Port,
+    /// The fault for which the engine refused its bytes, if it did. An end inside a packet is none.
     pub fault: Option<Fault>,
     /// Whether it ended because an allocation was refused.
     pub wants_memory: bool,
@@ -53,6 +55,8 @@ struct Session {
     unanswered: bool,
     // The stream brings no more.
     ended: bool,
+    // The fault for which the engine refused the last bytes of a connection that has ended.
+    late_fault: Option<Fault>,
     wants_memory: bool,
     // For how many milliseconds, about, there was nothing to do.
     rested: u64,
@@ -77,6 +81,7 @@ impl Session {
             untaken: false,
             unanswered: false,
             ended: false,
+            late_fault: None,
             wants_memory: false,
             rested: 0,
         }
@@ -242,11 +247,15 @@ impl Session {
         }
     }
 
-    // Takes the outputs for a connection that has ended, and drops them.
+    // Takes the outputs for a connection that has ended, and drops them. A leader may end right after bytes that are
+    // refused, so the fault is kept. An end inside a packet is none: it says only that the rest is missing.
     fn drop_outputs(&mut self) {
         for _ in 0..u64::MAX {
-            if self.port.receive().is_none() {
-                return;
+            match self.port.receive() {
+                None => return,
+                Some(Output::CloseLeader(Fault::Short)) => {}
+                Some(Output::CloseLeader(fault)) => self.late_fault = Some(fault),
+                Some(_) => {}
             }
         }
     }
@@ -285,15 +294,16 @@ impl Session {
             untaken: _,
             unanswered: _,
             ended: _,
+            late_fault,
             wants_memory,
             rested: _,
         } = self;
         drop(incoming);
         drop(held);
-        let fault = outgoing.fault();
+        let fault = outgoing.fault().or(late_fault);
         drop(outgoing);
         LeaderGone {
-            end: port.finish(),
+            port,
             fault,
             wants_memory,
         }
@@ -335,14 +345,14 @@ pub fn session_loop<T: Wait + Clock, R: Read + Drop, W: Write + Drop>(
     port: Port,
 ) -> PortEnd {
     let LeaderGone {
-        end,
+        port,
         fault: _,
         wants_memory: _,
     } = converse(rt, alloc, Cutting::Frames, reader, writer, port);
-    end
+    port.finish()
 }
 
-/// Follows the leader: like `session_loop`, but sends on whatever a read brings.
+/// Follows the leader: like `session_loop`, but sends on whatever a read brings, and gives the port back.
 pub fn leader_loop<T: Wait + Clock, R: Read + Drop, W: Write + Drop>(
     rt: &T,
     alloc: Global,

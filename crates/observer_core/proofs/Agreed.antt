@@ -1,15 +1,16 @@
 -- No event ends the agreement of the clients.
-use Rattle.std.proofs.Common.{◌≡◌, ℕ, Bool, List, Option, Some, None, refl, sym, ap, subst, ◌∙◌}
+use Rattle.std.proofs.Common.{◌≡◌, ℕ, ◌+◌, Bool, List, Option, Some, None, refl, sym, ap, subst, ◌∙◌}
 use Rattle.std.specs.Prelude.{is_some, IsTrue}
 use Rattle.std.specs.Ordering.{nat_cmp, int_cmp}
 use Rattle.std.specs.FinMap as finmap
 use Rattle.std.specs.FinSet as set
 use mathlib.Core.Bool.{true≢false}
-use Rattle.settings.specs.Settings.{is_server_id}
+use Rattle.settings.specs.Settings.{is_server_id, is_first_counter}
 use Rattle.quorum_packet.specs.declared.packet.QuorumPacket.{QuorumPacket}
 use Rattle.sessions.specs.State.{SessionTable as Sessions, session_settings_of}
 use Rattle.sessions.specs.Sessions.{give_session}
 use Rattle.sessions.specs.Agreement.{SessionsAreApart}
+use Rattle.sessions.proofs.Numbers.{first_not_last}
 use Rattle.forwarding.specs.declared.request.PendingConnect.{PendingConnect}
 use Rattle.forwarding.specs.Queue.{waiting_connect}
 use Rattle.forwarding.specs.Pending.{nothing_pending, queue_in, queue_of, settle_sync}
@@ -93,7 +94,7 @@ module _ (laws : LowerLaws) where
     own = λ session. tt;
     counts = λ w none a. tt;
     gives = λ w session time_out free may a. tt;
-    asks = λ w session time_out has_byte none idle a. tt;
+    asks = λ w time_out has_byte none idle a b. tt;
     may = λ w session live. tt;
   }
 
@@ -154,9 +155,11 @@ module _ (laws : LowerLaws) where
 
   -- ---- the start
 
-  nobody_agrees : (settings : Settings) → IsTrue (is_server_id settings.server_id) → ClientsAgree (no_clients settings)
-  nobody_agrees settings fits = record {
-    sessions = laws.kept.starts (session_settings_of settings.server_id settings.timeouts settings.secret) fits;
+  nobody_agrees : (settings : Settings) → IsTrue (is_server_id settings.server_id)
+      → IsTrue (is_first_counter settings.first_counter) → ClientsAgree (no_clients settings)
+  nobody_agrees settings fits begins = record {
+    sessions = laws.kept.starts
+        (session_settings_of settings.server_id settings.timeouts settings.secret settings.first_counter) fits begins;
     joined = λ n has. absurd (true≢false (sym has ∙ ap is_some (finmap.get-empty nat_cmp n)));
     watching = (none, none, none_lasting);
     pending = laws.queued.starts;
@@ -172,22 +175,22 @@ module _ (laws : LowerLaws) where
 
   -- The first connection opens, is named a session, and has it then.
   primed_agrees : (settings : Settings) → IsTrue (is_server_id settings.server_id)
-      → Agreeing (primed_machine settings).world
-  primed_agrees settings fits =
+      → IsTrue (is_first_counter settings.first_counter) → Agreeing (primed_machine settings).world
+  primed_agrees settings fits begins =
       let w = (primed_machine settings).world in
       let s = (no_clients settings).sessions in
       let session = primed_session settings in
       let longest = settings.timeouts.greatest in
       let v : World = record w { clients = with_connection 1 idle_connection (no_clients settings) } in
-      let u = with_sessions v (record s { counter = 1 }) in
+      let u = with_sessions v (record s { counter = settings.first_counter + 1 }) in
       subst (λ (o : Option ℕ). Agreeing (close_client_if_some
       (with_sessions u (give_session u.clients.sessions 1 session longest).after) o).after)
       (finmap.get-empty int_cmp session)
       (given_agrees laws 1 u session longest (finmap.get-empty nat_cmp 1)
       (ap (λ o. waiting_connect (queue_in o)) (finmap.get-empty nat_cmp 1))
       (ap is_some (get-inserted (no_clients settings).connections 1 idle_connection))
-      (counted_agrees laws 1 v (finmap.get-empty nat_cmp 1) refl
-      (opened_agrees 1 idle_connection (no_clients settings) (nobody_agrees settings fits))))
+      (counted_agrees laws 1 v (finmap.get-empty nat_cmp 1) (first_not_last settings.first_counter begins)
+      (opened_agrees 1 idle_connection (no_clients settings) (nobody_agrees settings fits begins))))
 
   pub connections_agree : SessionsAreApart → ConnectionsAgree
   connections_agree apart = record {

@@ -93,11 +93,11 @@ rows_hold again nobody rows = record {
   same_zxid_twice = λ settings. ap (λ (h : StepResult Machine). h.outputs) (create_twice again nobody settings)
       ∙ closed_passes settings;
   watch_on_missing = λ settings. ap (λ (h : StepResult Machine). h.outputs) (watch_told again nobody rows settings);
-  forwarded_create = create_answered again nobody;
-  failed_create = error_answered again nobody;
-  forwarded_sync = sync_answers;
-  new_session = session_is_created again nobody;
-  heard_session = first_is_told;
+  forwarded_create = λ settings three begins. create_answered again nobody settings (three, begins);
+  failed_create = λ settings three begins. error_answered again nobody settings (three, begins);
+  forwarded_sync = λ settings three begins. sync_answers settings (three, begins);
+  new_session = λ settings three begins. session_is_created again nobody settings (three, begins);
+  heard_session = λ settings three begins. first_is_told settings (three, begins);
   nothing = λ settings. refl;
   idle = λ settings. idle_is settings;
   ruok = λ settings. word_comes settings (codes "ruok");

@@ -34,7 +34,7 @@ use Rattle.observer_core.proofs.Taking.{none_or_some}
 -- ---- lists
 
 module _ {A : Type 0} (P : A → Type 0) where
-  all_joined : (xs ys : List A) → AllByRecursion P xs → AllByRecursion P ys → AllByRecursion P (xs ++ ys)
+  pub all_joined : (xs ys : List A) → AllByRecursion P xs → AllByRecursion P ys → AllByRecursion P (xs ++ ys)
   all_joined [] ys p q = q
   all_joined (x ∷ xs) ys p q = (p.0, all_joined xs ys p.1 q)
 

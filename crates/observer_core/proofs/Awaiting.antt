@@ -34,7 +34,7 @@ use Rattle.observer_core.specs.Leader.{tell_effect, answer_news}
 use Rattle.observer_core.specs.Play.{is_serving_clients}
 use Rattle.observer_core.specs.Agreement.{OnlyLeaderIsAwaited, NothingWaitsInVain}
 use Rattle.client_service.proofs.NatMaps.{same_key}
-use Rattle.observer_core.proofs.Walking.{Steps, HoldsOfReplies, HoldsOfCalls, HoldsOfConnects, client_makes}
+use Rattle.observer_core.proofs.Walking.{Steps, next_id, HoldsOfReplies, HoldsOfCalls, HoldsOfConnects, client_makes}
 use Rattle.observer_core.proofs.Answered.{unqueued, ready_makes, ended_makes, admit_makes}
 use Rattle.observer_core.proofs.Plain.{Always, plain_ground}
 use Rattle.observer_core.proofs.Events.{IsKept, plays_keep}
@@ -239,9 +239,9 @@ connects_await n = record {
       let c = give_session w.clients.sessions n session time_out in
       let v = with_sessions w c.after in
       less_awaits v (close_client_if_some v c.connected.older).after (left_less v c.connected.older) a;
-  asks = λ w session time_out has_byte none idle agrees a.
+  asks = λ w time_out has_byte none idle agrees counted a.
       pushed_awaits w.clients.pending n
-      (Connect (record { session = session; time_out = time_out; has_read_only = has_byte })) a (λ _. tt);
+      (Connect (record { session = next_id w; time_out = time_out; has_read_only = has_byte })) a (λ _. tt);
   may = λ w session live. tt;
 }
 

@@ -89,7 +89,7 @@ connects_stay n = record {
       let c = give_session w.clients.sessions n session time_out in
       let v = with_sessions w c.after in
       then_stay w v (close_client_if_some v c.connected.older).after (as_it_was w) (left_stay v c.connected.older);
-  asks = λ w session time_out has_byte none idle a. as_it_was w;
+  asks = λ w time_out has_byte none idle a b. as_it_was w;
   may = λ w session live. tt;
 }
 

@@ -65,7 +65,7 @@ pub record IsKept (P : World → Type 0) : Type 0 where
   pub checkpoints : (w : World) → P w → P (with_checkpoint w)
 
 module _ (P : World → Type 0) (k : IsKept P) where
-  deliver_keeps : (d : Delivery WorldAndLoading) (i : Item) → P d.left.world
+  pub deliver_keeps : (d : Delivery WorldAndLoading) (i : Item) → P d.left.world
       → P (deliver_item item_step d i).after.left.world
   deliver_keeps d i p = by (take_item d.left.loading d.left.world.replica i) refl
     where

@@ -1,5 +1,5 @@
 -- The worked rows of requests that are forwarded to the leader by a server 3, and answered by its stream.
-use Rattle.std.proofs.Common.{◌≡◌, ℕ, suc, List, [], ◌∷◌, ◌++◌, length, not, Option, Some, None, Result, Ok, true, false, cond, refl, sym, ap, ◌∙◌, arith, rules}
+use Rattle.std.proofs.Common.{◌≡◌, ℕ, ◌+◌, suc, List, [], ◌∷◌, ◌++◌, length, not, Option, Some, None, Result, Ok, true, false, cond, refl, sym, ap, ◌∙◌, arith, rules}
 use Rattle.std.specs.Prelude.{ℤ, pos, negsuc, codes, is_some}
 use Rattle.std.specs.FinMap as finmap
 use Rattle.std.specs.FinSet as set
@@ -74,11 +74,15 @@ use Rattle.observer_core.proofs.Rows.{ReadAgain, NobodyTold, path_is_text, world
 abbrev pub first_id : ℤ
 first_id = pos 216172782113783809
 
-pub id_is : (settings : Settings) → settings.server_id ≡ pos 3 → primed_session settings ≡ first_id
-unfolding session_id_of
-id_is settings three = ap (λ (n : ℤ). session_id_of n 1) three
+-- Those of server 3, whose session ids begin with the counter 1.
+abbrev pub IsThird : Settings → Type 0
+IsThird settings = (settings.server_id ≡ pos 3) × (settings.first_counter ≡ 0)
 
-connected : (settings : Settings) → settings.server_id ≡ pos 3
+pub id_is : (settings : Settings) → IsThird settings → primed_session settings ≡ first_id
+unfolding session_id_of
+id_is settings three = λ i. session_id_of (three.0 i) (three.1 i + 1)
+
+connected : (settings : Settings) → IsThird settings
     → connection_of (first_client settings).sessions first_id ≡ Some 1
 connected settings three =
     let owners : ℤ → SessionOwners = λ (id : ℤ). (close_if_some (nobody_yet settings)
@@ -103,7 +107,7 @@ once_heard settings = pending_at (heard settings set.empty)
 abbrev asking_leader : List ℕ → World → StepResult World
 asking_leader request w = record { outputs = ToLeader request ∷ []; after = w }
 
-forwarded_as : (settings : Settings) (frame request : List ℕ) (pending : PendingTable) → settings.server_id ≡ pos 3
+forwarded_as : (settings : Settings) (frame request : List ℕ) (pending : PendingTable) → IsThird settings
     → packet_format.written (request_of first_id frame []) ≡ request
     → forward_frame 1 (primed_session settings) (waiting_world settings (once_heard settings)) frame pending
     ≡ asking_leader request (waiting_world settings pending)
@@ -229,7 +233,7 @@ request_written = refl
 abbrev create_waits : Settings → PendingTable
 create_waits settings = push_write (once_heard settings) 1 (pos 4) writes.Create
 
-create_comes : (settings : Settings) → settings.server_id ≡ pos 3
+create_comes : (settings : Settings) → IsThird settings
     → play_event (primed_machine settings) (ClientBytes 1 framed_create)
     ≡ record { outputs = ToLeader request_of_create ∷ []; after = waiting_machine settings (create_waits settings) }
 create_comes settings three =
@@ -252,7 +256,7 @@ abbrev replying : List ℕ → World → StepResult World
 replying reply w = record { outputs = ToClient 1 reply ∷ []; after = w }
 
 -- A transaction of the create answers it.
-module _ (settings : Settings) (three : settings.server_id ≡ pos 3) (operation : Operation) (reply : List ℕ) where
+module _ (settings : Settings) (three : IsThird settings) (operation : Operation) (reply : List ℕ) where
   abbrev t : Txn
   t = record { header = header; body = bodies.Single operation }
 
@@ -307,7 +311,7 @@ error_replied : reply_frame (pos 4) (pos 4294967297) (without_body (negsuc 109))
 unfolding reply_header number_bytes
 error_replied = refl
 
-pub create_answered : (again : ReadAgain) (nobody : NobodyTold) (settings : Settings) → settings.server_id ≡ pos 3
+pub create_answered : (again : ReadAgain) (nobody : NobodyTold) (settings : Settings) → IsThird settings
     → (play (primed_machine settings) (ClientBytes 1 framed_create ∷ LeaderBytes inform_of_forwarded ∷ [])).outputs
     ≡ ToLeader request_of_create ∷ ToClient 1 reply_of_forwarded ∷ []
 create_answered again nobody settings three =
@@ -323,7 +327,7 @@ create_answered again nobody settings three =
     (ap (λ (e : ℤ). reply_frame (pos 4) (pos 4294967297) (write_look tree writes.Create create_txn.body e))
     (create_error settings) ∙ create_replied)))
 
-pub error_answered : (again : ReadAgain) (nobody : NobodyTold) (settings : Settings) → settings.server_id ≡ pos 3
+pub error_answered : (again : ReadAgain) (nobody : NobodyTold) (settings : Settings) → IsThird settings
     → (play (primed_machine settings) (ClientBytes 1 framed_create ∷ LeaderBytes inform_of_error ∷ [])).outputs
     ≡ ToLeader request_of_create ∷ ToClient 1 reply_of_error ∷ []
 error_answered again nobody settings three =
@@ -373,7 +377,7 @@ sync_written = refl
 abbrev sync_waits : Settings → PendingTable
 sync_waits settings = push_sync (once_heard settings) 1 (pos 5) (codes "/a")
 
-sync_comes : (settings : Settings) → settings.server_id ≡ pos 3
+sync_comes : (settings : Settings) → IsThird settings
     → play_event (primed_machine settings) (ClientBytes 1 sync_frame)
     ≡ (record { outputs = ToLeader request_of_sync ∷ []; after = waiting_machine settings (sync_waits settings) })
 sync_comes settings three =
@@ -444,7 +448,7 @@ module _ (settings : Settings) where
           settled_front
           ∙ ap queue_in (get-removed (after_sync settled).queues 1)
 
-pub sync_answers : (settings : Settings) → settings.server_id ≡ pos 3
+pub sync_answers : (settings : Settings) → IsThird settings
     → (play (primed_machine settings) (ClientBytes 1 sync_frame ∷ LeaderBytes sync_packet ∷ [])).outputs
     ≡ ToLeader request_of_sync ∷ ToClient 1 reply_of_sync ∷ []
 sync_answers settings three =

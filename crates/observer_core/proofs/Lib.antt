@@ -23,10 +23,13 @@ pub mod Events
 pub mod Agreed
 pub mod Taking
 pub mod Words
+pub mod Least
 pub mod Joined
 pub mod Apart
 pub mod Asking
 pub mod Served
+pub mod Leaderless
+pub mod GivenIds
 pub mod Living
 pub mod Awaiting
 pub mod Reaching

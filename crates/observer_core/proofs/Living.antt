@@ -1,5 +1,5 @@
 -- The session of each connection lives, after every event.
-use Rattle.std.proofs.Common.{◌≡◌, ◌≢◌, ◌⊎◌, inl, inr, ℕ, ℤ, Bool, true, false, cond, List, [], ◌∷◌, ◌++◌, length, Option, Some, None, Result, Ok, Err, refl, sym, ap, subst, ◌∙◌}
+use Rattle.std.proofs.Common.{◌≡◌, ◌≢◌, ◌⊎◌, inl, inr, ℕ, ◌+◌, ℤ, Bool, true, false, cond, List, [], ◌∷◌, ◌++◌, length, Option, Some, None, Result, Ok, Err, refl, sym, ap, subst, ◌∙◌}
 use Rattle.std.specs.Prelude.{is_some, int_lt, nat_lt}
 use Rattle.std.specs.Option.{unwrap_or}
 use Rattle.std.specs.Ordering.{eq_by_cmp, nat_cmp, int_cmp, is_eq}
@@ -53,7 +53,7 @@ use Rattle.forwarding.specs.Queue.{waiting_connect, answered_write}
 use Rattle.forwarding.specs.Pending.{queue_of, connecting_to, pending_close, settle_sync}
 use Rattle.sessions.specs.Credentials.{digest_id}
 use Rattle.sessions.specs.State.{SessionTable as Sessions, ConnectedClient as SessionConnection}
-use Rattle.sessions.specs.Sessions.{session_in, session_of_connection, connection_of, close_connection, close_if_some, new_connection, give_session, name_session, AuthResult, ids_limit, is_same_id, with_id, show_in, digest_text, auth_by, add_auth}
+use Rattle.sessions.specs.Sessions.{session_in, session_of_connection, connection_of, close_connection, close_if_some, new_connection, give_session, AuthResult, ids_limit, is_same_id, with_id, show_in, digest_text, auth_by, add_auth}
 use Rattle.client_service.specs.declared.world.Settings.{Settings}
 use Rattle.client_service.specs.World.{Clients, World}
 use Rattle.client_service.specs.Clients.{heard_connection, no_clients}
@@ -309,7 +309,7 @@ connects_live n = record {
       let x = give_session w.clients.sessions n session time_out in
       left_live (with_sessions w x.after) x.connected.older
       (λ m has e. given_live w session may live m has (given_fewer w.clients.sessions n session time_out m has e));
-  asks = λ w session time_out has_byte none idle a live. live;
+  asks = λ w time_out has_byte none idle a b live. live;
   may = λ w session live. live;
 }
   where
@@ -559,7 +559,7 @@ module _ (stays : ServingStays) (laws : LowerLaws) where
     starts = λ settings n session e. absurd (true≢false (sym (ap is_some e)
         ∙ ap (λ o. is_some (session_in o)) (finmap.get-empty nat_cmp n)));
     starts_primed = λ settings n session e. first settings n session
-        (given_fewer (name_session (no_clients settings).sessions settings.timeouts.greatest).after 1
+        (given_fewer (record (no_clients settings).sessions { counter = settings.first_counter + 1 }) 1
         (primed_session settings) settings.timeouts.greatest n session e);
     plays = λ m events agrees quiet live.
         (plays_keep AllHold live_kept m events ((agrees, of_quiet m.world quiet), live)).1;
@@ -567,8 +567,7 @@ module _ (stays : ServingStays) (laws : LowerLaws) where
     where
       first : (settings : Settings) (n : ℕ) (session : ℤ)
           → (primed_session settings ≡ session)
-          ⊎ (session_of_connection (name_session (no_clients settings).sessions settings.timeouts.greatest).after n
-          ≡ Some session)
+          ⊎ (session_of_connection (no_clients settings).sessions n ≡ Some session)
           → is_live session (primed_machine settings).world ≡ true
       first settings n session (inl same) =
           ap (λ (x : ℤ). is_live x (primed_machine settings).world) (sym same)

@@ -1,5 +1,5 @@
 -- The worked rows: what the bytes read as, the state after each transaction, and the reply to each request.
-use Rattle.std.proofs.Common.{◌≡◌, ◌≤◌, ◌||◌, ℕ, List, [], ◌∷◌, ◌++◌, length, map, take, not, Option, Some, None, Result, Ok, Bool, true, false, cond, refl, sym, ap, ◌∙◌, arith, rules}
+use Rattle.std.proofs.Common.{◌≡◌, ◌≤◌, ◌||◌, ℕ, ◌+◌, List, [], ◌∷◌, ◌++◌, length, map, take, not, Option, Some, None, Result, Ok, Bool, true, false, cond, refl, sym, ap, ◌∙◌, arith, rules}
 use Rattle.std.specs.Prelude.{ℤ, pos, codes, is_some, nat_lt}
 use Rattle.std.specs.List.{AllByRecursion}
 use Rattle.std.specs.Cmp.{nat_cmp_total}
@@ -50,7 +50,7 @@ use Rattle.data_tree.specs.Meaning.{effect_of_txn, answer_of, fresh_state, after
 use Rattle.data_tree.specs.declared.outcome.Trigger.{Trigger}
 use Rattle.jute.specs.declared.owned.Id.{Id}
 use Rattle.sessions.specs.State.{ConnectedClient as SessionConnection, SessionTable}
-use Rattle.sessions.specs.Sessions.{session_in, session_of_connection, connection_of, ids_in, ids_of, close_if_some, name_session, new_connection}
+use Rattle.sessions.specs.Sessions.{session_in, session_of_connection, connection_of, ids_in, ids_of, close_if_some, new_connection}
 use Rattle.watch_manager.specs.declared.event.Event.{Event as NodeEvent}
 use Rattle.watch_manager.specs.Pairs.{watch_cmp}
 use Rattle.watch_manager.specs.Watching.{WatchTables, no_watch}
@@ -434,7 +434,7 @@ heard settings touched = set.insert touched (primed_session settings)
 
 -- The sessions before connection 1 has one.
 abbrev pub nobody_yet : Settings → SessionTable
-nobody_yet settings = (name_session (no_clients settings).sessions settings.timeouts.greatest).after
+nobody_yet settings = record (no_clients settings).sessions { counter = settings.first_counter + 1 }
 
 first_is : (settings : Settings) → finmap.get (first_client settings).sessions.connections 1
     ≡ Some (new_connection (primed_session settings))

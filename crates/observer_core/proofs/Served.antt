@@ -65,7 +65,7 @@ none_has s nobody n = by (finmap.get s.connections n) (nobody n)
     by None h = refl
     by (Some c) h = absurd (true≢false (sym (h refl)))
 
-nobody_has : (s : Sessions) → ((n : ℕ) → session_of_connection s n ≡ None) → Nobody s
+pub nobody_has : (s : Sessions) → ((n : ℕ) → session_of_connection s n ≡ None) → Nobody s
 nobody_has s none n = by (finmap.get s.connections n) (none n)
   where
     by : (o : Option SessionConnection) → session_in o ≡ None → is_some o ≡ true → false ≡ true
@@ -108,14 +108,14 @@ gone_nobody w joined =
 abbrev pub NothingWaits : PendingTable → Type 0
 NothingWaits p = KeysPass (λ _. false) p.queues
 
-none_waits : (p : PendingTable) → NothingWaits p → (n : ℕ) → is_idle p n ≡ true
+pub none_waits : (p : PendingTable) → NothingWaits p → (n : ℕ) → is_idle p n ≡ true
 none_waits p nothing n = by (finmap.contains_key p.queues n) (nothing n)
   where
     by : (b : Bool) → (b ≡ true → false ≡ true) → not b ≡ true
     by true h = absurd (true≢false (sym (h refl)))
     by false h = refl
 
-nothing_waits : (p : PendingTable) → ((n : ℕ) → is_idle p n ≡ true) → NothingWaits p
+pub nothing_waits : (p : PendingTable) → ((n : ℕ) → is_idle p n ≡ true) → NothingWaits p
 nothing_waits p idle n = by (finmap.contains_key p.queues n) (idle n)
   where
     by : (b : Bool) → not b ≡ true → b ≡ true → false ≡ true
@@ -127,7 +127,7 @@ pub record IsQuiet (c : Clients) : Type 0 where
   pub nobody : Nobody c.sessions
   pub nothing : NothingWaits c.pending
 
-closed_quiet : (n : ℕ) (c : Clients) → IsQuiet c → IsQuiet (without_client n c)
+pub closed_quiet : (n : ℕ) (c : Clients) → IsQuiet c → IsQuiet (without_client n c)
 closed_quiet n c q = record {
   nobody = closed_passes (λ _. false) c.sessions n (λ k has. ap (λ b. b || same_connection n k) (q.nobody k has));
   nothing =
@@ -184,7 +184,7 @@ by_quiet n w frame None e q =
     (λ busy. absurd (true≢false (sym (none_waits w.clients.pending q.nothing n) ∙ busy)))
 by_quiet n w frame (Some session) e q = absurd (true≢false (ap is_some e))
 
-serve_quiet : (n : ℕ) (w : World) (frame : List ℕ) → IsQuiet w.clients → QuietAfter (serve_frame false n w frame)
+pub serve_quiet : (n : ℕ) (w : World) (frame : List ℕ) → IsQuiet w.clients → QuietAfter (serve_frame false n w frame)
 serve_quiet n w frame q = by (session_of_connection w.clients.sessions n) (none_has w.clients.sessions q.nobody n)
   where
     by : (o : Option ℤ) → o ≡ None
@@ -203,7 +203,7 @@ wait_quiet n w None left q = q
 wait_quiet n w (Some k) (Ok rest) q = record { nobody = q.nobody; nothing = q.nothing }
 wait_quiet n w (Some k) (Err e) q = closed_quiet n w.clients q
 
-client_quiet : (n : ℕ) (w : World) (o : Option OpenConnection) (bytes : List ℕ) → IsQuiet w.clients
+pub client_quiet : (n : ℕ) (w : World) (o : Option OpenConnection) (bytes : List ℕ) → IsQuiet w.clients
     → QuietAfter (take_client_bytes false n w o bytes)
 client_quiet n w None bytes q = q
 client_quiet n w (Some k) bytes q = by (word_at n w came)

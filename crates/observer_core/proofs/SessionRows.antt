@@ -74,7 +74,7 @@ use Rattle.observer_core.specs.Leader.{item_step, part_reader, with_leader, take
 use Rattle.observer_core.specs.Play.{play_event, play, primed_session, first_client, primed_machine}
 use Rattle.observer_core.specs.Rows.{client_ping, reply_of_ping, leader_ping, answer_with_first, answer_with_none, connect_frame, request_of_session, inform_of_session, response_of_session}
 use Rattle.observer_core.proofs.Rows.{ReadAgain, NobodyTold, start, one_packet, packet_of, one_frame, pending_at, idle_at, heard_in_world, served_at, handled_at, open_with, at_first, clients_at, heard, nobody_yet, joined_first, world_with, world_at, beginning, led, one_delivered, told, told_by, inform_comes, in_hand, with_connections, frame_served, first_open}
-use Rattle.observer_core.proofs.ForwardedRows.{first_id, id_is, waiting_world, waiting_machine, once_heard, queue_is, one_item_comes}
+use Rattle.observer_core.proofs.ForwardedRows.{first_id, IsThird, id_is, waiting_world, waiting_machine, once_heard, queue_is, one_item_comes}
 
 -- ---- a client is heard, and the leader is told
 
@@ -210,7 +210,7 @@ with_none_written : packet_format.written (ping_reply leaders_ping (session_rows
 unfolding packet_format number_bytes
 with_none_written = refl
 
-pub first_is_told : (settings : Settings) → settings.server_id ≡ pos 3
+pub first_is_told : (settings : Settings) → IsThird settings
     → settings.timeouts ≡ timeout_pair (pos 4000) (pos 40000) → settings.secret ≡ []
     → (play (primed_machine settings)
     (ClientBytes 1 client_ping ∷ LeaderBytes leader_ping ∷ LeaderBytes leader_ping ∷ [])).outputs
@@ -262,9 +262,9 @@ connect_read = refl
 abbrev second_session : ℤ
 second_session = pos 216172782113783810
 
-second_is : (settings : Settings) → settings.server_id ≡ pos 3 → session_id_of settings.server_id 2 ≡ second_session
+second_is : (settings : Settings) → IsThird settings → session_id_of settings.server_id 2 ≡ second_session
 unfolding session_id_of
-second_is settings three = ap (λ (n : ℤ). session_id_of n 2) three
+second_is settings three = ap (λ (n : ℤ). session_id_of n 2) three.0
 
 request_written : packet_format.written (session_request second_session (pos 10000)) ≡ request_of_session
 unfolding packet_format number_bytes
@@ -276,9 +276,11 @@ module _ (settings : Settings) where
   sessions_after counter =
       record (with_session_connected (nobody_yet settings) 1 (primed_session settings)) { counter = counter }
 
-  primed_sessions : (first_client settings).sessions ≡ sessions_after 1
-  primed_sessions = ap (λ (o : Option ℕ). with_session_connected (close_if_some (nobody_yet settings) o) 1
-      (primed_session settings)) (finmap.get-empty int_cmp (primed_session settings))
+  primed_sessions : settings.first_counter ≡ 0 → (first_client settings).sessions ≡ sessions_after 1
+  primed_sessions begins =
+      ap (λ (o : Option ℕ). with_session_connected (close_if_some (nobody_yet settings) o) 1 (primed_session settings))
+      (finmap.get-empty int_cmp (primed_session settings))
+      ∙ ap (λ (first : ℕ). sessions_after (first + 1)) begins
 
   -- Connection 2 has none.
   second_is_none : (counter : ℕ) → finmap.get (sessions_after counter).connections 2 ≡ None
@@ -303,16 +305,16 @@ module _ (settings : Settings) where
   abbrev machine_of : SessionTable → PendingTable → Machine
   machine_of sessions pending = record { leader = Some beginning; world = world_of sessions pending }
 
-  second_comes : play_event (primed_machine settings) (ClientUp 2)
+  second_comes : settings.first_counter ≡ 0 → play_event (primed_machine settings) (ClientUp 2)
       ≡ no_output (machine_of (sessions_after 1) nothing_pending)
-  second_comes =
+  second_comes begins =
       ap (λ (o : Option OpenConnection). no_output (record {
         leader = Some beginning;
         world = cond (is_some o) (primed_machine settings).world
             (world_of (first_client settings).sessions nothing_pending);
       }))
       (finmap.get-insert nat_cmp_total finmap.empty 1 (open_with []) 2 ∙ finmap.get-empty nat_cmp 2)
-      ∙ ap (λ (s : SessionTable). no_output (machine_of s nothing_pending)) primed_sessions
+      ∙ ap (λ (s : SessionTable). no_output (machine_of s nothing_pending)) (primed_sessions begins)
 
   -- ---- the connect
 
@@ -329,7 +331,7 @@ module _ (settings : Settings) where
   connect_waits = push_connect nothing_pending 2 waiting
 
   -- The id and the timeout are those of the session.
-  asked_as : settings.server_id ≡ pos 3 → settings.timeouts ≡ timeout_pair (pos 4000) (pos 40000)
+  asked_as : IsThird settings → settings.timeouts ≡ timeout_pair (pos 4000) (pos 40000)
       → handle_connect true 2 w (Ok connecting)
       ≡ record { outputs = ToLeader request_of_session ∷ []; after = world_of (sessions_after 2) connect_waits }
   asked_as three terms =
@@ -359,7 +361,7 @@ module _ (settings : Settings) where
             after = world_of (sessions_after 2) connect_waits;
           })
 
-  connect_served : settings.server_id ≡ pos 3 → settings.timeouts ≡ timeout_pair (pos 4000) (pos 40000)
+  connect_served : IsThird settings → settings.timeouts ≡ timeout_pair (pos 4000) (pos 40000)
       → serve_frame true 2 w asked
       ≡ record { outputs = ToLeader request_of_session ∷ []; after = world_of (sessions_after 2) connect_waits }
   connect_served three terms =
@@ -383,7 +385,7 @@ module _ (settings : Settings) where
       held idle = cond idle (handle_connect true 2 w (connecting_in asked))
           (no_output (with_pending w (hold_frame w.clients.pending 2 asked)))
 
-  connect_comes : settings.server_id ≡ pos 3 → settings.timeouts ≡ timeout_pair (pos 4000) (pos 40000)
+  connect_comes : IsThird settings → settings.timeouts ≡ timeout_pair (pos 4000) (pos 40000)
       → play_event (machine_of (sessions_after 1) nothing_pending) (ClientBytes 2 connect_frame)
       ≡ record { outputs = ToLeader request_of_session ∷ []; after = machine_of (sessions_after 2) connect_waits }
   connect_comes three terms =
@@ -434,7 +436,7 @@ response_written : answer_to_connect (record { time_out = pos 10000; session_id 
 unfolding connect_response number_bytes
 response_written = refl
 
-module _ (settings : Settings) (three : settings.server_id ≡ pos 3)
+module _ (settings : Settings) (three : IsThird settings)
     (terms : settings.timeouts ≡ timeout_pair (pos 4000) (pos 40000)) (secretless : settings.secret ≡ []) where
   abbrev queue : RequestQueue
   queue = queue_of (connect_waits settings) 2
@@ -526,12 +528,12 @@ module _ (settings : Settings) (three : settings.server_id ≡ pos 3)
   session_played again nobody =
       ap (λ (h : StepResult Machine). h.outputs
       ++ (play h.after (ClientBytes 2 connect_frame ∷ LeaderBytes inform_of_session ∷ [])).outputs)
-      (second_comes settings)
+      (second_comes settings three.1)
       ∙ ap (λ (h : StepResult Machine). h.outputs ++ (play h.after (LeaderBytes inform_of_session ∷ [])).outputs)
       (connect_comes settings three terms)
       ∙ ap (λ (h : StepResult Machine). ToLeader request_of_session ∷ (h.outputs ++ [])) (session_comes again nobody)
 
-pub session_is_created : (again : ReadAgain) (nobody : NobodyTold) (settings : Settings) → settings.server_id ≡ pos 3
+pub session_is_created : (again : ReadAgain) (nobody : NobodyTold) (settings : Settings) → IsThird settings
     → settings.timeouts ≡ timeout_pair (pos 4000) (pos 40000) → settings.secret ≡ []
     → (play (primed_machine settings)
     (ClientUp 2 ∷ ClientBytes 2 connect_frame ∷ LeaderBytes inform_of_session ∷ [])).outputs

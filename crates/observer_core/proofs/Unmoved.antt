@@ -46,7 +46,7 @@ connects_same n = record {
   gives = λ w session time_out free may a.
       let c = give_session w.clients.sessions n session time_out in
       left_same (with_sessions w c.after) c.connected.older;
-  asks = λ w session time_out has_byte none idle a. refl;
+  asks = λ w time_out has_byte none idle a b. refl;
   may = λ w session live. tt;
 }
 

@@ -20,7 +20,7 @@ use Rattle.client_frames.specs.Call.{call_in}
 use Rattle.client_frames.specs.Connect.{connecting_in, session_request_of, answer_to_connect}
 use Rattle.sessions.specs.State.{SessionTable as Sessions, ConnectedClient as Joined}
 use Rattle.sessions.specs.Credentials.{session_id_of}
-use Rattle.sessions.specs.Sessions.{session_in, session_of_connection, ids_of, greatest_counter, is_valid, ConnectResult, session_response, refusal_response, give_session, name_session, connect_session, AuthResult, add_auth}
+use Rattle.sessions.specs.Sessions.{session_in, session_of_connection, ids_of, greatest_counter, is_valid, ConnectResult, session_response, refusal_response, refused_connect, give_session, name_session, connect_session, AuthResult, add_auth}
 use Rattle.sessions.specs.declared.request.SessionResponse.{SessionResponse}
 use Rattle.forwarding.specs.declared.request.WriteKind.{WriteKind}
 use Rattle.forwarding.specs.Queue.{RequestQueue, is_close, waiting_connect}
@@ -62,6 +62,13 @@ abbrev pub given : ℕ → World → ℤ → ℤ → StepResult World
 given n w session time_out =
     let c = give_session w.clients.sessions n session time_out in
     close_client_if_some (with_sessions w c.after) c.connected.older
+
+-- The next counter is used, and the id that it gives.
+abbrev pub counted : World → World
+counted w = with_sessions w (record w.clients.sessions { counter = w.clients.sessions.counter + 1 })
+
+abbrev pub next_id : World → ℤ
+next_id w = session_id_of w.clients.sessions.terms.server_id (w.clients.sessions.counter + 1)
 
 -- The leader is asked for a session, and the connect waits for it.
 abbrev pub asked_for : ℕ → World → ℤ → ℤ → Bool → StepResult World
@@ -126,12 +133,12 @@ pub record HoldsOfCalls (n : ℕ) (A : World → Type 0) (Own : ℤ → Type 0) 
 -- is the connection's own.
 pub record HoldsOfConnects (n : ℕ) (A : World → Type 0) (Own : ℤ → Type 0) (May : World → ℤ → Type 0) (Q : Steps) : Type 0 where
   pub own : (session : ℤ) → Own session
-  pub counts : (w : World) → HasNone n w → A w
-      → Q w (no_output (with_sessions w (record w.clients.sessions { counter = w.clients.sessions.counter + 1 })))
+  pub counts : (w : World) → HasNone n w → A w → Q w (no_output (counted w))
   pub gives : (w : World) (session time_out : ℤ) → NoConnect n w → May w session → A w
       → Q w (given n w session time_out)
-  pub asks : (w : World) (session time_out : ℤ) (has_byte : Bool) → HasNone n w
-      → is_idle w.clients.pending n ≡ true → A w → Q w (asked_for n w session time_out has_byte)
+  -- A counter is used, and the leader is asked for the session with its id.
+  pub asks : (w : World) (time_out : ℤ) (has_byte : Bool) → HasNone n w → is_idle w.clients.pending n ≡ true → A w
+      → A (counted w) → Q w (asked_for n (counted w) (next_id w) time_out has_byte)
   pub may : (w : World) (session : ℤ) → is_live session w ≡ true → May w session
 
 -- The step keeps `A`, and the relation holds of it.
@@ -415,50 +422,59 @@ module _ (n : ℕ) (Strict : Type 0) (A : World → Type 0) (Q : Steps) (ground 
         is = c.gives w session time_out free may a;
       }
 
-      ask_makes : (w : World) (has_byte : Bool) (response : SessionResponse) → HasNone n w
-          → is_idle w.clients.pending n ≡ true → (Strict → IsOpen n w) → A w
-          → Makes A Q w (ask_for_session n has_byte w response)
-      ask_makes w has_byte response none idle here a =
-          let waits = connecting_to w.clients.pending response.session_id in
-          cond_both (is_some waits) _ _ (Makes A Q w) (λ _. greet_makes w has_byte refusal_response a)
-          (λ free. record {
-            keeps = ground.asks w response.session_id response.time_out has_byte none idle (none_is waits free) here a;
-            is = c.asks w response.session_id response.time_out has_byte none idle a;
-          })
+      -- The client is told, whichever session it has then.
+      told_makes : (w : World) (asked : Connecting) (response : SessionResponse) → A w
+          → Makes A Q w (send_connect_response n asked.has_byte response (touch_client n w))
+      told_makes w asked response a =
+          touched_first w (λ u. send_connect_response n asked.has_byte response u)
+          (λ p _ b. greet_makes (with_pending w p) asked.has_byte response b) a
 
-      -- No connection gets a session at once.
-      named_makes : (w : World) (asked : Connecting) (response : SessionResponse) → HasNone n w
-          → is_idle w.clients.pending n ≡ true → (Strict → IsOpen n w) → A w
-          → Makes A Q w (finish_connect n w asked
-          (record { connected = record { response = response; older = None }; after = w.clients.sessions }))
-      named_makes w asked response none idle here a =
-          cond_both (is_new_session asked.request response) _ _ (Makes A Q w)
-          (λ _. ask_makes w asked.has_byte response none idle here a)
-          (λ _. touched_first w (λ u. send_connect_response n asked.has_byte response u)
-          (λ p _ b. greet_makes (with_pending w p) asked.has_byte response b) a)
+      -- A refusal names no session.
+      refused_makes : (w : World) (asked : Connecting) → A w
+          → Makes A Q w (finish_connect n w asked (refused_connect w.clients.sessions))
+      refused_makes w asked a =
+          cond_both (is_new_session asked.request refusal_response) _ _ (Makes A Q w)
+          (λ new. absurd (true≢false (sym new ∙ never (int_eq asked.request.session_id (pos 0)))))
+          (λ _. told_makes w asked refusal_response a)
+        where
+          never : (b : Bool) → (b && false) ≡ false
+          never true = refl
+          never false = refl
 
+      -- No connection gets a session at once that the leader has to create first.
       name_makes : (w : World) (asked : Connecting) (time_out : ℤ) → HasNone n w
           → is_idle w.clients.pending n ≡ true → (Strict → IsOpen n w) → A w
           → Makes A Q w (finish_connect n w asked (name_session w.clients.sessions time_out))
       name_makes w asked time_out none idle here a =
           cond_both (s.counter == greatest_counter) _ _ (λ (x : ConnectResult). Makes A Q w (finish_connect n w asked x))
-          (λ _. named_makes w asked refusal_response none idle here a)
-          (λ below. then_makes w (no_output v) finished
-          (record { keeps = ground.counts w none below a; is = c.counts w none a })
-          (named_makes v asked response none idle here))
+          (λ _. refused_makes w asked a)
+          (λ below. let b = ground.counts w none below a in
+          cond_both (is_new_session asked.request response) _ _ (Makes A Q w)
+          (λ _. cond_both (is_some waits) _ _ (Makes A Q w)
+          (λ _. after_count b (send_connect_response n asked.has_byte refusal_response)
+          (greet_makes v asked.has_byte refusal_response b))
+          (λ free. record {
+            keeps = ground.asks v (next_id w) response.time_out asked.has_byte none idle (none_is waits free) here b;
+            is = c.asks w response.time_out asked.has_byte none idle a b;
+          }))
+          (λ _. after_count b (λ u. send_connect_response n asked.has_byte response (touch_client n u))
+          (told_makes v asked response b)))
         where
           s : Sessions
           s = w.clients.sessions
 
           v : World
-          v = with_sessions w (record s { counter = s.counter + 1 })
+          v = counted w
+
+          waits : Option ℕ
+          waits = connecting_to v.clients.pending (next_id w)
 
           response : SessionResponse
-          response = session_response s.terms (session_id_of s.terms.server_id (s.counter + 1)) time_out
+          response = session_response s.terms (next_id w) time_out
 
-          finished : World → StepResult World
-          finished u = finish_connect n u asked
-              (record { connected = record { response = response; older = None }; after = u.clients.sessions })
+          after_count : A v → (next : World → StepResult World) → Makes A Q v (next v) → Makes A Q w (next v)
+          after_count b next then =
+              then_makes w (no_output v) next (record { keeps = b; is = c.counts w none a }) (λ _. then)
 
       -- A session that lives is taken up at once.
       reconnect_makes : (w : World) (asked : Connecting) (session time_out : ℤ)
@@ -502,7 +518,7 @@ module _ (n : ℕ) (Strict : Type 0) (A : World → Type 0) (Q : Steps) (ground 
           (λ other. cond_both (is_valid s (is_live session w) (session_request_of asked.request)) _ _ Finishes
           (λ valid. reconnect_makes w asked session asked.request.time_out other none idle here
           (first_true (is_live session w) _ valid) a)
-          (λ _. named_makes w asked refusal_response none idle here a))
+          (λ _. refused_makes w asked a))
         where
           s : Sessions
           s = w.clients.sessions

@@ -1,7 +1,7 @@
 -- How sessions, watches, waiting requests and open connections refer to each other.
 use Rattle.std.specs.Prelude.{◌≡◌, ℕ, ℤ, List, Some, None, true, false, IsTrue}
 use Rattle.std.specs.FinMap as finmap
-use Rattle.settings.specs.Settings.{is_server_id}
+use Rattle.settings.specs.Settings.{is_server_id, is_first_counter}
 use Rattle.sessions.specs.Sessions.{session_of_connection}
 use Rattle.sessions.specs.Agreement.{SessionsAgree}
 use Rattle.watch_manager.specs.Laws.{WatchersPass}
@@ -42,9 +42,9 @@ OneSessionEach = (c : Clients) → ClientsAgree c → (m n : ℕ) (session : ℤ
 -- The clients agree at the start, and no event ends that.
 pub record ConnectionsAgree : Type 0 where
   pub starts : (settings : Settings) → IsTrue (is_server_id settings.server_id)
-      → ClientsAgree (new_machine settings).world.clients
+      → IsTrue (is_first_counter settings.first_counter) → ClientsAgree (new_machine settings).world.clients
   pub starts_primed : (settings : Settings) → IsTrue (is_server_id settings.server_id)
-      → ClientsAgree (primed_machine settings).world.clients
+      → IsTrue (is_first_counter settings.first_counter) → ClientsAgree (primed_machine settings).world.clients
   pub plays : (m : Machine) (events : List Event) → ClientsAgree m.world.clients
       → ClientsAgree (play m events).after.world.clients
   pub apart : OneSessionEach

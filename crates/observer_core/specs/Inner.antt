@@ -1,6 +1,7 @@
 -- The contracts of the private functions. No public contract cites this.
-use Rattle.std.specs.Prelude.{◌≡◌, ℕ, List, ◌++◌, map, drop, Result, Ok, Err, Option, Some, None, Bool, false, length, ◌-◌}
+use Rattle.std.specs.Prelude.{◌≡◌, ℕ, ℤ, List, ◌++◌, map, drop, Result, Ok, Err, Option, Some, None, Bool, false, length, ◌-◌}
 use Rattle.std.specs.List.{slice_get}
+use Rattle.std.specs.Int.{int_min}
 use Rattle.values.specs.Gains.{Gains}
 use Rattle.values.specs.declared.fault.Fault.{Fault}
 use Rattle.values.specs.declared.fault.NoMemory.{NoMemory}
@@ -125,3 +126,9 @@ abbrev pub LeavesReads : Result (Unit {0}) NoMemory → List Output → StepResu
     → Machine → Type 0
 LeavesReads (Ok u) old whole new asked after = SoFar old whole new (answer_waiting asked after)
 LeavesReads (Err e) old whole new asked after = Gains old whole.outputs new
+
+-- The lesser of two timeouts, of which each may be missing.
+abbrev pub lesser_timeout : Option ℤ → Option ℤ → Option ℤ
+lesser_timeout None other = other
+lesser_timeout (Some one) None = Some one
+lesser_timeout (Some one) (Some other) = Some (int_min one other)

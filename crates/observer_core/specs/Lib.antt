@@ -3,9 +3,12 @@ pub mod Leader
 pub mod Play
 pub mod Plays
 pub mod Gathering
+pub mod Timeouts
 pub mod Inner
 pub mod Logs
 pub mod Agreement
+pub mod Leaderless
+pub mod GivenIds
 pub mod Apart
 pub mod WholeImages
 pub mod Rows

@@ -1,9 +1,9 @@
 -- `play`: the outputs of a machine for a list of events, and the machine after them.
-use Rattle.std.specs.Prelude.{ℤ, List, Option, Some, None, Bool, false}
+use Rattle.std.specs.Prelude.{◌+◌, ℤ, List, Option, Some, None, Bool, false}
 use Rattle.replica.specs.Replica.{Replica, new_replica, primed_replica}
 use Rattle.replica.specs.Taking.{is_serving, checkpoint_replica}
 use Rattle.sessions.specs.Credentials.{session_id_of}
-use Rattle.sessions.specs.Sessions.{name_session, give_session}
+use Rattle.sessions.specs.Sessions.{give_session}
 use Rattle.client_service.specs.declared.world.Settings.{Settings}
 use Rattle.observer_core.specs.declared.event.Event.{Event}
 use Rattle.observer_core.specs.declared.event.Event.TheVariants.{LeaderUp, LeaderBytes, LeaderEnd, ClientUp, ClientBytes, ClientEnd, Expire, Checkpoint}
@@ -60,16 +60,15 @@ new_by side settings = initial_machine settings (new_replica settings.epochs) No
 
 -- The id of the session that a primed machine begins with: the first that its server gives out.
 abbrev pub primed_session : Settings → ℤ
-primed_session settings = session_id_of settings.server_id 1
+primed_session settings = session_id_of settings.server_id (settings.first_counter + 1)
 
--- Connection 1 is open and has the first session.
+-- Connection 1 is open and has the first session, whose id was the first to be given out.
 abbrev pub first_client : Settings → Clients
 first_client settings =
     let nobody = no_clients settings in
-    let longest = settings.timeouts.greatest in
-    let named = (name_session nobody.sessions longest).after in
-    with_connection 1 idle_connection
-    (record nobody { sessions = (give_session named 1 (primed_session settings) longest).after })
+    let named = record nobody.sessions { counter = settings.first_counter + 1 } in
+    let given = give_session named 1 (primed_session settings) settings.timeouts.greatest in
+    with_connection 1 idle_connection (record nobody { sessions = given.after })
 
 -- The machine follows a leader in epoch 1. Its tree has the first session, with the greatest timeout, and connection 1
 -- has it.

@@ -153,16 +153,18 @@ exists_watch_event = ClientBytes 1 exists_watch_frame
 abbrev pub PrimedAnswers : List Event → List Output → Type 0
 PrimedAnswers events outputs = (settings : Settings) → (play (primed_machine settings) events).outputs ≡ outputs
 
--- The outputs of a primed machine of server 3.
+-- The outputs of a primed machine of server 3, whose session ids begin with the counter 1.
 abbrev pub ServerThreeAnswers : List Event → List Output → Type 0
 ServerThreeAnswers events outputs =
-    (settings : Settings) → settings.server_id ≡ pos 3 → (play (primed_machine settings) events).outputs ≡ outputs
+    (settings : Settings) → settings.server_id ≡ pos 3 → settings.first_counter ≡ 0
+    → (play (primed_machine settings) events).outputs ≡ outputs
 
--- The outputs of a primed machine of server 3, with timeouts from 4 to 40 seconds and an empty secret.
+-- The same, with timeouts from 4 to 40 seconds and an empty secret.
 abbrev pub SettledAnswers : List Event → List Output → Type 0
 SettledAnswers events outputs =
-    (settings : Settings) → settings.server_id ≡ pos 3 → settings.timeouts ≡ timeout_pair (pos 4000) (pos 40000)
-    → settings.secret ≡ [] → (play (primed_machine settings) events).outputs ≡ outputs
+    (settings : Settings) → settings.server_id ≡ pos 3 → settings.first_counter ≡ 0
+    → settings.timeouts ≡ timeout_pair (pos 4000) (pos 40000) → settings.secret ≡ []
+    → (play (primed_machine settings) events).outputs ≡ outputs
 
 -- A read shows the create, and a later one the setData.
 pub record WorkedRows : Type 0 where

@@ -3,11 +3,11 @@
 ghost use Rattle.std.specs.Prelude.{◌≡◌, ◌↔◌, IsOk, IsTrue, IfOk};
 ghost use Rattle.batcher.specs.Limits.{limit_numbers};
 ghost use Rattle.settings.specs.Settings.{epoch_pair, timeout_pair};
-ghost use Rattle.settings.specs.Settings.{is_server_id, are_epochs, are_timeouts, is_secret};
+ghost use Rattle.settings.specs.Settings.{is_server_id, are_epochs, are_timeouts, is_secret, default_first_counter};
 
 use batcher::{Limits, SpreadThreshold};
 use client_service::Settings;
-use settings::{Epochs, Secret, ServerId, TimeoutBounds};
+use settings::{Epochs, FirstCounter, Secret, ServerId, TimeoutBounds};
 use thiserror::Error;
 use values::Blob;
 
@@ -36,8 +36,8 @@ pub fn default_limits() -> Limits
 }
 
 impl Config {
-    /// Checks each setting against its bounds. Timeouts are in milliseconds. All work is spread, see
-    /// [`Config::with_threshold`].
+    /// Checks each setting against its bounds. Timeouts are in milliseconds. Session ids begin with the counter 1; for
+    /// any other first counter see [`Config::from_settings`]. All work is spread, see [`Config::with_threshold`].
     ///
     /// Fails with [`BadConfig`] if a setting is outside its bounds; `settings` has the bounds.
     pub fn new(
@@ -58,6 +58,7 @@ impl Config {
         ensures epochs { IfOk result (λ c. c.settings.epochs ≡ epoch_pair accepted_epoch current_epoch) }
         ensures timeouts { IfOk result (λ c. c.settings.timeouts ≡ timeout_pair min_timeout max_timeout) }
         ensures secret { IfOk result (λ c. c.settings.secret ≡ secret) }
+        ensures counter { IfOk result (λ c. c.settings.first_counter ≡ default_first_counter) }
         ensures limits { IfOk result (λ c. c.limits ≡ limits) }
         ensures threshold { IfOk result (λ c. c.threshold ≡ SpreadThreshold.ALWAYS) }
     {
@@ -78,6 +79,7 @@ impl Config {
             epochs,
             timeouts,
             secret,
+            first_counter: FirstCounter::default(),
         };
         Ok(Config::from_settings(settings, limits))
     }

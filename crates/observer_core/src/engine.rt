@@ -13,12 +13,14 @@ ghost use Rattle.client_service.specs.Clients.{idle_connection, with_connection}
 ghost use Rattle.observer_core.specs.Play.{initial_machine, new_machine, primed_machine};
 ghost use Rattle.observer_core.specs.Machine.{Machine as TheMachine};
 ghost use Rattle.observer_core.specs.Plays.{PlaysEvents};
+ghost use Rattle.observer_core.specs.Timeouts.{IsLeastTimeout};
 
 use crate::config::Config;
 use crate::event::Event;
 use crate::gathering::may_hold_reads;
 use crate::machine::{Leader, Machine};
 use crate::run::run;
+use crate::timeouts::least_timeout;
 use apply_workers::{Gate, apply_list, apply_list_inline};
 use batcher::{Limits, SpreadThreshold};
 use client_service::{Clients, Output, Settings, World};
@@ -160,6 +162,15 @@ impl Engine {
         ensures { (m : TheMachine) → self.now ≡ Some m → result.now ≡ m.world.replica.learner }
     {
         self.machine.world.replica.learner()
+    }
+
+    /// The least timeout, in milliseconds, of the sessions that connections have here: the tree's timeout of each. None
+    /// if no connection has a session. That of a closed engine is unspecified. Takes time linear in the number of such
+    /// sessions.
+    pub fn least_timeout(&self) -> Option<i32>
+        ensures { (m : TheMachine) → self.now ≡ Some m → IsLeastTimeout m.world result }
+    {
+        least_timeout(&self.machine.world)
     }
 
     // Plays the events. The closures apply the transactions of an event of the leader, and answer a run of reads.

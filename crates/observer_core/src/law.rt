@@ -8,6 +8,8 @@ ghost use Rattle.client_service.specs.Steps.{prepend_outputs};
 ghost use Rattle.observer_core.specs.Play.{play};
 ghost use Rattle.observer_core.specs.Logs.{MachinesFollowTheirLogs, RefusalsChangeNothing};
 ghost use Rattle.observer_core.specs.Agreement.{ConnectionsAgree, SessionsAreServed, ConnectedSessionsLive, NothingWaitsInVain};
+ghost use Rattle.observer_core.specs.Leaderless.{SilentWithoutLeader};
+ghost use Rattle.observer_core.specs.GivenIds.{IdsAreGivenOnce};
 ghost use Rattle.observer_core.specs.Apart.{ClientsAreApart, AnswersReachOneClient};
 ghost use Rattle.observer_core.specs.WholeImages.{PartsAreWholeImages};
 ghost use Rattle.observer_core.specs.Rows.{WorkedRows};
@@ -95,6 +97,33 @@ pub fn nothing_waits_in_vain()
     watch_manager::law::firing();
     forwarding::requests_and_syncs_agree();
     forwarding::nothing_waits_in_vain();
+}
+
+/// Without a leader nothing goes out for one. A machine without a leader rests: it serves nobody, no connection has a
+/// session, and no request waits. So it is at the start, and after every list of events, whichever of them ended the
+/// leader. While it rests, no event but a leader's coming makes an output for a leader. A leader that comes is sent the
+/// introduction, and nothing else.
+///
+/// So once a leader is gone and what was made for it before is dropped, the first that goes to the next leader is the
+/// introduction.
+pub fn silent_without_leader()
+    ensures { SilentWithoutLeader }
+{
+    sessions::sessions_and_connections_agree();
+    watch_manager::law::firing();
+    forwarding::requests_and_syncs_agree();
+}
+
+/// The counter of session ids never falls, and the server id stays, so an id that was given out stays given out. The id
+/// that a connect asks for is a new one: it was never given out before, and is from then on. So no two connects are
+/// given the same id, whatever happens between them, the end of a leader included.
+pub fn ids_are_given_once()
+    ensures { IdsAreGivenOnce }
+{
+    sessions::sessions_and_connections_agree();
+    sessions::ended_sessions_are_refused();
+    watch_manager::law::firing();
+    forwarding::requests_and_syncs_agree();
 }
 
 /// An event of a client (it connects, sends or leaves) leaves the tree and the log. It sends no frame to another

@@ -40,6 +40,7 @@ mod law;
 mod leader;
 mod machine;
 mod run;
+mod timeouts;
 
 pub use client_service::{CLIENT_FRAME_LIMIT, Output, Settings};
 pub use config::{BadConfig, Config, default_limits};
@@ -47,6 +48,7 @@ pub use engine::{Engine, Stop};
 pub use event::Event;
 pub use law::{
     answers_reach_one_client, clients_are_apart, connected_sessions_live, connections_agree,
-    cut_anywhere, logs_are_followed, nothing_waits_in_vain, parts_are_whole_images, plays_on,
-    refusals_change_nothing, sessions_are_served, worked_rows,
+    cut_anywhere, ids_are_given_once, logs_are_followed, nothing_waits_in_vain,
+    parts_are_whole_images, plays_on, refusals_change_nothing, sessions_are_served,
+    silent_without_leader, worked_rows,
 };

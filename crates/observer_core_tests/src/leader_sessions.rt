@@ -1,6 +1,5 @@
 //! Sessions of clients: the leader creates them, is told whose clients were heard, and ends them.
 use super::*;
-use crate::laws::call_connected_sessions_live;
 use crate::rows::get;
 use std::test::*;
 
@@ -134,9 +133,35 @@ fn tells_and_ends(alloc: Global, engine: Engine) -> bool {
     gives(alloc, engine, &events, &wanted, 0x1_0000_0001)
 }
 
+// Whether the least timeout is this after the events.
+fn least_is(alloc: Global, engine: &mut Engine, events: &[Event<'_>], least: Option<i32>) -> bool {
+    let mut outputs = Vec::new(alloc);
+    feed(alloc, engine, events, &mut outputs) && engine.least_timeout() == least
+}
+
+// The first session has the greatest timeout, which is the least until a second one comes, and again when that has
+// gone. At the end of the leader all have gone.
+fn tells_least_timeout(alloc: Global, mut engine: Engine) -> bool {
+    let comes = [
+        Event::ClientUp(2),
+        Event::ClientBytes(2, Bytes::new(CONNECT)),
+        told(SESSION_CREATED),
+    ];
+    least_is(alloc, &mut engine, &[], Some(40_000))
+        && least_is(alloc, &mut engine, &comes, Some(10_000))
+        && least_is(alloc, &mut engine, &[Event::ClientEnd(2)], Some(40_000))
+        && least_is(alloc, &mut engine, &[Event::LeaderEnd], None)
+}
+
+#[test]
+fn the_least_timeout_is_of_connected_sessions(rt: HostRuntime) -> Result<(), Fail> {
+    let alloc = rt.alloc();
+    assert!(rt; tells_least_timeout(alloc, primed(alloc)?));
+    Ok(())
+}
+
 #[test]
 fn a_connect_waits_for_its_session(rt: HostRuntime) -> Result<(), Fail> {
-    call_connected_sessions_live();
     let alloc = rt.alloc();
     assert!(rt; admits(alloc, primed(alloc)?));
     Ok(())

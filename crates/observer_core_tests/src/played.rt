@@ -1,10 +1,7 @@
 //! Events, and the outputs that they cause.
 use super::*;
 use crate::laws::{
-    call_answers_reach_one_client, call_clients_are_apart, call_connections_agree,
-    call_cut_anywhere, call_logs_are_followed, call_nothing_waits_in_vain,
-    call_parts_are_whole_images, call_plays_on, call_refusals_change_nothing,
-    call_sessions_are_served, call_worked_rows,
+    call_laws_of_clients, call_laws_of_events, call_laws_of_leaders, call_worked_rows,
 };
 use crate::rows::{create, get, introduction, reply_of_create, reply_of_set, set};
 use observer_core::CLIENT_FRAME_LIMIT;
@@ -187,8 +184,7 @@ fn meets_two(alloc: Global, mut engine: Engine) -> bool {
 
 #[test]
 fn two_leaders(rt: HostRuntime) -> Result<(), Fail> {
-    call_parts_are_whole_images();
-    call_sessions_are_served();
+    call_laws_of_leaders();
     assert!(rt; meets_two(rt.alloc(), idle(rt.alloc())?));
     Ok(())
 }
@@ -203,22 +199,19 @@ fn create_then_get(rt: HostRuntime) -> Result<(), Fail> {
 
 #[test]
 fn pieces(rt: HostRuntime) -> Result<(), Fail> {
-    call_cut_anywhere();
+    call_laws_of_events();
     assert!(rt; plays_pieces(rt.alloc(), primed(rt.alloc())?));
     Ok(())
 }
 
 #[test]
 fn two_lists(rt: HostRuntime) -> Result<(), Fail> {
-    call_plays_on();
-    call_logs_are_followed();
     assert!(rt; plays_two_lists(rt.alloc(), primed(rt.alloc())?));
     Ok(())
 }
 
 #[test]
 fn refused_packet(rt: HostRuntime) -> Result<(), Fail> {
-    call_refusals_change_nothing();
     assert!(rt; plays_refusal(rt.alloc(), primed(rt.alloc())?));
     Ok(())
 }
@@ -244,10 +237,7 @@ fn words(rt: HostRuntime) -> Result<(), Fail> {
 
 #[test]
 fn clients(rt: HostRuntime) -> Result<(), Fail> {
-    call_connections_agree();
-    call_clients_are_apart();
-    call_nothing_waits_in_vain();
-    call_answers_reach_one_client();
+    call_laws_of_clients();
     assert!(rt; expires(rt.alloc(), primed(rt.alloc())?));
     Ok(())
 }

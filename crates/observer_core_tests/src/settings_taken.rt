@@ -1,7 +1,7 @@
 //! Numbers and bytes of settings: those at a bound, and those one beyond it.
 use super::*;
 use observer_core::Settings;
-use settings::{Epochs, Secret, ServerId, TimeoutBounds};
+use settings::{Epochs, FirstCounter, Secret, ServerId, TimeoutBounds};
 use std::test::*;
 
 // Whether they are accepted, and the settings hold them. The secret has this many bytes.
@@ -52,6 +52,7 @@ fn from_settings(alloc: Global) -> Result<Config, &'static str> {
         epochs: Epochs::new(2, 1).ok_or("epochs")?,
         timeouts: TimeoutBounds::new(5, 6).ok_or("timeouts")?,
         secret: Secret::new(blob(alloc, b"key")?).ok_or("secret")?,
+        first_counter: FirstCounter::new(0x00ff_ffff_ffff_fffe).ok_or("counter")?,
     };
     Ok(Config::from_settings(settings, default_limits()))
 }
@@ -62,7 +63,12 @@ fn within_bounds(rt: HostRuntime) -> Result<(), Fail> {
     assert!(rt; takes(alloc, 1, (0, 0), (1, 1), 0)?);
     assert!(rt; takes(alloc, 255, (i32::MAX, 0), (4000, 40_000), 64)?);
     assert!(rt; takes(alloc, 3, (0, i32::MAX), (1, i32::MAX), 1)?);
-    assert!(rt; says(&from_settings(alloc)?.settings, 255, (2, 1), (5, 6), b"key"));
+    let settings = from_settings(alloc)?.settings;
+    assert!(rt; says(&settings, 255, (2, 1), (5, 6), b"key"));
+    assert_eq!(rt; settings.first_counter.number(), 0x00ff_ffff_ffff_fffe);
+    // 27 November 2026, 04:00 in UTC.
+    let started = FirstCounter::from_clock(1_795_752_000_000);
+    assert_eq!(rt; started.number(), 9_600_012_015_108_096);
     Ok(())
 }
 
@@ -76,5 +82,6 @@ fn out_of_bounds(rt: HostRuntime) -> Result<(), Fail> {
     assert!(rt; !takes(alloc, 3, (0, 0), (0, 40_000), 0)?);
     assert!(rt; !takes(alloc, 3, (0, 0), (5, 4), 0)?);
     assert!(rt; !takes(alloc, 3, (0, 0), (4000, 40_000), 65)?);
+    assert!(rt; FirstCounter::new(0x00ff_ffff_ffff_ffff).is_none());
     Ok(())
 }

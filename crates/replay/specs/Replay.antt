@@ -36,6 +36,7 @@ settings_of script = record {
   epochs = script.epochs;
   timeouts = script.timeouts;
   secret = script.secret;
+  first_counter = script.first_counter;
 }
 
 -- The observer at the start.

@@ -192,6 +192,7 @@ fn play_script<T: Threads + Sync, W: Write>(
 {
     let Script {
         server_id,
+        first_counter,
         epochs,
         timeouts,
         secret,
@@ -204,6 +205,7 @@ fn play_script<T: Threads + Sync, W: Write>(
         epochs,
         timeouts,
         secret,
+        first_counter,
     };
     let engine = engine_of(alloc, primed, settings, limits)?;
     feed(rt, alloc, engine, events.as_slice(), writer)

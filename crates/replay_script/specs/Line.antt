@@ -12,7 +12,7 @@ use Rattle.values.specs.Hex.{bytes_of_hex}
 use Rattle.replay_script.specs.declared.event.ScriptEvent.{ScriptEvent}
 use Rattle.replay_script.specs.declared.event.ScriptEvent.TheVariants.{LeaderUp, LeaderBytes, LeaderEnd, ClientUp, ClientBytes, ClientEnd, Expire, Checkpoint}
 use Rattle.replay_script.specs.declared.event.Setting.{Setting}
-use Rattle.replay_script.specs.declared.event.Setting.TheVariants.{Server, Epochs, Timeouts, Secret, Primed}
+use Rattle.replay_script.specs.declared.event.Setting.TheVariants.{Server, Counter, Epochs, Timeouts, Secret, Primed}
 use Rattle.replay_script.specs.declared.event.Line.{Line}
 use Rattle.replay_script.specs.declared.event.Line.TheVariants.{Blank, Header, Happening}
 use Rattle.replay_script.specs.declared.event.Keyword.{Keyword}
@@ -24,6 +24,7 @@ use Rattle.replay_script.specs.declared.event.Coming.TheVariants.{Up, Bytes, End
 abbrev pub keyword_of : List ℕ → Option Keyword
 keyword_of word =
     if bytes_eq word (codes "server") then Some words.Server
+    else (if bytes_eq word (codes "counter") then Some words.Counter
     else (if bytes_eq word (codes "epochs") then Some words.Epochs
     else (if bytes_eq word (codes "timeouts") then Some words.Timeouts
     else (if bytes_eq word (codes "secret") then Some words.Secret
@@ -32,7 +33,7 @@ keyword_of word =
     else (if bytes_eq word (codes "client") then Some words.Client
     else (if bytes_eq word (codes "expire") then Some words.Expire
     else (if bytes_eq word (codes "checkpoint") then Some words.Checkpoint
-    else None))))))))
+    else None)))))))))
 
 -- The texts `up` and `end`, or the bytes that come.
 abbrev pub coming_of : List ℕ → Option Coming
@@ -71,6 +72,11 @@ server_setting text = do
   number ← int_of text
   option_map Server (settings.server_id_of number)
 
+abbrev pub counter_setting : List ℕ → Option Setting
+counter_setting text = do
+  number ← number_up_to (2 ^ 64 - 1) text
+  option_map Counter (settings.first_counter_of number)
+
 abbrev pub epochs_setting : List ℕ → Option Setting
 epochs_setting text = do
   numbers ← ints_of text
@@ -91,6 +97,7 @@ abbrev pub line_of_keyword : Keyword → Option Line
 line_of_keyword words.Primed = Some (Header Primed)
 line_of_keyword words.Checkpoint = Some (Happening Checkpoint)
 line_of_keyword words.Server = None
+line_of_keyword words.Counter = None
 line_of_keyword words.Epochs = None
 line_of_keyword words.Timeouts = None
 line_of_keyword words.Secret = None
@@ -101,6 +108,7 @@ line_of_keyword words.Expire = None
 -- The meaning of a word with a blank and a text after it.
 abbrev pub line_with_text : Keyword → List ℕ → Option Line
 line_with_text words.Server text = option_map Header (server_setting text)
+line_with_text words.Counter text = option_map Header (counter_setting text)
 line_with_text words.Epochs text = option_map Header (epochs_setting text)
 line_with_text words.Timeouts text = option_map Header (timeouts_setting text)
 line_with_text words.Secret text = option_map Header (secret_setting text)

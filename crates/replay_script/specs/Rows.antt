@@ -1,12 +1,12 @@
 -- Some lines and texts, and their meaning.
 use Rattle.std.specs.Prelude.{◌≡◌, ℕ, ℤ, pos, negsuc, false, List, [], ◌∷◌, ◌++◌, Some, None, Ok, Err, codes}
-use Rattle.settings.specs.Settings.{epoch_pair, timeout_pair, default_epochs, default_timeouts, default_secret}
+use Rattle.settings.specs.Settings.{epoch_pair, timeout_pair, default_first_counter, default_epochs, default_timeouts, default_secret}
 use Rattle.replay_script.specs.Line.{line_of}
 use Rattle.replay_script.specs.Script.{script_of}
 use Rattle.replay_script.specs.declared.event.ScriptEvent.{ScriptEvent}
 use Rattle.replay_script.specs.declared.event.ScriptEvent.TheVariants.{LeaderUp, LeaderBytes, ClientUp, ClientBytes, ClientEnd, Expire}
 use Rattle.replay_script.specs.declared.event.Setting.{Setting}
-use Rattle.replay_script.specs.declared.event.Setting.TheVariants.{Server, Epochs, Timeouts, Secret}
+use Rattle.replay_script.specs.declared.event.Setting.TheVariants.{Server, Counter, Epochs, Timeouts, Secret}
 use Rattle.replay_script.specs.declared.event.Line.TheVariants.{Blank, Header, Happening}
 use Rattle.replay_script.specs.declared.script.Script.{Script}
 
@@ -24,6 +24,7 @@ IsBadLine text = line_of text ≡ None
 pub record GoodLines : Type 0 where
   pub empty : line_of [] ≡ Some Blank
   pub server : IsSettingLine (codes "server 0255") (Server (pos 255))
+  pub counter : IsSettingLine (codes "counter 72057594037927934") (Counter 72057594037927934)
   pub epochs : IsSettingLine (codes "epochs 2147483647 0") (Epochs (epoch_pair (pos 2147483647) (pos 0)))
   pub timeouts : IsSettingLine (codes "timeouts 7 7") (Timeouts (timeout_pair (pos 7) (pos 7)))
   pub secret : IsSettingLine (codes "secret aB ") (Secret (171 ∷ []))
@@ -36,6 +37,7 @@ pub record GoodLines : Type 0 where
 
 pub record BadLines : Type 0 where
   pub server : IsBadLine (codes "server 256")
+  pub counter : IsBadLine (codes "counter 72057594037927935")
   pub two_blanks : IsBadLine (codes "server  1")
   pub sign : IsBadLine (codes "client +1 up")
   pub large : IsBadLine (codes "client 4294967296 up")
@@ -55,6 +57,7 @@ with_newline line = line ++ 10 ∷ []
 abbrev pub script_of_server : ℤ → List ScriptEvent → Script
 script_of_server id events = record {
   server_id = id;
+  first_counter = default_first_counter;
   epochs = default_epochs;
   timeouts = default_timeouts;
   secret = default_secret;

@@ -1,11 +1,11 @@
 -- The script of a text.
 use Rattle.std.specs.Prelude.{ℕ, ◌+◌, ◌==◌, ◌&&◌, not, Bool, true, false, List, [], ◌∷◌, ◌++◌, Option, Some, None, is_some, Result, Ok, Err, unwrap_or, if◌then◌else◌}
 use Rattle.std.specs.List.{slice_split}
-use Rattle.settings.specs.Settings.{default_server_id, default_epochs, default_timeouts, default_secret}
+use Rattle.settings.specs.Settings.{default_server_id, default_first_counter, default_epochs, default_timeouts, default_secret}
 use Rattle.replay_script.specs.Line.{line_of}
 use Rattle.replay_script.specs.declared.event.ScriptEvent.{ScriptEvent}
 use Rattle.replay_script.specs.declared.event.Setting.{Setting}
-use Rattle.replay_script.specs.declared.event.Setting.TheVariants.{Server, Epochs, Timeouts, Secret, Primed}
+use Rattle.replay_script.specs.declared.event.Setting.TheVariants.{Server, Counter, Epochs, Timeouts, Secret, Primed}
 use Rattle.replay_script.specs.declared.event.Line.{Line}
 use Rattle.replay_script.specs.declared.event.Line.TheVariants.{Blank, Header, Happening}
 use Rattle.replay_script.specs.declared.script.Script.{Script}
@@ -25,12 +25,20 @@ pub record PartialScript : Type 0 where
 -- Before any line.
 abbrev pub empty_script : PartialScript
 empty_script = record {
-  settings = record { server = None; epochs = None; timeouts = None; secret = None; primed = false };
+  settings = record {
+    server = None;
+    counter = None;
+    epochs = None;
+    timeouts = None;
+    secret = None;
+    primed = false;
+  };
   events = [];
 }
 
 abbrev pub is_set : Setting → Settings → Bool
 is_set (Server id) settings = is_some settings.server
+is_set (Counter first) settings = is_some settings.counter
 is_set (Epochs epochs) settings = is_some settings.epochs
 is_set (Timeouts timeouts) settings = is_some settings.timeouts
 is_set (Secret bytes) settings = is_some settings.secret
@@ -38,6 +46,7 @@ is_set Primed settings = settings.primed
 
 abbrev pub with_setting : Settings → Setting → Settings
 with_setting settings (Server id) = record settings { server = Some id }
+with_setting settings (Counter first) = record settings { counter = Some first }
 with_setting settings (Epochs epochs) = record settings { epochs = Some epochs }
 with_setting settings (Timeouts timeouts) = record settings { timeouts = Some timeouts }
 with_setting settings (Secret bytes) = record settings { secret = Some bytes }
@@ -72,6 +81,7 @@ script_with kept =
     let settings = kept.settings in
     record {
       server_id = unwrap_or settings.server default_server_id;
+      first_counter = unwrap_or settings.counter default_first_counter;
       epochs = unwrap_or settings.epochs default_epochs;
       timeouts = unwrap_or settings.timeouts default_timeouts;
       secret = unwrap_or settings.secret default_secret;

@@ -5,7 +5,7 @@ ghost use Rattle.std.specs.Prelude.{◌≡◌, Some, None, OnOk, IfOk, if◌then
 use crate::event::{Line, ScriptEvent, Setting};
 use crate::line::line_of;
 use crate::script::{Script, Settings};
-use settings::{Epochs, Secret, ServerId, TimeoutBounds};
+use settings::{Epochs, FirstCounter, Secret, ServerId, TimeoutBounds};
 use std::alloc::Global;
 use std::marker::Model;
 use values::{Listed, NoMemory};
@@ -34,6 +34,7 @@ impl Settings {
     {
         match setting {
             Setting::Server(_) => self.server.is_some(),
+            Setting::Counter(_) => self.counter.is_some(),
             Setting::Epochs(_) => self.epochs.is_some(),
             Setting::Timeouts(_) => self.timeouts.is_some(),
             Setting::Secret(_) => self.secret.is_some(),
@@ -46,6 +47,7 @@ impl Settings {
     {
         match setting {
             Setting::Server(id) => self.server = Some(id),
+            Setting::Counter(first) => self.counter = Some(first),
             Setting::Epochs(epochs) => self.epochs = Some(epochs),
             Setting::Timeouts(timeouts) => self.timeouts = Some(timeouts),
             Setting::Secret(secret) => self.secret = Some(secret),
@@ -65,6 +67,7 @@ impl Draft {
         Draft {
             settings: Settings {
                 server: None,
+                counter: None,
                 epochs: None,
                 timeouts: None,
                 secret: None,
@@ -119,6 +122,7 @@ impl Draft {
         let Draft { settings, events } = self;
         let Settings {
             server,
+            counter,
             epochs,
             timeouts,
             secret,
@@ -126,6 +130,7 @@ impl Draft {
         } = settings;
         Script {
             server_id: server.unwrap_or(ServerId::default()),
+            first_counter: counter.unwrap_or(FirstCounter::default()),
             epochs: epochs.unwrap_or(Epochs::default()),
             timeouts: timeouts.unwrap_or(TimeoutBounds::default()),
             secret: secret.unwrap_or(Secret::empty(alloc)),

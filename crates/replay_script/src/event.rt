@@ -1,6 +1,6 @@
 //! The lines of a script.
 
-use settings::{Epochs, Secret, ServerId, TimeoutBounds};
+use settings::{Epochs, FirstCounter, Secret, ServerId, TimeoutBounds};
 use values::Blob;
 
 /// An event of a script. A connection is named by its number.
@@ -29,6 +29,8 @@ pub enum ScriptEvent {
 pub enum Setting {
     /// `server N`
     Server(ServerId),
+    /// `counter N`: the counter after which session ids begin.
+    Counter(FirstCounter),
     /// `epochs N N`: the accepted and the current epoch.
     Epochs(Epochs),
     /// `timeouts N N`: the least and the greatest timeout of a session, in milliseconds.
@@ -52,6 +54,7 @@ pub enum Line {
 #[derive(Clone, Copy)]
 pub enum Keyword {
     Server,
+    Counter,
     Epochs,
     Timeouts,
     Secret,

@@ -2,14 +2,14 @@
 
 ghost use Rattle.std.specs.Prelude.{◌≡◌, IfOk};
 ghost use Rattle.std.specs.Str.{is_utf8};
-ghost use Rattle.replay_script.specs.Line.{keyword_of, coming_of, leader_event, client_event, client_of, expire_of, server_setting, epochs_setting, timeouts_setting, secret_setting, line_of_keyword, line_with_text, line_of_words, line_of};
+ghost use Rattle.replay_script.specs.Line.{keyword_of, coming_of, leader_event, client_event, client_of, expire_of, server_setting, counter_setting, epochs_setting, timeouts_setting, secret_setting, line_of_keyword, line_with_text, line_of_words, line_of};
 
 use crate::cut::cut_at;
 use crate::event::{Coming, Keyword, Line, ScriptEvent, Setting};
 use crate::hex::read_hex;
 use crate::number::{int_of, ints_of, number_up_to};
 use byteorder::{BigEndian, ByteOrder};
-use settings::{Epochs, Secret, ServerId, TimeoutBounds};
+use settings::{Epochs, FirstCounter, Secret, ServerId, TimeoutBounds};
 use std::alloc::Global;
 use values::NoMemory;
 
@@ -18,6 +18,8 @@ fn keyword_of(word: &[u8]) -> Option<Keyword>
 {
     if word == b"server".as_slice() {
         Some(Keyword::Server)
+    } else if word == b"counter".as_slice() {
+        Some(Keyword::Counter)
     } else if word == b"epochs".as_slice() {
         Some(Keyword::Epochs)
     } else if word == b"timeouts".as_slice() {
@@ -109,6 +111,13 @@ fn server_of(text: &[u8]) -> Option<Setting>
     Some(Setting::Server(id))
 }
 
+fn counter_of(text: &[u8]) -> Option<Setting>
+    ensures { result ≡ counter_setting text.now }
+{
+    let first = FirstCounter::new(number_up_to(u64::MAX, text)?)?;
+    Some(Setting::Counter(first))
+}
+
 fn epochs_of(text: &[u8]) -> Option<Setting>
     ensures { result ≡ epochs_setting text.now }
 {
@@ -141,6 +150,7 @@ fn alone(word: Keyword) -> Option<Line>
         Keyword::Primed => Some(Line::Header(Setting::Primed)),
         Keyword::Checkpoint => Some(Line::Happening(ScriptEvent::Checkpoint)),
         Keyword::Server
+        | Keyword::Counter
         | Keyword::Epochs
         | Keyword::Timeouts
         | Keyword::Secret
@@ -155,6 +165,7 @@ fn followed(alloc: Global, word: Keyword, text: &[u8]) -> Result<Option<Line>, N
 {
     match word {
         Keyword::Server => Ok(server_of(text).map(Line::Header)),
+        Keyword::Counter => Ok(counter_of(text).map(Line::Header)),
         Keyword::Epochs => Ok(epochs_of(text).map(Line::Header)),
         Keyword::Timeouts => Ok(timeouts_of(text).map(Line::Header)),
         Keyword::Secret => Ok(secret_of(alloc, text)?.map(Line::Header)),

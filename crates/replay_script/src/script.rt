@@ -1,13 +1,14 @@
 //! Scripts as a whole.
 
 use crate::event::ScriptEvent;
-use settings::{Epochs, Secret, ServerId, TimeoutBounds};
+use settings::{Epochs, FirstCounter, Secret, ServerId, TimeoutBounds};
 use values::Listed;
 
 /// A script: the settings, and the events in order.
 #[derive(Debug, Drop)]
 pub struct Script {
     pub server_id: ServerId,
+    pub first_counter: FirstCounter,
     pub epochs: Epochs,
     pub timeouts: TimeoutBounds,
     pub secret: Secret,
@@ -20,6 +21,7 @@ pub struct Script {
 #[derive(Drop)]
 pub struct Settings {
     pub server: Option<ServerId>,
+    pub counter: Option<FirstCounter>,
     pub epochs: Option<Epochs>,
     pub timeouts: Option<TimeoutBounds>,
     pub secret: Option<Secret>,

@@ -3,12 +3,13 @@ use replay_script::{ScriptError, ScriptEvent};
 use std::test::*;
 
 const EVERY_LINE: &str =
-    "# \u{e9}\nserver 255\n\nepochs 2147483647 0\ntimeouts 1 2147483647\nsecret aB \nprimed\nleader up\nleader  00 Ff\nleader end\nclient 4294967295 up\nclient 007 0a0B\nclient 1 end\nexpire ff 00000000000001\ncheckpoint";
+    "# \u{e9}\nserver 255\ncounter 072057594037927934\n\nepochs 2147483647 0\ntimeouts 1 2147483647\nsecret aB \nprimed\nleader up\nleader  00 Ff\nleader end\nclient 4294967295 up\nclient 007 0a0B\nclient 1 end\nexpire ff 00000000000001\ncheckpoint";
 
 #[test]
 fn every_line(rt: HostRuntime) -> Result<(), Fail> {
     let script = read(rt.alloc(), EVERY_LINE.as_bytes())?;
     assert_eq!(rt; script.server_id.number(), 255);
+    assert_eq!(rt; script.first_counter.number(), 0x00ff_ffff_ffff_fffe);
     assert_eq!(rt; script.epochs.accepted(), i32::MAX);
     assert_eq!(rt; script.epochs.current(), 0);
     assert_eq!(rt; script.timeouts.least(), 1);
@@ -36,6 +37,7 @@ fn every_line(rt: HostRuntime) -> Result<(), Fail> {
 fn without_headers(rt: HostRuntime) -> Result<(), Fail> {
     let script = read(rt.alloc(), b"")?;
     assert_eq!(rt; script.server_id.number(), 1);
+    assert_eq!(rt; script.first_counter.number(), 0);
     assert_eq!(rt; script.epochs.accepted(), 0);
     assert_eq!(rt; script.epochs.current(), 0);
     assert_eq!(rt; script.timeouts.least(), 4000);
@@ -54,6 +56,10 @@ fn first_bad_line(rt: HostRuntime) {
         (b"server 1\nserver 1".as_slice(), 2),
         (b"server  1".as_slice(), 1),
         (b"server".as_slice(), 1),
+        (b"counter 72057594037927935".as_slice(), 1),
+        (b"counter -1".as_slice(), 1),
+        (b"counter 1\ncounter 1".as_slice(), 2),
+        (b"counter".as_slice(), 1),
         (b"epochs 2147483648 0".as_slice(), 1),
         (b"timeouts 2 1".as_slice(), 1),
         (b"timeouts 0 1".as_slice(), 1),

@@ -30,6 +30,8 @@ const PAUSE: u64 = 10;
 pub struct Door {
     // The number of open client connections.
     open: AtomicU64,
+    // The number of those that were closed at once, since there were too many.
+    refused: AtomicU64,
     most: Option<u64>,
     stopped: AtomicBool,
     waker: Waker,
@@ -45,8 +47,14 @@ impl Door {
         };
         if !fits {
             self.leave();
+            self.refused.fetch_add(1, Ordering::SeqCst);
         }
         fits
+    }
+
+    /// How many connections were closed at once, since there were too many.
+    pub fn refused(&self) -> u64 {
+        self.refused.load(Ordering::SeqCst)
     }
 
     /// Counts a connection that has ended.
@@ -116,6 +124,7 @@ pub fn open_door(
         alloc,
         Door {
             open: AtomicU64::new(0),
+            refused: AtomicU64::new(0),
             most,
             stopped: AtomicBool::new(false),
             waker,

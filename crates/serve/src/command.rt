@@ -1,17 +1,17 @@
 //! The command `serve`.
 
-use crate::failure::Failure;
-use crate::options::{Address, Options, options_of};
-use crate::serving::{logger, try_serve_on};
-use log::error;
+use crate::serving::{Origin, try_serve_on};
+use following::Finding;
 use mio::net::TcpListener;
+use serve_failures::{Failure, Server, Step};
+use serve_options::{Address, Command, Options, Servers, VERSION_LINES, command_of, help};
 use std::alloc::Global;
-use std::io;
 use std::net::{Net, TcpStream, ToSocketAddrs};
-use std::rt::Files;
+use std::rt::{Env, Files};
 use std::sync::Wait;
 use std::thread::Threads;
 use std::time::Clock;
+use std::{io, net};
 
 // Connects to the leader without delay (TCP_NODELAY): the observer's packets are small, and none is to wait for an
 // acknowledgement.
@@ -29,13 +29,40 @@ fn listen<R: Net>(rt: &R, address: &Address<'_>) -> io::Result<TcpListener> {
     }
 }
 
+// The failure of a step with an address. The error of a name that can't be resolved has no number of the system.
+fn failure(alloc: Global, step: Step, address: &Address<'_>, error: io::Error) -> Failure {
+    match Server::new(alloc, *address) {
+        Ok(server) => Failure::system(alloc, step, &server, error),
+        Err(error) => Failure::from(error),
+    }
+}
+
+// Where the first leader comes from: a connection to it, or a search.
+fn origin_of<R: Net<Stream = TcpStream>>(
+    rt: &R,
+    alloc: Global,
+    options: &Options<'_>,
+) -> Result<Origin, Failure> {
+    match &options.servers {
+        Servers::Leader(address) => match connect(rt, address) {
+            Ok(stream) => Ok(Origin::Stream(stream)),
+            Err(error) => Err(failure(alloc, Step::Connect, address, error)),
+        },
+        Servers::Any(servers) => match Finding::new(servers.len(), options.server_id) {
+            Some(finding) => Ok(Origin::Search(finding)),
+            None => Err(Failure::NoMemory),
+        },
+    }
+}
+
 // Opens the sockets, prints the port for clients, and serves.
 fn run<
     R: Threads
         + Wait
-        + Net<Stream = TcpStream>
+        + Net<Stream = TcpStream, Listener = net::TcpListener>
         + Clock
         + Files
+        + Env
         + Print
         + Eprint
         + Copy
@@ -43,41 +70,53 @@ fn run<
         + Sync
         + 'static,
 >(rt: &R, alloc: Global, options: &Options<'_>) -> Result<(), Failure> {
-    let log = logger(rt, options.log);
-    let leader = match connect(rt, &options.leader) {
-        Ok(leader) => leader,
-        Err(error) => {
-            let Address { host, port } = options.leader;
-            error!(log; target: "leader", "{host}:{port}: {error}");
-            return Err(Failure::from(error));
-        }
-    };
+    let origin = origin_of(rt, alloc, options)?;
     let listener = match listen(rt, &options.client) {
         Ok(listener) => listener,
-        Err(error) => {
-            let Address { host, port } = options.client;
-            error!(log; target: "client", "{host}:{port}: {error}");
-            return Err(Failure::from(error));
-        }
+        Err(error) => return Err(failure(alloc, Step::Bind, &options.client, error)),
     };
     let port = listener.local_addr()?.port();
     println!(rt; "serving {port}")?;
-    try_serve_on(rt, alloc, options, leader, listener)
+    try_serve_on(rt, alloc, options, origin, listener)
 }
 
-fn tell<R: Eprint>(rt: &R, failure: Failure) -> u8 {
-    // If standard error can't be written, only the status tells the failure.
-    let _ = eprintln!(rt; "{failure}");
-    failure.status()
+// Prints what a command asks for, or serves.
+fn obey<
+    R: Threads
+        + Wait
+        + Net<Stream = TcpStream, Listener = net::TcpListener>
+        + Clock
+        + Files
+        + Env
+        + Print
+        + Eprint
+        + Copy
+        + Send
+        + Sync
+        + 'static,
+>(rt: &R, alloc: Global, command: &Command<'_>) -> Result<(), Failure> {
+    match command {
+        Command::Serve(options) => run(rt, alloc, options),
+        Command::Help => {
+            let text = help(alloc)?;
+            print!(rt; "{text}")?;
+            Ok(())
+        }
+        Command::Version => {
+            print!(rt; "{VERSION_LINES}")?;
+            Ok(())
+        }
+    }
 }
 
 /// Serves as the words after `serve` ask, and returns the exit status. If it isn't 0, the reason is on standard error.
 pub fn serve<
     R: Threads
         + Wait
-        + Net<Stream = TcpStream>
+        + Net<Stream = TcpStream, Listener = net::TcpListener>
         + Clock
         + Files
+        + Env
         + Print
         + Eprint
         + Copy
@@ -85,11 +124,12 @@ pub fn serve<
         + Sync
         + 'static,
 >(rt: &R, alloc: Global, words: &[String]) -> u8 {
-    let Some(options) = options_of(words) else {
-        return tell(rt, Failure::Usage);
+    let obeyed = match command_of(alloc, words) {
+        Ok(command) => obey(rt, alloc, &command),
+        Err(error) => Err(Failure::of_options(alloc, &error)),
     };
-    match run(rt, alloc, &options) {
+    match obeyed {
         Ok(()) => 0,
-        Err(failure) => tell(rt, failure),
+        Err(failure) => failure.tell(rt),
     }
 }

@@ -1,117 +1,66 @@
 //! The main thread: it has the desk, and the threads of the connections.
 
 use crate::accept::Door;
-use crate::failure::Failure;
-use crate::journal::Journal;
+use crate::connections::{Client, Handed, start_client};
+use crate::leading::Leading;
+use crate::log_keeping::LogKeeper;
 use crate::record::Record;
+use crate::stopwatch::Stopwatch;
 use apply_workers::OpenGate;
-use connection_loop::{Bell, LeaderGone, Sides, leader_loop, session_loop, split};
-use intake::{Desk, Port, PortEnd, Waker as HubWaker};
+use connection_loop::{Sides, split};
+use intake::{Desk, Port, Waker as HubWaker};
 use log::Log;
 use mio::net::TcpStream;
 use rtrb::Consumer;
+use serve_failures::Failure;
+use serve_journal::Journal;
 use std::alloc::Global;
 use std::collections::BTreeMap;
 use std::collections::btree_map::Entry;
 use std::io::Write;
+use std::net;
 use std::net::Net;
 use std::sync::{Arc, Mutex, Wait};
-use std::thread::{Builder, JoinHandle, Threads};
+use std::thread::Threads;
 use std::time::{Clock, Duration};
-use std::{io, net};
 use values::NoMemory;
 
 /// How many messages, and how many outputs, of a connection may wait.
 pub const CAPACITY: usize = 64;
 
-// The stack of a connection's thread, in bytes.
-const STACK: usize = 128 * 1024;
-
 // The hub's longest wait, in milliseconds; a wake that is lost costs no more than this.
 const LONGEST_WAIT: u64 = 1000;
+
+// A turn that takes longer, in milliseconds, is logged: a leader gives up an observer that doesn't answer its PINGs.
+const SLOW_TURN: u64 = 500;
 
 // How many new connections are taken between two turns.
 const NEW_AT_ONCE: usize = 64;
 
-// The thread of a client's connection.
-#[derive(Drop)]
-struct Client {
-    handle: JoinHandle<Option<PortEnd>>,
-    bell: Arc<Bell, Global>,
-}
-
-// The thread of the leader's connection.
-#[derive(Drop)]
-struct Leader {
-    handle: JoinHandle<LeaderGone>,
-    bell: Arc<Bell, Global>,
-}
-
 /// The desk, and the threads that have its ports.
 #[derive(Drop)]
 pub struct Hub<L, W> {
-    alloc: Global,
-    desk: Desk,
-    leader: Option<Leader>,
+    pub(crate) alloc: Global,
+    pub(crate) desk: Desk,
+    pub(crate) clock: Stopwatch,
+    pub(crate) leading: Leading,
+    pub(crate) log_keeper: LogKeeper,
     clients: BTreeMap<usize, Client>,
     from_acceptor: Consumer<net::TcpStream>,
     door: Arc<Door, Global>,
-    journal: Journal<L>,
+    pub(crate) journal: Journal<L>,
     record: Record<W>,
-    // The leader's thread ended because an allocation was refused.
-    wants_memory: bool,
-}
-
-fn start_leader<R: Threads + Wait + Net + Clock + Copy + Send + 'static>(
-    rt: &R,
-    alloc: Global,
-    stream: net::TcpStream,
-    port: Port,
-) -> io::Result<Leader> {
-    stream.set_nonblocking(true)?;
-    let sides = split(rt, alloc, TcpStream::from_std(stream))?;
-    let Sides {
-        reader,
-        writer,
-        bell,
-    } = sides;
-    let mine = *rt;
-    let handle = Builder::new().stack_size(STACK).spawn(
-        rt,
-        move || leader_loop(&mine, alloc, reader, writer, port),
-    )?;
-    Ok(Leader { handle, bell })
-}
-
-// A port that is handed to its thread. If no thread can be started, the port is still in here.
-type Handed = Arc<Mutex<Option<Port>>, Global>;
-
-fn start_client<R: Threads + Wait + Net + Clock + Copy + Send + 'static>(
-    rt: &R,
-    alloc: Global,
-    sides: Sides,
-    handed: Handed,
-) -> io::Result<Client> {
-    let Sides {
-        reader,
-        writer,
-        bell,
-    } = sides;
-    let mine = *rt;
-    let handle = Builder::new().stack_size(STACK).spawn(rt, move || {
-        let port = handed.lock(&mine).take();
-        match port {
-            Some(port) => Some(session_loop(&mine, alloc, reader, writer, port)),
-            None => None,
-        }
-    })?;
-    Ok(Client { handle, bell })
+    // How serving ends, once it is to end.
+    pub(crate) over: Option<Result<(), Failure>>,
 }
 
 impl<L: Log, W: Write + Drop> Hub<L, W> {
     pub fn new(
         alloc: Global,
         desk: Desk,
+        clock: Stopwatch,
+        leading: Leading,
+        log_keeper: LogKeeper,
         from_acceptor: Consumer<net::TcpStream>,
         door: Arc<Door, Global>,
         journal: Journal<L>,
@@ -120,35 +69,21 @@ impl<L: Log, W: Write + Drop> Hub<L, W> {
         Hub {
             alloc,
             desk,
-            leader: None,
+            clock,
+            leading,
+            log_keeper,
             clients: BTreeMap::new(alloc),
             from_acceptor,
             door,
             journal,
             record,
-            wants_memory: false,
+            over: None,
         }
     }
 
     /// The waker of this thread.
     pub fn waker(&self) -> Result<Arc<HubWaker, Global>, NoMemory> {
         self.desk.waker()
-    }
-
-    /// Follows the leader at the other end of the stream. The leader has port 0, so this is called before any client is
-    /// added.
-    pub fn follow<R: Threads + Wait + Net + Clock + Copy + Send + 'static>(
-        &mut self,
-        rt: &R,
-        stream: net::TcpStream,
-    ) -> Result<(), Failure> {
-        let port = match self.desk.add_port(CAPACITY) {
-            Ok(port) => port,
-            Err(_) => return Err(Failure::NoMemory),
-        };
-        let leader = start_leader(rt, self.alloc, stream, port)?;
-        self.leader = Some(leader);
-        Ok(())
     }
 
     fn add_client<R: Threads + Wait + Net + Clock + Copy + Send + 'static>(
@@ -194,7 +129,7 @@ impl<L: Log, W: Write + Drop> Hub<L, W> {
                 entry.insert(start_client(rt, self.alloc, sides, handed)?);
                 Ok(())
             }
-            Entry::Occupied(_) => Err(Failure::Failed),
+            Entry::Occupied(_) => Err(Failure::NoThread),
         }
     }
 
@@ -219,9 +154,7 @@ impl<L: Log, W: Write + Drop> Hub<L, W> {
 
     fn ring(&self, number: usize) {
         if number == 0 {
-            if let Some(leader) = &self.leader {
-                leader.bell.ring();
-            }
+            self.leading.ring();
         } else if let Some(client) = self.clients.get(&number) {
             client.bell.ring();
         }
@@ -234,27 +167,24 @@ impl<L: Log, W: Write + Drop> Hub<L, W> {
     }
 
     // Makes a turn of the desk, records it, and tells the threads.
-    fn turn<R: Threads + Sync>(&mut self, rt: &R) -> Result<usize, NoMemory> {
+    pub(crate) fn turn<R: Threads + Sync + Clock>(&mut self, rt: &R) -> Result<usize, NoMemory> {
+        let began = self.clock.now(rt);
         let turned = self.desk.turn(rt, &OpenGate);
+        let now = self.clock.now(rt);
         self.record.add(self.desk.fresh());
         self.journal.turned(&self.desk);
+        self.note_turn(began, now);
         self.ring_each(self.desk.told());
         turned.map_err(|_| NoMemory)
     }
 
-    fn join_leader<R: Threads>(&mut self, rt: &R) {
-        let Some(leader) = self.leader.take() else {
-            return;
-        };
-        let Leader { handle, bell: _ } = leader;
-        let LeaderGone {
-            end,
-            fault,
-            wants_memory,
-        } = handle.join(rt);
-        self.wants_memory = wants_memory;
-        self.journal.leader_gone(fault);
-        self.desk.close(end);
+    fn note_turn(&mut self, began: u64, now: u64) {
+        let took = now.saturating_sub(began);
+        if took > SLOW_TURN {
+            self.journal.slow_turn(took, self.desk.fresh().len());
+        }
+        self.note_leader(now);
+        self.note_checkpoint(began, now);
     }
 
     fn join_client<R: Threads>(&mut self, rt: &R, number: usize) {
@@ -270,7 +200,7 @@ impl<L: Log, W: Write + Drop> Hub<L, W> {
 
     // Joins the threads whose `End` the last turn took. All bells are rung first, so that no thread waits for the
     // others.
-    fn join_ended<R: Threads>(&mut self, rt: &R) {
+    pub(crate) fn join_ended<R: Threads + Clock>(&mut self, rt: &R) {
         self.ring_each(self.desk.ended());
         for place in 0..self.desk.ended().len() {
             match self.desk.ended().get(place).copied() {
@@ -281,11 +211,12 @@ impl<L: Log, W: Write + Drop> Hub<L, W> {
         }
     }
 
-    fn wait<R: Wait>(&self, rt: &R) {
-        self.desk.wait(rt, Duration::from_millis(LONGEST_WAIT));
+    fn wait<R: Wait>(&self, rt: &R, rest: u64) {
+        self.desk
+            .wait(rt, Duration::from_millis(rest.min(LONGEST_WAIT)));
     }
 
-    /// Serves until the leader is gone.
+    /// Serves until the last leader is gone, or until it is to end for another reason.
     pub fn serve<R: Threads + Wait + Net + Clock + Copy + Send + Sync + 'static>(
         &mut self,
         rt: &R,
@@ -294,39 +225,45 @@ impl<L: Log, W: Write + Drop> Hub<L, W> {
             let found = self.take_new(rt);
             let took = self.turn(rt)?;
             self.join_ended(rt);
-            if self.leader.is_none() {
+            let by_leader = self.attend_leader(rt)?;
+            if self.over.is_some() {
                 break;
             }
+            let by_log = self.look_at_log();
+            self.journal
+                .connections_refused(self.door.refused(), self.clock.last());
             if !found && took == 0 {
-                self.wait(rt);
+                self.wait(rt, by_leader.min(by_log));
             }
         }
         Ok(())
     }
 
-    // Ends the clients' connections: each thread reaches the end of its stream, and its `End` is taken.
-    fn end_clients<R: Threads + Wait + Sync>(&mut self, rt: &R) -> Result<(), NoMemory> {
+    // Ends all connections: each thread reaches the end of its stream, and its `End` is taken.
+    fn end_connections<R: Threads + Wait + Sync + Clock>(
+        &mut self,
+        rt: &R,
+    ) -> Result<(), NoMemory> {
+        self.leading.stop();
         for client in self.clients.values() {
             client.bell.stop();
         }
         for _ in rt.forever() {
-            if self.clients.is_empty() {
+            if self.clients.is_empty() && !self.leading.is_following() {
                 break;
             }
             let took = self.turn(rt)?;
             self.join_ended(rt);
             if took == 0 {
-                self.wait(rt);
+                self.wait(rt, LONGEST_WAIT);
             }
         }
         Ok(())
     }
 
     // Ends all connections of a desk that takes nothing any more.
-    fn abandon<R: Threads>(&mut self, rt: &R) {
-        if let Some(leader) = &self.leader {
-            leader.bell.abandon();
-        }
+    fn abandon<R: Threads + Clock>(&mut self, rt: &R) {
+        self.leading.abandon();
         for client in self.clients.values() {
             client.bell.abandon();
         }
@@ -341,25 +278,26 @@ impl<L: Log, W: Write + Drop> Hub<L, W> {
     }
 
     /// Ends all connections and joins their threads, once serving has ended and no connection is accepted any more.
-    pub fn end<R: Threads + Wait + Sync>(
+    pub fn end<R: Threads + Wait + Sync + Clock>(
         &mut self,
         rt: &R,
         served: Result<(), Failure>,
     ) -> Result<(), Failure> {
+        self.leading.stop_search();
         for _ in 0..u64::MAX {
             if self.from_acceptor.pop().is_err() {
                 break;
             }
         }
-        if served.is_err() || self.end_clients(rt).is_err() {
+        if served.is_err() || self.end_connections(rt).is_err() {
             self.abandon(rt);
             return Err(served.err().unwrap_or(Failure::NoMemory));
         }
-        if self.wants_memory {
-            return Err(Failure::NoMemory);
+        if let Some(over) = self.over.take() {
+            over?;
         }
         if !self.record.is_whole() {
-            return Err(Failure::Failed);
+            return Err(Failure::RecordCut);
         }
         Ok(())
     }

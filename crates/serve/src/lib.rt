@@ -3,16 +3,18 @@
 
 mod accept;
 mod command;
-mod failure;
+mod connections;
 mod hub;
-mod journal;
-mod options;
+mod leading;
+mod log_keeping;
 mod record;
 mod serving;
+mod silence;
+mod stopwatch;
 
 pub use command::serve;
 pub use connection_loop::{LeaderGone, leader_loop, session_loop};
-pub use failure::Failure;
-pub use options::{Address, Options, options_of};
 pub use record::{Record, put_message};
+pub use serve_failures::Failure;
+pub use serve_options::{Address, Command, Options, Servers, command_of};
 pub use serving::serve_on;

@@ -100,13 +100,14 @@ impl<W: Write + Drop> Record<W> {
         self.lines.clear();
     }
 
-    /// Records the observer's settings.
-    pub fn begin(&mut self, server_id: ServerId) {
+    /// Records the observer's settings that aren't those of every script: its id, and the counter after which its session
+    /// ids begin.
+    pub fn begin(&mut self, server_id: ServerId, first_counter: u64) {
         if self.writer.is_none() {
             return;
         }
         let number = server_id.number();
-        let made = match writeln!(self.lines, "server {number}") {
+        let made = match write!(self.lines, "server {number}\ncounter {first_counter}\n") {
             Ok(()) => Ok(()),
             Err(_) => Err(NoMemory),
         };

@@ -1,26 +1,32 @@
 //! The server, once its sockets are open.
 
 use crate::accept::{Accepting, Acceptor, Door, accept_all, open_door};
-use crate::failure::Failure;
 use crate::hub::Hub;
-use crate::journal::Journal;
-use crate::options::Options;
+use crate::leading::{Leading, Source};
+use crate::log_keeping::LogKeeper;
 use crate::record::Record;
+use crate::silence::SilenceLimits;
+use crate::stopwatch::Stopwatch;
 use batcher::SpreadThreshold;
+use following::Finding;
 use intake::Desk;
-use log::sink::Console;
-use log::{LevelFilter, Log, Logged};
+use leader_search::{Finder, find_all, search_among};
+use log::Log;
 use mio::net::TcpListener;
 use observer_core::{Config, Settings};
-use settings::{Epochs, Secret, TimeoutBounds};
+use serve_failures::{Failure, Step, servers_of};
+use serve_journal::Journal;
+use serve_log::{has_journal, logger};
+use serve_options::{Address, Options, Servers};
+use settings::{Epochs, FirstCounter, Secret, TimeoutBounds};
 use std::alloc::Global;
 use std::io::Write;
 use std::net::{Net, TcpStream};
-use std::rt::Files;
+use std::rt::{Env, Files};
 use std::sync::{Arc, Wait};
-use std::thread::Threads;
-use std::time::Clock;
-use std::{fs, io, thread};
+use std::thread::{JoinHandle, Threads};
+use std::time::{Clock, Duration, SystemTime};
+use std::{fs, io, net, slice, thread};
 
 // Work that is less than this is done by the hub's thread: starting threads takes as long as storing some megabytes.
 // Small reads are quicker on one thread even in runs of some thousands.
@@ -30,49 +36,137 @@ const WORTH_THREADS: SpreadThreshold = SpreadThreshold {
     reads: 16_384,
 };
 
+// The counter that session ids begin after: the one that is given, or that of the clock, so that the ids of two runs
+// differ.
+fn first_counter<R: Clock>(rt: &R, options: &Options<'_>) -> io::Result<FirstCounter> {
+    if let Some(counter) = options.first_counter.and_then(FirstCounter::new) {
+        return Ok(counter);
+    }
+    let since_1970 = SystemTime::now(rt)?
+        .duration_since(SystemTime::UNIX_EPOCH)
+        .unwrap_or(Duration::ZERO);
+    let milliseconds = u64::try_from(since_1970.as_millis()).unwrap_or(0);
+    Ok(FirstCounter::from_clock(milliseconds))
+}
+
 // The observer's settings. Those without an option have the defaults of a script.
-fn config_of(alloc: Global, options: &Options<'_>) -> Config {
+fn config_of(alloc: Global, options: &Options<'_>, first_counter: FirstCounter) -> Config {
     let settings = Settings {
         server_id: options.server_id,
         epochs: Epochs::default(),
         timeouts: TimeoutBounds::default(),
         secret: Secret::empty(alloc),
+        first_counter,
     };
     Config::from_settings(settings, options.limits).with_threshold(WORTH_THREADS)
 }
 
-/// A logger to standard error, or one that drops everything.
-pub fn logger<R: Eprint + Copy>(rt: &R, is_on: bool) -> Logged<R, Console<R>> {
-    let most = if is_on {
-        LevelFilter::Info
-    } else {
-        LevelFilter::Off
+// The file for the record, if there is one.
+fn record_file<R: Files>(
+    rt: &R,
+    alloc: Global,
+    name: Option<&str>,
+) -> Result<Option<R::File>, Failure> {
+    let Some(name) = name else {
+        return Ok(None);
     };
-    Logged::new(*rt, most, Console(*rt))
+    match fs::create(rt, name) {
+        Ok(file) => Ok(Some(file)),
+        Err(error) => Err(Failure::system(alloc, Step::Open, &name, error)),
+    }
 }
 
-// The file for the record, if there is one.
-fn record_file<R: Files>(rt: &R, name: Option<&str>) -> io::Result<Option<R::File>> {
-    match name {
-        None => Ok(None),
-        Some(name) => Ok(Some(fs::create(rt, name)?)),
+/// Where the first leader comes from.
+#[derive(Drop)]
+pub enum Origin {
+    /// This connection, with whose end the server ends.
+    Stream(TcpStream),
+    /// The servers among the options, one of which leads at a time.
+    Search(Finding),
+}
+
+// What is still to be started when the hub is there.
+#[derive(Drop)]
+enum Beginning {
+    Stream(TcpStream),
+    Finder(Finder),
+}
+
+// The addresses of the servers that may lead.
+fn addresses_in<'a>(options: &'a Options<'a>) -> &'a [Address<'a>] {
+    match &options.servers {
+        Servers::Leader(address) => slice::from_ref(address),
+        Servers::Any(addresses) => addresses.as_slice(),
+    }
+}
+
+// Prepares for the first leader.
+fn begin_at(
+    alloc: Global,
+    options: &Options<'_>,
+    origin: Origin,
+    now: u64,
+) -> Result<(Source, Beginning), Failure> {
+    let servers = servers_of(alloc, addresses_in(options))?;
+    match origin {
+        Origin::Stream(stream) => Ok((Source::Once(servers), Beginning::Stream(stream))),
+        Origin::Search(finding) => {
+            let (search, finder) = search_among(alloc, servers, finding, now)?;
+            Ok((Source::Search(search), Beginning::Finder(finder)))
+        }
+    }
+}
+
+// Follows the connection, or starts the thread that looks for a leader.
+fn start<
+    R: Threads
+        + Wait
+        + Net<Stream = TcpStream, Listener = net::TcpListener>
+        + Clock
+        + Copy
+        + Send
+        + Sync
+        + 'static,
+    L: Log,
+    W: Write + Drop,
+>(rt: &R, hub: &mut Hub<L, W>, beginning: Beginning) -> Result<Option<JoinHandle<()>>, Failure> {
+    match beginning {
+        Beginning::Stream(stream) => {
+            hub.follow(rt, stream)?;
+            Ok(None)
+        }
+        Beginning::Finder(finder) => {
+            let waker = hub.waker()?;
+            let mine = *rt;
+            match thread::spawn(rt, move || find_all(&mine, finder, &waker)) {
+                Ok(finding) => Ok(Some(finding)),
+                Err(_) => Err(Failure::NoThread),
+            }
+        }
     }
 }
 
 // Serves with a hub that has no connection yet.
 fn serve_hub<
-    R: Threads + Wait + Net + Clock + Copy + Send + Sync + 'static,
+    R: Threads
+        + Wait
+        + Net<Stream = TcpStream, Listener = net::TcpListener>
+        + Clock
+        + Copy
+        + Send
+        + Sync
+        + 'static,
     L: Log,
     W: Write + Drop,
 >(
     rt: &R,
     hub: &mut Hub<L, W>,
-    leader: TcpStream,
+    beginning: Beginning,
     acceptor: Acceptor,
     door: &Door,
 ) -> Result<(), Failure> {
     let waker = hub.waker()?;
-    hub.follow(rt, leader)?;
+    let finding = start(rt, hub, beginning)?;
     let mine = *rt;
     let served = match thread::spawn(rt, move || accept_all(&mine, acceptor, &waker)) {
         Ok(accepting) => {
@@ -81,26 +175,40 @@ fn serve_hub<
             accepting.join(rt);
             served
         }
-        Err(_) => Err(Failure::Failed),
+        Err(_) => Err(Failure::NoThread),
     };
-    hub.end(rt, served)
+    let ended = hub.end(rt, served);
+    if let Some(finding) = finding {
+        finding.join(rt);
+    }
+    ended
 }
 
 // Serves with a desk of its own. The desk is dropped with the hub, at the single end of this function and nowhere else:
 // each drop of an observer is proved anew.
 fn serve_with<
-    R: Threads + Wait + Net + Clock + Copy + Send + Sync + 'static,
+    R: Threads
+        + Wait
+        + Net<Stream = TcpStream, Listener = net::TcpListener>
+        + Clock
+        + Copy
+        + Send
+        + Sync
+        + 'static,
     L: Log + Drop,
     W: Write + Drop,
 >(
     rt: &R,
     alloc: Global,
     options: &Options<'_>,
-    leader: TcpStream,
+    config: Config,
+    origin: Origin,
     listener: TcpListener,
     journal: Journal<L>,
     record: Record<W>,
 ) -> Result<(), Failure> {
+    let mut clock = Stopwatch::start(rt);
+    let (source, beginning) = begin_at(alloc, options, origin, clock.now(rt))?;
     let accepting = open_door(rt, alloc, listener, options.max_clients)?;
     let Accepting {
         acceptor,
@@ -108,39 +216,81 @@ fn serve_with<
         door,
     } = accepting;
     let theirs = Arc::try_clone(&door)?;
-    let desk = Desk::new(alloc, config_of(alloc, options))?;
-    let mut hub = Hub::new(alloc, desk, from_acceptor, theirs, journal, record);
-    serve_hub(rt, &mut hub, leader, acceptor, &door)
+    let limits = SilenceLimits {
+        tick: options.tick,
+        init_limit: options.init_limit,
+        sync_limit: options.sync_limit,
+    };
+    let leading = Leading::new(source, limits, options.give_up);
+    let log_keeper = LogKeeper::new(options.checkpoint);
+    let desk = Desk::new(alloc, config)?;
+    let mut hub = Hub::new(
+        alloc,
+        desk,
+        clock,
+        leading,
+        log_keeper,
+        from_acceptor,
+        theirs,
+        journal,
+        record,
+    );
+    match hub.open_leader_port() {
+        Ok(()) => serve_hub(rt, &mut hub, beginning, acceptor, &door),
+        Err(failure) => Err(failure),
+    }
 }
 
 /// The same as `serve_on`, with the reason why it ended.
 pub fn try_serve_on<
-    R: Threads + Wait + Net + Clock + Files + Eprint + Copy + Send + Sync + 'static,
+    R: Threads
+        + Wait
+        + Net<Stream = TcpStream, Listener = net::TcpListener>
+        + Clock
+        + Files
+        + Env
+        + Eprint
+        + Copy
+        + Send
+        + Sync
+        + 'static,
 >(
     rt: &R,
     alloc: Global,
     options: &Options<'_>,
-    leader: TcpStream,
+    origin: Origin,
     listener: TcpListener,
 ) -> Result<(), Failure> {
-    let file = record_file(rt, options.record)?;
+    let first_counter = first_counter(rt, options)?;
+    let file = record_file(rt, alloc, options.record)?;
     let mut record = Record::new(alloc, file);
-    record.begin(options.server_id);
-    let journal = Journal::new(alloc, logger(rt, options.log));
-    serve_with(rt, alloc, options, leader, listener, journal, record)
+    record.begin(options.server_id, first_counter.number());
+    let log = logger(rt, options.log, options.log_format, !has_journal(rt));
+    let journal = Journal::new(alloc, log);
+    journal.started(options, listener.local_addr()?.port());
+    let config = config_of(alloc, options, first_counter);
+    serve_with(
+        rt, alloc, options, config, origin, listener, journal, record,
+    )
 }
 
 /// Follows the leader and serves clients until the leader's connection ends. Returns the exit status: 0 then, 3 if
-/// something couldn't be opened or recorded, 4 if an allocation was refused. By then each thread that it started has
-/// ended, and each connection is closed.
-pub fn serve_on<R: Threads + Wait + Net + Clock + Files + Eprint + Copy + Send + Sync + 'static>(
-    rt: &R,
-    alloc: Global,
-    options: &Options<'_>,
-    leader: TcpStream,
-    listener: TcpListener,
-) -> u8 {
-    match try_serve_on(rt, alloc, options, leader, listener) {
+/// something couldn't be opened or recorded, 4 if an allocation was refused, 7 if what the leader sent was refused. By
+/// then each thread that it started has ended, and each connection is closed.
+pub fn serve_on<
+    R: Threads
+        + Wait
+        + Net<Stream = TcpStream, Listener = net::TcpListener>
+        + Clock
+        + Files
+        + Env
+        + Eprint
+        + Copy
+        + Send
+        + Sync
+        + 'static,
+>(rt: &R, alloc: Global, options: &Options<'_>, leader: TcpStream, listener: TcpListener) -> u8 {
+    match try_serve_on(rt, alloc, options, Origin::Stream(leader), listener) {
         Ok(()) => 0,
         Err(failure) => failure.status(),
     }

@@ -5,7 +5,7 @@ use crate::rows::{
     got_with_session, leader_info, observer_info, session_request, up_to_date,
 };
 use mio::net::TcpListener as ClientListener;
-use serve::{options_of, serve_on};
+use serve::{Command, command_of, serve_on};
 use std::alloc::Global;
 use std::io::{self, Read, Write};
 use std::net::{Ipv4Addr, Net, SocketAddr, SocketAddrV4, TcpListener, TcpStream};
@@ -94,7 +94,7 @@ fn serve_one<
         .spawn(rt, move || lead_one(&mine, leading, port))?;
     let stream = TcpStream::connect(rt, (Ipv4Addr::LOCALHOST, leader_port))?;
     let words = words_of(alloc, words)?;
-    let Some(options) = options_of(words.as_slice()) else {
+    let Ok(Command::Serve(options)) = command_of(alloc, words.as_slice()) else {
         return Err(Fail::from("refused"));
     };
     let status = serve_on(rt, alloc, &options, stream, serving);
@@ -113,8 +113,8 @@ fn words_of(alloc: Global, line: &str) -> Result<Vec<String>, Fail> {
 #[test]
 fn a_client_reads_what_the_leader_made(rt: HostRuntime) -> Result<(), Fail> {
     for words in [
-        "--leader 1 --client 0",
-        "--leader 1 --client 0 --workers 1 --batch 1 --max-clients 1",
+        "--leader 1 --client 0 --counter 0",
+        "--leader 1 --client 0 --counter 0 --workers 1 --batch 1 --max-clients 1",
     ] {
         let (status, is_right) = serve_one(&rt, rt.alloc(), words)?;
         assert!(rt; is_right, "{words}");

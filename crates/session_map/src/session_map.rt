@@ -1,10 +1,14 @@
 //! The map, modelled as a finite map.
 
-ghost use Rattle.std.specs.Prelude.{◌≡◌, OnOk, OnErr};
+ghost use Rattle.std.specs.Prelude.{◌≡◌, ℤ, OnOk, OnErr};
+ghost use Rattle.std.specs.List.{list_any};
+ghost use Rattle.std.specs.Ordering.{eq_by_cmp, int_cmp};
+ghost use Rattle.std.specs.Map.Iter.{ShowsInOrder, deref};
 ghost use Rattle.std.specs.FinMap as finmap;
 
 use std::alloc::Global;
 use std::collections::BTreeMap;
+use std::collections::btree_map::Keys;
 use std::marker::Model;
 use values::NoMemory;
 
@@ -57,5 +61,14 @@ impl SessionMap {
         ensures removed { self.new ≡ finmap.remove self.old session }
     {
         self.map.remove(&session)
+    }
+
+    /// The sessions, each once, in ascending order of their ids.
+    pub fn sessions(&self) -> Keys<'_, i64, u64>
+        ensures members { (session : ℤ) →
+            list_any (eq_by_cmp int_cmp session) result ≡ finmap.contains_key self.now session }
+        ensures runs { ShowsInOrder (deref {X = ℤ}) }
+    {
+        self.map.keys()
     }
 }

@@ -7,12 +7,13 @@ use Rattle.std.specs.Cmp.{nat_cmp_total, int_cmp_total}
 use Rattle.std.proofs.lemmas.List.Elements.{All-nil, All-push}
 use Rattle.std.proofs.lemmas.Map.Lookups.{exact_unsigned, exact_signed}
 use Rattle.std.specs.FinMap as finmap
-use Rattle.settings.specs.Settings.{is_server_id}
+use Rattle.settings.specs.Settings.{is_server_id, is_first_counter}
 use Rattle.jute.specs.Owned.{id_format}
 use Rattle.jute.specs.declared.owned.Id.{Id}
-use Rattle.sessions.specs.State.{SessionSettings, ConnectedClient, SessionOwners, ConnectedClients, SessionTable}
+use Rattle.sessions.specs.State.{SessionSettings, ConnectedClient, SessionOwners, ConnectedClients, SessionTable, session_table_of}
 use Rattle.sessions.specs.Sessions.{no_sessions, close_connection, close_as, close_if_some, expire_owner, session_response, give_session, new_connection, with_session_connected, with_id, ids_in, ids_of, ids_limit}
 use Rattle.sessions.specs.Agreement.{SessionsAgree, SessionsAreApart}
+use Rattle.sessions.proofs.Numbers.{first_below}
 use Rattle.session_map.proofs.Maps.{none-some, some-some, apart, other, same_or_other, inserted, inserted_elsewhere, removed, removed_elsewhere, at_inserted, at_removed, remove_absent, insert_removed, remove_past_insert}
 
 -- A connection that has this session.
@@ -30,15 +31,20 @@ AtConnection connections key new n c =
 
 -- ---- nothing yet
 
-pub starts : (terms : SessionSettings) → IsTrue (is_server_id terms.server_id) → SessionsAgree (no_sessions terms)
-starts terms h = record {
+pub none_agree : (terms : SessionSettings) (counter : ℕ) → IsTrue (is_server_id terms.server_id) → counter < 2 ^ 56
+    → SessionsAgree (session_table_of terms counter finmap.empty finmap.empty)
+none_agree terms counter h below = record {
   server_id = h;
-  counter = omega arith;
+  counter = below;
   owners = λ n c e. absurd (none-some c (sym (finmap.get-empty nat_cmp n) ∙ e));
   connections = λ session n e. absurd (none-some n (sym (finmap.get-empty int_cmp session) ∙ e));
   ids = λ n c e. absurd (none-some c (sym (finmap.get-empty nat_cmp n) ∙ e));
   writable = λ n c e. absurd (none-some c (sym (finmap.get-empty nat_cmp n) ∙ e));
 }
+
+pub starts : (terms : SessionSettings) → IsTrue (is_server_id terms.server_id)
+    → IsTrue (is_first_counter terms.first_counter) → SessionsAgree (no_sessions terms)
+starts terms h fits = none_agree terms terms.first_counter h (first_below terms.first_counter fits)
 
 -- ---- no two connections have one session
 

@@ -1,10 +1,11 @@
--- Two counters of a server give two session ids.
-use Rattle.std.proofs.Common.{◌≡◌, ◌≢◌, ℕ, ◌+◌, ◌*◌, ◌^◌, ◌<◌, ℤ, pos, negsuc, sym, ap, ◌∙◌, arith, w64}
+-- Two counters of a server give two session ids, and there is one after the first counter.
+use Rattle.std.proofs.Common.{◌≡◌, ◌≢◌, ℕ, ◌+◌, ◌*◌, ◌^◌, ◌<◌, ◌==◌, false, ℤ, pos, negsuc, sym, ap, ◌∙◌, arith, w64}
 use Rattle.std.specs.Prelude.{IsTrue, unsigned_abs}
 use Rattle.std.specs.Int.{cast_unsigned}
 use Rattle.std.proofs.lemmas.Int.{of_z-to_z}
-use Rattle.settings.specs.Settings.{is_server_id}
+use Rattle.settings.specs.Settings.{is_server_id, is_first_counter}
 use Rattle.sessions.specs.Credentials.{session_id_of, session_number}
+use Rattle.sessions.specs.Sessions.{greatest_counter}
 
 pub server_below : (server_id : ℤ) → IsTrue (is_server_id server_id) → unsigned_abs server_id < 256
 server_below (pos n) h = grind arith
@@ -42,3 +43,12 @@ never_zero server_id counter h low e =
     not_zero (unsigned_abs server_id) counter (positive server_id h)
     (sym (of_z-to_z w64 (session_number server_id counter) (number_below server_id counter h low))
     ∙ ap (cast_unsigned w64) e)
+
+-- ---- the first counter
+
+pub first_below : (first : ℕ) → IsTrue (is_first_counter first) → first < 2 ^ 56
+first_below first fits = grind arith
+
+-- There is a counter after it.
+pub first_not_last : (first : ℕ) → IsTrue (is_first_counter first) → (first == greatest_counter) ≡ false
+first_not_last first fits = grind arith

@@ -3,7 +3,7 @@ use Rattle.std.specs.Prelude.{◌≡◌, ◌≢◌, ℕ, ◌+◌, ◌<◌, ◌�
 use Rattle.std.specs.List.{All}
 use Rattle.std.specs.Ordering.{int_eq}
 use Rattle.std.specs.FinMap as finmap
-use Rattle.settings.specs.Settings.{is_server_id}
+use Rattle.settings.specs.Settings.{is_server_id, is_first_counter}
 use Rattle.jute.specs.Owned.{id_format}
 use Rattle.jute.specs.declared.owned.Id.{Id}
 use Rattle.sessions.specs.Credentials.{session_id_of}
@@ -11,7 +11,7 @@ use Rattle.sessions.specs.declared.request.SessionRequest.{SessionRequest}
 use Rattle.sessions.specs.State.{SessionSettings, ConnectedClient, SessionTable}
 use Rattle.sessions.specs.Sessions.{ids_limit, no_sessions, session_of_connection, is_valid, give_session, name_session, connect_session, add_auth, close_connection, expire_owner}
 
--- The server has given the id out with one of its counters so far.
+-- The server has given the id out with one of its counters so far. Those up to its first counter count as given.
 pub record IsGivenOut (server_id : ℤ) (counter : ℕ) (session : ℤ) : Type 0 where
   pub own : ℕ
   pub first : 0 < own
@@ -42,7 +42,8 @@ SessionsAreApart = (s : SessionTable) → SessionsAgree s → (m n : ℕ) (c d :
 
 -- Sessions and connections agree at the start, and after each step.
 pub record AgreementIsKept : Type 0 where
-  pub starts : (terms : SessionSettings) → IsTrue (is_server_id terms.server_id) → SessionsAgree (no_sessions terms)
+  pub starts : (terms : SessionSettings) → IsTrue (is_server_id terms.server_id)
+      → IsTrue (is_first_counter terms.first_counter) → SessionsAgree (no_sessions terms)
   pub connects : (s : SessionTable) (n : ℕ) (lives : Bool) (request : SessionRequest) → SessionsAgree s
       → finmap.get s.connections n ≡ None
       → SessionsAgree (connect_session s n lives request).after

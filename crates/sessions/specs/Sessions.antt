@@ -12,9 +12,9 @@ use Rattle.sessions.specs.declared.request.Connected.{Connected}
 use Rattle.sessions.specs.Credentials.{session_id_of, password_of, digest_id}
 use Rattle.sessions.specs.State.{SessionSettings, ConnectedClient, SessionTable, session_table_of}
 
--- Before any connection.
+-- Before any connection. The first session id has the counter after the first counter.
 abbrev pub no_sessions : SessionSettings → SessionTable
-no_sessions terms = session_table_of terms 0 finmap.empty finmap.empty
+no_sessions terms = session_table_of terms terms.first_counter finmap.empty finmap.empty
 
 -- ---- queries
 

@@ -12,6 +12,8 @@ pub record SessionSettings : Type 0 where
   pub server_id : ℤ
   pub timeouts : TimeoutPair
   pub secret : List ℕ
+  -- Session ids begin after this counter.
+  pub first_counter : ℕ
 
 -- A connection that has a session, and the ids that it has added.
 pub record ConnectedClient : Type 0 where
@@ -28,13 +30,14 @@ ConnectedClients = finmap.FinMap nat_cmp ConnectedClient
 
 pub record SessionTable : Type 0 where
   pub terms : SessionSettings
-  -- The number of session ids given out so far.
+  -- The counter of the last session id that was given out; at first that after which they begin.
   pub counter : ℕ
   pub owners : SessionOwners
   pub connections : ConnectedClients
 
-abbrev pub session_settings_of : ℤ → TimeoutPair → List ℕ → SessionSettings
-session_settings_of server_id timeouts secret = record { server_id = server_id; timeouts = timeouts; secret = secret }
+abbrev pub session_settings_of : ℤ → TimeoutPair → List ℕ → ℕ → SessionSettings
+session_settings_of server_id timeouts secret first_counter =
+    record { server_id = server_id; timeouts = timeouts; secret = secret; first_counter = first_counter }
 
 abbrev pub session_table_of : SessionSettings → ℕ → SessionOwners → ConnectedClients → SessionTable
 session_table_of terms counter owners connections =
@@ -49,9 +52,10 @@ timeouts_code =
 
 abbrev pub session_settings_code : Coded SessionSettings
 session_settings_code =
-    code_by (ℤ × (TimeoutPair × List ℕ)) (coded× coded_ℤ (coded× timeouts_code (coded_list coded_ℕ)))
-    (λ t. (t.server_id, (t.timeouts, t.secret))) (λ p. record { server_id = p.0; timeouts = p.1.0; secret = p.1.1 })
-    (λ _. refl)
+    code_by (ℤ × (TimeoutPair × (List ℕ × ℕ)))
+    (coded× coded_ℤ (coded× timeouts_code (coded× (coded_list coded_ℕ) coded_ℕ)))
+    (λ t. (t.server_id, (t.timeouts, (t.secret, t.first_counter))))
+    (λ p. record { server_id = p.0; timeouts = p.1.0; secret = p.1.1.0; first_counter = p.1.1.1 }) (λ _. refl)
 
 abbrev pub id_code : Coded Id
 id_code =

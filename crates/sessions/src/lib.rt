@@ -2,13 +2,13 @@
 //!
 //! Which sessions there are, the leader says, and the data tree has them. A client that asks for a new session is given
 //! an id at once, and the leader is asked to create the session: the high byte of the id is the server id, and the 7
-//! bytes below are a counter from 1 on. The connection has the session when the leader has created it, see
-//! [`Sessions::admit`]. The password is computed from the observer's secret and the session id, so no password is
-//! stored. A session outlives its connection: a client that reconnects with id and password has it again, and an older
-//! connection of the session is closed.
+//! bytes below are a counter that begins after the first counter of the settings. The connection has the session when
+//! the leader has created it, see [`Sessions::admit`]. The password is computed from the observer's secret and the
+//! session id, so no password is stored. A session outlives its connection: a client that reconnects with id and
+//! password has it again, and an older connection of the session is closed.
 //!
 //! ```text
-//! let mut sessions = Sessions::new(alloc, server_id, timeouts, secret);
+//! let mut sessions = Sessions::new(alloc, server_id, timeouts, secret, first_counter);
 //! let named = sessions.connect(alloc, 1, false, &new_session)?;       // an id for a new session, or a refusal
 //! sessions.admit(alloc, 1, named.response.session_id, time_out)?;     // the leader has created it
 //! sessions.auth(alloc, 1, Some("digest"), Some(b"user:password"))?;

@@ -2,9 +2,11 @@
 //!
 //! Laws that go over this: `Agreeing`, `Kept`, `NewIds`, `Others`.
 
-ghost use Rattle.std.specs.Prelude.{◌≡◌, ◌≤◌, OnErr, IfOk, IfNone, None, nat_lt, length};
+ghost use Rattle.std.specs.Prelude.{◌≡◌, ◌≤◌, ℤ, OnErr, IfOk, IfNone, None, nat_lt, length};
 ghost use Rattle.std.specs.Option.{option_copied};
-ghost use Rattle.std.specs.List.{All};
+ghost use Rattle.std.specs.List.{All, list_any};
+ghost use Rattle.std.specs.Ordering.{eq_by_cmp, int_cmp};
+ghost use Rattle.std.specs.Map.Iter.{ShowsInOrder, deref};
 ghost use Rattle.std.specs.FinMap as finmap;
 ghost use Rattle.jute.specs.Owned.{id_format};
 ghost use Rattle.sessions.specs.State.{session_settings_of};
@@ -16,8 +18,9 @@ use crate::credentials::{COUNTERS, digest_id, password, session_id};
 use crate::request::{Connected, PASSWORD_LEN, SessionRequest, SessionResponse};
 use jute::Id;
 use session_map::SessionMap;
-use settings::{Secret, ServerId, TimeoutBounds};
+use settings::{FirstCounter, Secret, ServerId, TimeoutBounds};
 use std::alloc::Global;
+use std::collections::btree_map::Keys;
 use std::marker::Model;
 use values::NoMemory;
 
@@ -34,7 +37,8 @@ pub struct Sessions {
     server_id: ServerId,
     timeouts: TimeoutBounds,
     secret: Secret,
-    // The number of session ids given out so far.
+    first_counter: FirstCounter,
+    // The counter of the last session id that was given out; at first that after which they begin.
     counter: u64,
     owners: SessionMap,
     connections: Connections,
@@ -48,11 +52,11 @@ impl Model for Sessions {
 
     ghost coded = { session_table_code };
 
-    ghost view = { λ s. session_table_of (session_settings_of s.server_id s.timeouts s.secret) s.counter s.owners
-        s.connections };
+    ghost view = { λ s. session_table_of (session_settings_of s.server_id s.timeouts s.secret s.first_counter)
+        s.counter s.owners s.connections };
 
-    ghost invariant = { λ s. SessionsAgree (session_table_of (session_settings_of s.server_id s.timeouts s.secret)
-        s.counter s.owners s.connections) };
+    ghost invariant = { λ s. SessionsAgree (session_table_of (session_settings_of s.server_id s.timeouts s.secret
+        s.first_counter) s.counter s.owners s.connections) };
 }
 
 // The timeout, in milliseconds, moved into the bounds.
@@ -113,22 +117,26 @@ fn has_room(ids: &[Id]) -> bool
 }
 
 impl Sessions {
-    /// No session. `timeouts` are in milliseconds. Allocates nothing.
+    /// No session. `timeouts` are in milliseconds, and the first session id has the counter after `first_counter`.
+    /// Allocates nothing.
     pub fn new(
         alloc: Global,
         server_id: ServerId,
         timeouts: TimeoutBounds,
         secret: Secret,
+        first_counter: FirstCounter,
     ) -> Sessions
-        ensures { result ≡ no_sessions (session_settings_of server_id timeouts secret) }
+        ensures { result ≡ no_sessions (session_settings_of server_id timeouts secret first_counter) }
     {
         // The contract of `number` tells the prover the bounds of the server id, which the invariant needs.
         let _number = server_id.number();
+        let counter = first_counter.number();
         Sessions {
             server_id,
             timeouts,
             secret,
-            counter: 0,
+            first_counter,
+            counter,
             owners: SessionMap::new(alloc),
             connections: Connections::new(alloc),
         }
@@ -152,6 +160,15 @@ impl Sessions {
         ensures agrees { SessionsAgree self.now }
     {
         self.owners.get(session)
+    }
+
+    /// The sessions that connections have here, each once, in ascending order of their ids.
+    pub fn connected(&self) -> Keys<'_, i64, u64>
+        ensures members { (session : ℤ) →
+            list_any (eq_by_cmp int_cmp session) result ≡ finmap.contains_key self.now.owners session }
+        ensures runs { ShowsInOrder (deref {X = ℤ}) }
+    {
+        self.owners.sessions()
     }
 
     /// The number of connections that have a session.

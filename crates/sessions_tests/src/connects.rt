@@ -1,6 +1,6 @@
 //! Connecting, closing and ending. Passwords were made by another SHA-1, of "secret" and the id's eight bytes.
 
-use crate::sessions_of;
+use crate::{sessions_after, sessions_of};
 use sessions::{Connected, SessionRequest, Sessions};
 use std::alloc::Global;
 use std::test::Fail;
@@ -97,10 +97,10 @@ fn two_sessions(alloc: Global) -> Result<Sessions, Fail> {
     Ok(sessions)
 }
 
-// The responses to two connections of a server that ask for new sessions, and the sessions of the connections
-// afterwards.
-fn first_two(alloc: Global, server_id: i32) -> Result<String, Fail> {
-    let mut sessions = sessions_of(alloc, server_id)?;
+// The responses to two connections of a server that ask for new sessions, whose ids begin after this counter, and the
+// sessions of the connections afterwards.
+fn first_two(alloc: Global, server_id: i32, counter: u64) -> Result<String, Fail> {
+    let mut sessions = sessions_after(alloc, server_id, counter)?;
     let mut text = ask_for_new(alloc, &mut sessions, 1)?;
     text.push_str(ask_for_new(alloc, &mut sessions, 2)?.as_str())?;
     text.push_str(seats(alloc, &sessions)?.as_str())?;
@@ -110,19 +110,27 @@ fn first_two(alloc: Global, server_id: i32) -> Result<String, Fail> {
 #[test]
 fn new_sessions_count_up(rt: HostRuntime) -> Result<(), Fail> {
     let alloc = rt.alloc();
-    for (server_id, expected) in [
+    for (server_id, counter, expected) in [
         (
             3,
+            0,
             "10000 0300000000000001 9ac2a1548d95bd052e02843fc87606f6 -;\
                 10000 0300000000000002 02e2a86c10104a0091022fc3f8030f6a -;000000",
         ),
         (
+            3,
+            0x00ff_ffff_ffff_fffe,
+            "10000 03ffffffffffffff 6d7d1998324d05aaaab473cd75587528 -;\
+                0 0000000000000000 00000000000000000000000000000000 -;000000",
+        ),
+        (
             200,
+            0,
             "10000 c800000000000001 9e03e5eed98fb3e3bb143d98810ae35a -;\
                 10000 c800000000000002 650d62e3a8083a79fbdc159f70dcbd93 -;000000",
         ),
     ] {
-        assert_eq!(rt; first_two(alloc, server_id)?.as_str(), expected);
+        assert_eq!(rt; first_two(alloc, server_id, counter)?.as_str(), expected);
     }
     Ok(())
 }

@@ -8,14 +8,20 @@ mod connects;
 mod shown_ids;
 
 use sessions::Sessions;
-use settings::{Secret, ServerId, TimeoutBounds};
+use settings::{FirstCounter, Secret, ServerId, TimeoutBounds};
 use std::alloc::Global;
 use values::{Blob, NoMemory};
 
 /// The sessions of a server (server 1, if the number isn't a server id) with the secret "secret", and timeouts from
-/// 4,000 to 40,000 milliseconds.
+/// 4,000 to 40,000 milliseconds. Their ids begin with the counter 1.
 pub fn sessions_of(alloc: Global, server_id: i32) -> Result<Sessions, NoMemory> {
+    sessions_after(alloc, server_id, 0)
+}
+
+/// The same, but the ids begin after this counter (or with 1, if that is out of bounds).
+pub fn sessions_after(alloc: Global, server_id: i32, counter: u64) -> Result<Sessions, NoMemory> {
     let server_id = ServerId::new(server_id).unwrap_or(ServerId::default());
+    let first = FirstCounter::new(counter).unwrap_or(FirstCounter::default());
     let secret = Secret::new(Blob::new(alloc, b"secret")?).unwrap_or(Secret::empty(alloc));
-    Ok(Sessions::new(alloc, server_id, TimeoutBounds::default(), secret))
+    Ok(Sessions::new(alloc, server_id, TimeoutBounds::default(), secret, first))
 }

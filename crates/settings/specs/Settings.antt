@@ -1,5 +1,5 @@
 -- The valid settings of an observer, and the defaults.
-use Rattle.std.specs.Prelude.{ℕ, ℤ, pos, Bool, ◌&&◌, List, [], length, Option, Some, None, nat_le, int_le, if◌then◌else◌}
+use Rattle.std.specs.Prelude.{ℕ, ◌-◌, ◌*◌, ◌%◌, ◌^◌, ℤ, pos, Bool, ◌&&◌, List, [], length, Option, Some, None, nat_le, int_le, if◌then◌else◌}
 
 -- The accepted epoch, and the epoch of the last leader that was followed.
 pub record EpochPair : Type 0 where
@@ -34,6 +34,10 @@ secret_limit = 64
 abbrev pub is_secret : List ℕ → Bool
 is_secret bytes = nat_le (length bytes) secret_limit
 
+-- One session id can still be given out after it: its counter is the next one.
+abbrev pub is_first_counter : ℕ → Bool
+is_first_counter number = nat_le number (2 ^ 56 - 2)
+
 -- ---- the settings made of numbers and bytes; none if these are out of bounds
 
 abbrev pub server_id_of : ℤ → Option ℤ
@@ -52,6 +56,13 @@ timeouts_of least greatest =
 abbrev pub secret_of : List ℕ → Option (List ℕ)
 secret_of bytes = if is_secret bytes then Some bytes else None
 
+abbrev pub first_counter_of : ℕ → Option ℕ
+first_counter_of number = if is_first_counter number then Some number else None
+
+-- The clock shows milliseconds. Each has 2 ^ 16 counters of its own, up to the middle of all counters.
+abbrev pub clock_counter : ℕ → ℕ
+clock_counter milliseconds = (milliseconds % 2 ^ 39) * 2 ^ 16
+
 -- ---- defaults
 
 abbrev pub default_server_id : ℤ
@@ -65,3 +76,6 @@ default_timeouts = timeout_pair (pos 4000) (pos 40000)
 
 abbrev pub default_secret : List ℕ
 default_secret = []
+
+abbrev pub default_first_counter : ℕ
+default_first_counter = 0

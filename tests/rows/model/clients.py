@@ -59,9 +59,9 @@ class Connection:
 class Clients:
     """The clients of an observer. `out` takes what goes out, each a line of a replay without its end."""
 
-    def __init__(self, learner, timeouts, secret, out):
+    def __init__(self, learner, counter, timeouts, secret, out):
         self.learner, self.timeouts, self.secret, self.out = learner, timeouts, secret, out
-        self.counter, self.open = 0, {}
+        self.counter, self.open = counter, {}  # the counter of the last session id that was given out
         self.own, self.child, self.lasting = set(), set(), {}
         self.syncs, self.touched = [], set()  # for each sync that isn't settled the connection, which may have gone
 

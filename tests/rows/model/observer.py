@@ -5,10 +5,10 @@ from learner import DOWN, SERVING, Learner
 
 
 class Observer:
-    def __init__(self, server=1, epochs=(0, 0), timeouts=(4000, 40000), secret=b"", primed=False):
+    def __init__(self, server=1, counter=0, epochs=(0, 0), timeouts=(4000, 40000), secret=b"", primed=False):
         self.out = []
         self.learner = Learner(server, (1, 1) if primed else epochs)
-        self.clients = Clients(self.learner, timeouts, secret, self.out)
+        self.clients = Clients(self.learner, counter, timeouts, secret, self.out)
         if primed:
             self.learner.phase = SERVING
             it = self.clients.open[1] = Connection()
@@ -79,8 +79,8 @@ def replayed(script):
         word, _, rest = line.partition(" ")
         if not line or line.startswith("#"):
             continue
-        if word == "server":
-            settings["server"] = int(rest)
+        if word in ("server", "counter"):
+            settings[word] = int(rest)
         elif word in ("epochs", "timeouts"):
             settings[word] = tuple(int(it) for it in rest.split(" "))
         elif word == "secret":

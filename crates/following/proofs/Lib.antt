@@ -1,0 +1,10 @@
+-- Rounds: each server once.
+pub mod Rounds
+-- Pauses, and their bounds.
+pub mod Pausing
+-- Refusals in a row.
+pub mod Refusing
+-- The second look, and limits.
+pub mod Waiting
+-- Checkpoints, again and at most.
+pub mod Planning

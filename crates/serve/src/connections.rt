@@ -1,0 +1,79 @@
+//! The threads of connections.
+
+use connection_loop::{Bell, LeaderGone, Sides, leader_loop, session_loop, split};
+use intake::{Port, PortEnd};
+use mio::net::TcpStream;
+use std::alloc::Global;
+use std::net::Net;
+use std::sync::{Arc, Mutex, Wait};
+use std::thread::{Builder, JoinHandle, Threads};
+use std::time::Clock;
+use std::{io, net};
+
+// The stack of a connection's thread, in bytes.
+const STACK: usize = 128 * 1024;
+
+/// The thread of a client's connection.
+#[derive(Drop)]
+pub struct Client {
+    pub handle: JoinHandle<Option<PortEnd>>,
+    pub bell: Arc<Bell, Global>,
+}
+
+/// The thread of the leader's connection.
+#[derive(Drop)]
+pub struct Leader {
+    pub handle: JoinHandle<Option<LeaderGone>>,
+    pub bell: Arc<Bell, Global>,
+}
+
+/// A port that is handed to its thread. If no thread can be started, the port is still in here.
+pub type Handed = Arc<Mutex<Option<Port>>, Global>;
+
+/// Starts the thread of the leader's connection.
+pub fn start_leader<R: Threads + Wait + Net + Clock + Copy + Send + 'static>(
+    rt: &R,
+    alloc: Global,
+    stream: net::TcpStream,
+    handed: Handed,
+) -> io::Result<Leader> {
+    stream.set_nonblocking(true)?;
+    let sides = split(rt, alloc, TcpStream::from_std(stream))?;
+    let Sides {
+        reader,
+        writer,
+        bell,
+    } = sides;
+    let mine = *rt;
+    let handle = Builder::new().stack_size(STACK).spawn(rt, move || {
+        let port = handed.lock(&mine).take();
+        match port {
+            Some(port) => Some(leader_loop(&mine, alloc, reader, writer, port)),
+            None => None,
+        }
+    })?;
+    Ok(Leader { handle, bell })
+}
+
+/// Starts the thread of a client's connection.
+pub fn start_client<R: Threads + Wait + Net + Clock + Copy + Send + 'static>(
+    rt: &R,
+    alloc: Global,
+    sides: Sides,
+    handed: Handed,
+) -> io::Result<Client> {
+    let Sides {
+        reader,
+        writer,
+        bell,
+    } = sides;
+    let mine = *rt;
+    let handle = Builder::new().stack_size(STACK).spawn(rt, move || {
+        let port = handed.lock(&mine).take();
+        match port {
+            Some(port) => Some(session_loop(&mine, alloc, reader, writer, port)),
+            None => None,
+        }
+    })?;
+    Ok(Client { handle, bell })
+}

@@ -1,0 +1,402 @@
+//! The leader's side of the hub: the leader that is followed, its silence, its end, and the next one.
+
+use crate::connections::{Handed, Leader, start_leader};
+use crate::hub::{CAPACITY, Hub};
+use crate::silence::{Silence, SilenceLimits};
+use connection_loop::LeaderGone;
+use following::{Judgement, Outcome, Verdict};
+use intake::{Message, Port};
+use leader_search::Search;
+use learner_sync::Phase;
+use log::Log;
+use serve_failures::{Failure, Reason, Server};
+use std::alloc::Global;
+use std::io::Write;
+use std::net::{Net, TcpStream};
+use std::sync::{Arc, Mutex, Wait};
+use std::thread::Threads;
+use std::time::Clock;
+use values::Fault;
+
+/// Where leaders come from.
+#[derive(Drop)]
+pub enum Source {
+    /// One connection, with whose end this server ends; its server is the first of these.
+    Once(Vec<Server>),
+    /// Several servers, one of which leads at a time.
+    Search(Search),
+}
+
+/// What the hub knows of its leaders. Port 0 is theirs, one after the other: a number isn't used again, and outputs for
+/// a leader are those of port 0.
+#[derive(Drop)]
+pub struct Leading {
+    source: Source,
+    thread: Option<Leader>,
+    // Port 0, while no leader is followed.
+    resting: Option<Port>,
+    silence: Silence,
+    // The leader fell silent, and its connection is being ended.
+    is_given_up: bool,
+    // The observer was greeted by this leader.
+    is_greeted: bool,
+    // Since when clients are served.
+    served_since: Option<u64>,
+    // Since when they aren't.
+    unserved_since: u64,
+    // For how many milliseconds they may be unserved, before the server gives up.
+    give_up: u64,
+}
+
+impl Leading {
+    /// `give_up` is in seconds.
+    pub fn new(source: Source, limits: SilenceLimits, give_up: Option<u64>) -> Leading {
+        Leading {
+            source,
+            thread: None,
+            resting: None,
+            silence: Silence::new(limits),
+            is_given_up: false,
+            is_greeted: false,
+            served_since: None,
+            unserved_since: 0,
+            give_up: give_up.unwrap_or(u64::MAX).saturating_mul(1000),
+        }
+    }
+
+    /// Whether a leader is followed.
+    pub fn is_following(&self) -> bool {
+        self.thread.is_some()
+    }
+
+    pub fn ring(&self) {
+        if let Some(leader) = &self.thread {
+            leader.bell.ring();
+        }
+    }
+
+    /// Ends the search for a leader.
+    pub fn stop_search(&self) {
+        if let Source::Search(search) = &self.source {
+            search.stop();
+        }
+    }
+
+    /// Ends the leader's connection.
+    pub fn stop(&self) {
+        if let Some(leader) = &self.thread {
+            leader.bell.stop();
+        }
+    }
+
+    /// Ends the leader's connection while no thread takes what it sends.
+    pub fn abandon(&self) {
+        if let Some(leader) = &self.thread {
+            leader.bell.abandon();
+        }
+    }
+
+    fn server(&self) -> Option<&Server> {
+        match &self.source {
+            Source::Once(servers) => servers.first(),
+            Source::Search(search) => search.followed(),
+        }
+    }
+
+    // For how long clients were served by the leader that is gone, in milliseconds.
+    fn served(&mut self, now: u64) -> u64 {
+        match self.served_since.take() {
+            None => 0,
+            Some(since) => {
+                self.unserved_since = now;
+                // The millisecond in which it began counts, too.
+                now.saturating_sub(since).max(1)
+            }
+        }
+    }
+
+    // What became of a leader that sent nothing wrong.
+    fn outcome(&self, served: u64) -> (Outcome, Reason) {
+        let reason = if self.is_given_up {
+            Reason::Silent
+        } else {
+            Reason::Ended
+        };
+        if !self.is_greeted {
+            return (Outcome::NotLeading, reason);
+        }
+        if self.is_given_up {
+            (Outcome::Silent { served }, reason)
+        } else {
+            (Outcome::Ended { served }, reason)
+        }
+    }
+
+    // Takes the outputs that were meant for a leader that is gone. Returns whether there was one.
+    fn drop_stale(&mut self) -> bool {
+        let mut found = false;
+        if let Some(port) = &mut self.resting {
+            for _ in 0..u64::MAX {
+                if port.receive().is_none() {
+                    break;
+                }
+                found = true;
+            }
+        }
+        found
+    }
+}
+
+// How many bytes of the leader are among the messages, if it sent any message.
+fn leader_bytes(messages: &[(usize, Message)]) -> Option<u64> {
+    let mut found = None;
+    for (port, message) in messages {
+        if *port == 0 {
+            let length = match message {
+                Message::Bytes(bytes) => bytes.as_slice().len() as u64,
+                _ => 0,
+            };
+            found = Some(length.saturating_add(found.unwrap_or(0)));
+        }
+    }
+    found
+}
+
+impl<L: Log, W: Write + Drop> Hub<L, W> {
+    // Notes what the last turn, which ended at this time, tells of the leader.
+    pub(crate) fn note_leader(&mut self, now: u64) {
+        let heard = leader_bytes(self.desk.fresh());
+        if heard.is_some() {
+            self.leading.silence.heard(now);
+        }
+        match self.desk.engine().learner().phase() {
+            Phase::Down | Phase::Hello => {}
+            Phase::Serving => {
+                self.leading.is_greeted = true;
+                self.note_serving(now);
+                // What comes before is mostly an image, after which the log is empty.
+                self.log_keeper.received(heard.unwrap_or(0));
+            }
+            _ => self.leading.is_greeted = true,
+        }
+    }
+
+    fn note_serving(&mut self, now: u64) {
+        if self.leading.served_since.is_some() {
+            return;
+        }
+        self.leading.served_since = Some(now);
+        let without = now.saturating_sub(self.leading.unserved_since);
+        self.journal.serving(self.desk.engine().learner(), without);
+    }
+
+    /// Opens port 0, before any other.
+    pub fn open_leader_port(&mut self) -> Result<(), Failure> {
+        match self.desk.add_port(CAPACITY) {
+            Ok(port) => {
+                self.leading.resting = Some(port);
+                Ok(())
+            }
+            Err(_) => Err(Failure::NoMemory),
+        }
+    }
+
+    /// Follows the leader at the other end of the stream, by port 0. If its thread can't be started the port rests.
+    pub fn follow<R: Threads + Wait + Net + Clock + Copy + Send + 'static>(
+        &mut self,
+        rt: &R,
+        stream: TcpStream,
+    ) -> Result<(), Failure> {
+        let handed: Handed = Arc::new(self.alloc, Mutex::new(self.leading.resting.take()))?;
+        let theirs = Arc::try_clone(&handed)?;
+        match start_leader(rt, self.alloc, stream, theirs) {
+            Ok(leader) => {
+                self.leading.thread = Some(leader);
+                let now = self.clock.now(rt);
+                self.leading.silence.heard(now);
+                self.leading.is_given_up = false;
+                self.leading.is_greeted = false;
+                if let Some(server) = self.leading.server() {
+                    self.journal.leader_connected(server);
+                }
+                Ok(())
+            }
+            Err(error) => {
+                self.leading.resting = handed.lock(rt).take();
+                Err(Failure::from(error))
+            }
+        }
+    }
+
+    // Follows the next leader. What was still to be sent to the one before is dropped first, turn by turn, until a turn
+    // brings nothing: the next one would take it for requests of its own observer. Without a leader the engine sends
+    // nothing to one, so nothing new comes.
+    fn follow_next<R: Threads + Wait + Net + Clock + Copy + Send + Sync + 'static>(
+        &mut self,
+        rt: &R,
+        stream: TcpStream,
+        now: u64,
+    ) -> Result<(), Failure> {
+        for _ in rt.forever() {
+            self.turn(rt)?;
+            self.join_ended(rt);
+            if !self.leading.drop_stale() {
+                break;
+            }
+        }
+        if let Err(error) = self.follow(rt, stream) {
+            self.journal.leader_refused(error);
+            if let Source::Search(search) = &mut self.leading.source {
+                search.lost(Outcome::NotLeading, Reason::Unreachable, now);
+            }
+        }
+        Ok(())
+    }
+
+    // Goes on with the search for a leader. Returns for how many milliseconds there is nothing to do.
+    fn seek<R: Threads + Wait + Net + Clock + Copy + Send + Sync + 'static>(
+        &mut self,
+        rt: &R,
+        now: u64,
+    ) -> Result<u64, Failure> {
+        let Source::Search(search) = &mut self.leading.source else {
+            return Ok(u64::MAX);
+        };
+        if let Some(stream) = search.advance(now) {
+            self.follow_next(rt, stream, now)?;
+            return Ok(0);
+        }
+        let rest = search.rest(now);
+        let (servers, reasons) = search.tried();
+        self.journal.no_leader(servers, reasons, now);
+        Ok(rest)
+    }
+
+    // Gives the leader up where it has been silent for too long. Returns for how many milliseconds there is nothing to
+    // do.
+    fn judge_silence(&mut self, now: u64) -> u64 {
+        if self.leading.is_given_up {
+            return u64::MAX;
+        }
+        let mut silence = self.leading.silence;
+        let judgement = silence.judge(self.desk.engine(), now);
+        self.leading.silence = silence;
+        match judgement {
+            Judgement::Wait(left) => left,
+            Judgement::SecondLook => silence.rest(now),
+            Judgement::GivenUp { silent } => {
+                self.leading.stop();
+                self.leading.is_given_up = true;
+                self.tell_silent(silent);
+                u64::MAX
+            }
+        }
+    }
+
+    fn tell_silent(&self, silent: u64) {
+        if let Some(server) = self.leading.server() {
+            let is_greeted = self.leading.is_greeted;
+            self.journal.leader_silent(server, silent, is_greeted);
+        }
+    }
+
+    fn tell_gone(&self, fault: Option<Fault>) {
+        if let Some(server) = self.leading.server() {
+            let is_greeted = self.leading.is_greeted;
+            self.journal.leader_gone(server, fault, is_greeted);
+        }
+    }
+
+    // No leader was found in time.
+    fn no_leader(&self) -> Failure {
+        let seconds = self.leading.give_up / 1000;
+        match &self.leading.source {
+            Source::Once(servers) => {
+                Failure::no_leader(self.alloc, seconds, servers.as_slice(), &[Reason::Silent])
+            }
+            Source::Search(search) => {
+                let (servers, reasons) = search.tried();
+                Failure::no_leader(self.alloc, seconds, servers, reasons)
+            }
+        }
+    }
+
+    // How serving ends after a leader, where it ends then.
+    fn ending(&self, fault: Option<Fault>) -> Result<(), Failure> {
+        match (fault, self.leading.server()) {
+            (Some(fault), Some(server)) => Err(Failure::refused(self.alloc, fault, server)),
+            (None, _) | (_, None) => Ok(()),
+        }
+    }
+
+    /// Looks after the leader. Returns for how many milliseconds there is nothing to do.
+    pub(crate) fn attend_leader<R: Threads + Wait + Net + Clock + Copy + Send + Sync + 'static>(
+        &mut self,
+        rt: &R,
+    ) -> Result<u64, Failure> {
+        let now = self.clock.now(rt);
+        let rest = if self.leading.is_following() {
+            self.judge_silence(now)
+        } else {
+            self.seek(rt, now)?
+        };
+        if self.leading.served_since.is_some() {
+            return Ok(rest);
+        }
+        let unserved = now.saturating_sub(self.leading.unserved_since);
+        let left = self.leading.give_up.saturating_sub(unserved);
+        if left == 0 {
+            self.over = Some(Err(self.no_leader()));
+        }
+        Ok(rest.min(left))
+    }
+
+    /// Joins the leader's thread, whose `End` was taken or isn't waited for, and judges what its end means.
+    pub(crate) fn join_leader<R: Threads + Clock>(&mut self, rt: &R) {
+        let Some(leader) = self.leading.thread.take() else {
+            return;
+        };
+        let Leader { handle, bell: _ } = leader;
+        let Some(gone) = handle.join(rt) else {
+            return;
+        };
+        let LeaderGone {
+            port,
+            fault,
+            wants_memory,
+        } = gone;
+        self.leading.resting = Some(port);
+        if wants_memory {
+            self.over = Some(Err(Failure::NoMemory));
+            return;
+        }
+        let now = self.clock.now(rt);
+        self.judge_end(fault, now);
+    }
+
+    // Judges what the end of a leader means, unless the server ends anyway.
+    fn judge_end(&mut self, fault: Option<Fault>, now: u64) {
+        let served = self.leading.served(now);
+        self.tell_gone(fault);
+        if self.over.is_some() {
+            return;
+        }
+        let (outcome, reason) = self.leading.outcome(served);
+        let ending = self.ending(fault);
+        let Source::Search(search) = &mut self.leading.source else {
+            self.over = Some(ending);
+            return;
+        };
+        match Verdict::after(fault) {
+            Verdict::SameEngine => search.lost(outcome, reason, now),
+            Verdict::NewProcess => self.over = Some(ending),
+            Verdict::Pause => {
+                let reason = fault.map(Reason::Faulty).unwrap_or(reason);
+                search.lost(Outcome::Refused, reason, now);
+                if search.is_hopeless() {
+                    self.over = Some(ending);
+                }
+            }
+        }
+    }
+}

@@ -1,0 +1,112 @@
+//! When the log of transactions is emptied.
+
+use crate::hub::Hub;
+use following::Due;
+use intake::{Desk, Message, Port};
+use learner_sync::Phase;
+use log::Log;
+use std::io::Write;
+
+/// Between two looks at the log, in milliseconds.
+const BETWEEN_LOOKS: u64 = 1000;
+
+/// Asks the engine for a checkpoint when the leader has sent much since the last one.
+#[derive(Drop)]
+pub struct LogKeeper {
+    checkpoints: following::Checkpoints,
+    // The port that checkpoints are asked for by. It is opened for the first one.
+    port: Option<Port>,
+    next_look: u64,
+    // The transactions in the log when a checkpoint was asked for.
+    entries: usize,
+    // It was logged that no checkpoint can be made.
+    is_left_out: bool,
+}
+
+impl LogKeeper {
+    /// `least` is the least number of mebibytes between two checkpoints; 0: there are none.
+    pub fn new(least: u64) -> LogKeeper {
+        LogKeeper {
+            checkpoints: following::Checkpoints::new(least),
+            port: None,
+            next_look: 0,
+            entries: 0,
+            is_left_out: false,
+        }
+    }
+
+    /// The leader has sent so many bytes.
+    pub fn received(&mut self, bytes: u64) {
+        self.checkpoints.received(bytes);
+    }
+
+    // Asks for a checkpoint. Without memory for a port, or without room in it, there is another look later.
+    fn ask(&mut self, desk: &mut Desk) -> bool {
+        if self.port.is_none() {
+            self.port = desk.add_port(1).ok();
+        }
+        self.entries = desk.engine().learner().since_base().len();
+        match &mut self.port {
+            None => false,
+            Some(port) => port.send(Message::Checkpoint).is_ok(),
+        }
+    }
+}
+
+// Whether a checkpoint is among the messages.
+fn has_checkpoint(messages: &[(usize, Message)]) -> bool {
+    messages
+        .iter()
+        .any(|(_, message)| matches!(message, Message::Checkpoint))
+}
+
+impl<L: Log, W: Write + Drop> Hub<L, W> {
+    fn nodes(&self) -> u64 {
+        self.desk.engine().tree().paths() as u64
+    }
+
+    // Notes a checkpoint, if the last turn made one. The turn began and ended at these times.
+    pub(crate) fn note_checkpoint(&mut self, began: u64, now: u64) {
+        if !has_checkpoint(self.desk.fresh()) {
+            return;
+        }
+        let pause = now.saturating_sub(began);
+        let nodes = self.nodes();
+        self.log_keeper.checkpoints.taken(now, pause, nodes);
+        self.log_keeper.is_left_out = false;
+        let zxid = self.desk.engine().learner().last_zxid();
+        self.journal
+            .checkpoint(zxid, pause, nodes, self.log_keeper.entries);
+    }
+
+    /// Looks at the log once a second, while clients are served. Returns for how many milliseconds there is nothing to
+    /// do.
+    pub(crate) fn look_at_log(&mut self) -> u64 {
+        let now = self.clock.last();
+        if now < self.log_keeper.next_look {
+            return self.log_keeper.next_look - now;
+        }
+        self.log_keeper.next_look = now.saturating_add(BETWEEN_LOOKS);
+        if self.desk.engine().learner().phase() != Phase::Serving {
+            return BETWEEN_LOOKS;
+        }
+        let nodes = self.nodes();
+        match self.log_keeper.checkpoints.judge(now, nodes) {
+            Due::NotYet => BETWEEN_LOOKS,
+            Due::TooLong { expected } => {
+                if !self.log_keeper.is_left_out {
+                    self.journal.checkpoint_left_out(expected, nodes);
+                }
+                self.log_keeper.is_left_out = true;
+                BETWEEN_LOOKS
+            }
+            Due::Now => {
+                if self.log_keeper.ask(&mut self.desk) {
+                    0
+                } else {
+                    BETWEEN_LOOKS
+                }
+            }
+        }
+    }
+}

@@ -1,0 +1,28 @@
+//! What to do about a fault.
+
+ghost use Rattle.std.specs.Prelude.{◌<◌, length};
+
+use values::Fault;
+
+/// What the one who runs the server may do about a fault in what a leader sent.
+pub fn fault_hint(fault: Fault) -> &'static str
+    ensures { 0 < length result.now }
+{
+    match fault {
+        Fault::Short => "start again, and if it comes back keep a record of it",
+        Fault::BadLength =>
+            "look whether this is the quorum port of a server, and keep each write and multi below 4 MiB",
+        Fault::BadText => "keep characters past U+FFFF out of paths and ids",
+        Fault::BadPath => "start again, and if it comes back keep a record of it",
+        Fault::BadTxnType =>
+            "keep create2, containers, TTL nodes and reconfigurations away from the ensemble",
+        Fault::TrailingBytes => "set zookeeper.digest.enabled=false at each server that may lead",
+        Fault::OutOfOrder => "start again, and if it comes back keep a record of it",
+        Fault::CommitMismatch => "start again, and if it comes back keep a record of it",
+        Fault::CannotTruncate =>
+            "start again: the ensemble has lost transactions that were seen here",
+        Fault::BadImage => "start again: the leader's next image may be right",
+        Fault::EpochTooSmall => "look which server leads: this one has an epoch that is over",
+        Fault::UnexpectedPacket => "look whether this is the quorum port of a server from 3.4 on",
+    }
+}

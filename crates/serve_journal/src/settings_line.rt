@@ -1,0 +1,84 @@
+//! The settings of a server, on one line.
+
+use serve_options::{Address, Options, Servers};
+use std::fmt;
+
+/// Shows what a server was started with, as options that say the same.
+#[derive(Clone, Copy)]
+pub struct SettingsLine<'a> {
+    pub options: &'a Options<'a>,
+    /// The port at which it listens for clients.
+    pub port: u16,
+}
+
+impl<'a> SettingsLine<'a> {
+    fn put_servers<W: fmt::Write>(&self, f: &mut fmt::Formatter<W>) -> fmt::Result {
+        match &self.options.servers {
+            Servers::Leader(leader) => write!(f, "--leader {leader}"),
+            Servers::Any(servers) => {
+                f.write_str("--servers ")?;
+                put_list(f, servers.as_slice())
+            }
+        }
+    }
+
+    fn put_limits<W: fmt::Write>(&self, f: &mut fmt::Formatter<W>) -> fmt::Result {
+        let workers = self.options.limits.workers();
+        let batch = self.options.limits.batch();
+        write!(f, " --workers {workers} --batch {batch}")?;
+        if let Some(most) = self.options.max_clients {
+            write!(f, " --max-clients {most}")?;
+        }
+        let Options {
+            tick,
+            init_limit,
+            sync_limit,
+            checkpoint,
+            ..
+        } = self.options;
+        write!(
+            f,
+            " --tick {tick} --init-limit {init_limit} --sync-limit {sync_limit} --checkpoint {checkpoint}"
+        )
+    }
+
+    fn put_rest<W: fmt::Write>(&self, f: &mut fmt::Formatter<W>) -> fmt::Result {
+        if let Some(seconds) = self.options.give_up {
+            write!(f, " --give-up {seconds}")?;
+        }
+        if let Some(counter) = self.options.first_counter {
+            write!(f, " --counter {counter}")?;
+        }
+        if let Some(file) = self.options.record {
+            write!(f, " --record {file}")?;
+        }
+        Ok(())
+    }
+}
+
+// Writes addresses with commas between.
+fn put_list<W: fmt::Write>(f: &mut fmt::Formatter<W>, addresses: &[Address<'_>]) -> fmt::Result {
+    let mut is_first = true;
+    for address in addresses {
+        if !is_first {
+            f.write_str(",")?;
+        }
+        is_first = false;
+        write!(f, "{address}")?;
+    }
+    Ok(())
+}
+
+impl<'a> fmt::Display for SettingsLine<'a> {
+    fn fmt<W: fmt::Write>(&self, f: &mut fmt::Formatter<W>) -> fmt::Result {
+        self.put_servers(f)?;
+        let client = Address {
+            host: self.options.client.host,
+            port: self.port,
+        };
+        let id = self.options.server_id.number();
+        write!(f, " --client {client} --id {id}")?;
+        self.put_limits(f)?;
+        self.put_rest(f)
+    }
+}

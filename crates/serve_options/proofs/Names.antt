@@ -1,0 +1,47 @@
+-- Each option is in the list of all.
+use Rattle.std.proofs.Common.{◌≡◌, ◌<◌, refl, lit<}
+use Rattle.std.specs.Prelude.{slice_index_or}
+use Rattle.serve_options.specs.declared.row.Name.{Name}
+use Rattle.serve_options.specs.declared.row.Name.TheVariants.{Leader, Servers, Client, Id, Counter, Workers, Batch, MaxClients, Tick, InitLimit, SyncLimit, Checkpoint, GiveUp, Record, Log, LogFormat, Help, Version}
+use Rattle.serve_options.specs.declared.row.TheConstants.{NAMES}
+use Rattle.serve_options.specs.Given.{name_place}
+
+pub name_at : (name : Name) → slice_index_or NAMES (name_place name) name ≡ name
+name_at Leader = refl
+name_at Servers = refl
+name_at Client = refl
+name_at Id = refl
+name_at Counter = refl
+name_at Workers = refl
+name_at Batch = refl
+name_at MaxClients = refl
+name_at Tick = refl
+name_at InitLimit = refl
+name_at SyncLimit = refl
+name_at Checkpoint = refl
+name_at GiveUp = refl
+name_at Record = refl
+name_at Log = refl
+name_at LogFormat = refl
+name_at Help = refl
+name_at Version = refl
+
+pub place_below : (name : Name) → name_place name < 18
+place_below Leader = lit< tt
+place_below Servers = lit< tt
+place_below Client = lit< tt
+place_below Id = lit< tt
+place_below Counter = lit< tt
+place_below Workers = lit< tt
+place_below Batch = lit< tt
+place_below MaxClients = lit< tt
+place_below Tick = lit< tt
+place_below InitLimit = lit< tt
+place_below SyncLimit = lit< tt
+place_below Checkpoint = lit< tt
+place_below GiveUp = lit< tt
+place_below Record = lit< tt
+place_below Log = lit< tt
+place_below LogFormat = lit< tt
+place_below Help = lit< tt
+place_below Version = lit< tt

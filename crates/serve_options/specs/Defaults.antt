@@ -1,0 +1,23 @@
+-- The options that have a value without being given.
+use Rattle.std.specs.Prelude.{ℕ, List, Option, Some, None, codes}
+use Rattle.serve_options.specs.declared.row.Name.{Name}
+use Rattle.serve_options.specs.declared.row.Name.TheVariants.{Workers, Batch, Tick, InitLimit, SyncLimit, Checkpoint, Log, LogFormat}
+use Rattle.serve_options.specs.declared.row.Without.{Without}
+use Rattle.serve_options.specs.declared.row.Without.TheVariants.{Nothing, Value, Meaning}
+
+-- The value of an option that isn't given, as it would be spelled.
+abbrev pub option_default : Name → Option (List ℕ)
+option_default Workers = Some (codes "4")
+option_default Batch = Some (codes "256")
+option_default Tick = Some (codes "2000")
+option_default InitLimit = Some (codes "10")
+option_default SyncLimit = Some (codes "5")
+option_default Checkpoint = Some (codes "64")
+option_default Log = Some (codes "warn")
+option_default LogFormat = Some (codes "text")
+option_default name = None
+
+abbrev pub default_value : Without → Option (List ℕ)
+default_value Nothing = None
+default_value (Value text) = Some text.now
+default_value (Meaning text) = None

@@ -1,0 +1,5 @@
+pub mod Commands
+pub mod Defaults
+pub mod Given
+pub mod Rows
+pub mod Values

@@ -1,0 +1,45 @@
+-- The values of options.
+use Rattle.std.specs.Prelude.{◌≡◌, ◌≢◌, ℕ, List, [], ◌++◌, ◌⊎◌, Option, Some, None, nat_le, if◌then◌else◌, codes}
+use Rattle.std.specs.Str.{bytes_eq}
+use Rattle.log.specs.declared.level.LevelFilter.{LevelFilter}
+use Rattle.log.specs.declared.level.LevelFilter.TheVariants.{Off, Error, Warn, Info, Debug}
+use Rattle.values.specs.Maybe.{◌>>=◌}
+use Rattle.replay_script.specs.Number.{number_up_to}
+use Rattle.serve_options.specs.declared.row.Bounds.{Bounds}
+use Rattle.serve_options.specs.declared.value.LogFormat.{LogFormat}
+use Rattle.serve_options.specs.declared.value.LogFormat.TheVariants.{Text, Json}
+
+-- A number in decimal digits, if it is within the bounds.
+abbrev pub number_within : Bounds → List ℕ → Option ℕ
+number_within bounds text = do
+  number ← number_up_to bounds.most text
+  if nat_le bounds.least number then Some number else None
+
+abbrev pub port_number_of : List ℕ → Option ℕ
+port_number_of text = number_up_to 65535 text
+
+abbrev pub level_of : List ℕ → Option LevelFilter
+level_of text =
+    if bytes_eq text (codes "off") then Some Off
+    else (if bytes_eq text (codes "error") then Some Error
+    else (if bytes_eq text (codes "warn") then Some Warn
+    else (if bytes_eq text (codes "info") then Some Info
+    else (if bytes_eq text (codes "debug") then Some Debug
+    else None))))
+
+abbrev pub format_of : List ℕ → Option LogFormat
+format_of text =
+    if bytes_eq text (codes "text") then Some Text
+    else (if bytes_eq text (codes "json") then Some Json
+    else None)
+
+-- A host before a colon and a port: as it is, or in brackets.
+abbrev pub SpellsHost : List ℕ → List ℕ → Type 0
+SpellsHost text host = (host ≢ []) × ((text ≡ host) ⊎ (text ≡ codes "[" ++ host ++ codes "]"))
+
+-- A text spells a host and a port: a port alone is one of this machine.
+pub record SpellsAddress (text host : List ℕ) (port : ℕ) : Type 0 where
+  pub digits : List ℕ
+  pub is_port : port_number_of digits ≡ Some port
+  pub spelled : ((text ≡ digits) × (host ≡ codes "127.0.0.1"))
+      ⊎ ((front : List ℕ) × SpellsHost front host × (text ≡ front ++ codes ":" ++ digits))

@@ -1,0 +1,234 @@
+//! The commands of `serve`.
+
+ghost use Rattle.std.specs.Prelude.{◌≡◌, Some, IfSome, IfOk, option_map};
+ghost use Rattle.serve_options.specs.Rows.{option_bounds, IsWithin};
+ghost use Rattle.serve_options.specs.Values.{number_within};
+ghost use Rattle.serve_options.specs.Given.{value_of, number_given, number_answer};
+ghost use Rattle.serve_options.specs.Commands.{IsWithinBounds};
+
+use crate::error::OptionError;
+use crate::given::{Given, find_given, given_in, spelled};
+use crate::row::{Bounds, Kind, Name};
+use crate::value::{
+    Address, LogFormat, address_of, addresses_of, format_of, has_host, level_of, number_within,
+};
+use batcher::Limits;
+use log::LevelFilter;
+use settings::ServerId;
+use std::alloc::Global;
+
+/// Which servers to follow.
+#[derive(Debug, Drop)]
+pub enum Servers<'a> {
+    /// The leader at this address, until it ends.
+    Leader(Address<'a>),
+    /// Whichever of these leads: at least one, and at most 64.
+    Any(Vec<Address<'a>>),
+}
+
+/// The options of `serve`.
+#[derive(Drop)]
+pub struct Options<'a> {
+    pub servers: Servers<'a>,
+    /// The address at which to listen for clients. With port 0 the system picks a port.
+    pub client: Address<'a>,
+    pub server_id: ServerId,
+    /// Whether no id was given, so that it is 1, which a server that votes may have too.
+    pub default_id: bool,
+    /// The number after which the counter of session ids begins, at most 2^56 - 2; None: the clock's.
+    pub first_counter: Option<u64>,
+    pub limits: Limits,
+    /// How many clients may be connected at a time, at least 1.
+    pub max_clients: Option<u64>,
+    /// The file for the record of what comes.
+    pub record: Option<&'a str>,
+    pub log: LevelFilter,
+    pub log_format: LogFormat,
+    /// The milliseconds of a tick, from 1 to 3,600,000.
+    pub tick: u64,
+    /// How many ticks a leader may be silent until this server is up to date; 0: any number. At most 1,000,000.
+    pub init_limit: u64,
+    /// How many ticks it may be silent afterwards; 0: any number. At most 1,000,000.
+    pub sync_limit: u64,
+    /// The least MiB of the leader's bytes between two checkpoints, at most 1,048,576; 0: none is taken.
+    pub checkpoint: u64,
+    /// For how many seconds a leader is looked for, from 1 to 31,536,000; None: without end.
+    pub give_up: Option<u64>,
+}
+
+/// What a command line asks for.
+#[derive(Drop)]
+pub enum Command<'a> {
+    Serve(Options<'a>),
+    Help,
+    Version,
+}
+
+// How many groups a batch has at most.
+const GROUPS: usize = 64;
+
+const ANY: Bounds = Bounds {
+    least: 0,
+    most: u64::MAX,
+};
+
+fn invalid<'a>(name: Name, value: &'a str) -> OptionError<'a> {
+    OptionError::Invalid {
+        name,
+        value,
+        kind: name.row().kind,
+    }
+}
+
+fn bounds_of(name: Name) -> Bounds
+    ensures { result ≡ option_bounds name }
+{
+    match name.row().kind {
+        Kind::Number(bounds) => bounds,
+        Kind::Nothing | Kind::Address | Kind::Addresses | Kind::File | Kind::Level | Kind::Format =>
+            ANY,
+    }
+}
+
+// The number of an option, given or not.
+fn number_in<'a>(given: &[Given<'a>], name: Name) -> Result<Option<u64>, OptionError<'a>>
+    ensures value { number_answer result ≡ option_map (number_within (option_bounds name)) (value_of name given.now) }
+    ensures bounds { IfOk result (λ found. IfSome found (IsWithin (option_bounds name))) }
+{
+    let Some(value) = spelled(given, name) else {
+        return Ok(None);
+    };
+    match number_within(bounds_of(name), value) {
+        Some(number) => Ok(Some(number)),
+        None => Err(invalid(name, value)),
+    }
+}
+
+// The number of an option that has one without being given.
+fn number<'a>(given: &[Given<'a>], name: Name) -> Result<u64, OptionError<'a>>
+    ensures value { IfOk result (λ number. number_given name given.now ≡ Some number) }
+    ensures bounds { IfOk result (IsWithin (option_bounds name)) }
+{
+    match number_in(given, name)? {
+        Some(number) => Ok(number),
+        None => Err(OptionError::NoValue(name)),
+    }
+}
+
+fn address_in<'a>(given: &[Given<'a>], name: Name) -> Result<Option<Address<'a>>, OptionError<'a>> {
+    let Some(value) = spelled(given, name) else {
+        return Ok(None);
+    };
+    match address_of(value) {
+        Some(address) => Ok(Some(address)),
+        None => Err(invalid(name, value)),
+    }
+}
+
+fn servers_in<'a>(alloc: Global, given: &[Given<'a>]) -> Result<Servers<'a>, OptionError<'a>> {
+    let leader = address_in(given, Name::Leader)?;
+    match (leader, spelled(given, Name::Servers)) {
+        (Some(_), Some(_)) => Err(OptionError::LeaderAndServers),
+        (None, None) => Err(OptionError::NoServers),
+        (Some(leader), None) => Ok(Servers::Leader(leader)),
+        (None, Some(value)) => match addresses_of(alloc, value)? {
+            Some(servers) => Ok(Servers::Any(servers)),
+            None => Err(invalid(Name::Servers, value)),
+        },
+    }
+}
+
+fn client_in<'a>(given: &[Given<'a>]) -> Result<Address<'a>, OptionError<'a>> {
+    match address_in(given, Name::Client)? {
+        Some(client) => Ok(client),
+        None => Err(OptionError::NoClient),
+    }
+}
+
+// Only beside a leader that is a port of this machine may the id be missing.
+fn needs_id(given: &[Given<'_>]) -> bool {
+    match spelled(given, Name::Leader) {
+        Some(leader) => has_host(leader),
+        None => true,
+    }
+}
+
+fn id_in<'a>(given: &[Given<'a>]) -> Result<ServerId, OptionError<'a>> {
+    let number = match number_in(given, Name::Id)? {
+        Some(number) => number,
+        None if needs_id(given) => return Err(OptionError::NoId),
+        None => 1,
+    };
+    match ServerId::new(number as i32) {
+        Some(id) => Ok(id),
+        None => Err(OptionError::NoId),
+    }
+}
+
+fn limits_in<'a>(given: &[Given<'a>]) -> Result<Limits, OptionError<'a>> {
+    let workers = number(given, Name::Workers)?;
+    let batch = number(given, Name::Batch)?;
+    match Limits::new(workers as usize, batch as usize, GROUPS) {
+        Ok(limits) => Ok(limits),
+        Err(_) => Err(OptionError::NoValue(Name::Workers)),
+    }
+}
+
+fn level_in<'a>(given: &[Given<'a>]) -> Result<LevelFilter, OptionError<'a>> {
+    let Some(value) = spelled(given, Name::Log) else {
+        return Ok(LevelFilter::Info);
+    };
+    match level_of(value) {
+        Some(level) => Ok(level),
+        None => Err(invalid(Name::Log, value)),
+    }
+}
+
+fn format_in<'a>(given: &[Given<'a>]) -> Result<LogFormat, OptionError<'a>> {
+    let Some(value) = spelled(given, Name::LogFormat) else {
+        return Ok(LogFormat::Text);
+    };
+    match format_of(value) {
+        Some(format) => Ok(format),
+        None => Err(invalid(Name::LogFormat, value)),
+    }
+}
+
+fn options_in<'a>(alloc: Global, given: &[Given<'a>]) -> Result<Options<'a>, OptionError<'a>>
+    ensures { IfOk result (λ options. IsWithinBounds options) }
+{
+    Ok(Options {
+        servers: servers_in(alloc, given)?,
+        client: client_in(given)?,
+        server_id: id_in(given)?,
+        default_id: find_given(given, Name::Id).is_none(),
+        first_counter: number_in(given, Name::Counter)?,
+        limits: limits_in(given)?,
+        max_clients: number_in(given, Name::MaxClients)?,
+        record: spelled(given, Name::Record),
+        log: level_in(given)?,
+        log_format: format_in(given)?,
+        tick: number(given, Name::Tick)?,
+        init_limit: number(given, Name::InitLimit)?,
+        sync_limit: number(given, Name::SyncLimit)?,
+        checkpoint: number(given, Name::Checkpoint)?,
+        give_up: number_in(given, Name::GiveUp)?,
+    })
+}
+
+fn has(words: &[String], option: &str) -> bool {
+    words.iter().any(|word| word.as_str() == option)
+}
+
+/// Reads the words after `serve`. Where `--help` is among them, or else `--version`, nothing else counts. Fails with
+/// the first thing that is wrong, or if an allocation is refused.
+pub fn command_of<'a>(alloc: Global, words: &'a [String]) -> Result<Command<'a>, OptionError<'a>> {
+    if has(words, "--help") {
+        return Ok(Command::Help);
+    }
+    if has(words, "--version") {
+        return Ok(Command::Version);
+    }
+    let given = given_in(alloc, words)?;
+    Ok(Command::Serve(options_in(alloc, given.as_slice())?))
+}

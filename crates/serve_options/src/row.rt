@@ -1,0 +1,322 @@
+//! The options of `serve`: a row for each.
+
+ghost use Rattle.std.specs.Prelude.{◌≡◌};
+ghost use Rattle.serve_options.specs.Rows.{option_word, option_kind};
+ghost use Rattle.serve_options.specs.Defaults.{option_default, default_value};
+
+use std::fmt;
+
+/// An option.
+#[derive(Clone, Copy, Debug, PartialEq, Eq)]
+pub enum Name {
+    Leader,
+    Servers,
+    Client,
+    Id,
+    Counter,
+    Workers,
+    Batch,
+    MaxClients,
+    Tick,
+    InitLimit,
+    SyncLimit,
+    Checkpoint,
+    GiveUp,
+    Record,
+    Log,
+    LogFormat,
+    Help,
+    Version,
+}
+
+/// The options, in the order in which help lists them.
+pub const NAMES: [Name; 18] = [
+    Name::Leader,
+    Name::Servers,
+    Name::Client,
+    Name::Id,
+    Name::Counter,
+    Name::Workers,
+    Name::Batch,
+    Name::MaxClients,
+    Name::Tick,
+    Name::InitLimit,
+    Name::SyncLimit,
+    Name::Checkpoint,
+    Name::GiveUp,
+    Name::Record,
+    Name::Log,
+    Name::LogFormat,
+    Name::Help,
+    Name::Version,
+];
+
+/// The least and the greatest number of an option, both allowed.
+#[derive(Clone, Copy, Debug, PartialEq, Eq)]
+pub struct Bounds {
+    pub least: u64,
+    pub most: u64,
+}
+
+/// What the value of an option may be.
+#[derive(Clone, Copy, Debug, PartialEq, Eq)]
+pub enum Kind {
+    /// The option has no value.
+    Nothing,
+    /// A port, with or without a host in front.
+    Address,
+    /// From 1 to 64 hosts with their ports, and commas between.
+    Addresses,
+    /// A number in decimal digits.
+    Number(Bounds),
+    /// The name of a file.
+    File,
+    /// A level of the log; the option may also stand alone.
+    Level,
+    /// A format of the log.
+    Format,
+}
+
+impl fmt::Display for Kind {
+    fn fmt<W: fmt::Write>(&self, f: &mut fmt::Formatter<W>) -> fmt::Result {
+        match self {
+            Kind::Nothing => f.write_str("no value"),
+            Kind::Address => f.write_str("PORT or HOST:PORT"),
+            Kind::Addresses => f.write_str("1 to 64 of HOST:PORT, with commas between"),
+            Kind::Number(Bounds { least, most }) => {
+                if *most == u64::MAX {
+                    return write!(f, "at least {least}");
+                }
+                write!(f, "{least} to {most}")
+            }
+            Kind::File => f.write_str("the name of a file"),
+            Kind::Level => f.write_str("off, error, warn, info or debug"),
+            Kind::Format => f.write_str("text or json"),
+        }
+    }
+}
+
+/// What holds where an option isn't given.
+#[derive(Clone, Copy, Debug, PartialEq, Eq)]
+pub enum Without {
+    /// Nothing to tell.
+    Nothing,
+    /// This value, as it would be given.
+    Value(&'static str),
+    /// What happens then.
+    Meaning(&'static str),
+}
+
+/// What there is to know of an option.
+#[derive(Clone, Copy, Debug)]
+pub struct Row {
+    /// The option as it is given.
+    pub word: &'static str,
+    /// What stands for its value in the text of help.
+    pub value: &'static str,
+    pub kind: Kind,
+    pub without: Without,
+    /// What the option is for.
+    pub help: &'static str,
+}
+
+const LEADER: Row = Row {
+    word: "--leader",
+    value: "[HOST:]PORT",
+    kind: Kind::Address,
+    without: Without::Meaning("servers are given in place of it"),
+    help: "where the leader listens for its learners: the first port of its `server.N` line. The server ends when this leader does",
+};
+
+const SERVERS: Row = Row {
+    word: "--servers",
+    value: "HOST:PORT,..",
+    kind: Kind::Addresses,
+    without: Without::Meaning("a leader is given in place of it"),
+    help: "where each server that may lead listens for its learners; the one that leads is looked for among them, again and again",
+};
+
+const CLIENT: Row = Row {
+    word: "--client",
+    value: "[ADDRESS:]PORT",
+    kind: Kind::Address,
+    without: Without::Meaning("it has to be there"),
+    help: "where clients are listened for; at port 0 the system picks one",
+};
+
+const ID: Row = Row {
+    word: "--id",
+    value: "N",
+    kind: Kind::Number(Bounds {
+        least: 1,
+        most: 255,
+    }),
+    without: Without::Meaning("it has to be there; beside a leader that is a port alone it is 1"),
+    help: "the id of this server, which no other server of the ensemble has",
+};
+
+const COUNTER: Row = Row {
+    word: "--counter",
+    value: "N",
+    kind: Kind::Number(Bounds {
+        least: 0,
+        most: 72_057_594_037_927_934,
+    }),
+    without: Without::Meaning("the clock, so that no id is given out again"),
+    help: "the ids of sessions begin after this number",
+};
+
+const WORKERS: Row = Row {
+    word: "--workers",
+    value: "N",
+    kind: Kind::Number(Bounds { least: 1, most: 64 }),
+    without: Without::Value("4"),
+    help: "the threads that apply transactions and answer reads",
+};
+
+const BATCH: Row = Row {
+    word: "--batch",
+    value: "N",
+    kind: Kind::Number(Bounds {
+        least: 1,
+        most: 4096,
+    }),
+    without: Without::Value("256"),
+    help: "the most transactions that are applied together",
+};
+
+const MAX_CLIENTS: Row = Row {
+    word: "--max-clients",
+    value: "N",
+    kind: Kind::Number(Bounds {
+        least: 1,
+        most: u64::MAX,
+    }),
+    without: Without::Meaning("any number"),
+    help: "how many clients may be connected at a time; one more is closed at once",
+};
+
+const TICK: Row = Row {
+    word: "--tick",
+    value: "MS",
+    kind: Kind::Number(Bounds {
+        least: 1,
+        most: 3_600_000,
+    }),
+    without: Without::Value("2000"),
+    help: "the milliseconds of a tick, as `tickTime` of the ensemble",
+};
+
+const INIT_LIMIT: Row = Row {
+    word: "--init-limit",
+    value: "N",
+    kind: Kind::Number(Bounds {
+        least: 0,
+        most: 1_000_000,
+    }),
+    without: Without::Value("10"),
+    help: "the ticks that a leader may be silent until it has brought this server up to date; 0: as long as it likes",
+};
+
+const SYNC_LIMIT: Row = Row {
+    word: "--sync-limit",
+    value: "N",
+    kind: Kind::Number(Bounds {
+        least: 0,
+        most: 1_000_000,
+    }),
+    without: Without::Value("5"),
+    help: "the ticks that it may be silent afterwards; 0: as long as it likes",
+};
+
+const CHECKPOINT: Row = Row {
+    word: "--checkpoint",
+    value: "MIB",
+    kind: Kind::Number(Bounds {
+        least: 0,
+        most: 1_048_576,
+    }),
+    without: Without::Value("64"),
+    help: "the least MiB of the leader's bytes between two checkpoints, which empty the log in memory; 0: none is taken",
+};
+
+const GIVE_UP: Row = Row {
+    word: "--give-up",
+    value: "SECONDS",
+    kind: Kind::Number(Bounds {
+        least: 1,
+        most: 31_536_000,
+    }),
+    without: Without::Meaning("a leader is looked for without end"),
+    help: "how long a leader is looked for before the server ends",
+};
+
+const RECORD: Row = Row {
+    word: "--record",
+    value: "FILE",
+    kind: Kind::File,
+    without: Without::Meaning("nothing is recorded"),
+    help: "records what comes, as a script for `replay`",
+};
+
+const LOG: Row = Row {
+    word: "--log",
+    value: "[LEVEL]",
+    kind: Kind::Level,
+    without: Without::Value("warn"),
+    help: "how much is told on standard error; alone: info",
+};
+
+const LOG_FORMAT: Row = Row {
+    word: "--log-format",
+    value: "FORMAT",
+    kind: Kind::Format,
+    without: Without::Value("text"),
+    help: "how each line of it is written",
+};
+
+const HELP: Row = Row {
+    word: "--help",
+    value: "",
+    kind: Kind::Nothing,
+    without: Without::Nothing,
+    help: "prints this list",
+};
+
+const VERSION: Row = Row {
+    word: "--version",
+    value: "",
+    kind: Kind::Nothing,
+    without: Without::Nothing,
+    help: "prints the version",
+};
+
+impl Name {
+    /// What there is to know of the option.
+    pub fn row(self) -> Row
+        ensures word { result.word.now ≡ option_word self }
+        ensures kind { result.kind ≡ option_kind self }
+        ensures default { default_value result.without ≡ option_default self }
+    {
+        match self {
+            Name::Leader => LEADER,
+            Name::Servers => SERVERS,
+            Name::Client => CLIENT,
+            Name::Id => ID,
+            Name::Counter => COUNTER,
+            Name::Workers => WORKERS,
+            Name::Batch => BATCH,
+            Name::MaxClients => MAX_CLIENTS,
+            Name::Tick => TICK,
+            Name::InitLimit => INIT_LIMIT,
+            Name::SyncLimit => SYNC_LIMIT,
+            Name::Checkpoint => CHECKPOINT,
+            Name::GiveUp => GIVE_UP,
+            Name::Record => RECORD,
+            Name::Log => LOG,
+            Name::LogFormat => LOG_FORMAT,
+            Name::Help => HELP,
+            Name::Version => VERSION,
+        }
+    }
+}

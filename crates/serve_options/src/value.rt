@@ -1,0 +1,149 @@
+//! The values of options.
+
+ghost use Rattle.std.specs.Prelude.{◌≡◌, ℕ, IfSome};
+ghost use Rattle.serve_options.specs.Rows.{IsWithin};
+ghost use Rattle.serve_options.specs.Values.{number_within, port_number_of, SpellsHost, SpellsAddress, level_of, format_of};
+
+use crate::row::Bounds;
+use log::LevelFilter;
+use replay_script::number_up_to;
+use std::alloc::{AllocError, Global};
+use std::fmt;
+
+/// A host and a port.
+#[derive(Clone, Copy, Debug, PartialEq, Eq)]
+pub struct Address<'a> {
+    pub host: &'a str,
+    pub port: u16,
+}
+
+impl<'a> fmt::Display for Address<'a> {
+    fn fmt<W: fmt::Write>(&self, f: &mut fmt::Formatter<W>) -> fmt::Result {
+        let Address { host, port } = self;
+        if host.contains(":") {
+            write!(f, "[{host}]:{port}")
+        } else {
+            write!(f, "{host}:{port}")
+        }
+    }
+}
+
+/// How a line of the log is written.
+#[derive(Clone, Copy, Debug, PartialEq, Eq)]
+pub enum LogFormat {
+    Text,
+    /// An object of JSON.
+    Json,
+}
+
+// The host of a port alone.
+const LOCAL: &str = "127.0.0.1";
+
+const MOST_PORT: u64 = 65_535;
+
+// The most servers of a list.
+const MOST_SERVERS: usize = 64;
+
+/// The number that a text spells in decimal digits, if it is within the bounds.
+pub fn number_within(bounds: Bounds, text: &str) -> Option<u64>
+    ensures value { result ≡ number_within bounds text.now }
+    ensures bounds { IfSome result (IsWithin bounds) }
+{
+    let number = number_up_to(bounds.most, text.as_bytes())?;
+    if number < bounds.least {
+        return None;
+    }
+    Some(number)
+}
+
+fn port_of(text: &str) -> Option<u16>
+    ensures { result ≡ port_number_of text.now }
+{
+    let port = number_up_to(MOST_PORT, text.as_bytes())?;
+    Some(port as u16)
+}
+
+// An IPv6 address is in brackets, since a port follows it.
+fn host_of(text: &str) -> Option<&str>
+    ensures { IfSome result (λ host. SpellsHost text.now host.now) }
+{
+    let host = match text.strip_prefix("[") {
+        Some(inner) => inner.strip_suffix("]")?,
+        None => text,
+    };
+    if host.is_empty() {
+        return None;
+    }
+    Some(host)
+}
+
+/// The address that a text spells as PORT or HOST:PORT. A port alone is one of this machine.
+pub fn address_of(text: &str) -> Option<Address<'_>>
+    ensures { IfSome result (λ address. SpellsAddress text.now address.host.now address.port) }
+{
+    match text.rsplit_once(":") {
+        None => Some(Address {
+            host: LOCAL,
+            port: port_of(text)?,
+        }),
+        Some((front, back)) => Some(Address {
+            host: host_of(front)?,
+            port: port_of(back)?,
+        }),
+    }
+}
+
+/// Whether a text names a host beside its port.
+pub fn has_host(text: &str) -> bool {
+    text.contains(":")
+}
+
+/// From 1 to 64 addresses, with commas between. Returns None if the text isn't these, or if one has no host.
+pub fn addresses_of(alloc: Global, text: &str) -> Result<Option<Vec<Address<'_>>>, AllocError> {
+    let mut addresses = Vec::new(alloc);
+    for part in text.split(",") {
+        if !has_host(part) || addresses.len() == MOST_SERVERS {
+            return Ok(None);
+        }
+        match address_of(part) {
+            Some(address) => addresses.push(address)?,
+            None => return Ok(None),
+        }
+    }
+    Ok(Some(addresses))
+}
+
+/// The level of the log that a text names.
+pub fn level_of(text: &str) -> Option<LevelFilter>
+    ensures { result ≡ level_of text.now }
+{
+    if text == "off" {
+        return Some(LevelFilter::Off);
+    }
+    if text == "error" {
+        return Some(LevelFilter::Error);
+    }
+    if text == "warn" {
+        return Some(LevelFilter::Warn);
+    }
+    if text == "info" {
+        return Some(LevelFilter::Info);
+    }
+    if text == "debug" {
+        return Some(LevelFilter::Debug);
+    }
+    None
+}
+
+/// The format of the log that a text names.
+pub fn format_of(text: &str) -> Option<LogFormat>
+    ensures { result ≡ format_of text.now }
+{
+    if text == "text" {
+        return Some(LogFormat::Text);
+    }
+    if text == "json" {
+        return Some(LogFormat::Json);
+    }
+    None
+}
