@@ -1,6 +1,7 @@
 //! What a client's request does: it is answered here, held until its turn, or forwarded to the leader.
 //!
-//! Laws of `observer_core` that go over this: `Agreeing`, `Apart`, `Closing`, `Joined`, `Served`, `Taking`, `Unmoved`.
+//! Laws of `observer_core` that go over this: `Agreeing`, `Apart`, `Closing`, `GivenIds`, `Joined`, `Leaderless`,
+//! `Served`, `Taking`, `Unmoved`.
 
 ghost use Rattle.std.specs.Prelude.{◌≡◌, ◌≤◌, ◌∷◌, [], length, false, OnOk};
 ghost use Rattle.values.specs.Gains.{Puts};

@@ -1,7 +1,7 @@
 //! What a client's bytes do: frames and four-letter words.
 //!
-//! Laws of `observer_core` that go over this: `Agreeing`, `Apart`, `Closing`, `Joined`, `Logs`, `Playing`, `Served`,
-//! `Taking`, `Unmoved`, `WholeImages`.
+//! Laws of `observer_core` that go over this: `Agreeing`, `Apart`, `Closing`, `GivenIds`, `Joined`, `Leaderless`,
+//! `Logs`, `Playing`, `Served`, `Taking`, `Unmoved`, `WholeImages`.
 
 ghost use Rattle.std.specs.Prelude.{◌≡◌, ◌≤◌, length, true, false, OnOk};
 ghost use Rattle.jute.specs.Stream.{items_in, place_at};

@@ -1,6 +1,7 @@
 //! The clients: open connections, sessions, watches, and requests that wait.
 //!
-//! Laws of `observer_core` that go over this: `Agreeing`, `Apart`, `Joined`, `Playing`, `Served`, `Taking`, `Unmoved`.
+//! Laws of `observer_core` that go over this: `Agreeing`, `Apart`, `GivenIds`, `Joined`, `Leaderless`, `Playing`,
+//! `Served`, `Taking`, `Unmoved`.
 
 ghost use Rattle.std.specs.Prelude.{◌≡◌, ◌∷◌, OnOk, IfSome, IfNone, IfOk};
 ghost use Rattle.std.specs.FinMap as finmap;

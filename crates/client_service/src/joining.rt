@@ -1,6 +1,7 @@
 //! How a client asks for a session, and is answered.
 //!
-//! Laws of `observer_core` that go over this: `Agreeing`, `Apart`, `Closing`, `Joined`, `Served`, `Taking`, `Unmoved`.
+//! Laws of `observer_core` that go over this: `Agreeing`, `Apart`, `Closing`, `GivenIds`, `Joined`, `Leaderless`,
+//! `Served`, `Taking`, `Unmoved`.
 
 ghost use Rattle.std.specs.Prelude.{◌≡◌, ◌&&◌, None, true, false, not, pos, IfOk, OnOk};
 ghost use Rattle.std.specs.Ordering.{int_eq};

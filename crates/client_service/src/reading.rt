@@ -1,6 +1,7 @@
 //! Answers to reads and to requests for watches, and the watches that they leave.
 //!
-//! Laws of `observer_core` that go over this: `Agreeing`, `Apart`, `Closing`, `Passing`, `Taking`, `Unmoved`.
+//! Laws of `observer_core` that go over this: `Agreeing`, `Apart`, `Closing`, `GivenIds`, `Leaderless`, `Passing`,
+//! `Taking`, `Unmoved`.
 
 ghost use Rattle.std.specs.Prelude.{◌≡◌, IfOk, IfSome, OnOk, Some};
 ghost use Rattle.read_processor.specs.Renewal.{renew_watches};

@@ -1,7 +1,7 @@
 //! The ids and the session of a connection, and what is done when the session ends.
 //!
-//! Laws of `observer_core` that go over this: `Agreeing`, `Apart`, `Closing`, `Joined`, `Logs`, `Served`, `Taking`,
-//! `Unmoved`, `WholeImages`.
+//! Laws of `observer_core` that go over this: `Agreeing`, `Apart`, `Closing`, `GivenIds`, `Joined`, `Leaderless`,
+//! `Logs`, `Served`, `Taking`, `Unmoved`, `WholeImages`.
 
 ghost use Rattle.std.specs.Prelude.{◌≡◌, OnOk};
 ghost use Rattle.client_service.specs.Serve.{with_sessions, touch_client, show_id, close_client_if_some, expire_session};

@@ -1,6 +1,7 @@
 //! How the reads that wait are answered.
 //!
-//! Laws of `observer_core` that go over this: `Agreeing`, `Apart`, `Closing`, `Passing`, `Taking`, `Unmoved`.
+//! Laws of `observer_core` that go over this: `Agreeing`, `Apart`, `Closing`, `GivenIds`, `Leaderless`, `Passing`,
+//! `Taking`, `Unmoved`.
 
 ghost use Rattle.std.specs.Prelude.{◌≡◌, [], map, IfOk, OnOk};
 ghost use Rattle.read_processor.specs.Asking.{looks_at, LooksAtAsks};

@@ -1,6 +1,7 @@
 //! Four-letter words: a client may send one before it asks for a session.
 //!
-//! Laws of `observer_core` that go over this: `Agreeing`, `Apart`, `Playing`, `Served`, `Unmoved`, `Words`.
+//! Laws of `observer_core` that go over this: `Agreeing`, `Apart`, `GivenIds`, `Leaderless`, `Playing`, `Served`,
+//! `Unmoved`, `Words`.
 
 ghost use Rattle.std.specs.Prelude.{◌≡◌, ◌<◌, IfOk, IfSome, IfNone, true, map, take, length};
 ghost use Rattle.four_letter.specs.Words.{needs_watches};

@@ -1,6 +1,7 @@
 //! A transaction that ends the session of a connection.
 //!
-//! Laws of `observer_core` that go over this: `Agreeing`, `Closing`, `Joined`, `Served`, `Taking`, `Unmoved`.
+//! Laws of `observer_core` that go over this: `Agreeing`, `Closing`, `GivenIds`, `Joined`, `Leaderless`, `Served`,
+//! `Taking`, `Unmoved`.
 
 ghost use Rattle.forwarding.specs.Pending.{pending_close};
 ghost use Rattle.client_service.specs.Results.{MeetsStep};

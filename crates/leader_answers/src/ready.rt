@@ -1,6 +1,7 @@
 //! The requests in front of a connection's that wait for nothing any more.
 //!
-//! Laws of `observer_core` that go over this: `Agreeing`, `Closing`, `Joined`, `Served`, `Taking`, `Unmoved`.
+//! Laws of `observer_core` that go over this: `Agreeing`, `Closing`, `GivenIds`, `Joined`, `Leaderless`, `Served`,
+//! `Taking`, `Unmoved`.
 
 ghost use Rattle.std.specs.Prelude.{◌≡◌};
 ghost use Rattle.client_frames.specs.Call.{call_in};

@@ -1,6 +1,7 @@
 //! A sync that the leader has done.
 //!
-//! Laws of `observer_core` that go over this: `Agreeing`, `Closing`, `Joined`, `Served`, `Taking`, `Unmoved`.
+//! Laws of `observer_core` that go over this: `Agreeing`, `Closing`, `GivenIds`, `Joined`, `Leaderless`, `Served`,
+//! `Taking`, `Unmoved`.
 
 ghost use Rattle.std.specs.Prelude.{◌≡◌};
 ghost use Rattle.forwarding.specs.Pending.{settle_sync};

@@ -1,6 +1,7 @@
 //! A transaction that answers a write.
 //!
-//! Laws of `observer_core` that go over this: `Agreeing`, `Closing`, `Joined`, `Served`, `Taking`, `Unmoved`.
+//! Laws of `observer_core` that go over this: `Agreeing`, `Closing`, `GivenIds`, `Joined`, `Leaderless`, `Served`,
+//! `Taking`, `Unmoved`.
 
 ghost use Rattle.std.specs.Prelude.{◌≡◌, IfOk};
 ghost use Rattle.forwarding.specs.Pending.{answer_write};

@@ -1,6 +1,7 @@
 //! What a leader does: it connects, sends, and leaves.
 //!
-//! Laws that go over this: `Agreeing`, `Logs`, `Playing`, `Refusals`, `Served`, `Simulation`, `WholeImages`.
+//! Laws that go over this: `Agreeing`, `GivenIds`, `Leaderless`, `Logs`, `Playing`, `Refusals`, `Served`,
+//! `Simulation`, `WholeImages`.
 
 ghost use Rattle.std.specs.Prelude.{◌≡◌, map, ◌∷◌, [], IfOk, OnOk};
 ghost use Rattle.std.specs.List.{All};

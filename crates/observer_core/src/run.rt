@@ -3,7 +3,8 @@
 //! A read that a client asks for may wait while others follow. The reads that wait are answered before anything that
 //! could tell the difference: before a client's frame that is no read, before any other event, and at the end.
 //!
-//! Laws that go over this: `Agreeing`, `Logs`, `Playing`, `Refusals`, `Served`, `WholeImages`.
+//! Laws that go over this: `Agreeing`, `GivenIds`, `Leaderless`, `Logs`, `Playing`, `Refusals`, `Served`,
+//! `WholeImages`.
 
 ghost use Rattle.std.specs.Prelude.{◌≢◌, ℕ, List};
 ghost use Rattle.replica.specs.Gathering.{AppliesTxns};

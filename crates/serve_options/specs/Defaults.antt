@@ -3,7 +3,7 @@ use Rattle.std.specs.Prelude.{ℕ, List, Option, Some, None, codes}
 use Rattle.serve_options.specs.declared.row.Name.{Name}
 use Rattle.serve_options.specs.declared.row.Name.TheVariants.{Workers, Batch, Tick, InitLimit, SyncLimit, Checkpoint, Log, LogFormat}
 use Rattle.serve_options.specs.declared.row.Without.{Without}
-use Rattle.serve_options.specs.declared.row.Without.TheVariants.{Value, Meaning}
+use Rattle.serve_options.specs.declared.row.Without.TheVariants.{Nothing, Value, Meaning}
 
 -- The value of an option that isn't given, as it would be spelled.
 abbrev pub option_default : Name → Option (List ℕ)
@@ -18,5 +18,6 @@ option_default LogFormat = Some (codes "text")
 option_default name = None
 
 abbrev pub default_value : Without → Option (List ℕ)
+default_value Nothing = None
 default_value (Value text) = Some text.now
 default_value (Meaning text) = None

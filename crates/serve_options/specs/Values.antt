@@ -15,8 +15,8 @@ number_within bounds text = do
   number ← number_up_to bounds.most text
   if nat_le bounds.least number then Some number else None
 
-abbrev pub port_of : List ℕ → Option ℕ
-port_of text = number_up_to 65535 text
+abbrev pub port_number_of : List ℕ → Option ℕ
+port_number_of text = number_up_to 65535 text
 
 abbrev pub level_of : List ℕ → Option LevelFilter
 level_of text =
@@ -40,6 +40,6 @@ SpellsHost text host = (host ≢ []) × ((text ≡ host) ⊎ (text ≡ codes "["
 -- A text spells a host and a port: a port alone is one of this machine.
 pub record SpellsAddress (text host : List ℕ) (port : ℕ) : Type 0 where
   pub digits : List ℕ
-  pub is_port : port_of digits ≡ Some port
+  pub is_port : port_number_of digits ≡ Some port
   pub spelled : ((text ≡ digits) × (host ≡ codes "127.0.0.1"))
       ⊎ ((front : List ℕ) × SpellsHost front host × (text ≡ front ++ codes ":" ++ digits))

@@ -1,6 +1,6 @@
 //! The text of `serve --help`.
 
-use crate::row::{Kind, NAMES, Row, Without};
+use crate::row::{NAMES, Row, Without};
 use std::alloc::{AllocError, Global};
 
 const HEAD: &str =
@@ -14,21 +14,15 @@ fn put_row(out: &mut String, row: &Row) -> Result<(), AllocError> {
         without,
         help,
     } = row;
-    write!(out, "\n  {word} {value}\n      {help}\n")?;
-    match kind {
-        Kind::Nothing => {}
-        Kind::Address
-        | Kind::Addresses
-        | Kind::Number(_)
-        | Kind::File
-        | Kind::Level
-        | Kind::Format => {
-            writeln!(out, "      {kind}")?;
-        }
+    if value.is_empty() {
+        write!(out, "\n  {word}\n      {help}\n")?;
+    } else {
+        write!(out, "\n  {word} {value}\n      {help}\n")?;
     }
     match without {
-        Without::Value(value) => writeln!(out, "      without it: {value}"),
-        Without::Meaning(meaning) => writeln!(out, "      without it: {meaning}"),
+        Without::Nothing => Ok(()),
+        Without::Value(value) => writeln!(out, "      {kind}; without it: {value}"),
+        Without::Meaning(meaning) => writeln!(out, "      {kind}; without it: {meaning}"),
     }
 }
 

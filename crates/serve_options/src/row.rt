@@ -99,6 +99,8 @@ impl fmt::Display for Kind {
 /// What holds where an option isn't given.
 #[derive(Clone, Copy, Debug, PartialEq, Eq)]
 pub enum Without {
+    /// Nothing to tell.
+    Nothing,
     /// This value, as it would be given.
     Value(&'static str),
     /// What happens then.
@@ -122,7 +124,7 @@ const LEADER: Row = Row {
     word: "--leader",
     value: "[HOST:]PORT",
     kind: Kind::Address,
-    without: Without::Meaning("there is a list of servers in place of it"),
+    without: Without::Meaning("servers are given in place of it"),
     help: "where the leader listens for its learners: the first port of its `server.N` line. The server ends when this leader does",
 };
 
@@ -130,7 +132,7 @@ const SERVERS: Row = Row {
     word: "--servers",
     value: "HOST:PORT,..",
     kind: Kind::Addresses,
-    without: Without::Meaning("there is one leader in place of it"),
+    without: Without::Meaning("a leader is given in place of it"),
     help: "where each server that may lead listens for its learners; the one that leads is looked for among them, again and again",
 };
 
@@ -149,9 +151,7 @@ const ID: Row = Row {
         least: 1,
         most: 255,
     }),
-    without: Without::Meaning(
-        "it has to be there, but for a leader that is a port alone, where it is 1",
-    ),
+    without: Without::Meaning("it has to be there; beside a leader that is a port alone it is 1"),
     help: "the id of this server, which no other server of the ensemble has",
 };
 
@@ -279,7 +279,7 @@ const HELP: Row = Row {
     word: "--help",
     value: "",
     kind: Kind::Nothing,
-    without: Without::Meaning(""),
+    without: Without::Nothing,
     help: "prints this list",
 };
 
@@ -287,7 +287,7 @@ const VERSION: Row = Row {
     word: "--version",
     value: "",
     kind: Kind::Nothing,
-    without: Without::Meaning(""),
+    without: Without::Nothing,
     help: "prints the version",
 };
 

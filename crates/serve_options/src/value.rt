@@ -2,7 +2,7 @@
 
 ghost use Rattle.std.specs.Prelude.{◌≡◌, ℕ, IfSome};
 ghost use Rattle.serve_options.specs.Rows.{IsWithin};
-ghost use Rattle.serve_options.specs.Values.{number_within, port_of, SpellsHost, SpellsAddress, level_of, format_of};
+ghost use Rattle.serve_options.specs.Values.{number_within, port_number_of, SpellsHost, SpellsAddress, level_of, format_of};
 
 use crate::row::Bounds;
 use log::LevelFilter;
@@ -57,7 +57,7 @@ pub fn number_within(bounds: Bounds, text: &str) -> Option<u64>
 }
 
 fn port_of(text: &str) -> Option<u16>
-    ensures { result ≡ port_of text.now }
+    ensures { result ≡ port_number_of text.now }
 {
     let port = number_up_to(MOST_PORT, text.as_bytes())?;
     Some(port as u16)

@@ -1,0 +1,106 @@
+#!/usr/bin/env python3
+"""Compares docs/OPERATING.md with the program's own tables, so that page and program can't part.
+
+    tools/pages.py             compares
+    tools/pages.py --print     prints the two tables as the page is to have them
+
+The page's table of options has for each row of crates/serve_options/src/row.rt what `serve --help` prints of it. Its
+table of faults has for each fault of crates/values/src/fault.rt, in order, the hint of crates/serve_failures/src/hint.rt,
+word for word. Each option and each fault counts as one. The last line is `N passed, M failed`; the exit status is 0
+where nothing failed.
+"""
+import os
+import re
+import sys
+
+TOP = os.path.dirname(os.path.dirname(os.path.realpath(__file__)))
+PAGE = os.path.join(TOP, "docs", "OPERATING.md")
+ROWS = os.path.join(TOP, "crates", "serve_options", "src", "row.rt")
+HINTS = os.path.join(TOP, "crates", "serve_failures", "src", "hint.rt")
+FAULTS = os.path.join(TOP, "crates", "values", "src", "fault.rt")
+
+TEXT = r'"((?:[^"\\]|\\.)*)"'
+ROW = re.compile(rf"const \w+: Row = Row \{{\s*word: {TEXT},\s*value: {TEXT},\s*kind: (.*?),\s*without: (.*?),\s*help:\s*{TEXT},\s*\}};", re.S)
+NUMBER = re.compile(r"Kind::Number\(Bounds \{\s*least: ([\w:]+),\s*most: ([\w:]+),?\s*\}\)")
+
+
+def text_of(file):
+    with open(file, encoding="utf-8") as it:
+        return it.read()
+
+
+def kinds(text):
+    """Returns what a value of each kind may be, by the kind's name, for the kinds without bounds."""
+    return dict(re.findall(rf"Kind::(\w+) => f\.write_str\({TEXT}\)", text))
+
+
+def value_text(kind, words):
+    """Returns what the value of an option may be, in the words of `serve --help`."""
+    found = NUMBER.fullmatch(kind)
+    if found is None:
+        return words[kind.split("::")[1]]
+    least, most = (it.replace("_", "") for it in found.groups())
+    return f"at least {least}" if most == "u64::MAX" else f"{least} to {most}"
+
+
+def options():
+    """Returns the page's line for each option, in the program's order."""
+    text = text_of(ROWS)
+    words, found = kinds(text), []
+    for word, value, kind, without, purpose in ROW.findall(text):
+        head = f"{word} {value}".strip()
+        told = re.search(TEXT, without)
+        given = f"`{told[1]}`" if "::Value" in without else told[1] if told else ""
+        may = "" if kind == "Kind::Nothing" else value_text(kind, words)
+        found.append(f"| `{head}` | {purpose} | {may} | {given} |")
+    if len(found) != text.count(": Row = Row {"):
+        raise ValueError(f"{ROWS}: a row that isn't understood")
+    return found
+
+
+def faults():
+    """Returns the beginning of the page's line for each fault, in order."""
+    numbers = re.findall(r"^    (\w+)(?: = 1)?,$", text_of(FAULTS).split("pub enum Fault {")[1].split("}")[0], re.M)
+    hints = dict(re.findall(rf"Fault::(\w+) =>\s*(?:\{{\s*)?{TEXT}", text_of(HINTS)))
+    return [f"| F{number} {word} | {hints[word]} |" for number, word in enumerate(numbers, 1)]
+
+
+def table(page, head):
+    """Returns the lines of the page's table that has this head."""
+    behind = page.split(f"\n{head}\n")[1].split("\n")[1:]
+    end = next(at for at, line in enumerate(behind) if not line.startswith("|"))
+    return behind[:end]
+
+
+def wrong(page):
+    """Yields what is wrong with the page, and whether it is."""
+    lines = table(page, "| Option | What it is for | What it may be | Without it |")
+    for wanted, line in zip(options() + [""] * len(lines), lines):
+        yield (f"the option's line is `{line}`, and the program says `{wanted}`", line != wanted)
+    for missing in options()[len(lines):]:
+        yield (f"the page lacks `{missing}`", True)
+    lines = table(page, "| Fault | What to do, as the program says it | What is wrong | More |")
+    for wanted, line in zip(faults() + [""] * len(lines), lines):
+        yield (f"the fault's line is `{line}`, and the program says `{wanted}`", not wanted or not line.startswith(wanted))
+    for missing in faults()[len(lines):]:
+        yield (f"the page lacks `{missing}`", True)
+
+
+def main():
+    if sys.argv[1:] == ["--print"]:
+        print("\n".join([*options(), "", *faults()]))
+        return 0
+    try:
+        found = list(wrong(text_of(PAGE)))
+    except (OSError, ValueError, IndexError, KeyError, StopIteration) as why:
+        found = [(f"{type(why).__name__}: {why}", True)]
+    for what, is_wrong in found:
+        if is_wrong:
+            print(what)
+    failed = sum(is_wrong for _, is_wrong in found)
+    print(f"{len(found) - failed} passed, {failed} failed")
+    return 1 if failed else 0
+
+
+if __name__ == "__main__":
+    sys.exit(main())
