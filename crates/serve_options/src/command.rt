@@ -1,10 +1,10 @@
 //! The commands of `serve`.
 
-ghost use Rattle.std.specs.Prelude.{◌≡◌, Some, IfSome, IfOk, option_map};
+ghost use Rattle.std.specs.Prelude.{◌≡◌, ℕ, List, map, string_bytes, IfSome, IfOk, option_map};
 ghost use Rattle.serve_options.specs.Rows.{option_bounds, IsWithin};
-ghost use Rattle.serve_options.specs.Values.{number_within};
+ghost use Rattle.serve_options.specs.Values.{number_within, SpellsAddress};
 ghost use Rattle.serve_options.specs.Given.{value_of, number_given, number_answer};
-ghost use Rattle.serve_options.specs.Commands.{IsWithinBounds};
+ghost use Rattle.serve_options.specs.Commands.{IsWithinBounds, IsSetBy, AreWordsOf};
 
 use crate::error::OptionError;
 use crate::given::{Given, find_given, given_in, spelled};
@@ -93,6 +93,7 @@ fn bounds_of(name: Name) -> Bounds
 // The number of an option, given or not.
 fn number_in<'a>(given: &[Given<'a>], name: Name) -> Result<Option<u64>, OptionError<'a>>
     ensures value { number_answer result ≡ option_map (number_within (option_bounds name)) (value_of name given.now) }
+    ensures number { IfOk result (λ found. found ≡ number_given name given.now) }
     ensures bounds { IfOk result (λ found. IfSome found (IsWithin (option_bounds name))) }
 {
     let Some(value) = spelled(given, name) else {
@@ -115,7 +116,9 @@ fn number<'a>(given: &[Given<'a>], name: Name) -> Result<u64, OptionError<'a>>
     }
 }
 
-fn address_in<'a>(given: &[Given<'a>], name: Name) -> Result<Option<Address<'a>>, OptionError<'a>> {
+fn address_in<'a>(given: &[Given<'a>], name: Name) -> Result<Option<Address<'a>>, OptionError<'a>>
+    ensures { IfOk result (λ found. IfSome found (λ address. (text : List ℕ) × (value_of name given.now ≡ Some text) × SpellsAddress text address.host.now address.port)) }
+{
     let Some(value) = spelled(given, name) else {
         return Ok(None);
     };
@@ -138,7 +141,9 @@ fn servers_in<'a>(alloc: Global, given: &[Given<'a>]) -> Result<Servers<'a>, Opt
     }
 }
 
-fn client_in<'a>(given: &[Given<'a>]) -> Result<Address<'a>, OptionError<'a>> {
+fn client_in<'a>(given: &[Given<'a>]) -> Result<Address<'a>, OptionError<'a>>
+    ensures { IfOk result (λ client. (text : List ℕ) × (value_of Name.Client given.now ≡ Some text) × SpellsAddress text client.host.now client.port) }
+{
     match address_in(given, Name::Client)? {
         Some(client) => Ok(client),
         None => Err(OptionError::NoClient),
@@ -165,7 +170,10 @@ fn id_in<'a>(given: &[Given<'a>]) -> Result<ServerId, OptionError<'a>> {
     }
 }
 
-fn limits_in<'a>(given: &[Given<'a>]) -> Result<Limits, OptionError<'a>> {
+fn limits_in<'a>(given: &[Given<'a>]) -> Result<Limits, OptionError<'a>>
+    ensures workers { IfOk result (λ limits. number_given Name.Workers given.now ≡ Some limits.workers) }
+    ensures batch { IfOk result (λ limits. number_given Name.Batch given.now ≡ Some limits.batch) }
+{
     let workers = number(given, Name::Workers)?;
     let batch = number(given, Name::Batch)?;
     match Limits::new(workers as usize, batch as usize, GROUPS) {
@@ -195,7 +203,8 @@ fn format_in<'a>(given: &[Given<'a>]) -> Result<LogFormat, OptionError<'a>> {
 }
 
 fn options_in<'a>(alloc: Global, given: &[Given<'a>]) -> Result<Options<'a>, OptionError<'a>>
-    ensures { IfOk result (λ options. IsWithinBounds options) }
+    ensures set { IfOk result (IsSetBy given.now) }
+    ensures bounds { IfOk result IsWithinBounds }
 {
     Ok(Options {
         servers: servers_in(alloc, given)?,
@@ -222,7 +231,9 @@ fn has(words: &[String], option: &str) -> bool {
 
 /// Reads the words after `serve`. Where `--help` is among them, or else `--version`, nothing else counts. Fails with
 /// the first thing that is wrong, or if an allocation is refused.
-pub fn command_of<'a>(alloc: Global, words: &'a [String]) -> Result<Command<'a>, OptionError<'a>> {
+pub fn command_of<'a>(alloc: Global, words: &'a [String]) -> Result<Command<'a>, OptionError<'a>>
+    ensures { IfOk result (λ command. AreWordsOf command (map string_bytes words.now)) }
+{
     if has(words, "--help") {
         return Ok(Command::Help);
     }
