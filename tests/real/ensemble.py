@@ -213,7 +213,7 @@ def all_down(bench):
         except Gone:
             asked += 1
         time.sleep(0.5)
-    assert "no leader yet: " in bench.observer.logged(), bench.observer.process.tail()
+    assert "no leader among " in bench.observer.logged(), bench.observer.process.tail()
     again = time.monotonic()
     bench.mended()
     until("the client is back", lambda: client.back(began), 30)
@@ -351,7 +351,7 @@ def started_while_frozen(bench):
         assert word(alone.client, "ruok") == "imok" and word(alone.client, "isro") == "null"
         other.waits_until_it_serves(40)
         say(f"behind the next leader it serves after {time.monotonic() - began:.1f} s")
-        wanted = f"no leader yet: 127.0.0.1:{leader.quorum} silent"
+        wanted = f"no leader among 127.0.0.1:{leader.quorum} (silent)"
         until("a line says why", lambda: wanted in alone.logged(), 15)
         line = next(it for it in alone.logged().splitlines() if wanted in it)
         say(line)

@@ -169,7 +169,7 @@ def test_ids_from_a_counter():
             assert other.recv(100)[8:16] in (b"", bytes(8)) and is_closed(other)
 
 
-TIMED = re.compile(r"\d{4}-\d\d-\d\dT\d\d:\d\d:\d\d\.\d{3}Z (DEBUG|INFO |WARN |ERROR) (leader|client|log|hub|serve) .+")
+TIMED = re.compile(r"\d{4}-\d\d-\d\dT\d\d:\d\d:\d\d\.\d{3}Z (DEBUG|INFO |WARN |ERROR) \w+ .+")
 
 
 def told_with(*words, **environment):
