@@ -1,5 +1,5 @@
 -- The worked rows of requests that are forwarded to the leader by a server 3, and answered by its stream.
-use Rattle.std.proofs.Common.{◌≡◌, ℕ, suc, List, [], ◌∷◌, ◌++◌, length, not, Option, Some, None, Result, Ok, true, false, cond, refl, sym, ap, ◌∙◌, arith, rules}
+use Rattle.std.proofs.Common.{◌≡◌, ℕ, ◌+◌, suc, List, [], ◌∷◌, ◌++◌, length, not, Option, Some, None, Result, Ok, true, false, cond, refl, sym, ap, ◌∙◌, arith, rules}
 use Rattle.std.specs.Prelude.{ℤ, pos, negsuc, codes, is_some}
 use Rattle.std.specs.FinMap as finmap
 use Rattle.std.specs.FinSet as set

@@ -1,5 +1,5 @@
 -- The session of each connection lives, after every event.
-use Rattle.std.proofs.Common.{◌≡◌, ◌≢◌, ◌⊎◌, inl, inr, ℕ, ℤ, Bool, true, false, cond, List, [], ◌∷◌, ◌++◌, length, Option, Some, None, Result, Ok, Err, refl, sym, ap, subst, ◌∙◌}
+use Rattle.std.proofs.Common.{◌≡◌, ◌≢◌, ◌⊎◌, inl, inr, ℕ, ◌+◌, ℤ, Bool, true, false, cond, List, [], ◌∷◌, ◌++◌, length, Option, Some, None, Result, Ok, Err, refl, sym, ap, subst, ◌∙◌}
 use Rattle.std.specs.Prelude.{is_some, int_lt, nat_lt}
 use Rattle.std.specs.Option.{unwrap_or}
 use Rattle.std.specs.Ordering.{eq_by_cmp, nat_cmp, int_cmp, is_eq}
@@ -53,7 +53,7 @@ use Rattle.forwarding.specs.Queue.{waiting_connect, answered_write}
 use Rattle.forwarding.specs.Pending.{queue_of, connecting_to, pending_close, settle_sync}
 use Rattle.sessions.specs.Credentials.{digest_id}
 use Rattle.sessions.specs.State.{SessionTable as Sessions, ConnectedClient as SessionConnection}
-use Rattle.sessions.specs.Sessions.{session_in, session_of_connection, connection_of, close_connection, close_if_some, new_connection, give_session, name_session, AuthResult, ids_limit, is_same_id, with_id, show_in, digest_text, auth_by, add_auth}
+use Rattle.sessions.specs.Sessions.{session_in, session_of_connection, connection_of, close_connection, close_if_some, new_connection, give_session, AuthResult, ids_limit, is_same_id, with_id, show_in, digest_text, auth_by, add_auth}
 use Rattle.client_service.specs.declared.world.Settings.{Settings}
 use Rattle.client_service.specs.World.{Clients, World}
 use Rattle.client_service.specs.Clients.{heard_connection, no_clients}
