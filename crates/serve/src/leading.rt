@@ -268,7 +268,9 @@ impl<L: Log, W: Write + Drop> Hub<L, W> {
         }
         let rest = search.rest(now);
         let (servers, reasons) = search.tried();
-        self.journal.no_leader(servers, reasons, now);
+        if !reasons.contains(&Reason::Untried) {
+            self.journal.no_leader(servers, reasons, now);
+        }
         Ok(rest)
     }
 
