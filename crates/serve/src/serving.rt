@@ -39,7 +39,7 @@ const WORTH_THREADS: SpreadThreshold = SpreadThreshold {
 // The counter that session ids begin after: the one that is given, or that of the clock, so that the ids of two runs
 // differ.
 fn first_counter<R: Clock>(rt: &R, options: &Options<'_>) -> io::Result<FirstCounter> {
-    if let Some(counter) = options.first_counter.and_then(FirstCounter::new) {
+    if let Some(counter) = options.first_counter {
         return Ok(counter);
     }
     let since_1970 = SystemTime::now(rt)?

@@ -47,6 +47,7 @@ impl<'a> SettingsLine<'a> {
             write!(f, " --give-up {seconds}")?;
         }
         if let Some(counter) = self.options.first_counter {
+            let counter = counter.number();
             write!(f, " --counter {counter}")?;
         }
         if let Some(file) = self.options.record {

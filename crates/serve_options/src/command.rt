@@ -14,7 +14,7 @@ use crate::value::{
 };
 use batcher::Limits;
 use log::LevelFilter;
-use settings::ServerId;
+use settings::{FirstCounter, ServerId};
 use std::alloc::Global;
 
 /// Which servers to follow.
@@ -35,8 +35,8 @@ pub struct Options<'a> {
     pub server_id: ServerId,
     /// Whether no id was given, so that it is 1, which a server that votes may have too.
     pub default_id: bool,
-    /// The number after which the counter of session ids begins, at most 2^56 - 2; None: the clock's.
-    pub first_counter: Option<u64>,
+    /// The counter after which session ids begin; None: the clock's.
+    pub first_counter: Option<FirstCounter>,
     pub limits: Limits,
     /// How many clients may be connected at a time, at least 1.
     pub max_clients: Option<u64>,
@@ -170,6 +170,16 @@ fn id_in<'a>(given: &[Given<'a>]) -> Result<ServerId, OptionError<'a>> {
     }
 }
 
+fn counter_in<'a>(given: &[Given<'a>]) -> Result<Option<FirstCounter>, OptionError<'a>>
+    ensures number { IfOk result (λ found. found ≡ number_given Name.Counter given.now) }
+    ensures bounds { IfOk result (λ found. IfSome found (IsWithin (option_bounds Name.Counter))) }
+{
+    match number_in(given, Name::Counter)? {
+        Some(number) => Ok(FirstCounter::new(number)),
+        None => Ok(None),
+    }
+}
+
 fn limits_in<'a>(given: &[Given<'a>]) -> Result<Limits, OptionError<'a>>
     ensures workers { IfOk result (λ limits. number_given Name.Workers given.now ≡ Some limits.workers) }
     ensures batch { IfOk result (λ limits. number_given Name.Batch given.now ≡ Some limits.batch) }
@@ -211,7 +221,7 @@ fn options_in<'a>(alloc: Global, given: &[Given<'a>]) -> Result<Options<'a>, Opt
         client: client_in(given)?,
         server_id: id_in(given)?,
         default_id: find_given(given, Name::Id).is_none(),
-        first_counter: number_in(given, Name::Counter)?,
+        first_counter: counter_in(given)?,
         limits: limits_in(given)?,
         max_clients: number_in(given, Name::MaxClients)?,
         record: spelled(given, Name::Record),
