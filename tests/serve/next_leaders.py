@@ -256,6 +256,12 @@ def test_one_of_two_servers_says_nothing():
         line.leads(1)
         assert f"127.0.0.1:{silent.port} says nothing" in server.said(), server.said()
         assert silent.accept().introduced() == 0 and server.word(b"isro") == b"rw"
+        # The next time it isn't waited for as long.
+        began = time.monotonic()
+        line.close()
+        seat.accept().leads(2)
+        assert 0.4 < time.monotonic() - began < 2, time.monotonic() - began
+        assert silent.accept().introduced() == 1
 
 
 def test_all_servers_are_gone():
