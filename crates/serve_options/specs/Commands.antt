@@ -1,5 +1,5 @@
 -- What a command line asks for.
-use Rattle.std.specs.Prelude.{◌≡◌, ℕ, pos, List, IfSome, Some, None, IsTrue, ◌↔◌}
+use Rattle.std.specs.Prelude.{◌≡◌, ℕ, List, IfSome, Some, None, IsTrue, ◌↔◌}
 use Rattle.std.specs.Option.{option_map}
 use Rattle.serve_options.specs.declared.row.Name.TheVariants.{Client, Id, Counter, Workers, Batch, MaxClients, Tick, InitLimit, SyncLimit, Checkpoint, GiveUp, Record}
 use Rattle.serve_options.specs.declared.given.Given.{Given}
