@@ -110,10 +110,10 @@ class Connection:
 class Client(Connection):
     """A connection with a session: one request after the other is answered, and events are told when they come."""
 
-    def __init__(self, port: int, seen: int = 0):
+    def __init__(self, port: int, seen: int = 0, timeout: int = TIMEOUT):
         super().__init__(port)
         self.xid, self.events = 0, []
-        request = int32(0) + int64(seen) + int32(TIMEOUT) + int64(0) + buffer(bytes(16)) + boolean(False)
+        request = int32(0) + int64(seen) + int32(timeout) + int64(0) + buffer(bytes(16)) + boolean(False)
         self.send(buffer(request))
         answer = Reader(self.frame(5) or b"")
         try:

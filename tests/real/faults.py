@@ -98,7 +98,8 @@ def comes_back(bench):
 
 
 def leader_frozen(bench):
-    """While the leader stands still reads are answered; then the observer follows again."""
+    """While the leader stands still for less than the sync limit, reads are answered; then the observer follows again.
+    What comes after a longer time is a matter of the suite `ensemble`."""
     restarted(bench)
     writer, client = writer_of(bench), Raw(bench.observer.client)
     bench.leader.process.signal(signal.SIGSTOP)
@@ -142,13 +143,14 @@ def cannot_start(bench):
             raise AssertionError(f"it serves: {name}")
         except Failed:
             assert other.process.ends() == 3, other.process.tail()
-            assert "cannot open" in other.process.tail(), other.process.tail()
+            lines = other.process.tail(2).splitlines()
+            assert lines[0].startswith("observer: cannot ") and lines[1] == "cannot open", other.process.tail()
         finally:
             other.stop()
 
 
 def leader_at_fault(bench):
-    """A leader whose first packet isn't LEADERINFO is left, with status 0."""
+    """A leader whose first packet isn't LEADERINFO is left, with status 7 and a line that says what to do."""
     listener = socket.create_server(("127.0.0.1", 0))
     other = Observer(bench.observer.program, bench.folder, "at-fault")
     try:
@@ -156,7 +158,8 @@ def leader_at_fault(bench):
         connection, _ = listener.accept()
         connection.sendall(int32(13) + int64(0) + int32(-1) + int32(-1))
         assert is_closed(connection), "the leader's connection stays open"
-        assert other.process.ends(5) == 0, other.process.tail()
+        assert other.process.ends(5) == 7, other.process.tail()
+        assert other.process.tail(1).startswith("observer: F12 UnexpectedPacket from "), other.process.tail()
     finally:
         other.stop()
         listener.close()

@@ -17,6 +17,8 @@ from client import EXISTS, Client, Gone  # noqa: E402
 from jute import boolean, text  # noqa: E402
 
 JAVA = pathlib.Path("/usr/share/java")
+# Starts a program with another clock than the machine's.
+FAKETIME = "/usr/bin/faketime"
 JARS = ("zookeeper.jar", "slf4j-simple.jar", "log4j-1.2.jar")
 LEADER_ID, OBSERVER_ID = 9, 3
 TIMEOUTS = (4000, 40000)
@@ -193,11 +195,14 @@ class Observer:
         self.process, self.client = None, None
 
     def start(self, quorum, client=0, *options):
-        """Starts it, and waits until it says on which port it serves."""
-        words = [*self.program, "serve", "--leader", quorum, "--client", client, "--id", self.number, "--log", *options]
+        """Starts it behind one leader, and waits until it says on which port it serves."""
+        self.run("--leader", quorum, "--client", client, "--id", self.number, "--log", *options)
+
+    def run(self, *options):
+        """Starts it with these options, and waits until it says on which port it serves."""
         self.out = self.folder / f"{self.name}.out"
         with open(self.out, "wb") as out:
-            self.process = Process(self.name, words, self.folder, stdout=out)
+            self.process = Process(self.name, [*self.program, "serve", *options], self.folder, stdout=out)
         self.client = until("`serving PORT` is printed", self.said, START_SECONDS)
 
     def said(self):

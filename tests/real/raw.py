@@ -9,9 +9,9 @@ SET_WATCHES, SET_WATCHES_XID = 101, -8
 class Raw(Client):
     """A client whose replies and events lie in `order`; an event is an Event, a reply is its error."""
 
-    def __init__(self, port, seen=0):
+    def __init__(self, port, seen=0, **how):
         self.order = []
-        super().__init__(port, seen)
+        super().__init__(port, seen, **how)
 
     def keep(self, event):
         self.events.append(event)

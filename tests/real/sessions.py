@@ -1,9 +1,10 @@
 """Sessions and their ephemerals: they live as long as their clients are heard, and end at the leader."""
+import signal
 import time
 
 from kazoo.exceptions import SessionMovedError
 
-from lab import OBSERVER_ID, Gone, Observer, ended, library, until, zxid_of
+from lab import FAKETIME, OBSERVER_ID, Gone, Observer, ended, library, until, word, zxid_of
 from proxy import Proxy
 from raw import Raw, buffer, int32, text
 
@@ -163,30 +164,59 @@ def at_another_observer(bench):
     ended(leader)
 
 
-def after_a_restart(bench):
-    """Where the observer is started again, a client takes its session up, as at another one; a new client is given the
-    id of the first session again, and shares that while it lives."""
+def started_again(bench, proxy, client, how):
+    """Has the observer started again in some way, and waits until a client is back on its session."""
+    session = client.client_id
+    bench.observer.process.signal(signal.SIGKILL)
+    bench.observer.process.ends()
+    until("kazoo has seen the end", lambda: not client.connected)
+    how()
+    proxy.target = bench.observer.client
+    until("kazoo has come back", lambda: client.connected)
+    assert client.client_id == session, "another session"
+
+
+def apart_after(bench, how):
+    """Where the observer is started again in some way, a client takes its session up, as at another one, and a new client
+    has an id that no session of the earlier run has had; when that one ends, the older one's ephemeral stays."""
+    bench.observer.stop()
+    bench.observer.start(bench.leader.quorum)
     proxy, leader = Proxy(bench.observer.client), library(bench.leader.client)
+    # The first session of this run, as the new client's is of the next one.
+    until("the observer serves", lambda: word(bench.observer.client, "isro") == "rw")
     client = library(proxy.port)
     try:
         client.create("/restarted", b"", ephemeral=True)
-        session = client.client_id
-        bench.observer.stop()
-        until("kazoo has seen the end", lambda: not client.connected)
-        bench.observer.start(bench.leader.quorum)
-        proxy.target = bench.observer.client
-        until("kazoo has come back", lambda: client.connected)
-        assert client.client_id == session and client.get("/restarted")[1].ephemeralOwner == session[0]
+        session = client.client_id[0]
+        started_again(bench, proxy, client, how)
+        assert client.get("/restarted")[1].ephemeralOwner == session
         assert is_moved(client, "/restarted") and is_at(leader, "/restarted")
-        # The counter of ids has begun again.
         first = library(bench.observer.client)
-        assert first.client_id[0] & 0xFF <= session[0] & 0xFF and first.client_id[0] >> 56 == OBSERVER_ID
+        assert first.client_id[0] != session and first.client_id[0] >> 56 == session >> 56 == OBSERVER_ID
         first.create("/restarted-first", b"", ephemeral=True)
-        ended(first, client)
-        assert not is_at(leader, "/restarted") and not is_at(leader, "/restarted-first")
+        ended(first)
+        assert is_at(leader, "/restarted") and not is_at(leader, "/restarted-first")
+        ended(client)
+        assert not is_at(leader, "/restarted")
     finally:
         proxy.close()
     ended(leader)
 
 
+def after_a_restart(bench):
+    """Killed and started again under the same id: no session of the earlier run is given to a new client."""
+    apart_after(bench, lambda: bench.observer.start(bench.leader.quorum))
+
+
+def clock_set_back(bench):
+    """The same, with the clock set back by an hour between the two runs."""
+    program = bench.observer.program
+    bench.observer.program = [FAKETIME, "-f", "-1h", *program]
+    try:
+        apart_after(bench, lambda: bench.observer.start(bench.leader.quorum))
+    finally:
+        bench.observer.program = program
+
+
 CHECKS = [after_a_close, after_a_cut, silent, taken_up, idle, observer_gone, at_another_observer, after_a_restart]
+CHECKS += [clock_set_back]

@@ -1,13 +1,17 @@
-"""What a later leader writes past 3.4 is refused: each setting that keeps it from that is needed."""
+"""What a later leader writes past 3.4 is refused: each setting that keeps it from that is needed. The observer ends with
+status 7, and its last line says what to do."""
+import time
+
 from kazoo.client import KazooClient
 
-from lab import DIALECT, JARS, JAVA, Leader, Observer, Process, until, word
+from lab import DIALECT, JARS, JAVA, OBSERVER_ID, Leader, Observer, Process, free_ports, until, word
+from voters import Follower
 
 DIGEST, CLOSE_SESSION = DIALECT
 
 
 def fault_of(bench, name, dialect, cause):
-    """Starts a new leader with these settings alone, does something there, and returns what the observer then logs."""
+    """Starts a new leader with these settings alone, does something there, and returns the observer's last line."""
     folder = bench.folder / name
     folder.mkdir()
     leader, observer = Leader(folder), Observer(bench.observer.program, folder)
@@ -21,7 +25,7 @@ def fault_of(bench, name, dialect, cause):
         cause(client, leader)
         client.stop()
         client.close()
-        assert observer.process.ends(10) == 0, observer.process.tail()
+        assert observer.process.ends(10) == 7, observer.process.tail()
         return observer.process.tail(1)
     finally:
         observer.stop()
@@ -32,6 +36,31 @@ def digest(bench):
     """A digest behind each transaction."""
     said = fault_of(bench, "digest", (CLOSE_SESSION,), lambda client, _: client.create("/digest", b""))
     assert "F6 TrailingBytes" in said, said
+
+
+def defaults(bench):
+    """A server as it is installed, found among several addresses: the line names the setting that is missing."""
+    folder = bench.folder / "defaults"
+    folder.mkdir()
+    leader, observer = Leader(folder), Follower(bench.observer.program, folder, "defaults", OBSERVER_ID)
+    try:
+        leader.start(())
+        began = time.monotonic()
+        # Its first transaction may have come before the observer, which is then sent an image.
+        observer.begin(f"127.0.0.1:{free_ports(1)[0]},127.0.0.1:{leader.quorum}")
+        until("the observer serves", observer.serves)
+        client = KazooClient(f"127.0.0.1:{leader.client}")
+        client.start(15)
+        assert observer.process.ends(10) == 7, observer.process.tail()
+        client.stop()
+        client.close()
+        last = observer.process.tail(1)
+        print(f"     after {time.monotonic() - began:.1f} s: {last}")
+        wanted = f"observer: F6 TrailingBytes from 127.0.0.1:{leader.quorum}: set zookeeper.digest.enabled=false"
+        assert last.startswith(wanted), last
+    finally:
+        observer.stop()
+        leader.stop()
 
 
 def close_session(bench):
@@ -58,4 +87,4 @@ def container(bench):
     assert "F5 BadTxnType" in said, said
 
 
-CHECKS = [digest, close_session, create2, container]
+CHECKS = [digest, close_session, create2, container, defaults]

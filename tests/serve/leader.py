@@ -1,5 +1,5 @@
-"""A small leader of epoch 1: it creates and ends the sessions that its observer asks for, and keeps the other requests
-until a test takes them."""
+"""A small leader, of epoch 1 unless it is told otherwise: it creates and ends the sessions that its observer asks for,
+and keeps the other requests until a test takes them."""
 import queue
 import select
 import struct
@@ -7,7 +7,7 @@ import threading
 from typing import List, NamedTuple, Tuple
 
 CREATE, SYNC, CREATE_SESSION, CLOSE_SESSION, ERROR = 1, 9, -10, -11, -1
-REQUEST, PING, SYNCED, INFORM = 1, 5, 7, 8
+REQUEST, PROPOSAL, PING, SYNCED, INFORM = 1, 2, 5, 7, 8
 EPOCH_1 = 1 << 32
 SECONDS = 10
 
@@ -81,17 +81,18 @@ class Packets:
 
 
 class Leader:
-    """Leads over a connection on which the observer is up to date. Its transactions are numbered by `last`, from 1 on.
+    """Leads over a connection on which the observer is up to date. Its transactions are numbered by `last`, from 1 on in
+    its epoch.
 
     While `creates` is false, what asks for a session or for its end is kept with the other requests. Whoever sends
     several packets that belong together holds the lock, since sessions are created at any time.
     """
 
-    def __init__(self, connection):
-        self.connection, self.last, self.lock = connection, 0, threading.RLock()
+    def __init__(self, connection, epoch=1):
+        self.connection, self.epoch, self.last, self.lock = connection, epoch << 32, 0, threading.RLock()
         self.requests, self.pings = queue.Queue(), queue.Queue()
         self.sessions, self.creates, self.has_ended = {}, True, threading.Event()
-        self.stops = threading.Event()
+        self.stops, self.wrong = threading.Event(), None
         self.thread = threading.Thread(target=self.follow, daemon=True)
         self.thread.start()
 
@@ -109,6 +110,8 @@ class Leader:
                         self.take(*found)
         except (OSError, ValueError):
             pass  # The observer, or the test, has closed the connection.
+        except AssertionError as why:  # whoever ends this leader is told
+            self.wrong = why
         self.has_ended.set()
 
     def take(self, kind, zxid, content, ids):
@@ -130,20 +133,24 @@ class Leader:
 
     # ---- what is sent
 
+    def zxid(self):
+        """Its last transaction's."""
+        return self.epoch + self.last
+
     def send(self, content):
         self.connection.sendall(content)
 
     def made(self, kind, body, session=7, xid=1):
         """The INFORM of the next transaction, which is made of a request with this session and xid."""
         self.last += 1
-        content = struct.pack(">qiqqi", session, xid, EPOCH_1 + self.last, 1000, kind) + body
-        return packet(INFORM, EPOCH_1 + self.last, content)
+        content = struct.pack(">qiqqi", session, xid, self.zxid(), 1000, kind) + body
+        return packet(INFORM, self.zxid(), content)
 
     def informs(self, kind, body, session=7, xid=1):
         """Does a transaction, and returns its zxid."""
         with self.lock:
             self.send(self.made(kind, body, session, xid))
-            return EPOCH_1 + self.last
+            return self.zxid()
 
     def create(self, asked):
         """Creates the session that is asked for."""
@@ -167,16 +174,16 @@ class Leader:
         """Does a create or a sync, and returns the last zxid."""
         with self.lock:
             self.send(self.done(request))
-            return EPOCH_1 + self.last
+            return self.zxid()
 
     def refuses(self, request, error):
         """Tells that a write has failed, and returns the zxid of that."""
         return self.informs(ERROR, struct.pack(">i", error), request.session, request.xid)
 
-    def pinged(self):
+    def pinged(self, seconds=SECONDS):
         """Sends a PING, and returns the table of its answer: sessions and their timeouts."""
-        self.send(packet(PING, EPOCH_1 + self.last))
-        return self.pings.get(timeout=SECONDS)
+        self.send(packet(PING, self.zxid()))
+        return self.pings.get(timeout=seconds)
 
     # ---- the end
 
@@ -188,3 +195,4 @@ class Leader:
         """Takes nothing more from the observer."""
         self.stops.set()
         self.thread.join()
+        assert self.wrong is None, f"a packet that no leader takes: {self.wrong}"

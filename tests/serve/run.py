@@ -1,5 +1,5 @@
 #!/usr/bin/env python3
-"""tests/serve/run.py [PROGRAM]: faults over sockets, tried at `serve` of the built program.
+"""tests/serve/run.py [PROGRAM] [--long] [NAME ..]: faults over sockets, tried at `serve` of the built program.
 
 It plays a small leader and many clients: some are reset, some are cut in the middle of a frame, some say nothing, some
 don't read, some send what is no frame, some go while their session or a write of theirs waits for the leader, and many
@@ -19,85 +19,26 @@ import time
 from concurrent.futures import ThreadPoolExecutor
 
 sys.dont_write_bytecode = True
+import checkpoints  # noqa: E402
+import commands  # noqa: E402
 import forwarded  # noqa: E402
 import load  # noqa: E402
+import next_leaders  # noqa: E402
+import several  # noqa: E402
+import silence  # noqa: E402
 from leader import CLOSE_SESSION, CREATE, ERROR, EPOCH_1, received  # noqa: E402
 from server import (  # noqa: E402
-    ACKEPOCH, CONNECT, CONNECTED_LEN, GET, GOT_LEN, LEADERINFO, OBSERVERINFO, PING, PINGED_LEN, SNAP, UPTODATE, Server,
-    got, hexa, is_closed, reset, wait_until,
+    ACKEPOCH, CONNECT, CONNECTED_LEN, GET, GOT_LEN, LEADERINFO, OBSERVERINFO, PING, PINGED_LEN, SNAP, UPTODATE, Program,
+    Server, got, hexa, is_closed, reset, wait_until,
 )
 
-
-def run(*words):
-    """Runs the program to its end. Returns its status and what standard error was told."""
-    ran = subprocess.run([Server.PROGRAM, "serve", *words], stdin=subprocess.DEVNULL, capture_output=True, timeout=20)
-    return ran.returncode, ran.stderr.decode()
-
-
-def test_command_lines():
-    good = ["--leader", "1", "--client", "0"]
-    bad = [
-        [],
-        ["--leader", "1"],
-        ["--client", "1"],
-        ["--leader", "1", "--client"],
-        good + ["--leader", "1"],
-        good + ["--log", "--log"],
-        good + ["--workers"],
-        good + ["--workers", "0"],
-        good + ["--workers", "65"],
-        good + ["--workers", "+4"],
-        good + ["--batch", "0"],
-        good + ["--batch", "4097"],
-        good + ["--id", "0"],
-        good + ["--id", "256"],
-        good + ["--max-clients", "0"],
-        good + ["--record"],
-        good + ["--verbose"],
-        good + ["more"],
-        ["--leader", "65536", "--client", "0"],
-        ["--leader", "-1", "--client", "0"],
-        ["--leader", "", "--client", "0"],
-        ["--leader", "1", "--client", ":5"],
-        ["--leader", "localhost:", "--client", "0"],
-    ]
-    for words in bad:
-        assert run(*words) == (2, "usage\n"), words
-
-
-def test_what_cannot_be_opened():
-    with socket.socket() as taken, socket.socket() as closed:
-        taken.bind(("127.0.0.1", 0))
-        taken.listen(5)
-        closed.bind(("127.0.0.1", 0))
-        here, gone = str(taken.getsockname()[1]), str(closed.getsockname()[1])
-        assert run("--leader", gone, "--client", "0") == (3, "cannot open\n")
-        assert run("--leader", "no-such-host.invalid:2888", "--client", "0") == (3, "cannot open\n")
-        assert run("--leader", here, "--client", here) == (3, "cannot open\n")
-        assert run("--leader", here, "--client", "0", "--record", "/no/such/folder/file") == (3, "cannot open\n")
-        status, told = run("--leader", gone, "--client", "0", "--log")
-        lines = told.splitlines()
-        assert status == 3 and len(lines) == 2 and gone in lines[0] and lines[1] == "cannot open", told
+MODULES = (commands, sys.modules[__name__], next_leaders, silence, checkpoints)
 
 
 def test_a_client_reads():
-    with Server() as server:
+    with Server("--log", "off") as server:
         assert server.is_serving()
         assert server.ends() == ""
-
-
-def test_names_and_addresses():
-    with socket.socket() as leader:
-        leader.bind(("127.0.0.1", 0))
-        leader.listen(5)
-        words = ["--leader", f"localhost:{leader.getsockname()[1]}", "--client", "127.0.0.1:0", "--id", "7"]
-        program = subprocess.Popen([Server.PROGRAM, "serve", *words], stdout=subprocess.PIPE, stderr=subprocess.PIPE)
-        connection, _ = leader.accept()
-        found = received(connection, len(OBSERVERINFO))
-        assert found == OBSERVERINFO.replace(hexa("0000000000000001 00010000"), hexa("0000000000000007 00010000"))
-        connection.close()
-        assert program.wait(10) == 0
-        program.communicate()
 
 
 def test_frames_come_in_pieces():
@@ -292,14 +233,14 @@ def test_faults_of_the_leader():
         received(server.stream, len(OBSERVERINFO))
         server.stream.sendall(UPTODATE)
         assert is_closed(server.stream)
-        told = server.ends()
-        assert "F12 UnexpectedPacket" in told, told
+        told = server.ends(status=7)
+        assert told.splitlines()[-1].startswith("observer: F12 UnexpectedPacket from 127.0.0.1:"), told
     with Server("--log") as server:
         client = server.client()
         server.leader.send(hexa("00000008 0000000100000002 ffffff00"))
         assert server.leader.is_closed() and is_closed(client)
-        told = server.ends()
-        assert "F2 BadLength" in told and "DIFF" in told, told
+        told = server.ends(status=7)
+        assert told.splitlines()[-1].startswith("observer: F2 BadLength from 127.0.0.1:") and "DIFF" in told, told
 
 
 def test_the_end_in_an_image():
@@ -383,9 +324,10 @@ def test_what_is_recorded_replays():
 
 
 def test_a_record_that_cannot_be_written():
-    with Server("--record", "/dev/full") as server:
+    with Server("--record", "/dev/full", "--log", "off") as server:
         assert server.is_serving()
-        assert server.ends(status=3) == "cannot open\n"
+        told = server.ends(status=3).splitlines()
+        assert told == ["observer: the record could not be written to its end", "cannot open"], told
 
 
 def test_want_of_memory():
@@ -705,24 +647,35 @@ def test_a_load_of_all_kinds():
         server.ends(seconds=load.SECONDS)
 
 
+def tests():
+    """Yields each test with its name, module by module."""
+    for module in MODULES:
+        for name, it in list(vars(module).items()):
+            if name.startswith("test_"):
+                yield name[len("test_") :], it
+
+
 def main(words):
     # 500 clients take three descriptors each of the program, and one here.
     most = resource.getrlimit(resource.RLIMIT_NOFILE)[1]
     resource.setrlimit(resource.RLIMIT_NOFILE, (most, most))
-    if words and not words[0].startswith("-"):
-        Server.PROGRAM = os.path.realpath(words.pop(0))
+    if "--long" in words:
+        words.remove("--long")
+        several.LONG = True
+    if words and os.path.isfile(words[0]):
+        Program.PROGRAM = os.path.realpath(words.pop(0))
     passed = failed = 0
-    for name, test in list(globals().items()):
-        if not name.startswith("test_") or (words and name[len("test_") :] not in words):
+    for name, test in tests():
+        if words and name not in words:
             continue
         began = time.monotonic()
         try:
             test()
             passed += 1
-            print(f"ok {name[len('test_'):]} ({time.monotonic() - began:.1f} s)", flush=True)
+            print(f"ok {name} ({time.monotonic() - began:.1f} s)", flush=True)
         except Exception as why:  # each failure is told, and the others go on
             failed += 1
-            print(f"FAILED {name[len('test_'):]}: {type(why).__name__} {why}", flush=True)
+            print(f"FAILED {name}: {type(why).__name__} {why}", flush=True)
             if os.environ.get("TRACE"):
                 import traceback
 

@@ -70,45 +70,20 @@ def wait_until(holds, seconds):
     return True
 
 
-class Server:
-    """A leader, and the program that follows it. Before the program serves there is only the leader's connection."""
+class Program:
+    """The program as a server: a process, what it holds, and its client port."""
 
     PROGRAM = os.path.join(TOP, "crates", "replay_runner", "out", "replay_runner")
 
-    def __init__(self, *words, serves=True, limit=None):
-        self.leader_socket = socket.socket()
-        self.leader_socket.bind(("127.0.0.1", 0))
-        self.leader_socket.listen(5)
-        self.leader_socket.settimeout(10)
-        self.leader = None
-        leader_port = str(self.leader_socket.getsockname()[1])
-        self.program = subprocess.Popen(
-            [self.PROGRAM, "serve", "--leader", leader_port, "--client", "0", *words],
-            stdout=subprocess.PIPE,
-            stderr=subprocess.PIPE,
-            preexec_fn=limit,
-        )
-        self.stream, _ = self.leader_socket.accept()
-        self.stream.settimeout(10)
+    def start(self, words, errors, limit=None):
+        words = [self.PROGRAM, "serve", *words]
+        self.program = subprocess.Popen(words, stdout=subprocess.PIPE, stderr=errors, preexec_fn=limit)
+
+    def takes_clients(self):
+        """Waits until it says on which port."""
         line = self.program.stdout.readline()
         assert line.startswith(b"serving "), line
         self.port = int(line.split()[1])
-        if serves:
-            self.handshake()
-
-    def handshake(self):
-        assert received(self.stream, len(OBSERVERINFO))[-12:] == OBSERVERINFO[-12:]
-        self.stream.sendall(LEADERINFO)
-        assert received(self.stream, len(ACKEPOCH)) == ACKEPOCH
-        self.stream.sendall(DIFF + NEWLEADER)
-        assert received(self.stream, len(ACK)) == ACK
-        self.stream.sendall(UPTODATE)
-        assert received(self.stream, len(ACK)) == ACK
-        self.leader = Leader(self.stream)
-        self.leader.informs(CREATE, CREATE_A)
-        # Whoever has a session from now on sees the node.
-        with self.client() as client:
-            assert self.answers(client)
 
     def answers(self, client):
         """Returns whether a client gets the node that it reads."""
@@ -136,6 +111,12 @@ class Server:
         except (AssertionError, ConnectionError):
             return False
 
+    def word(self, asked):
+        """Returns what a four-letter word is answered."""
+        with self.connection() as connection:
+            connection.sendall(asked)
+            return b"".join(iter(lambda: connection.recv(4096), b""))
+
     def threads(self):
         return len(os.listdir(f"/proc/{self.program.pid}/task"))
 
@@ -152,6 +133,51 @@ class Server:
         with open(f"/proc/{self.program.pid}/stat", encoding="ascii") as it:
             fields = it.read().rpartition(")")[2].split()
         return (int(fields[11]) + int(fields[12])) / os.sysconf("SC_CLK_TCK")
+
+    def end(self):
+        """Ends the process, whatever it does."""
+        if self.program.poll() is None:
+            self.program.kill()
+            self.program.wait()
+        self.program.stdout.close()
+
+    def __enter__(self):
+        return self
+
+    def __exit__(self, *_):
+        self.kill()
+
+
+class Server(Program):
+    """A leader, and the program that follows it alone. Before it serves there is only the leader's connection."""
+
+    def __init__(self, *words, serves=True, limit=None):
+        self.leader_socket = socket.socket()
+        self.leader_socket.bind(("127.0.0.1", 0))
+        self.leader_socket.listen(5)
+        self.leader_socket.settimeout(10)
+        self.leader = None
+        leader_port = str(self.leader_socket.getsockname()[1])
+        self.start(["--leader", leader_port, "--client", "0", *words], subprocess.PIPE, limit)
+        self.stream, _ = self.leader_socket.accept()
+        self.stream.settimeout(10)
+        self.takes_clients()
+        if serves:
+            self.handshake()
+
+    def handshake(self):
+        assert received(self.stream, len(OBSERVERINFO))[-12:] == OBSERVERINFO[-12:]
+        self.stream.sendall(LEADERINFO)
+        assert received(self.stream, len(ACKEPOCH)) == ACKEPOCH
+        self.stream.sendall(DIFF + NEWLEADER)
+        assert received(self.stream, len(ACK)) == ACK
+        self.stream.sendall(UPTODATE)
+        assert received(self.stream, len(ACK)) == ACK
+        self.leader = Leader(self.stream)
+        self.leader.informs(CREATE, CREATE_A)
+        # Whoever has a session from now on sees the node.
+        with self.client() as client:
+            assert self.answers(client)
 
     def is_at_base(self, seconds=5):
         """Returns whether only the leader's thread, the acceptor's and the main one are left."""
@@ -171,18 +197,9 @@ class Server:
         return errors.decode()
 
     def kill(self):
-        if self.program.poll() is None:
-            self.program.kill()
-            self.program.wait()
-        self.program.stdout.close()
+        self.end()
         self.program.stderr.close()
         if self.leader:
             self.leader.leave()
         self.stream.close()
         self.leader_socket.close()
-
-    def __enter__(self):
-        return self
-
-    def __exit__(self, *_):
-        self.kill()

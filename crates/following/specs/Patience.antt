@@ -1,7 +1,7 @@
 -- When a silent leader is given up. Times are in milliseconds.
 use Rattle.std.specs.Prelude.{ℕ, ◌+◌, ◌-◌, ◌*◌, ◌/◌, ◌^◌, ◌==◌, ℤ, pos, negsuc, Bool, true, false, min, max, Option, Some, None, if◌then◌else◌}
 use Rattle.following.specs.declared.patience.Stage.{Stage}
-use Rattle.following.specs.declared.patience.Stage.TheVariants.{Greeting, Synchronising, Serving}
+use Rattle.following.specs.declared.patience.Stage.TheVariants.{Greeting, GreetingAgain, Synchronising, Serving}
 use Rattle.following.specs.declared.patience.Judgement.{Judgement}
 use Rattle.following.specs.declared.patience.Judgement.TheVariants.{Wait, SecondLook, GivenUp}
 
@@ -65,6 +65,7 @@ lesser_limit (Some one) (Some other) = Some (min one other)
 
 abbrev pub limit_of_silence : Stage → ℕ → ℕ → ℕ → Option ℤ → Option ℕ
 limit_of_silence Greeting tick init_limit sync_limit least_timeout = Some 3000
+limit_of_silence GreetingAgain tick init_limit sync_limit least_timeout = Some 500
 limit_of_silence Synchronising tick init_limit sync_limit least_timeout = limit_in_ticks tick init_limit
 limit_of_silence Serving tick init_limit sync_limit least_timeout =
     lesser_limit (limit_in_ticks tick sync_limit) (limit_by_sessions tick least_timeout)

@@ -7,11 +7,15 @@ use std::marker::Model;
 
 const GREETING_LIMIT: u64 = 3000;
 
+const SECOND_GREETING_LIMIT: u64 = 500;
+
 /// How far a connection to a leader has come.
 #[derive(Clone, Copy, Debug, PartialEq, Eq)]
 pub enum Stage {
     /// Its LEADERINFO hasn't come.
     Greeting,
+    /// The same, of a server that was silent the last time: it may be frozen, while its system accepts connections.
+    GreetingAgain,
     /// From its LEADERINFO to its UPTODATE.
     Synchronising,
     /// Clients are served.
@@ -94,7 +98,7 @@ impl Patience {
 /// For how many milliseconds a leader may be silent at this stage; None: for ever. A tick and the least timeout among
 /// the sessions that are connected here, if there is one, are in milliseconds, and the limits in ticks (0: none).
 ///
-/// Before its LEADERINFO it is 3,000 ms, until its UPTODATE `init_limit`, and then `sync_limit`, but no longer than
+/// Before its LEADERINFO it is 3,000 ms, and 500 ms where it was silent the last time; until its UPTODATE `init_limit`, and then `sync_limit`, but no longer than
 /// three quarters of the least timeout, so that no client is served past its session. A leader that lives is heard each
 /// half tick, and it is given three of these, however short the timeout is.
 pub fn silence_limit(
@@ -108,6 +112,7 @@ pub fn silence_limit(
 {
     match stage {
         Stage::Greeting => Some(GREETING_LIMIT),
+        Stage::GreetingAgain => Some(SECOND_GREETING_LIMIT),
         Stage::Synchronising => ticks(tick, init_limit),
         Stage::Serving => lesser(ticks(tick, sync_limit), session_limit(tick, least_timeout)),
     }

@@ -50,12 +50,13 @@ fn wait(alloc: Global) -> Result<String, Fail> {
     Ok(format!(in alloc; "{first:?} {stopped:?} {kept:?} {silent:?} {gone:?}")?)
 }
 
-// With ticks of 2,000 ms, 10 of them to synchronise and 5 to serve: before LEADERINFO, before UPTODATE, without a
-// session, and with one of 8 s and of 3 s.
+// With ticks of 2,000 ms, 10 of them to synchronise and 5 to serve: before LEADERINFO, the first time and again; before
+// UPTODATE; without a session, and with one of 8 s and of 3 s.
 fn limits(alloc: Global) -> Result<String, Fail> {
     let serving = Stage::Serving;
     let rows = [
         (Stage::Greeting, None),
+        (Stage::GreetingAgain, None),
         (Stage::Synchronising, None),
         (serving, None),
         (serving, Some(8000)),
@@ -116,7 +117,7 @@ fn silences(rt: HostRuntime) -> Result<(), Fail> {
 #[test]
 fn limits_of_silence(rt: HostRuntime) -> Result<(), Fail> {
     let text = limits(rt.alloc())?;
-    assert_eq!(rt; text.as_str(), "3000 20000 10000 6000 3000 ");
+    assert_eq!(rt; text.as_str(), "3000 500 20000 10000 6000 3000 ");
     Ok(())
 }
 

@@ -47,6 +47,14 @@ impl Search {
         }
     }
 
+    /// Whether the server that is followed was silent the last time.
+    pub fn was_silent(&self) -> bool {
+        match self.place {
+            Place::Following { server } => self.reasons.get(server) == Some(&Reason::Silent),
+            Place::Pausing { .. } | Place::Trying => false,
+        }
+    }
+
     /// Whether a new process is needed: the bytes of several leaders, one after the other, were refused.
     pub fn is_hopeless(&self) -> bool {
         self.finding.is_hopeless()

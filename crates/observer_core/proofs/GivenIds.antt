@@ -128,10 +128,13 @@ later_again c d e first second = record {
         → (connecting_to d.pending session ≡ Some n) ⊎ IsGivenBetween d e session
         → (connecting_to c.pending session ≡ Some n) ⊎ IsGivenBetween c e session
     by server within session n (inr b) =
-        inr (record {
-          nonzero = b.0.nonzero;
-          unused = λ earlier g. b.0.unused earlier (given_later c d earlier first.terms first.counter g);
-        }, b.1)
+        inr (
+          record {
+            nonzero = b.0.nonzero;
+            unused = λ earlier g. b.0.unused earlier (given_later c d earlier first.terms first.counter g);
+          },
+          b.1,
+        )
     by server within session n (inl waited) =
         among session (first.asks server (let a = second.counter in omega arith) session n waited)
       where

@@ -103,6 +103,14 @@ impl Leading {
         }
     }
 
+    // Whether the server that is followed was silent the last time.
+    fn was_silent(&self) -> bool {
+        match &self.source {
+            Source::Once(_) => false,
+            Source::Search(search) => search.was_silent(),
+        }
+    }
+
     // For how long clients were served by the leader that is gone, in milliseconds.
     fn served(&mut self, now: u64) -> u64 {
         match self.served_since.take() {
@@ -213,7 +221,8 @@ impl<L: Log, W: Write + Drop> Hub<L, W> {
             Ok(leader) => {
                 self.leading.thread = Some(leader);
                 let now = self.clock.now(rt);
-                self.leading.silence.heard(now);
+                let was_silent = self.leading.was_silent();
+                self.leading.silence.begin(now, was_silent);
                 self.leading.is_given_up = false;
                 self.leading.is_greeted = false;
                 if let Some(server) = self.leading.server() {

@@ -29,10 +29,12 @@ pub struct Silence {
     // The least timeout among the sessions of this server's clients, and when it was looked for.
     least: Option<i32>,
     looked: Option<u64>,
+    was_silent: bool,
 }
 
-fn stage_of(phase: Phase) -> Stage {
+fn stage_of(phase: Phase, was_silent: bool) -> Stage {
     match phase {
+        Phase::Down | Phase::Hello if was_silent => Stage::GreetingAgain,
         Phase::Down | Phase::Hello => Stage::Greeting,
         Phase::Sync | Phase::Image(_) | Phase::ReplayOnImage(_) | Phase::Replay => {
             Stage::Synchronising
@@ -50,10 +52,17 @@ impl Silence {
             again: 0,
             least: None,
             looked: None,
+            was_silent: false,
         }
     }
 
-    /// The leader was heard, or a new one was connected.
+    /// A server was connected, which was silent the last time or not.
+    pub fn begin(&mut self, now: u64, was_silent: bool) {
+        self.heard(now);
+        self.was_silent = was_silent;
+    }
+
+    /// The leader was heard.
     pub fn heard(&mut self, now: u64) {
         self.patience.heard(now);
         self.heard = now;
@@ -100,7 +109,7 @@ impl Silence {
             init_limit,
             sync_limit,
         } = self.limits;
-        let stage = stage_of(engine.learner().phase());
+        let stage = stage_of(engine.learner().phase(), self.was_silent);
         let limit = silence_limit(stage, tick, init_limit, sync_limit, self.least);
         match self.patience.judge(now, limit) {
             Judgement::Wait(left) => Judgement::Wait(left.min(self.three_pings().max(1))),

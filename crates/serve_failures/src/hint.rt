@@ -16,7 +16,9 @@ pub fn fault_hint(fault: Fault) -> &'static str
         Fault::BadPath => "start again, and if it comes back keep a record of it",
         Fault::BadTxnType =>
             "keep create2, containers, TTL nodes and reconfigurations away from the ensemble",
-        Fault::TrailingBytes => "set zookeeper.digest.enabled=false at each server that may lead",
+        Fault::TrailingBytes => {
+            "set zookeeper.digest.enabled=false and zookeeper.closeSessionTxn.enabled=false at each server that may lead"
+        }
         Fault::OutOfOrder => "start again, and if it comes back keep a record of it",
         Fault::CommitMismatch => "start again, and if it comes back keep a record of it",
         Fault::CannotTruncate =>
