@@ -79,11 +79,17 @@ class Peer:
     def lives(self):
         return self.process is not None and self.process.lives()
 
+    def runs(self):
+        return self.lives() and not self.is_frozen
+
     def serves(self):
-        return self.lives() and not self.is_frozen and has_word(self.client, "srvr", "Mode: ")
+        return self.runs() and has_word(self.client, "srvr", "Mode: ")
 
     def leads(self):
-        return self.lives() and not self.is_frozen and has_word(self.client, "srvr", "Mode: leader")
+        return self.runs() and has_word(self.client, "srvr", "Mode: leader")
+
+    def follows(self):
+        return self.runs() and has_word(self.client, "srvr", "Mode: follower")
 
     def freeze(self):
         self.process.signal(signal.SIGSTOP)
@@ -145,17 +151,22 @@ class Ensemble:
 
     def settled(self):
         """Waits until each voter that runs serves, and returns the one that leads."""
-        running = [it for it in self.voters if it.lives() and not it.is_frozen]
-        until("the voters serve", lambda: all(it.serves() for it in running), START_SECONDS)
         return self.leader()
 
     def leader(self, seconds=START_SECONDS):
-        """Waits until a voter leads, and returns it."""
-        return until("a voter leads", lambda: next((it for it in self.voters if it.leads()), None), seconds)
+        """Waits until one voter leads and the others that run follow, and returns the one that leads. One that was frozen
+        takes itself for the leader for a while."""
+
+        def found():
+            running = [it for it in self.voters if it.runs()]
+            leading = [it for it in running if it.leads()]
+            return leading[0] if len(leading) == 1 and sum(it.follows() for it in running) == len(running) - 1 else None
+
+        return until("one voter leads", found, seconds)
 
     def follower(self):
-        """Returns a voter that serves and doesn't lead."""
-        return until("a voter follows", lambda: next((it for it in self.voters if it.serves() and not it.leads()), None))
+        """Returns a voter that follows."""
+        return until("a voter follows", lambda: next((it for it in self.voters if it.follows()), None))
 
     def servers(self):
         """The addresses of the voters, as our observer is given them."""
