@@ -73,11 +73,12 @@ fn put_list<W: fmt::Write>(f: &mut fmt::Formatter<W>, addresses: &[Address<'_>])
 impl<'a> fmt::Display for SettingsLine<'a> {
     fn fmt<W: fmt::Write>(&self, f: &mut fmt::Formatter<W>) -> fmt::Result {
         self.put_servers(f)?;
+        let options = self.options;
         let client = Address {
-            host: self.options.client.host,
+            host: options.client.host,
             port: self.port,
         };
-        let id = self.options.server_id.number();
+        let id = options.server_id.number();
         write!(f, " --client {client} --id {id}")?;
         self.put_limits(f)?;
         self.put_rest(f)

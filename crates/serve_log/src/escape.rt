@@ -1,5 +1,10 @@
 //! Texts of JSON.
 
+ghost use Rattle.std.specs.Prelude.{◌≡◌, ◌<◌};
+ghost use Rattle.std.specs.Char.{digit_char};
+ghost use Rattle.std.specs.Fmt.{WritesOnOk};
+ghost use Rattle.serve_log.specs.Json.{code_escape, json_char};
+
 use std::fmt;
 use std::fmt::Write;
 
@@ -7,21 +12,40 @@ use std::fmt::Write;
 #[derive(Clone, Copy)]
 pub struct Quoted<'a, D>(pub &'a D);
 
-// Writes a control character as \u and four digits.
-fn put_code<W: fmt::Write>(f: &mut fmt::Formatter<W>, c: char) -> fmt::Result {
+// The digit of a number below 16, in hexadecimal.
+fn digit_of(number: u32) -> char
+    ensures { number < 16 → result ≡ digit_char number }
+{
+    match char::from_digit(number, 16) {
+        Some(digit) => digit,
+        None => '0',
+    }
+}
+
+// Writes a control character by its code.
+fn put_code<W: fmt::Write>(f: &mut fmt::Formatter<W>, c: char) -> fmt::Result
+    ensures { c < 256 → WritesOnOk W.write_str_gives f.old result (code_escape c) f.new }
+{
     let code = c as u32;
-    write!(f, "\\u{code:04x}")
+    let high = digit_of(code / 16);
+    let low = digit_of(code % 16);
+    write!(f, "\\u00{high}{low}")
 }
 
 // Writes a character of a text of JSON.
-fn put_char<W: fmt::Write>(f: &mut fmt::Formatter<W>, c: char) -> fmt::Result {
-    match c {
-        '"' => f.write_str("\\\""),
-        '\\' => f.write_str("\\\\"),
-        '\n' => f.write_str("\\n"),
-        '\0'..='\u{1f}' | '\u{7f}' => put_code(f, c),
-        _ => f.write_char(c),
+fn put_char<W: fmt::Write>(f: &mut fmt::Formatter<W>, c: char) -> fmt::Result
+    ensures { WritesOnOk W.write_str_gives f.old result (json_char c) f.new }
+{
+    if c == '"' || c == '\\' {
+        return write!(f, "\\{c}");
     }
+    if c == '\n' {
+        return write!(f, "\\n");
+    }
+    if c < ' ' || c == '\u{7f}' {
+        return put_code(f, c);
+    }
+    write!(f, "{c}")
 }
 
 // Writes to a formatter, with escapes.

@@ -1,9 +1,12 @@
 -- One option more is spelled by the words that were read.
-use Rattle.std.proofs.Common.{◌≡◌, ℕ, zero, suc, List, [], ◌∷◌, ◌++◌, sym, ap, ◌∙◌, arith, append_assoc}
+use Rattle.std.proofs.Common.{◌≡◌, ◌<◌, ◌+◌, ℕ, zero, suc, List, [], ◌∷◌, ◌++◌, Option, Some, None, length, take, get_or, sym, ap, ◌∙◌, arith, append_assoc, below_more, refl}
+use Rattle.std.proofs.Math.Seq.{take-append_seam, get_or-append_seam}
+use Rattle.std.proofs.Math.ListN.{get_or-append}
+use Rattle.std.proofs.lemmas.List.{take-append-le, length-append, flat_map_more}
+use Rattle.std.specs.Prelude.{false, is_some}
 use Rattle.std.specs.Prelude.{flat_map, All}
-use Rattle.std.proofs.lemmas.List.{flat_map_more}
 use Rattle.serve_options.specs.Rows.{option_word}
-use Rattle.serve_options.specs.Given.{words_of_value, words_of_option}
+use Rattle.serve_options.specs.Given.{words_of_value, words_of_option, given_of, IsOnce}
 use Rattle.serve_options.specs.declared.given.Given.{Given}
 
 pub one_more : (given : List Given) (option : Given) (all others after : List (List ℕ)) (word : List ℕ)
@@ -20,3 +23,24 @@ one_more given option all others after word read named spelled =
 pub all_of_one : {X : Type 0} (P : X → Type 0) (x : X) → P x → All P (x ∷ [])
 all_of_one P x p zero d below = p
 all_of_one P x p (suc k) d below = absurd (omega arith)
+
+-- An option of a name that none before it has.
+pub once_more : (given : List Given) (option : Given) → IsOnce given → given_of option.name given ≡ None
+    → IsOnce (given ++ option ∷ [])
+once_more given option old none k d below =
+    let all = given ++ option ∷ [] in
+    let P : ℕ → Type 0 = λ k. given_of (get_or all k d).name (take k all) ≡ None in
+    let less : k < length given + 1 = omega (arith, length-append given (option ∷ [])) in
+    below_more P (length given)
+    (λ k h.
+    ap (λ (o : Given). given_of o.name (take k all)) (get_or-append given (option ∷ []) d k h)
+    ∙ ap (λ l. given_of (get_or given k d).name l) (take-append-le k given (option ∷ []) (omega arith))
+    ∙ old k d h)
+    (ap (λ (o : Given). given_of o.name (take (length given) all)) (get_or-append_seam given option [] d)
+    ∙ ap (λ l. given_of option.name l) (take-append_seam given (option ∷ []))
+    ∙ none)
+    k less
+
+pub none_at : (found : Option Given) → is_some found ≡ false → found ≡ None
+none_at None e = refl
+none_at (Some option) e = cc

@@ -1,40 +1,70 @@
 -- What a command line asks for.
-use Rattle.std.specs.Prelude.{◌≡◌, ℕ, pos, List, IfSome, Some, None, IsTrue, ◌↔◌}
-use Rattle.std.specs.Option.{option_map}
-use Rattle.serve_options.specs.declared.row.Name.TheVariants.{Client, Id, Counter, Workers, Batch, MaxClients, Tick, InitLimit, SyncLimit, Checkpoint, GiveUp, Record}
+use Rattle.std.specs.Prelude.{◌≡◌, ◌↔◌, ◌≤◌, ℕ, pos, List, Option, Some, None, IfSome, IsTrue, vec_len}
+use Rattle.std.specs.Option.{unwrap_or, option_map}
+use Rattle.log.specs.declared.level.LevelFilter.{LevelFilter}
+use Rattle.log.specs.declared.level.LevelFilter.TheVariants.{Info}
+use Rattle.serve_options.specs.declared.row.Name.TheVariants as names
 use Rattle.serve_options.specs.declared.given.Given.{Given}
 use Rattle.serve_options.specs.declared.command.Options.{Options}
+use Rattle.serve_options.specs.declared.command.Servers.{Servers}
+use Rattle.serve_options.specs.declared.command.Servers.TheVariants as followed
+use Rattle.serve_options.specs.declared.value.LogFormat.{LogFormat}
+use Rattle.serve_options.specs.declared.value.LogFormat.TheVariants.{Text}
 use Rattle.serve_options.specs.declared.command.Command.{Command}
 use Rattle.serve_options.specs.declared.command.Command.TheVariants as commands
 use Rattle.serve_options.specs.Given.{given_of, value_of, number_given, IsGivenBy}
 use Rattle.serve_options.specs.Rows.{option_bounds, IsWithin}
-use Rattle.serve_options.specs.Values.{SpellsAddress}
+use Rattle.serve_options.specs.Values.{SpellsAddress, level_of, format_of}
 
 -- Each number is within the bounds of its option. Those of the server's id and of the limits are kept by their types.
 pub record IsWithinBounds (options : Options) : Type 0 where
-  pub counter : IfSome options.first_counter (IsWithin (option_bounds Counter))
-  pub clients : IfSome options.max_clients (IsWithin (option_bounds MaxClients))
-  pub tick : IsWithin (option_bounds Tick) options.tick
-  pub init_limit : IsWithin (option_bounds InitLimit) options.init_limit
-  pub sync_limit : IsWithin (option_bounds SyncLimit) options.sync_limit
-  pub checkpoint : IsWithin (option_bounds Checkpoint) options.checkpoint
-  pub give_up : IfSome options.give_up (IsWithin (option_bounds GiveUp))
+  pub counter : IfSome options.first_counter (IsWithin (option_bounds names.Counter))
+  pub clients : IfSome options.max_clients (IsWithin (option_bounds names.MaxClients))
+  pub tick : IsWithin (option_bounds names.Tick) options.tick
+  pub init_limit : IsWithin (option_bounds names.InitLimit) options.init_limit
+  pub sync_limit : IsWithin (option_bounds names.SyncLimit) options.sync_limit
+  pub checkpoint : IsWithin (option_bounds names.Checkpoint) options.checkpoint
+  pub give_up : IfSome options.give_up (IsWithin (option_bounds names.GiveUp))
+
+-- The leader's address, or between 1 and 64 servers; and only one of the two is given.
+abbrev pub AreServersOf : List Given → Servers → Type 0
+AreServersOf given (followed.Leader address) =
+    (text : List ℕ) × (value_of names.Leader given ≡ Some text) × SpellsAddress text address.host.now address.port
+    × (value_of names.Servers given ≡ None)
+AreServersOf given (followed.Any addresses) =
+    (text : List ℕ) × (value_of names.Servers given ≡ Some text) × (1 ≤ vec_len addresses) × (vec_len addresses ≤ 64)
+    × (value_of names.Leader given ≡ None)
+
+-- The id that is given, or 1.
+abbrev pub id_given : List Given → ℕ
+id_given given = unwrap_or (number_given names.Id given) 1
+
+-- Without a level in words, as `--log` alone has none, it is `info`.
+abbrev pub level_given : List Given → Option LevelFilter
+level_given given = unwrap_or (option_map level_of (value_of names.Log given)) (Some Info)
+
+abbrev pub format_given : List Given → Option LogFormat
+format_given given = unwrap_or (option_map format_of (value_of names.LogFormat given)) (Some Text)
 
 -- Each option sets what it names, and nothing else: as it is spelled, or as its default is.
 pub record IsSetBy (given : List Given) (options : Options) : Type 0 where
-  pub client : (text : List ℕ) × (value_of Client given ≡ Some text)
+  pub servers : AreServersOf given options.servers
+  pub server_id : options.server_id ≡ pos (id_given given)
+  pub log : level_given given ≡ Some options.log
+  pub log_format : format_given given ≡ Some options.log_format
+  pub client : (text : List ℕ) × (value_of names.Client given ≡ Some text)
       × SpellsAddress text options.client.host.now options.client.port
-  pub default_id : IsTrue options.default_id ↔ (given_of Id given ≡ None)
-  pub counter : options.first_counter ≡ number_given Counter given
-  pub workers : number_given Workers given ≡ Some options.limits.workers
-  pub batch : number_given Batch given ≡ Some options.limits.batch
-  pub clients : options.max_clients ≡ number_given MaxClients given
-  pub tick : number_given Tick given ≡ Some options.tick
-  pub init_limit : number_given InitLimit given ≡ Some options.init_limit
-  pub sync_limit : number_given SyncLimit given ≡ Some options.sync_limit
-  pub checkpoint : number_given Checkpoint given ≡ Some options.checkpoint
-  pub give_up : options.give_up ≡ number_given GiveUp given
-  pub file : option_map (λ name. name.now) options.«record» ≡ value_of Record given
+  pub default_id : IsTrue options.default_id ↔ (given_of names.Id given ≡ None)
+  pub counter : options.first_counter ≡ number_given names.Counter given
+  pub workers : number_given names.Workers given ≡ Some options.limits.workers
+  pub batch : number_given names.Batch given ≡ Some options.limits.batch
+  pub clients : options.max_clients ≡ number_given names.MaxClients given
+  pub tick : number_given names.Tick given ≡ Some options.tick
+  pub init_limit : number_given names.InitLimit given ≡ Some options.init_limit
+  pub sync_limit : number_given names.SyncLimit given ≡ Some options.sync_limit
+  pub checkpoint : number_given names.Checkpoint given ≡ Some options.checkpoint
+  pub give_up : options.give_up ≡ number_given names.GiveUp given
+  pub file : option_map (λ name. name.now) options.«record» ≡ value_of names.Record given
 
 -- The words of a command line that serves spell the options that it sets, each within its bounds.
 abbrev pub AreWordsOf : Command → List (List ℕ) → Type 0

@@ -1,5 +1,5 @@
 -- The options that are given.
-use Rattle.std.specs.Prelude.{◌≡◌, ℕ, ◌≤◌, List, [], ◌∷◌, ◌++◌, length, flat_map, All, Bool, false, Option, Some, None, IsNone, IfSome, IsSomeAnd, Result, Ok, Err, nat_eq, codes}
+use Rattle.std.specs.Prelude.{◌≡◌, ℕ, ◌<◌, ◌≤◌, take, slice_index_or, List, [], ◌∷◌, ◌++◌, length, flat_map, All, Bool, false, Option, Some, None, IsNone, IfSome, IsSomeAnd, Result, Ok, Err, nat_eq, codes}
 use Rattle.std.specs.Borrow.{Bor}
 use Rattle.std.specs.List.{find, starts_with}
 use Rattle.std.specs.Option.{option_map}
@@ -91,7 +91,13 @@ pub record IsReadOption (name : Name) (words : List (List ℕ)) (option : Given)
   pub fits : IsValueOf (option_kind name) option.value
   pub shorter : length rest ≤ length words
 
+-- No option stands behind one of its name.
+abbrev pub IsOnce : List Given → Type 0
+IsOnce given =
+    (k : ℕ) (option : Given) → k < length given → given_of (slice_index_or given k option).name (take k given) ≡ None
+
 -- The words spell these options, one after the other; each is there once, and has a value where it takes one.
 pub record IsGivenBy (given : List Given) (words : List (List ℕ)) : Type 0 where
   pub spelled : words ≡ flat_map words_of_option given
   pub fit : All (λ option. IsValueOf (option_kind option.name) option.value) given
+  pub once : IsOnce given

@@ -1,10 +1,10 @@
 //! The commands of `serve`.
 
-ghost use Rattle.std.specs.Prelude.{◌≡◌, ℕ, List, map, string_bytes, IfSome, IfOk, option_map};
+ghost use Rattle.std.specs.Prelude.{◌≡◌, ℕ, pos, List, map, string_bytes, None, Some, IfSome, IfNone, IfOk, option_map};
 ghost use Rattle.serve_options.specs.Rows.{option_bounds, IsWithin};
 ghost use Rattle.serve_options.specs.Values.{number_within, SpellsAddress};
 ghost use Rattle.serve_options.specs.Given.{value_of, number_given, number_answer};
-ghost use Rattle.serve_options.specs.Commands.{IsWithinBounds, IsSetBy, AreWordsOf};
+ghost use Rattle.serve_options.specs.Commands.{IsWithinBounds, IsSetBy, AreWordsOf, AreServersOf, id_given, level_given, format_given};
 
 use crate::error::OptionError;
 use crate::given::{Given, find_given, given_in, spelled};
@@ -117,7 +117,8 @@ fn number<'a>(given: &[Given<'a>], name: Name) -> Result<u64, OptionError<'a>>
 }
 
 fn address_in<'a>(given: &[Given<'a>], name: Name) -> Result<Option<Address<'a>>, OptionError<'a>>
-    ensures { IfOk result (λ found. IfSome found (λ address. (text : List ℕ) × (value_of name given.now ≡ Some text) × SpellsAddress text address.host.now address.port)) }
+    ensures some { IfOk result (λ found. IfSome found (λ address. (text : List ℕ) × (value_of name given.now ≡ Some text) × SpellsAddress text address.host.now address.port)) }
+    ensures none { IfOk result (λ found. IfNone found (value_of name given.now ≡ None)) }
 {
     let Some(value) = spelled(given, name) else {
         return Ok(None);
@@ -128,7 +129,9 @@ fn address_in<'a>(given: &[Given<'a>], name: Name) -> Result<Option<Address<'a>>
     }
 }
 
-fn servers_in<'a>(alloc: Global, given: &[Given<'a>]) -> Result<Servers<'a>, OptionError<'a>> {
+fn servers_in<'a>(alloc: Global, given: &[Given<'a>]) -> Result<Servers<'a>, OptionError<'a>>
+    ensures { IfOk result (AreServersOf given.now) }
+{
     let leader = address_in(given, Name::Leader)?;
     match (leader, spelled(given, Name::Servers)) {
         (Some(_), Some(_)) => Err(OptionError::LeaderAndServers),
@@ -158,7 +161,9 @@ fn needs_id(given: &[Given<'_>]) -> bool {
     }
 }
 
-fn id_in<'a>(given: &[Given<'a>]) -> Result<ServerId, OptionError<'a>> {
+fn id_in<'a>(given: &[Given<'a>]) -> Result<ServerId, OptionError<'a>>
+    ensures { IfOk result (λ id. id ≡ pos (id_given given.now)) }
+{
     let number = match number_in(given, Name::Id)? {
         Some(number) => number,
         None if needs_id(given) => return Err(OptionError::NoId),
@@ -192,7 +197,9 @@ fn limits_in<'a>(given: &[Given<'a>]) -> Result<Limits, OptionError<'a>>
     }
 }
 
-fn level_in<'a>(given: &[Given<'a>]) -> Result<LevelFilter, OptionError<'a>> {
+fn level_in<'a>(given: &[Given<'a>]) -> Result<LevelFilter, OptionError<'a>>
+    ensures { IfOk result (λ level. level_given given.now ≡ Some level) }
+{
     let Some(value) = spelled(given, Name::Log) else {
         return Ok(LevelFilter::Info);
     };
@@ -202,7 +209,9 @@ fn level_in<'a>(given: &[Given<'a>]) -> Result<LevelFilter, OptionError<'a>> {
     }
 }
 
-fn format_in<'a>(given: &[Given<'a>]) -> Result<LogFormat, OptionError<'a>> {
+fn format_in<'a>(given: &[Given<'a>]) -> Result<LogFormat, OptionError<'a>>
+    ensures { IfOk result (λ format. format_given given.now ≡ Some format) }
+{
     let Some(value) = spelled(given, Name::LogFormat) else {
         return Ok(LogFormat::Text);
     };

@@ -1,6 +1,6 @@
 //! The values of options.
 
-ghost use Rattle.std.specs.Prelude.{◌≡◌, ℕ, IfSome};
+ghost use Rattle.std.specs.Prelude.{◌≡◌, ◌≤◌, ℕ, IfSome, IfOk, vec_len};
 ghost use Rattle.serve_options.specs.Rows.{IsWithin};
 ghost use Rattle.serve_options.specs.Values.{number_within, port_number_of, SpellsHost, SpellsAddress, level_of, format_of};
 
@@ -99,16 +99,21 @@ pub fn has_host(text: &str) -> bool {
 }
 
 /// From 1 to 64 addresses, with commas between. Returns None if the text isn't these, or if one has no host.
-pub fn addresses_of(alloc: Global, text: &str) -> Result<Option<Vec<Address<'_>>>, AllocError> {
+pub fn addresses_of(alloc: Global, text: &str) -> Result<Option<Vec<Address<'_>>>, AllocError>
+    ensures { IfOk result (λ found. IfSome found (λ addresses. (1 ≤ vec_len addresses) × (vec_len addresses ≤ 64))) }
+{
     let mut addresses = Vec::new(alloc);
     for part in text.split(",") {
-        if !has_host(part) || addresses.len() == MOST_SERVERS {
+        if !has_host(part) || addresses.len() >= MOST_SERVERS {
             return Ok(None);
         }
         match address_of(part) {
             Some(address) => addresses.push(address)?,
             None => return Ok(None),
         }
+    }
+    if addresses.is_empty() {
+        return Ok(None);
     }
     Ok(Some(addresses))
 }
