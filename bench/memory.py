@@ -6,13 +6,14 @@
     bench/memory.py PROGRAM --nodes 1000000   beside so many nodes, on which the pause of a checkpoint rests
     bench/memory.py PROGRAM --rate 0          as fast as they are taken
 
-It is the leader: it brings the observer up to date, makes the nodes, and sends the transactions, 100,000 a second, many
-in each write: they are written beforehand, so that only their zxids are filled in. (A checkpoint is looked for once a
-second, so the more come in a second, the more the greatest log rests on when that second ends.) Of ten transactions
-seven set the data of a node, one creates a node, one deletes it again, and one is a write that the leader refuses. After
-each part a PING is sent, whose answer shows that all of it was applied, and the resident set is read. A client reads all
-the while, one request after the other, and its longest wait is measured. The exit status is 0 where the greatest
-resident set of the last half is less than 2% above the greatest of the half before.
+It is the leader: it brings the observer up to date, makes the nodes, and sends the transactions, 50,000 a second, many in
+each write: they are written beforehand, so that only their zxids are filled in. (A checkpoint is looked for once a
+second, and not within ten times what the last one took: so the more come in a second, the more the greatest log rests
+on when that second ends, and on what else the machine does.) Of ten transactions seven set the data of a node, one
+creates a node, one deletes it again, and one is a write that the leader refuses. After each part a PING is sent, whose
+answer shows that all of it was applied, and the resident set is read. A client reads all the while, one request after
+the other, and its longest wait is measured. The exit status is 0 where the greatest resident set of the last half is
+less than 2% above the greatest of the half before.
 """
 import argparse
 import os
@@ -247,7 +248,7 @@ def main():
         ("nodes", 10_000, "how many nodes there are"),
         ("content", 16, "the bytes of data of each transaction"),
         ("checkpoint", 64, "the program's option"),
-        ("rate", 100_000, "how many are sent in a second; 0: as many as are taken"),
+        ("rate", 50_000, "how many are sent in a second; 0: as many as are taken"),
         ("parts", 100, "how often the resident set is read"),
     ):
         parser.add_argument(f"--{name}", type=int, default=number, help=f"{what} ({number:,})")
