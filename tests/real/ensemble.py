@@ -224,6 +224,32 @@ def all_down(bench):
     same_trees(bench)
 
 
+def leader_resigns(bench):
+    """Both followers are frozen: the leader resigns, and with it the clients are closed; once there is a leader again, a
+    client is back on its session."""
+    leader = bench.mended()
+    client = Seen(bench.observer.client, 40)
+    try:
+        client.client.create("/resigned", b"", ephemeral=True)
+        began = time.monotonic()
+        for it in bench.ensemble.voters:
+            if it is not leader:
+                it.freeze()
+        until("the client is cut off", lambda: client.cut(began), 30)
+        until("isro is null", lambda: word(bench.observer.client, "isro") == "null")
+        time.sleep(2)
+        thawed = time.monotonic()
+        bench.mended()
+        until("the client is back", lambda: client.back(began), 40)
+        back = client.back(began) - thawed
+        say(f"cut off at {since(began, client.cut(began))}, back {back:.2f} s after the followers were thawed")
+        assert client.keeps_its_session() and ephemeral_lives(bench, "/resigned", client.session)
+        client.client.set("/resigned", b"a write after it")
+    finally:
+        client.close()
+    same_trees(bench)
+
+
 # ---- leaders that fall silent
 
 
@@ -543,7 +569,7 @@ def one_id(bench):
 
 def behind_a_master(bench):
     """A follower's observerMasterPort is followed as if it were a leader: reads, writes and syncs work, and after a
-    restart of the observer the writes of a session that was opened before it."""
+    restart of the observer the writes of a session that was opened before it; among several, the next one is found."""
     room = bench.folder / "masters"
     room.mkdir()
     ensemble, observer = Ensemble(room, with_masters=True), Follower(bench.program, room, "behind-a-master")
@@ -562,6 +588,16 @@ def behind_a_master(bench):
         until("the client is back", lambda: client.back(began), 30)
         client.client.retry(client.client.set, "/master", b"2")
         assert client.keeps_its_session() and client.client.get("/master")[0] == b"2"
+        observer.kill()
+        observer.begin(",".join(f"127.0.0.1:{it.master}" for it in ensemble.voters), port)
+        observer.waits_until_it_serves()
+        until("the client is back", lambda: client.client.connected, 30)
+        began = time.monotonic()
+        ensemble.leader().kill()
+        until("the client is back", lambda: client.back(began), 30)
+        say(f"the leader is killed: back at {since(began, client.back(began))}")
+        client.client.retry(client.client.set, "/master", b"3")
+        assert client.keeps_its_session() and client.client.get("/master")[0] == b"3"
         client.close()
     finally:
         observer.stop()
@@ -593,6 +629,6 @@ def memory_is_flat(bench):
     bench.mended()
 
 
-CHECKS = [leader_killed, kills_under_writes, leader_frozen, short_session, java_frozen, started_while_frozen]
-CHECKS += [observer_frozen, all_down, one_id, locks, behind_a_master, memory_is_flat, restored]
+CHECKS = [leader_killed, kills_under_writes, leader_resigns, leader_frozen, short_session, java_frozen]
+CHECKS += [started_while_frozen, observer_frozen, all_down, one_id, locks, behind_a_master, memory_is_flat, restored]
 CHECKS += [restored_below_a_checkpoint]

@@ -130,9 +130,9 @@ def test_names_and_addresses():
 
 
 def test_a_name_that_nobody_knows():
-    """Among several servers one whose name is unknown is passed over."""
+    """Among several servers one whose name is unknown is passed over; of a name's addresses each is tried."""
     seat = Seat()
-    with Following([seat], "--log", "info", others="no-such-host.invalid:2888,") as server:
+    with Following([seat], others=f"no-such-host.invalid:2888,localhost:{seat.port},") as server:
         seat.accept().leads(1)
         assert server.word(b"isro") == b"rw"
 

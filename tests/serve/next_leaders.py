@@ -1,6 +1,7 @@
 """What becomes of clients, of what they have asked for, and of the tree, when one leader ends and the next one comes."""
 import os
 import random
+import select
 import signal
 import socket
 import struct
@@ -9,12 +10,12 @@ import time
 import forwarded
 import several
 from leader import CREATE, INFORM, PING, PROPOSAL, buffer, packet
-from server import CREATE_A, PING as CLIENT_PING, TOP, is_closed, reset, wait_until
+from server import CREATE_A, GET, PING as CLIENT_PING, TOP, is_closed, reset, wait_until
 from several import (
     ACK, DIFF, EPOCH, LEADERINFO, NEWLEADER, SNAP, TRUNC, UPTODATE, Following, Seat, at_once, image,
 )
 
-ROUNDS, CONNECTIONS, WRITES = 100, 5, 10
+ROUNDS, CONNECTIONS, WRITES, SECONDS = 100, 5, 10, 10
 # Of the xids of a round, which tell its requests from those of the rounds before.
 ROUND = 1000
 
@@ -78,7 +79,8 @@ def is_met(line, least, most, epoch):
 def test_ends_with_writes_under_way():
     chance, rounds = random.Random(3), ROUNDS * (10 if several.LONG else 1)
     seats = [Seat(), Seat(False)]
-    with Following(seats) as server:
+    # Connections that are gone don't count.
+    with Following(seats, "--max-clients", str(3 * CONNECTIONS)) as server:
         writers, least, most = Writers(server), 0, 0
         for turn in range(rounds):
             here, there = seats[turn % 2], seats[1 - turn % 2]
@@ -244,6 +246,92 @@ def test_many_clients_at_the_end_of_a_leader():
         line = server.seats[0].accept()
         line.leads(2)
         assert server.is_at_base(), server.threads()
+
+
+def push_writes(clients, size, count, seconds):
+    """Sends so many writes of so many bytes on each connection, or as many as are taken in some seconds."""
+    rest = {it: b"".join(forwarded.create(turn, b"/large", bytes(size)) for turn in range(count)) for it in clients}
+    until = time.monotonic() + seconds
+    while any(rest.values()) and time.monotonic() < until:
+        _, ready, _ = select.select([], [it for it in clients if rest[it]], [], 0.1)
+        for it in ready:
+            it.setblocking(False)
+            rest[it] = rest[it][it.send(rest[it][:size]) :]
+            it.settimeout(SECONDS)
+
+
+def is_followed_by_another(loses, *words):
+    """A leader takes nothing of 25 MB that its observer has to send, which is more than sockets and queues hold, and is
+    lost. The next one is greeted all the same, and asked for nothing of that."""
+    with Following([Seat(), Seat()], *words) as server:
+        line = server.seats[0].accept()
+        leader = line.leads(1)
+        clients = [server.client() for _ in range(10)]
+        leader.leave()
+        push_writes(clients, 100_000, 25, 2)
+        loses(line)
+        line = server.seats[1].accept()
+        assert line.introduced() == 1
+        assert line.greets(2) == (leader.zxid(), 1)
+        line.sends(DIFF, 0)
+        leader = line.finishes()
+        for it in clients:
+            assert is_closed(it)
+            it.close()
+        assert server.is_at_base(), server.threads()
+        with server.client() as client:
+            client.sendall(forwarded.create(1, b"/small"))
+            asked = leader.asked()
+            assert asked.body.startswith(buffer(b"/small")) and leader.requests.empty(), asked
+
+
+def test_a_leader_that_takes_nothing():
+    at_once({
+        "it is reset": lambda: is_followed_by_another(lambda line: reset(line.connection)),
+        "it falls silent": lambda: is_followed_by_another(
+            lambda line: None, "--tick", "500", "--init-limit", "6", "--sync-limit", "6"
+        ),
+    })
+
+
+def test_clients_that_do_not_read_at_the_end_of_a_leader():
+    with Following([Seat()]) as server:
+        line = server.seats[0].accept()
+        leader = line.leads(1)
+        leader.informs(CREATE, CREATE_A)
+        clients = [server.client() for _ in range(20)]
+        for it in clients:
+            it.setblocking(False)
+            try:
+                while True:
+                    it.send(GET * 500)
+            except BlockingIOError:
+                it.settimeout(SECONDS)
+        line.close()
+        began = time.monotonic()
+        server.seats[0].accept().leads(2)
+        assert time.monotonic() - began < 2
+        assert server.is_at_base(), server.threads()
+        for it in clients:
+            it.close()
+
+
+def test_a_server_that_does_not_accept():
+    """A connection that nobody takes is given up after a second."""
+    full, seat, filling = Seat(False), Seat(), []
+    full.socket.listen(0)
+    for _ in range(3):
+        filling.append(socket.socket())
+        filling[-1].setblocking(False)
+        filling[-1].connect_ex(("127.0.0.1", full.port))
+    time.sleep(0.1)
+    began = time.monotonic()
+    with Following([full, seat]) as server:
+        seat.accept().leads(1)
+        assert 0.9 < time.monotonic() - began < 2.5, time.monotonic() - began
+        assert server.word(b"isro") == b"rw"
+    for it in filling:
+        it.close()
 
 
 def test_one_of_two_servers_says_nothing():

@@ -12,7 +12,7 @@ from server import Program, wait_until
 ACK, NEWLEADER, UPTODATE, DIFF, TRUNC, SNAP, OBSERVERINFO, LEADERINFO, ACKEPOCH = 3, 10, 12, 13, 14, 15, 16, 17, 18
 ID = 1
 EPOCH = 1 << 32
-SECONDS = 10
+SECONDS = 20
 # Whether what is tried often in the gate is tried ten times as often.
 LONG = False
 
