@@ -6,8 +6,8 @@
     bench/memory.py PROGRAM --nodes 1000000   beside so many nodes, on which the pause of a checkpoint rests
     bench/memory.py PROGRAM --rate 0          as fast as they are taken
 
-It is the leader: it brings the observer up to date, makes the nodes, and sends the transactions, 50,000 a second, many in
-each write: they are written beforehand, so that only their zxids are filled in. (A checkpoint is looked for once a
+It is the leader: it brings the observer up to date, makes the nodes, and sends the transactions, 50,000 a second, many
+in each write: they are written beforehand, so that only their zxids are filled in. (A checkpoint is looked for once a
 second, and not within ten times what the last one took: so the more come in a second, the more the greatest log rests
 on when that second ends, and on what else the machine does.) Of ten transactions seven set the data of a node, one
 creates a node, one deletes it again, and one is a write that the leader refuses. After each part a PING is sent, whose
@@ -197,7 +197,7 @@ def make(server, count, content):
 
 
 def judged(sizes):
-    """Prints how much the greatest of the last half is above that of the half before. Returns whether that is little."""
+    """Prints by how much the greatest of the last half is above that of the first. Returns whether that is little."""
     first, last = max(sizes[: len(sizes) // 2 + 1]), max(sizes[len(sizes) // 2 + 1 :])
     passes = last < first * GROWTH
     word, growth = "PASS" if passes else "FAIL", 100 * (last / first - 1)
@@ -233,8 +233,9 @@ def measure(options):
     if taken:
         pauses = sorted(it[0] for it in taken)
         dropped = max(it[2] for it in taken)
-        print(f"{len(taken)} checkpoints: {pauses[0]} to {pauses[-1]} ms, {pauses[len(pauses) // 2]} in the middle; at most"
-              f" {dropped:,} transactions were dropped, at {taken[-1][1]:,} nodes")
+        middle = pauses[len(pauses) // 2]
+        print(f"{len(taken)} checkpoints: {pauses[0]} to {pauses[-1]} ms, {middle} in the middle")
+        print(f"at most {dropped:,} transactions were dropped by one, at {taken[-1][1]:,} nodes")
     else:
         print("no checkpoint was taken")
     passes = judged(sizes)

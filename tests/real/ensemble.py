@@ -225,8 +225,8 @@ def all_down(bench):
 
 
 def leader_resigns(bench):
-    """Both followers are frozen: the leader resigns, and with it the clients are closed; once there is a leader again, a
-    client is back on its session."""
+    """Both followers are frozen: the leader resigns, and with it the clients are closed; once there is a leader again,
+    a client is back on its session."""
     leader = bench.mended()
     client = Seen(bench.observer.client, 40)
     try:
@@ -281,14 +281,15 @@ class Frozen:
 
     def first_write(self, seconds=60):
         """Returns the first write that the next leader has answered: when, and its number."""
-        found = until("the next leader writes", lambda: [it for it in self.writer.writes if it[0] > self.began + 1], seconds)
-        return found[0]
+        writes = self.writer.writes
+        return until("the next leader writes", lambda: [it for it in writes if it[0] > self.began + 1], seconds)[0]
 
     def stale(self):
         """Returns the times at which an older value was answered than that which the next leader wrote first, where
         that had been answered before the read was asked for."""
         at, number = self.first_write()
-        return [read - self.began for asked, read, found in list(self.reader.reads) if asked > at + LAG and found < number]
+        reads = list(self.reader.reads)
+        return [read - self.began for asked, read, found in reads if asked > at + LAG and found < number]
 
     def end(self):
         for it in (self.reader, self.writer):
@@ -312,8 +313,8 @@ def leader_frozen(bench):
             stale = frozen.stale()
             way = logged(bench, frozen.before, "DIFF", "SNAP", "TRUNC")
             say(
-                f"closed at {cut:.2f} s, the next leader's first write at {frozen.after(first):.2f} s, back on its session"
-                f" at {back:.2f} s ({way}); {len(stale)} older values were read after that write"
+                f"closed at {cut:.2f} s, the next leader's first write at {frozen.after(first):.2f} s, back on its"
+                f" session at {back:.2f} s ({way}); {len(stale)} older values were read after that write"
             )
             assert SILENCE - 0.5 < cut < SILENCE + GRACE, f"closed after {cut:.2f} s"
             assert isro == "null", isro
@@ -356,7 +357,8 @@ def java_frozen(bench):
         until("its client is cut off", lambda: client.cut(began), 60)
         until("its client is back", lambda: client.back(began), 90)
         kept = "on its session" if client.keeps_its_session() else "with another session"
-        say(f"Java's observer: closed at {since(began, client.cut(began))}, back {kept} at {since(began, client.back(began))}")
+        cut, back = since(began, client.cut(began)), since(began, client.back(began))
+        say(f"Java's observer: closed at {cut}, back {kept} at {back}")
     finally:
         client.close()
         ensemble.mended()

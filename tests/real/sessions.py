@@ -177,8 +177,8 @@ def started_again(bench, proxy, client, how):
 
 
 def apart_after(bench, how):
-    """Where the observer is started again in some way, a client takes its session up, as at another one, and a new client
-    has an id that no session of the earlier run has had; when that one ends, the older one's ephemeral stays."""
+    """Where the observer is started again in some way, a client takes its session up, as at another one, and a new
+    client has an id that no session of the earlier run has had; when that one ends, the older one's ephemeral stays."""
     bench.observer.stop()
     bench.observer.start(bench.leader.quorum)
     proxy, leader = Proxy(bench.observer.client), library(bench.leader.client)

@@ -1,5 +1,5 @@
-"""What a later leader writes past 3.4 is refused: each setting that keeps it from that is needed. The observer ends with
-status 7, and its last line says what to do."""
+"""What a later leader writes past 3.4 is refused: each setting that keeps it from that is needed. The observer ends
+with status 7, and its last line says what to do."""
 import time
 
 from kazoo.client import KazooClient

@@ -143,7 +143,8 @@ def changed(bench, how, clients, reader):
             leader.stop()
         until("all clients are back", lambda: all(it.back(began) for it in clients), 90)
         cut, back = clients[0].cut(began) - began, max(it.back(began) for it in clients) - began
-        first, number = until("the next leader writes", lambda: [it for it in writer.writes if it[0] > began + 0.5], 60)[0]
+        writes = writer.writes
+        first, number = until("the next leader writes", lambda: [it for it in writes if it[0] > began + 0.5], 60)[0]
         time.sleep(max(1, began + SILENCE + 3 - time.monotonic()) if how == "frozen" else 1)
     finally:
         writer.stop()

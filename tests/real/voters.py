@@ -7,7 +7,7 @@ import shutil
 import signal
 import time
 
-from lab import DIALECT, JARS, JAVA, OTHERS, QUIET, TIMEOUTS, Failed, Observer, Process, free_ports, until, word
+from lab import DIALECT, JARS, JAVA, OTHERS, TIMEOUTS, Failed, Observer, Process, free_ports, until, word
 
 TICK, INIT_LIMIT, SYNC_LIMIT = 2000, 10, 5
 # How long a silent server is waited for by those that follow it, in seconds.
@@ -154,8 +154,8 @@ class Ensemble:
         return self.leader()
 
     def leader(self, seconds=START_SECONDS):
-        """Waits until one voter leads and the others that run follow, and returns the one that leads. One that was frozen
-        takes itself for the leader for a while."""
+        """Waits until one voter leads and the others that run follow, and returns the one that leads. One that was
+        frozen takes itself for the leader for a while."""
 
         def found():
             running = [it for it in self.voters if it.runs()]

@@ -90,7 +90,8 @@ def test_help_and_version():
         assert wanted <= set(names) and {"--help", "--version"} <= set(names), sorted(wanted - set(names))
         assert len(names) == len(set(names)), names
     status, out, told = run("--version")
-    assert (status, told) == (0, "") and out.startswith("kezhundam 0.4.0, protocol of ZooKeeper 3.4"), (status, out, told)
+    assert (status, told) == (0, ""), (status, told)
+    assert out.startswith("kezhundam 0.4.0, protocol of ZooKeeper 3.4"), out
 
 
 def cannot_open(part, *words):

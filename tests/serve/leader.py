@@ -81,8 +81,8 @@ class Packets:
 
 
 class Leader:
-    """Leads over a connection on which the observer is up to date. Its transactions are numbered by `last`, from 1 on in
-    its epoch.
+    """Leads over a connection on which the observer is up to date. Its transactions are numbered by `last`, from 1 on
+    in its epoch.
 
     While `creates` is false, what asks for a session or for its end is kept with the other requests. Whoever sends
     several packets that belong together holds the lock, since sessions are created at any time.

@@ -1,4 +1,4 @@
-"""What becomes of clients, of what they have asked for, and of the tree, when one leader ends and the next one comes."""
+"""What becomes of clients, of what they have asked for, and of the tree, when one leader ends and the next comes."""
 import os
 import random
 import select

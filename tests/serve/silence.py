@@ -87,7 +87,8 @@ def is_given_up(phase, limit):
         # Most servers that say nothing at first aren't silent leaders, but such as don't lead.
         words = ("WARN", "silent for") if phase is not nothing else ("DEBUG", "says nothing")
         told = [it for it in server.said().splitlines() if words[1] in it]
-        assert len(told) == 1 and f" 127.0.0.1:{server.seats[0].port} " in told[0] and words[0] in told[0], server.said()
+        assert len(told) == 1 and words[0] in told[0], server.said()
+        assert f" 127.0.0.1:{server.seats[0].port} " in told[0], told
 
 
 def test_silence_in_every_phase():
