@@ -54,18 +54,31 @@ pub struct Hub<L, W> {
     pub(crate) over: Option<Result<(), Failure>>,
 }
 
+/// What a hub has besides its desk, its journal and its record.
+#[derive(Drop)]
+pub struct Parts {
+    pub clock: Stopwatch,
+    pub leading: Leading,
+    pub log_keeper: LogKeeper,
+    pub from_acceptor: Consumer<net::TcpStream>,
+    pub door: Arc<Door, Global>,
+}
+
 impl<L: Log, W: Write + Drop> Hub<L, W> {
     pub fn new(
         alloc: Global,
         desk: Desk,
-        clock: Stopwatch,
-        leading: Leading,
-        log_keeper: LogKeeper,
-        from_acceptor: Consumer<net::TcpStream>,
-        door: Arc<Door, Global>,
+        parts: Parts,
         journal: Journal<L>,
         record: Record<W>,
     ) -> Hub<L, W> {
+        let Parts {
+            clock,
+            leading,
+            log_keeper,
+            from_acceptor,
+            door,
+        } = parts;
         Hub {
             alloc,
             desk,
@@ -237,6 +250,11 @@ impl<L: Log, W: Write + Drop> Hub<L, W> {
             }
         }
         Ok(())
+    }
+
+    /// Ends accepting connections.
+    pub fn stop_accepting(&self) {
+        self.door.stop();
     }
 
     // Ends all connections: each thread reaches the end of its stream, and its `End` is taken.

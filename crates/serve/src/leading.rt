@@ -103,6 +103,34 @@ impl Leading {
         }
     }
 
+    // Whether the server that is followed leads, as far as is known: its LEADERINFO says so, or the one who named it.
+    fn is_leader(&self) -> bool {
+        self.is_greeted || matches!(self.source, Source::Once(_))
+    }
+
+    // Goes on with the search, and returns a connection where a server has accepted.
+    fn advance(&mut self, now: u64) -> Option<TcpStream> {
+        match &mut self.source {
+            Source::Once(_) => None,
+            Source::Search(search) => search.advance(now),
+        }
+    }
+
+    // For how many milliseconds there is nothing to do for the search.
+    fn search_rest(&self, now: u64) -> u64 {
+        match &self.source {
+            Source::Once(_) => u64::MAX,
+            Source::Search(search) => search.rest(now),
+        }
+    }
+
+    // The server that was found can't be followed.
+    fn lose_unfollowed(&mut self, now: u64) {
+        if let Source::Search(search) = &mut self.source {
+            search.lost(Outcome::NotLeading, Reason::Unreachable, now);
+        }
+    }
+
     // Whether the server that is followed was silent the last time.
     fn was_silent(&self) -> bool {
         match &self.source {
@@ -237,14 +265,12 @@ impl<L: Log, W: Write + Drop> Hub<L, W> {
         }
     }
 
-    // Follows the next leader. What was still to be sent to the one before is dropped first, turn by turn, until a turn
-    // brings nothing: the next one would take it for requests of its own observer. Without a leader the engine sends
-    // nothing to one, so nothing new comes.
-    fn follow_next<R: Threads + Wait + Net + Clock + Copy + Send + Sync + 'static>(
+    // Drops what was still to be sent to the leader that is gone, turn by turn, until a turn brings nothing: the next one
+    // would take it for requests of its own observer. Without a leader the engine sends nothing to one, so nothing new
+    // comes.
+    fn drop_stale<R: Threads + Wait + Net + Clock + Copy + Send + Sync + 'static>(
         &mut self,
         rt: &R,
-        stream: TcpStream,
-        now: u64,
     ) -> Result<(), Failure> {
         for _ in rt.forever() {
             self.turn(rt)?;
@@ -253,13 +279,30 @@ impl<L: Log, W: Write + Drop> Hub<L, W> {
                 break;
             }
         }
+        Ok(())
+    }
+
+    // Follows the server that was found, if a thread can be started for it.
+    fn follow_found<R: Threads + Wait + Net + Clock + Copy + Send + Sync + 'static>(
+        &mut self,
+        rt: &R,
+        stream: TcpStream,
+        now: u64,
+    ) {
         if let Err(error) = self.follow(rt, stream) {
             self.journal.leader_refused(error);
-            if let Source::Search(search) = &mut self.leading.source {
-                search.lost(Outcome::NotLeading, Reason::Unreachable, now);
+            self.leading.lose_unfollowed(now);
+        }
+    }
+
+    // A line in ten seconds says why no server is followed, once each was tried.
+    fn tell_search(&mut self, now: u64) {
+        if let Source::Search(search) = &self.leading.source {
+            let (servers, reasons) = search.tried();
+            if !reasons.contains(&Reason::Untried) {
+                self.journal.no_leader(servers, reasons, now);
             }
         }
-        Ok(())
     }
 
     // Goes on with the search for a leader. Returns for how many milliseconds there is nothing to do.
@@ -268,19 +311,17 @@ impl<L: Log, W: Write + Drop> Hub<L, W> {
         rt: &R,
         now: u64,
     ) -> Result<u64, Failure> {
-        let Source::Search(search) = &mut self.leading.source else {
-            return Ok(u64::MAX);
-        };
-        if let Some(stream) = search.advance(now) {
-            self.follow_next(rt, stream, now)?;
-            return Ok(0);
+        match self.leading.advance(now) {
+            Some(stream) => {
+                self.drop_stale(rt)?;
+                self.follow_found(rt, stream, now);
+                Ok(0)
+            }
+            None => {
+                self.tell_search(now);
+                Ok(self.leading.search_rest(now))
+            }
         }
-        let rest = search.rest(now);
-        let (servers, reasons) = search.tried();
-        if !reasons.contains(&Reason::Untried) {
-            self.journal.no_leader(servers, reasons, now);
-        }
-        Ok(rest)
     }
 
     // Gives the leader up where it has been silent for too long. Returns for how many milliseconds there is nothing to
@@ -306,15 +347,15 @@ impl<L: Log, W: Write + Drop> Hub<L, W> {
 
     fn tell_silent(&self, silent: u64) {
         if let Some(server) = self.leading.server() {
-            let is_greeted = self.leading.is_greeted;
-            self.journal.leader_silent(server, silent, is_greeted);
+            let is_leader = self.leading.is_leader();
+            self.journal.leader_silent(server, silent, is_leader);
         }
     }
 
     fn tell_gone(&self, fault: Option<Fault>) {
         if let Some(server) = self.leading.server() {
-            let is_greeted = self.leading.is_greeted;
-            self.journal.leader_gone(server, fault, is_greeted);
+            let is_leader = self.leading.is_leader();
+            self.journal.leader_gone(server, fault, is_leader);
         }
     }
 

@@ -1,7 +1,7 @@
 //! The server, once its sockets are open.
 
-use crate::accept::{Accepting, Acceptor, Door, accept_all, open_door};
-use crate::hub::Hub;
+use crate::accept::{Accepting, Acceptor, accept_all, open_door};
+use crate::hub::{Hub, Parts};
 use crate::leading::{Leading, Source};
 use crate::log_keeping::LogKeeper;
 use crate::record::Record;
@@ -23,7 +23,7 @@ use std::alloc::Global;
 use std::io::Write;
 use std::net::{Net, TcpStream};
 use std::rt::{Env, Files};
-use std::sync::{Arc, Wait};
+use std::sync::Wait;
 use std::thread::{JoinHandle, Threads};
 use std::time::{Clock, Duration, SystemTime};
 use std::{fs, io, net, slice, thread};
@@ -158,20 +158,15 @@ fn serve_hub<
         + 'static,
     L: Log,
     W: Write + Drop,
->(
-    rt: &R,
-    hub: &mut Hub<L, W>,
-    beginning: Beginning,
-    acceptor: Acceptor,
-    door: &Door,
-) -> Result<(), Failure> {
+>(rt: &R, hub: &mut Hub<L, W>, beginning: Beginning, acceptor: Acceptor) -> Result<(), Failure> {
+    hub.open_leader_port()?;
     let waker = hub.waker()?;
     let finding = start(rt, hub, beginning)?;
     let mine = *rt;
     let served = match thread::spawn(rt, move || accept_all(&mine, acceptor, &waker)) {
         Ok(accepting) => {
             let served = hub.serve(rt);
-            door.stop();
+            hub.stop_accepting();
             accepting.join(rt);
             served
         }
@@ -182,6 +177,48 @@ fn serve_hub<
         finding.join(rt);
     }
     ended
+}
+
+// What is prepared before there is a desk.
+#[derive(Drop)]
+struct Prepared {
+    parts: Parts,
+    beginning: Beginning,
+    acceptor: Acceptor,
+}
+
+// Prepares to accept clients, and for the first leader.
+fn prepare<R: Net + Clock>(
+    rt: &R,
+    alloc: Global,
+    options: &Options<'_>,
+    origin: Origin,
+    listener: TcpListener,
+) -> Result<Prepared, Failure> {
+    let mut clock = Stopwatch::start(rt);
+    let (source, beginning) = begin_at(alloc, options, origin, clock.now(rt))?;
+    let Accepting {
+        acceptor,
+        from_acceptor,
+        door,
+    } = open_door(rt, alloc, listener, options.max_clients)?;
+    let limits = SilenceLimits {
+        tick: options.tick,
+        init_limit: options.init_limit,
+        sync_limit: options.sync_limit,
+    };
+    let parts = Parts {
+        clock,
+        leading: Leading::new(source, limits, options.give_up),
+        log_keeper: LogKeeper::new(options.checkpoint),
+        from_acceptor,
+        door,
+    };
+    Ok(Prepared {
+        parts,
+        beginning,
+        acceptor,
+    })
 }
 
 // Serves with a desk of its own. The desk is dropped with the hub, at the single end of this function and nowhere else:
@@ -200,45 +237,19 @@ fn serve_with<
 >(
     rt: &R,
     alloc: Global,
-    options: &Options<'_>,
     config: Config,
-    origin: Origin,
-    listener: TcpListener,
+    prepared: Prepared,
     journal: Journal<L>,
     record: Record<W>,
 ) -> Result<(), Failure> {
-    let mut clock = Stopwatch::start(rt);
-    let (source, beginning) = begin_at(alloc, options, origin, clock.now(rt))?;
-    let accepting = open_door(rt, alloc, listener, options.max_clients)?;
-    let Accepting {
-        acceptor,
-        from_acceptor,
-        door,
-    } = accepting;
-    let theirs = Arc::try_clone(&door)?;
-    let limits = SilenceLimits {
-        tick: options.tick,
-        init_limit: options.init_limit,
-        sync_limit: options.sync_limit,
-    };
-    let leading = Leading::new(source, limits, options.give_up);
-    let log_keeper = LogKeeper::new(options.checkpoint);
     let desk = Desk::new(alloc, config)?;
-    let mut hub = Hub::new(
-        alloc,
-        desk,
-        clock,
-        leading,
-        log_keeper,
-        from_acceptor,
-        theirs,
-        journal,
-        record,
-    );
-    match hub.open_leader_port() {
-        Ok(()) => serve_hub(rt, &mut hub, beginning, acceptor, &door),
-        Err(failure) => Err(failure),
-    }
+    let Prepared {
+        parts,
+        beginning,
+        acceptor,
+    } = prepared;
+    let mut hub = Hub::new(alloc, desk, parts, journal, record);
+    serve_hub(rt, &mut hub, beginning, acceptor)
 }
 
 /// The same as `serve_on`, with the reason why it ended.
@@ -269,9 +280,8 @@ pub fn try_serve_on<
     let journal = Journal::new(alloc, log);
     journal.started(options, listener.local_addr()?.port());
     let config = config_of(alloc, options, first_counter);
-    serve_with(
-        rt, alloc, options, config, origin, listener, journal, record,
-    )
+    let prepared = prepare(rt, alloc, options, origin, listener)?;
+    serve_with(rt, alloc, config, prepared, journal, record)
 }
 
 /// Follows the leader and serves clients until the leader's connection ends. Returns the exit status: 0 then, 3 if
