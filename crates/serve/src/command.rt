@@ -3,7 +3,7 @@
 use crate::serving::{Origin, try_serve_on};
 use following::Finding;
 use mio::net::TcpListener;
-use serve_failures::{Failure, Server, Step};
+use serve_failures::{Failure, Step};
 use serve_options::{Address, Command, Options, Servers, VERSION_LINES, command_of, help};
 use std::alloc::Global;
 use std::net::{Net, TcpStream, ToSocketAddrs};
@@ -29,14 +29,6 @@ fn listen<R: Net>(rt: &R, address: &Address<'_>) -> io::Result<TcpListener> {
     }
 }
 
-// The failure of a step with an address. The error of a name that can't be resolved has no number of the system.
-fn failure(alloc: Global, step: Step, address: &Address<'_>, error: io::Error) -> Failure {
-    match Server::new(alloc, *address) {
-        Ok(server) => Failure::system(alloc, step, &server, error),
-        Err(error) => Failure::from(error),
-    }
-}
-
 // Where the first leader comes from: a connection to it, or a search.
 fn origin_of<R: Net<Stream = TcpStream>>(
     rt: &R,
@@ -46,7 +38,7 @@ fn origin_of<R: Net<Stream = TcpStream>>(
     match &options.servers {
         Servers::Leader(address) => match connect(rt, address) {
             Ok(stream) => Ok(Origin::Stream(stream)),
-            Err(error) => Err(failure(alloc, Step::Connect, address, error)),
+            Err(error) => Err(Failure::system(alloc, Step::Connect, address, error)),
         },
         Servers::Any(servers) => match Finding::new(servers.len(), options.server_id) {
             Some(finding) => Ok(Origin::Search(finding)),
@@ -73,7 +65,7 @@ fn run<
     let origin = origin_of(rt, alloc, options)?;
     let listener = match listen(rt, &options.client) {
         Ok(listener) => listener,
-        Err(error) => return Err(failure(alloc, Step::Bind, &options.client, error)),
+        Err(error) => return Err(Failure::system(alloc, Step::Bind, &options.client, error)),
     };
     let port = listener.local_addr()?.port();
     println!(rt; "serving {port}")?;

@@ -186,18 +186,14 @@ impl<L: Log, W: Write + Drop> Hub<L, W> {
         let now = self.clock.now(rt);
         self.record.add(self.desk.fresh());
         self.journal.turned(&self.desk);
-        self.note_turn(began, now);
-        self.ring_each(self.desk.told());
-        turned.map_err(|_| NoMemory)
-    }
-
-    fn note_turn(&mut self, began: u64, now: u64) {
         let took = now.saturating_sub(began);
         if took > SLOW_TURN {
             self.journal.slow_turn(took, self.desk.fresh().len());
         }
         self.note_leader(now);
         self.note_checkpoint(began, now);
+        self.ring_each(self.desk.told());
+        turned.map_err(|_| NoMemory)
     }
 
     fn join_client<R: Threads>(&mut self, rt: &R, number: usize) {

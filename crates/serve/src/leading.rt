@@ -2,7 +2,7 @@
 
 use crate::connections::{Handed, Leader, start_leader};
 use crate::hub::{CAPACITY, Hub};
-use crate::silence::{Silence, SilenceLimits};
+use crate::silence::{SECOND_LOOK, Silence, SilenceLimits};
 use connection_loop::LeaderGone;
 use following::{Judgement, Outcome, Verdict};
 use intake::{Message, Port};
@@ -116,21 +116,6 @@ impl Leading {
         }
     }
 
-    // For how many milliseconds there is nothing to do for the search.
-    fn search_rest(&self, now: u64) -> u64 {
-        match &self.source {
-            Source::Once(_) => u64::MAX,
-            Source::Search(search) => search.rest(now),
-        }
-    }
-
-    // The server that was found can't be followed.
-    fn lose_unfollowed(&mut self, now: u64) {
-        if let Source::Search(search) = &mut self.source {
-            search.lost(Outcome::NotLeading, Reason::Unreachable, now);
-        }
-    }
-
     // Whether the server that is followed was silent the last time.
     fn was_silent(&self) -> bool {
         match &self.source {
@@ -211,7 +196,7 @@ impl<L: Log, W: Write + Drop> Hub<L, W> {
                 self.leading.is_greeted = true;
                 self.note_serving(now);
                 // What comes before is mostly an image, after which the log is empty.
-                self.log_keeper.received(heard.unwrap_or(0));
+                self.log_keeper.checkpoints.received(heard.unwrap_or(0));
             }
             _ => self.leading.is_greeted = true,
         }
@@ -291,7 +276,9 @@ impl<L: Log, W: Write + Drop> Hub<L, W> {
     ) {
         if let Err(error) = self.follow(rt, stream) {
             self.journal.leader_refused(error);
-            self.leading.lose_unfollowed(now);
+            if let Source::Search(search) = &mut self.leading.source {
+                search.lost(Outcome::NotLeading, Reason::Unreachable, now);
+            }
         }
     }
 
@@ -319,7 +306,10 @@ impl<L: Log, W: Write + Drop> Hub<L, W> {
             }
             None => {
                 self.tell_search(now);
-                Ok(self.leading.search_rest(now))
+                Ok(match &self.leading.source {
+                    Source::Once(_) => u64::MAX,
+                    Source::Search(search) => search.rest(now),
+                })
             }
         }
     }
@@ -335,7 +325,7 @@ impl<L: Log, W: Write + Drop> Hub<L, W> {
         self.leading.silence = silence;
         match judgement {
             Judgement::Wait(left) => left,
-            Judgement::SecondLook => silence.rest(now),
+            Judgement::SecondLook => SECOND_LOOK,
             Judgement::GivenUp { silent } => {
                 self.leading.stop();
                 self.leading.is_given_up = true;

@@ -13,7 +13,7 @@ const BETWEEN_LOOKS: u64 = 1000;
 /// Asks the engine for a checkpoint when the leader has sent much since the last one.
 #[derive(Drop)]
 pub struct LogKeeper {
-    checkpoints: following::Checkpoints,
+    pub(crate) checkpoints: following::Checkpoints,
     // The port that checkpoints are asked for by. It is opened for the first one.
     port: Option<Port>,
     next_look: u64,
@@ -35,11 +35,6 @@ impl LogKeeper {
         }
     }
 
-    /// The leader has sent so many bytes.
-    pub fn received(&mut self, bytes: u64) {
-        self.checkpoints.received(bytes);
-    }
-
     // Asks for a checkpoint. Without memory for a port, or without room in it, there is another look later.
     fn ask(&mut self, desk: &mut Desk) -> bool {
         if self.port.is_none() {
@@ -53,13 +48,6 @@ impl LogKeeper {
     }
 }
 
-// Whether a checkpoint is among the messages.
-fn has_checkpoint(messages: &[(usize, Message)]) -> bool {
-    messages
-        .iter()
-        .any(|(_, message)| matches!(message, Message::Checkpoint))
-}
-
 impl<L: Log, W: Write + Drop> Hub<L, W> {
     fn nodes(&self) -> u64 {
         self.desk.engine().tree().paths() as u64
@@ -67,7 +55,8 @@ impl<L: Log, W: Write + Drop> Hub<L, W> {
 
     // Notes a checkpoint, if the last turn made one. The turn began and ended at these times.
     pub(crate) fn note_checkpoint(&mut self, began: u64, now: u64) {
-        if !has_checkpoint(self.desk.fresh()) {
+        let mut messages = self.desk.fresh().iter();
+        if !messages.any(|(_, message)| matches!(message, Message::Checkpoint)) {
             return;
         }
         let pause = now.saturating_sub(began);

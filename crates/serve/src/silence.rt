@@ -4,8 +4,8 @@ use following::{Judgement, Patience, Stage, silence_limit};
 use learner_sync::Phase;
 use observer_core::Engine;
 
-// How long the last look at a silent leader waits for its bytes, in milliseconds.
-const SECOND_LOOK: u64 = 200;
+/// How long the last look at a silent leader waits for its bytes, in milliseconds.
+pub const SECOND_LOOK: u64 = 200;
 
 // The timeouts of sessions are looked through at most once in so many milliseconds.
 const BETWEEN_LOOKS: u64 = 250;
@@ -30,17 +30,6 @@ pub struct Silence {
     least: Option<i32>,
     looked: Option<u64>,
     was_silent: bool,
-}
-
-fn stage_of(phase: Phase, was_silent: bool) -> Stage {
-    match phase {
-        Phase::Down | Phase::Hello if was_silent => Stage::GreetingAgain,
-        Phase::Down | Phase::Hello => Stage::Greeting,
-        Phase::Sync | Phase::Image(_) | Phase::ReplayOnImage(_) | Phase::Replay => {
-            Stage::Synchronising
-        }
-        Phase::Serving => Stage::Serving,
-    }
 }
 
 impl Silence {
@@ -68,11 +57,6 @@ impl Silence {
         self.heard = now;
         self.again = now;
         self.looked = None;
-    }
-
-    /// For how many milliseconds there is no second look.
-    pub fn rest(&self, now: u64) -> u64 {
-        self.again.saturating_sub(now)
     }
 
     // Three half ticks: a leader sends a PING in each half tick.
@@ -109,7 +93,14 @@ impl Silence {
             init_limit,
             sync_limit,
         } = self.limits;
-        let stage = stage_of(engine.learner().phase(), self.was_silent);
+        let stage = match engine.learner().phase() {
+            Phase::Down | Phase::Hello if self.was_silent => Stage::GreetingAgain,
+            Phase::Down | Phase::Hello => Stage::Greeting,
+            Phase::Sync | Phase::Image(_) | Phase::ReplayOnImage(_) | Phase::Replay => {
+                Stage::Synchronising
+            }
+            Phase::Serving => Stage::Serving,
+        };
         let limit = silence_limit(stage, tick, init_limit, sync_limit, self.least);
         match self.patience.judge(now, limit) {
             Judgement::Wait(left) => Judgement::Wait(left.min(self.three_pings().max(1))),
