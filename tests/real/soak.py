@@ -162,7 +162,8 @@ def replays(bench, connections):
     """Replays the record, and looks for what came on each connection in what the replay prints."""
     output = bench.folder / "replayed"
     with open(output, "wb") as out:
-        words = [*bench.program, "replay", str(bench.record)]
+        # One thread prints the same, and waits for nobody where the machine is busy.
+        words = [*bench.program, "replay", str(bench.record), "--workers", "1"]
         subprocess.run(words, stdin=subprocess.DEVNULL, stdout=out, check=True)
     wanted, found = {it[:37] for it in connections}, {}
     with open(output, encoding="ascii") as lines:
