@@ -1,6 +1,6 @@
 //! Command lines, valid and invalid.
 
-use serve::options_of;
+use serve::{Command, Servers, command_of};
 use std::alloc::Global;
 use std::test::Fail;
 
@@ -16,7 +16,7 @@ fn words(alloc: Global, line: &str) -> Result<Vec<String>, Fail> {
 // Whether the line is valid.
 fn is_line(alloc: Global, line: &str) -> Result<bool, Fail> {
     let words = words(alloc, line)?;
-    Ok(options_of(words.as_slice()).is_some())
+    Ok(command_of(alloc, words.as_slice()).is_ok())
 }
 
 #[test]
@@ -52,13 +52,16 @@ fn each_option_is_read(rt: HostRuntime) -> Result<(), Fail> {
         alloc,
         "--log --client 0021 --leader [::1]:2888 --id 7 --workers 2 --batch 8 --max-clients 9 --record f",
     )?;
-    let Some(options) = options_of(words.as_slice()) else {
+    let Ok(Command::Serve(options)) = command_of(alloc, words.as_slice()) else {
         return Err(Fail::from("refused"));
     };
-    assert!(rt; options.leader.host == "::1" && options.leader.port == 2888);
+    let Servers::Leader(leader) = &options.servers else {
+        return Err(Fail::from("servers"));
+    };
+    assert!(rt; leader.host == "::1" && leader.port == 2888);
     assert!(rt; options.client.host == "127.0.0.1" && options.client.port == 21);
     assert!(rt; options.limits.workers() == 2 && options.limits.batch() == 8);
     assert!(rt; options.server_id.number() == 7 && options.max_clients == Some(9));
-    assert!(rt; options.record == Some("f") && options.log);
+    assert!(rt; options.record == Some("f") && options.tick == 2000);
     Ok(())
 }
