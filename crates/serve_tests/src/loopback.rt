@@ -9,7 +9,7 @@ use serve::{Command, command_of, serve_on};
 use std::alloc::Global;
 use std::io::{self, Read, Write};
 use std::net::{Ipv4Addr, Net, SocketAddr, SocketAddrV4, TcpListener, TcpStream};
-use std::rt::Files;
+use std::rt::{Env, Files};
 use std::sync::Wait;
 use std::test::Fail;
 use std::thread::{Builder, Threads};
@@ -77,6 +77,7 @@ fn serve_one<
         + Net<Stream = TcpStream, Listener = TcpListener>
         + Clock
         + Files
+        + Env
         + Eprint
         + Copy
         + Send
