@@ -10,7 +10,7 @@ import time
 import forwarded
 import several
 from leader import CREATE, INFORM, PING, PROPOSAL, buffer, packet
-from server import CREATE_A, GET, PING as CLIENT_PING, TOP, is_closed, reset, wait_until
+from server import CREATE_A, PING as CLIENT_PING, TOP, is_closed, reset, wait_until
 from several import (
     ACK, DIFF, EPOCH, LEADERINFO, NEWLEADER, SNAP, TRUNC, UPTODATE, Following, Seat, at_once, image,
 )
@@ -292,28 +292,6 @@ def test_a_leader_that_takes_nothing():
             lambda line: None, "--tick", "500", "--init-limit", "6", "--sync-limit", "6"
         ),
     })
-
-
-def test_clients_that_do_not_read_at_the_end_of_a_leader():
-    with Following([Seat()]) as server:
-        line = server.seats[0].accept()
-        leader = line.leads(1)
-        leader.informs(CREATE, CREATE_A)
-        clients = [server.client() for _ in range(20)]
-        for it in clients:
-            it.setblocking(False)
-            try:
-                while True:
-                    it.send(GET * 500)
-            except BlockingIOError:
-                it.settimeout(SECONDS)
-        line.close()
-        began = time.monotonic()
-        server.seats[0].accept().leads(2)
-        assert time.monotonic() - began < 2
-        assert server.is_at_base(), server.threads()
-        for it in clients:
-            it.close()
 
 
 def test_a_server_that_does_not_accept():
