@@ -10,7 +10,7 @@ import time
 import forwarded
 import several
 from leader import CREATE, INFORM, PING, PROPOSAL, buffer, packet
-from server import CREATE_A, PING as CLIENT_PING, TOP, is_closed, reset, wait_until
+from server import CREATE_A, GET, PING as CLIENT_PING, TOP, is_closed, reset, wait_until
 from several import (
     ACK, DIFF, EPOCH, LEADERINFO, NEWLEADER, SNAP, TRUNC, UPTODATE, Following, Seat, at_once, image,
 )
@@ -292,6 +292,35 @@ def test_a_leader_that_takes_nothing():
             lambda line: None, "--tick", "500", "--init-limit", "6", "--sync-limit", "6"
         ),
     })
+
+
+def fill(client):
+    """Sends reads whose answers nobody takes, until the server takes no more of them: its socket is full by then."""
+    client.settimeout(0.5)
+    try:
+        while True:
+            client.sendall(GET * 500)
+    except socket.timeout:
+        pass
+
+
+def test_clients_that_do_not_read_at_the_end_of_a_leader():
+    """Their connections are closed, too, and their threads end."""
+    with Following([Seat()]) as server:
+        line = server.seats[0].accept()
+        leader = line.leads(1)
+        leader.informs(CREATE, CREATE_A)
+        clients = [server.client() for _ in range(8)]
+        for it in clients:
+            it.setsockopt(socket.SOL_SOCKET, socket.SO_RCVBUF, 4096)
+        at_once({f"client {number}": lambda it=it: fill(it) for number, it in enumerate(clients)})
+        line.close()
+        began = time.monotonic()
+        server.seats[0].accept().leads(2)
+        assert time.monotonic() - began < 2
+        assert server.is_at_base(), server.threads()
+        for it in clients:
+            it.close()
 
 
 def test_a_server_that_does_not_accept():

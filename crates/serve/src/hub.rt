@@ -47,7 +47,7 @@ pub struct Hub<L, W> {
     pub(crate) log_keeper: LogKeeper,
     clients: BTreeMap<usize, Client>,
     from_acceptor: Consumer<net::TcpStream>,
-    door: Arc<Door, Global>,
+    pub(crate) door: Arc<Door, Global>,
     pub(crate) journal: Journal<L>,
     record: Record<W>,
     // How serving ends, once it is to end.
@@ -248,9 +248,11 @@ impl<L: Log, W: Write + Drop> Hub<L, W> {
         Ok(())
     }
 
-    /// Ends accepting connections.
-    pub fn stop_accepting(&self) {
-        self.door.stop();
+    /// Ends the clients' connections. One that doesn't read what it is sent isn't waited for.
+    pub(crate) fn stop_clients(&self) {
+        for client in self.clients.values() {
+            client.bell.stop();
+        }
     }
 
     // Ends all connections: each thread reaches the end of its stream, and its `End` is taken.
@@ -259,9 +261,7 @@ impl<L: Log, W: Write + Drop> Hub<L, W> {
         rt: &R,
     ) -> Result<(), NoMemory> {
         self.leading.stop();
-        for client in self.clients.values() {
-            client.bell.stop();
-        }
+        self.stop_clients();
         for _ in rt.forever() {
             if self.clients.is_empty() && !self.leading.is_following() {
                 break;

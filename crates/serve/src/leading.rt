@@ -420,6 +420,8 @@ impl<L: Log, W: Write + Drop> Hub<L, W> {
     fn judge_end(&mut self, fault: Option<Fault>, now: u64) {
         let served = self.leading.served(now);
         self.tell_gone(fault);
+        // The engine has closed them all, but a thread whose client doesn't read can't write up to that.
+        self.stop_clients();
         if self.over.is_some() {
             return;
         }

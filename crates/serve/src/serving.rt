@@ -166,7 +166,7 @@ fn serve_hub<
     let served = match thread::spawn(rt, move || accept_all(&mine, acceptor, &waker)) {
         Ok(accepting) => {
             let served = hub.serve(rt);
-            hub.stop_accepting();
+            hub.door.stop();
             accepting.join(rt);
             served
         }
