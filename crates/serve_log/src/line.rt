@@ -3,6 +3,7 @@
 use crate::escape::Quoted;
 use crate::time::Stamp;
 use log::Level;
+use serve_options::LogFormat;
 use std::fmt;
 
 /// A record of the log. Spans and key-values aren't shown: nothing here logs with them.
@@ -26,18 +27,21 @@ fn column_of(level: Level) -> &'static str {
     }
 }
 
-/// Shows a record as a line of words: its time, level, target and message.
+/// Shows a record as a line: of words, with its time, level, target and message, or as an object of JSON.
 #[derive(Clone, Copy)]
-pub struct TextLine<'a, D>(pub Entry<'a, D>);
+pub struct Line<'a, D> {
+    pub format: LogFormat,
+    pub entry: Entry<'a, D>,
+}
 
-impl<'a, D: fmt::Display> fmt::Display for TextLine<'a, D> {
-    fn fmt<W: fmt::Write>(&self, f: &mut fmt::Formatter<W>) -> fmt::Result {
+impl<'a, D: fmt::Display> Line<'a, D> {
+    fn put_words<W: fmt::Write>(&self, f: &mut fmt::Formatter<W>) -> fmt::Result {
         let Entry {
             time,
             level,
             target,
             message,
-        } = self.0;
+        } = self.entry;
         if let Some(time) = time {
             write!(f, "{time} ")?;
         }
@@ -45,20 +49,14 @@ impl<'a, D: fmt::Display> fmt::Display for TextLine<'a, D> {
         write!(f, "{level} {target} ")?;
         f.write(message)
     }
-}
 
-/// Shows a record as an object of JSON.
-#[derive(Clone, Copy)]
-pub struct JsonLine<'a, D>(pub Entry<'a, D>);
-
-impl<'a, D: fmt::Display> fmt::Display for JsonLine<'a, D> {
-    fn fmt<W: fmt::Write>(&self, f: &mut fmt::Formatter<W>) -> fmt::Result {
+    fn put_json<W: fmt::Write>(&self, f: &mut fmt::Formatter<W>) -> fmt::Result {
         let Entry {
             time,
             level,
             target,
             message,
-        } = self.0;
+        } = self.entry;
         f.write_str("{")?;
         if let Some(time) = time {
             write!(f, "\"ts\":\"{time}\",")?;
@@ -70,5 +68,14 @@ impl<'a, D: fmt::Display> fmt::Display for JsonLine<'a, D> {
             "\"level\":\"{level}\",\"target\":{target},\"msg\":{message}"
         )?;
         f.write_str("}")
+    }
+}
+
+impl<'a, D: fmt::Display> fmt::Display for Line<'a, D> {
+    fn fmt<W: fmt::Write>(&self, f: &mut fmt::Formatter<W>) -> fmt::Result {
+        match self.format {
+            LogFormat::Text => self.put_words(f),
+            LogFormat::Json => self.put_json(f),
+        }
     }
 }
