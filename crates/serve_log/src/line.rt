@@ -6,16 +6,6 @@ use log::Level;
 use serve_options::LogFormat;
 use std::fmt;
 
-/// A record of the log. Spans and key-values aren't shown: nothing here logs with them.
-#[derive(Clone, Copy)]
-pub struct Entry<'a, D> {
-    /// When it was written, unless that isn't shown.
-    pub time: Option<Stamp>,
-    pub level: Level,
-    pub target: &'a str,
-    pub message: &'a D,
-}
-
 // A level in five columns.
 fn column_of(level: Level) -> &'static str {
     match level {
@@ -27,42 +17,37 @@ fn column_of(level: Level) -> &'static str {
     }
 }
 
-/// Shows a record as a line: of words, with its time, level, target and message, or as an object of JSON.
+/// Shows a record of the log as a line: of words, or as an object of JSON. Spans and key-values aren't shown, since nothing
+/// here logs with them.
 #[derive(Clone, Copy)]
 pub struct Line<'a, D> {
     pub format: LogFormat,
-    pub entry: Entry<'a, D>,
+    /// When it was logged, unless that isn't shown.
+    pub time: &'a Option<Stamp>,
+    pub level: Level,
+    pub target: &'a str,
+    pub message: &'a D,
 }
 
 impl<'a, D: fmt::Display> Line<'a, D> {
     fn put_words<W: fmt::Write>(&self, f: &mut fmt::Formatter<W>) -> fmt::Result {
-        let Entry {
-            time,
-            level,
-            target,
-            message,
-        } = self.entry;
-        if let Some(time) = time {
+        if let Some(time) = self.time {
             write!(f, "{time} ")?;
         }
-        let level = column_of(level);
+        let level = column_of(self.level);
+        let target = self.target;
         write!(f, "{level} {target} ")?;
-        f.write(message)
+        f.write(self.message)
     }
 
     fn put_json<W: fmt::Write>(&self, f: &mut fmt::Formatter<W>) -> fmt::Result {
-        let Entry {
-            time,
-            level,
-            target,
-            message,
-        } = self.entry;
         f.write_str("{")?;
-        if let Some(time) = time {
+        if let Some(time) = self.time {
             write!(f, "\"ts\":\"{time}\",")?;
         }
-        let target = Quoted(&target);
-        let message = Quoted(message);
+        let level = self.level;
+        let target = Quoted(&self.target);
+        let message = Quoted(self.message);
         write!(
             f,
             "\"level\":\"{level}\",\"target\":{target},\"msg\":{message}"

@@ -1,8 +1,8 @@
 //! The lines that wait to be written, and what becomes of those for which there is no room.
 
-ghost use Rattle.std.specs.Prelude.{◌≡◌, ◌+◌, ◌<◌, ◌↔◌, ◌++◌, IsTrue, IsFalse, length, if◌then◌else◌};
+ghost use Rattle.std.specs.Prelude.{◌≡◌, ◌+◌, ◌<◌, ◌≤◌, ◌++◌, IsTrue, IsFalse};
 ghost use Rattle.rtrb.specs.Ring.{sent, known_free};
-ghost use Rattle.serve_log.specs.Queue.{HasRoom, IsDropped, IsKept, accounted_lines, most_count, told};
+ghost use Rattle.serve_log.specs.Queue.{IsDropped, IsKept, accounted_lines, has_room_for, most_count, told};
 
 use crate::backlog::Backlog;
 use crate::time::Stamp;
@@ -57,7 +57,7 @@ impl Drop for LineQueue {
 // Whether a line of so many bytes is kept, where so many more lines and bytes may wait. Once lines were dropped, none is
 // kept until half of the queue is empty: so what is lost of a log is lost in few pieces.
 fn has_room(dropped: u64, lines: usize, bytes: u64, line: usize) -> bool
-    ensures { IsTrue result ↔ HasRoom dropped lines bytes line }
+    ensures { result ≡ has_room_for dropped lines bytes line }
 {
     let fits = lines >= 1 && line as u64 <= bytes;
     fits && (dropped == 0 || lines >= MOST_LINES / 2 && bytes >= MOST_BYTES / 2)
@@ -105,6 +105,7 @@ impl LineQueue {
     }
 
     /// Puts a line, and returns whether there was room. If there wasn't, the line is dropped.
+    #[tactic(auto, using(crate::proofs::Counting::kept_lines))]
     pub fn put(&mut self, line: String, time: Option<Stamp>) -> bool
         ensures kept { IsTrue result → IsKept self.old line self.new }
         ensures dropped { IsFalse result → IsDropped self.old time self.new }

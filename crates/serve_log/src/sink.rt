@@ -2,7 +2,7 @@
 
 ghost use Rattle.std.specs.Prelude.{Some, true, []};
 
-use crate::line::{Entry, Line};
+use crate::line::Line;
 use crate::queue::LineQueue;
 use crate::time::{Stamp, stamp_now};
 use crate::writer::{LogEnd, LogWriter};
@@ -35,16 +35,24 @@ impl<R: Clock> Sink<R> {
         }
         stamp_now(&self.rt)
     }
+
+    // Puts a line, if it could be made.
+    fn take(&self, made: Result<String, AllocError>, time: Option<Stamp>) {
+        // Nobody else has borrowed it: no call from here logs.
+        let Ok(mut queue) = self.queue.try_borrow_mut() else {
+            return;
+        };
+        match made {
+            Ok(line) => {
+                queue.put(line, time);
+            }
+            Err(_) => queue.miss(time),
+        }
+    }
 }
 
-// The line of a record. Fails only if an allocation is refused.
-fn line_of<D: Display>(
-    alloc: Global,
-    format: LogFormat,
-    entry: Entry<'_, D>,
-) -> Result<String, AllocError> {
-    let line = Line { format, entry };
-    format!(in alloc; "{line}")
+fn text_of<D: Display>(alloc: Global, value: &D) -> Result<String, AllocError> {
+    format!(in alloc; "{value}")
 }
 
 impl<R: Clock> Log for Sink<R> {
@@ -58,22 +66,15 @@ impl<R: Clock> Log for Sink<R> {
 
     fn log<D: Display, K: Source, S: Spans>(&self, record: &Record<'_, D, K, S>) {
         let time = self.time();
-        let entry = Entry {
-            time,
+        let line = Line {
+            format: self.format,
+            time: &time,
             level: record.level(),
             target: record.target(),
             message: record.args(),
         };
-        let made = line_of(self.alloc, self.format, entry);
-        // Nobody else has borrowed it: a line is made before, and no call from here logs.
-        if let Ok(mut queue) = self.queue.try_borrow_mut() {
-            match made {
-                Ok(line) => {
-                    queue.put(line, time);
-                }
-                Err(_) => queue.miss(time),
-            }
-        }
+        let made = text_of(self.alloc, &line);
+        self.take(made, time);
     }
 
     fn flush(&self) {}

@@ -2,7 +2,7 @@
 
 use crate::backlog::Backlog;
 use crate::ending::join_in_time;
-use crate::line::{Entry, Line};
+use crate::line::Line;
 use crate::queue::{Dropped, Item};
 use log::Level;
 use rtrb::Consumer;
@@ -46,15 +46,12 @@ impl LogWriter {
             Item::Dropped(dropped) => {
                 let Dropped { count, time } = dropped;
                 let message = DroppedLines(count);
-                let entry = Entry {
-                    time,
+                to.eprintln(Line {
+                    format: self.format,
+                    time: &time,
                     level: Level::Warn,
                     target: "log",
                     message: &message,
-                };
-                to.eprintln(Line {
-                    format: self.format,
-                    entry,
                 })
             }
         };
