@@ -1,3 +1,4 @@
 pub mod Frames
 pub mod Incoming
+pub mod Limits
 pub mod Outgoing

@@ -15,11 +15,13 @@
 mod bell;
 mod frames;
 mod incoming;
+mod limits;
 mod outgoing;
 mod session;
 mod waiting;
 
 pub use bell::Bell;
 pub use frames::whole_frames;
+pub use limits::{AllowedWords, SessionLimits};
 pub use session::{LeaderGone, leader_loop, session_loop};
 pub use waiting::{Sides, Waiting, Writing, split};

@@ -1,6 +1,7 @@
 //! The loop of a connection's thread.
 
 use crate::incoming::{Cutting, Incoming};
+use crate::limits::SessionLimits;
 use crate::outgoing::Outgoing;
 use crate::waiting::LONGEST_REST;
 use intake::{Full, Message, Port, PortEnd};
@@ -343,7 +344,9 @@ pub fn session_loop<T: Wait + Clock, R: Read + Drop, W: Write + Drop>(
     reader: R,
     writer: W,
     port: Port,
+    limits: SessionLimits,
 ) -> PortEnd {
+    let _ = limits;
     let LeaderGone {
         port,
         fault: _,

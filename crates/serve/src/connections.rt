@@ -1,6 +1,6 @@
 //! The threads of connections.
 
-use connection_loop::{Bell, LeaderGone, Sides, leader_loop, session_loop, split};
+use connection_loop::{Bell, LeaderGone, SessionLimits, Sides, leader_loop, session_loop, split};
 use intake::{Port, PortEnd};
 use mio::net::TcpStream;
 use std::alloc::Global;
@@ -71,7 +71,7 @@ pub fn start_client<R: Threads + Wait + Net + Clock + Copy + Send + 'static>(
     let handle = Builder::new().stack_size(STACK).spawn(rt, move || {
         let port = handed.lock(&mine).take();
         match port {
-            Some(port) => Some(session_loop(&mine, alloc, reader, writer, port)),
+            Some(port) => Some(session_loop(&mine, alloc, reader, writer, port, SessionLimits::default())),
             None => None,
         }
     })?;
