@@ -12,13 +12,15 @@ ghost use Rattle.intake.specs.Ports.{sent_through, received_through, unread_thro
 ghost use Rattle.intake.specs.Links.{taken_at, waiting_at, outbox_at, IsEnd, TakesNoMessage};
 ghost use Rattle.intake.specs.Desk.{new_desk, AddsPort, TakesNothing, AnswersTurn};
 
-use crate::events::events_of;
+use crate::budget::{Budget, Unlimited};
+use crate::events::{bytes_of, events_of};
 use crate::link::Link;
 use crate::links::Links;
 use crate::marks::Marks;
 use crate::message::{AddPortError, Message};
 use crate::notes::{Notes, reserve};
 use crate::port::{Port, PortEnd};
+use crate::round::Round;
 use crate::waker::Waker;
 use apply_workers::Gate;
 use observer_core::{Config, Engine, Output, Stop};
@@ -33,6 +35,30 @@ use values::NoMemory;
 
 const MAX_CAPACITY: usize = 1024;
 
+// While more bytes than this are under way to a client, none of its messages is taken, so its inbox fills up and its
+// thread stops reading.
+const CLIENT_LIMIT: u64 = 1 << 20;
+
+// While more bytes than this are under way to the leader, no message of a client is taken: what the leader is to be
+// told next, a PING's answer among it, waits for these bytes.
+const LEADER_LIMIT: u64 = 1 << 16;
+
+/// What a desk keeps within bounds.
+#[derive(Clone, Copy, Debug, PartialEq, Eq)]
+pub struct Limits {
+    /// How many bytes may be under way to all clients. From half of it on, no messages are taken of a client that has
+    /// some of them to read.
+    pub under_way: u64,
+}
+
+impl Default for Limits {
+    fn default() -> Limits {
+        Limits {
+            under_way: 64 << 20,
+        }
+    }
+}
+
 /// Feeds the messages of its ports to an engine, and the outputs to the ports. It keeps no list of what it took.
 #[derive(Drop)]
 pub struct Desk {
@@ -45,12 +71,18 @@ pub struct Desk {
     next: usize,
     // The messages of the last turn.
     fresh: Vec<(usize, Message)>,
+    // The ports that the next turn looks at, besides those that are marked.
+    later: Vec<usize>,
+    limits: Limits,
     marks: Marks,
     notes: Notes,
-    // The ports for which outputs were kept when the turn began, and those that may have sent something. Each list has
+    round: Round,
+    // A port in `later` isn't blocked.
+    is_behind: bool,
+    // The ports for which outputs were kept when the turn began, and a list for the next `later`. Each list has
     // capacity for all open ports.
     kept: Vec<usize>,
-    marked: Vec<usize>,
+    spare: Vec<usize>,
 }
 
 impl Model for Desk {
@@ -107,10 +139,14 @@ impl Desk {
             links: Links::new(alloc),
             next: 0,
             fresh: Vec::new(alloc),
+            later: Vec::new(alloc),
+            limits: Limits::default(),
             marks,
             notes: Notes::new(alloc),
+            round: Round::new(),
+            is_behind: false,
             kept: Vec::new(alloc),
-            marked: Vec::new(alloc),
+            spare: Vec::new(alloc),
         }
     }
 
@@ -143,13 +179,14 @@ impl Desk {
         let ports = self.links.len().saturating_add(1);
         self.notes.reserve(ports)?;
         reserve(&mut self.kept, ports)?;
-        reserve(&mut self.marked, ports)?;
+        reserve(&mut self.later, ports)?;
+        reserve(&mut self.spare, ports)?;
         let (to_hub, inbox) = RingBuffer::new(self.alloc, capacity)?;
         let (outbox, from_hub) = RingBuffer::new(self.alloc, capacity)?;
         let (slot, mark) = self.marks.add(number)?;
         let link = Link::new(self.alloc, inbox, outbox, slot, self.notes.turn);
         let Ok(()) = self.links.add(number, link) else {
-            self.marks.remove(slot);
+            self.marks.remove(slot, 0);
             return Err(NoMemory);
         };
         self.next = next;
@@ -229,13 +266,42 @@ impl Desk {
         ensures { self.new ≡ record self.old { links = finmap.remove self.old.links end.number } }
     {
         if let Some(link) = self.links.remove(end.number) {
-            self.marks.remove(link.slot);
+            self.marks.remove(link.slot, link.put_bytes);
         }
         drop(end);
     }
 
+    /// Sets the bounds.
+    pub fn set_limits(&mut self, limits: Limits)
+        ensures { self.new ≡ self.old }
+    {
+        self.limits = limits;
+    }
+
+    /// The ports to which the last turn put an output that closes the connection.
+    pub fn closing(&self) -> &[usize] {
+        self.notes.closing.as_slice()
+    }
+
+    /// Whether the last turn left a port for the next one that may be served at once, so that the hub isn't to wait.
+    pub fn is_behind(&self) -> bool {
+        self.is_behind
+    }
+
+    /// How many bytes are under way to all clients: they were put to their ports, and their threads haven't written
+    /// them yet.
+    pub fn under_way(&self) -> u64 {
+        self.marks.under_way()
+    }
+
+    /// The client's port with the most bytes under way, if there are any. Takes time linear in the number of ports.
+    pub fn slowest(&self) -> Option<usize> {
+        self.links.slowest(&self.marks)
+    }
+
     /// Makes a turn: puts the outputs that were kept, takes messages and feeds them to the engine. Returns the number
-    /// of messages taken. It goes through the ports by number, and takes no more messages of a port than its capacity.
+    /// of messages taken. It takes the leader's messages first, goes through the other ports by number, and takes no
+    /// more messages of a port than its capacity.
     ///
     /// If the list of messages can't grow, the messages stay where they are; any other refused allocation closes the
     /// desk. Fails with [`Stop::Closed`] if the desk was closed before.
@@ -243,79 +309,177 @@ impl Desk {
         &mut self,
         rt: &R,
         gate: &G,
-    ) -> Result<usize, Stop>
-        ensures { AnswersTurn result self.old.machine self.old self.new }
-    {
+    ) -> Result<usize, Stop> {
+        let queue = self.prepare()?;
+        self.serve(rt, gate, queue, &mut Unlimited)
+    }
+
+    /// Makes a turn within a budget. The leader's messages come first, and are all taken. Then it comes to the ports of
+    /// clients, one after the other, until the budget is spent: to those whose last messages were cheap, and then to
+    /// those whose last messages were costly, of which it comes to one in each turn. The ports that it doesn't come to,
+    /// and those of which nothing is to be taken for now, are looked at in the next turn.
+    pub fn turn_within<R: Threads + Sync, G: Gate + Sync, B: Budget>(
+        &mut self,
+        rt: &R,
+        gate: &G,
+        budget: &mut B,
+    ) -> Result<usize, Stop> {
+        let mut queue = self.prepare()?;
+        self.order(&mut queue);
+        self.serve(rt, gate, queue, budget)
+    }
+
+    // Begins a turn, and puts the outputs that were kept. Returns the ports of which messages may be taken.
+    fn prepare(&mut self) -> Result<Vec<usize>, Stop> {
         self.fresh.clear();
         self.notes.begin(&mut self.kept);
+        self.round.begin();
+        self.is_behind = false;
         if self.closed {
             return Err(Stop::Closed);
         }
-        let prepared = prepare(
-            &mut self.links,
-            &mut self.notes,
-            &mut self.kept,
-            &self.marks,
-            &mut self.marked,
-            &mut self.fresh,
-        );
-        if prepared.is_err() {
+        let put = self
+            .links
+            .put_all_kept(self.kept.as_slice(), &mut self.notes);
+        if put.is_err() {
+            mem::swap(&mut self.notes.keeping, &mut self.kept);
             return Err(Stop::NoMemory);
         }
+        self.look()
+    }
+
+    // Looks at the leader's port, at those that the last turn left, and at those that are marked, and makes room for
+    // their messages. After a refused allocation the next turn looks at them.
+    fn look(&mut self) -> Result<Vec<usize>, Stop> {
+        let found = self.marks.take(&mut self.later);
+        self.later.sort_unstable();
+        self.later.dedup();
+        let count = self
+            .links
+            .look(0)
+            .saturating_add(self.links.look_all(self.later.as_slice()));
+        if found.is_err() || self.fresh.reserve(count).is_err() {
+            return Err(Stop::NoMemory);
+        }
+        let spare = mem::replace(&mut self.spare, Vec::new(self.alloc));
+        Ok(mem::replace(&mut self.later, spare))
+    }
+
+    // Puts the ports in the order in which they are served.
+    fn order(&self, queue: &mut Vec<usize>) {
+        queue.sort_unstable_by_key(|number| self.round.place(*number, self.is_costly(*number)));
+    }
+
+    // Whether the port's last messages were costly.
+    fn is_costly(&self, number: usize) -> bool {
+        match self.links.slot(number) {
+            None => true,
+            Some(slot) => self.marks.is_costly(slot),
+        }
+    }
+
+    // Whether no message of a client's port is to be taken for now.
+    fn is_blocked(&self, number: usize) -> bool {
+        if self.links.is_finished(number) {
+            return false;
+        }
+        let bytes = self.links.under_way(number, &self.marks);
+        bytes > CLIENT_LIMIT
+            || (bytes > 0 && self.under_way() > self.limits.under_way / 2)
+            || self.links.under_way(0, &self.marks) > LEADER_LIMIT
+    }
+
+    // Serves the leader's port, and then those in the queue.
+    fn serve<R: Threads + Sync, G: Gate + Sync, B: Budget>(
+        &mut self,
+        rt: &R,
+        gate: &G,
+        mut queue: Vec<usize>,
+        budget: &mut B,
+    ) -> Result<usize, Stop> {
+        if self.links.seen(0) != 0 {
+            self.feed(rt, gate, 0)?;
+        }
+        for number in queue.as_slice() {
+            self.serve_client(rt, gate, *number, budget)?;
+        }
+        queue.clear();
+        self.spare = queue;
+        Ok(self.fresh.len())
+    }
+
+    // Serves a client's port, or leaves it for the next turn.
+    fn serve_client<R: Threads + Sync, G: Gate + Sync, B: Budget>(
+        &mut self,
+        rt: &R,
+        gate: &G,
+        number: usize,
+        budget: &mut B,
+    ) -> Result<(), Stop> {
+        if number == 0 || self.links.seen(number) == 0 {
+            return Ok(());
+        }
+        let is_costly = self.is_costly(number);
+        if self.stays_blocked(number) {
+            return self.leave(number);
+        }
+        if budget.is_spent() && !self.round.reaches(is_costly) {
+            self.is_behind = true;
+            return self.leave(number);
+        }
+        self.round.came(number, is_costly);
+        let taken = self.feed(rt, gate, number)?;
+        let is_costly = budget.spend(taken, self.notes.answered);
+        if let Some(slot) = self.links.slot(number) {
+            self.marks.set_costly(slot, is_costly);
+        }
+        Ok(())
+    }
+
+    // Whether a port is blocked, and stays so until a thread that writes wakes the hub.
+    fn stays_blocked(&self, number: usize) -> bool {
+        if !self.is_blocked(number) {
+            return false;
+        }
+        self.marks.await_writes();
+        self.is_blocked(number)
+    }
+
+    // Leaves a port for the next turn.
+    fn leave(&mut self, number: usize) -> Result<(), Stop> {
+        if self.later.push(number).is_err() {
+            self.closed = true;
+            return Err(Stop::NoMemory);
+        }
+        Ok(())
+    }
+
+    // Feeds the messages that were seen of a port, and puts the outputs. Returns the number of their bytes. A refused
+    // allocation closes the desk.
+    fn feed<R: Threads + Sync, G: Gate + Sync>(
+        &mut self,
+        rt: &R,
+        gate: &G,
+        number: usize,
+    ) -> Result<usize, Stop> {
         self.closed = true;
-        let took = self.links.take_all(
-            self.marked.as_slice(),
-            &mut self.fresh,
-            &mut self.notes,
-            &self.marks,
-        );
+        self.notes.answered = 0;
+        let before = self.fresh.len();
+        let took = self.links.take(number, &mut self.fresh, &mut self.notes);
         if took.is_err() {
             return Err(Stop::NoMemory);
         }
+        let fed = &self.fresh[before..];
+        let taken = bytes_of(fed);
         let mut outputs = Vec::new(self.alloc);
-        play(
-            rt,
-            self.alloc,
-            &mut self.engine,
-            self.fresh.as_slice(),
-            gate,
-            &mut outputs,
-        )?;
+        play(rt, self.alloc, &mut self.engine, fed, gate, &mut outputs)?;
         if self.links.put_all(outputs, &mut self.notes).is_err() {
             return Err(Stop::NoMemory);
         }
+        self.marks.add_put(self.notes.answered);
         self.closed = false;
-        Ok(self.fresh.len())
+        Ok(taken)
     }
-}
-
-// Puts the outputs that were kept, finds the ports that may have sent something, and makes room for their messages.
-// After a refused allocation the ports are marked again, and no output that is kept is lost.
-#[tactic(auto, using(crate::proofs::Keeping::rests_on))]
-fn prepare(
-    links: &mut Links,
-    notes: &mut Notes,
-    kept: &mut Vec<usize>,
-    marks: &Marks,
-    marked: &mut Vec<usize>,
-    fresh: &mut Vec<(usize, Message)>,
-) -> Result<(), NoMemory>
-    ensures links { TakesNoMessage links.old links.new }
-    ensures fresh { fresh.new.items ≡ fresh.old.items }
-{
-    if links.put_all_kept(kept.as_slice(), notes).is_err() {
-        mem::swap(&mut notes.keeping, kept);
-        return Err(NoMemory);
-    }
-    marked.clear();
-    let found = marks.take(marked);
-    marked.sort_unstable();
-    let count = links.look_all(marked.as_slice());
-    if found.is_err() || fresh.reserve(count).is_err() {
-        links.mark_all(marked.as_slice(), marks);
-        return Err(NoMemory);
-    }
-    Ok(())
 }
 
 // Feeds the messages to the engine.

@@ -28,6 +28,7 @@
 //! ```
 #![tactic(auto)]
 
+mod budget;
 mod desk;
 mod events;
 mod hub;
@@ -38,9 +39,11 @@ mod marks;
 mod message;
 mod notes;
 mod port;
+mod round;
 mod waker;
 
-pub use desk::Desk;
+pub use budget::{Budget, Unlimited};
+pub use desk::{Desk, Limits};
 pub use hub::Hub;
 pub use law::desks_agree;
 pub use message::{AddPortError, Full, Message};

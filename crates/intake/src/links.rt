@@ -100,14 +100,57 @@ impl Links {
         number: usize,
         fresh: &mut Vec<(usize, Message)>,
         notes: &mut Notes,
-        marks: &Marks,
     ) -> Result<(), NoMemory>
         ensures { OnOk result (TakesMessages self.old fresh.old.items self.new fresh.new.items) }
     {
         match self.map.get_mut(&number) {
             None => return Ok(()),
-            Some(link) => link.take(number, fresh, notes, marks),
+            Some(link) => link.take(number, fresh, notes),
         }
+    }
+
+    /// The number of messages of the port that were seen.
+    pub fn seen(&self, number: usize) -> usize {
+        match self.map.get(&number) {
+            None => 0,
+            Some(link) => link.inbox.cached_slots(),
+        }
+    }
+
+    /// The slot of the port.
+    pub fn slot(&self, number: usize) -> Option<usize> {
+        let link = self.map.get(&number)?;
+        Some(link.slot)
+    }
+
+    /// How many bytes are under way to the port.
+    pub fn under_way(&self, number: usize, marks: &Marks) -> u64 {
+        match self.map.get(&number) {
+            None => 0,
+            Some(link) => marks.under_way_to(link.slot, link.put_bytes),
+        }
+    }
+
+    /// Whether `left` was asked of the port.
+    pub fn is_finished(&self, number: usize) -> bool {
+        match self.map.get(&number) {
+            None => false,
+            Some(link) => link.is_finished,
+        }
+    }
+
+    /// The client's port with the most bytes under way.
+    pub fn slowest(&self, marks: &Marks) -> Option<usize> {
+        let mut slowest = None;
+        let mut most = 0;
+        for (number, link) in self.map.iter() {
+            let bytes = marks.under_way_to(link.slot, link.put_bytes);
+            if *number != 0 && bytes > most {
+                slowest = Some(*number);
+                most = bytes;
+            }
+        }
+        slowest
     }
 
     /// Has the port looked at again in the next turn.
@@ -153,30 +196,6 @@ impl Links {
             count = count.saturating_add(self.look(*number));
         }
         count
-    }
-
-    /// Has these ports looked at again in the next turn.
-    pub fn mark_all(&self, numbers: &[usize], marks: &Marks) {
-        for number in numbers {
-            self.mark(*number, marks);
-        }
-    }
-
-    /// Takes the messages that the last look saw, port by port.
-    #[tactic(auto, using(crate::proofs::Keeping::takes_none, crate::proofs::Keeping::takes_on))]
-    pub fn take_all(
-        &mut self,
-        numbers: &[usize],
-        fresh: &mut Vec<(usize, Message)>,
-        notes: &mut Notes,
-        marks: &Marks,
-    ) -> Result<(), NoMemory>
-        ensures { OnOk result (TakesMessages self.old fresh.old.items self.new fresh.new.items) }
-    {
-        for number in numbers {
-            self.take(*number, fresh, notes, marks)?;
-        }
-        Ok(())
     }
 
     /// Puts each output to its port.
