@@ -3,4 +3,5 @@ pub mod Incoming
 pub mod Kinds
 pub mod Limits
 pub mod Outgoing
+pub mod Patience
 pub mod Windows

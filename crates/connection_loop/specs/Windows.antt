@@ -3,17 +3,29 @@ use Rattle.std.specs.Prelude.{◌≡◌, ℕ, suc, ◌+◌, ◌-◌, ◌*◌, �
 use Rattle.std.specs.Str.{bytes_eq}
 use Rattle.client_service.specs.declared.output.Output.{Output}
 use Rattle.client_service.specs.declared.output.Output.TheVariants.{ToLeader, ToClient, CloseLeader, CloseClient}
-use Rattle.connection_loop.specs.declared.window.Window.{Window}
+
+-- The frames of a client that wait for their answers, and how many more may go.
+pub record Window : Type 0 where
+  pub owed : ℕ
+  -- An answer has come.
+  pub connected : Bool
+  pub at_once : ℕ
+  -- The number of small answers since that changed.
+  pub small : ℕ
 
 abbrev pub new_window : Window
 new_window = record { owed = 0; connected = false; at_once = 1; small = 0 }
 
--- The first frame of a connection asks for a session, and nothing is sent on before it is answered.
+-- The first frame of a connection asks for a session, and nothing is sent on before it is answered. At most 1,024 frames
+-- wait for their answers.
 abbrev pub room_in : Window → ℕ
-room_in w = if not w.connected && nat_lt 0 w.owed then 0 else w.at_once
+room_in w = if not w.connected && nat_lt 0 w.owed then 0 else min w.at_once (1024 - w.owed)
 
 abbrev pub is_settled : Window → Bool
 is_settled w = w.owed == 0
+
+abbrev pub is_new : Window → Bool
+is_new w = not w.connected && is_settled w
 
 abbrev pub with_sent : Window → ℕ → Window
 with_sent w frames = record w { owed = w.owed + frames }

@@ -1,7 +1,7 @@
 //! The ends of a client's frames, and which of them are sent on together.
 
-ghost use Rattle.std.specs.Prelude.{◌≡◌, ◌≤◌, ◌&&◌, not};
-ghost use Rattle.connection_loop.specs.Frames.{whole_frames_length, goes_with, is_last_of_piece, settled_after, frames_going};
+ghost use Rattle.std.specs.Prelude.{◌≡◌, ◌≤◌};
+ghost use Rattle.connection_loop.specs.Frames.{whole_frames_length, goes_with, frames_going};
 
 use crate::kind::{FrameKind, kind_of_frame};
 use jute::{Reader, read_frame};
@@ -26,8 +26,8 @@ pub fn whole_frames(bytes: &[u8], most: usize) -> usize
     bytes.len().saturating_sub(ahead.rest().len())
 }
 
-// Whether a frame of this kind may be sent on: `settled` says that no frame before it waits for an answer.
-fn goes_with(kind: FrameKind, settled: bool) -> bool
+/// Whether a frame of this kind may be sent on: `settled` says that no frame before it waits for the leader's answer.
+pub fn goes_with(kind: FrameKind, settled: bool) -> bool
     ensures { result ≡ goes_with kind settled }
 {
     match kind {

@@ -65,5 +65,8 @@ pub fn kind_of_frame(frame: &[u8]) -> FrameKind
     let Some([_, _, _, _, code @ ..]) = frame.first_chunk::<8>() else {
         return FrameKind::Local;
     };
-    kind_of_request(RequestKind::from_code(i32::from_be_bytes(*code)), frame.len())
+    kind_of_request(
+        RequestKind::from_code(i32::from_be_bytes(*code)),
+        frame.len(),
+    )
 }
