@@ -1,5 +1,5 @@
 -- Which four-letter words a client may send.
-use Rattle.std.specs.Prelude.{Bool, false, Option, Some, None}
+use Rattle.std.specs.Prelude.{Bool, false, not, Option, Some, None}
 use Rattle.four_letter.specs.declared.word.Word.{Word}
 use Rattle.four_letter.specs.declared.word.Word.TheVariants.{Ruok, Isro, Srvr, Mntr, Wchs, Wchp}
 use Rattle.connection_loop.specs.declared.limits.AllowedWords.{AllowedWords}
@@ -16,3 +16,7 @@ is_allowed words Wchp = words.wchp
 abbrev pub allows_word : AllowedWords → Option Word → Bool
 allows_word words None = false
 allows_word words (Some word) = is_allowed words word
+
+abbrev pub refuses_word : AllowedWords → Option Word → Bool
+refuses_word words None = false
+refuses_word words (Some word) = not (is_allowed words word)

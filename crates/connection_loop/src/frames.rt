@@ -1,8 +1,9 @@
-//! The ends of a client's frames.
+//! The ends of a client's frames, and which of them are sent on together.
 
-ghost use Rattle.std.specs.Prelude.{◌≡◌};
-ghost use Rattle.connection_loop.specs.Frames.{whole_frames_length};
+ghost use Rattle.std.specs.Prelude.{◌≡◌, ◌≤◌};
+ghost use Rattle.connection_loop.specs.Frames.{whole_frames_length, goes_with, frames_going};
 
+use crate::kind::{FrameKind, kind_of_frame};
 use jute::{Reader, read_frame};
 use observer_core::CLIENT_FRAME_LIMIT;
 use values::Fault;
@@ -23,4 +24,45 @@ pub fn whole_frames(bytes: &[u8], most: usize) -> usize
         }
     }
     bytes.len().saturating_sub(ahead.rest().len())
+}
+
+/// Whether a frame of this kind may be sent on: `settled` says that no frame before it waits for the leader's answer.
+pub fn goes_with(kind: FrameKind, settled: bool) -> bool
+    ensures { result ≡ goes_with kind settled }
+{
+    match kind {
+        FrameKind::Light | FrameKind::Forwarded => true,
+        FrameKind::Local | FrameKind::Heavy => settled,
+    }
+}
+
+/// How many of the whole frames at the front, at most `most`, are sent on as one piece. `settled` says whether all frames
+/// before them are answered. A frame that the engine would hold isn't among them unless it is settled up to there: no
+/// answer of the leader is owed. A frame of unbounded cost is the last one. A length out of bounds counts as a frame
+/// that would be held.
+pub fn frames_going(bytes: &[u8], most: usize, settled: bool) -> usize
+    ensures going { result ≡ frames_going most settled bytes.now }
+    ensures bound { result ≤ most }
+{
+    let mut ahead = Reader::new(bytes);
+    let mut settled = settled;
+    for count in 0..most {
+        match read_frame(&mut ahead, CLIENT_FRAME_LIMIT) {
+            Ok(frame) => {
+                let kind = kind_of_frame(frame);
+                if !goes_with(kind, settled) {
+                    return count;
+                }
+                if kind == FrameKind::Heavy {
+                    return count + 1;
+                }
+                settled = settled && kind != FrameKind::Forwarded;
+            }
+            Err(fault) => {
+                let ends = fault != Fault::Short && settled;
+                return if ends { count + 1 } else { count };
+            }
+        }
+    }
+    most
 }

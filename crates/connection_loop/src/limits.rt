@@ -3,7 +3,7 @@
 ghost use Rattle.std.specs.Prelude.{◌≡◌, ◌≢◌, Some, true, false};
 ghost use Rattle.four_letter.specs.declared.word.Word.{Word as TheWord};
 ghost use Rattle.four_letter.specs.Words.{word_of};
-ghost use Rattle.connection_loop.specs.Limits.{is_allowed, allows_word};
+ghost use Rattle.connection_loop.specs.Limits.{is_allowed, allows_word, refuses_word};
 
 use four_letter::Word;
 
@@ -79,12 +79,19 @@ impl AllowedWords {
             Some(Word::Wchp) => self.wchp,
         }
     }
+
+    /// Whether the bytes spell a word that isn't among these.
+    pub fn refuses(self, bytes: [u8; 4]) -> bool
+        ensures { result ≡ refuses_word self (word_of bytes) }
+    {
+        Word::from_bytes(bytes).is_some() && !self.allows(bytes)
+    }
 }
 
-/// The limits of a client's connection. Times are in milliseconds.
+/// The limits of a client's connection. Times are in milliseconds, and 0 is no limit.
 #[derive(Clone, Copy, Debug, PartialEq, Eq)]
 pub struct SessionLimits {
-    /// The connection is closed if its connect wasn't answered for so long after it came; 0 for no limit.
+    /// The connection is closed if its connect wasn't answered for so long after it was opened.
     pub unconnected: u64,
     /// It is closed if it has bytes to write, and the socket has taken none of them for so long.
     pub unread: u64,
@@ -92,6 +99,21 @@ pub struct SessionLimits {
     pub closing: u64,
     /// A four-letter word that isn't among these is refused by a line of text.
     pub words: AllowedWords,
+}
+
+impl SessionLimits {
+    /// No limits.
+    pub fn none() -> SessionLimits
+        ensures times { (result.unconnected ≡ 0) × (result.unread ≡ 0) × (result.closing ≡ 0) }
+        ensures words { (word : TheWord) → is_allowed result.words word ≡ true }
+    {
+        SessionLimits {
+            unconnected: 0,
+            unread: 0,
+            closing: 0,
+            words: AllowedWords::all(),
+        }
+    }
 }
 
 impl Default for SessionLimits {

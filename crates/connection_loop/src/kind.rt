@@ -1,0 +1,72 @@
+//! What a client's frame asks of the leader and of this server.
+
+ghost use Rattle.std.specs.Prelude.{◌≡◌};
+ghost use Rattle.connection_loop.specs.Kinds.{kind_of_frame, kind_of_request};
+
+use client_records::{ReadKind, RequestKind};
+
+/// A longer ping or sync isn't one that may be held while others wait.
+const SHORT: usize = 256;
+
+/// The kinds of frames, by what the engine does with them while the leader owes an answer to one before.
+#[derive(Clone, Copy, Debug, PartialEq, Eq)]
+pub enum FrameKind {
+    /// A ping or an auth: it touches the session at once, and its answer is small.
+    Light,
+    /// A write or a sync: it goes to the leader at once, and its answer comes from the leader's stream.
+    Forwarded,
+    /// Answered by this server, in its turn: it is held while the leader owes an answer.
+    Local,
+    /// The same, where neither its length nor the data of one node bounds what it costs.
+    Heavy,
+}
+
+fn kind_of_request(kind: Option<RequestKind>, len: usize) -> FrameKind
+    ensures { result ≡ kind_of_request kind len }
+{
+    let Some(kind) = kind else {
+        return FrameKind::Local;
+    };
+    match kind {
+        RequestKind::Create
+        | RequestKind::Delete
+        | RequestKind::SetData
+        | RequestKind::SetAcl
+        | RequestKind::CloseSession => FrameKind::Forwarded,
+        RequestKind::Sync => {
+            if len <= SHORT {
+                FrameKind::Forwarded
+            } else {
+                FrameKind::Heavy
+            }
+        }
+        RequestKind::Ping => {
+            if len <= SHORT {
+                FrameKind::Light
+            } else {
+                FrameKind::Local
+            }
+        }
+        RequestKind::Auth => FrameKind::Light,
+        RequestKind::SetWatches => FrameKind::Heavy,
+        RequestKind::Read(ReadKind::GetChildren | ReadKind::GetChildren2) => FrameKind::Heavy,
+        RequestKind::Read(ReadKind::Exists | ReadKind::GetData | ReadKind::GetAcl)
+        | RequestKind::Check
+        | RequestKind::Multi
+        | RequestKind::AddWatch => FrameKind::Local,
+    }
+}
+
+/// The kind of a frame, without its length: its xid takes the first four bytes, and its type the next four. A frame that
+/// is too short for a type closes its connection.
+pub fn kind_of_frame(frame: &[u8]) -> FrameKind
+    ensures { result ≡ kind_of_frame frame.now }
+{
+    let Some([_, _, _, _, code @ ..]) = frame.first_chunk::<8>() else {
+        return FrameKind::Local;
+    };
+    kind_of_request(
+        RequestKind::from_code(i32::from_be_bytes(*code)),
+        frame.len(),
+    )
+}
