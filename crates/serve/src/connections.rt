@@ -74,14 +74,7 @@ pub fn start_client<R: Threads + Wait + Net + Clock + Copy + Send + 'static>(
     let handle = Builder::new().stack_size(STACK).spawn(rt, move || {
         let port = handed.lock(&mine).take();
         match port {
-            Some(port) => Some(session_loop(
-                &mine,
-                alloc,
-                reader,
-                writer,
-                port,
-                SessionLimits::default(),
-            )),
+            Some(port) => Some(session_loop(&mine, alloc, reader, writer, port, limits)),
             None => None,
         }
     })?;
