@@ -614,7 +614,8 @@ def test_recorded_writes_replay():
 
 
 def test_a_load_of_all_kinds():
-    with Server() as server:
+    # Connections that say nothing stay for as long as the load.
+    with Server("--unconnected", "0") as server:
         assert server.is_at_base(load.SECONDS), server.threads()
         base, before = server.descriptors(), server.memory()
         nodes = [load.made(server.leader, size) for size in (0, 2, 100, 900)]
