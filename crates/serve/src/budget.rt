@@ -5,7 +5,7 @@ use intake::Budget;
 use std::time::Clock;
 
 // After so long, in microseconds, no more messages of clients are taken in a turn. So what the leader sends waits no
-// longer than this, and for the messages of one port.
+// longer than this, and for the messages of one port. What the leader's own messages take doesn't count.
 const MOST_TIME: u64 = 20_000;
 
 // The same for the bytes that clients are answered.
@@ -36,8 +36,8 @@ pub struct TurnBudget<'a, R> {
 }
 
 impl<'a, R: Clock> TurnBudget<'a, R> {
-    /// The budget of a turn that begins.
-    pub fn begin(rt: &'a R, clock: Stopwatch, pause: Pause) -> TurnBudget<'a, R> {
+    /// The budget of a turn.
+    pub fn new(rt: &'a R, clock: Stopwatch, pause: Pause) -> TurnBudget<'a, R> {
         let mut clock = clock;
         let now = clock.microseconds(rt);
         TurnBudget {
@@ -53,12 +53,18 @@ impl<'a, R: Clock> TurnBudget<'a, R> {
 }
 
 impl<'a, R: Clock> Budget for TurnBudget<'a, R> {
-    fn spend(&mut self, _taken: usize, answered: usize) -> bool {
+    fn begin(&mut self) {
+        self.began = self.clock.microseconds(self.rt);
+        self.last = self.began;
+    }
+
+    fn spend(&mut self, taken: usize, answered: usize) -> bool {
         let now = self.clock.microseconds(self.rt);
         let took = now.saturating_sub(self.last);
         self.last = now;
         self.answered = self.answered.saturating_add(answered);
-        let is_costly = took > COSTLY_TIME || answered > COSTLY_ANSWERED;
+        // A checkpoint takes long, and brings no bytes of a client.
+        let is_costly = taken > 0 && (took > COSTLY_TIME || answered > COSTLY_ANSWERED);
         if is_costly {
             self.costly = self.costly.saturating_add(took);
         }
@@ -86,10 +92,11 @@ impl Pause {
         if budget.costly <= LONG_TIME {
             return self;
         }
+        let until = budget
+            .last
+            .saturating_add(budget.costly.saturating_mul(PAUSE));
         Pause {
-            until: budget
-                .last
-                .saturating_add(budget.costly.saturating_mul(PAUSE)),
+            until: self.until.max(until),
         }
     }
 

@@ -228,7 +228,7 @@ impl<L: Log, W: Write + Drop> Hub<L, W> {
 
     // Makes a turn that takes of clients what the budget of a turn allows.
     pub(crate) fn turn<R: Threads + Sync + Clock>(&mut self, rt: &R) -> Result<usize, NoMemory> {
-        let mut budget = TurnBudget::begin(rt, self.clock, self.pause);
+        let mut budget = TurnBudget::new(rt, self.clock, self.pause);
         let turned = self.turn_within(rt, &mut budget);
         self.pause = self.pause.after(&budget);
         turned
