@@ -35,12 +35,9 @@ mod hub;
 mod law;
 mod link;
 mod links;
-mod marks;
 mod message;
 mod notes;
 mod port;
-mod round;
-mod waker;
 
 pub use budget::{Budget, Unlimited};
 pub use desk::{Desk, Limits};
@@ -48,4 +45,4 @@ pub use hub::Hub;
 pub use law::desks_agree;
 pub use message::{AddPortError, Full, Message};
 pub use port::{Port, PortEnd};
-pub use waker::Waker;
+pub use port_hints::Waker;
