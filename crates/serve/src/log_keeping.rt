@@ -19,8 +19,8 @@ pub struct LogKeeper {
     next_look: u64,
     // The transactions in the log when a checkpoint was asked for.
     entries: usize,
-    // It was logged that no checkpoint can be made.
-    is_left_out: bool,
+    // It was logged that the next checkpoint is put off.
+    is_put_off: bool,
 }
 
 impl LogKeeper {
@@ -31,7 +31,7 @@ impl LogKeeper {
             port: None,
             next_look: 0,
             entries: 0,
-            is_left_out: false,
+            is_put_off: false,
         }
     }
 
@@ -62,7 +62,7 @@ impl<L: Log, W: Write + Drop> Hub<L, W> {
         let pause = now.saturating_sub(began);
         let nodes = self.nodes();
         self.log_keeper.checkpoints.taken(now, pause, nodes);
-        self.log_keeper.is_left_out = false;
+        self.log_keeper.is_put_off = false;
         let zxid = self.desk.engine().learner().last_zxid();
         self.journal
             .checkpoint(zxid, pause, nodes, self.log_keeper.entries);
@@ -83,10 +83,10 @@ impl<L: Log, W: Write + Drop> Hub<L, W> {
         match self.log_keeper.checkpoints.judge(now, nodes) {
             Due::NotYet => BETWEEN_LOOKS,
             Due::TooLong { expected } => {
-                if !self.log_keeper.is_left_out {
-                    self.journal.checkpoint_left_out(expected, nodes);
+                if !self.log_keeper.is_put_off {
+                    self.journal.checkpoint_put_off(expected, nodes);
                 }
-                self.log_keeper.is_left_out = true;
+                self.log_keeper.is_put_off = true;
                 BETWEEN_LOOKS
             }
             Due::Now => {
