@@ -80,6 +80,7 @@ class Lagging:
 
     def __init__(self, bench, path, *options):
         self.observer, self.path = bench.observer, path
+        self.observer.stop()
         self.leader = bench.ensemble.mended()
         near, far = [it for it in bench.ensemble.voters if it is not self.leader]
         self.feed, self.link = bench.proxy(self.leader.quorum), bench.proxy(near.master)
