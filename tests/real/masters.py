@@ -106,8 +106,8 @@ class Lagging:
         self.feed.flows.clear()
         last = self.writes(size)
         assert client is None or client.client.exists(last)
-        # A checkpoint is looked for once a second.
-        time.sleep(1.5)
+        # A checkpoint that is due by now is taken.
+        time.sleep(1)
         self.link.cut()
         return time.monotonic(), last
 
