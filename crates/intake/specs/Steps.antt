@@ -14,11 +14,12 @@ pub record BeginsTurn (queue : List ℕ) (old new : Desk) : Type 0 where
   pub queued : (n : ℕ) → n ≢ 0 → IsRemembered n old → (waiting_at new.links n ≡ []) ⊎ Contains queue n
 
 -- The messages of a port that were seen are taken and played, and the outputs put.
-pub record FeedsPort (n : ℕ) (m : Machine) (old new : Desk) : Type 0 where
+pub record FeedsPort (n : ℕ) (old new : Desk) : Type 0 where
   pub fresh : new.fresh ≡ old.fresh ++ seen_at old.links n
-  pub machine : new.machine ≡ Some (play m (events_of (seen_at old.links n))).after
+  pub machine : (m : Machine) → old.machine ≡ Some m
+      → new.machine ≡ Some (play m (events_of (seen_at old.links n))).after
   pub took : (k : ℕ) → taken_at new.links k ≡ taken_at old.links k ++ part_of_port k (seen_at old.links n)
-  pub owes : (k : ℕ) → is_open_port k old.links ≡ true
+  pub owes : (m : Machine) → old.machine ≡ Some m → (k : ℕ) → is_open_port k old.links ≡ true
       → owed_at new.links k
       ≡ owed_at old.links k ++ share_of_port k (play m (events_of (seen_at old.links n))).outputs
   pub none_waits : waiting_at new.links n ≡ []

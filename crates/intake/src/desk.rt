@@ -284,7 +284,8 @@ impl Desk {
         self.notes.closing.as_slice()
     }
 
-    /// Whether the last turn left a port for the next one that may be served at once, so that the hub isn't to wait.
+    /// Whether the last turn left a port for the next one only because its budget was spent, so that the hub isn't to
+    /// wait.
     pub fn is_behind(&self) -> bool {
         self.is_behind
     }
@@ -322,8 +323,9 @@ impl Desk {
 
     /// Makes a turn within a budget. The leader's messages come first, and all of them are taken. Then it comes to the
     /// ports of clients, until the budget is spent: first to those whose last messages were cheap, then to those whose
-    /// last messages were costly, of which it comes to one at least. Each kind goes round by number. The next turn looks
-    /// at the ports that this one doesn't come to, and at those of which nothing is to be taken for now.
+    /// last messages were costly, of which it comes to one at least if the budget takes them. Each kind goes round by
+    /// number. The next turn looks at the ports that this one doesn't come to, and at those of which nothing is to be
+    /// taken for now.
     ///
     /// Apart from that it does what `turn` does.
     pub fn turn_within<R: Threads + Sync, G: Gate + Sync, B: Budget>(
@@ -435,6 +437,7 @@ impl Desk {
         ensures err { OnErr result (self.new.machine ≡ None) }
     {
         self.serve_leader(rt, gate)?;
+        budget.begin();
         self.serve_clients(rt, gate, queue.as_slice(), budget)?;
         queue.clear();
         self.spare = queue;
@@ -491,10 +494,10 @@ impl Desk {
         if self.links.seen(number) == 0 {
             return Ok(());
         }
-        if self.stays_blocked(number) {
+        let is_costly = self.is_costly(number);
+        if self.stays_blocked(number) || (is_costly && !budget.takes_costly()) {
             return self.leave(number);
         }
-        let is_costly = self.is_costly(number);
         if budget.is_spent() && !self.round.reaches(is_costly) {
             self.is_behind = true;
             return self.leave(number);
@@ -528,7 +531,7 @@ impl Desk {
         gate: &G,
         number: usize,
     ) -> Result<usize, NoMemory>
-        ensures ok { (m : TheMachine) → self.old.machine ≡ Some m → OnOk result (FeedsPort number m self.old self.new) }
+        ensures ok { OnOk result (FeedsPort number self.old self.new) }
         ensures err { OnErr result (self.new.machine ≡ None) }
     {
         self.closed = true;
