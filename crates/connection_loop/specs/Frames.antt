@@ -1,5 +1,5 @@
 -- The ends of a client's frames, and which of them are sent on together.
-use Rattle.std.specs.Prelude.{ℕ, suc, ◌+◌, List, [], ◌∷◌, map, length, ◌-◌, Ok, Err, Bool, true, false, ◌&&◌, if◌then◌else◌}
+use Rattle.std.specs.Prelude.{ℕ, suc, ◌+◌, List, [], ◌∷◌, map, length, ◌-◌, Ok, Err, Bool, true, false, if◌then◌else◌}
 use Rattle.jute.specs.Stream.{Unread, items_within}
 use Rattle.client_service.specs.Serve.{frames_of_client}
 use Rattle.connection_loop.specs.declared.kind.FrameKind.{FrameKind}
@@ -38,9 +38,15 @@ ending_going settled (Ok rest) = 0
 ending_going settled (Err e) = if settled then 1 else 0
 
 -- A frame of unbounded cost goes last.
+abbrev pub goes_last : FrameKind → Bool
+goes_last Light = false
+goes_last Forwarded = false
+goes_last Local = false
+goes_last Heavy = true
+
 abbrev pub going_after : FrameKind → Bool → ℕ → ℕ
-going_after Heavy settled others = if settled then 1 else 0
-going_after kind settled others = if goes_with kind settled then suc others else 0
+going_after kind settled others =
+    if goes_with kind settled then if goes_last kind then 1 else suc others else 0
 
 -- How many of these frames go together, with what is left after them.
 abbrev pub going : List (List ℕ) → Unread → Bool → ℕ

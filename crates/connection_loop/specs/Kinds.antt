@@ -33,9 +33,10 @@ kind_of_request (Some (Read GetAcl)) len = Local
 kind_of_request (Some (Read GetChildren)) len = Heavy
 kind_of_request (Some (Read GetChildren2)) len = Heavy
 
--- The type is a number after the xid, of four bytes as that.
-abbrev pub code_in : List ℕ → Option RequestKind
-code_in frame = if nat_lt (length frame) 8 then None else kind_of (cast_signed w32 (from_be_bytes w32 (take 4 (drop 4 frame))))
+-- The type that the bytes begin with: a number of four bytes.
+abbrev pub request_at : List ℕ → Option RequestKind
+request_at bytes = if nat_lt (length bytes) 4 then None else kind_of (cast_signed w32 (from_be_bytes w32 (take 4 bytes)))
 
+-- The xid comes first, which has four bytes, too.
 abbrev pub kind_of_frame : List ℕ → FrameKind
-kind_of_frame frame = kind_of_request (code_in frame) (length frame)
+kind_of_frame frame = kind_of_request (request_at (drop 4 frame)) (length frame)

@@ -1,5 +1,5 @@
 -- How many frames of a client may be sent on.
-use Rattle.std.specs.Prelude.{◌≡◌, ℕ, suc, ◌+◌, ◌-◌, ◌*◌, ◌==◌, min, nat_lt, nat_le, List, [], ◌∷◌, repeat, take, drop, length, Bool, true, false, not, ◌&&◌, if◌then◌else◌}
+use Rattle.std.specs.Prelude.{◌≡◌, ℕ, suc, ◌+◌, ◌-◌, ◌*◌, ◌==◌, min, nat_lt, nat_le, List, [], ◌∷◌, take, drop, length, replicate, Bool, true, false, not, ◌&&◌, if◌then◌else◌}
 use Rattle.std.specs.Str.{bytes_eq}
 use Rattle.client_service.specs.declared.output.Output.{Output}
 use Rattle.client_service.specs.declared.output.Output.TheVariants.{ToLeader, ToClient, CloseLeader, CloseClient}
@@ -43,9 +43,15 @@ sized_by_answer w len = if nat_le len 65536 then after_small w else record w { a
 abbrev pub with_answer : Window → ℕ → Window
 with_answer w len = sized_by_answer (record w { owed = w.owed - 1; connected = true }) len
 
--- A watch event answers no frame: both its xid and its zxid are -1.
+-- A watch event answers no frame: both its xid and its zxid are -1, the twelve bytes after the length.
+abbrev pub notice_header : List ℕ
+notice_header = replicate 12 255
+
+abbrev pub is_notice_header : List ℕ → Bool
+is_notice_header bytes = if nat_lt (length bytes) 12 then false else bytes_eq (take 12 bytes) notice_header
+
 abbrev pub is_notice : List ℕ → Bool
-is_notice frame = not (nat_lt (length frame) 16) && bytes_eq (take 12 (drop 4 frame)) (repeat 12 255)
+is_notice frame = is_notice_header (drop 4 frame)
 
 abbrev pub with_output_noted : Window → Output → Window
 with_output_noted w (ToLeader bytes) = w

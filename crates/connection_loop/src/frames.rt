@@ -1,7 +1,7 @@
 //! The ends of a client's frames, and which of them are sent on together.
 
 ghost use Rattle.std.specs.Prelude.{◌≡◌, ◌≤◌};
-ghost use Rattle.connection_loop.specs.Frames.{whole_frames_length, goes_with, frames_going};
+ghost use Rattle.connection_loop.specs.Frames.{whole_frames_length, goes_with, goes_last, settled_after, frames_going};
 
 use crate::kind::{FrameKind, kind_of_frame};
 use jute::{Reader, read_frame};
@@ -36,6 +36,25 @@ pub fn goes_with(kind: FrameKind, settled: bool) -> bool
     }
 }
 
+// Whether it is still settled after a frame, before its answer.
+fn settled_after(kind: FrameKind, settled: bool) -> bool
+    ensures { result ≡ settled_after kind settled }
+{
+    match kind {
+        FrameKind::Light | FrameKind::Local => settled,
+        FrameKind::Forwarded | FrameKind::Heavy => false,
+    }
+}
+
+fn goes_last(kind: FrameKind) -> bool
+    ensures { result ≡ goes_last kind }
+{
+    match kind {
+        FrameKind::Light | FrameKind::Forwarded | FrameKind::Local => false,
+        FrameKind::Heavy => true,
+    }
+}
+
 /// How many of the whole frames at the front, at most `most`, are sent on as one piece. `settled` says whether all frames
 /// before them are answered. A frame that the engine would hold isn't among them unless it is settled up to there: no
 /// answer of the leader is owed. A frame of unbounded cost is the last one. A length out of bounds counts as a frame
@@ -45,23 +64,23 @@ pub fn frames_going(bytes: &[u8], most: usize, settled: bool) -> usize
     ensures bound { result ≤ most }
 {
     let mut ahead = Reader::new(bytes);
-    let mut settled = settled;
+    let mut calm = settled;
     for count in 0..most {
         match read_frame(&mut ahead, CLIENT_FRAME_LIMIT) {
             Ok(frame) => {
                 let kind = kind_of_frame(frame);
-                if !goes_with(kind, settled) {
+                if !goes_with(kind, calm) {
                     return count;
                 }
-                if kind == FrameKind::Heavy {
+                if goes_last(kind) {
                     return count + 1;
                 }
-                settled = settled && kind != FrameKind::Forwarded;
+                calm = settled_after(kind, calm);
             }
-            Err(fault) => {
-                let ends = fault != Fault::Short && settled;
-                return if ends { count + 1 } else { count };
-            }
+            Err(fault) => match fault {
+                Fault::Short => return count,
+                _ => return if calm { count + 1 } else { count },
+            },
         }
     }
     most

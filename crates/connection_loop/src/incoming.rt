@@ -8,7 +8,7 @@ ghost use Rattle.connection_loop.specs.Frames.{whole_frames_length, frames_going
 ghost use Rattle.connection_loop.specs.Incoming.{buffer_length, nothing_unsent, first_frame_length, may_begin, piece_for_client, last_piece, next_piece};
 
 use crate::frames::{frames_going, goes_with, whole_frames};
-use crate::kind::kind_of_frame;
+use crate::kind::{after_int, kind_of_frame};
 use std::alloc::Global;
 use std::io;
 use std::io::Read;
@@ -80,7 +80,7 @@ fn frame_len(bytes: &[u8]) -> usize
 fn may_begin(waiting: &[u8], most: usize, settled: bool) -> bool
     ensures { result ≡ may_begin most settled waiting.now }
 {
-    most > 0 && goes_with(kind_of_frame(waiting.get(4..).unwrap_or(&[])), settled)
+    most > 0 && goes_with(kind_of_frame(after_int(waiting)), settled)
 }
 
 // The next piece of a client's bytes. The first `missing` bytes belong to a frame that was sent on in part.

@@ -1,7 +1,7 @@
 //! What a client's frame asks of the leader and of this server.
 
-ghost use Rattle.std.specs.Prelude.{◌≡◌};
-ghost use Rattle.connection_loop.specs.Kinds.{kind_of_frame, kind_of_request};
+ghost use Rattle.std.specs.Prelude.{◌≡◌, drop};
+ghost use Rattle.connection_loop.specs.Kinds.{kind_of_frame, kind_of_request, request_at};
 
 use client_records::{ReadKind, RequestKind};
 
@@ -57,16 +57,31 @@ fn kind_of_request(kind: Option<RequestKind>, len: usize) -> FrameKind
     }
 }
 
+/// What comes after an int, which takes four bytes; nothing where there are fewer.
+#[tactic(auto, using(crate::proofs::Ints::slice_after))]
+pub fn after_int(bytes: &[u8]) -> &[u8]
+    ensures { result.now ≡ drop 4 bytes.now }
+{
+    match bytes.get(4..) {
+        Some(rest) => rest,
+        None => &[],
+    }
+}
+
+// The type that the bytes begin with; `None` for one that isn't known, and where there are too few.
+fn request_at(bytes: &[u8]) -> Option<RequestKind>
+    ensures { result ≡ request_at bytes.now }
+{
+    match bytes.first_chunk::<4>() {
+        Some(code) => RequestKind::from_code(i32::from_be_bytes(*code)),
+        None => None,
+    }
+}
+
 /// The kind of a frame, without its length: its xid takes the first four bytes, and its type the next four. A frame that
 /// is too short for a type closes its connection.
 pub fn kind_of_frame(frame: &[u8]) -> FrameKind
     ensures { result ≡ kind_of_frame frame.now }
 {
-    let Some([_, _, _, _, code @ ..]) = frame.first_chunk::<8>() else {
-        return FrameKind::Local;
-    };
-    kind_of_request(
-        RequestKind::from_code(i32::from_be_bytes(*code)),
-        frame.len(),
-    )
+    kind_of_request(request_at(after_int(frame)), frame.len())
 }

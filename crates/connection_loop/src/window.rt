@@ -3,6 +3,7 @@
 ghost use Rattle.std.specs.Prelude.{◌≡◌, ◌≤◌, not};
 ghost use Rattle.connection_loop.specs.Windows.{is_notice, new_window, room_in, is_settled, is_new, with_sent, with_answer, with_output_noted};
 
+use crate::kind::after_int;
 use observer_core::Output;
 use std::marker::Model;
 
@@ -46,8 +47,8 @@ impl Model for Window {
 fn is_notice(frame: &[u8]) -> bool
     ensures { result ≡ is_notice frame.now }
 {
-    match frame.first_chunk::<16>() {
-        Some([_, _, _, _, header @ ..]) => *header == [0xff; 12],
+    match after_int(frame).first_chunk::<12>() {
+        Some(header) => *header == [0xff; 12],
         None => false,
     }
 }
