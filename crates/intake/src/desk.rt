@@ -1,29 +1,27 @@
 //! The desk: an engine, and the ports whose messages it takes.
 
-ghost use Rattle.std.specs.Prelude.{◌≡◌, ◌⊎◌, ◌++◌, ◌<◌, ◌≤◌, length, IfOk, IfErr, OnErr, OnOk, IsSome, Some, None, Ok, Err, []};
+ghost use Rattle.std.specs.Prelude.{◌≡◌, ◌≢◌, ◌⊎◌, ◌++◌, ◌<◌, ◌≤◌, ℕ, ◌∷◌, length, Contains, IfOk, IfErr, OnErr, OnOk, IsSome, Some, None, Ok, Err, []};
+ghost use Rattle.std.specs.List.Sorted.{IsPermutation};
 ghost use Rattle.std.specs.FinMap as finmap;
 ghost use Rattle.observer_core.specs.Machine.{Machine as TheMachine};
 ghost use Rattle.observer_core.specs.Play.{new_machine, primed_machine};
 ghost use Rattle.observer_core.specs.Plays.{PlaysEvents};
-ghost use Rattle.observer_core.specs.declared.engine.Stop.TheVariants as stops;
 ghost use Rattle.intake.specs.declared.message.AddPortError.TheVariants as errors;
 ghost use Rattle.intake.specs.Messages.{events_of};
 ghost use Rattle.intake.specs.Ports.{sent_through, received_through, unread_through, SamePort};
 ghost use Rattle.intake.specs.Links.{taken_at, waiting_at, outbox_at, IsEnd, TakesNoMessage};
-ghost use Rattle.intake.specs.Desk.{new_desk, AddsPort, TakesNothing, AnswersTurn};
+ghost use Rattle.intake.specs.Desk.{new_desk, AddsPort, IsRemembered, ForgetsNone, TakesTurn, TakesNothing, AnswersTurn};
+ghost use Rattle.intake.specs.Steps.{BeginsTurn, FeedsPort, ServesPorts};
 
 use crate::budget::{Budget, Unlimited};
 use crate::events::{bytes_of, events_of};
 use crate::link::Link;
 use crate::links::Links;
-use crate::marks::Marks;
 use crate::message::{AddPortError, Message};
-use crate::notes::{Notes, reserve};
 use crate::port::{Port, PortEnd};
-use crate::round::Round;
-use crate::waker::Waker;
 use apply_workers::Gate;
 use observer_core::{Config, Engine, Output, Stop};
+use port_hints::{Marks, Notes, Round, Waker, reserve};
 use rtrb::RingBuffer;
 use std::alloc::Global;
 use std::marker::Model;
@@ -103,6 +101,7 @@ impl Model for Desk {
       links = d.links;
       next = d.next;
       fresh = d.fresh.items;
+      later = d.later.items;
     } };
 
     ghost invariant = { λ d. IsOpenUnless d.closed d.engine };
@@ -241,6 +240,7 @@ impl Desk {
         ensures received { received_through end.new ++ unread_through end.new
             ≡ outbox_at self.new.links end.old.number }
         ensures desk { TakesNothing self.old self.new }
+        ensures later { self.new.later ≡ self.old.later }
         ensures end { SamePort end.old end.new }
     {
         let count = self.links.left(end);
@@ -283,7 +283,8 @@ impl Desk {
         self.notes.closing.as_slice()
     }
 
-    /// Whether the last turn left a port for the next one that may be served at once, so that the hub isn't to wait.
+    /// Whether the last turn left a port for the next one only because its budget was spent, so that the hub isn't to
+    /// wait.
     pub fn is_behind(&self) -> bool {
         self.is_behind
     }
@@ -300,8 +301,8 @@ impl Desk {
     }
 
     /// Makes a turn: puts the outputs that were kept, takes messages and feeds them to the engine. Returns the number
-    /// of messages taken. It takes the leader's messages first, goes through the other ports by number, and takes no
-    /// more messages of a port than its capacity.
+    /// of messages taken. It takes the leader's messages first, then goes through the other ports by number, and takes
+    /// no more messages of a port than its capacity.
     ///
     /// If the list of messages can't grow, the messages stay where they are; any other refused allocation closes the
     /// desk. Fails with [`Stop::Closed`] if the desk was closed before.
@@ -309,28 +310,44 @@ impl Desk {
         &mut self,
         rt: &R,
         gate: &G,
-    ) -> Result<usize, Stop> {
+    ) -> Result<usize, Stop>
+        ensures { AnswersTurn result self.old.machine self.old self.new }
+    {
         let queue = self.prepare()?;
-        self.serve(rt, gate, queue, &mut Unlimited)
+        match self.serve(rt, gate, queue, &mut Unlimited) {
+            Ok(count) => Ok(count),
+            Err(NoMemory) => Err(Stop::NoMemory),
+        }
     }
 
-    /// Makes a turn within a budget. The leader's messages come first, and are all taken. Then it comes to the ports of
-    /// clients, one after the other, until the budget is spent: to those whose last messages were cheap, and then to
-    /// those whose last messages were costly, of which it comes to one in each turn. The ports that it doesn't come to,
-    /// and those of which nothing is to be taken for now, are looked at in the next turn.
+    /// Makes a turn within a budget. The leader's messages come first, and all of them are taken. Then it comes to the
+    /// ports of clients, until the budget is spent: first to those whose last messages were cheap, then to those whose
+    /// last messages were costly, of which it comes to one at least if the budget takes them. Each kind goes round by
+    /// number. The next turn looks at the ports that this one doesn't come to, and at those of which nothing is to be
+    /// taken for now.
+    ///
+    /// Apart from that it does what `turn` does.
     pub fn turn_within<R: Threads + Sync, G: Gate + Sync, B: Budget>(
         &mut self,
         rt: &R,
         gate: &G,
         budget: &mut B,
-    ) -> Result<usize, Stop> {
+    ) -> Result<usize, Stop>
+        ensures { AnswersTurn result self.old.machine self.old self.new }
+    {
         let mut queue = self.prepare()?;
         self.order(&mut queue);
-        self.serve(rt, gate, queue, budget)
+        match self.serve(rt, gate, queue, budget) {
+            Ok(count) => Ok(count),
+            Err(NoMemory) => Err(Stop::NoMemory),
+        }
     }
 
-    // Begins a turn, and puts the outputs that were kept. Returns the ports of which messages may be taken.
-    fn prepare(&mut self) -> Result<Vec<usize>, Stop> {
+    // Begins a turn, and puts the outputs that were kept. Returns the ports of clients that may have sent something.
+    fn prepare(&mut self) -> Result<Vec<usize>, Stop>
+        ensures ok { IfOk result (λ queue. BeginsTurn queue.items self.old self.new) }
+        ensures err { IfErr result (λ stop. AnswersTurn (Err stop) self.old.machine self.old self.new) }
+    {
         self.fresh.clear();
         self.notes.begin(&mut self.kept);
         self.round.begin();
@@ -345,28 +362,34 @@ impl Desk {
             mem::swap(&mut self.notes.keeping, &mut self.kept);
             return Err(Stop::NoMemory);
         }
-        self.look()
-    }
-
-    // Looks at the leader's port, at those that the last turn left, and at those that are marked, and makes room for
-    // their messages. After a refused allocation the next turn looks at them.
-    fn look(&mut self) -> Result<Vec<usize>, Stop> {
-        let found = self.marks.take(&mut self.later);
-        self.later.sort_unstable();
-        self.later.dedup();
-        let count = self
-            .links
-            .look(0)
-            .saturating_add(self.links.look_all(self.later.as_slice()));
-        if found.is_err() || self.fresh.reserve(count).is_err() {
-            return Err(Stop::NoMemory);
+        match self.look() {
+            Ok(queue) => Ok(queue),
+            Err(NoMemory) => Err(Stop::NoMemory),
         }
-        let spare = mem::replace(&mut self.spare, Vec::new(self.alloc));
-        Ok(mem::replace(&mut self.later, spare))
     }
 
-    // Puts the ports in the order in which they are served.
-    fn order(&self, queue: &mut Vec<usize>) {
+    // Looks at the leader's port, at those that the last turn left and at those that are marked, and makes room for
+    // their messages. After a refused allocation the next turn looks at them.
+    fn look(&mut self) -> Result<Vec<usize>, NoMemory>
+        ensures ok { IfOk result (λ queue. (n : ℕ) → n ≢ 0 → IsRemembered n self.old
+            → (waiting_at self.new.links n ≡ []) ⊎ Contains queue.items n) }
+        ensures err { OnErr result (ForgetsNone self.old self.new) }
+        ensures desk { TakesNothing self.old self.new }
+        ensures fresh { self.new.fresh ≡ self.old.fresh }
+    {
+        let found = self.marks.add_to(&mut self.later);
+        let leaders = self.links.look(0);
+        let others = self.links.look_all(self.later.as_slice());
+        found?;
+        self.fresh.reserve(leaders.saturating_add(others))?;
+        let next = mem::replace(&mut self.spare, Vec::new(self.alloc));
+        Ok(mem::replace(&mut self.later, next))
+    }
+
+    // Puts the ports in the order in which a turn within a budget comes to them.
+    fn order(&self, queue: &mut Vec<usize>)
+        ensures { IsPermutation queue.old.items queue.new.items }
+    {
         queue.sort_unstable_by_key(|number| self.round.place(*number, self.is_costly(*number)));
     }
 
@@ -389,23 +412,68 @@ impl Desk {
             || self.links.under_way(0, &self.marks) > LEADER_LIMIT
     }
 
-    // Serves the leader's port, and then those in the queue.
+    // Whether a port is blocked, and stays so until a thread that writes wakes the hub's.
+    fn stays_blocked(&self, number: usize) -> bool {
+        if !self.is_blocked(number) {
+            return false;
+        }
+        self.marks.await_writes();
+        self.is_blocked(number)
+    }
+
+    // Serves the leader's port, and then those in the queue. A refused allocation closes the desk.
     fn serve<R: Threads + Sync, G: Gate + Sync, B: Budget>(
         &mut self,
         rt: &R,
         gate: &G,
         mut queue: Vec<usize>,
         budget: &mut B,
-    ) -> Result<usize, Stop> {
-        if self.links.seen(0) != 0 {
-            self.feed(rt, gate, 0)?;
-        }
-        for number in queue.as_slice() {
-            self.serve_client(rt, gate, *number, budget)?;
-        }
+    ) -> Result<usize, NoMemory>
+        ensures turn { (m : TheMachine) → self.old.machine ≡ Some m → self.old.fresh ≡ []
+            → OnOk result (TakesTurn m self.old self.new) }
+        ensures served { OnOk result ((n : ℕ) → n ≢ 0 → Contains queue.items n → IsRemembered n self.new) }
+        ensures count { IfOk result (λ count. count ≡ length self.new.fresh) }
+        ensures err { OnErr result (self.new.machine ≡ None) }
+    {
+        self.serve_leader(rt, gate)?;
+        budget.begin();
+        self.serve_clients(rt, gate, queue.as_slice(), budget)?;
         queue.clear();
         self.spare = queue;
         Ok(self.fresh.len())
+    }
+
+    fn serve_leader<R: Threads + Sync, G: Gate + Sync>(
+        &mut self,
+        rt: &R,
+        gate: &G,
+    ) -> Result<(), NoMemory>
+        ensures ok { (m : TheMachine) → self.old.machine ≡ Some m → self.old.fresh ≡ []
+            → OnOk result (TakesTurn m self.old self.new) }
+        ensures err { OnErr result (self.new.machine ≡ None) }
+    {
+        if self.links.seen(0) == 0 {
+            return Ok(());
+        }
+        self.feed(rt, gate, 0)?;
+        Ok(())
+    }
+
+    #[tactic(auto, using(crate::proofs::Turning::serves_none, crate::proofs::Turning::serves_on))]
+    fn serve_clients<R: Threads + Sync, G: Gate + Sync, B: Budget>(
+        &mut self,
+        rt: &R,
+        gate: &G,
+        numbers: &[usize],
+        budget: &mut B,
+    ) -> Result<(), NoMemory>
+        ensures ok { OnOk result (ServesPorts numbers.now self.old self.new) }
+        ensures err { OnErr result (self.new.machine ≡ None) }
+    {
+        for number in numbers {
+            self.serve_client(rt, gate, *number, budget)?;
+        }
+        Ok(())
     }
 
     // Serves a client's port, or leaves it for the next turn.
@@ -415,12 +483,18 @@ impl Desk {
         gate: &G,
         number: usize,
         budget: &mut B,
-    ) -> Result<(), Stop> {
-        if number == 0 || self.links.seen(number) == 0 {
+    ) -> Result<(), NoMemory>
+        ensures ok { OnOk result (ServesPorts (number ∷ []) self.old self.new) }
+        ensures err { OnErr result (self.new.machine ≡ None) }
+    {
+        if number == 0 {
+            return Ok(());
+        }
+        if self.links.seen(number) == 0 {
             return Ok(());
         }
         let is_costly = self.is_costly(number);
-        if self.stays_blocked(number) {
+        if self.stays_blocked(number) || (is_costly && !budget.takes_costly()) {
             return self.leave(number);
         }
         if budget.is_spent() && !self.round.reaches(is_costly) {
@@ -436,46 +510,45 @@ impl Desk {
         Ok(())
     }
 
-    // Whether a port is blocked, and stays so until a thread that writes wakes the hub.
-    fn stays_blocked(&self, number: usize) -> bool {
-        if !self.is_blocked(number) {
-            return false;
-        }
-        self.marks.await_writes();
-        self.is_blocked(number)
-    }
-
     // Leaves a port for the next turn.
-    fn leave(&mut self, number: usize) -> Result<(), Stop> {
+    fn leave(&mut self, number: usize) -> Result<(), NoMemory>
+        ensures ok { OnOk result (self.new ≡ record self.old { later = self.old.later ++ number ∷ [] }) }
+        ensures err { OnErr result (self.new.machine ≡ None) }
+    {
         if self.later.push(number).is_err() {
             self.closed = true;
-            return Err(Stop::NoMemory);
+            return Err(NoMemory);
         }
         Ok(())
     }
 
-    // Feeds the messages that were seen of a port, and puts the outputs. Returns the number of their bytes. A refused
-    // allocation closes the desk.
+    // Feeds the messages of a port that were seen to the engine, and puts the outputs. Returns the number of bytes of
+    // the messages. A refused allocation closes the desk.
     fn feed<R: Threads + Sync, G: Gate + Sync>(
         &mut self,
         rt: &R,
         gate: &G,
         number: usize,
-    ) -> Result<usize, Stop> {
+    ) -> Result<usize, NoMemory>
+        ensures ok { OnOk result (FeedsPort number self.old self.new) }
+        ensures err { OnErr result (self.new.machine ≡ None) }
+    {
         self.closed = true;
         self.notes.answered = 0;
         let before = self.fresh.len();
-        let took = self.links.take(number, &mut self.fresh, &mut self.notes);
-        if took.is_err() {
-            return Err(Stop::NoMemory);
-        }
-        let fed = &self.fresh[before..];
-        let taken = bytes_of(fed);
+        self.links.take(number, &mut self.fresh, &mut self.notes)?;
+        let messages = &self.fresh[before..];
+        let taken = bytes_of(messages);
         let mut outputs = Vec::new(self.alloc);
-        play(rt, self.alloc, &mut self.engine, fed, gate, &mut outputs)?;
-        if self.links.put_all(outputs, &mut self.notes).is_err() {
-            return Err(Stop::NoMemory);
-        }
+        play(
+            rt,
+            self.alloc,
+            &mut self.engine,
+            messages,
+            gate,
+            &mut outputs,
+        )?;
+        self.links.put_all(outputs, &mut self.notes)?;
         self.marks.add_put(self.notes.answered);
         self.closed = false;
         Ok(taken)
@@ -487,16 +560,16 @@ fn play<R: Threads + Sync, G: Gate + Sync>(
     rt: &R,
     alloc: Global,
     engine: &mut Engine,
-    fresh: &[(usize, Message)],
+    messages: &[(usize, Message)],
     gate: &G,
     outputs: &mut Vec<Output>,
-) -> Result<(), Stop>
-    ensures ok { OnOk result (PlaysEvents (Ok tt) engine.old (events_of fresh.now) outputs.old.items outputs.new.items
+) -> Result<(), NoMemory>
+    ensures { OnOk result (PlaysEvents (Ok tt) engine.old (events_of messages.now) outputs.old.items outputs.new.items
         engine.new) }
-    ensures open { IsSome engine.old → IfErr result (λ stop. stop ≡ stops.NoMemory) }
 {
-    let Ok(events) = events_of(alloc, fresh) else {
-        return Err(Stop::NoMemory);
-    };
-    engine.feed(rt, alloc, events.as_slice(), gate, outputs)
+    let events = events_of(alloc, messages)?;
+    match engine.feed(rt, alloc, events.as_slice(), gate, outputs) {
+        Ok(()) => Ok(()),
+        Err(_) => Err(NoMemory),
+    }
 }

@@ -1,17 +1,16 @@
 //! The hub's ends of a port.
 
-ghost use Rattle.std.specs.Prelude.{◌≡◌, ◌≢◌, ◌++◌, [], ◌∷◌, length, OnOk, Some, ℕ, List};
+ghost use Rattle.std.specs.Prelude.{◌≡◌, ◌++◌, [], ◌∷◌, length, OnOk, Some};
 ghost use Rattle.rtrb.specs.Ring.{sent, received, known_items, IsPair, SameProducer, SameConsumer, ConsumerLooked};
-ghost use Rattle.intake.specs.declared.message.Message.{Message as AMessage};
-ghost use Rattle.intake.specs.Messages.{part_of_port};
+ghost use Rattle.intake.specs.Messages.{messages_of_port};
 ghost use Rattle.intake.specs.Links.{outputs_owed, IsEndBy, IsSameLink};
 ghost use Rattle.intake.specs.Ports.{sent_through, received_through, unread_through, SamePort};
 
 use crate::events::{content_len, is_close};
 use crate::message::Message;
-use crate::notes::Notes;
 use crate::port::PortEnd;
 use observer_core::Output;
+use port_hints::Notes;
 use rtrb::{Consumer, Producer};
 use std::alloc::Global;
 use std::collections::VecDeque;
@@ -160,14 +159,21 @@ impl Link {
     }
 
     // Takes the messages that were seen, and returns whether the `End` is among them.
-    #[tactic(auto, using(crate::proofs::Parts::part_own, crate::proofs::Parts::part_others))]
     fn take_seen(
         &mut self,
         number: usize,
         fresh: &mut Vec<(usize, Message)>,
-    ) -> Result<bool, NoMemory> {
+    ) -> Result<bool, NoMemory>
+        ensures list { OnOk result (fresh.new.items
+            ≡ fresh.old.items ++ messages_of_port number (known_items self.old.inbox)) }
+        ensures took { OnOk result (received self.new.inbox
+            ≡ received self.old.inbox ++ known_items self.old.inbox) }
+        ensures waits { OnOk result (known_items self.new.inbox ≡ []) }
+        ensures inbox { SameConsumer self.old.inbox self.new.inbox }
+        ensures outbox { (self.new.outbox ≡ self.old.outbox) × (self.new.kept ≡ self.old.kept) }
+    {
         let mut ended = false;
-        for _ in 0..self.inbox.cached_slots() {
+        while self.inbox.cached_slots() > 0 {
             let message = self.inbox.pop_known();
             if matches!(&message, Message::End) {
                 ended = true;
@@ -177,14 +183,23 @@ impl Link {
         Ok(ended)
     }
 
-    /// Takes the messages that were seen.
+    /// Takes the messages that were seen, and notes that the thread is to be told.
     pub fn take(
         &mut self,
         number: usize,
         fresh: &mut Vec<(usize, Message)>,
         notes: &mut Notes,
-    ) -> Result<(), NoMemory> {
-        if self.take_seen(number, fresh)? {
+    ) -> Result<(), NoMemory>
+        ensures list { OnOk result (fresh.new.items
+            ≡ fresh.old.items ++ messages_of_port number (known_items self.old.inbox)) }
+        ensures took { OnOk result (received self.new.inbox
+            ≡ received self.old.inbox ++ known_items self.old.inbox) }
+        ensures waits { OnOk result (known_items self.new.inbox ≡ []) }
+        ensures inbox { SameConsumer self.old.inbox self.new.inbox }
+        ensures outbox { (self.new.outbox ≡ self.old.outbox) × (self.new.kept ≡ self.old.kept) }
+    {
+        let ended = self.take_seen(number, fresh)?;
+        if ended {
             notes.ended.push(number)?;
         }
         // What was taken may bring no output, and the thread waits to send on more.

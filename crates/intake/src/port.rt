@@ -4,9 +4,9 @@ ghost use Rattle.std.specs.Prelude.{◌≡◌, ◌++◌, [], ◌∷◌, OnOk, If
 ghost use Rattle.intake.specs.Ports.{sent_through, received_through, IsFull, SamePort};
 
 use crate::events::content_len;
-use crate::marks::Mark;
 use crate::message::{Full, Message};
 use observer_core::Output;
+use port_hints::Mark;
 use rtrb::{Consumer, Producer, PushError};
 use std::marker::Model;
 

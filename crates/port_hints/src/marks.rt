@@ -7,7 +7,9 @@
 //! marks again.
 //!
 //! Each slot counts the bytes that its thread has written, too. The hub counts those that it puts, and so it knows what
-//! is under way. All this is hints: no contract refers to it.
+//! is under way.
+
+ghost use Rattle.port_hints.specs.Lists.{KeepsEach};
 
 use crate::waker::Waker;
 use slab::Slab;
@@ -216,9 +218,11 @@ impl Marks {
         }
     }
 
-    /// Appends the marked ports, and clears their marks. After a refused allocation the ports that weren't appended
-    /// stay marked.
-    pub fn take(&self, numbers: &mut Vec<usize>) -> Result<(), NoMemory> {
+    // Appends the marked ports, and clears their marks. After a refused allocation the ports that weren't appended stay
+    // marked.
+    fn take(&self, numbers: &mut Vec<usize>) -> Result<(), NoMemory>
+        ensures { KeepsEach numbers.old.items numbers.new.items }
+    {
         for (index, group) in self.groups.iter().enumerate() {
             if group.take_any() {
                 if self.take_group(index, group, numbers).is_err() {
@@ -235,7 +239,9 @@ impl Marks {
         index: usize,
         group: &Group,
         numbers: &mut Vec<usize>,
-    ) -> Result<(), NoMemory> {
+    ) -> Result<(), NoMemory>
+        ensures { KeepsEach numbers.old.items numbers.new.items }
+    {
         let first = index.saturating_mul(GROUP);
         for place in 0..GROUP {
             if group.take(place) {
@@ -248,6 +254,17 @@ impl Marks {
             }
         }
         Ok(())
+    }
+
+    /// Adds the marked ports to a list of ports, sorts it, and clears their marks. After a refused allocation the ports
+    /// that weren't added stay marked.
+    pub fn add_to(&self, numbers: &mut Vec<usize>) -> Result<(), NoMemory>
+        ensures { KeepsEach numbers.old.items numbers.new.items }
+    {
+        let taken = self.take(numbers);
+        numbers.sort_unstable();
+        numbers.dedup();
+        taken
     }
 
     /// Whether the port's last messages were costly. A new port is.
