@@ -9,8 +9,11 @@ use std::alloc::Global;
 use std::rt::Env;
 use std::sync::{Arc, Wait};
 use std::thread;
-use std::thread::{JoinHandle, Threads};
+use std::thread::{Builder, JoinHandle, SpawnError, Threads};
 use std::time::Clock;
+
+// The stack of the thread that writes the log, in bytes.
+const STACK: usize = 128 * 1024;
 
 /// A journal, and the thread that writes it to standard error.
 #[derive(Drop)]
@@ -32,7 +35,11 @@ pub fn start_logging<R: Threads + Wait + Clock + Env + Eprint + Copy + Send + Sy
         end,
     } = open_log(rt, alloc, options.log, options.log_format, !has_journal(rt))?;
     let mine = *rt;
-    match thread::spawn(rt, move || write_log(&mine, &mine, writer)) {
+    let thread = Builder::new()
+        .stack_size(STACK)
+        .name(String::from_str(alloc, "log")?)
+        .spawn(rt, move || write_log(&mine, &mine, writer));
+    match thread {
         Ok(thread) => Ok(Logging {
             journal: Journal::new(alloc, logger),
             thread,
@@ -65,7 +72,7 @@ pub fn tell<R: Threads + Wait + Clock + Eprint + Copy + Send + Sync + 'static>(
         Ok(thread) => {
             join_in_time(rt, thread, &done);
         }
-        Err(tell) => tell(),
+        Err(SpawnError { value: tell }) => tell(),
     }
     status
 }

@@ -1,10 +1,10 @@
 -- For how many lines the items of a queue stand.
-use Rattle.std.proofs.Common.{◌≡◌, ℕ, zero, suc, ◌+◌, ◌==◌, List, [], ◌∷◌, ◌++◌, String, refl, sym, ap, ◌∙◌, if◌then◌else◌, arith}
+use Rattle.std.proofs.Common.{◌≡◌, ◌+◌, List, [], ◌∷◌, ◌++◌, String, arith}
 use Rattle.std.specs.declared.alloc.Global.{Global}
 use Rattle.serve_log.specs.declared.queue.Dropped.{Dropped}
 use Rattle.serve_log.specs.declared.queue.Item.{Item}
 use Rattle.serve_log.specs.declared.queue.Item.TheVariants as item
-use Rattle.serve_log.specs.Queue.{lines_of, item_lines, told}
+use Rattle.serve_log.specs.Queue.{lines_of, told}
 
 lines_append : (before after : List Item) → lines_of (before ++ after) ≡ lines_of before + lines_of after
 lines_append [] after = omega arith
