@@ -19,10 +19,12 @@ import time
 from concurrent.futures import ThreadPoolExecutor
 
 sys.dont_write_bytecode = True
+import bounds  # noqa: E402
 import checkpoints  # noqa: E402
 import commands  # noqa: E402
 import forwarded  # noqa: E402
 import load  # noqa: E402
+import logs  # noqa: E402
 import next_leaders  # noqa: E402
 import several  # noqa: E402
 import silence  # noqa: E402
@@ -32,7 +34,7 @@ from server import (  # noqa: E402
     Server, got, hexa, is_closed, reset, wait_until,
 )
 
-MODULES = (commands, sys.modules[__name__], next_leaders, silence, checkpoints)
+MODULES = (commands, sys.modules[__name__], logs, next_leaders, silence, checkpoints, bounds)
 
 
 def test_a_client_reads():
@@ -613,7 +615,8 @@ def test_recorded_writes_replay():
 
 
 def test_a_load_of_all_kinds():
-    with Server() as server:
+    # Connections that say nothing stay for as long as the load.
+    with Server("--unconnected", "0") as server:
         assert server.is_at_base(load.SECONDS), server.threads()
         base, before = server.descriptors(), server.memory()
         nodes = [load.made(server.leader, size) for size in (0, 2, 100, 900)]

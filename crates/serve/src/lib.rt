@@ -2,11 +2,14 @@
 #![tactic(auto)]
 
 mod accept;
+mod bounds;
+mod budget;
 mod command;
 mod connections;
 mod hub;
 mod leading;
 mod log_keeping;
+mod logging;
 mod record;
 mod serving;
 mod silence;
