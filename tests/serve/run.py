@@ -24,6 +24,7 @@ import checkpoints  # noqa: E402
 import commands  # noqa: E402
 import forwarded  # noqa: E402
 import load  # noqa: E402
+import logs  # noqa: E402
 import next_leaders  # noqa: E402
 import several  # noqa: E402
 import silence  # noqa: E402
@@ -33,7 +34,7 @@ from server import (  # noqa: E402
     Server, got, hexa, is_closed, reset, wait_until,
 )
 
-MODULES = (commands, sys.modules[__name__], next_leaders, silence, checkpoints, bounds)
+MODULES = (commands, sys.modules[__name__], logs, next_leaders, silence, checkpoints, bounds)
 
 
 def test_a_client_reads():

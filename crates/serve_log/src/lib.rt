@@ -27,6 +27,6 @@ mod writer;
 pub use ending::{Done, join_in_time};
 pub use escape::Quoted;
 pub use pace::{Pace, Refusals};
-pub use queue::{Dropped, Item, LineQueue};
+pub use queue::{Dropped, Item, LineQueue, WaitingLines};
 pub use sink::{OpenLog, Sink, has_journal, open_log};
 pub use writer::{LogEnd, LogWriter, write_log};

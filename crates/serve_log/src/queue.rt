@@ -1,7 +1,7 @@
 //! The lines that wait to be written, and what becomes of those for which there is no room.
 
-ghost use Rattle.std.specs.Prelude.{◌≡◌, ◌+◌, ◌<◌, ◌≤◌, ◌++◌, IsTrue, IsFalse};
-ghost use Rattle.rtrb.specs.Ring.{sent, known_free};
+ghost use Rattle.std.specs.Prelude.{◌≡◌, ◌+◌, ◌<◌, ◌≤◌, [], ◌∷◌, ◌++◌, length, IsTrue, IsFalse, IfOk, IfSome, IfNone};
+ghost use Rattle.rtrb.specs.Ring.{IsPair, known_free, received, sent};
 ghost use Rattle.serve_log.specs.Queue.{IsDropped, IsKept, accounted_lines, has_room_for, most_count, told};
 
 use crate::backlog::Backlog;
@@ -39,16 +39,48 @@ pub struct LineQueue {
     backlog: Arc<Backlog, Global>,
 }
 
-impl Drop for LineQueue {
-    fn drop(mut self) {
-        if self.ring.slots() > 0 {
-            self.tell_dropped();
+/// The other end of the queue.
+#[derive(Drop)]
+pub struct WaitingLines {
+    items: Consumer<Item>,
+    pub(crate) backlog: Arc<Backlog, Global>,
+}
+
+impl WaitingLines {
+    /// Takes what waits longest, or None if nothing waits.
+    pub fn next(&mut self) -> Option<Item>
+        ensures some { IfSome result (λ item. received self.new.items ≡ received self.old.items ++ item ∷ []) }
+        ensures none { IfNone result (received self.new.items ≡ received self.old.items) }
+    {
+        match self.items.pop() {
+            Ok(item) => {
+                self.backlog.went(bytes_of(&item));
+                Some(item)
+            }
+            Err(_) => None,
         }
+    }
+}
+
+// How many bytes an item takes of those that may wait.
+fn bytes_of(item: &Item) -> u64 {
+    match item {
+        Item::Line(line) => line.len() as u64,
+        Item::Dropped(_) => 0,
+    }
+}
+
+impl Drop for LineQueue {
+    fn drop(self) {
         let LineQueue {
-            ring,
-            dropped: _,
+            mut ring,
+            dropped,
             backlog,
         } = self;
+        if dropped.count > 0 {
+            // There is a place for it.
+            let _ = ring.push(Item::Dropped(dropped));
+        }
         drop(ring);
         drop(backlog);
     }
@@ -65,9 +97,10 @@ fn has_room(dropped: u64, lines: usize, bytes: u64, line: usize) -> bool
 
 impl LineQueue {
     /// An empty queue, and its other end. Fails only if an allocation is refused.
-    pub fn new(
-        alloc: Global,
-    ) -> Result<(LineQueue, Consumer<Item>, Arc<Backlog, Global>), AllocError> {
+    pub fn new(alloc: Global) -> Result<(LineQueue, WaitingLines), AllocError>
+        ensures empty { IfOk result (λ ends. (sent ends.0.ring ≡ []) × (ends.0.dropped.count ≡ 0)) }
+        ensures pair { IfOk result (λ ends. IsPair ends.0.ring ends.1.items) }
+    {
         let (ring, items) = RingBuffer::new(alloc, MOST_LINES + 1)?;
         let backlog = Arc::new(alloc, Backlog::new())?;
         let queue = LineQueue {
@@ -78,7 +111,7 @@ impl LineQueue {
             },
             backlog: Arc::try_clone(&backlog)?,
         };
-        Ok((queue, items, backlog))
+        Ok((queue, WaitingLines { items, backlog }))
     }
 
     // Puts what is to be told of dropped lines.
@@ -104,8 +137,28 @@ impl LineQueue {
         };
     }
 
-    /// Puts a line, and returns whether there was room. If there wasn't, the line is dropped.
+    // Puts a line where so many more lines and bytes may wait, or drops it.
     #[tactic(auto, using(crate::proofs::Counting::kept_lines))]
+    fn offer(&mut self, line: String, time: Option<Stamp>, lines: usize, bytes: u64) -> bool
+        requires place { lines < known_free self.old.ring }
+        ensures chosen { result ≡ has_room_for self.old.dropped.count lines bytes (length line.bytes.items) }
+        ensures kept { IsTrue result → IsKept self.old line self.new }
+        ensures dropped { IsFalse result → IsDropped self.old time self.new }
+        ensures accounted { self.old.dropped.count < most_count →
+            accounted_lines self.new ≡ accounted_lines self.old + 1 }
+    {
+        let size = line.len();
+        if !has_room(self.dropped.count, lines, bytes, size) {
+            self.miss(time);
+            return false;
+        }
+        self.backlog.came(size as u64);
+        self.tell_dropped();
+        self.ring.push_reserved(Item::Line(line));
+        true
+    }
+
+    /// Puts a line, and returns whether there was room. If there wasn't, the line is dropped.
     pub fn put(&mut self, line: String, time: Option<Stamp>) -> bool
         ensures kept { IsTrue result → IsKept self.old line self.new }
         ensures dropped { IsFalse result → IsDropped self.old time self.new }
@@ -113,16 +166,13 @@ impl LineQueue {
             accounted_lines self.new ≡ accounted_lines self.old + 1 }
     {
         let slots = self.ring.slots();
-        let bytes = MOST_BYTES.saturating_sub(self.backlog.bytes());
-        let size = line.len();
-        if slots < 2 || !has_room(self.dropped.count, slots - 1, bytes, size) {
+        if slots == 0 {
             self.miss(time);
             return false;
         }
-        self.backlog.came(size as u64);
-        self.tell_dropped();
-        self.ring.push_reserved(Item::Line(line));
+        let bytes = MOST_BYTES.saturating_sub(self.backlog.bytes());
+        let is_kept = self.offer(line, time, slots - 1, bytes);
         self.backlog.ring();
-        true
+        is_kept
     }
 }

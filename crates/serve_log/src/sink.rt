@@ -101,8 +101,8 @@ pub fn open_log<R: Clock + Copy>(
     format: LogFormat,
     has_time: bool,
 ) -> Result<OpenLog<R>, AllocError> {
-    let (queue, items, backlog) = LineQueue::new(alloc)?;
-    let end = LogEnd(Arc::try_clone(&backlog)?);
+    let (queue, lines) = LineQueue::new(alloc)?;
+    let end = LogEnd(Arc::try_clone(&lines.backlog)?);
     let sink = Sink {
         rt: *rt,
         alloc,
@@ -110,14 +110,9 @@ pub fn open_log<R: Clock + Copy>(
         has_time,
         queue: RefCell::new(queue),
     };
-    let writer = LogWriter {
-        items,
-        format,
-        backlog,
-    };
     Ok(OpenLog {
         logger: Logged::new(*rt, most, sink),
-        writer,
+        writer: LogWriter { lines, format },
         end,
     })
 }

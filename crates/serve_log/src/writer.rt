@@ -3,9 +3,8 @@
 use crate::backlog::Backlog;
 use crate::ending::join_in_time;
 use crate::line::Line;
-use crate::queue::{Dropped, Item};
+use crate::queue::{Dropped, Item, WaitingLines};
 use log::Level;
-use rtrb::Consumer;
 use serve_options::LogFormat;
 use std::alloc::Global;
 use std::fmt;
@@ -30,19 +29,15 @@ impl fmt::Display for DroppedLines {
 /// The state of the thread that writes the log.
 #[derive(Drop)]
 pub struct LogWriter {
-    pub(crate) items: Consumer<Item>,
+    pub(crate) lines: WaitingLines,
     pub(crate) format: LogFormat,
-    pub(crate) backlog: Arc<Backlog, Global>,
 }
 
 impl LogWriter {
     // Writes a line, or what is told of dropped ones. What can't be written is dropped.
     fn write<W: Eprint>(&self, to: &W, item: Item) {
         let _ = match item {
-            Item::Line(line) => {
-                self.backlog.went(line.len() as u64);
-                to.eprintln(line.as_str())
-            }
+            Item::Line(line) => to.eprintln(line.as_str()),
             Item::Dropped(dropped) => {
                 let Dropped { count, time } = dropped;
                 let message = DroppedLines(count);
@@ -62,17 +57,17 @@ impl LogWriter {
 pub fn write_log<R: Wait, W: Eprint>(rt: &R, to: &W, writer: LogWriter) {
     let mut writer = writer;
     for _ in rt.forever() {
-        if writer.backlog.is_given_up() {
+        if writer.lines.backlog.is_given_up() {
             break;
         }
-        let is_closed = writer.backlog.is_closed();
-        match writer.items.pop() {
-            Ok(item) => writer.write(to, item),
-            Err(_) if is_closed => break,
-            Err(_) => writer.backlog.wait(rt),
+        let is_closed = writer.lines.backlog.is_closed();
+        match writer.lines.next() {
+            Some(item) => writer.write(to, item),
+            None if is_closed => break,
+            None => writer.lines.backlog.wait(rt),
         }
     }
-    writer.backlog.done.set();
+    writer.lines.backlog.done.set();
 }
 
 /// The end of a log, for the one who has started the thread that writes it.
