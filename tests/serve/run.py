@@ -19,6 +19,7 @@ import time
 from concurrent.futures import ThreadPoolExecutor
 
 sys.dont_write_bytecode = True
+import attacks  # noqa: E402
 import checkpoints  # noqa: E402
 import commands  # noqa: E402
 import forwarded  # noqa: E402
@@ -32,7 +33,7 @@ from server import (  # noqa: E402
     Server, got, hexa, is_closed, reset, wait_until,
 )
 
-MODULES = (commands, sys.modules[__name__], next_leaders, silence, checkpoints)
+MODULES = (commands, sys.modules[__name__], next_leaders, silence, checkpoints, attacks)
 
 
 def test_a_client_reads():

@@ -151,6 +151,8 @@ class Program:
 class Server(Program):
     """A leader, and the program that follows it alone. Before it serves there is only the leader's connection."""
 
+    LEADER = Leader
+
     def __init__(self, *words, serves=True, limit=None):
         self.leader_socket = socket.socket()
         self.leader_socket.bind(("127.0.0.1", 0))
@@ -173,7 +175,7 @@ class Server(Program):
         assert received(self.stream, len(ACK)) == ACK
         self.stream.sendall(UPTODATE)
         assert received(self.stream, len(ACK)) == ACK
-        self.leader = Leader(self.stream)
+        self.leader = self.LEADER(self.stream)
         self.leader.informs(CREATE, CREATE_A)
         # Whoever has a session from now on sees the node.
         with self.client() as client:
