@@ -15,7 +15,7 @@ from server import Server, wait_until
 READER = os.path.join(os.path.dirname(os.path.realpath(__file__)), "reader.py")
 
 # How long an answer may take, in seconds: a PING's, the slowest hundredth of a client's, and the slowest of these.
-# Where the machine has other work it may take as many times as long as other work does.
+# Where the machine has other work, each may take as many times as long as other work does.
 PINGED, SLOW, SLOWEST = 0.3, 0.05, 0.5
 # What may be held during an attack, and left of it afterwards, in megabytes.
 HELD, LEFT = 300, 20
@@ -197,15 +197,15 @@ class Beside:
         return held(server)
 
     def judge(self, reads, pings, work, left):
-        slow, busy, mostly = reads[len(reads) * 99 // 100], max(work), sum(work) / len(work)
+        slow, busy = reads[len(reads) * 99 // 100], sum(work) / len(work)
         told = (
             f"{self.name}: {len(reads)} reads, the slowest hundredth {1000 * slow:.1f} ms, the slowest"
             f" {1000 * reads[-1]:.0f} ms; {len(pings)} PINGs, the slowest {1000 * max(pings):.0f} ms;"
             f" {self.most.memory:.0f} MB, {self.base.memory:.0f} before and {left.memory:.0f} after;"
-            f" {self.most.threads} threads; other work took {mostly:.1f} times as long, at most {busy:.1f}"
+            f" {self.most.threads} threads; other work took {busy:.1f} times as long"
         )
         print("  " + told, flush=True)
-        assert slow < SLOW * mostly, told
+        assert slow < SLOW * busy, told
         assert reads[-1] < SLOWEST * busy, told
         assert max(pings) < PINGED * busy, told
         assert self.most.memory < self.most_held, told

@@ -20,6 +20,7 @@ from concurrent.futures import ThreadPoolExecutor
 
 sys.dont_write_bytecode = True
 import attacks  # noqa: E402
+import attacks_on_memory  # noqa: E402
 import checkpoints  # noqa: E402
 import commands  # noqa: E402
 import forwarded  # noqa: E402
@@ -33,7 +34,7 @@ from server import (  # noqa: E402
     Server, got, hexa, is_closed, reset, wait_until,
 )
 
-MODULES = (commands, sys.modules[__name__], next_leaders, silence, checkpoints, attacks)
+MODULES = (commands, sys.modules[__name__], next_leaders, silence, checkpoints, attacks, attacks_on_memory)
 
 
 def test_a_client_reads():
@@ -649,11 +650,12 @@ def test_a_load_of_all_kinds():
 
 
 def tests():
-    """Yields each test with its name, module by module."""
+    """Yields each test with its name, module by module; by `--long` those that take a minute, too."""
+    prefixes = ("test_", "long_test_") if several.LONG else ("test_",)
     for module in MODULES:
         for name, it in list(vars(module).items()):
-            if name.startswith("test_"):
-                yield name[len("test_") :], it
+            if name.startswith(prefixes):
+                yield name.partition("test_")[2], it
 
 
 def main(words):
