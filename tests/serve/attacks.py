@@ -182,7 +182,7 @@ def test_long_requests_over_and_over():
     with Attacked() as server:
         path = listed(server.leader, 100_000)
         asked = {
-            "setWatches of 80,000 paths": (watches(paths(0, 80_000)), 1),
+            "setWatches of 20,000 paths": (watches(paths(0, 20_000)), 1),
             "lists of 100,000 names": (16 * list_of(path), 16),
             "auths of 1 MB": (auth(1_000_000), 1),
         }
@@ -195,9 +195,13 @@ def test_long_requests_over_and_over():
 def test_many_watches():
     """One connection leaves watch after watch."""
     with Attacked() as server:
-        # What they take isn't bounded.
+        count = scaled(50_000, 950_000)
+        # Memory that the C library keeps after some is used for the next ones.
+        watching(server.client(), count, 10_000).close()
+        assert server.is_at_base(60)
+        # How many there may be isn't bounded.
         with Beside("many watches of one connection", server, most_held=1000) as beside:
-            watching(beside.client(), scaled(100_000, 950_000), 10_000)
+            watching(beside.client(), count, 10_000)
 
 
 def test_small_requests_and_then_long_ones():

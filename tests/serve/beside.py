@@ -14,8 +14,9 @@ from server import Server, wait_until
 
 READER = os.path.join(os.path.dirname(os.path.realpath(__file__)), "reader.py")
 
-# How long an answer may take, in seconds: a PING's, the slowest hundredth of a client's, and the slowest of these.
-# Where the machine has other work, each may take as many times as long as other work does.
+# How long an answer may take, in seconds: a PING's, the slowest hundredth of a client's, and the slowest of all.
+# Where the machine has other work, each may take as many times as long as other work does, and that many hundredths may
+# be slow, since a client reads less often then.
 PINGED, SLOW, SLOWEST = 0.3, 0.05, 0.5
 # What may be held during an attack, and left of it afterwards, in megabytes.
 HELD, LEFT = 300, 20
@@ -80,7 +81,8 @@ class Apart:
 
 
 class Pinging:
-    """A leader's PINGs, each half a second after the last one was answered."""
+    """A leader's PINGs, each half a second after the last one was answered. That the leader takes its time for what
+    comes before an answer isn't counted."""
 
     def __init__(self, leader):
         self.leader, self.took, self.wrong, self.stopped = leader, [], None, threading.Event()
@@ -92,10 +94,10 @@ class Pinging:
             while not self.stopped.wait(0.5):
                 # What the leader sends for an attack goes before, and isn't counted.
                 with self.leader.lock:
-                    began = time.monotonic()
+                    began = time.monotonic() - self.leader.worked
                     self.leader.send(packet(PING, self.leader.zxid()))
                 self.leader.pings.get(timeout=MOST)
-                self.took.append(time.monotonic() - began)
+                self.took.append(time.monotonic() - self.leader.worked - began)
         except Exception as why:  # whoever stops this is told
             self.wrong = why
 
@@ -197,9 +199,10 @@ class Beside:
         return held(server)
 
     def judge(self, reads, pings, work, left):
-        slow, busy = reads[len(reads) * 99 // 100], sum(work) / len(work)
+        busy = max(1.0, sum(work) / len(work))
+        slow = reads[int(len(reads) * max(0.0, 1 - 0.01 * busy))]
         told = (
-            f"{self.name}: {len(reads)} reads, the slowest hundredth {1000 * slow:.1f} ms, the slowest"
+            f"{self.name}: {len(reads)} reads, slow from {1000 * slow:.1f} ms on, the slowest"
             f" {1000 * reads[-1]:.0f} ms; {len(pings)} PINGs, the slowest {1000 * max(pings):.0f} ms;"
             f" {self.most.memory:.0f} MB, {self.base.memory:.0f} before and {left.memory:.0f} after;"
             f" {self.most.threads} threads; other work took {busy:.1f} times as long"

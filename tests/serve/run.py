@@ -7,6 +7,7 @@ of these load it together with clients that pipeline; and leaders that fault, or
 is crates/replay_runner/out/replay_runner where none is named. The last line is `N passed, M failed`.
 """
 import os
+import queue
 import random
 import resource
 import socket
@@ -421,7 +422,7 @@ def test_the_end_with_writes_waiting():
     with Server() as server:
         clients = [server.client() for _ in range(50)]
         for client in clients:
-            client.sendall(forwarded.create(1, b"/b") + GET + forwarded.sync(2, b"/") + PING)
+            client.sendall(forwarded.create(1, b"/b") + forwarded.sync(2, b"/") + PING + GET)
         for _ in range(100):
             server.leader.asked()
         server.ends()
@@ -525,12 +526,13 @@ def test_pings_keep_sessions():
             assert len(received(idle, PINGED_LEN)) == PINGED_LEN
             assert server.leader.pinged() == [(pinging, 10000)]
         assert server.leader.pinged() == []
-        # What was held after a connect touches nothing, and what comes then does.
+        # What comes with a connect is taken after its answer, and touches the session.
         server.leader.creates = False
         joining.sendall(forwarded.CONNECT + PING)
         server.leader.create(server.leader.asked())
         joined = forwarded.connected(joining).id
-        assert len(received(joining, PINGED_LEN)) == PINGED_LEN and server.leader.pinged() == []
+        assert len(received(joining, PINGED_LEN)) == PINGED_LEN and server.leader.pinged() == [(joined, 10000)]
+        assert server.leader.pinged() == []
         assert server.answers(joining) and server.answers(silent)
         assert server.leader.pinged() == [(reading, 10000), (joined, 10000)]
         for client in (idle, silent, joining):
@@ -538,55 +540,61 @@ def test_pings_keep_sessions():
         server.ends()
 
 
+def write_and_read(client, count, runs, free):
+    """Creates nodes in runs of some, each followed by reads of the same nodes."""
+    chance, first = random.Random(12), 0
+    while first < count:
+        run = range(first, min(first + chance.randint(1, 8), count))
+        for _ in run:
+            assert free.acquire(timeout=10), f"no answers before {run}"
+        nodes = [(turn, b"/n%d" % turn) for turn in run]
+        runs.put(run)
+        client.sendall(b"".join(forwarded.create(2 * turn, path, path) for turn, path in nodes))
+        client.sendall(b"".join(forwarded.get_data(2 * turn + 1, path) for turn, path in nodes))
+        first = run.stop
+
+
+def lead_writes(leader, count, zxids):
+    """Does what comes, several at once where they are there, with transactions of others between."""
+    chance = random.Random(11)
+    while len(zxids) < count:
+        requests = [leader.asked()]
+        while not leader.requests.empty() and chance.randrange(8):
+            requests.append(leader.asked())
+        told = b""
+        with leader.lock:
+            for request in requests:
+                if chance.randrange(3) == 0:
+                    told += leader.made(ERROR, struct.pack(">i", -110))
+                told += leader.done(request)
+                zxids.append(EPOCH_1 + leader.last)
+            leader.send(told)
+
+
 def test_pipelined_writes_are_answered_in_order():
     count, ahead = 1000, 400
-    chance = random.Random(11)
-    with Server() as server:
-        client = server.connection()
-        forwarded.joined(client)
-        free, zxids, went_wrong = threading.Semaphore(ahead), [], []
-
-        def lead():
-            """Does what comes, several at once, with transactions of others between."""
-            done = 0
-            while done < count:
-                requests = [server.leader.asked()]
-                while done + len(requests) < count and chance.randrange(8):
-                    requests.append(server.leader.asked())
-                told = b""
-                with server.leader.lock:
-                    for request in requests:
-                        if chance.randrange(3) == 0:
-                            told += server.leader.made(ERROR, struct.pack(">i", -110))
-                        told += server.leader.done(request)
-                        zxids.append(EPOCH_1 + server.leader.last)
-                    server.leader.send(told)
-                done += len(requests)
-
-        def ask():
-            for turn in range(count):
-                free.acquire()
-                path = b"/n%d" % turn
-                client.sendall(forwarded.create(2 * turn, path, path) + forwarded.get_data(2 * turn + 1, path))
-
-        def tried(job):
-            try:
-                job()
-            except Exception as why:
-                went_wrong.append(why)
-
-        threads = [threading.Thread(target=tried, args=(it,), daemon=True) for it in (lead, ask)]
-        for thread in threads:
-            thread.start()
-        for turn in range(count):
-            path = forwarded.buffer(b"/n%d" % turn)
-            written, read = forwarded.replied(client), forwarded.replied(client)
-            assert written == (2 * turn, zxids[turn], 0, path), (written, went_wrong)
-            assert read[:3] == (2 * turn + 1, zxids[turn], 0) and read.body.startswith(path), (read, went_wrong)
-            free.release()
-        for thread in threads:
-            thread.join()
-        assert not went_wrong, went_wrong
+    with Server() as server, ThreadPoolExecutor(2) as pool:
+        client = server.client()
+        free, runs, zxids = threading.Semaphore(ahead), queue.Queue(), []
+        jobs = [
+            pool.submit(lead_writes, server.leader, count, zxids),
+            pool.submit(write_and_read, client, count, runs, free),
+        ]
+        done = 0
+        while done < count:
+            run = runs.get(timeout=10)
+            for turn in run:
+                written = forwarded.replied(client)
+                assert written == (2 * turn, zxids[turn], 0, forwarded.buffer(b"/n%d" % turn)), written
+            # What is read shows all of the run's writes, and none of the next one's.
+            for turn in run:
+                read = forwarded.replied(client)
+                assert read[:3] == (2 * turn + 1, zxids[run[-1]], 0), read
+                assert read.body.startswith(forwarded.buffer(b"/n%d" % turn)), read
+                free.release()
+            done = run.stop
+        for job in jobs:
+            job.result()
         client.close()
         server.ends()
 
@@ -615,7 +623,8 @@ def test_recorded_writes_replay():
 
 
 def test_a_load_of_all_kinds():
-    with Server() as server:
+    # Some say nothing for as long as the others take.
+    with Server("--unconnected", "0") as server:
         assert server.is_at_base(load.SECONDS), server.threads()
         base, before = server.descriptors(), server.memory()
         nodes = [load.made(server.leader, size) for size in (0, 2, 100, 900)]
