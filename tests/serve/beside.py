@@ -50,9 +50,11 @@ class Stalling(Leader):
 
 
 class Attacked(Server):
-    """The program that is attacked."""
+    """The program that is attacked. The C library gives memory back to the system as soon as it is freed, and keeps
+    none for the next use, so that it is seen what the program holds."""
 
     LEADER = Stalling
+    ENVIRONMENT = {"MALLOC_MMAP_THRESHOLD_": "131072"}
 
     def __init__(self, *words):
         super().__init__(*words, limit=limited)

@@ -74,10 +74,14 @@ class Program:
     """The program as a server: a process, what it holds, and its client port."""
 
     PROGRAM = os.path.join(TOP, "crates", "replay_runner", "out", "replay_runner")
+    # What its environment has besides.
+    ENVIRONMENT = {}
 
     def start(self, words, errors, limit=None):
-        words = [self.PROGRAM, "serve", *words]
-        self.program = subprocess.Popen(words, stdout=subprocess.PIPE, stderr=errors, preexec_fn=limit)
+        words, environment = [self.PROGRAM, "serve", *words], {**os.environ, **self.ENVIRONMENT}
+        self.program = subprocess.Popen(
+            words, stdout=subprocess.PIPE, stderr=errors, preexec_fn=limit, env=environment
+        )
 
     def takes_clients(self):
         """Waits until it says on which port."""
