@@ -5,8 +5,9 @@ import forwarded
 import load
 from attacks import scaled
 from beside import LEFT, Attacked, Beside
+from bounds import connection_from, is_let_in
 from leader import CREATE_SESSION, received
-from server import CONNECT, CONNECTED_LEN, is_closed, wait_until
+from server import CONNECT, is_closed, wait_until
 
 MEGABYTE = 1_000_000
 # So many bytes wait for the leader while nothing more is taken of clients, in megabytes; and for that a test allows a
@@ -168,32 +169,10 @@ def test_connections_that_say_nothing():
                 assert is_closed(it)
 
 
-def has_been_closed(connection):
-    connection.setblocking(False)
-    try:
-        return connection.recv(1) == b""
-    except BlockingIOError:
-        return False
-    except ConnectionError:
-        return True
-
-
-def is_let_in(connection):
-    """Returns whether a connection gets a session."""
-    try:
-        connection.sendall(CONNECT)
-        return len(received(connection, CONNECTED_LEN)) == CONNECTED_LEN
-    except ConnectionError:
-        return False
-
-
 def test_many_connections_of_one_address():
     with Attacked("--max-per-address", "20") as server:
         with Beside("100 connections of one address", server) as beside:
-            many = [beside.connection_from("127.0.0.2") for _ in range(100)]
-            assert wait_until(lambda: sum(map(has_been_closed, many)) == 80, 5), "others than 20 are left"
+            many = [connection_from(server, "127.0.0.2") for _ in range(100)]
+            beside.connections += many
+            assert sum(map(is_let_in, many)) == 20
             assert server.is_serving() and server.word(b"ruok") == b"imok"
-            # Where one goes, another one may come.
-            for it in many:
-                it.close()
-            assert wait_until(lambda: is_let_in(beside.connection_from("127.0.0.2")), 5)

@@ -2,7 +2,6 @@
 import json
 import os
 import resource
-import socket
 import subprocess
 import sys
 import threading
@@ -164,11 +163,6 @@ class Beside:
 
     def connection(self):
         self.connections.append(self.server.connection())
-        return self.connections[-1]
-
-    def connection_from(self, address):
-        """Returns a connection that comes from another address of this machine."""
-        self.connections.append(socket.create_connection(("127.0.0.1", self.server.port), 10, (address, 0)))
         return self.connections[-1]
 
     def client(self):

@@ -22,6 +22,7 @@ from concurrent.futures import ThreadPoolExecutor
 sys.dont_write_bytecode = True
 import attacks  # noqa: E402
 import attacks_on_memory  # noqa: E402
+import bounds  # noqa: E402
 import checkpoints  # noqa: E402
 import commands  # noqa: E402
 import forwarded  # noqa: E402
@@ -35,7 +36,9 @@ from server import (  # noqa: E402
     Server, got, hexa, is_closed, reset, wait_until,
 )
 
-MODULES = (commands, sys.modules[__name__], next_leaders, silence, checkpoints, attacks, attacks_on_memory)
+MODULES = (
+    commands, sys.modules[__name__], next_leaders, silence, checkpoints, bounds, attacks, attacks_on_memory,
+)
 
 
 def test_a_client_reads():
@@ -623,7 +626,7 @@ def test_recorded_writes_replay():
 
 
 def test_a_load_of_all_kinds():
-    # Some say nothing for as long as the others take.
+    # Connections that say nothing stay for as long as the load.
     with Server("--unconnected", "0") as server:
         assert server.is_at_base(load.SECONDS), server.threads()
         base, before = server.descriptors(), server.memory()

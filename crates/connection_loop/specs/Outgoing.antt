@@ -5,6 +5,7 @@ use Rattle.client_service.specs.declared.output.Output.{Output}
 use Rattle.client_service.specs.declared.output.Output.TheVariants.{ToLeader, ToClient, CloseLeader, CloseClient}
 use Rattle.intake.specs.declared.port.PortEnd.{PortEnd}
 use Rattle.intake.specs.Ports.{sent_through, received_through, SamePort}
+use Rattle.connection_loop.specs.Windows.{Window, with_outputs_noted}
 
 pub record Unwritten : Type 0 where
   -- In the order in which they are written.
@@ -28,10 +29,11 @@ with_outputs u [] = u
 with_outputs u (o ∷ os) = with_outputs (with_output u o) os
 
 -- Outputs were received from the port, and are to be written after what was there.
-pub record HasGathered (old new : Unwritten) (before after : PortEnd) (found : Bool) : Type 0 where
+pub record HasGathered (old new : Unwritten) (counted counts : Window) (before after : PortEnd) (found : Bool) : Type 0 where
   pub outputs : List Output
   pub port : SamePort before after
   pub sent : sent_through after ≡ sent_through before
   pub received : received_through after ≡ received_through before ++ outputs
   pub unwritten : new ≡ with_outputs old outputs
+  pub answers : counts ≡ with_outputs_noted counted outputs
   pub some : IsTrue found ↔ (outputs ≢ [])

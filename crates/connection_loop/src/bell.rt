@@ -18,6 +18,7 @@ const WAITING: u64 = 2;
 pub struct Bell {
     state: AtomicU64,
     stopped: AtomicBool,
+    hurried: AtomicBool,
     abandoned: AtomicBool,
     waker: Waker,
 }
@@ -27,6 +28,7 @@ impl Bell {
         Bell {
             state: AtomicU64::new(EMPTY),
             stopped: AtomicBool::new(false),
+            hurried: AtomicBool::new(false),
             abandoned: AtomicBool::new(false),
             waker,
         }
@@ -59,6 +61,12 @@ impl Bell {
         self.ring();
     }
 
+    /// Tells the session that it is to close: it waits only a short time for a peer that doesn't read.
+    pub fn hurry(&self) {
+        self.hurried.store(true, Ordering::SeqCst);
+        self.ring();
+    }
+
     /// Has the session end while no thread takes what it sends.
     pub fn abandon(&self) {
         self.abandoned.store(true, Ordering::SeqCst);
@@ -67,6 +75,10 @@ impl Bell {
 
     pub fn is_stopped(&self) -> bool {
         self.stopped.load(Ordering::SeqCst)
+    }
+
+    pub fn is_hurried(&self) -> bool {
+        self.hurried.load(Ordering::SeqCst)
     }
 
     pub fn is_abandoned(&self) -> bool {

@@ -1,13 +1,14 @@
 //! The bytes of a connection, until they are sent on.
 
-ghost use Rattle.std.specs.Prelude.{◌≡◌, ◌≢◌, ◌≤◌, ◌<◌, ◌+◌, ◌-◌, ◌/◌, ◌↔◌, IfSome, IsSome, IsTrue, IfOk, OnOk, OnErr, length, take, drop, vec_len};
+ghost use Rattle.std.specs.Prelude.{◌≡◌, ◌≢◌, ◌≤◌, ◌<◌, ◌+◌, ◌-◌, ◌/◌, ◌↔◌, IfSome, IsSome, IsTrue, true, IfOk, OnOk, OnErr, length, take, drop, vec_len};
 ghost use Rattle.std.specs.Bool.{OnFalse};
 ghost use Rattle.std.specs.Io.{StartsWith, appended_bytes};
 ghost use Rattle.std.specs.Io.KnownBytes.{Keeps, Consumes, IsAtEnd};
-ghost use Rattle.connection_loop.specs.Frames.{whole_frames_length};
-ghost use Rattle.connection_loop.specs.Incoming.{buffer_length, nothing_unsent, first_frame_length, piece_for_client, last_piece, next_piece};
+ghost use Rattle.connection_loop.specs.Frames.{whole_frames_length, frames_going};
+ghost use Rattle.connection_loop.specs.Incoming.{buffer_length, nothing_unsent, first_frame_length, may_begin, piece_for_client, last_piece, next_piece};
 
-use crate::frames::whole_frames;
+use crate::frames::{frames_going, goes_with, whole_frames};
+use crate::kind::{after_int, kind_of_frame};
 use std::alloc::Global;
 use std::io;
 use std::io::Read;
@@ -16,10 +17,6 @@ use values::{Blob, NoMemory};
 
 /// The most bytes that are read at once and wait to be sent on.
 pub const READ_LEN: usize = 16_384;
-
-/// The most whole frames that are sent on at once. So a client gets at most this many answers in one turn of the hub,
-/// however much it sends.
-pub const FRAMES_AT_ONCE: usize = 16;
 
 /// How a connection's bytes are cut into messages.
 #[derive(Clone, Copy, Debug, PartialEq, Eq)]
@@ -34,6 +31,8 @@ pub enum Cutting {
 #[derive(Clone, Copy, Debug, PartialEq, Eq)]
 pub struct Piece {
     pub len: usize,
+    /// The number of frames that begin in it, as far as frames are cut.
+    pub frames: usize,
     /// Whether a frame ends in it.
     pub ends_frame: bool,
     /// The number of bytes of its last frame that come after it, if that frame is longer than the buffer.
@@ -77,40 +76,53 @@ fn frame_len(bytes: &[u8]) -> usize
     }
 }
 
+// Whether a frame that fills the buffer may be sent on. All of its bytes come as pieces of their own.
+fn may_begin(waiting: &[u8], most: usize, settled: bool) -> bool
+    ensures { result ≡ may_begin most settled waiting.now }
+{
+    most > 0 && goes_with(kind_of_frame(after_int(waiting)), settled)
+}
+
 // The next piece of a client's bytes. The first `missing` bytes belong to a frame that was sent on in part.
-fn next_frames(waiting: &[u8], missing: usize) -> Option<Piece>
+fn next_frames(waiting: &[u8], missing: usize, most: usize, settled: bool) -> Option<Piece>
     requires { 0 < length waiting.now }
-    ensures piece { result ≡ piece_for_client waiting.now missing }
-    ensures frames { missing ≡ 0
-        → IfSome result (λ p. IsTrue p.ends_frame → p.len ≡ whole_frames_length 16 waiting.now) }
+    ensures piece { result ≡ piece_for_client most settled waiting.now missing }
+    ensures frames { missing ≡ 0 → IfSome result
+        (λ p. IsTrue p.ends_frame → p.len ≡ whole_frames_length (frames_going most settled waiting.now) waiting.now) }
+    ensures most { IfSome result (λ p. p.frames ≤ most) }
     ensures rest { missing ≢ 0 → IfSome result (λ p. p.len + p.missing ≡ missing) }
     ensures within { IfSome result (λ p. (0 < p.len) × (p.len ≤ length waiting.now)) }
-    ensures full { buffer_length ≤ length waiting.now → IsSome result }
+    ensures full { buffer_length ≤ length waiting.now → 0 < most → settled ≡ true → IsSome result }
     ensures ends { IfSome result (λ p. IsTrue p.ends_frame ↔ (p.missing ≡ 0)) }
 {
     if missing > 0 {
         let len = waiting.len().min(missing);
         return Some(Piece {
             len,
+            frames: 0,
             ends_frame: len == missing,
             missing: missing - len,
         });
     }
-    let len = whole_frames(waiting, FRAMES_AT_ONCE);
+    let frames = frames_going(waiting, most, settled);
+    let len = whole_frames(waiting, frames);
     if len > 0 {
         return Some(Piece {
             len,
+            frames,
             ends_frame: true,
             missing: 0,
         });
     }
-    if waiting.len() < READ_LEN {
+    let missing = frame_len(waiting).saturating_sub(waiting.len());
+    if waiting.len() < READ_LEN || missing == 0 || !may_begin(waiting, most, settled) {
         return None;
     }
     Some(Piece {
         len: waiting.len(),
+        frames: 1,
         ends_frame: false,
-        missing: frame_len(waiting).saturating_sub(waiting.len()),
+        missing,
     })
 }
 
@@ -172,14 +184,21 @@ impl Incoming {
         &self.buffer[self.start..self.end]
     }
 
+    /// Whether something can be sent on, once all frames before it are answered.
+    pub fn is_ready(&self) -> bool
+        ensures { IsTrue result ↔ IsSome (next_piece self.now 1 true) }
+    {
+        self.next(1, true).is_some()
+    }
+
     /// Whether nothing more has to be read before something is sent on: a piece is ready, and more than half of the
     /// buffer waits.
     pub fn is_full(&self) -> bool
         ensures full { IsTrue result
-            ↔ ((buffer_length / 2 < length self.now.bytes) × IsSome (next_piece self.now)) }
+            ↔ ((buffer_length / 2 < length self.now.bytes) × IsSome (next_piece self.now 1 true)) }
         ensures room { OnFalse result (length self.now.bytes < buffer_length) }
     {
-        self.waiting().len() > READ_LEN / 2 && self.next().is_some()
+        self.waiting().len() > READ_LEN / 2 && self.is_ready()
     }
 
     /// Reads as much as there is room for, which mustn't be none, and adds it at the end. Returns the number of bytes,
@@ -205,11 +224,14 @@ impl Incoming {
         Ok(count)
     }
 
-    /// The next piece to send on. A client's frame waits until it is complete, or fills the buffer.
-    pub fn next(&self) -> Option<Piece>
-        ensures piece { result ≡ next_piece self.now }
+    /// The next piece to send on: of a client's bytes at most `most` frames, and those that wait for the answers before
+    /// them only if it is `settled` that all are answered. A frame waits until it is complete, or fills the buffer; the
+    /// rest of one that was sent on in part doesn't wait.
+    pub fn next(&self, most: usize, settled: bool) -> Option<Piece>
+        ensures piece { result ≡ next_piece self.now most settled }
+        ensures most { self.now.cutting ≡ Cutting.Frames → IfSome result (λ p. p.frames ≤ most) }
         ensures within { IfSome result (λ p. (0 < p.len) × (p.len ≤ length self.now.bytes)) }
-        ensures full { buffer_length ≤ length self.now.bytes → IsSome result }
+        ensures full { buffer_length ≤ length self.now.bytes → 0 < most → settled ≡ true → IsSome result }
         ensures ends { self.now.cutting ≡ Cutting.Frames
             → IfSome result (λ p. IsTrue p.ends_frame ↔ (p.missing ≡ 0)) }
     {
@@ -218,7 +240,7 @@ impl Incoming {
             return None;
         }
         match self.cutting {
-            Cutting::Frames => next_frames(waiting, self.missing),
+            Cutting::Frames => next_frames(waiting, self.missing, most, settled),
             Cutting::Reads => self.last(),
         }
     }
@@ -235,6 +257,7 @@ impl Incoming {
         }
         Some(Piece {
             len,
+            frames: 0,
             ends_frame: false,
             missing: 0,
         })

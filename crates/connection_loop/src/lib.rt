@@ -15,11 +15,18 @@
 mod bell;
 mod frames;
 mod incoming;
+mod kind;
+mod limits;
 mod outgoing;
+mod patience;
+mod rest;
 mod session;
 mod waiting;
+mod window;
 
 pub use bell::Bell;
 pub use frames::whole_frames;
+pub use limits::{AllowedWords, SessionLimits};
+pub use rest::Rest;
 pub use session::{LeaderGone, leader_loop, session_loop};
 pub use waiting::{Sides, Waiting, Writing, split};

@@ -1,9 +1,10 @@
 //! The bytes to send to a connection, until they are written.
 
-ghost use Rattle.std.specs.Prelude.{◌≡◌, ◌↔◌, ◌≤◌, [], IfOk, OnOk, OnErr, IsTrue, drop, length};
+ghost use Rattle.std.specs.Prelude.{◌≡◌, ◌↔◌, ◌≤◌, ◌++◌, [], true, IfOk, OnOk, OnErr, IsTrue, drop, length};
 ghost use Rattle.std.specs.Io.KnownBytes.{WriteAppends};
 ghost use Rattle.connection_loop.specs.Outgoing.{nothing_unwritten, with_output, HasGathered};
 
+use crate::window::Window;
 use intake::Port;
 use observer_core::Output;
 use std::alloc::Global;
@@ -110,10 +111,11 @@ impl Outgoing {
     }
 
     /// Gathers the port's outputs while they are few, up to one that closes the connection. All gathered before has to
-    /// be written. Returns whether there was an output. Fails only if an allocation is refused.
-    pub fn gather(&mut self, port: &mut Port) -> Result<bool, NoMemory>
+    /// be written. The window counts the answers among them. Returns whether there was an output. Fails only if an
+    /// allocation is refused.
+    pub fn gather(&mut self, port: &mut Port, window: &mut Window) -> Result<bool, NoMemory>
         requires { self.old.bytes ≡ [] }
-        ensures { IfOk result (HasGathered self.old self.new port.old port.new) }
+        ensures { IfOk result (HasGathered self.old self.new window.old window.new port.old port.new) }
     {
         self.clear();
         let mut found = false;
@@ -124,10 +126,22 @@ impl Outgoing {
             let Some(output) = port.receive() else {
                 break;
             };
+            window.note(&output);
             self.put(output)?;
             found = true;
         }
         Ok(found)
+    }
+
+    /// Adds the last bytes for the connection, which aren't an output's: it closes after them. Fails only if an
+    /// allocation is refused, and changes nothing then.
+    pub fn put_last(&mut self, bytes: &[u8]) -> Result<(), NoMemory>
+        ensures ok { OnOk result (self.new ≡ record self.old { bytes = self.old.bytes ++ bytes.now; closing = true }) }
+        ensures err { OnErr result (self.new ≡ self.old) }
+    {
+        self.bytes.extend_from_slice(bytes)?;
+        self.closing = true;
+        Ok(())
     }
 
     /// Writes the rest, as far as the writer takes it, and returns the number of bytes.

@@ -1,14 +1,17 @@
 //! The loop of a connection's thread.
 
 use crate::incoming::{Cutting, Incoming};
+use crate::limits::SessionLimits;
 use crate::outgoing::Outgoing;
-use crate::waiting::LONGEST_REST;
+use crate::patience::Waits;
+use crate::rest::Rest;
+use crate::window::Window;
 use intake::{Full, Message, Port, PortEnd};
 use observer_core::Output;
 use std::alloc::Global;
 use std::io::{ErrorKind, Read, Write};
 use std::sync::Wait;
-use std::time::{Clock, Duration};
+use std::time::{Clock, Duration, Instant};
 use std::{io, thread};
 use values::{Fault, NoMemory};
 
@@ -34,32 +37,40 @@ enum Step {
     Over,
 }
 
-// How long a session waits for the answers to what came before the end of its stream, in milliseconds.
-const LAST_WAIT: u64 = 2 * LONGEST_REST;
+// What comes after the word in the answer to one that isn't allowed.
+const NOT_ALLOWED: &[u8] = b" is not executed because it is not in the whitelist.\n";
 
-// A thread whose reader doesn't wait yields this often, and then sleeps for a millisecond at a time.
-const YIELDS: u64 = 20;
+/// The longest wait for bytes, in milliseconds. A wake that is lost costs no more than this, and an idle thread wakes
+/// no more often.
+const LONGEST_WAIT: u64 = 10_000;
+
+/// The longest wait for the hub or for room to write, in milliseconds.
+const LONGEST_REST: u64 = 1000;
 
 // A connection with its streams and its port.
 #[derive(Drop)]
 struct Session {
     alloc: Global,
+    limits: SessionLimits,
+    start: Option<Instant>,
     port: Port,
     incoming: Incoming,
     outgoing: Outgoing,
+    // The client's frames that wait for their answers.
+    window: Window,
     // A message for which there was no room.
     held: Option<Message>,
     // Frames were sent on, and no others are sent before these are taken.
     untaken: bool,
-    // Frames were sent on, and no answer has come since.
-    unanswered: bool,
+    // What is written is the session's own, and no output.
+    refuses: bool,
     // The stream brings no more.
     ended: bool,
+    // Since when there is nothing to do, in milliseconds since the start.
+    idle_since: Option<u64>,
     // The fault for which the engine refused the last bytes of a connection that has ended.
     late_fault: Option<Fault>,
     wants_memory: bool,
-    // For how many milliseconds, about, there was nothing to do.
-    rested: u64,
 }
 
 // Whether the call is only to be made again.
@@ -71,19 +82,38 @@ fn is_passing(error: &io::Error) -> bool {
 }
 
 impl Session {
-    fn new(alloc: Global, cutting: Cutting, port: Port) -> Session {
+    fn new<T: Clock>(
+        rt: &T,
+        alloc: Global,
+        cutting: Cutting,
+        limits: SessionLimits,
+        port: Port,
+    ) -> Session {
         Session {
             alloc,
+            limits,
+            start: Instant::now(rt).ok(),
             port,
             incoming: Incoming::new(alloc, cutting),
             outgoing: Outgoing::new(alloc),
+            window: Window::new(),
             held: None,
             untaken: false,
-            unanswered: false,
+            refuses: false,
             ended: false,
+            idle_since: None,
             late_fault: None,
             wants_memory: false,
-            rested: 0,
+        }
+    }
+
+    // The milliseconds since the start. While the clock can't be read, time stands still.
+    fn now<T: Clock>(&self, rt: &T) -> u64 {
+        match (self.start, Instant::now(rt)) {
+            (Some(start), Ok(now)) => {
+                u64::try_from(now.duration_since(start).as_millis()).unwrap_or(u64::MAX)
+            }
+            _ => self.idle_since.unwrap_or(0),
         }
     }
 
@@ -111,12 +141,9 @@ impl Session {
     // Gathers outputs, and writes as much as the stream takes.
     fn write<W: Write>(&mut self, writer: &mut W) -> Step {
         if self.outgoing.is_written() {
-            match self.outgoing.gather(&mut self.port) {
-                Ok(found) => {
-                    if found {
-                        self.unanswered = false;
-                    }
-                }
+            match self.outgoing.gather(&mut self.port, &mut self.window) {
+                Ok(true) => self.idle_since = None,
+                Ok(false) => {}
                 Err(NoMemory) => return self.want_memory(),
             }
         }
@@ -129,9 +156,38 @@ impl Session {
         }
         match self.outgoing.write_to(writer) {
             Ok(0) => Step::Over,
-            Ok(_) => Step::Done,
+            Ok(count) => {
+                if !self.refuses {
+                    self.port.written(count);
+                }
+                Step::Done
+            }
             Err(error) if is_passing(&error) => Step::Idle,
             Err(_) => Step::Over,
+        }
+    }
+
+    // The word that the connection begins with, if it isn't allowed.
+    fn refused_word(&self) -> Option<[u8; 4]> {
+        if !self.window.is_new() {
+            return None;
+        }
+        match self.incoming.waiting().first_chunk::<4>() {
+            Some(word) if self.limits.words.refuses(*word) => Some(*word),
+            _ => None,
+        }
+    }
+
+    // Says that the word isn't allowed, and closes the connection.
+    fn refuse(&mut self, word: [u8; 4]) -> Step {
+        self.refuses = true;
+        let said = self
+            .outgoing
+            .put_last(&word)
+            .and_then(|()| self.outgoing.put_last(NOT_ALLOWED));
+        match said {
+            Ok(()) => Step::Done,
+            Err(NoMemory) => self.want_memory(),
         }
     }
 
@@ -141,58 +197,57 @@ impl Session {
             return Step::Idle;
         }
         self.untaken = false;
-        let mut next = self.incoming.next();
-        if next.is_none() && self.ended {
+        let settled = self.window.is_settled();
+        let mut next = self.incoming.next(self.window.room(), settled);
+        if next.is_none() && self.ended && !self.incoming.is_ready() {
             next = self.incoming.last();
         }
         let Some(piece) = next else {
             return Step::Idle;
         };
+        if let Some(word) = self.refused_word() {
+            return self.refuse(word);
+        }
         let Ok(bytes) = self.incoming.take(self.alloc, piece) else {
             return self.want_memory();
         };
-        if piece.ends_frame {
-            self.untaken = true;
-            self.unanswered = true;
-        }
+        self.window.send(piece.frames);
+        self.untaken = piece.ends_frame;
         self.send(Message::Bytes(bytes));
         Step::Done
     }
 
-    // Waits until there may be something to do, if the reader waits.
-    fn rest<T: Clock, R: Read>(&mut self, rt: &T, reader: &mut R) -> io::Result<()> {
-        match reader.read(&mut []) {
-            Ok(_) => {
-                self.rested = self.rested.saturating_add(1);
-                if self.rested < YIELDS {
-                    thread::yield_now();
-                } else {
-                    thread::sleep(rt, Duration::from_millis(1));
-                }
-                Ok(())
-            }
-            Err(error) if is_passing(&error) => {
-                self.rested = self.rested.saturating_add(LONGEST_REST);
-                Ok(())
-            }
-            Err(error) => Err(error),
+    // Waits until there may be something to do, but not past the nearest limit.
+    fn rest<T: Clock, R: Rest>(&mut self, rt: &T, reader: &mut R, longest: u64) -> Step {
+        let now = self.now(rt);
+        let since = self.idle_since.unwrap_or(now);
+        self.idle_since = Some(since);
+        let waits = Waits {
+            since,
+            connecting: self.window.is_connecting(),
+            unread: !self.outgoing.is_written(),
+            closing: self.outgoing.is_closing() || reader.is_hurried(),
+            ended: self.ended && !self.untaken,
+        };
+        let left = match waits.deadline(self.limits) {
+            None => longest,
+            Some(deadline) if deadline <= now => return Step::Over,
+            Some(deadline) => deadline.saturating_sub(now).min(longest),
+        };
+        match reader.rest(left) {
+            Ok(()) => Step::Idle,
+            Err(error) if is_passing(&error) => Step::Idle,
+            Err(_) => Step::Over,
         }
     }
 
     // Reads, or rests if there is no room or the stream has ended.
-    fn read<T: Clock, R: Read>(&mut self, rt: &T, reader: &mut R) -> Step {
-        if self.ended {
-            let waits = self.untaken || (self.unanswered && self.rested < LAST_WAIT);
-            if !waits || self.rest(rt, reader).is_err() {
-                return Step::Over;
-            }
-            return Step::Idle;
+    fn read<T: Clock, R: Read + Rest>(&mut self, rt: &T, reader: &mut R) -> Step {
+        if self.ended && !self.untaken && self.window.is_settled() {
+            return Step::Over;
         }
-        if self.incoming.is_full() {
-            return match self.rest(rt, reader) {
-                Ok(()) => Step::Idle,
-                Err(_) => Step::Over,
-            };
+        if self.ended || self.incoming.is_full() {
+            return self.rest(rt, reader, LONGEST_REST);
         }
         match self.incoming.read_from(reader) {
             Ok(0) => {
@@ -200,7 +255,7 @@ impl Session {
                 Step::Done
             }
             Ok(_) => Step::Done,
-            Err(error) if is_passing(&error) => Step::Idle,
+            Err(error) if is_passing(&error) => self.rest(rt, reader, LONGEST_WAIT),
             Err(error) => {
                 if error.kind() == ErrorKind::OutOfMemory {
                     return self.want_memory();
@@ -211,7 +266,7 @@ impl Session {
     }
 
     // One step: writing comes first, then sending on, then reading.
-    fn step<T: Clock, R: Read, W: Write>(
+    fn step<T: Clock, R: Read + Rest, W: Write>(
         &mut self,
         rt: &T,
         reader: &mut R,
@@ -223,10 +278,7 @@ impl Session {
         }
         // Nothing is sent on or read while a message is held, or bytes are left to write.
         if !self.send_held() || !self.outgoing.is_written() {
-            return match self.rest(rt, reader) {
-                Ok(()) => Step::Idle,
-                Err(_) => Step::Over,
-            };
+            return self.rest(rt, reader, LONGEST_REST);
         }
         let sent = self.send_next();
         if sent != Step::Idle {
@@ -236,11 +288,16 @@ impl Session {
     }
 
     // Makes steps until the connection ends.
-    fn run<T: Wait + Clock, R: Read, W: Write>(&mut self, rt: &T, reader: &mut R, writer: &mut W) {
+    fn run<T: Wait + Clock, R: Read + Rest, W: Write>(
+        &mut self,
+        rt: &T,
+        reader: &mut R,
+        writer: &mut W,
+    ) {
         self.send(Message::Up);
         for _ in rt.forever() {
             match self.step(rt, reader, writer) {
-                Step::Done => self.rested = 0,
+                Step::Done => self.idle_since = None,
                 Step::Idle => {}
                 Step::Over => return,
             }
@@ -252,17 +309,18 @@ impl Session {
     fn drop_outputs(&mut self) {
         for _ in 0..u64::MAX {
             match self.port.receive() {
-                None => return,
+                None => break,
                 Some(Output::CloseLeader(Fault::Short)) => {}
                 Some(Output::CloseLeader(fault)) => self.late_fault = Some(fault),
                 Some(_) => {}
             }
         }
+        self.port.written_all();
     }
 
-    // Sends the `End`, and waits until it is taken. Meanwhile it takes outputs, too: while many outputs are kept for a
-    // port, none of its messages is taken.
-    fn end<T: Wait + Clock, R: Read>(&mut self, rt: &T, reader: &mut R) {
+    // Sends the `End`, and waits until it is taken. Meanwhile it takes outputs, too: while much is under way for a port,
+    // none of its messages is taken.
+    fn end<T: Wait + Clock, R: Rest>(&mut self, rt: &T, reader: &mut R) {
         let mut end = Some(Message::End);
         for _ in rt.forever() {
             self.drop_outputs();
@@ -274,7 +332,7 @@ impl Session {
                     return;
                 }
             }
-            if let Err(error) = self.rest(rt, reader) {
+            if let Err(error) = reader.rest(LONGEST_REST) {
                 // No thread is left that would take it.
                 if error.kind() == ErrorKind::ConnectionAborted {
                     return;
@@ -287,16 +345,19 @@ impl Session {
     fn finish(self) -> LeaderGone {
         let Session {
             alloc: _,
+            limits: _,
+            start: _,
             port,
             incoming,
             outgoing,
+            window: _,
             held,
             untaken: _,
-            unanswered: _,
+            refuses: _,
             ended: _,
+            idle_since: _,
             late_fault,
             wants_memory,
-            rested: _,
         } = self;
         drop(incoming);
         drop(held);
@@ -312,15 +373,16 @@ impl Session {
 
 // Passes on what the reader brings and writes the answers, until the connection ends. The writer is dropped before the
 // `End` is sent.
-fn converse<T: Wait + Clock, R: Read + Drop, W: Write + Drop>(
+fn converse<T: Wait + Clock, R: Read + Rest + Drop, W: Write + Drop>(
     rt: &T,
     alloc: Global,
     cutting: Cutting,
+    limits: SessionLimits,
     mut reader: R,
     mut writer: W,
     port: Port,
 ) -> LeaderGone {
-    let mut session = Session::new(alloc, cutting, port);
+    let mut session = Session::new(rt, alloc, cutting, limits, port);
     session.run(rt, &mut reader, &mut writer);
     drop(writer);
     session.end(rt, &mut reader);
@@ -337,28 +399,37 @@ fn converse<T: Wait + Clock, R: Read + Drop, W: Write + Drop>(
 ///
 /// A reader that would block returns `WouldBlock`, after a wait for whatever may change that: bytes, room to write, or
 /// the hub's bell. A `read` into an empty buffer asks it only to wait.
-pub fn session_loop<T: Wait + Clock, R: Read + Drop, W: Write + Drop>(
+pub fn session_loop<T: Wait + Clock, R: Read + Rest + Drop, W: Write + Drop>(
     rt: &T,
     alloc: Global,
     reader: R,
     writer: W,
     port: Port,
+    limits: SessionLimits,
 ) -> PortEnd {
     let LeaderGone {
         port,
         fault: _,
         wants_memory: _,
-    } = converse(rt, alloc, Cutting::Frames, reader, writer, port);
+    } = converse(rt, alloc, Cutting::Frames, limits, reader, writer, port);
     port.finish()
 }
 
 /// Follows the leader: like `session_loop`, but sends on whatever a read brings, and gives the port back.
-pub fn leader_loop<T: Wait + Clock, R: Read + Drop, W: Write + Drop>(
+pub fn leader_loop<T: Wait + Clock, R: Read + Rest + Drop, W: Write + Drop>(
     rt: &T,
     alloc: Global,
     reader: R,
     writer: W,
     port: Port,
 ) -> LeaderGone {
-    converse(rt, alloc, Cutting::Reads, reader, writer, port)
+    converse(
+        rt,
+        alloc,
+        Cutting::Reads,
+        SessionLimits::none(),
+        reader,
+        writer,
+        port,
+    )
 }

@@ -3,6 +3,7 @@
 ghost use Rattle.std.specs.Io.{ReadsAtMost};
 
 use crate::bell::Bell;
+use crate::rest::Rest;
 use mio::net::TcpStream;
 use mio::{Events, Interest, Poll, Token, Waker};
 use std::alloc::Global;
@@ -16,18 +17,11 @@ const SOCKET: usize = 0;
 
 const BELL: usize = 1;
 
-/// The longest wait for bytes, in milliseconds. A wake that is lost costs no more than this, and an idle thread wakes
-/// no more often.
-const LONGEST_WAIT: u64 = 10_000;
-
-/// The longest wait without room to read into, in milliseconds.
-pub const LONGEST_REST: u64 = 1000;
-
-/// The reader of a socket. If nothing can be read, `read` waits until the socket can be read or written or the bell is
-/// rung, and then returns `WouldBlock` if there is still nothing. With an empty buffer it only waits.
+/// The reader of a socket. If nothing can be read, `read` returns `WouldBlock`, and `rest` waits until the socket can be
+/// read or written or the bell is rung.
 ///
-/// Once the bell says that the session is to end, it returns 0, the end of the stream; with an empty buffer, if no
-/// thread takes what the session sends any more, `ConnectionAborted`.
+/// Once the bell says that the session is to end, `read` returns 0, the end of the stream; `rest` fails with
+/// `ConnectionAborted` if no thread takes what the session sends any more.
 pub struct Waiting {
     stream: Arc<TcpStream, Global>,
     poll: Poll,
@@ -129,17 +123,6 @@ impl Waiting {
         Ok(())
     }
 
-    // Waits without room to read into, and returns the reason why nothing is read.
-    fn rest(&mut self) -> io::Error {
-        if let Err(error) = self.wait(LONGEST_REST) {
-            return error;
-        }
-        if self.bell.is_abandoned() {
-            return io::Error::from(ErrorKind::ConnectionAborted);
-        }
-        io::Error::from(ErrorKind::WouldBlock)
-    }
-
     // Reads what is there.
     fn read_now(&mut self, buf: &mut [u8]) -> io::Result<usize>
         ensures { ReadsAtMost result buf.new }
@@ -164,12 +147,6 @@ impl Waiting {
 
 impl Read for Waiting {
     fn read(&mut self, buf: &mut [u8]) -> io::Result<usize> {
-        if buf.is_empty() {
-            return Err(self.rest());
-        }
-        if !self.ready && !self.bell.is_stopped() {
-            self.wait(LONGEST_WAIT)?;
-        }
         if self.bell.is_stopped() {
             return Ok(0);
         }
@@ -177,6 +154,20 @@ impl Read for Waiting {
             return Err(io::Error::from(ErrorKind::WouldBlock));
         }
         self.read_now(buf)
+    }
+}
+
+impl Rest for Waiting {
+    fn rest(&mut self, longest: u64) -> io::Result<()> {
+        self.wait(longest)?;
+        if self.bell.is_abandoned() {
+            return Err(io::Error::from(ErrorKind::ConnectionAborted));
+        }
+        Ok(())
+    }
+
+    fn is_hurried(&self) -> bool {
+        self.bell.is_hurried()
     }
 }
 

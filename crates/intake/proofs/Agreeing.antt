@@ -38,7 +38,7 @@ none_stays (Some x) (Some y) s e = cc
 
 -- ---- a turn
 
-joined : (began : Machine) (taken fresh : List PortMessage) → play began (events_of (taken ++ fresh))
+pub joined : (began : Machine) (taken fresh : List PortMessage) → play began (events_of (taken ++ fresh))
     ≡ prepend_outputs (outputs_of began taken) (play (play began (events_of taken)).after (events_of fresh))
 joined began taken fresh =
     ap (play began) (events_joined taken fresh) ∙ play_on began (events_of taken) (events_of fresh)

@@ -1,5 +1,5 @@
 -- Overwriting one port's ends, and a list of such writes.
-use Rattle.std.proofs.Common.{◌≡◌, ◌≢◌, ℕ, true, List, [], ◌∷◌, ◌++◌, Option, Some, None, Result, Ok, Err, refl, ap, sym, ◌∙◌, subst, inl, inr, append_assoc}
+use Rattle.std.proofs.Common.{◌≡◌, ◌≢◌, ℕ, true, List, [], ◌∷◌, ◌++◌, Option, Some, None, Result, Ok, Err, refl, ap, sym, ◌∙◌, subst, inl, inr, append_assoc, arith}
 use Rattle.std.specs.Prelude.{OnOk, is_some}
 use Rattle.std.specs.Ordering.{nat_cmp}
 use Rattle.std.specs.BTreeMap as tree
@@ -12,15 +12,15 @@ use Rattle.rtrb.specs.declared.producer.Producer.{Producer}
 use Rattle.rtrb.specs.declared.consumer.Consumer.{Consumer}
 use Rattle.rtrb.specs.declared.AnyItems.{AnyItems}
 use Rattle.values.specs.declared.fault.NoMemory.{NoMemory}
-use Rattle.rtrb.specs.Ring.{sent, received, SameProducer, SameConsumer}
+use Rattle.rtrb.specs.Ring.{sent, received, known_items, SameProducer, SameConsumer}
 use Rattle.client_service.specs.declared.output.Output.{Output}
 use Rattle.client_service.proofs.NatMaps.{seen, get-seen, seen-insert, get-inserted, get-beside}
 use Rattle.intake.specs.declared.message.Message.{Message}
 use Rattle.intake.specs.declared.link.Link.{Link}
 use Rattle.intake.specs.declared.port.PortEnd.{PortEnd}
-use Rattle.intake.specs.Messages.{PortMessage, part_of_port, port_of, share_of_port}
-use Rattle.intake.specs.Links.{Links, outputs_owed, taken_from, owed_to, taken_at, owed_at, IsEndBy, IsSameLink, StaysOpen, AllStay, TakesNoMessage, TakesMessages, PutsShares}
-use Rattle.intake.proofs.Parts.{share_joined, share_own, share_other}
+use Rattle.intake.specs.Messages.{PortMessage, messages_of_port, part_of_port, port_of, share_of_port}
+use Rattle.intake.specs.Links.{Links, outputs_owed, taken_from, waiting_from, owed_to, taken_at, waiting_at, seen_at, owed_at, IsEndBy, IsSameLink, StaysOpen, AllStay, SameWait, TakesNoMessage, LooksAt, TakesSeen, PutsShares}
+use Rattle.intake.proofs.Parts.{part_own, part_others, share_joined, share_own, share_other}
 
 -- ---- one port's ends are overwritten
 
@@ -84,27 +84,60 @@ rests_at old k was is new w stays took owes = record {
   owes = same_owed old k was is new w owes;
 }
 
-pub takes_at : (old : Links) (k : ℕ) (was is : Link) (new : Links) (before after : List PortMessage)
-    → Written old k was is new → IsSameLink was is
-    → ((r : List Message) → received was.inbox ≡ r ++ part_of_port k before
-    → received is.inbox ≡ r ++ part_of_port k after)
-    → ((n : ℕ) → n ≢ k → part_of_port n after ≡ part_of_port n before) → outputs_owed is ≡ outputs_owed was
-    → TakesMessages old before new after
-takes_at old k was is new before after w stays own others owes = record {
-  stay = all_stay old k was is new w stays;
-  took = each_at (λ n x y. (r : List Message) → taken_from x ≡ r ++ part_of_port n before
-      → taken_from y ≡ r ++ part_of_port n after)
-      old k was is new w own
-      (λ n apart r e. e ∙ ap (λ l. r ++ l) (sym (others n apart)));
-  owes = same_owed old k was is new w owes;
+pub is_there : (old : Links) (k : ℕ) (was is : Link) (new : Links) → Written old k was is new
+    → finmap.get new k ≡ Some is
+is_there old k was is new w = ap (λ (l : Links). finmap.get l k) w.written ∙ get-inserted old k is
+
+-- What waits in a port is what was seen there.
+pub waits_there : (old : Links) (k : ℕ) (was is : Link) (new : Links) → Written old k was is new
+    → waiting_at old k ≡ known_items was.inbox
+waits_there old k was is new w = ap waiting_from w.there
+
+others_same : (old : Links) (k : ℕ) (was is : Link) (new : Links) → Written old k was is new → (n : ℕ) → n ≢ k
+    → waiting_at new n ≡ waiting_at old n
+others_same old k was is new w n apart =
+    ap waiting_from (ap (λ (l : Links). finmap.get l n) w.written ∙ get-beside old k n is apart)
+
+pub same_wait : (old : Links) (k : ℕ) (was is : Link) (new : Links) → Written old k was is new
+    → is.inbox ≡ was.inbox → SameWait old new
+same_wait old k was is new w e =
+    each_at (λ n x y. waiting_from y ≡ waiting_from x) old k was is new w (ap (λ i. known_items i) e) (λ n apart. refl)
+
+pub looks_there : (old : Links) (k : ℕ) (was is : Link) (new : Links) → Written old k was is new → IsSameLink was is
+    → received is.inbox ≡ received was.inbox → outputs_owed is ≡ outputs_owed was → LooksAt (k ∷ []) old new
+looks_there old k was is new w stays took owes = record {
+  rests = rests_at old k was is new w stays took owes;
+  others = λ n. elim (eqb_tells n k) [
+    | inl h ↦ inr (0, omega arith, sym h.1)
+    | inr h ↦ inl (others_same old k was is new w n h.1)
+  ];
 }
 
+pub takes_at : (old : Links) (k : ℕ) (was is : Link) (new : Links) (before after : List PortMessage)
+    → Written old k was is new → IsSameLink was is
+    → after ≡ before ++ messages_of_port k (known_items was.inbox)
+    → received is.inbox ≡ received was.inbox ++ known_items was.inbox → known_items is.inbox ≡ []
+    → outputs_owed is ≡ outputs_owed was → TakesSeen k old before new after
+takes_at old k was is new before after w stays list took none owes =
+    let seen = waits_there old k was is new w in record {
+      stay = all_stay old k was is new w stays;
+      list = list ∙ ap (λ ms. before ++ messages_of_port k ms) (sym seen);
+      took = each_at (λ n x y. taken_from y ≡ taken_from x ++ part_of_port n (seen_at old k)) old k was is new w
+          (took ∙ ap (λ ms. received was.inbox ++ ms) (sym seen ∙ sym (part_own k (waiting_at old k))))
+          (λ n apart. sym (append-nil (taken_at old n))
+          ∙ ap (λ ms. taken_at old n ++ ms) (sym (part_others n k (waiting_at old k) apart)));
+      none_waits = ap waiting_from (is_there old k was is new w) ∙ none;
+      others_wait = others_same old k was is new w;
+      owes = same_owed old k was is new w owes;
+    }
+
 pub puts_at : (old : Links) (was is : Link) (new : Links) (o : Output) → Written old (port_of o) was is new
-    → IsSameLink was is → received is.inbox ≡ received was.inbox → outputs_owed is ≡ outputs_owed was ++ o ∷ []
+    → IsSameLink was is → is.inbox ≡ was.inbox → outputs_owed is ≡ outputs_owed was ++ o ∷ []
     → PutsShares old (o ∷ []) new
-puts_at old was is new o w stays took owes = record {
+puts_at old was is new o w stays same owes = record {
   stay = all_stay old (port_of o) was is new w stays;
-  took = same_taken old (port_of o) was is new w took;
+  took = same_taken old (port_of o) was is new w (ap (λ i. received i) same);
+  waits = same_wait old (port_of o) was is new w same;
   owes = each_at (λ n x y. is_some x ≡ true → owed_to y ≡ owed_to x ++ share_of_port n (o ∷ [])) old (port_of o) was is
       new w
       (λ live. owes ∙ ap (λ l. outputs_owed was ++ l) (sym (share_own o)))
@@ -120,12 +153,21 @@ rests_same links = record {
   owes = λ n. refl;
 }
 
-pub takes_none : (links : Links) (came : List PortMessage) → TakesMessages links came links came
-takes_none links came = record {
-  stay = (rests_same links).stay;
-  took = λ n r e. e;
-  owes = λ n. refl;
-}
+none_waits_there : (o : Option Link) → None ≡ o → waiting_from o ≡ []
+none_waits_there o none = sym (ap waiting_from none)
+
+pub takes_none : (links : Links) (k : ℕ) (came : List PortMessage) → None ≡ finmap.get links k
+    → TakesSeen k links came links came
+takes_none links k came none =
+    let nothing : waiting_at links k ≡ [] = none_waits_there (finmap.get links k) none in record {
+      stay = (rests_same links).stay;
+      list = sym (append-nil came) ∙ ap (λ ms. came ++ messages_of_port k ms) (sym nothing);
+      took = λ n. sym (append-nil (taken_at links n))
+          ∙ ap (λ ms. taken_at links n ++ part_of_port n (messages_of_port k ms)) (sym nothing);
+      none_waits = nothing;
+      others_wait = λ n apart. refl;
+      owes = λ n. refl;
+    }
 
 pub nothing_is_open : (o : Option Link) → None ≡ o → is_some o ≡ true → ⊥
 nothing_is_open o none live = cc (ap is_some none)
@@ -134,6 +176,7 @@ pub drops : (links : Links) (o : Output) → None ≡ finmap.get links (port_of 
 drops links o none = record {
   stay = (rests_same links).stay;
   took = λ n. refl;
+  waits = λ n. refl;
   owes = λ n live. elim (eqb_tells n (port_of o)) [
     | inl h ↦ absurd (nothing_is_open (finmap.get links n) (none ∙ ap (λ j. finmap.get links j) (sym h.1)) live)
     | inr h ↦ sym (append-nil (owed_at links n)) ∙ ap (λ l. owed_at links n ++ l) (sym (share_other n o h.1))
@@ -144,6 +187,7 @@ pub puts_none : (links : Links) → PutsShares links [] links
 puts_none links = record {
   stay = (rests_same links).stay;
   took = λ n. refl;
+  waits = λ n. refl;
   owes = λ n live. sym (append-nil (owed_at links n));
 }
 
@@ -197,18 +241,11 @@ rests_on a b c x y = record {
   owes = λ n. y.owes n ∙ x.owes n;
 }
 
-pub takes_on : (a b c : Links) (p q r : List PortMessage) → TakesMessages a p b q → TakesMessages b q c r
-    → TakesMessages a p c r
-takes_on a b c p q r x y = record {
-  stay = all_stay_on a b c x.stay y.stay;
-  took = λ n s e. y.took n s (x.took n s e);
-  owes = λ n. y.owes n ∙ x.owes n;
-}
-
 pub puts_on : (a b c : Links) (xs ys : List Output) → PutsShares a xs b → PutsShares b ys c → PutsShares a (xs ++ ys) c
 puts_on a b c xs ys x y = record {
   stay = all_stay_on a b c x.stay y.stay;
   took = λ n. y.took n ∙ x.took n;
+  waits = λ n. y.waits n ∙ x.waits n;
   owes = λ n live.
       y.owes n (still_open (finmap.get a n) (finmap.get b n) (x.stay.at n) live)
       ∙ ap (λ l. l ++ share_of_port n ys) (x.owes n live)
@@ -238,9 +275,17 @@ same_owed_ends a b h = ap (λ p. sent p ++ b.kept.items) h.0 ∙ ap (λ k. sent 
 pub rests_is : (old new : Links) → new ≡ old → TakesNoMessage old new
 rests_is old new is = let P : Links → Type 0 = λ l. TakesNoMessage old l in subst P (sym is) (rests_same old)
 
-pub takes_is : (old new : Links) (came : List PortMessage) → new ≡ old → TakesMessages old came new came
-takes_is old new came is = let P : Links → Type 0 = λ l. TakesMessages old came l came in
-    subst P (sym is) (takes_none old came)
+pub takes_is : (old new : Links) (k : ℕ) (came : List PortMessage) → new ≡ old → None ≡ finmap.get old k
+    → TakesSeen k old came new came
+takes_is old new k came is none = let P : Links → Type 0 = λ l. TakesSeen k old came l came in
+    subst P (sym is) (takes_none old k came none)
+
+pub looks_is : (old new : Links) (numbers : List ℕ) → new ≡ old → LooksAt numbers old new
+looks_is old new numbers is = let P : Links → Type 0 = λ l. LooksAt numbers old l in
+    subst P (sym is) (record { rests = rests_same old; others = λ n. inl refl })
+
+pub waits_is : (old new : Links) → new ≡ old → SameWait old new
+waits_is old new is = let P : Links → Type 0 = λ l. SameWait old l in subst P (sym is) (λ n. refl)
 
 pub drops_is : (old new : Links) (o : Output) → new ≡ old → None ≡ finmap.get old (port_of o)
     → PutsShares old (o ∷ []) new
@@ -259,26 +304,22 @@ no_end end o none is = let P : Option Link → Type 0 = λ x. IsEndBy end x in s
 pub end_there : (end : PortEnd) (o : Option Link) (l : Link) → Some l ≡ o → IsEndBy end o → IsEndBy end (Some l)
 end_there end o l some is = let P : Option Link → Type 0 = λ x. IsEndBy end x in subst P (sym some) is
 
-pub is_there : (old : Links) (k : ℕ) (was is : Link) (new : Links) → Written old k was is new
-    → finmap.get new k ≡ Some is
-is_there old k was is new w = ap (λ (l : Links). finmap.get l k) w.written ∙ get-inserted old k is
-
 -- ---- an allocation may be refused
 
 pub takes_ok : (result : Result (Unit {0}) NoMemory) (old : Links) (k : ℕ) (was is : Link) (new : Links)
     (before after : List PortMessage) → Written old k was is new → IsSameLink was is
-    → ((r : List Message) → received was.inbox ≡ r ++ part_of_port k before
-    → OnOk result (received is.inbox ≡ r ++ part_of_port k after))
-    → ((n : ℕ) → n ≢ k → part_of_port n after ≡ part_of_port n before) → outputs_owed is ≡ outputs_owed was
-    → OnOk result (TakesMessages old before new after)
-takes_ok (Ok u) old k was is new before after w stays own others owes =
-    takes_at old k was is new before after w stays own others owes
-takes_ok (Err e) old k was is new before after w stays own others owes = tt
+    → OnOk result (after ≡ before ++ messages_of_port k (known_items was.inbox))
+    → OnOk result (received is.inbox ≡ received was.inbox ++ known_items was.inbox)
+    → OnOk result (known_items is.inbox ≡ []) → outputs_owed is ≡ outputs_owed was
+    → OnOk result (TakesSeen k old before new after)
+takes_ok (Ok u) old k was is new before after w stays list took none owes =
+    takes_at old k was is new before after w stays list took none owes
+takes_ok (Err e) old k was is new before after w stays list took none owes = tt
 
 pub puts_ok : (result : Result (Unit {0}) NoMemory) (old : Links) (k : ℕ) (was is : Link) (new : Links) (o : Output)
-    → k ≡ port_of o → Written old k was is new → IsSameLink was is → received is.inbox ≡ received was.inbox
+    → k ≡ port_of o → Written old k was is new → IsSameLink was is → is.inbox ≡ was.inbox
     → OnOk result (outputs_owed is ≡ outputs_owed was ++ o ∷ []) → OnOk result (PutsShares old (o ∷ []) new)
-puts_ok (Ok u) old k was is new o number w stays took owes =
+puts_ok (Ok u) old k was is new o number w stays same owes =
     let P : ℕ → Type 0 = λ j. Written old j was is new in
-    puts_at old was is new o (subst P number w) stays took owes
-puts_ok (Err e) old k was is new o number w stays took owes = tt
+    puts_at old was is new o (subst P number w) stays same owes
+puts_ok (Err e) old k was is new o number w stays same owes = tt

@@ -1,5 +1,5 @@
 -- The messages taken of a port, and the outputs put to it, given the hub's ends of all open ports.
-use Rattle.std.specs.Prelude.{◌≡◌, ℕ, List, [], ◌++◌, Option, Some, None, Bool, true}
+use Rattle.std.specs.Prelude.{◌≡◌, ◌≢◌, ◌⊎◌, ℕ, List, [], ◌++◌, Contains, Option, Some, None, Bool, true}
 use Rattle.std.specs.Ordering.{nat_cmp}
 use Rattle.std.specs.FinMap as finmap
 use Rattle.rtrb.specs.Ring.{sent, received, known_items, IsPair, SameProducer, SameConsumer}
@@ -7,7 +7,7 @@ use Rattle.client_service.specs.declared.output.Output.{Output}
 use Rattle.intake.specs.declared.message.Message.{Message}
 use Rattle.intake.specs.declared.port.PortEnd.{PortEnd}
 use Rattle.intake.specs.declared.link.Link.{Link}
-use Rattle.intake.specs.Messages.{PortMessage, part_of_port, share_of_port}
+use Rattle.intake.specs.Messages.{PortMessage, messages_of_port, part_of_port, share_of_port}
 
 -- The hub's ends of each open port, by number.
 abbrev pub Links : Type 0
@@ -64,6 +64,10 @@ taken_at links n = taken_from (finmap.get links n)
 abbrev pub waiting_at : Links → ℕ → List Message
 waiting_at links n = waiting_from (finmap.get links n)
 
+-- The same, as messages of the port.
+abbrev pub seen_at : Links → ℕ → List PortMessage
+seen_at links n = messages_of_port n (waiting_at links n)
+
 abbrev pub outbox_at : Links → ℕ → List Output
 outbox_at links n = put_to (finmap.get links n)
 
@@ -85,16 +89,28 @@ pub record TakesNoMessage (old new : Links) : Type 0 where
   pub took : (n : ℕ) → taken_at new n ≡ taken_at old n
   pub owes : (n : ℕ) → owed_at new n ≡ owed_at old n
 
--- The messages taken of each port are appended to a list, in order.
-pub record TakesMessages (old : Links) (before : List PortMessage) (new : Links) (after : List PortMessage) : Type 0
+-- In each port, the same messages wait.
+abbrev pub SameWait : Links → Links → Type 0
+SameWait old new = (n : ℕ) → waiting_at new n ≡ waiting_at old n
+
+-- More messages may be seen in the inboxes of these ports, and in no other.
+pub record LooksAt (numbers : List ℕ) (old new : Links) : Type 0 where
+  pub rests : TakesNoMessage old new
+  pub others : (n : ℕ) → (waiting_at new n ≡ waiting_at old n) ⊎ Contains numbers n
+
+-- The messages of a port that were seen are taken, and appended to a list.
+pub record TakesSeen (n : ℕ) (old : Links) (before : List PortMessage) (new : Links) (after : List PortMessage) : Type 0
   where
     pub stay : AllStay old new
-    pub took : (n : ℕ) (r : List Message) → taken_at old n ≡ r ++ part_of_port n before
-        → taken_at new n ≡ r ++ part_of_port n after
-    pub owes : (n : ℕ) → owed_at new n ≡ owed_at old n
+    pub list : after ≡ before ++ seen_at old n
+    pub took : (k : ℕ) → taken_at new k ≡ taken_at old k ++ part_of_port k (seen_at old n)
+    pub none_waits : waiting_at new n ≡ []
+    pub others_wait : (k : ℕ) → k ≢ n → waiting_at new k ≡ waiting_at old k
+    pub owes : (k : ℕ) → owed_at new k ≡ owed_at old k
 
 -- Each open port gets its share of the outputs.
 pub record PutsShares (old : Links) (outputs : List Output) (new : Links) : Type 0 where
   pub stay : AllStay old new
   pub took : (n : ℕ) → taken_at new n ≡ taken_at old n
   pub owes : (n : ℕ) → is_open_port n old ≡ true → owed_at new n ≡ owed_at old n ++ share_of_port n outputs
+  pub waits : SameWait old new

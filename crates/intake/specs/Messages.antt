@@ -1,5 +1,5 @@
 -- The events of messages, and one port's part of a list.
-use Rattle.std.specs.Prelude.{◌==◌, ℕ, List, map, filter, if◌then◌else◌}
+use Rattle.std.specs.Prelude.{◌≡◌, ◌==◌, ◌++◌, ℕ, List, map, filter, not, if◌then◌else◌}
 use Rattle.observer_core.specs.declared.event.Event.{Event}
 use Rattle.observer_core.specs.declared.event.Event.TheVariants as events
 use Rattle.client_service.specs.declared.output.Output.{Output}
@@ -26,6 +26,14 @@ events_of came = map (λ c. event_of_message c.0 c.1) came
 -- A port's part of the messages, in order.
 abbrev pub part_of_port : ℕ → List PortMessage → List Message
 part_of_port n came = map (λ c. c.1) (filter (λ c. c.0 == n) came)
+
+-- These messages, as a port's.
+abbrev pub messages_of_port : ℕ → List Message → List PortMessage
+messages_of_port n messages = map (λ m. (n, m)) messages
+
+-- The leader's messages come before those of clients.
+abbrev pub LeaderComesFirst : List PortMessage → Type 0
+LeaderComesFirst came = filter (λ c. c.0 == 0) came ++ filter (λ c. not (c.0 == 0)) came ≡ came
 
 abbrev pub port_of : Output → ℕ
 port_of (ToLeader bytes) = 0

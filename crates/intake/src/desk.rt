@@ -1,27 +1,28 @@
 //! The desk: an engine, and the ports whose messages it takes.
 
-ghost use Rattle.std.specs.Prelude.{◌≡◌, ◌⊎◌, ◌++◌, ◌<◌, ◌≤◌, length, IfOk, IfErr, OnErr, OnOk, IsSome, Some, None, Ok, Err, []};
+ghost use Rattle.std.specs.Prelude.{◌≡◌, ◌≢◌, ◌⊎◌, ◌++◌, ◌<◌, ◌≤◌, ℕ, ◌∷◌, length, Contains, IfOk, IfErr, OnErr, OnOk, IsSome, Some, None, Ok, Err, []};
+ghost use Rattle.std.specs.List.Sorted.{IsPermutation};
 ghost use Rattle.std.specs.FinMap as finmap;
 ghost use Rattle.observer_core.specs.Machine.{Machine as TheMachine};
 ghost use Rattle.observer_core.specs.Play.{new_machine, primed_machine};
 ghost use Rattle.observer_core.specs.Plays.{PlaysEvents};
-ghost use Rattle.observer_core.specs.declared.engine.Stop.TheVariants as stops;
 ghost use Rattle.intake.specs.declared.message.AddPortError.TheVariants as errors;
 ghost use Rattle.intake.specs.Messages.{events_of};
 ghost use Rattle.intake.specs.Ports.{sent_through, received_through, unread_through, SamePort};
 ghost use Rattle.intake.specs.Links.{taken_at, waiting_at, outbox_at, IsEnd, TakesNoMessage};
-ghost use Rattle.intake.specs.Desk.{new_desk, AddsPort, TakesNothing, AnswersTurn};
+ghost use Rattle.intake.specs.Desk.{new_desk, AddsPort, IsRemembered, ForgetsNone, TakesTurn, TakesNothing, AnswersTurn};
+ghost use Rattle.intake.specs.Steps.{BeginsTurn, FeedsPort, ServesPorts};
 
-use crate::events::events_of;
+use crate::budget::{Budget, Unlimited};
+use crate::events::{bytes_of, events_of};
 use crate::link::Link;
 use crate::links::Links;
-use crate::marks::Marks;
 use crate::message::{AddPortError, Message};
 use crate::notes::{Notes, reserve};
 use crate::port::{Port, PortEnd};
-use crate::waker::Waker;
 use apply_workers::Gate;
 use observer_core::{Config, Engine, Output, Stop};
+use port_hints::{Marks, Round, Waker};
 use rtrb::RingBuffer;
 use std::alloc::Global;
 use std::marker::Model;
@@ -32,6 +33,30 @@ use std::time::Duration;
 use values::NoMemory;
 
 const MAX_CAPACITY: usize = 1024;
+
+// While more bytes than this are under way to a client, none of its messages is taken, so its inbox fills up and its
+// thread stops reading.
+const CLIENT_LIMIT: u64 = 1 << 20;
+
+// While more bytes than this are under way to the leader, no message of a client is taken: what the leader is to be
+// told next, a PING's answer among it, waits for these bytes.
+const LEADER_LIMIT: u64 = 1 << 16;
+
+/// What a desk keeps within bounds.
+#[derive(Clone, Copy, Debug, PartialEq, Eq)]
+pub struct Limits {
+    /// How many bytes may be under way to all clients. From half of it on, no messages are taken of a client that has
+    /// some of them to read.
+    pub under_way: u64,
+}
+
+impl Default for Limits {
+    fn default() -> Limits {
+        Limits {
+            under_way: 64 << 20,
+        }
+    }
+}
 
 /// Feeds the messages of its ports to an engine, and the outputs to the ports. It keeps no list of what it took.
 #[derive(Drop)]
@@ -45,12 +70,18 @@ pub struct Desk {
     next: usize,
     // The messages of the last turn.
     fresh: Vec<(usize, Message)>,
+    // The ports that the next turn looks at, besides those that are marked.
+    later: Vec<usize>,
+    limits: Limits,
     marks: Marks,
     notes: Notes,
-    // The ports for which outputs were kept when the turn began, and those that may have sent something. Each list has
+    round: Round,
+    // A port in `later` isn't blocked.
+    is_behind: bool,
+    // The ports for which outputs were kept when the turn began, and a list for the next `later`. Each list has
     // capacity for all open ports.
     kept: Vec<usize>,
-    marked: Vec<usize>,
+    spare: Vec<usize>,
 }
 
 impl Model for Desk {
@@ -71,6 +102,7 @@ impl Model for Desk {
       links = d.links;
       next = d.next;
       fresh = d.fresh.items;
+      later = d.later.items;
     } };
 
     ghost invariant = { λ d. IsOpenUnless d.closed d.engine };
@@ -107,10 +139,14 @@ impl Desk {
             links: Links::new(alloc),
             next: 0,
             fresh: Vec::new(alloc),
+            later: Vec::new(alloc),
+            limits: Limits::default(),
             marks,
             notes: Notes::new(alloc),
+            round: Round::new(),
+            is_behind: false,
             kept: Vec::new(alloc),
-            marked: Vec::new(alloc),
+            spare: Vec::new(alloc),
         }
     }
 
@@ -143,13 +179,14 @@ impl Desk {
         let ports = self.links.len().saturating_add(1);
         self.notes.reserve(ports)?;
         reserve(&mut self.kept, ports)?;
-        reserve(&mut self.marked, ports)?;
+        reserve(&mut self.later, ports)?;
+        reserve(&mut self.spare, ports)?;
         let (to_hub, inbox) = RingBuffer::new(self.alloc, capacity)?;
         let (outbox, from_hub) = RingBuffer::new(self.alloc, capacity)?;
         let (slot, mark) = self.marks.add(number)?;
         let link = Link::new(self.alloc, inbox, outbox, slot, self.notes.turn);
         let Ok(()) = self.links.add(number, link) else {
-            self.marks.remove(slot);
+            self.marks.remove(slot, 0);
             return Err(NoMemory);
         };
         self.next = next;
@@ -204,6 +241,7 @@ impl Desk {
         ensures received { received_through end.new ++ unread_through end.new
             ≡ outbox_at self.new.links end.old.number }
         ensures desk { TakesNothing self.old self.new }
+        ensures later { self.new.later ≡ self.old.later }
         ensures end { SamePort end.old end.new }
     {
         let count = self.links.left(end);
@@ -229,13 +267,43 @@ impl Desk {
         ensures { self.new ≡ record self.old { links = finmap.remove self.old.links end.number } }
     {
         if let Some(link) = self.links.remove(end.number) {
-            self.marks.remove(link.slot);
+            self.marks.remove(link.slot, link.put_bytes);
         }
         drop(end);
     }
 
+    /// Sets the bounds.
+    pub fn set_limits(&mut self, limits: Limits)
+        ensures { self.new ≡ self.old }
+    {
+        self.limits = limits;
+    }
+
+    /// The ports to which the last turn put an output that closes the connection.
+    pub fn closing(&self) -> &[usize] {
+        self.notes.closing.as_slice()
+    }
+
+    /// Whether the last turn left a port for the next one only because its budget was spent, so that the hub isn't to
+    /// wait.
+    pub fn is_behind(&self) -> bool {
+        self.is_behind
+    }
+
+    /// How many bytes are under way to all clients: they were put to their ports, and their threads haven't written
+    /// them yet.
+    pub fn under_way(&self) -> u64 {
+        self.marks.under_way()
+    }
+
+    /// The client's port with the most bytes under way, if there are any. Takes time linear in the number of ports.
+    pub fn slowest(&self) -> Option<usize> {
+        self.links.slowest(&self.marks)
+    }
+
     /// Makes a turn: puts the outputs that were kept, takes messages and feeds them to the engine. Returns the number
-    /// of messages taken. It goes through the ports by number, and takes no more messages of a port than its capacity.
+    /// of messages taken. It takes the leader's messages first, then goes through the other ports by number, and takes
+    /// no more messages of a port than its capacity.
     ///
     /// If the list of messages can't grow, the messages stay where they are; any other refused allocation closes the
     /// desk. Fails with [`Stop::Closed`] if the desk was closed before.
@@ -246,76 +314,246 @@ impl Desk {
     ) -> Result<usize, Stop>
         ensures { AnswersTurn result self.old.machine self.old self.new }
     {
+        let queue = self.prepare()?;
+        match self.serve(rt, gate, queue, &mut Unlimited) {
+            Ok(count) => Ok(count),
+            Err(NoMemory) => Err(Stop::NoMemory),
+        }
+    }
+
+    /// Makes a turn within a budget. The leader's messages come first, and all of them are taken. Then it comes to the
+    /// ports of clients, until the budget is spent: first to those whose last messages were cheap, then to those whose
+    /// last messages were costly, of which it comes to one at least if the budget takes them. Each kind goes round by
+    /// number. The next turn looks at the ports that this one doesn't come to, and at those of which nothing is to be
+    /// taken for now.
+    ///
+    /// Apart from that it does what `turn` does.
+    pub fn turn_within<R: Threads + Sync, G: Gate + Sync, B: Budget>(
+        &mut self,
+        rt: &R,
+        gate: &G,
+        budget: &mut B,
+    ) -> Result<usize, Stop>
+        ensures { AnswersTurn result self.old.machine self.old self.new }
+    {
+        let mut queue = self.prepare()?;
+        self.order(&mut queue);
+        match self.serve(rt, gate, queue, budget) {
+            Ok(count) => Ok(count),
+            Err(NoMemory) => Err(Stop::NoMemory),
+        }
+    }
+
+    // Begins a turn, and puts the outputs that were kept. Returns the ports of clients that may have sent something.
+    fn prepare(&mut self) -> Result<Vec<usize>, Stop>
+        ensures ok { IfOk result (λ queue. BeginsTurn queue.items self.old self.new) }
+        ensures err { IfErr result (λ stop. AnswersTurn (Err stop) self.old.machine self.old self.new) }
+    {
         self.fresh.clear();
         self.notes.begin(&mut self.kept);
+        self.round.begin();
+        self.is_behind = false;
         if self.closed {
             return Err(Stop::Closed);
         }
-        let prepared = prepare(
-            &mut self.links,
-            &mut self.notes,
-            &mut self.kept,
-            &self.marks,
-            &mut self.marked,
-            &mut self.fresh,
-        );
-        if prepared.is_err() {
+        let put = self
+            .links
+            .put_all_kept(self.kept.as_slice(), &mut self.notes);
+        if put.is_err() {
+            mem::swap(&mut self.notes.keeping, &mut self.kept);
             return Err(Stop::NoMemory);
         }
+        match self.look() {
+            Ok(queue) => Ok(queue),
+            Err(NoMemory) => Err(Stop::NoMemory),
+        }
+    }
+
+    // Looks at the leader's port, at those that the last turn left and at those that are marked, and makes room for
+    // their messages. After a refused allocation the next turn looks at them.
+    fn look(&mut self) -> Result<Vec<usize>, NoMemory>
+        ensures ok { IfOk result (λ queue. (n : ℕ) → n ≢ 0 → IsRemembered n self.old
+            → (waiting_at self.new.links n ≡ []) ⊎ Contains queue.items n) }
+        ensures err { OnErr result (ForgetsNone self.old self.new) }
+        ensures desk { TakesNothing self.old self.new }
+        ensures fresh { self.new.fresh ≡ self.old.fresh }
+    {
+        let found = self.marks.add_to(&mut self.later);
+        let leaders = self.links.look(0);
+        let others = self.links.look_all(self.later.as_slice());
+        found?;
+        self.fresh.reserve(leaders.saturating_add(others))?;
+        let next = mem::replace(&mut self.spare, Vec::new(self.alloc));
+        Ok(mem::replace(&mut self.later, next))
+    }
+
+    // Puts the ports in the order in which a turn within a budget comes to them.
+    fn order(&self, queue: &mut Vec<usize>)
+        ensures { IsPermutation queue.old.items queue.new.items }
+    {
+        queue.sort_unstable_by_key(|number| self.round.place(*number, self.is_costly(*number)));
+    }
+
+    // Whether the port's last messages were costly.
+    fn is_costly(&self, number: usize) -> bool {
+        match self.links.slot(number) {
+            None => true,
+            Some(slot) => self.marks.is_costly(slot),
+        }
+    }
+
+    // Whether no message of a client's port is to be taken for now.
+    fn is_blocked(&self, number: usize) -> bool {
+        if self.links.is_finished(number) {
+            return false;
+        }
+        let bytes = self.links.under_way(number, &self.marks);
+        bytes > CLIENT_LIMIT
+            || (bytes > 0 && self.under_way() > self.limits.under_way / 2)
+            || self.links.under_way(0, &self.marks) > LEADER_LIMIT
+    }
+
+    // Whether a port is blocked, and stays so until a thread that writes wakes the hub's.
+    fn stays_blocked(&self, number: usize) -> bool {
+        if !self.is_blocked(number) {
+            return false;
+        }
+        self.marks.await_writes();
+        self.is_blocked(number)
+    }
+
+    // Serves the leader's port, and then those in the queue. A refused allocation closes the desk.
+    fn serve<R: Threads + Sync, G: Gate + Sync, B: Budget>(
+        &mut self,
+        rt: &R,
+        gate: &G,
+        mut queue: Vec<usize>,
+        budget: &mut B,
+    ) -> Result<usize, NoMemory>
+        ensures turn { (m : TheMachine) → self.old.machine ≡ Some m → self.old.fresh ≡ []
+            → OnOk result (TakesTurn m self.old self.new) }
+        ensures served { OnOk result ((n : ℕ) → n ≢ 0 → Contains queue.items n → IsRemembered n self.new) }
+        ensures count { IfOk result (λ count. count ≡ length self.new.fresh) }
+        ensures err { OnErr result (self.new.machine ≡ None) }
+    {
+        self.serve_leader(rt, gate)?;
+        budget.begin();
+        self.serve_clients(rt, gate, queue.as_slice(), budget)?;
+        queue.clear();
+        self.spare = queue;
+        Ok(self.fresh.len())
+    }
+
+    fn serve_leader<R: Threads + Sync, G: Gate + Sync>(
+        &mut self,
+        rt: &R,
+        gate: &G,
+    ) -> Result<(), NoMemory>
+        ensures ok { (m : TheMachine) → self.old.machine ≡ Some m → self.old.fresh ≡ []
+            → OnOk result (TakesTurn m self.old self.new) }
+        ensures err { OnErr result (self.new.machine ≡ None) }
+    {
+        if self.links.seen(0) == 0 {
+            return Ok(());
+        }
+        self.feed(rt, gate, 0)?;
+        Ok(())
+    }
+
+    #[tactic(auto, using(crate::proofs::Turning::serves_none, crate::proofs::Turning::serves_on))]
+    fn serve_clients<R: Threads + Sync, G: Gate + Sync, B: Budget>(
+        &mut self,
+        rt: &R,
+        gate: &G,
+        numbers: &[usize],
+        budget: &mut B,
+    ) -> Result<(), NoMemory>
+        ensures ok { OnOk result (ServesPorts numbers.now self.old self.new) }
+        ensures err { OnErr result (self.new.machine ≡ None) }
+    {
+        for number in numbers {
+            self.serve_client(rt, gate, *number, budget)?;
+        }
+        Ok(())
+    }
+
+    // Serves a client's port, or leaves it for the next turn.
+    fn serve_client<R: Threads + Sync, G: Gate + Sync, B: Budget>(
+        &mut self,
+        rt: &R,
+        gate: &G,
+        number: usize,
+        budget: &mut B,
+    ) -> Result<(), NoMemory>
+        ensures ok { OnOk result (ServesPorts (number ∷ []) self.old self.new) }
+        ensures err { OnErr result (self.new.machine ≡ None) }
+    {
+        if number == 0 {
+            return Ok(());
+        }
+        if self.links.seen(number) == 0 {
+            return Ok(());
+        }
+        let is_costly = self.is_costly(number);
+        if self.stays_blocked(number) || (is_costly && !budget.takes_costly()) {
+            return self.leave(number);
+        }
+        if budget.is_spent() && !self.round.reaches(is_costly) {
+            self.is_behind = true;
+            return self.leave(number);
+        }
+        self.round.came(number, is_costly);
+        let taken = self.feed(rt, gate, number)?;
+        let is_costly = budget.spend(taken, self.notes.answered);
+        if let Some(slot) = self.links.slot(number) {
+            self.marks.set_costly(slot, is_costly);
+        }
+        Ok(())
+    }
+
+    // Leaves a port for the next turn.
+    fn leave(&mut self, number: usize) -> Result<(), NoMemory>
+        ensures ok { OnOk result (self.new ≡ record self.old { later = self.old.later ++ number ∷ [] }) }
+        ensures err { OnErr result (self.new.machine ≡ None) }
+    {
+        if self.later.push(number).is_err() {
+            self.closed = true;
+            return Err(NoMemory);
+        }
+        Ok(())
+    }
+
+    // Feeds the messages of a port that were seen to the engine, and puts the outputs. Returns the number of bytes of
+    // the messages. A refused allocation closes the desk.
+    fn feed<R: Threads + Sync, G: Gate + Sync>(
+        &mut self,
+        rt: &R,
+        gate: &G,
+        number: usize,
+    ) -> Result<usize, NoMemory>
+        ensures ok { OnOk result (FeedsPort number self.old self.new) }
+        ensures err { OnErr result (self.new.machine ≡ None) }
+    {
         self.closed = true;
-        let took = self.links.take_all(
-            self.marked.as_slice(),
-            &mut self.fresh,
-            &mut self.notes,
-            &self.marks,
-        );
-        if took.is_err() {
-            return Err(Stop::NoMemory);
-        }
+        self.notes.answered = 0;
+        let before = self.fresh.len();
+        self.links.take(number, &mut self.fresh, &mut self.notes)?;
+        let messages = &self.fresh[before..];
+        let taken = bytes_of(messages);
         let mut outputs = Vec::new(self.alloc);
         play(
             rt,
             self.alloc,
             &mut self.engine,
-            self.fresh.as_slice(),
+            messages,
             gate,
             &mut outputs,
         )?;
-        if self.links.put_all(outputs, &mut self.notes).is_err() {
-            return Err(Stop::NoMemory);
-        }
+        self.links.put_all(outputs, &mut self.notes)?;
+        self.marks.add_put(self.notes.answered);
         self.closed = false;
-        Ok(self.fresh.len())
+        Ok(taken)
     }
-}
-
-// Puts the outputs that were kept, finds the ports that may have sent something, and makes room for their messages.
-// After a refused allocation the ports are marked again, and no output that is kept is lost.
-#[tactic(auto, using(crate::proofs::Keeping::rests_on))]
-fn prepare(
-    links: &mut Links,
-    notes: &mut Notes,
-    kept: &mut Vec<usize>,
-    marks: &Marks,
-    marked: &mut Vec<usize>,
-    fresh: &mut Vec<(usize, Message)>,
-) -> Result<(), NoMemory>
-    ensures links { TakesNoMessage links.old links.new }
-    ensures fresh { fresh.new.items ≡ fresh.old.items }
-{
-    if links.put_all_kept(kept.as_slice(), notes).is_err() {
-        mem::swap(&mut notes.keeping, kept);
-        return Err(NoMemory);
-    }
-    marked.clear();
-    let found = marks.take(marked);
-    marked.sort_unstable();
-    let count = links.look_all(marked.as_slice());
-    if found.is_err() || fresh.reserve(count).is_err() {
-        links.mark_all(marked.as_slice(), marks);
-        return Err(NoMemory);
-    }
-    Ok(())
 }
 
 // Feeds the messages to the engine.
@@ -323,16 +561,16 @@ fn play<R: Threads + Sync, G: Gate + Sync>(
     rt: &R,
     alloc: Global,
     engine: &mut Engine,
-    fresh: &[(usize, Message)],
+    messages: &[(usize, Message)],
     gate: &G,
     outputs: &mut Vec<Output>,
-) -> Result<(), Stop>
-    ensures ok { OnOk result (PlaysEvents (Ok tt) engine.old (events_of fresh.now) outputs.old.items outputs.new.items
+) -> Result<(), NoMemory>
+    ensures { OnOk result (PlaysEvents (Ok tt) engine.old (events_of messages.now) outputs.old.items outputs.new.items
         engine.new) }
-    ensures open { IsSome engine.old → IfErr result (λ stop. stop ≡ stops.NoMemory) }
 {
-    let Ok(events) = events_of(alloc, fresh) else {
-        return Err(Stop::NoMemory);
-    };
-    engine.feed(rt, alloc, events.as_slice(), gate, outputs)
+    let events = events_of(alloc, messages)?;
+    match engine.feed(rt, alloc, events.as_slice(), gate, outputs) {
+        Ok(()) => Ok(()),
+        Err(_) => Err(NoMemory),
+    }
 }

@@ -56,3 +56,27 @@ pub fn port_of(output: &Output) -> usize
         Output::ToClient(number, _) | Output::CloseClient(number) => *number as usize,
     }
 }
+
+/// The number of bytes that an output brings to its port's connection.
+pub fn content_len(output: &Output) -> usize {
+    match output {
+        Output::ToLeader(bytes) | Output::ToClient(_, bytes) => bytes.as_slice().len(),
+        Output::CloseLeader(_) | Output::CloseClient(_) => 0,
+    }
+}
+
+/// Whether an output closes its port's connection.
+pub fn is_close(output: &Output) -> bool {
+    matches!(output, Output::CloseLeader(_) | Output::CloseClient(_))
+}
+
+/// The number of bytes of the messages.
+pub fn bytes_of(messages: &[(usize, Message)]) -> usize {
+    let mut count = 0usize;
+    for message in messages {
+        if let Message::Bytes(bytes) = &message.1 {
+            count = count.saturating_add(bytes.as_slice().len());
+        }
+    }
+    count
+}

@@ -28,21 +28,21 @@
 //! ```
 #![tactic(auto)]
 
+mod budget;
 mod desk;
 mod events;
 mod hub;
 mod law;
 mod link;
 mod links;
-mod marks;
 mod message;
 mod notes;
 mod port;
-mod waker;
 
-pub use desk::Desk;
+pub use budget::{Budget, Unlimited};
+pub use desk::{Desk, Limits};
 pub use hub::Hub;
 pub use law::desks_agree;
 pub use message::{AddPortError, Full, Message};
 pub use port::{Port, PortEnd};
-pub use waker::Waker;
+pub use port_hints::Waker;

@@ -1,13 +1,12 @@
 //! The hub's ends of a port.
 
-ghost use Rattle.std.specs.Prelude.{◌≡◌, ◌≢◌, ◌++◌, [], ◌∷◌, length, OnOk, Some, ℕ, List};
+ghost use Rattle.std.specs.Prelude.{◌≡◌, ◌++◌, [], ◌∷◌, length, OnOk, Some};
 ghost use Rattle.rtrb.specs.Ring.{sent, received, known_items, IsPair, SameProducer, SameConsumer, ConsumerLooked};
-ghost use Rattle.intake.specs.declared.message.Message.{Message as AMessage};
-ghost use Rattle.intake.specs.Messages.{part_of_port};
+ghost use Rattle.intake.specs.Messages.{messages_of_port};
 ghost use Rattle.intake.specs.Links.{outputs_owed, IsEndBy, IsSameLink};
 ghost use Rattle.intake.specs.Ports.{sent_through, received_through, unread_through, SamePort};
 
-use crate::marks::Marks;
+use crate::events::{content_len, is_close};
 use crate::message::Message;
 use crate::notes::Notes;
 use crate::port::PortEnd;
@@ -17,10 +16,6 @@ use std::alloc::Global;
 use std::collections::VecDeque;
 use values::NoMemory;
 
-// While more bytes of outputs than this are kept for a port, none of its messages is taken, so its inbox fills up and
-// its thread stops.
-const KEPT_LIMIT: usize = 1 << 20;
-
 /// The hub's ends of a port.
 #[derive(Drop)]
 pub struct Link {
@@ -28,24 +23,13 @@ pub struct Link {
     pub outbox: Producer<Output>,
     /// The outputs for which the outbox has no room, in order.
     pub kept: VecDeque<Output>,
-    /// The approximate number of bytes kept.
-    pub kept_bytes: usize,
+    /// How many bytes were put to the port.
+    pub put_bytes: u64,
     pub slot: usize,
     /// The port sends no more, so everything that it sent is taken.
     pub is_finished: bool,
     /// The last turn in which its thread was noted to be told.
     pub told_in: u64,
-}
-
-// The approximate memory of an output, in bytes.
-fn size(output: &Output) -> usize {
-    match output {
-        Output::ToLeader(bytes) | Output::ToClient(_, bytes) => bytes
-            .as_slice()
-            .len()
-            .saturating_add(64),
-        Output::CloseLeader(_) | Output::CloseClient(_) => 64,
-    }
 }
 
 impl Link {
@@ -63,7 +47,7 @@ impl Link {
             inbox,
             outbox,
             kept: VecDeque::new(alloc),
-            kept_bytes: 0,
+            put_bytes: 0,
             slot,
             is_finished: false,
             told_in: turn,
@@ -95,7 +79,6 @@ impl Link {
             let Some(output) = self.kept.pop_front() else {
                 break;
             };
-            self.kept_bytes = self.kept_bytes.saturating_sub(size(&output));
             self.outbox.push_reserved(output);
         }
     }
@@ -127,8 +110,28 @@ impl Link {
             self.outbox.push_reserved(output);
             return Ok(());
         }
-        self.kept_bytes = self.kept_bytes.saturating_add(size(&output));
         self.kept.push_back(output)?;
+        Ok(())
+    }
+
+    // Counts the bytes of an output, and notes whether it closes the connection.
+    fn note_output(
+        &mut self,
+        number: usize,
+        output: &Output,
+        notes: &mut Notes,
+    ) -> Result<(), NoMemory>
+        ensures { (self.new.inbox ≡ self.old.inbox) × (self.new.outbox ≡ self.old.outbox)
+            × (self.new.kept ≡ self.old.kept) }
+    {
+        let bytes = content_len(output);
+        self.put_bytes = self.put_bytes.saturating_add(bytes as u64);
+        if number != 0 {
+            notes.answered = notes.answered.saturating_add(bytes);
+        }
+        if is_close(output) {
+            notes.closing.push(number)?;
+        }
         Ok(())
     }
 
@@ -138,6 +141,7 @@ impl Link {
         ensures outbox { SameProducer self.old.outbox self.new.outbox }
         ensures inbox { self.new.inbox ≡ self.old.inbox }
     {
+        self.note_output(number, &output, notes)?;
         let kept_before = !self.kept.is_empty();
         self.add_output(output)?;
         if !kept_before && !self.kept.is_empty() {
@@ -146,40 +150,31 @@ impl Link {
         self.tell(number, notes)
     }
 
-    // Whether no message is to be taken for now.
-    fn is_blocked(&self) -> bool {
-        self.kept_bytes > KEPT_LIMIT && !self.is_finished
-    }
-
     /// Looks up the number of messages to take.
     pub fn look(&mut self) -> usize
         ensures inbox { ConsumerLooked self.old.inbox self.new.inbox }
         ensures outbox { (self.new.outbox ≡ self.old.outbox) × (self.new.kept ≡ self.old.kept) }
     {
-        if self.is_blocked() {
-            return 0;
-        }
         self.inbox.slots()
     }
 
-    // Takes the messages that the last look saw, and returns whether the `End` is among them.
-    #[tactic(auto, using(crate::proofs::Parts::part_own, crate::proofs::Parts::part_others))]
+    // Takes the messages that were seen, and returns whether the `End` is among them.
     fn take_seen(
         &mut self,
         number: usize,
         fresh: &mut Vec<(usize, Message)>,
     ) -> Result<bool, NoMemory>
-        ensures own { (r : List AMessage) → received self.old.inbox ≡ r ++ part_of_port number fresh.old.items
-            → OnOk result (received self.new.inbox ≡ r ++ part_of_port number fresh.new.items) }
-        ensures others { (n : ℕ) → n ≢ number → part_of_port n fresh.new.items ≡ part_of_port n fresh.old.items }
+        ensures list { OnOk result (fresh.new.items
+            ≡ fresh.old.items ++ messages_of_port number (known_items self.old.inbox)) }
+        ensures took { OnOk result (received self.new.inbox
+            ≡ received self.old.inbox ++ known_items self.old.inbox) }
+        ensures waits { OnOk result (known_items self.new.inbox ≡ []) }
         ensures inbox { SameConsumer self.old.inbox self.new.inbox }
         ensures outbox { (self.new.outbox ≡ self.old.outbox) × (self.new.kept ≡ self.old.kept) }
     {
         let mut ended = false;
-        for _ in 0..self.inbox.cached_slots() {
-            let Ok(message) = self.inbox.pop() else {
-                break;
-            };
+        while self.inbox.cached_slots() > 0 {
+            let message = self.inbox.pop_known();
             if matches!(&message, Message::End) {
                 ended = true;
             }
@@ -188,35 +183,27 @@ impl Link {
         Ok(ended)
     }
 
-    /// Takes the messages that the last look saw. If the inbox was full, or no message is to be taken for now, the port
-    /// is looked at again in the next turn.
+    /// Takes the messages that were seen, and notes that the thread is to be told.
     pub fn take(
         &mut self,
         number: usize,
         fresh: &mut Vec<(usize, Message)>,
         notes: &mut Notes,
-        marks: &Marks,
     ) -> Result<(), NoMemory>
-        ensures own { (r : List AMessage) → received self.old.inbox ≡ r ++ part_of_port number fresh.old.items
-            → OnOk result (received self.new.inbox ≡ r ++ part_of_port number fresh.new.items) }
-        ensures others { (n : ℕ) → n ≢ number → part_of_port n fresh.new.items ≡ part_of_port n fresh.old.items }
+        ensures list { OnOk result (fresh.new.items
+            ≡ fresh.old.items ++ messages_of_port number (known_items self.old.inbox)) }
+        ensures took { OnOk result (received self.new.inbox
+            ≡ received self.old.inbox ++ known_items self.old.inbox) }
+        ensures waits { OnOk result (known_items self.new.inbox ≡ []) }
         ensures inbox { SameConsumer self.old.inbox self.new.inbox }
         ensures outbox { (self.new.outbox ≡ self.old.outbox) × (self.new.kept ≡ self.old.kept) }
     {
-        if self.is_blocked() {
-            marks.raise(self.slot);
-            return Ok(());
-        }
-        let count = self.inbox.cached_slots();
         let ended = self.take_seen(number, fresh)?;
         if ended {
             notes.ended.push(number)?;
         }
         // What was taken may bring no output, and the thread waits to send on more.
-        if count != 0 {
-            self.tell(number, notes)?;
-        }
-        Ok(())
+        self.tell(number, notes)
     }
 
     /// The number of messages of a finished port that weren't taken yet.

@@ -3,15 +3,15 @@
 ghost use Rattle.std.specs.Prelude.{◌≡◌, ◌++◌, [], ◌∷◌, length, OnOk, OnErr};
 ghost use Rattle.std.specs.FinMap as finmap;
 ghost use Rattle.intake.specs.Ports.{sent_through, received_through, unread_through, SamePort};
-ghost use Rattle.intake.specs.Links.{taken_at, waiting_at, outbox_at, IsEnd, TakesNoMessage, TakesMessages, PutsShares};
+ghost use Rattle.intake.specs.Links.{taken_at, waiting_at, outbox_at, IsEnd, SameWait, TakesNoMessage, LooksAt, TakesSeen, PutsShares};
 
 use crate::events::port_of;
 use crate::link::Link;
-use crate::marks::Marks;
 use crate::message::Message;
 use crate::notes::Notes;
 use crate::port::PortEnd;
 use observer_core::Output;
+use port_hints::Marks;
 use std::alloc::Global;
 use std::collections::BTreeMap;
 use std::marker::Model;
@@ -65,7 +65,8 @@ impl Links {
 
     /// Puts outputs that are kept for the port.
     pub fn put_kept(&mut self, number: usize, notes: &mut Notes) -> Result<(), NoMemory>
-        ensures { TakesNoMessage self.old self.new }
+        ensures rests { TakesNoMessage self.old self.new }
+        ensures waits { SameWait self.old self.new }
     {
         match self.map.get_mut(&number) {
             None => return Ok(()),
@@ -86,7 +87,7 @@ impl Links {
 
     /// Looks up the number of messages to take of the port.
     pub fn look(&mut self, number: usize) -> usize
-        ensures { TakesNoMessage self.old self.new }
+        ensures { LooksAt (number ∷ []) self.old self.new }
     {
         match self.map.get_mut(&number) {
             None => return 0,
@@ -94,20 +95,65 @@ impl Links {
         }
     }
 
-    /// Takes the messages that the last look saw.
+    /// Takes the messages of the port that were seen.
     pub fn take(
         &mut self,
         number: usize,
         fresh: &mut Vec<(usize, Message)>,
         notes: &mut Notes,
-        marks: &Marks,
     ) -> Result<(), NoMemory>
-        ensures { OnOk result (TakesMessages self.old fresh.old.items self.new fresh.new.items) }
+        ensures { OnOk result (TakesSeen number self.old fresh.old.items self.new fresh.new.items) }
     {
         match self.map.get_mut(&number) {
             None => return Ok(()),
-            Some(link) => link.take(number, fresh, notes, marks),
+            Some(link) => link.take(number, fresh, notes),
         }
+    }
+
+    /// The number of messages of the port that were seen.
+    pub fn seen(&self, number: usize) -> usize
+        ensures { result ≡ length (waiting_at self.now number) }
+    {
+        match self.map.get(&number) {
+            None => return 0,
+            Some(link) => link.inbox.cached_slots(),
+        }
+    }
+
+    /// The slot of the port.
+    pub fn slot(&self, number: usize) -> Option<usize> {
+        let link = self.map.get(&number)?;
+        Some(link.slot)
+    }
+
+    /// How many bytes are under way to the port.
+    pub fn under_way(&self, number: usize, marks: &Marks) -> u64 {
+        match self.map.get(&number) {
+            None => 0,
+            Some(link) => marks.under_way_to(link.slot, link.put_bytes),
+        }
+    }
+
+    /// Whether `left` was asked of the port.
+    pub fn is_finished(&self, number: usize) -> bool {
+        match self.map.get(&number) {
+            None => false,
+            Some(link) => link.is_finished,
+        }
+    }
+
+    /// The client's port with the most bytes under way.
+    pub fn slowest(&self, marks: &Marks) -> Option<usize> {
+        let mut slowest = None;
+        let mut most = 0;
+        for (number, link) in self.map.iter() {
+            let bytes = marks.under_way_to(link.slot, link.put_bytes);
+            if *number != 0 && bytes > most {
+                slowest = Some(*number);
+                most = bytes;
+            }
+        }
+        slowest
     }
 
     /// Has the port looked at again in the next turn.
@@ -135,7 +181,8 @@ impl Links {
     /// Puts the outputs that are kept for these ports.
     #[tactic(auto, using(crate::proofs::Keeping::rests_same, crate::proofs::Keeping::rests_on))]
     pub fn put_all_kept(&mut self, numbers: &[usize], notes: &mut Notes) -> Result<(), NoMemory>
-        ensures { TakesNoMessage self.old self.new }
+        ensures rests { TakesNoMessage self.old self.new }
+        ensures waits { SameWait self.old self.new }
     {
         for number in numbers {
             self.put_kept(*number, notes)?;
@@ -144,39 +191,15 @@ impl Links {
     }
 
     /// Looks up the number of messages to take of these ports.
-    #[tactic(auto, using(crate::proofs::Keeping::rests_same, crate::proofs::Keeping::rests_on))]
+    #[tactic(auto, using(crate::proofs::Looking::looks_at_none, crate::proofs::Looking::looks_on))]
     pub fn look_all(&mut self, numbers: &[usize]) -> usize
-        ensures { TakesNoMessage self.old self.new }
+        ensures { LooksAt numbers.now self.old self.new }
     {
         let mut count = 0usize;
         for number in numbers {
             count = count.saturating_add(self.look(*number));
         }
         count
-    }
-
-    /// Has these ports looked at again in the next turn.
-    pub fn mark_all(&self, numbers: &[usize], marks: &Marks) {
-        for number in numbers {
-            self.mark(*number, marks);
-        }
-    }
-
-    /// Takes the messages that the last look saw, port by port.
-    #[tactic(auto, using(crate::proofs::Keeping::takes_none, crate::proofs::Keeping::takes_on))]
-    pub fn take_all(
-        &mut self,
-        numbers: &[usize],
-        fresh: &mut Vec<(usize, Message)>,
-        notes: &mut Notes,
-        marks: &Marks,
-    ) -> Result<(), NoMemory>
-        ensures { OnOk result (TakesMessages self.old fresh.old.items self.new fresh.new.items) }
-    {
-        for number in numbers {
-            self.take(*number, fresh, notes, marks)?;
-        }
-        Ok(())
     }
 
     /// Puts each output to its port.

@@ -15,6 +15,10 @@ pub struct Notes {
     pub ended: Vec<usize>,
     /// The ports for which outputs are kept.
     pub keeping: Vec<usize>,
+    /// The ports to which an output was put that closes the connection.
+    pub closing: Vec<usize>,
+    /// The number of bytes put to clients since the last messages were taken.
+    pub answered: usize,
 }
 
 impl Notes {
@@ -24,6 +28,8 @@ impl Notes {
             told: Vec::new(alloc),
             ended: Vec::new(alloc),
             keeping: Vec::new(alloc),
+            closing: Vec::new(alloc),
+            answered: 0,
         }
     }
 
@@ -31,7 +37,8 @@ impl Notes {
     pub fn reserve(&mut self, ports: usize) -> Result<(), NoMemory> {
         reserve(&mut self.told, ports)?;
         reserve(&mut self.ended, ports)?;
-        reserve(&mut self.keeping, ports)
+        reserve(&mut self.keeping, ports)?;
+        reserve(&mut self.closing, ports)
     }
 
     /// Begins another turn. `kept` becomes the list of the ports for which outputs are kept.
@@ -39,6 +46,7 @@ impl Notes {
         self.turn = self.turn.wrapping_add(1);
         self.told.clear();
         self.ended.clear();
+        self.closing.clear();
         kept.clear();
         mem::swap(&mut self.keeping, kept);
     }

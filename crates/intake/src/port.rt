@@ -3,9 +3,10 @@
 ghost use Rattle.std.specs.Prelude.{◌≡◌, ◌++◌, [], ◌∷◌, OnOk, IfErr, IfSome, IfNone};
 ghost use Rattle.intake.specs.Ports.{sent_through, received_through, IsFull, SamePort};
 
-use crate::marks::Mark;
+use crate::events::content_len;
 use crate::message::{Full, Message};
 use observer_core::Output;
+use port_hints::Mark;
 use rtrb::{Consumer, Producer, PushError};
 use std::marker::Model;
 
@@ -24,6 +25,8 @@ pub struct Port {
     mark: Mark,
     // The number of outputs received since the outbox was last empty.
     came: usize,
+    // How many bytes were received.
+    received: u64,
 }
 
 impl Model for Port {
@@ -49,7 +52,12 @@ impl Port {
     pub(crate) fn new(end: PortEnd, mark: Mark) -> Port
         ensures { result ≡ end }
     {
-        Port { end, mark, came: 0 }
+        Port {
+            end,
+            mark,
+            came: 0,
+            received: 0,
+        }
     }
 
     pub fn number(&self) -> usize
@@ -91,6 +99,7 @@ impl Port {
         match self.end.outbox.pop() {
             Ok(output) => {
                 self.came = self.came.saturating_add(1);
+                self.received = self.received.saturating_add(content_len(&output) as u64);
                 Some(output)
             }
             Err(_) => {
@@ -101,6 +110,18 @@ impl Port {
                 None
             }
         }
+    }
+
+    /// Tells the hub that so many bytes of the outputs received were written, and wakes it if it waits for that. What
+    /// isn't told is under way, and while that is much the hub takes no message of the port.
+    pub fn written(&self, bytes: usize) {
+        self.mark.wrote(bytes as u64);
+    }
+
+    /// Tells the hub that nothing of the outputs received is under way: what wasn't written is dropped.
+    pub fn written_all(&self) {
+        self.mark
+            .wrote(self.received.saturating_sub(self.mark.written()));
     }
 
     /// Whether the hub has taken all messages sent.
@@ -116,7 +137,12 @@ impl Port {
     pub fn finish(self) -> PortEnd
         ensures { result ≡ self }
     {
-        let Port { end, mark, came: _ } = self;
+        let Port {
+            end,
+            mark,
+            came: _,
+            received: _,
+        } = self;
         drop(mark);
         end
     }

@@ -2,6 +2,8 @@
 #![tactic(auto)]
 
 mod accept;
+mod bounds;
+mod budget;
 mod command;
 mod connections;
 mod hub;

@@ -1,6 +1,7 @@
 //! The server, once its sockets are open.
 
 use crate::accept::{Accepting, Acceptor, accept_all, open_door};
+use crate::bounds::Bounds;
 use crate::hub::{Hub, Parts};
 use crate::leading::{Leading, Source};
 use crate::log_keeping::LogKeeper;
@@ -196,12 +197,13 @@ fn prepare<R: Net + Clock>(
     listener: TcpListener,
 ) -> Result<Prepared, Failure> {
     let mut clock = Stopwatch::start(rt);
+    let bounds = Bounds::new(options, TimeoutBounds::default());
     let (source, beginning) = begin_at(alloc, options, origin, clock.now(rt))?;
     let Accepting {
         acceptor,
         from_acceptor,
         door,
-    } = open_door(rt, alloc, listener, options.max_clients)?;
+    } = open_door(rt, alloc, listener, bounds.places)?;
     let limits = SilenceLimits {
         tick: options.tick,
         init_limit: options.init_limit,
@@ -211,6 +213,7 @@ fn prepare<R: Net + Clock>(
         clock,
         leading: Leading::new(source, limits, options.give_up),
         log_keeper: LogKeeper::new(options.checkpoint),
+        bounds,
         from_acceptor,
         door,
     };

@@ -132,10 +132,10 @@ impl<L: Log> Journal<L> {
             "checkpoint at {zxid:#x} in {pause} ms, {nodes} nodes, log of {entries} transactions dropped");
     }
 
-    /// A checkpoint is left out, since it would take so many milliseconds.
-    pub fn checkpoint_left_out(&self, expected: u64, nodes: u64) {
+    /// A checkpoint is put off, since it would take so many milliseconds.
+    pub fn checkpoint_put_off(&self, expected: u64, nodes: u64) {
         warn!(self.log; target: "log",
-            "no checkpoint: of {nodes} nodes it would take some {expected} ms, and the log grows on");
+            "checkpoint put off: some {expected} ms for {nodes} nodes; it comes when the log is twice as long");
     }
 
     /// A turn took long.

@@ -3,7 +3,7 @@
 use crate::rows::{create, get, got};
 use crate::streams::{Shared, Source, Target};
 use apply_workers::OpenGate;
-use connection_loop::whole_frames;
+use connection_loop::{SessionLimits, whole_frames};
 use intake::{Desk, Message};
 use observer_core::{Config, default_limits};
 use serve::session_loop;
@@ -167,7 +167,7 @@ fn run_at<R: Threads + Wait + Clock + Copy + Send + Sync + 'static>(
     let mine = *rt;
     let session = Builder::new().stack_size(256 * 1024).spawn(
         rt,
-        move || session_loop(&mine, alloc, source, target, port),
+        move || session_loop(&mine, alloc, source, target, port, SessionLimits::default()),
     )?;
     let taken = take_all(rt, desk, seen);
     let end = session.join(rt);

@@ -74,7 +74,18 @@ impl Source {
     }
 }
 
-impl Read for Source {
+impl<R: Clock> Rest for Source<R> {
+    fn rest(&mut self, longest: u64) -> io::Result<()> {
+        thread::sleep(&self.rt, Duration::from_millis(longest.min(1)));
+        Ok(())
+    }
+
+    fn is_hurried(&self) -> bool {
+        false
+    }
+}
+
+impl<R: Clock> Read for Source<R> {
     fn read(&mut self, buf: &mut [u8]) -> io::Result<usize> {
         if buf.is_empty() {
             return Ok(0);

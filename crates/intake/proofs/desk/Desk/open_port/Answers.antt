@@ -1,5 +1,5 @@
 use Rattle.std.proofs.Common.{ap, ◌∙◌, refl, rules}
-use Rattle.rtrb.specs.Ring.{sent, received}
+use Rattle.rtrb.specs.Ring.{sent, received, known_items}
 use Rattle.intake.specs.declared.port.PortEnd.{PortEnd}
 use Rattle.intake.proofs.Adding.{AreNew, added}
 use Rattle.intake.proofs.desk.Desk.open_port.Goals as goal
@@ -19,11 +19,12 @@ returns-clause-ok c =
       outbox = rw outbox c.in_ok-outbox.ensures.pair;
       no_sent = c.in_ok-to_hub.ensures.producer.0;
       no_taken = ap (λ i. received i) inbox ∙ c.in_ok-to_hub.ensures.consumer.0;
+      no_seen = ap (λ i. known_items i) inbox ∙ c.in_ok-to_hub.ensures.consumer.1.0;
       no_put = ap (λ o. sent o) outbox ∙ c.in_ok-outbox.ensures.producer.0;
       no_received = c.in_ok-outbox.ensures.consumer.0;
       no_kept = c.new-link.ensures.2;
     } in
     added c.self.inside.closed c.self.inside.engine c.self.inside.links c.add-2.new.self c.self.inside.next
     c.in-Some.next
-    c.self.inside.fresh.items end c.new-3.result link c.args.self.now c.self.view_is c.new-3.ensures new refl
+    c.self.inside.fresh.items c.self.inside.later.items end c.new-3.result link c.args.self.now c.self.view_is c.new-3.ensures new refl
     c.in-Ok.ensures.ok (search rules)

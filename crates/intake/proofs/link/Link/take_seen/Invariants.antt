@@ -1,13 +1,18 @@
-use Rattle.std.proofs.Common.{◌≡◌, ◌≢◌, ◌++◌, ℕ, List}
-use Rattle.rtrb.specs.Ring.{received, SameConsumer}
-use Rattle.intake.specs.declared.message.Message.{Message}
-use Rattle.intake.specs.Messages.{part_of_port}
+use Rattle.std.proofs.Common.{◌≡◌, ◌++◌, length}
+use Rattle.rtrb.specs.Ring.{received, known_items, SameConsumer}
+use Rattle.intake.specs.Messages.{messages_of_port}
 use Rattle.intake.proofs.link.Link.take_seen.Given as goal
 
 abbrev pub invariant-loop : goal.invariant-loop
-invariant-loop l =
-    ((r : List Message) → received l.initial.self.inbox ≡ r ++ part_of_port l.number l.initial.fresh.items
-    → received l.self.inbox ≡ r ++ part_of_port l.number l.fresh.items)
-    × ((n : ℕ) → n ≢ l.number → part_of_port n l.fresh.items ≡ part_of_port n l.initial.fresh.items)
-    × SameConsumer l.initial.self.inbox l.self.inbox
-    × (l.self.outbox ≡ l.initial.self.outbox) × (l.self.kept ≡ l.initial.self.kept)
+invariant-loop l = record {
+  list : l.fresh.items ++ messages_of_port l.number (known_items l.self.inbox)
+      ≡ l.initial.fresh.items ++ messages_of_port l.number (known_items l.initial.self.inbox)
+  took : received l.self.inbox ++ known_items l.self.inbox
+      ≡ received l.initial.self.inbox ++ known_items l.initial.self.inbox
+  inbox : SameConsumer l.initial.self.inbox l.self.inbox
+  outbox : l.self.outbox ≡ l.initial.self.outbox
+  kept : l.self.kept ≡ l.initial.self.kept
+}
+
+abbrev pub decreases-loop : goal.decreases-loop
+decreases-loop l = length (known_items l.self.inbox)

@@ -1,7 +1,7 @@
 use Rattle.std.proofs.Common.{subst, refl}
 use Rattle.std.specs.Prelude.{IsSome}
 use Rattle.client_service.proofs.NatMaps.{seen}
-use Rattle.intake.proofs.Keeping.{written_over, rests_at, stays_took, same_owed_ends}
+use Rattle.intake.proofs.Keeping.{written_over, looks_there, stays_took, same_owed_ends}
 use Rattle.intake.proofs.links.Links.look.Goals as goal
 
 pub returns : goal.returns
@@ -11,6 +11,6 @@ returns c =
     c.in-Some.link.now now
     c.self.view_is c.in-Some.ensures.value
     ((c.get_mut.follows.holds now).3 (subst IsSome c.in-Some.ensures.value refl)) in
-    rests_at c.args.self.now c.args.number c.in-Some.link.now now (seen (c.get_mut.follows.lender now).entries) w
+    looks_there c.args.self.now c.args.number c.in-Some.link.now now (seen (c.get_mut.follows.lender now).entries) w
     (stays_took c.in-Some.link.now now c.look.ensures.inbox.0 c.look.ensures.outbox.0)
     c.look.ensures.inbox.1 (same_owed_ends c.in-Some.link.now now c.look.ensures.outbox)

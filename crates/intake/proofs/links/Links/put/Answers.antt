@@ -1,7 +1,6 @@
 use Rattle.std.proofs.Common.{◌≡◌, None, ℕ, ap, ◌∙◌, subst, refl}
 use Rattle.std.specs.Prelude.{IsSome}
 use Rattle.std.specs.FinMap as finmap
-use Rattle.rtrb.specs.Ring.{received}
 use Rattle.client_service.proofs.NatMaps.{seen}
 use Rattle.intake.proofs.Keeping.{written_over, puts_ok, drops_is, stays_put, none_there}
 use Rattle.intake.proofs.links.Links.put.Goals as goal
@@ -16,7 +15,7 @@ returns c =
     puts_ok c.put.result c.args.self.now c.port_of-number.result c.in-Some.link.now now
     (seen (c.get_mut.follows.lender now).entries) c.args.output
     c.port_of-number.ensures w (stays_put c.in-Some.link.now now c.put.ensures.outbox c.put.ensures.inbox)
-    (ap (λ i. received i) c.put.ensures.inbox) c.put.ensures.owes
+    c.put.ensures.inbox c.put.ensures.owes
 
 pub returns-in-None : goal.returns-in-None
 returns-in-None c =

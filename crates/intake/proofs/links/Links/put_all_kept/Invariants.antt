@@ -1,5 +1,5 @@
-use Rattle.intake.specs.Links.{TakesNoMessage}
+use Rattle.intake.specs.Links.{SameWait, TakesNoMessage}
 use Rattle.intake.proofs.links.Links.put_all_kept.Given as goal
 
 abbrev pub invariant-loop-number : goal.invariant-loop-number
-invariant-loop-number l = TakesNoMessage l.initial.self l.self
+invariant-loop-number l = record { rests : TakesNoMessage l.initial.self l.self; waits : SameWait l.initial.self l.self }

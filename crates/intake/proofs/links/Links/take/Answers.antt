@@ -14,4 +14,4 @@ returns c =
     takes_ok c.take.result c.args.self.now c.args.number c.in-Some.link.now now
     (seen (c.get_mut.follows.lender now).entries) c.args.fresh.now.items
     c.take.new.fresh.items w (stays_took c.in-Some.link.now now c.take.ensures.inbox c.take.ensures.outbox.0)
-    c.take.ensures.own c.take.ensures.others (same_owed_ends c.in-Some.link.now now c.take.ensures.outbox)
+    c.take.ensures.list c.take.ensures.took c.take.ensures.waits (same_owed_ends c.in-Some.link.now now c.take.ensures.outbox)

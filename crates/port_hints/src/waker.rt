@@ -21,8 +21,8 @@ impl Waker {
         self.parker.unpark();
     }
 
-    // Waits up to `at_most` for a wake. It may return early.
-    pub(crate) fn wait<R: Wait>(&self, rt: &R, at_most: Duration) {
+    /// Waits up to `at_most` for a wake. It may return early.
+    pub fn wait<R: Wait>(&self, rt: &R, at_most: Duration) {
         self.parker.park_timeout(rt, at_most);
     }
 }

@@ -1,0 +1,87 @@
+//! What a client's frame asks of the leader and of this server.
+
+ghost use Rattle.std.specs.Prelude.{◌≡◌, drop};
+ghost use Rattle.connection_loop.specs.Kinds.{kind_of_frame, kind_of_request, request_at};
+
+use client_records::{ReadKind, RequestKind};
+
+/// A longer ping or sync isn't one that may be held while others wait.
+const SHORT: usize = 256;
+
+/// The kinds of frames, by what the engine does with them while the leader owes an answer to one before.
+#[derive(Clone, Copy, Debug, PartialEq, Eq)]
+pub enum FrameKind {
+    /// A ping or an auth: it touches the session at once, and its answer is small.
+    Light,
+    /// A write or a sync: it goes to the leader at once, and its answer comes from the leader's stream.
+    Forwarded,
+    /// Answered by this server, in its turn: it is held while the leader owes an answer.
+    Local,
+    /// The same, where neither its length nor the data of one node bounds what it costs.
+    Heavy,
+}
+
+fn kind_of_request(kind: Option<RequestKind>, len: usize) -> FrameKind
+    ensures { result ≡ kind_of_request kind len }
+{
+    let Some(kind) = kind else {
+        return FrameKind::Local;
+    };
+    match kind {
+        RequestKind::Create
+        | RequestKind::Delete
+        | RequestKind::SetData
+        | RequestKind::SetAcl
+        | RequestKind::CloseSession => FrameKind::Forwarded,
+        RequestKind::Sync => {
+            if len <= SHORT {
+                FrameKind::Forwarded
+            } else {
+                FrameKind::Heavy
+            }
+        }
+        RequestKind::Ping => {
+            if len <= SHORT {
+                FrameKind::Light
+            } else {
+                FrameKind::Local
+            }
+        }
+        RequestKind::Auth => FrameKind::Light,
+        RequestKind::SetWatches => FrameKind::Heavy,
+        RequestKind::Read(ReadKind::GetChildren | ReadKind::GetChildren2) => FrameKind::Heavy,
+        RequestKind::Read(ReadKind::Exists | ReadKind::GetData | ReadKind::GetAcl)
+        | RequestKind::Check
+        | RequestKind::Multi
+        | RequestKind::AddWatch => FrameKind::Local,
+    }
+}
+
+/// What comes after an int, which takes four bytes; nothing where there are fewer.
+#[tactic(auto, using(crate::proofs::Ints::slice_after))]
+pub fn after_int(bytes: &[u8]) -> &[u8]
+    ensures { result.now ≡ drop 4 bytes.now }
+{
+    match bytes.get(4..) {
+        Some(rest) => rest,
+        None => &[],
+    }
+}
+
+// The type that the bytes begin with; `None` for one that isn't known, and where there are too few.
+fn request_at(bytes: &[u8]) -> Option<RequestKind>
+    ensures { result ≡ request_at bytes.now }
+{
+    match bytes.first_chunk::<4>() {
+        Some(code) => RequestKind::from_code(i32::from_be_bytes(*code)),
+        None => None,
+    }
+}
+
+/// The kind of a frame, without its length: its xid takes the first four bytes, and its type the next four. A frame that
+/// is too short for a type closes its connection.
+pub fn kind_of_frame(frame: &[u8]) -> FrameKind
+    ensures { result ≡ kind_of_frame frame.now }
+{
+    kind_of_request(request_at(after_int(frame)), frame.len())
+}

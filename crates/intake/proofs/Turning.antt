@@ -1,0 +1,244 @@
+-- The steps of a turn, one after the other.
+use Rattle.std.proofs.Common.{◌≡◌, ◌≢◌, ◌≤◌, ◌<◌, ◌+◌, ℕ, zero, suc, true, false, Bool, List, [], ◌∷◌, ◌++◌, length, take, get_or, Option, Some, None, Ok, Err, refl, ap, sym, ◌∙◌, subst, inl, inr, append_assoc, arith}
+use Rattle.std.specs.Prelude.{Contains, IsSome, ◌⊎◌, if◌then◌else◌}
+use Rattle.std.specs.FinMap as finmap
+use Rattle.std.proofs.lemmas.List.{append-nil, take_all, take_more}
+use Rattle.std.proofs.lemmas.List.Elements.{Contains-append_left, Contains-append_right, Contains-append_cases}
+use Rattle.std.proofs.lemmas.Bool.Decides.{eqb_tells}
+use Rattle.client_service.specs.declared.output.Output.{Output}
+use Rattle.client_service.specs.Steps.{StepResult}
+use Rattle.observer_core.specs.Machine.{Machine}
+use Rattle.observer_core.specs.Play.{play}
+use Rattle.observer_core.specs.declared.engine.Stop.TheVariants as stops
+use Rattle.intake.specs.Messages.{PortMessage, events_of, part_of_port, share_of_port, LeaderComesFirst}
+use Rattle.intake.specs.Links.{Links, taken_at, waiting_at, seen_at, owed_at, TakesSeen, PutsShares}
+use Rattle.intake.specs.Desk.{Desk, IsRemembered, ForgetsNone, TakesTurn, TakesNothing, AnswersTurn}
+use Rattle.intake.specs.Steps.{BeginsTurn, FeedsPort, ServesPorts}
+use Rattle.intake.specs.Agreement.{outputs_of}
+use Rattle.intake.proofs.Parts.{part_joined, share_joined, leader_alone, leader_before}
+use Rattle.intake.proofs.Keeping.{rests_same, all_stay_on, still_open}
+use Rattle.intake.proofs.Agreeing.{joined}
+
+-- ---- a port is fed
+
+pub engine_is : (closed : Bool) (engine : Option Machine) (m : Machine) → (if closed then None else engine) ≡ Some m
+    → engine ≡ Some m
+engine_is true engine m is = cc
+engine_is false engine m is = is
+
+pub fed : (n : ℕ) (old new : Desk) (links : Links) (outputs : List Output)
+    → TakesSeen n old.links old.fresh links new.fresh → PutsShares links outputs new.links
+    → ((m : Machine) → old.machine ≡ Some m → (outputs ≡ (play m (events_of (seen_at old.links n))).outputs)
+    × (new.machine ≡ Some (play m (events_of (seen_at old.links n))).after))
+    → new.next ≡ old.next → new.later ≡ old.later → FeedsPort n old new
+fed n old new links outputs takes puts plays next later = record {
+  fresh = takes.list;
+  machine = λ m is. (plays m is).1;
+  took = λ k. puts.took k ∙ takes.took k;
+  owes = λ m is k live.
+      puts.owes k (still_open (finmap.get old.links k) (finmap.get links k) (takes.stay.at k) live)
+      ∙ ap (λ l. l ++ share_of_port k outputs) (takes.owes k)
+      ∙ ap (λ o. owed_at old.links k ++ share_of_port k o) (plays m is).0;
+  none_waits = puts.waits n ∙ takes.none_waits;
+  others_wait = λ k apart. puts.waits k ∙ takes.others_wait k apart;
+  stay = all_stay_on old.links links new.links takes.stay puts.stay;
+  next = next;
+  later = later;
+}
+
+forgets_none_fed : (n : ℕ) (old new : Desk) → FeedsPort n old new → ForgetsNone old new
+forgets_none_fed n old new f k r = elim (eqb_tells k n) [
+  | inl h ↦ inl (ap (λ j. waiting_at new.links j) h.1 ∙ f.none_waits)
+  | inr h ↦ elim r [
+    | inl none ↦ inl (f.others_wait k h.1 ∙ none)
+    | inr there ↦ inr (let P : List ℕ → Type 0 = λ l. Contains l k in subst P (sym f.later) there)
+  ]
+]
+
+-- ---- the leader's port
+
+pub turn_of_none : (m : Machine) (d : Desk) → d.machine ≡ Some m → d.fresh ≡ [] → waiting_at d.links 0 ≡ []
+    → TakesTurn m d d
+turn_of_none m d machine fresh whole = record {
+  machine = machine ∙ ap (λ (l : List PortMessage). Some (play m (events_of l)).after) (sym fresh);
+  took = λ n. sym (append-nil (taken_at d.links n)) ∙ ap (λ l. taken_at d.links n ++ part_of_port n l) (sym fresh);
+  owes = λ n live. sym (append-nil (owed_at d.links n))
+      ∙ ap (λ (l : List PortMessage). owed_at d.links n ++ share_of_port n (play m (events_of l)).outputs) (sym fresh);
+  stay = (rests_same d.links).stay;
+  next = refl;
+  leader_first = (let P : List PortMessage → Type 0 = λ l. LeaderComesFirst l in subst P (sym fresh) refl);
+  leader_whole = whole;
+  forgets_none = λ n r. r;
+}
+
+pub turn_of_leader : (m : Machine) (old new : Desk) → old.machine ≡ Some m → old.fresh ≡ [] → FeedsPort 0 old new
+    → TakesTurn m old new
+turn_of_leader m old new machine fresh f =
+    let is : new.fresh ≡ seen_at old.links 0 = f.fresh ∙ ap (λ l. l ++ seen_at old.links 0) fresh in
+    record {
+      machine = f.machine m machine
+          ∙ ap (λ (l : List PortMessage). Some (play m (events_of l)).after) (sym is);
+      took = λ n. f.took n ∙ ap (λ l. taken_at old.links n ++ part_of_port n l) (sym is);
+      owes = λ n live. f.owes m machine n live
+          ∙ ap (λ (l : List PortMessage). owed_at old.links n ++ share_of_port n (play m (events_of l)).outputs)
+          (sym is);
+      stay = f.stay;
+      next = f.next;
+      leader_first = (let P : List PortMessage → Type 0 = λ l. LeaderComesFirst l in
+          subst P (sym is) (leader_alone (waiting_at old.links 0)));
+      leader_whole = f.none_waits;
+      forgets_none = forgets_none_fed 0 old new f;
+    }
+
+-- ---- a client's port
+
+contains_one : (k n : ℕ) → Contains (k ∷ []) n → n ≡ k
+contains_one k n (zero, within, is) = sym is
+contains_one k n (suc i, within, is) = absurd (let e : suc i < 1 = within in omega (arith, e))
+
+pub serves_none : (d : Desk) → ServesPorts [] d d
+serves_none d = record {
+  goes_on = λ m first t. t;
+  served = λ n apart h. absurd (let e : h.0 < 0 = h.1 in omega (arith, e));
+  forgets_none = λ n r. r;
+}
+
+pub serves_idle : (k : ℕ) (d : Desk) → (k ≢ 0 → waiting_at d.links k ≡ []) → ServesPorts (k ∷ []) d d
+serves_idle k d none = record {
+  goes_on = λ m first t. t;
+  served = λ n apart h.
+      let is = contains_one k n h in
+      inl (ap (λ j. waiting_at d.links j) is ∙ none (λ zero. apart (is ∙ zero)));
+  forgets_none = λ n r. r;
+}
+
+left_too : (k : ℕ) (d : Desk) → ForgetsNone d (record d { later = d.later ++ k ∷ [] })
+left_too k d n r = elim r [
+  | inl none ↦ inl none
+  | inr there ↦ inr (Contains-append_left d.later (k ∷ []) n there)
+]
+
+pub serves_left : (k : ℕ) (d new : Desk) → new ≡ record d { later = d.later ++ k ∷ [] } → ServesPorts (k ∷ []) d new
+serves_left k d new is =
+    let P : Desk → Type 0 = λ x. ServesPorts (k ∷ []) d x in
+    subst P (sym is) (record {
+      goes_on = λ m first t. record {
+        machine = t.machine;
+        took = t.took;
+        owes = t.owes;
+        stay = t.stay;
+        next = t.next;
+        leader_first = t.leader_first;
+        leader_whole = t.leader_whole;
+        forgets_none = λ n r. left_too k d n (t.forgets_none n r);
+      };
+      served = λ n apart h. inr (Contains-append_right d.later (k ∷ []) n h);
+      forgets_none = left_too k d;
+    })
+
+turn_goes_on : (k : ℕ) (m : Machine) (first old new : Desk) → k ≢ 0 → FeedsPort k old new → TakesTurn m first old
+    → TakesTurn m first new
+turn_goes_on k m first old new apart f t =
+    let seen = seen_at old.links k in
+    let outs : List PortMessage → List Output = λ l. (play m (events_of l)).outputs in
+    let next : Machine = (play m (events_of old.fresh)).after in
+    record {
+      machine = f.machine next t.machine
+          ∙ ap (λ (h : StepResult Machine). Some h.after) (sym (joined m old.fresh seen))
+          ∙ ap (λ (l : List PortMessage). Some (play m (events_of l)).after) (sym f.fresh);
+      took = λ n. f.took n ∙ ap (λ l. l ++ part_of_port n seen) (t.took n)
+          ∙ append_assoc (taken_at first.links n) (part_of_port n old.fresh) (part_of_port n seen)
+          ∙ ap (λ l. taken_at first.links n ++ l) (sym (part_joined n old.fresh seen))
+          ∙ ap (λ l. taken_at first.links n ++ part_of_port n l) (sym f.fresh);
+      owes = λ n live.
+          f.owes next t.machine n
+          (still_open (finmap.get first.links n) (finmap.get old.links n) (t.stay.at n) live)
+          ∙ ap (λ l. l ++ share_of_port n (play next (events_of seen)).outputs) (t.owes n live)
+          ∙ append_assoc (owed_at first.links n) (share_of_port n (outs old.fresh))
+          (share_of_port n (play next (events_of seen)).outputs)
+          ∙ ap (λ l. owed_at first.links n ++ l)
+          (sym (share_joined n (outs old.fresh) (play next (events_of seen)).outputs)
+          ∙ ap (λ (h : StepResult Machine). share_of_port n h.outputs) (sym (joined m old.fresh seen)))
+          ∙ ap (λ (l : List PortMessage). owed_at first.links n ++ share_of_port n (outs l)) (sym f.fresh);
+      stay = all_stay_on first.links old.links new.links t.stay f.stay;
+      next = f.next ∙ t.next;
+      leader_first = (let P : List PortMessage → Type 0 = λ l. LeaderComesFirst l in
+          subst P (sym f.fresh) (leader_before old.fresh k (waiting_at old.links k) apart t.leader_first));
+      leader_whole = f.others_wait 0 (λ e. apart (sym e)) ∙ t.leader_whole;
+      forgets_none = λ n r. forgets_none_fed k old new f n (t.forgets_none n r);
+    }
+
+pub serves_fed : (k : ℕ) (old new : Desk) → k ≢ 0 → FeedsPort k old new → ServesPorts (k ∷ []) old new
+serves_fed k old new apart f = record {
+  goes_on = λ m first t. turn_goes_on k m first old new apart f t;
+  served = λ n _ h. inl (ap (λ j. waiting_at new.links j) (contains_one k n h) ∙ f.none_waits);
+  forgets_none = forgets_none_fed k old new f;
+}
+
+-- ---- one port after the other
+
+serves_on : (xs ys : List ℕ) (a b c : Desk) → ServesPorts xs a b → ServesPorts ys b c → ServesPorts (xs ++ ys) a c
+serves_on xs ys a b c x y = record {
+  goes_on = λ m first t. y.goes_on m first (x.goes_on m first t);
+  served = λ n apart h. elim (Contains-append_cases xs ys n h) [
+    | inl p ↦ y.forgets_none n (x.served n apart p)
+    | inr q ↦ y.served n apart q
+  ];
+  forgets_none = λ n r. y.forgets_none n (x.forgets_none n r);
+}
+
+pub serves_next : (numbers : List ℕ) (k d : ℕ) (a b c : Desk) → k < length numbers → ServesPorts (take k numbers) a b
+    → ServesPorts (get_or numbers k d ∷ []) b c → ServesPorts (take (k + 1) numbers) a c
+serves_next numbers k d a b c within x y =
+    let P : List ℕ → Type 0 = λ l. ServesPorts l a c in
+    subst P (sym (take_more numbers k d within)) (serves_on (take k numbers) (get_or numbers k d ∷ []) a b c x y)
+
+pub serves_all : (numbers : List ℕ) (k : ℕ) (a b : Desk) → length numbers ≤ k → ServesPorts (take k numbers) a b
+    → ServesPorts numbers a b
+serves_all numbers k a b all x =
+    let P : List ℕ → Type 0 = λ l. ServesPorts l a b in subst P (take_all k numbers all) x
+
+-- ---- the whole turn
+
+some_of : (o : Option Machine) → IsSome o → (m : Machine) × (o ≡ Some m)
+some_of None is = absurd is
+some_of (Some m) is = (m, refl)
+
+turn_from : (queue : List ℕ) (m : Machine) (a b c : Desk) → BeginsTurn queue a b → TakesTurn m b c
+    → ((n : ℕ) → n ≢ 0 → Contains queue n → IsRemembered n c) → TakesTurn m a c
+turn_from queue m a b c begins t served = record {
+  machine = t.machine;
+  took = λ n. t.took n ∙ ap (λ l. l ++ part_of_port n c.fresh) (begins.rests.links.took n);
+  owes = λ n live.
+      t.owes n (still_open (finmap.get a.links n) (finmap.get b.links n) (begins.rests.links.stay.at n) live)
+      ∙ ap (λ l. l ++ share_of_port n (outputs_of m c.fresh)) (begins.rests.links.owes n);
+  stay = all_stay_on a.links b.links c.links begins.rests.links.stay t.stay;
+  next = t.next ∙ begins.rests.next;
+  leader_first = t.leader_first;
+  leader_whole = t.leader_whole;
+  forgets_none = λ n r. elim (eqb_tells n 0) [
+    | inl h ↦ inl (ap (λ j. waiting_at c.links j) h.1 ∙ t.leader_whole)
+    | inr h ↦ elim (begins.queued n h.1 r) [
+      | inl none ↦ t.forgets_none n (inl none)
+      | inr there ↦ served n h.1 there
+    ]
+  ];
+}
+
+pub answers_ok : (queue : List ℕ) (count : ℕ) (a b c : Desk) → BeginsTurn queue a b
+    → ((m : Machine) → b.machine ≡ Some m → b.fresh ≡ [] → TakesTurn m b c)
+    → ((n : ℕ) → n ≢ 0 → Contains queue n → IsRemembered n c) → count ≡ length c.fresh
+    → AnswersTurn (Ok count) a.machine a c
+answers_ok queue count a b c begins turn served counts =
+    let s = some_of a.machine begins.is_open in
+    let P : Option Machine → Type 0 = λ o. AnswersTurn (Ok count) o a c in
+    subst P (sym s.1) (
+      counts,
+      turn_from queue s.0 a b c begins (turn s.0 (begins.rests.machine ∙ s.1) begins.fresh) served,
+    )
+
+pub answers_refused : (queue : List ℕ) (a b c : Desk) → BeginsTurn queue a b → c.machine ≡ None
+    → AnswersTurn (Err stops.NoMemory) a.machine a c
+answers_refused queue a b c begins closed =
+    let s = some_of a.machine begins.is_open in
+    let P : Option Machine → Type 0 = λ o. AnswersTurn (Err stops.NoMemory) o a c in subst P (sym s.1) (inl closed)

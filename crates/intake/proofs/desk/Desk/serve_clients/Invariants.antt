@@ -1,0 +1,6 @@
+use Rattle.std.proofs.Common.{take}
+use Rattle.intake.specs.Steps.{ServesPorts}
+use Rattle.intake.proofs.desk.Desk.serve_clients.Given as goal
+
+abbrev pub invariant-loop-number : goal.invariant-loop-number
+invariant-loop-number g l = ServesPorts (take l.number-index l.numbers) l.initial.self l.self

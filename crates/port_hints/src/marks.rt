@@ -1,0 +1,314 @@
+//! What the threads of the ports and the hub tell each other beside messages and outputs.
+//!
+//! Each port has a slot, which another port gets when it is closed, and each slot has a mark: the port may have
+//! something for the hub. So a turn looks at one word for each 64 slots and at the ports that are marked, and not at
+//! each port. A sender sets the mark of the slot first and then that of the group; the hub clears them in the other
+//! order, and then takes messages. So a message sent before a mark was cleared is taken, and one that is sent later
+//! marks again.
+//!
+//! Each slot counts the bytes that its thread has written, too. The hub counts those that it puts, and so it knows what
+//! is under way.
+
+ghost use Rattle.port_hints.specs.Lists.{KeepsEach};
+
+use crate::waker::Waker;
+use slab::Slab;
+use std::alloc::Global;
+use std::sync::Arc;
+use std::sync::atomic::{AtomicBool, AtomicU64, Ordering};
+use values::NoMemory;
+
+const GROUP: usize = 64;
+
+#[derive(Drop)]
+struct Slot {
+    mark: AtomicBool,
+    // How many bytes the port's thread has written.
+    written: AtomicU64,
+}
+
+// Some slots, and one mark for the group: some of theirs may be set.
+#[derive(Drop)]
+struct Group {
+    any: AtomicBool,
+    slots: Vec<Slot>,
+}
+
+impl Group {
+    fn new(alloc: Global) -> Result<Group, NoMemory> {
+        let mut slots = Vec::with_capacity(alloc, GROUP)?;
+        for _ in 0..GROUP {
+            slots.push(Slot {
+                mark: AtomicBool::new(false),
+                written: AtomicU64::new(0),
+            })?;
+        }
+        Ok(Group {
+            any: AtomicBool::new(false),
+            slots,
+        })
+    }
+
+    fn raise(&self, place: usize) {
+        if let Some(slot) = self.slots.get(place) {
+            if !slot.mark.swap(true, Ordering::SeqCst) {
+                self.any.store(true, Ordering::SeqCst);
+            }
+        }
+    }
+
+    // Clears the group's mark and returns whether a slot may be marked.
+    fn take_any(&self) -> bool {
+        self.any.load(Ordering::SeqCst) && self.any.swap(false, Ordering::SeqCst)
+    }
+
+    // Clears the slot's mark and returns whether it was set.
+    fn take(&self, place: usize) -> bool {
+        match self.slots.get(place) {
+            None => false,
+            Some(slot) => {
+                slot.mark.load(Ordering::SeqCst) && slot.mark.swap(false, Ordering::SeqCst)
+            }
+        }
+    }
+
+    // The count of the bytes that the slot's thread has written.
+    fn written(&self, place: usize) -> Option<&AtomicU64> {
+        let slot = self.slots.get(place)?;
+        Some(&slot.written)
+    }
+}
+
+// What the hub and all threads share.
+#[derive(Drop)]
+struct Shared {
+    waker: Arc<Waker, Global>,
+    // How many bytes were written to clients.
+    written: AtomicU64,
+    // The hub waits for bytes to be written.
+    is_awaited: AtomicBool,
+}
+
+/// A port's slot, and the waker of the hub's thread.
+#[derive(Drop)]
+pub struct Mark {
+    group: Arc<Group, Global>,
+    place: usize,
+    is_client: bool,
+    shared: Arc<Shared, Global>,
+}
+
+impl Mark {
+    /// Marks the port, and wakes the hub's thread.
+    pub fn raise(&self) {
+        self.group.raise(self.place);
+        self.shared.waker.wake();
+    }
+
+    /// Wakes the hub's thread.
+    pub fn wake(&self) {
+        self.shared.waker.wake();
+    }
+
+    /// How many bytes the port's thread has written.
+    pub fn written(&self) -> u64 {
+        match self.group.written(self.place) {
+            None => 0,
+            Some(written) => written.load(Ordering::SeqCst),
+        }
+    }
+
+    /// Counts bytes that were written, and wakes the hub's thread if it waits for that.
+    pub fn wrote(&self, bytes: u64) {
+        if let Some(written) = self.group.written(self.place) {
+            written.fetch_add(bytes, Ordering::SeqCst);
+        }
+        if self.is_client {
+            self.shared.written.fetch_add(bytes, Ordering::SeqCst);
+        }
+        if self.shared.is_awaited.load(Ordering::SeqCst)
+            && self.shared.is_awaited.swap(false, Ordering::SeqCst)
+        {
+            self.shared.waker.wake();
+        }
+    }
+}
+
+// The port that has a slot.
+#[derive(Drop)]
+struct Seat {
+    number: usize,
+    // Its last messages were costly, or it hasn't sent any.
+    is_costly: bool,
+}
+
+/// The slots, with the port of each, and their marks.
+#[derive(Drop)]
+pub struct Marks {
+    alloc: Global,
+    shared: Arc<Shared, Global>,
+    groups: Vec<Arc<Group, Global>>,
+    seats: Slab<Seat>,
+    // How many bytes were put to clients.
+    put: u64,
+}
+
+impl Marks {
+    pub fn new(alloc: Global) -> Result<Marks, NoMemory> {
+        let shared = Shared {
+            waker: Arc::new(alloc, Waker::new())?,
+            written: AtomicU64::new(0),
+            is_awaited: AtomicBool::new(false),
+        };
+        Ok(Marks {
+            alloc,
+            shared: Arc::new(alloc, shared)?,
+            groups: Vec::new(alloc),
+            seats: Slab::new(alloc),
+            put: 0,
+        })
+    }
+
+    /// Gives the port a slot, and returns the slot with its mark.
+    pub fn add(&mut self, number: usize) -> Result<(usize, Mark), NoMemory> {
+        let slot = self.seats.vacant_key();
+        let index = slot / GROUP;
+        if self.groups.get(index).is_none() {
+            self.groups
+                .push(Arc::new(self.alloc, Group::new(self.alloc)?)?)?;
+        }
+        let Some(group) = self.groups.get(index) else {
+            return Err(NoMemory);
+        };
+        let mark = Mark {
+            group: Arc::try_clone(group)?,
+            place: slot % GROUP,
+            is_client: number != 0,
+            shared: Arc::try_clone(&self.shared)?,
+        };
+        self.seats.insert(Seat {
+            number,
+            is_costly: true,
+        })?;
+        Ok((slot, mark))
+    }
+
+    /// Frees the slot of a port to which so many bytes were put.
+    pub fn remove(&mut self, slot: usize, put: u64) {
+        let Some(seat) = self.seats.try_remove(slot) else {
+            return;
+        };
+        let Some(group) = self.groups.get(slot / GROUP) else {
+            return;
+        };
+        let Some(written) = group.written(slot % GROUP) else {
+            return;
+        };
+        let written = written.swap(0, Ordering::SeqCst);
+        if seat.number != 0 {
+            self.shared.written.fetch_sub(written, Ordering::SeqCst);
+            self.put = self.put.saturating_sub(put);
+        }
+    }
+
+    /// Marks a port again.
+    pub fn raise(&self, slot: usize) {
+        if let Some(group) = self.groups.get(slot / GROUP) {
+            group.raise(slot % GROUP);
+        }
+    }
+
+    // Appends the marked ports, and clears their marks. After a refused allocation the ports that weren't appended stay
+    // marked.
+    fn take(&self, numbers: &mut Vec<usize>) -> Result<(), NoMemory>
+        ensures { KeepsEach numbers.old.items numbers.new.items }
+    {
+        for (index, group) in self.groups.iter().enumerate() {
+            if group.take_any() {
+                if self.take_group(index, group, numbers).is_err() {
+                    group.any.store(true, Ordering::SeqCst);
+                    return Err(NoMemory);
+                }
+            }
+        }
+        Ok(())
+    }
+
+    fn take_group(
+        &self,
+        index: usize,
+        group: &Group,
+        numbers: &mut Vec<usize>,
+    ) -> Result<(), NoMemory>
+        ensures { KeepsEach numbers.old.items numbers.new.items }
+    {
+        let first = index.saturating_mul(GROUP);
+        for place in 0..GROUP {
+            if group.take(place) {
+                if let Some(seat) = self.seats.get(first.saturating_add(place)) {
+                    if numbers.push(seat.number).is_err() {
+                        group.raise(place);
+                        return Err(NoMemory);
+                    }
+                }
+            }
+        }
+        Ok(())
+    }
+
+    /// Adds the marked ports to a list of ports, sorts it, and clears their marks. After a refused allocation the ports
+    /// that weren't added stay marked.
+    pub fn add_to(&self, numbers: &mut Vec<usize>) -> Result<(), NoMemory>
+        ensures { KeepsEach numbers.old.items numbers.new.items }
+    {
+        let taken = self.take(numbers);
+        numbers.sort_unstable();
+        numbers.dedup();
+        taken
+    }
+
+    /// Whether the port's last messages were costly. A new port is.
+    pub fn is_costly(&self, slot: usize) -> bool {
+        match self.seats.get(slot) {
+            None => true,
+            Some(seat) => seat.is_costly,
+        }
+    }
+
+    pub fn set_costly(&mut self, slot: usize, is_costly: bool) {
+        if let Some(seat) = self.seats.get_mut(slot) {
+            seat.is_costly = is_costly;
+        }
+    }
+
+    /// Counts bytes that were put to clients.
+    pub fn add_put(&mut self, bytes: usize) {
+        self.put = self.put.saturating_add(bytes as u64);
+    }
+
+    /// How many bytes are under way to all clients.
+    pub fn under_way(&self) -> u64 {
+        self.put
+            .saturating_sub(self.shared.written.load(Ordering::SeqCst))
+    }
+
+    /// How many bytes are under way to a port, to which so many were put.
+    pub fn under_way_to(&self, slot: usize, put: u64) -> u64 {
+        let Some(group) = self.groups.get(slot / GROUP) else {
+            return 0;
+        };
+        match group.written(slot % GROUP) {
+            None => 0,
+            Some(written) => put.saturating_sub(written.load(Ordering::SeqCst)),
+        }
+    }
+
+    /// Has the next thread that writes wake the hub's.
+    pub fn await_writes(&self) {
+        self.shared.is_awaited.store(true, Ordering::SeqCst);
+    }
+
+    pub fn waker(&self) -> &Arc<Waker, Global> {
+        &self.shared.waker
+    }
+}
