@@ -156,15 +156,15 @@ def test_writes_while_the_leader_takes_nothing():
 
 def test_connections_that_say_nothing():
     """Such as say nothing, and such as say little by little that they want a session."""
-    with Attacked("--unconnected", "1") as server:
+    with Attacked("--unconnected", "3") as server:
         with Beside("connections that say nothing", server) as beside:
             silent, trickling = ([beside.connection() for _ in range(100)] for _ in range(2))
+            assert wait_until(lambda: server.threads() > 200, 2), server.threads()
             for at in range(4):
                 for it in trickling:
                     it.sendall(CONNECT[at : at + 1])
                 assert server.word(b"ruok") == b"imok"
                 time.sleep(0.2)
-            assert server.threads() > 200, server.threads()
             for it in silent + trickling:
                 assert is_closed(it)
 
