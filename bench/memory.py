@@ -188,9 +188,10 @@ def make(server, count, content):
     """Has so many nodes created, and returns the paths of those that are set."""
     paths = [b"/p%02d" % parent for parent in range(PARENTS)]
     children = [b"%s/n%05d" % (paths[number % PARENTS], number) for number in range(max(count - PARENTS, 1))]
-    bodies = [(generate.CREATE, generate.create(it, content)) for it in paths + children]
-    for at in range(0, len(bodies), CHUNK):
-        server.take(Chunk(bodies[at : at + CHUNK]))
+    made = paths + children
+    # A part after the other, since a leader that says nothing for ten seconds is given up.
+    for at in range(0, len(made), CHUNK):
+        server.take(Chunk([(generate.CREATE, generate.create(it, content)) for it in made[at : at + CHUNK]]))
     server.settles()
     return children
 

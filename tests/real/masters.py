@@ -108,8 +108,9 @@ class Lagging:
         assert client is None or client.client.exists(last)
         # A checkpoint that is due by now is taken.
         time.sleep(1)
+        began = time.monotonic()
         self.link.cut()
-        return time.monotonic(), last
+        return began, last
 
     def end(self):
         ended(self.voters)

@@ -121,7 +121,9 @@ def test_what_cannot_be_opened():
         closed.bind(("127.0.0.1", 0))
         here, gone = str(taken.getsockname()[1]), str(closed.getsockname()[1])
         cannot_open(gone, "--leader", gone, "--client", "0")
-        cannot_open("no-such-host.invalid", "--leader", "no-such-host.invalid:2888", "--client", "0", "--id", "9")
+        unknown = "cannot resolve no-such-host.invalid: failed to lookup address information"
+        cannot_open(unknown, "--leader", "no-such-host.invalid:2888", "--client", "0", "--id", "9")
+        cannot_open(unknown, "--leader", here, "--client", "no-such-host.invalid:2181")
         cannot_open(here, "--leader", here, "--client", here)
         cannot_open(here, "--servers", f"127.0.0.1:{here}", "--client", here, "--id", "9")
         file = "/no/such/folder/file"

@@ -27,6 +27,7 @@ import checkpoints  # noqa: E402
 import commands  # noqa: E402
 import forwarded  # noqa: E402
 import load  # noqa: E402
+import logs  # noqa: E402
 import next_leaders  # noqa: E402
 import several  # noqa: E402
 import silence  # noqa: E402
@@ -37,7 +38,7 @@ from server import (  # noqa: E402
 )
 
 MODULES = (
-    commands, sys.modules[__name__], next_leaders, silence, checkpoints, bounds, attacks, attacks_on_memory,
+    commands, sys.modules[__name__], logs, next_leaders, silence, checkpoints, bounds, attacks, attacks_on_memory,
 )
 
 

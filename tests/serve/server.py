@@ -122,7 +122,8 @@ class Program:
             return b"".join(iter(lambda: connection.recv(4096), b""))
 
     def threads(self):
-        return len(os.listdir(f"/proc/{self.program.pid}/task"))
+        """Returns how many threads it has, without the one that writes the log."""
+        return len(os.listdir(f"/proc/{self.program.pid}/task")) - 1
 
     def descriptors(self):
         return len(os.listdir(f"/proc/{self.program.pid}/fd"))

@@ -86,13 +86,13 @@ going_all most k settled bytes h =
     let none : most - k ≡ 0 = omega (arith, h) in
     ap (λ n. frames_going n settled bytes) none ∙ going_none settled bytes
 
-abbrev going_read : ℕ → Bool → List ℕ → Result (List ℕ × List ℕ) Fault → ℕ
+abbrev pub going_read : ℕ → Bool → List ℕ → Result (List ℕ × List ℕ) Fault → ℕ
 going_read n settled bytes r =
     let items = items_after_read r (λ v. items_within frames_of_client n tt)
     (place_after_fault (frames_of_client.reading tt) tt bytes) in
     going items.found items.left.unread settled
 
-going_first : (n : ℕ) (settled : Bool) (bytes : List ℕ) → frames_going (suc n) settled bytes
+pub going_first : (n : ℕ) (settled : Bool) (bytes : List ℕ) → frames_going (suc n) settled bytes
     ≡ going_read n settled bytes ((frame_format client_frame_limit).read bytes)
 unfolding items_within
 going_first n settled bytes = refl

@@ -186,7 +186,8 @@ impl Incoming {
 
     /// Whether something can be sent on, once all frames before it are answered.
     pub fn is_ready(&self) -> bool
-        ensures { IsTrue result ↔ IsSome (next_piece self.now 1 true) }
+        ensures ready { IsTrue result ↔ IsSome (next_piece self.now 1 true) }
+        ensures full { buffer_length ≤ length self.now.bytes → result ≡ true }
     {
         self.next(1, true).is_some()
     }
@@ -229,7 +230,7 @@ impl Incoming {
     /// rest of one that was sent on in part doesn't wait.
     pub fn next(&self, most: usize, settled: bool) -> Option<Piece>
         ensures piece { result ≡ next_piece self.now most settled }
-        ensures most { self.now.cutting ≡ Cutting.Frames → IfSome result (λ p. p.frames ≤ most) }
+        ensures most { IfSome result (λ p. p.frames ≤ most) }
         ensures within { IfSome result (λ p. (0 < p.len) × (p.len ≤ length self.now.bytes)) }
         ensures full { buffer_length ≤ length self.now.bytes → 0 < most → settled ≡ true → IsSome result }
         ensures ends { self.now.cutting ≡ Cutting.Frames
@@ -250,6 +251,7 @@ impl Incoming {
         ensures piece { result ≡ last_piece self.now.bytes }
         ensures within { IfSome result (λ p. (0 < p.len) × (p.len ≤ length self.now.bytes)) }
         ensures some { 0 < length self.now.bytes → IsSome result }
+        ensures frames { IfSome result (λ p. p.frames ≡ 0) }
     {
         let len = self.waiting().len();
         if len == 0 {

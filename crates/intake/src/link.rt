@@ -8,9 +8,9 @@ ghost use Rattle.intake.specs.Ports.{sent_through, received_through, unread_thro
 
 use crate::events::{content_len, is_close};
 use crate::message::Message;
-use crate::notes::Notes;
 use crate::port::PortEnd;
 use observer_core::Output;
+use port_hints::Notes;
 use rtrb::{Consumer, Producer};
 use std::alloc::Global;
 use std::collections::VecDeque;

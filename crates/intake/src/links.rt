@@ -8,10 +8,9 @@ ghost use Rattle.intake.specs.Links.{taken_at, waiting_at, outbox_at, IsEnd, Sam
 use crate::events::port_of;
 use crate::link::Link;
 use crate::message::Message;
-use crate::notes::Notes;
 use crate::port::PortEnd;
 use observer_core::Output;
-use port_hints::Marks;
+use port_hints::{Marks, Notes};
 use std::alloc::Global;
 use std::collections::BTreeMap;
 use std::marker::Model;

@@ -14,6 +14,7 @@ use values::Blob;
 const MANY: usize = 12_000;
 
 /// A budget for the messages of so many ports, all cheap.
+#[derive(Drop)]
 struct Ports(usize);
 
 impl Budget for Ports {

@@ -267,7 +267,7 @@ impl<L: Log, W: Write + Drop> Hub<L, W> {
         let paused = self.pause.rest(self.clock.microseconds(rt));
         let rest = rest.min(LONGEST_WAIT);
         let rest = if paused > 0 {
-            rest.min(paused / 1000 + 1)
+            rest.min((paused / 1000).saturating_add(1))
         } else {
             rest
         };

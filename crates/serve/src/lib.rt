@@ -9,6 +9,7 @@ mod connections;
 mod hub;
 mod leading;
 mod log_keeping;
+mod logging;
 mod record;
 mod serving;
 mod silence;

@@ -54,10 +54,6 @@ impl<L: Log, W: Write + Drop> Hub<L, W> {
         self.desk.engine().tree().paths() as u64
     }
 
-    fn is_serving(&self) -> bool {
-        self.desk.engine().learner().phase() == Phase::Serving
-    }
-
     // Notes a checkpoint, if the last turn made one. The turn began and ended at these times.
     pub(crate) fn note_checkpoint(&mut self, began: u64, now: u64) {
         let mut messages = self.desk.fresh().iter();
@@ -65,22 +61,24 @@ impl<L: Log, W: Write + Drop> Hub<L, W> {
             return;
         }
         let entries = self.log_keeper.asked.take().unwrap_or(0);
-        if !self.is_serving() {
+        let learner = self.desk.engine().learner();
+        if learner.phase() != Phase::Serving {
             // The turn took a leader's end first, and passed the checkpoint over.
             return;
         }
+        let zxid = learner.last_zxid();
         let pause = now.saturating_sub(began);
         let nodes = self.nodes();
         self.log_keeper.checkpoints.taken(now, pause, nodes);
         self.log_keeper.is_put_off = false;
-        let zxid = self.desk.engine().learner().last_zxid();
         self.journal.checkpoint(zxid, pause, nodes, entries);
     }
 
     /// Looks at the log after a turn, while clients are served. Returns for how many milliseconds there is nothing to
     /// do.
     pub(crate) fn look_at_log(&mut self) -> u64 {
-        if self.log_keeper.asked.is_some() || !self.is_serving() {
+        let phase = self.desk.engine().learner().phase();
+        if self.log_keeper.asked.is_some() || phase != Phase::Serving {
             return BETWEEN_LOOKS;
         }
         let now = self.clock.last();

@@ -5,6 +5,7 @@ use crate::bounds::Bounds;
 use crate::hub::{Hub, Parts};
 use crate::leading::{Leading, Source};
 use crate::log_keeping::LogKeeper;
+use crate::logging::{Logging, start_logging};
 use crate::record::Record;
 use crate::silence::SilenceLimits;
 use crate::stopwatch::Stopwatch;
@@ -17,7 +18,6 @@ use mio::net::TcpListener;
 use observer_core::{Config, Settings};
 use serve_failures::{Failure, Step, servers_of};
 use serve_journal::Journal;
-use serve_log::{has_journal, logger};
 use serve_options::{Address, Options, Servers};
 use settings::{Epochs, FirstCounter, Secret, TimeoutBounds};
 use std::alloc::Global;
@@ -279,17 +279,24 @@ pub fn try_serve_on<
     let file = record_file(rt, alloc, options.record)?;
     let mut record = Record::new(alloc, file);
     record.begin(options.server_id, first_counter.number());
-    let log = logger(rt, options.log, options.log_format, !has_journal(rt));
-    let journal = Journal::new(alloc, log);
-    journal.started(options, listener.local_addr()?.port());
+    let port = listener.local_addr()?.port();
     let config = config_of(alloc, options, first_counter);
     let prepared = prepare(rt, alloc, options, origin, listener)?;
-    serve_with(rt, alloc, config, prepared, journal, record)
+    let Logging {
+        journal,
+        thread,
+        end,
+    } = start_logging(rt, alloc, options)?;
+    journal.started(options, port);
+    let served = serve_with(rt, alloc, config, prepared, journal, record);
+    end.finish(rt, thread);
+    served
 }
 
 /// Follows the leader and serves clients until the leader's connection ends. Returns the exit status: 0 then, 3 if
 /// something couldn't be opened or recorded, 4 if an allocation was refused, 7 if what the leader sent was refused. By
-/// then each thread that it started has ended, and each connection is closed.
+/// then each connection is closed, and each thread that it started has ended, but for the one that writes the log where
+/// standard error hasn't been read for 500 milliseconds.
 pub fn serve_on<
     R: Threads
         + Wait

@@ -6,12 +6,12 @@ use Rattle.intake.proofs.link.Link.take_seen.Given as goal
 abbrev pub invariant-loop : goal.invariant-loop
 invariant-loop l = record {
   list : l.fresh.items ++ messages_of_port l.number (known_items l.self.inbox)
-      ≡ l.initial.fresh.items ++ messages_of_port l.number (known_items l.initial.self.inbox)
+      ≡ l.initial.fresh.items ++ messages_of_port l.number (known_items l.initial.self.inbox);
   took : received l.self.inbox ++ known_items l.self.inbox
-      ≡ received l.initial.self.inbox ++ known_items l.initial.self.inbox
-  inbox : SameConsumer l.initial.self.inbox l.self.inbox
-  outbox : l.self.outbox ≡ l.initial.self.outbox
-  kept : l.self.kept ≡ l.initial.self.kept
+      ≡ received l.initial.self.inbox ++ known_items l.initial.self.inbox;
+  inbox : SameConsumer l.initial.self.inbox l.self.inbox;
+  outbox : l.self.outbox ≡ l.initial.self.outbox;
+  kept : l.self.kept ≡ l.initial.self.kept;
 }
 
 abbrev pub decreases-loop : goal.decreases-loop
