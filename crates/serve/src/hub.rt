@@ -1,19 +1,17 @@
 //! The main thread: it has the desk, and the threads of the connections.
 
-use crate::accept::{Accepted, Door};
 use crate::bounds::Bounds;
-use crate::budget::{Pause, TurnBudget};
 use crate::connections::{Client, Handed, start_client};
 use crate::leading::Leading;
 use crate::log_keeping::LogKeeper;
 use crate::record::Record;
-use crate::stopwatch::Stopwatch;
 use apply_workers::OpenGate;
 use connection_loop::{Sides, split};
 use intake::{Budget, Desk, Port, Unlimited, Waker as HubWaker};
 use log::Log;
 use mio::net::TcpStream;
 use rtrb::Consumer;
+use serve_bounds::{Accepted, Door, Pause, Stopwatch, TurnBudget};
 use serve_failures::Failure;
 use serve_journal::Journal;
 use std::alloc::Global;
