@@ -9,7 +9,7 @@ import time
 
 import forwarded
 import several
-from beside import Attacked, Beside
+from beside import LEFT, Attacked, Beside
 from leader import CREATE, buffer, received
 from server import PING, PINGED_LEN
 
@@ -142,7 +142,7 @@ def test_many_words_at_once():
     for word, lines in ((b"wchp", count), (b"mntr", 0)):
         with Attacked("--words", "all", "--unconnected", "0") as server:
             with watching(server.client(), count, count), Beside(f"many {word.decode()}", server) as beside:
-                asking = [beside.connection() for _ in range(scaled(20, 200))]
+                asking = [beside.connection() for _ in range(scaled(15, 200))]
                 for it in asking:
                     it.sendall(word)
                 for it in asking:
@@ -163,15 +163,15 @@ def test_words_that_are_not_allowed():
 
 
 def test_long_lists():
-    """40 clients that list many names again and again, and read them or don't."""
+    """Clients that list many names again and again, and read them or don't."""
     with Attacked() as server:
-        path = listed(server.leader, 100_000)
+        path, count = listed(server.leader, 100_000), scaled(20, 40)
         with Beside("long lists that nobody reads", server) as beside:
-            for _ in range(40):
+            for _ in range(count):
                 beside.client().sendall(16 * list_of(path))
             beside.lasts(scaled(2, 20))
         with Beside("long lists that are read", server) as beside:
-            clients = [beside.client() for _ in range(40)]
+            clients = [beside.client() for _ in range(count)]
             with Reading(clients):
                 for it in clients:
                     it.sendall(16 * list_of(path))
@@ -196,19 +196,18 @@ def test_long_requests_over_and_over():
 def test_many_watches():
     """One connection leaves watch after watch."""
     with Attacked() as server:
-        count = scaled(50_000, 950_000)
-        # Memory that the C library keeps after some is used for the next ones.
-        watching(server.client(), count, 10_000).close()
-        assert server.is_at_base(60)
-        # How many there may be isn't bounded.
-        with Beside("many watches of one connection", server, most_held=1000) as beside:
-            watching(beside.client(), count, 10_000)
+        count = scaled(30_000, 200_000)
+        # Memory that the C library keeps after the first is used for the second.
+        for left in (1000, LEFT):
+            # How many there may be isn't bounded.
+            with Beside("many watches of one connection", server, most_held=1000, most_left=left) as beside:
+                watching(beside.client(), count, 10_000)
 
 
 def test_small_requests_and_then_long_ones():
     with Attacked() as server:
         path = listed(server.leader, 100_000)
         with Beside("small requests, and then long ones", server) as beside:
-            clients = [beside.client() for _ in range(8)]
+            clients = [beside.client() for _ in range(scaled(4, 8))]
             turns = play(clients, list_of(path), beside.began + scaled(2, 20))
         print(f"  {turns} times")

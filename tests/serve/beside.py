@@ -126,11 +126,12 @@ class Beside:
     """The good ones, from the beginning of an attack until its connections have gone.
 
     Whoever attacks gets the connections here. They are closed at the end, which is measured, too; then the figures are
-    judged. `most_held` are megabytes.
+    judged. `most_held` during the attack and `most_left` of it are megabytes.
     """
 
-    def __init__(self, name, server, most_held=HELD):
-        self.name, self.server, self.most_held, self.connections = name, server, most_held, []
+    def __init__(self, name, server, most_held=HELD, most_left=LEFT):
+        self.name, self.server, self.most_held, self.most_left = name, server, most_held, most_left
+        self.connections = []
 
     def __enter__(self):
         self.base = self.most = held(self.server)
@@ -191,7 +192,7 @@ class Beside:
         server, base = self.server, self.base
         assert wait_until(lambda: server.threads() <= base.threads, MOST), f"{server.threads()} threads, {base}"
         assert wait_until(lambda: server.descriptors() <= base.descriptors, MOST), f"{server.descriptors()}, {base}"
-        wait_until(lambda: server.memory() < base.memory + LEFT, 5)
+        wait_until(lambda: server.memory() < base.memory + self.most_left, 5)
         return held(server)
 
     def judge(self, reads, pings, work, left):
@@ -208,4 +209,4 @@ class Beside:
         assert reads[-1] < SLOWEST * busiest, told
         assert max(pings) < PINGED * busiest, told
         assert self.most.memory < self.most_held, told
-        assert left.memory < self.base.memory + LEFT, told
+        assert left.memory < self.base.memory + self.most_left, told
