@@ -140,7 +140,7 @@ def test_writes_while_the_leader_takes_nothing():
     with Attacked() as server:
         base, clients = server.memory(), [server.client() for _ in range(50)]
         server.leader.stalls()
-        sent = keep_writing(clients, forwarded.create(1, b"/b", bytes(100_000)), scaled(2, 20))
+        sent = keep_writing(clients, forwarded.create(1, b"/b", bytes(100_000)), scaled(2, 5))
         held = server.memory()
         print(f"  writes of {sent / 1e6:.0f} MB while the leader takes nothing: {held:.0f} MB, {base:.0f} before")
         server.leader.goes_on()
