@@ -34,8 +34,8 @@ struct Gone {
     fault: Option<Fault>,
 }
 
-// What was still put to the port of a leader that is gone: whether there was anything, and the last fault. An end inside
-// a packet is none, since it says only that the rest is missing.
+/// What was still put to the port of a leader that is gone: whether there was anything, and the last fault. An end inside
+/// a packet is none, since it says only that the rest is missing.
 #[derive(Clone, Copy)]
 pub(crate) struct Rest {
     is_empty: bool,
