@@ -11,7 +11,9 @@ import forwarded
 import load
 import several
 from leader import CREATE, received
-from server import CONNECT, CONNECTED_LEN, OBSERVERINFO, UPTODATE, Server, hexa, is_closed, reset, wait_until
+from server import (
+    CONNECT, CONNECTED_LEN, GET, OBSERVERINFO, UPTODATE, Server, got, hexa, is_closed, reset, wait_until,
+)
 
 WORDS = (b"ruok", b"isro", b"srvr", b"mntr", b"wchs", b"wchp")
 
@@ -66,9 +68,12 @@ def test_words_that_are_answered():
         (["--words", "none"], ()),
         (["--words", "wchp,ruok"], (b"ruok", b"wchp")),
     ):
-        with Server(*words) as server:
+        with Server(*words) as server, server.client() as watching:
+            # A watch, so that each word has something to tell.
+            watching.sendall(GET[:-1] + b"\1")
+            assert got(watching)
             assert [it for it in WORDS if answered(server, it)] == list(wanted), words
-            assert server.is_serving() and server.is_at_base()
+            assert server.is_serving()
             server.ends()
 
 
@@ -118,7 +123,8 @@ def test_clients_that_do_not_read_beyond_all_bounds():
         # Of the others each has a part of an answer that isn't written, and in 4 MiB there isn't room for all.
         left = server.threads() - 4
         assert 1 <= left <= 9, left
-        assert server.memory() - before < 20, (before, server.memory())
+        # What was freed isn't all given back.
+        assert server.memory() - before < 40, (before, server.memory())
         for it in (good, *stuck):
             it.close()
         assert server.is_at_base()

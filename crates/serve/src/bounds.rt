@@ -1,10 +1,10 @@
 //! What bounds the connections of clients: how long they may say nothing or not read, and how much may wait for them.
 
-use crate::accept::Places;
 use crate::hub::Hub;
 use connection_loop::{AllowedWords, SessionLimits};
 use intake::Limits;
 use log::Log;
+use serve_bounds::Places;
 use serve_options::{Options, Words};
 use settings::TimeoutBounds;
 use std::io::Write;

@@ -1,19 +1,17 @@
 //! The main thread: it has the desk, and the threads of the connections.
 
-use crate::accept::{Accepted, Door};
 use crate::bounds::Bounds;
-use crate::budget::{Pause, TurnBudget};
 use crate::connections::{Client, Handed, start_client};
 use crate::leading::Leading;
 use crate::log_keeping::LogKeeper;
 use crate::record::Record;
-use crate::stopwatch::Stopwatch;
 use apply_workers::OpenGate;
 use connection_loop::{Sides, split};
 use intake::{Budget, Desk, Port, Unlimited, Waker as HubWaker};
 use log::Log;
 use mio::net::TcpStream;
 use rtrb::Consumer;
+use serve_bounds::{Accepted, Door, Pause, Stopwatch, TurnBudget};
 use serve_failures::Failure;
 use serve_journal::Journal;
 use std::alloc::Global;
@@ -324,11 +322,14 @@ impl<L: Log, W: Write + Drop> Hub<L, W> {
             }
             let took = self.turn_within(rt, &mut Unlimited)?;
             self.join_ended(rt);
+            self.judge_gone(rt)?;
+            // What is left for a leader that is gone would hold up the clients' ends.
+            let _ = self.leading.drop_rest();
             if took == 0 && !self.desk.is_behind() {
                 self.wait(rt, LONGEST_WAIT);
             }
         }
-        self.judge_gone(rt)
+        Ok(())
     }
 
     // Ends all connections of a desk that takes nothing any more.

@@ -1,9 +1,7 @@
 //! A server: it follows a leader over a socket, and serves clients over sockets.
 #![tactic(auto)]
 
-mod accept;
 mod bounds;
-mod budget;
 mod command;
 mod connections;
 mod hub;
@@ -13,7 +11,6 @@ mod logging;
 mod record;
 mod serving;
 mod silence;
-mod stopwatch;
 
 pub use command::serve;
 pub use connection_loop::{LeaderGone, leader_loop, session_loop};

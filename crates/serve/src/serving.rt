@@ -1,6 +1,5 @@
 //! The server, once its sockets are open.
 
-use crate::accept::{Accepting, Acceptor, accept_all, open_door};
 use crate::bounds::Bounds;
 use crate::hub::{Hub, Parts};
 use crate::leading::{Leading, Source};
@@ -8,7 +7,6 @@ use crate::log_keeping::LogKeeper;
 use crate::logging::{Logging, start_logging};
 use crate::record::Record;
 use crate::silence::SilenceLimits;
-use crate::stopwatch::Stopwatch;
 use batcher::SpreadThreshold;
 use following::Finding;
 use intake::Desk;
@@ -16,6 +14,7 @@ use leader_search::{Finder, find_all, search_among};
 use log::Log;
 use mio::net::TcpListener;
 use observer_core::{Config, Settings};
+use serve_bounds::{Accepting, Acceptor, Stopwatch, accept_all, open_door};
 use serve_failures::{Failure, Step, servers_of};
 use serve_journal::Journal;
 use serve_options::{Address, Options, Servers};

@@ -1,5 +1,7 @@
 //! What a turn of the hub may spend on clients before the leader is heard again.
 
+ghost use Rattle.std.specs.Prelude.{◌≡◌, ◌≤◌, ◌-◌};
+
 use crate::stopwatch::Stopwatch;
 use intake::Budget;
 use std::time::Clock;
@@ -88,7 +90,10 @@ pub struct Pause {
 
 impl Pause {
     /// The pause after a turn with this budget: a new one where costly messages took long.
-    pub fn after<R>(self, budget: &TurnBudget<'_, R>) -> Pause {
+    pub fn after<R>(self, budget: &TurnBudget<'_, R>) -> Pause
+        ensures short { budget.now.costly ≤ 25000 → result ≡ self }
+        ensures no_shorter { self.until ≤ result.until }
+    {
         if budget.costly <= LONG_TIME {
             return self;
         }
@@ -101,7 +106,9 @@ impl Pause {
     }
 
     /// For how long it lasts.
-    pub fn rest(self, now: u64) -> u64 {
+    pub fn rest(self, now: u64) -> u64
+        ensures { result ≡ self.until - now }
+    {
         self.until.saturating_sub(now)
     }
 }
