@@ -12,6 +12,7 @@
 //! (`outgoing.rt`); the rest of the code is proved safe. Tests show what happens if a read or a write fails.
 #![tactic(auto)]
 
+mod ahead;
 mod bell;
 mod frames;
 mod incoming;
@@ -24,8 +25,10 @@ mod session;
 mod waiting;
 mod window;
 
+pub use ahead::ReadsAhead;
 pub use bell::Bell;
-pub use frames::whole_frames;
+pub use frames::{frames_going, whole_frames};
+pub use kind::Gate;
 pub use limits::{AllowedWords, SessionLimits};
 pub use rest::Rest;
 pub use session::{LeaderGone, leader_loop, session_loop};

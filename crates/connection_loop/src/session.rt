@@ -1,6 +1,11 @@
 //! The loop of a connection's thread.
 
-use crate::incoming::{Cutting, Incoming};
+ghost use Rattle.std.specs.Prelude.{◌≡◌, ◌≤◌, IfSome, length};
+ghost use Rattle.connection_loop.specs.Windows.{room_in};
+
+use crate::ahead::{Places, ReadsAhead};
+use crate::incoming::{Cutting, Incoming, Piece};
+use crate::kind::Gate;
 use crate::limits::SessionLimits;
 use crate::outgoing::Outgoing;
 use crate::patience::Waits;
@@ -10,7 +15,7 @@ use intake::{Full, Message, Port, PortEnd};
 use observer_core::Output;
 use std::alloc::Global;
 use std::io::{ErrorKind, Read, Write};
-use std::sync::Wait;
+use std::sync::{Arc, Wait};
 use std::time::{Clock, Duration, Instant};
 use std::{io, thread};
 use values::{Fault, NoMemory};
@@ -58,6 +63,8 @@ struct Session {
     outgoing: Outgoing,
     // The client's frames that wait for their answers.
     window: Window,
+    // The places of those that were sent on ahead.
+    places: Places,
     // A message for which there was no room.
     held: Option<Message>,
     // Frames were sent on, and no others are sent before these are taken.
@@ -87,6 +94,7 @@ impl Session {
         alloc: Global,
         cutting: Cutting,
         limits: SessionLimits,
+        places: Places,
         port: Port,
     ) -> Session {
         Session {
@@ -97,6 +105,7 @@ impl Session {
             incoming: Incoming::new(alloc, cutting),
             outgoing: Outgoing::new(alloc),
             window: Window::new(),
+            places,
             held: None,
             untaken: false,
             refuses: false,
@@ -191,14 +200,35 @@ impl Session {
         }
     }
 
+    // The next piece that may be sent on. A read behind a write needs a place.
+    fn next_piece(&mut self) -> Option<Piece>
+        ensures within { IfSome result (λ p. p.len ≤ length self.old.incoming.bytes) }
+        ensures room { IfSome result (λ p. p.frames ≤ room_in self.old.window) }
+        ensures kept { (self.new.incoming ≡ self.old.incoming) × (self.new.window ≡ self.old.window) }
+    {
+        let room = self.window.room();
+        if self.window.is_settled() {
+            self.places.give_back();
+            return self.incoming.next(room, Gate::Open);
+        }
+        let next = self.incoming.next(room, Gate::Narrow);
+        if next.is_some() || room == 0 || !self.incoming.is_ready() {
+            return next;
+        }
+        let ahead = self
+            .incoming
+            .next(room.min(self.places.left()), Gate::Ahead)?;
+        self.places.fill(ahead.frames);
+        Some(ahead)
+    }
+
     // Sends on the next piece of the waiting bytes.
     fn send_next(&mut self) -> Step {
         if self.untaken && !self.port.is_drained() {
             return Step::Idle;
         }
         self.untaken = false;
-        let settled = self.window.is_settled();
-        let mut next = self.incoming.next(self.window.room(), settled);
+        let mut next = self.next_piece();
         if next.is_none() && self.ended && !self.incoming.is_ready() {
             next = self.incoming.last();
         }
@@ -321,6 +351,7 @@ impl Session {
     // Sends the `End`, and waits until it is taken. Meanwhile it takes outputs, too: while much is under way for a port,
     // none of its messages is taken.
     fn end<T: Wait + Clock, R: Rest>(&mut self, rt: &T, reader: &mut R) {
+        self.places.give_back();
         let mut end = Some(Message::End);
         for _ in rt.forever() {
             self.drop_outputs();
@@ -351,6 +382,7 @@ impl Session {
             incoming,
             outgoing,
             window: _,
+            places,
             held,
             untaken: _,
             refuses: _,
@@ -360,6 +392,7 @@ impl Session {
             wants_memory,
         } = self;
         drop(incoming);
+        drop(places);
         drop(held);
         let fault = outgoing.fault().or(late_fault);
         drop(outgoing);
@@ -375,14 +408,10 @@ impl Session {
 // `End` is sent.
 fn converse<T: Wait + Clock, R: Read + Rest + Drop, W: Write + Drop>(
     rt: &T,
-    alloc: Global,
-    cutting: Cutting,
-    limits: SessionLimits,
+    mut session: Session,
     mut reader: R,
     mut writer: W,
-    port: Port,
 ) -> LeaderGone {
-    let mut session = Session::new(rt, alloc, cutting, limits, port);
     session.run(rt, &mut reader, &mut writer);
     drop(writer);
     session.end(rt, &mut reader);
@@ -393,12 +422,14 @@ fn converse<T: Wait + Clock, R: Read + Rest + Drop, W: Write + Drop>(
 /// Serves a client, from its connection's first byte to its end.
 ///
 /// It sends `Up`, and then what the reader brings: at most 16 whole frames at once, and the next ones when these are
-/// taken and the answers are written. It ends if a read or a write fails, if the reader is at its end, or if the engine
-/// closes the connection; then it writes nothing more, sends `End`, and finishes its port when that is taken. No
+/// taken and the answers are written. What the engine would hold until the leader answers is sent on when all frames
+/// before it are answered, or where it has a place among those that all sessions share. A four-letter word that isn't
+/// allowed is refused. It ends if a read or a write fails, if the reader is at its end, if a limit has passed, or if the
+/// engine closes the connection; then it writes nothing more, sends `End`, and finishes its port when that is taken. No
 /// message is dropped: one that finds the port full is sent again.
 ///
-/// A reader that would block returns `WouldBlock`, after a wait for whatever may change that: bytes, room to write, or
-/// the hub's bell. A `read` into an empty buffer asks it only to wait.
+/// A reader that has nothing returns `WouldBlock`, and is then asked to rest until that may have changed, or there is
+/// room to write, or the hub has something.
 pub fn session_loop<T: Wait + Clock, R: Read + Rest + Drop, W: Write + Drop>(
     rt: &T,
     alloc: Global,
@@ -406,16 +437,20 @@ pub fn session_loop<T: Wait + Clock, R: Read + Rest + Drop, W: Write + Drop>(
     writer: W,
     port: Port,
     limits: SessionLimits,
+    ahead: Arc<ReadsAhead, Global>,
 ) -> PortEnd {
+    let places = Places::new(Some(ahead));
+    let session = Session::new(rt, alloc, Cutting::Frames, limits, places, port);
     let LeaderGone {
         port,
         fault: _,
         wants_memory: _,
-    } = converse(rt, alloc, Cutting::Frames, limits, reader, writer, port);
+    } = converse(rt, session, reader, writer);
     port.finish()
 }
 
-/// Follows the leader: like `session_loop`, but sends on whatever a read brings, and gives the port back.
+/// Follows the leader: like `session_loop`, but without limits. It sends on whatever a read brings, and gives the port
+/// back.
 pub fn leader_loop<T: Wait + Clock, R: Read + Rest + Drop, W: Write + Drop>(
     rt: &T,
     alloc: Global,
@@ -423,13 +458,8 @@ pub fn leader_loop<T: Wait + Clock, R: Read + Rest + Drop, W: Write + Drop>(
     writer: W,
     port: Port,
 ) -> LeaderGone {
-    converse(
-        rt,
-        alloc,
-        Cutting::Reads,
-        SessionLimits::none(),
-        reader,
-        writer,
-        port,
-    )
+    let places = Places::new(None);
+    let limits = SessionLimits::none();
+    let session = Session::new(rt, alloc, Cutting::Reads, limits, places, port);
+    converse(rt, session, reader, writer)
 }
