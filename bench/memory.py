@@ -7,13 +7,12 @@
     bench/memory.py PROGRAM --rate 0          as fast as they are taken
 
 It is the leader: it brings the observer up to date, makes the nodes, and sends the transactions, 50,000 a second, many
-in each write: they are written beforehand, so that only their zxids are filled in. (A checkpoint is looked for once a
-second, and not within ten times what the last one took: so the more come in a second, the more the greatest log rests
-on when that second ends, and on what else the machine does.) Of ten transactions seven set the data of a node, one
-creates a node, one deletes it again, and one is a write that the leader refuses. After each part a PING is sent, whose
-answer shows that all of it was applied, and the resident set is read. A client reads all the while, one request after
-the other, and its longest wait is measured. The exit status is 0 where the greatest resident set of the last half is
-less than 2% above the greatest of the half before.
+in each write: they are written beforehand, so that only their zxids are filled in. (A checkpoint that is due waits
+until ten times what the last one took went by, or twice as much came: so on a busy machine the log may get twice as
+long.) Of ten transactions seven set the data of a node, one creates a node, one deletes it again, and one is a write
+that the leader refuses. After each part a PING is sent, whose answer shows that all of it was applied, and the
+resident set is read. A client reads all the while, one request after the other, and its longest wait is measured. The
+exit status is 0 where the greatest resident set of the last half is less than 2% above the greatest of the half before.
 """
 import argparse
 import os
@@ -189,9 +188,10 @@ def make(server, count, content):
     """Has so many nodes created, and returns the paths of those that are set."""
     paths = [b"/p%02d" % parent for parent in range(PARENTS)]
     children = [b"%s/n%05d" % (paths[number % PARENTS], number) for number in range(max(count - PARENTS, 1))]
-    bodies = [(generate.CREATE, generate.create(it, content)) for it in paths + children]
-    for at in range(0, len(bodies), CHUNK):
-        server.take(Chunk(bodies[at : at + CHUNK]))
+    made = paths + children
+    # A part after the other, since a leader that says nothing for ten seconds is given up.
+    for at in range(0, len(made), CHUNK):
+        server.take(Chunk([(generate.CREATE, generate.create(it, content)) for it in made[at : at + CHUNK]]))
     server.settles()
     return children
 

@@ -4,6 +4,7 @@
     bench/serve.py PROGRAM                  as bench/serve.py crates/replay_runner/out/replay_runner
     bench/serve.py PROGRAM --engine LOAD_RUNNER     the backlog beside crates/load_runner/out/load_runner too
     bench/serve.py PROGRAM --only backlog   one of sync, pipelined, idle, backlog
+    bench/serve.py PROGRAM --before OTHER   beside an earlier program, in turns, and nothing else
     bench/serve.py PROGRAM --install        gets Debian's C compiler first, where there is none (as root)
 
 The echo is bench/echo.c: one thread over epoll that answers each frame with one as long as the server's answer, and
@@ -298,9 +299,35 @@ def backlog(options, figures):
         figures.judge("over the socket against the engine alone", "{:.2f}", least=0.8)
 
 
+def in_turns(options, tools, figures):
+    """Both programs in turns: round trips, pipelined reads, and a backlog. Their best rounds are compared."""
+    programs = {"now": options.program, "before": options.before}
+    with Server(options.program) as now, Server(options.before) as before:
+        servers = {"now": now, "before": before}
+        for it in servers.values():
+            it.take(*transactions(options.children, LONG_CONTENT, 0))
+        for turn in range(options.rounds):
+            for name in sorted(servers, reverse=turn % 2 == 0):
+                for what, clients, depth in (("round trips", 1, 1), ("pipelined getDatas", CLIENTS, DEPTH)):
+                    rate = tools.read(servers[name].port, clients, depth, options)[0]
+                    figures.add(f"{what} a second, {name}", rate)
+    written, count = transactions(options.children, CONTENT, options.sets)
+    for turn in range(options.rounds):
+        for name in sorted(programs, reverse=turn % 2 == 0):
+            with Server(programs[name]) as server:
+                figures.add(f"INFORMs a second, {name}", count / server.take(written, count))
+    for what in ("round trips", "pipelined getDatas", "INFORMs"):
+        for name in programs:
+            figures.tell(f"{what} a second, {name}", "{:,.0f}")
+        now, before = (max(figures.found[f"{what} a second, {name}"]) for name in programs)
+        figures.add(f"{what}, now against before", now / before)
+        figures.judge(f"{what}, now against before", "{:.2f}", least=0.97)
+
+
 def read_options():
     parser = argparse.ArgumentParser(description=__doc__, formatter_class=argparse.RawDescriptionHelpFormatter)
     parser.add_argument("--engine", metavar="LOAD_RUNNER", help="an executable of crates/load_runner")
+    parser.add_argument("--before", metavar="OTHER", help="an earlier program, to compare with in turns")
     parser.add_argument("--install", action="store_true", help="get a C compiler first, where there is none")
     parser.add_argument("--rounds", type=int, default=3, help="how often each is measured (3)")
     parser.add_argument("--seconds", type=float, default=3, help="how long a load lasts (3)")
@@ -334,6 +361,10 @@ def main():
     machine("before")
     with tempfile.TemporaryDirectory(prefix="bench-") as name:
         tools = Tools(pathlib.Path(name))
+        if options.before:
+            in_turns(options, tools, figures)
+            machine("after")
+            return 0 if all(figures.passes) else 1
         measured = {"sync": sync, "pipelined": pipelined, "idle": idle}
         wanted = [it for it in measured if options.only in (None, it)]
         if wanted:

@@ -543,7 +543,7 @@ def restored_below_a_checkpoint(bench):
     say(f"{same_trees(bench)} nodes are equal after a SNAP")
 
 
-# ---- ids, masters, memory
+# ---- ids, memory
 
 
 def one_id(bench):
@@ -572,43 +572,6 @@ def one_id(bench):
         holder.close()
 
 
-def behind_a_master(bench):
-    """A follower's observerMasterPort is followed as if it were a leader: reads, writes and syncs work, and after a
-    restart of the observer the writes of a session that was opened before it; among several, the next one is found."""
-    room = bench.folder / "masters"
-    room.mkdir()
-    ensemble, observer = Ensemble(room, with_masters=True), Follower(bench.program, room, "behind-a-master")
-    try:
-        ensemble.start()
-        master = f"127.0.0.1:{ensemble.follower().master}"
-        observer.begin(master)
-        observer.waits_until_it_serves()
-        client = Seen(observer.client, LONG)
-        client.client.create("/master", b"", ephemeral=True)
-        client.client.set("/master", b"1")
-        client.client.sync("/master")
-        port, began = observer.client, time.monotonic()
-        observer.kill()
-        observer.begin(master, port)
-        until("the client is back", lambda: client.back(began), 30)
-        client.client.retry(client.client.set, "/master", b"2")
-        assert client.keeps_its_session() and client.client.get("/master")[0] == b"2"
-        observer.kill()
-        observer.begin(",".join(f"127.0.0.1:{it.master}" for it in ensemble.voters), port)
-        observer.waits_until_it_serves()
-        until("the client is back", lambda: client.client.connected, 30)
-        began = time.monotonic()
-        ensemble.leader().kill()
-        until("the client is back", lambda: client.back(began), 30)
-        say(f"the leader is killed: back at {since(began, client.back(began))}")
-        client.client.retry(client.client.set, "/master", b"3")
-        assert client.keeps_its_session() and client.client.get("/master")[0] == b"3"
-        client.close()
-    finally:
-        observer.stop()
-        ensemble.stop()
-
-
 def memory_is_flat(bench):
     """60,000 setDatas of 100 bytes on one node, with checkpoints: the second half takes next to no memory more."""
     bench.mended()
@@ -635,5 +598,5 @@ def memory_is_flat(bench):
 
 
 CHECKS = [leader_killed, kills_under_writes, leader_resigns, leader_frozen, short_session, java_frozen]
-CHECKS += [started_while_frozen, observer_frozen, all_down, one_id, locks, behind_a_master, memory_is_flat, restored]
+CHECKS += [started_while_frozen, observer_frozen, all_down, one_id, locks, memory_is_flat, restored]
 CHECKS += [restored_below_a_checkpoint]

@@ -1,17 +1,21 @@
-"""A proxy on 127.0.0.1 whose connections can be cut, so that a client library has to come back."""
+"""A proxy on 127.0.0.1 whose connections can be cut, so that a client has to come back, and one of whose directions can
+be held up, so that it falls behind."""
 import contextlib
 import socket
 import threading
 
 
 class Proxy:
-    """Hands on bytes between clients and a port, until it is closed; `cut` ends the connections of now."""
+    """Hands on bytes between clients and a port, until it is closed; `cut` ends the connections of now. `flows` says
+    whether what the port sends is handed on."""
 
     def __init__(self, port):
         self.target, self.is_open = port, True
         self.listener = socket.create_server(("127.0.0.1", 0))
         self.port = self.listener.getsockname()[1]
         self.lock, self.sockets = threading.Lock(), []
+        self.flows = threading.Event()
+        self.flows.set()
         self.count = 0
         threading.Thread(target=self.accept, daemon=True).start()
 
@@ -35,11 +39,13 @@ class Proxy:
             with self.lock:
                 self.sockets += [client, server]
             for pair in ((client, server), (server, client)):
-                threading.Thread(target=self.hand_on, args=pair, daemon=True).start()
+                threading.Thread(target=self.hand_on, args=(*pair, pair[0] is server), daemon=True).start()
 
-    def hand_on(self, source, sink):
+    def hand_on(self, source, sink, can_be_held):
         with contextlib.suppress(OSError):
             for data in iter(lambda: source.recv(65536), b""):
+                if can_be_held:
+                    self.flows.wait()
                 sink.sendall(data)
         for it in (source, sink):
             with contextlib.suppress(OSError):
@@ -60,5 +66,6 @@ class Proxy:
             self.is_open = True
 
     def close(self):
+        self.flows.set()
         self.cut()
         self.listener.close()

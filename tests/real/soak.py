@@ -21,9 +21,9 @@ from voters import SILENCE
 
 CHANGES, CLIENTS, RAW_CLIENTS, NODES = 12, 4, 3, 300
 # How long it may take until all clients are back, in seconds: after a kill, a stop and a freeze, and after the voters
-# have a leader that writes, where that takes them longer.
+# have a leader that serves, where that takes them longer.
 LIMITS = {"killed": 2, "stopped": 4, "frozen": 13}
-AFTER_WRITES = 1.5
+AFTER_ELECTION = 1.5
 TIMEOUT = 30
 # Each loop rests so long between two requests, in seconds.
 REST = 0.01
@@ -127,6 +127,21 @@ class Frames:
         return [it.whole for it in self.all if it.whole]
 
 
+class Election(threading.Thread):
+    """Asks the voters, but the one that is lost, until one of them leads and serves: `led` is when."""
+
+    def __init__(self, voters, lost):
+        super().__init__(daemon=True)
+        self.voters, self.led = [it for it in voters if it is not lost], None
+        self.start()
+
+    def run(self):
+        while self.led is None:
+            if any(it.leads() for it in self.voters):
+                self.led = time.monotonic()
+            time.sleep(0.01)
+
+
 def changed(bench, how, clients, reader):
     """Loses the leader in one way, and waits until all clients are back. Returns a line that tells of it, and whether
     that was in time."""
@@ -141,9 +156,11 @@ def changed(bench, how, clients, reader):
             leader.freeze()
         else:
             leader.stop()
+        election = Election(voters.voters, leader)
         until("all clients are back", lambda: all(it.back(began) for it in clients), 90)
         cut, back = clients[0].cut(began) - began, max(it.back(began) for it in clients) - began
         writes = writer.writes
+        election.join(60)
         first, number = until("the next leader writes", lambda: [it for it in writes if it[0] > began + 0.5], 60)[0]
         time.sleep(max(1, began + SILENCE + 3 - time.monotonic()) if how == "frozen" else 1)
     finally:
@@ -151,11 +168,12 @@ def changed(bench, how, clients, reader):
     stale = [read for asked, read, found in list(reader.reads) if asked > max(first + LAG, began) and found < number]
     stale = [it - began for it in stale if how != "frozen" or it > began + SILENCE + 1.5]
     way = logged(bench, before, "DIFF", "SNAP", "TRUNC")
-    written = first - began
-    line = f"{how}: cut off at {cut:.2f} s, the voters write at {written:.2f} s, all are back at {back:.2f} s ({way})"
+    led, written = election.led - began, first - began
+    line = f"{how}: cut off at {cut:.2f} s, a voter leads at {led:.2f} s and writes at {written:.2f} s"
+    line += f", all are back at {back:.2f} s ({way})"
     assert not stale, f"{line}, and older values were read at {stale[:5]}"
     voters.mended()
-    return line, back <= max(LIMITS[how], written + AFTER_WRITES)
+    return line, back <= max(LIMITS[how], led + AFTER_ELECTION)
 
 
 def replays(bench, connections):

@@ -3,6 +3,7 @@
 The voters have ZooKeeper's own ticks and limits: who leads is given up after 10 seconds of silence.
 """
 import os
+import re
 import shutil
 import signal
 import time
@@ -70,6 +71,11 @@ class Peer:
         if self.master:
             text += f"observerMasterPort={self.master}\n"
         (self.folder / "zoo.cfg").write_text(text + "\n".join(lines) + "\n")
+
+    def reaches_by(self, other, port):
+        """Has it learn from another server by this port, from its next start on."""
+        file, line = self.folder / "zoo.cfg", rf"(server\.{other.number}=127\.0\.0\.1:)\d+"
+        file.write_text(re.sub(line, rf"\g<1>{port}", file.read_text()))
 
     def start(self, dialect=DIALECT):
         path = ":".join(str(JAVA / it) for it in JARS)

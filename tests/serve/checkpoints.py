@@ -63,7 +63,7 @@ def taken(server):
 
 
 def is_taken(server, count):
-    """Waits until so many checkpoints are taken; they are looked for once a second."""
+    """Waits until so many checkpoints are taken."""
     assert wait_until(lambda: len(taken(server)) >= count, 30), server.said()
 
 

@@ -45,6 +45,18 @@ BAD = [
     (GOOD + ["--id", "300"], "--id 300: 1 to 255"),
     (GOOD + ["--counter", str(MOST_COUNTER + 1)], f"--counter {MOST_COUNTER + 1}: 0 to {MOST_COUNTER}"),
     (GOOD + ["--max-clients", "0"], "--max-clients 0: "),
+    (GOOD + ["--max-per-address", "0"], "--max-per-address 0: at least 1"),
+    (GOOD + ["--max-under-way", "0"], "--max-under-way 0: 1 to 1048576"),
+    (GOOD + ["--max-under-way", "1048577"], "--max-under-way 1048577: 1 to 1048576"),
+    (GOOD + ["--unconnected", "3601"], "--unconnected 3601: 0 to 3600"),
+    (GOOD + ["--unconnected", "-1"], "--unconnected -1: 0 to 3600"),
+    (GOOD + ["--words"], "--words has no value"),
+    (GOOD + ["--words", ""], "--words : all, none, or some of ruok,isro,srvr,mntr,wchs,wchp"),
+    (GOOD + ["--words", "ruok,"], "--words ruok,: all, none, or some of "),
+    (GOOD + ["--words", "ruok,stat"], "--words ruok,stat: all, none, or some of "),
+    (GOOD + ["--words", "ruok, isro"], "--words ruok, isro: all, none, or some of "),
+    (GOOD + ["--words", "ruok,all"], "--words ruok,all: all, none, or some of "),
+    (GOOD + ["--words", "RUOK"], "--words RUOK: all, none, or some of "),
     (GOOD + ["--tick", "0"], "--tick 0: 1 to 3600000"),
     (GOOD + ["--tick", "3600001"], "--tick 3600001: 1 to 3600000"),
     (GOOD + ["--init-limit", "-1"], "--init-limit -1: "),
@@ -109,7 +121,9 @@ def test_what_cannot_be_opened():
         closed.bind(("127.0.0.1", 0))
         here, gone = str(taken.getsockname()[1]), str(closed.getsockname()[1])
         cannot_open(gone, "--leader", gone, "--client", "0")
-        cannot_open("no-such-host.invalid", "--leader", "no-such-host.invalid:2888", "--client", "0", "--id", "9")
+        unknown = "cannot resolve no-such-host.invalid: failed to lookup address information"
+        cannot_open(unknown, "--leader", "no-such-host.invalid:2888", "--client", "0", "--id", "9")
+        cannot_open(unknown, "--leader", here, "--client", "no-such-host.invalid:2181")
         cannot_open(here, "--leader", here, "--client", here)
         cannot_open(here, "--servers", f"127.0.0.1:{here}", "--client", here, "--id", "9")
         file = "/no/such/folder/file"

@@ -4,6 +4,7 @@ import queue
 import select
 import struct
 import threading
+import time
 from typing import List, NamedTuple, Tuple
 
 CREATE, SYNC, CREATE_SESSION, CLOSE_SESSION, ERROR = 1, 9, -10, -11, -1
@@ -93,6 +94,8 @@ class Leader:
         self.requests, self.pings = queue.Queue(), queue.Queue()
         self.sessions, self.creates, self.has_ended = {}, True, threading.Event()
         self.stops, self.wrong = threading.Event(), None
+        # How many seconds it has worked on what came.
+        self.worked = 0.0
         self.thread = threading.Thread(target=self.follow, daemon=True)
         self.thread.start()
 
@@ -103,11 +106,13 @@ class Leader:
         try:
             while not self.stops.is_set():
                 if select.select([self.connection], [], [], 0.02)[0]:
-                    content = self.connection.recv(1 << 20)
+                    content = self.connection.recv(1 << 16)
                     if not content:
                         break
+                    began = time.monotonic()
                     for found in packets.taken(content):
                         self.take(*found)
+                    self.worked += time.monotonic() - began
         except (OSError, ValueError):
             pass  # The observer, or the test, has closed the connection.
         except AssertionError as why:  # whoever ends this leader is told

@@ -3,10 +3,12 @@
 
 It plays a small leader and many clients: some are reset, some are cut in the middle of a frame, some say nothing, some
 don't read, some send what is no frame, some go while their session or a write of theirs waits for the leader, and many
-of these load it together with clients that pipeline; and leaders that fault, or end in the middle of an image. PROGRAM
-is crates/replay_runner/out/replay_runner where none is named. The last line is `N passed, M failed`.
+of these load it together with clients that pipeline; and leaders that fault, or end in the middle of an image. Then it
+attacks the server (attacks.py, attacks_on_memory.py). By --long some of this is tried more often, or whole. PROGRAM is
+crates/replay_runner/out/replay_runner where none is named. The last line is `N passed, M failed`.
 """
 import os
+import queue
 import random
 import resource
 import socket
@@ -19,10 +21,14 @@ import time
 from concurrent.futures import ThreadPoolExecutor
 
 sys.dont_write_bytecode = True
+import attacks  # noqa: E402
+import attacks_on_memory  # noqa: E402
+import bounds  # noqa: E402
 import checkpoints  # noqa: E402
 import commands  # noqa: E402
 import forwarded  # noqa: E402
 import load  # noqa: E402
+import logs  # noqa: E402
 import next_leaders  # noqa: E402
 import several  # noqa: E402
 import silence  # noqa: E402
@@ -32,7 +38,9 @@ from server import (  # noqa: E402
     Server, got, hexa, is_closed, reset, wait_until,
 )
 
-MODULES = (commands, sys.modules[__name__], next_leaders, silence, checkpoints)
+MODULES = (
+    commands, sys.modules[__name__], logs, next_leaders, silence, checkpoints, bounds, attacks, attacks_on_memory,
+)
 
 
 def test_a_client_reads():
@@ -419,7 +427,7 @@ def test_the_end_with_writes_waiting():
     with Server() as server:
         clients = [server.client() for _ in range(50)]
         for client in clients:
-            client.sendall(forwarded.create(1, b"/b") + GET + forwarded.sync(2, b"/") + PING)
+            client.sendall(forwarded.create(1, b"/b") + forwarded.sync(2, b"/") + PING + GET)
         for _ in range(100):
             server.leader.asked()
         server.ends()
@@ -523,12 +531,13 @@ def test_pings_keep_sessions():
             assert len(received(idle, PINGED_LEN)) == PINGED_LEN
             assert server.leader.pinged() == [(pinging, 10000)]
         assert server.leader.pinged() == []
-        # What was held after a connect touches nothing, and what comes then does.
+        # What comes with a connect is taken after its answer, and touches the session.
         server.leader.creates = False
         joining.sendall(forwarded.CONNECT + PING)
         server.leader.create(server.leader.asked())
         joined = forwarded.connected(joining).id
-        assert len(received(joining, PINGED_LEN)) == PINGED_LEN and server.leader.pinged() == []
+        assert len(received(joining, PINGED_LEN)) == PINGED_LEN and server.leader.pinged() == [(joined, 10000)]
+        assert server.leader.pinged() == []
         assert server.answers(joining) and server.answers(silent)
         assert server.leader.pinged() == [(reading, 10000), (joined, 10000)]
         for client in (idle, silent, joining):
@@ -536,55 +545,61 @@ def test_pings_keep_sessions():
         server.ends()
 
 
+def write_and_read(client, count, runs, free):
+    """Creates nodes in runs of some, each followed by reads of the same nodes."""
+    chance, first = random.Random(12), 0
+    while first < count:
+        run = range(first, min(first + chance.randint(1, 8), count))
+        for _ in run:
+            assert free.acquire(timeout=10), f"no answers before {run}"
+        nodes = [(turn, b"/n%d" % turn) for turn in run]
+        runs.put(run)
+        client.sendall(b"".join(forwarded.create(2 * turn, path, path) for turn, path in nodes))
+        client.sendall(b"".join(forwarded.get_data(2 * turn + 1, path) for turn, path in nodes))
+        first = run.stop
+
+
+def lead_writes(leader, count, zxids):
+    """Does what comes, several at once where they are there, with transactions of others between."""
+    chance = random.Random(11)
+    while len(zxids) < count:
+        requests = [leader.asked()]
+        while not leader.requests.empty() and chance.randrange(8):
+            requests.append(leader.asked())
+        told = b""
+        with leader.lock:
+            for request in requests:
+                if chance.randrange(3) == 0:
+                    told += leader.made(ERROR, struct.pack(">i", -110))
+                told += leader.done(request)
+                zxids.append(EPOCH_1 + leader.last)
+            leader.send(told)
+
+
 def test_pipelined_writes_are_answered_in_order():
     count, ahead = 1000, 400
-    chance = random.Random(11)
-    with Server() as server:
-        client = server.connection()
-        forwarded.joined(client)
-        free, zxids, went_wrong = threading.Semaphore(ahead), [], []
-
-        def lead():
-            """Does what comes, several at once, with transactions of others between."""
-            done = 0
-            while done < count:
-                requests = [server.leader.asked()]
-                while done + len(requests) < count and chance.randrange(8):
-                    requests.append(server.leader.asked())
-                told = b""
-                with server.leader.lock:
-                    for request in requests:
-                        if chance.randrange(3) == 0:
-                            told += server.leader.made(ERROR, struct.pack(">i", -110))
-                        told += server.leader.done(request)
-                        zxids.append(EPOCH_1 + server.leader.last)
-                    server.leader.send(told)
-                done += len(requests)
-
-        def ask():
-            for turn in range(count):
-                free.acquire()
-                path = b"/n%d" % turn
-                client.sendall(forwarded.create(2 * turn, path, path) + forwarded.get_data(2 * turn + 1, path))
-
-        def tried(job):
-            try:
-                job()
-            except Exception as why:
-                went_wrong.append(why)
-
-        threads = [threading.Thread(target=tried, args=(it,), daemon=True) for it in (lead, ask)]
-        for thread in threads:
-            thread.start()
-        for turn in range(count):
-            path = forwarded.buffer(b"/n%d" % turn)
-            written, read = forwarded.replied(client), forwarded.replied(client)
-            assert written == (2 * turn, zxids[turn], 0, path), (written, went_wrong)
-            assert read[:3] == (2 * turn + 1, zxids[turn], 0) and read.body.startswith(path), (read, went_wrong)
-            free.release()
-        for thread in threads:
-            thread.join()
-        assert not went_wrong, went_wrong
+    with Server() as server, ThreadPoolExecutor(2) as pool:
+        client = server.client()
+        free, runs, zxids = threading.Semaphore(ahead), queue.Queue(), []
+        jobs = [
+            pool.submit(lead_writes, server.leader, count, zxids),
+            pool.submit(write_and_read, client, count, runs, free),
+        ]
+        done = 0
+        while done < count:
+            run = runs.get(timeout=10)
+            for turn in run:
+                written = forwarded.replied(client)
+                assert written == (2 * turn, zxids[turn], 0, forwarded.buffer(b"/n%d" % turn)), written
+            # What is read shows all of the run's writes, and none of the next one's.
+            for turn in run:
+                read = forwarded.replied(client)
+                assert read[:3] == (2 * turn + 1, zxids[run[-1]], 0), read
+                assert read.body.startswith(forwarded.buffer(b"/n%d" % turn)), read
+                free.release()
+            done = run.stop
+        for job in jobs:
+            job.result()
         client.close()
         server.ends()
 
@@ -613,7 +628,8 @@ def test_recorded_writes_replay():
 
 
 def test_a_load_of_all_kinds():
-    with Server() as server:
+    # Connections that say nothing stay for as long as the load.
+    with Server("--unconnected", "0") as server:
         assert server.is_at_base(load.SECONDS), server.threads()
         base, before = server.descriptors(), server.memory()
         nodes = [load.made(server.leader, size) for size in (0, 2, 100, 900)]
@@ -648,11 +664,12 @@ def test_a_load_of_all_kinds():
 
 
 def tests():
-    """Yields each test with its name, module by module."""
+    """Yields each test with its name, module by module; by `--long` those that take a minute, too."""
+    prefixes = ("test_", "long_test_") if several.LONG else ("test_",)
     for module in MODULES:
         for name, it in list(vars(module).items()):
-            if name.startswith("test_"):
-                yield name[len("test_") :], it
+            if name.startswith(prefixes):
+                yield name.partition("test_")[2], it
 
 
 def main(words):

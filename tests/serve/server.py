@@ -74,10 +74,14 @@ class Program:
     """The program as a server: a process, what it holds, and its client port."""
 
     PROGRAM = os.path.join(TOP, "crates", "replay_runner", "out", "replay_runner")
+    # What its environment has besides.
+    ENVIRONMENT = {}
 
     def start(self, words, errors, limit=None):
-        words = [self.PROGRAM, "serve", *words]
-        self.program = subprocess.Popen(words, stdout=subprocess.PIPE, stderr=errors, preexec_fn=limit)
+        words, environment = [self.PROGRAM, "serve", *words], {**os.environ, **self.ENVIRONMENT}
+        self.program = subprocess.Popen(
+            words, stdout=subprocess.PIPE, stderr=errors, preexec_fn=limit, env=environment
+        )
 
     def takes_clients(self):
         """Waits until it says on which port."""
@@ -118,7 +122,8 @@ class Program:
             return b"".join(iter(lambda: connection.recv(4096), b""))
 
     def threads(self):
-        return len(os.listdir(f"/proc/{self.program.pid}/task"))
+        """Returns how many threads it has, without the one that writes the log."""
+        return len(os.listdir(f"/proc/{self.program.pid}/task")) - 1
 
     def descriptors(self):
         return len(os.listdir(f"/proc/{self.program.pid}/fd"))
@@ -151,6 +156,8 @@ class Program:
 class Server(Program):
     """A leader, and the program that follows it alone. Before it serves there is only the leader's connection."""
 
+    LEADER = Leader
+
     def __init__(self, *words, serves=True, limit=None):
         self.leader_socket = socket.socket()
         self.leader_socket.bind(("127.0.0.1", 0))
@@ -173,7 +180,7 @@ class Server(Program):
         assert received(self.stream, len(ACK)) == ACK
         self.stream.sendall(UPTODATE)
         assert received(self.stream, len(ACK)) == ACK
-        self.leader = Leader(self.stream)
+        self.leader = self.LEADER(self.stream)
         self.leader.informs(CREATE, CREATE_A)
         # Whoever has a session from now on sees the node.
         with self.client() as client:

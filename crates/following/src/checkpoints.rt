@@ -1,7 +1,7 @@
 //! When a checkpoint is due.
 
-ghost use Rattle.std.specs.Prelude.{◌≡◌};
-ghost use Rattle.following.specs.Checkpoints.{new_plan, after_receiving, after_taking, due_at, is_rested, has_grown, expected_pause};
+ghost use Rattle.std.specs.Prelude.{◌≡◌, ◌-◌, ◌^◌, min};
+ghost use Rattle.following.specs.Checkpoints.{new_plan, after_receiving, after_taking, due_at, is_rested, bytes_due, expected_pause, pause_at_pace};
 
 use std::marker::Model;
 
@@ -25,8 +25,9 @@ pub enum Due {
 
 /// The plan of checkpoints. One is due when the leader's bytes since the last one pass a least number, and 256 for each
 /// node, for then the log may weigh more than the tree. It is put off until ten times the last pause went by, so that
-/// the engine pauses for a tenth of the time at most. It is left out where the engine would pause for over 2,500 ms, by
-/// what the last one took for its nodes: a leader cuts off a learner that doesn't answer its PINGs.
+/// the engine pauses for a tenth of the time at most, and where the engine would pause for over 2,500 ms, by what the
+/// quicker of the last two took for its nodes: a leader cuts off a learner that doesn't answer its PINGs. Once twice as
+/// many bytes came it is put off no longer, since a log that grows on takes all memory.
 #[derive(Clone, Copy, Debug)]
 pub struct Checkpoints {
     least_mebibytes: u64,
@@ -36,6 +37,9 @@ pub struct Checkpoints {
     taken: u64,
     pause: u64,
     nodes: u64,
+    // Of the one before: how long the engine paused, and the number of nodes; 0 before there were two.
+    earlier_pause: u64,
+    earlier_nodes: u64,
 }
 
 impl Model for Checkpoints {
@@ -49,6 +53,8 @@ impl Model for Checkpoints {
       taken = c.taken;
       pause = c.pause;
       nodes = c.nodes;
+      earlier_pause = c.earlier_pause;
+      earlier_nodes = c.earlier_nodes;
     } };
 
     ghost inverse = { λ c. record {
@@ -57,6 +63,8 @@ impl Model for Checkpoints {
       taken = c.taken;
       pause = c.pause;
       nodes = c.nodes;
+      earlier_pause = c.earlier_pause;
+      earlier_nodes = c.earlier_nodes;
     } };
 }
 
@@ -71,6 +79,8 @@ impl Checkpoints {
             taken: 0,
             pause: 0,
             nodes: 0,
+            earlier_pause: 0,
+            earlier_nodes: 0,
         }
     }
 
@@ -85,7 +95,14 @@ impl Checkpoints {
     pub fn judge(&self, now: u64, nodes: u64) -> Due
         ensures { result ≡ due_at self.now now nodes }
     {
-        if self.least_mebibytes == 0 || !self.has_grown(nodes) || !self.is_rested(now) {
+        let due = self.bytes_due(nodes);
+        if self.least_mebibytes == 0 || self.received <= due {
+            return Due::NotYet;
+        }
+        if self.received > due.saturating_mul(2) {
+            return Due::Now;
+        }
+        if !self.is_rested(now) {
             return Due::NotYet;
         }
         let expected = self.expected_pause(nodes);
@@ -99,18 +116,20 @@ impl Checkpoints {
     pub fn taken(&mut self, now: u64, pause: u64, nodes: u64)
         ensures { self.new ≡ after_taking self.old now pause nodes }
     {
+        self.earlier_pause = self.pause;
+        self.earlier_nodes = self.nodes;
         self.received = 0;
         self.taken = now;
         self.pause = pause;
         self.nodes = nodes;
     }
 
-    // Whether the log may weigh more than the tree.
-    fn has_grown(&self, nodes: u64) -> bool
-        ensures { result ≡ has_grown self.now nodes }
+    // How many bytes of the leader make one due.
+    fn bytes_due(&self, nodes: u64) -> u64
+        ensures { result ≡ min (bytes_due self.now nodes) (2 ^ 64 - 1) }
     {
         let least = self.least_mebibytes.saturating_mul(MEBIBYTE);
-        self.received > least.max(nodes.saturating_mul(BYTES_A_NODE))
+        least.max(nodes.saturating_mul(BYTES_A_NODE))
     }
 
     // Whether ten times the last pause went by.
@@ -124,6 +143,14 @@ impl Checkpoints {
     fn expected_pause(&self, nodes: u64) -> u64
         ensures { result ≡ expected_pause self.now nodes }
     {
-        self.pause.saturating_mul(nodes) / self.nodes.max(MANY_NODES)
+        let last = pause_at_pace(self.pause, self.nodes, nodes);
+        last.min(pause_at_pace(self.earlier_pause, self.earlier_nodes, nodes))
     }
+}
+
+// As long a pause for each node as it was at so many nodes.
+fn pause_at_pace(pause: u64, nodes: u64, nodes_now: u64) -> u64
+    ensures { result ≡ pause_at_pace pause nodes nodes_now }
+{
+    pause.saturating_mul(nodes_now) / nodes.max(MANY_NODES)
 }

@@ -2,7 +2,7 @@
 
 ghost use Rattle.following.specs.Searches.{EachRoundTriesEach, LostIsTriedLast, PausesAreBounded, RoundsInVainPause, RoundsInVainGrow, PausesAreWorked, ServedGoesOn, JitterIsATenth, HopelessAfterFive, ServedBeginsAnew};
 ghost use Rattle.following.specs.Waits.{NoneIsGivenUpAtOnce, GivenUpAtSecondLook, SilentIsGivenUp, HeardIsKept, NoneIsServedPastItsSession, HeartbeatsAreEnough};
-ghost use Rattle.following.specs.Plans.{NoneIsDueAgainAtOnce, NoneIsDueAtNone, DueIsShort};
+ghost use Rattle.following.specs.Plans.{NoneIsDueAgainAtOnce, NoneIsDueAtNone, DueIsShort, OverdueIsDue, OneSlowIsForgiven};
 
 /// As many tries as there are servers try each of them once; and a server that was lost is the last of the round that
 /// follows.
@@ -45,10 +45,13 @@ pub fn limits()
     ensures heartbeats { HeartbeatsAreEnough }
 {}
 
-/// No checkpoint is due within ten pauses after the last one, nor where none is wanted, nor where the engine would
-/// pause for longer than 2,500 ms.
+/// No checkpoint is due where none is wanted. Until the leader has sent twice as many bytes as make one due, none is due
+/// within ten pauses after the last one, nor where the engine would pause for longer than 2,500 ms at the pace of the
+/// quicker of the last two, so that one slow checkpoint puts none off. From then on one is due.
 pub fn due_checkpoints()
     ensures again { NoneIsDueAgainAtOnce }
     ensures none { NoneIsDueAtNone }
     ensures short { DueIsShort }
+    ensures overdue { OverdueIsDue }
+    ensures forgiven { OneSlowIsForgiven }
 {}

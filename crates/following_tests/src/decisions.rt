@@ -70,7 +70,7 @@ fn limits(alloc: Global) -> Result<String, Fail> {
     Ok(text)
 }
 
-// Of a tree of a million nodes, for which 256 MB are to come; then of one that grew tenfold.
+// Of a tree of a million nodes, for which 256 MB are to come, and no more than 512: before any, and after a quick one.
 fn checkpoints(alloc: Global) -> Result<String, Fail> {
     let mut plan = Checkpoints::new(64);
     plan.received(256_000_000);
@@ -78,11 +78,29 @@ fn checkpoints(alloc: Global) -> Result<String, Fail> {
     plan.received(1);
     let first = plan.judge(1000, 1_000_000);
     plan.taken(1000, 530, 1_000_000);
-    plan.received(3_000_000_000);
+    plan.received(512_000_000);
     let soon = plan.judge(6299, 1_000_000);
     let again = plan.judge(6300, 1_000_000);
-    let long = plan.judge(6300, 10_000_000);
-    Ok(format!(in alloc; "{small:?} {first:?} {soon:?} {again:?} {long:?}")?)
+    plan.received(1);
+    let overdue = plan.judge(1001, 1_000_000);
+    Ok(format!(in alloc; "{small:?} {first:?} {soon:?} {again:?} {overdue:?}")?)
+}
+
+// After a quick one and a slow one, and after two slow ones: of the same tree, and of one that grew tenfold.
+fn slow_checkpoints(alloc: Global) -> Result<String, Fail> {
+    let mut plan = Checkpoints::new(64);
+    plan.taken(1000, 530, 1_000_000);
+    plan.taken(6300, 4600, 1_000_000);
+    plan.received(300_000_000);
+    let forgiven = plan.judge(52_300, 1_000_000);
+    plan.received(2_700_000_000);
+    let larger = plan.judge(52_300, 10_000_000);
+    plan.taken(52_300, 4700, 1_000_000);
+    plan.received(512_000_000);
+    let long = plan.judge(99_300, 1_000_000);
+    plan.received(1);
+    let overdue = plan.judge(99_300, 1_000_000);
+    Ok(format!(in alloc; "{forgiven:?} {larger:?} {long:?} {overdue:?}")?)
 }
 
 // Of a leader that just ended, of an old one, and of one that cut too far.
@@ -124,9 +142,16 @@ fn limits_of_silence(rt: HostRuntime) -> Result<(), Fail> {
 #[test]
 fn checkpoints_by_bytes(rt: HostRuntime) -> Result<(), Fail> {
     let text = checkpoints(rt.alloc())?;
+    assert_eq!(rt; text.as_str(), "NotYet Now NotYet Now Now");
+    Ok(())
+}
+
+#[test]
+fn checkpoints_that_were_slow(rt: HostRuntime) -> Result<(), Fail> {
+    let text = slow_checkpoints(rt.alloc())?;
     assert_eq!(rt;
         text.as_str(),
-        "NotYet Now NotYet Now TooLong { expected: 5300 }"
+        "Now TooLong { expected: 5300 } TooLong { expected: 4600 } Now"
     );
     Ok(())
 }

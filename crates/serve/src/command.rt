@@ -1,31 +1,60 @@
 //! The command `serve`.
 
+use crate::logging::tell;
 use crate::serving::{Origin, try_serve_on};
 use following::Finding;
 use mio::net::TcpListener;
 use serve_failures::{Failure, Step};
 use serve_options::{Address, Command, Options, Servers, VERSION_LINES, command_of, help};
 use std::alloc::Global;
-use std::net::{Net, TcpStream, ToSocketAddrs};
+use std::net::{Net, SocketAddr, TcpStream, ToSocketAddrs};
 use std::rt::{Env, Files};
 use std::sync::Wait;
 use std::thread::Threads;
 use std::time::Clock;
 use std::{io, net};
 
-// Connects to the leader without delay (TCP_NODELAY): the observer's packets are small, and none is to wait for an
-// acknowledgement.
-fn connect<R: Net<Stream = TcpStream>>(rt: &R, address: &Address<'_>) -> io::Result<TcpStream> {
-    let stream = TcpStream::connect(rt, (address.host, address.port))?;
+// Connects to an address of the leader without delay (TCP_NODELAY): the observer's packets are small, and none is to wait
+// for an acknowledgement.
+fn connect<R: Net<Stream = TcpStream>>(rt: &R, address: SocketAddr) -> io::Result<TcpStream> {
+    let stream = TcpStream::connect(rt, address)?;
     stream.set_nodelay(true)?;
     Ok(stream)
 }
 
-fn listen<R: Net>(rt: &R, address: &Address<'_>) -> io::Result<TcpListener> {
-    let mut found = (address.host, address.port).to_socket_addrs(rt)?;
-    match found.next() {
+// Connects to the leader, at the first of its addresses that accepts.
+fn reach<R: Net<Stream = TcpStream>>(
+    rt: &R,
+    alloc: Global,
+    leader: &Address<'_>,
+) -> Result<TcpStream, Failure> {
+    let found = match (leader.host, leader.port).to_socket_addrs(rt) {
+        Ok(found) => found,
+        Err(error) => return Err(Failure::system(alloc, Step::Resolve, &leader.host, error)),
+    };
+    let mut last = io::Error::from(io::ErrorKind::NotFound);
+    for address in found {
+        match connect(rt, address) {
+            Ok(stream) => return Ok(stream),
+            Err(error) => last = error,
+        }
+    }
+    Err(Failure::system(alloc, Step::Connect, leader, last))
+}
+
+// Listens for clients, at the first address of the name.
+fn listen<R: Net>(rt: &R, alloc: Global, client: &Address<'_>) -> Result<TcpListener, Failure> {
+    let mut found = match (client.host, client.port).to_socket_addrs(rt) {
+        Ok(found) => found,
+        Err(error) => return Err(Failure::system(alloc, Step::Resolve, &client.host, error)),
+    };
+    let bound = match found.next() {
         Some(address) => TcpListener::bind(rt, address),
         None => Err(io::Error::from(io::ErrorKind::NotFound)),
+    };
+    match bound {
+        Ok(listener) => Ok(listener),
+        Err(error) => Err(Failure::system(alloc, Step::Bind, client, error)),
     }
 }
 
@@ -36,10 +65,7 @@ fn origin_of<R: Net<Stream = TcpStream>>(
     options: &Options<'_>,
 ) -> Result<Origin, Failure> {
     match &options.servers {
-        Servers::Leader(address) => match connect(rt, address) {
-            Ok(stream) => Ok(Origin::Stream(stream)),
-            Err(error) => Err(Failure::system(alloc, Step::Connect, address, error)),
-        },
+        Servers::Leader(leader) => Ok(Origin::Stream(reach(rt, alloc, leader)?)),
         Servers::Any(servers) => match Finding::new(servers.len(), options.server_id) {
             Some(finding) => Ok(Origin::Search(finding)),
             None => Err(Failure::NoMemory),
@@ -63,10 +89,7 @@ fn run<
         + 'static,
 >(rt: &R, alloc: Global, options: &Options<'_>) -> Result<(), Failure> {
     let origin = origin_of(rt, alloc, options)?;
-    let listener = match listen(rt, &options.client) {
-        Ok(listener) => listener,
-        Err(error) => return Err(Failure::system(alloc, Step::Bind, &options.client, error)),
-    };
+    let listener = listen(rt, alloc, &options.client)?;
     let port = listener.local_addr()?.port();
     println!(rt; "serving {port}")?;
     try_serve_on(rt, alloc, options, origin, listener)
@@ -122,6 +145,6 @@ pub fn serve<
     };
     match obeyed {
         Ok(()) => 0,
-        Err(failure) => failure.tell(rt),
+        Err(failure) => tell(rt, alloc, failure),
     }
 }

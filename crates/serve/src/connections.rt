@@ -4,7 +4,7 @@ use connection_loop::{Bell, LeaderGone, SessionLimits, Sides, leader_loop, sessi
 use intake::{Port, PortEnd};
 use mio::net::TcpStream;
 use std::alloc::Global;
-use std::net::Net;
+use std::net::{IpAddr, Net};
 use std::sync::{Arc, Mutex, Wait};
 use std::thread::{Builder, JoinHandle, Threads};
 use std::time::Clock;
@@ -18,6 +18,7 @@ const STACK: usize = 128 * 1024;
 pub struct Client {
     pub handle: JoinHandle<Option<PortEnd>>,
     pub bell: Arc<Bell, Global>,
+    pub address: IpAddr,
 }
 
 /// The thread of the leader's connection.
@@ -61,6 +62,8 @@ pub fn start_client<R: Threads + Wait + Net + Clock + Copy + Send + 'static>(
     alloc: Global,
     sides: Sides,
     handed: Handed,
+    address: IpAddr,
+    limits: SessionLimits,
 ) -> io::Result<Client> {
     let Sides {
         reader,
@@ -71,9 +74,13 @@ pub fn start_client<R: Threads + Wait + Net + Clock + Copy + Send + 'static>(
     let handle = Builder::new().stack_size(STACK).spawn(rt, move || {
         let port = handed.lock(&mine).take();
         match port {
-            Some(port) => Some(session_loop(&mine, alloc, reader, writer, port, SessionLimits::default())),
+            Some(port) => Some(session_loop(&mine, alloc, reader, writer, port, limits)),
             None => None,
         }
     })?;
-    Ok(Client { handle, bell })
+    Ok(Client {
+        handle,
+        bell,
+        address,
+    })
 }

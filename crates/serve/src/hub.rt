@@ -1,25 +1,24 @@
 //! The main thread: it has the desk, and the threads of the connections.
 
-use crate::accept::Door;
+use crate::bounds::Bounds;
 use crate::connections::{Client, Handed, start_client};
 use crate::leading::Leading;
 use crate::log_keeping::LogKeeper;
 use crate::record::Record;
-use crate::stopwatch::Stopwatch;
 use apply_workers::OpenGate;
 use connection_loop::{Sides, split};
-use intake::{Desk, Port, Waker as HubWaker};
+use intake::{Budget, Desk, Port, Unlimited, Waker as HubWaker};
 use log::Log;
 use mio::net::TcpStream;
 use rtrb::Consumer;
+use serve_bounds::{Accepted, Door, Pause, Stopwatch, TurnBudget};
 use serve_failures::Failure;
 use serve_journal::Journal;
 use std::alloc::Global;
 use std::collections::BTreeMap;
 use std::collections::btree_map::Entry;
 use std::io::Write;
-use std::net;
-use std::net::Net;
+use std::net::{IpAddr, Net};
 use std::sync::{Arc, Mutex, Wait};
 use std::thread::Threads;
 use std::time::{Clock, Duration};
@@ -45,8 +44,13 @@ pub struct Hub<L, W> {
     pub(crate) clock: Stopwatch,
     pub(crate) leading: Leading,
     pub(crate) log_keeper: LogKeeper,
-    clients: BTreeMap<usize, Client>,
-    from_acceptor: Consumer<net::TcpStream>,
+    pub(crate) bounds: Bounds,
+    // No port is served meanwhile whose last messages were costly.
+    pause: Pause,
+    pub(crate) clients: BTreeMap<usize, Client>,
+    // How many connections were ended because too much waited for clients.
+    pub(crate) slow_ended: u64,
+    from_acceptor: Consumer<Accepted>,
     pub(crate) door: Arc<Door, Global>,
     pub(crate) journal: Journal<L>,
     record: Record<W>,
@@ -60,7 +64,8 @@ pub struct Parts {
     pub clock: Stopwatch,
     pub leading: Leading,
     pub log_keeper: LogKeeper,
-    pub from_acceptor: Consumer<net::TcpStream>,
+    pub bounds: Bounds,
+    pub from_acceptor: Consumer<Accepted>,
     pub door: Arc<Door, Global>,
 }
 
@@ -76,16 +81,22 @@ impl<L: Log, W: Write + Drop> Hub<L, W> {
             clock,
             leading,
             log_keeper,
+            bounds,
             from_acceptor,
             door,
         } = parts;
+        let mut desk = desk;
+        desk.set_limits(bounds.desk);
         Hub {
             alloc,
             desk,
             clock,
             leading,
             log_keeper,
+            bounds,
+            pause: Pause::default(),
             clients: BTreeMap::new(alloc),
+            slow_ended: 0,
             from_acceptor,
             door,
             journal,
@@ -102,9 +113,9 @@ impl<L: Log, W: Write + Drop> Hub<L, W> {
     fn add_client<R: Threads + Wait + Net + Clock + Copy + Send + 'static>(
         &mut self,
         rt: &R,
-        stream: net::TcpStream,
+        accepted: Accepted,
     ) -> Result<(), Failure> {
-        let address = stream.peer_addr().ok();
+        let Accepted { stream, address } = accepted;
         let sides = split(rt, self.alloc, TcpStream::from_std(stream))?;
         let handed = Arc::new(self.alloc, Mutex::new(None))?;
         let theirs = Arc::try_clone(&handed)?;
@@ -114,9 +125,9 @@ impl<L: Log, W: Write + Drop> Hub<L, W> {
         };
         let number = port.number();
         *handed.lock(rt) = Some(port);
-        match self.run_client(rt, number, sides, theirs) {
+        match self.run_client(rt, number, sides, theirs, address.ip()) {
             Ok(()) => {
-                self.journal.client_came(number, address);
+                self.journal.client_came(number, Some(address));
                 Ok(())
             }
             Err(error) => {
@@ -136,10 +147,12 @@ impl<L: Log, W: Write + Drop> Hub<L, W> {
         number: usize,
         sides: Sides,
         handed: Handed,
+        address: IpAddr,
     ) -> Result<(), Failure> {
+        let limits = self.bounds.session;
         match self.clients.entry(number)? {
             Entry::Vacant(entry) => {
-                entry.insert(start_client(rt, self.alloc, sides, handed)?);
+                entry.insert(start_client(rt, self.alloc, sides, handed, address, limits)?);
                 Ok(())
             }
             Entry::Occupied(_) => Err(Failure::NoThread),
@@ -153,12 +166,13 @@ impl<L: Log, W: Write + Drop> Hub<L, W> {
     ) -> bool {
         let mut found = false;
         for _ in 0..NEW_AT_ONCE {
-            let Ok(stream) = self.from_acceptor.pop() else {
+            let Ok(accepted) = self.from_acceptor.pop() else {
                 break;
             };
             found = true;
-            if let Err(error) = self.add_client(rt, stream) {
-                self.door.leave();
+            let address = accepted.address.ip();
+            if let Err(error) = self.add_client(rt, accepted) {
+                self.door.leave(rt, address);
                 self.journal.client_refused(error);
             }
         }
@@ -179,10 +193,25 @@ impl<L: Log, W: Write + Drop> Hub<L, W> {
         }
     }
 
-    // Makes a turn of the desk, records it, and tells the threads.
-    pub(crate) fn turn<R: Threads + Sync + Clock>(&mut self, rt: &R) -> Result<usize, NoMemory> {
+    // Has the connections that the last turn closed write what is left within a short time.
+    fn hurry_each(&self, numbers: &[usize]) {
+        for number in numbers {
+            if let Some(client) = self.clients.get(number) {
+                client.bell.hurry();
+            }
+        }
+    }
+
+    // Makes a turn of the desk, tells the threads, and records it.
+    fn turn_within<R: Threads + Sync + Clock, B: Budget>(
+        &mut self,
+        rt: &R,
+        budget: &mut B,
+    ) -> Result<usize, NoMemory> {
         let began = self.clock.now(rt);
-        let turned = self.desk.turn(rt, &OpenGate);
+        let turned = self.desk.turn_within(rt, &OpenGate, budget);
+        self.ring_each(self.desk.told());
+        self.hurry_each(self.desk.closing());
         let now = self.clock.now(rt);
         self.record.add(self.desk.fresh());
         self.journal.turned(&self.desk);
@@ -192,24 +221,35 @@ impl<L: Log, W: Write + Drop> Hub<L, W> {
         }
         self.note_leader(now);
         self.note_checkpoint(began, now);
-        self.ring_each(self.desk.told());
         turned.map_err(|_| NoMemory)
     }
 
-    fn join_client<R: Threads>(&mut self, rt: &R, number: usize) {
+    // Makes a turn that takes of clients what the budget of a turn allows.
+    pub(crate) fn turn<R: Threads + Sync + Clock>(&mut self, rt: &R) -> Result<usize, NoMemory> {
+        let mut budget = TurnBudget::new(rt, self.clock, self.pause);
+        let turned = self.turn_within(rt, &mut budget);
+        self.pause = self.pause.after(&budget);
+        turned
+    }
+
+    fn join_client<R: Threads + Wait>(&mut self, rt: &R, number: usize) {
         let Some(client) = self.clients.remove(&number) else {
             return;
         };
-        let Client { handle, bell: _ } = client;
+        let Client {
+            handle,
+            bell: _,
+            address,
+        } = client;
         if let Some(end) = handle.join(rt) {
             self.desk.close(end);
         }
-        self.door.leave();
+        self.door.leave(rt, address);
     }
 
     // Joins the threads whose `End` the last turn took. All bells are rung first, so that no thread waits for the
     // others.
-    pub(crate) fn join_ended<R: Threads + Clock>(&mut self, rt: &R) {
+    pub(crate) fn join_ended<R: Threads + Wait>(&mut self, rt: &R) {
         self.ring_each(self.desk.ended());
         for place in 0..self.desk.ended().len() {
             match self.desk.ended().get(place).copied() {
@@ -220,9 +260,16 @@ impl<L: Log, W: Write + Drop> Hub<L, W> {
         }
     }
 
-    fn wait<R: Wait>(&self, rt: &R, rest: u64) {
-        self.desk
-            .wait(rt, Duration::from_millis(rest.min(LONGEST_WAIT)));
+    // Waits for up to so many milliseconds, and no longer than ports are put off because they are costly.
+    fn wait<R: Wait + Clock>(&mut self, rt: &R, rest: u64) {
+        let paused = self.pause.rest(self.clock.microseconds(rt));
+        let rest = rest.min(LONGEST_WAIT);
+        let rest = if paused > 0 {
+            rest.min((paused / 1000).saturating_add(1))
+        } else {
+            rest
+        };
+        self.desk.wait(rt, Duration::from_millis(rest));
     }
 
     /// Serves until the last leader is gone, or until it is to end for another reason.
@@ -239,13 +286,20 @@ impl<L: Log, W: Write + Drop> Hub<L, W> {
                 break;
             }
             let by_log = self.look_at_log();
-            self.journal
-                .connections_refused(self.door.refused(), self.clock.last());
-            if !found && took == 0 {
+            self.relieve();
+            self.tell_closed();
+            if !found && took == 0 && !self.desk.is_behind() {
                 self.wait(rt, by_leader.min(by_log));
             }
         }
         Ok(())
+    }
+
+    // Tells how many connections were closed for want of room for them, or for what they don't read.
+    fn tell_closed(&mut self) {
+        let now = self.clock.last();
+        self.journal.connections_refused(self.door.refused(), now);
+        self.journal.slow_closed(self.slow_ended, now);
     }
 
     /// Ends the clients' connections. One that doesn't read what it is sent isn't waited for.
@@ -266,27 +320,32 @@ impl<L: Log, W: Write + Drop> Hub<L, W> {
             if self.clients.is_empty() && !self.leading.is_following() {
                 break;
             }
-            let took = self.turn(rt)?;
+            let took = self.turn_within(rt, &mut Unlimited)?;
             self.join_ended(rt);
-            if took == 0 {
+            if took == 0 && !self.desk.is_behind() {
                 self.wait(rt, LONGEST_WAIT);
             }
         }
-        Ok(())
+        self.judge_gone(rt)
     }
 
     // Ends all connections of a desk that takes nothing any more.
-    fn abandon<R: Threads + Clock>(&mut self, rt: &R) {
+    fn abandon<R: Threads>(&mut self, rt: &R) {
         self.leading.abandon();
         for client in self.clients.values() {
             client.bell.abandon();
         }
         self.join_leader(rt);
+        self.tell_last_leader();
         for _ in 0..u64::MAX {
             let Some((_, client)) = self.clients.pop_first() else {
                 break;
             };
-            let Client { handle, bell: _ } = client;
+            let Client {
+                handle,
+                bell: _,
+                address: _,
+            } = client;
             let _ = handle.join(rt);
         }
     }

@@ -9,6 +9,7 @@ use intake::{Message, Port};
 use leader_search::Search;
 use learner_sync::Phase;
 use log::Log;
+use observer_core::Output;
 use serve_failures::{Failure, Reason, Server};
 use std::alloc::Global;
 use std::io::Write;
@@ -16,7 +17,7 @@ use std::net::{Net, TcpStream};
 use std::sync::{Arc, Mutex, Wait};
 use std::thread::Threads;
 use std::time::Clock;
-use values::Fault;
+use values::{Fault, NoMemory};
 
 /// Where leaders come from.
 #[derive(Drop)]
@@ -27,6 +28,20 @@ pub enum Source {
     Search(Search),
 }
 
+// A leader that is gone, and the fault that its thread was told of.
+#[derive(Clone, Copy)]
+struct Gone {
+    fault: Option<Fault>,
+}
+
+// What was still put to the port of a leader that is gone: whether there was anything, and the last fault. An end inside
+// a packet is none, since it says only that the rest is missing.
+#[derive(Clone, Copy)]
+struct Rest {
+    is_empty: bool,
+    fault: Option<Fault>,
+}
+
 /// What the hub knows of its leaders. Port 0 is theirs, one after the other: a number isn't used again, and outputs for
 /// a leader are those of port 0.
 #[derive(Drop)]
@@ -35,6 +50,8 @@ pub struct Leading {
     thread: Option<Leader>,
     // Port 0, while no leader is followed.
     resting: Option<Port>,
+    // A leader whose thread was joined, until its end is judged.
+    gone: Option<Gone>,
     silence: Silence,
     // The leader fell silent, and its connection is being ended.
     is_given_up: bool,
@@ -55,6 +72,7 @@ impl Leading {
             source,
             thread: None,
             resting: None,
+            gone: None,
             silence: Silence::new(limits),
             is_given_up: false,
             is_greeted: false,
@@ -153,18 +171,28 @@ impl Leading {
         }
     }
 
-    // Takes the outputs that were meant for a leader that is gone. Returns whether there was one.
-    fn drop_stale(&mut self) -> bool {
-        let mut found = false;
-        if let Some(port) = &mut self.resting {
-            for _ in 0..u64::MAX {
-                if port.receive().is_none() {
-                    break;
-                }
-                found = true;
+    // Takes the outputs that were meant for a leader that is gone.
+    fn drop_rest(&mut self) -> Rest {
+        let mut rest = Rest {
+            is_empty: true,
+            fault: None,
+        };
+        let Some(port) = &mut self.resting else {
+            return rest;
+        };
+        for _ in 0..u64::MAX {
+            let Some(output) = port.receive() else {
+                break;
+            };
+            rest.is_empty = false;
+            match output {
+                Output::CloseLeader(Fault::Short) => {}
+                Output::CloseLeader(fault) => rest.fault = Some(fault),
+                _ => {}
             }
         }
-        found
+        port.written_all();
+        rest
     }
 }
 
@@ -252,19 +280,23 @@ impl<L: Log, W: Write + Drop> Hub<L, W> {
 
     // Drops what was still to be sent to the leader that is gone, turn by turn, until a turn brings nothing: the next one
     // would take it for requests of its own observer. Without a leader the engine sends nothing to one, so nothing new
-    // comes.
-    fn drop_stale<R: Threads + Wait + Net + Clock + Copy + Send + Sync + 'static>(
+    // comes. Returns the fault that is among it: a leader may end right after bytes that are refused, and before its
+    // thread is told.
+    fn drop_rest<R: Threads + Wait + Sync + Clock>(
         &mut self,
         rt: &R,
-    ) -> Result<(), Failure> {
+    ) -> Result<Option<Fault>, NoMemory> {
+        let mut fault = None;
         for _ in rt.forever() {
             self.turn(rt)?;
             self.join_ended(rt);
-            if !self.leading.drop_stale() {
+            let rest = self.leading.drop_rest();
+            fault = rest.fault.or(fault);
+            if rest.is_empty {
                 break;
             }
         }
-        Ok(())
+        Ok(fault)
     }
 
     // Follows the server that was found, if a thread can be started for it.
@@ -297,19 +329,18 @@ impl<L: Log, W: Write + Drop> Hub<L, W> {
         &mut self,
         rt: &R,
         now: u64,
-    ) -> Result<u64, Failure> {
+    ) -> u64 {
         match self.leading.advance(now) {
             Some(stream) => {
-                self.drop_stale(rt)?;
                 self.follow_found(rt, stream, now);
-                Ok(0)
+                0
             }
             None => {
                 self.tell_search(now);
-                Ok(match &self.leading.source {
+                match &self.leading.source {
                     Source::Once(_) => u64::MAX,
                     Source::Search(search) => search.rest(now),
-                })
+                }
             }
         }
     }
@@ -376,11 +407,12 @@ impl<L: Log, W: Write + Drop> Hub<L, W> {
         &mut self,
         rt: &R,
     ) -> Result<u64, Failure> {
+        self.judge_gone(rt)?;
         let now = self.clock.now(rt);
         let rest = if self.leading.is_following() {
             self.judge_silence(now)
         } else {
-            self.seek(rt, now)?
+            self.seek(rt, now)
         };
         if self.leading.served_since.is_some() {
             return Ok(rest);
@@ -393,8 +425,8 @@ impl<L: Log, W: Write + Drop> Hub<L, W> {
         Ok(rest.min(left))
     }
 
-    /// Joins the leader's thread, whose `End` was taken or isn't waited for, and judges what its end means.
-    pub(crate) fn join_leader<R: Threads + Clock>(&mut self, rt: &R) {
+    /// Joins the leader's thread, whose `End` was taken or isn't waited for. Its end is judged later.
+    pub(crate) fn join_leader<R: Threads>(&mut self, rt: &R) {
         let Some(leader) = self.leading.thread.take() else {
             return;
         };
@@ -412,8 +444,29 @@ impl<L: Log, W: Write + Drop> Hub<L, W> {
             self.over = Some(Err(Failure::NoMemory));
             return;
         }
+        self.leading.gone = Some(Gone { fault });
+    }
+
+    /// Judges what the end of a leader means whose thread was joined, once all is known that was put to its port.
+    pub(crate) fn judge_gone<R: Threads + Wait + Sync + Clock>(
+        &mut self,
+        rt: &R,
+    ) -> Result<(), NoMemory> {
+        let Some(Gone { fault }) = self.leading.gone.take() else {
+            return Ok(());
+        };
+        let late = self.drop_rest(rt)?;
         let now = self.clock.now(rt);
-        self.judge_end(fault, now);
+        self.judge_end(fault.or(late), now);
+        Ok(())
+    }
+
+    /// Tells of a leader whose thread was joined, where no turn can be made any more.
+    pub(crate) fn tell_last_leader(&mut self) {
+        if let Some(Gone { fault }) = self.leading.gone.take() {
+            let rest = self.leading.drop_rest();
+            self.tell_gone(fault.or(rest.fault));
+        }
     }
 
     // Judges what the end of a leader means, unless the server ends anyway.

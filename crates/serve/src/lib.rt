@@ -1,16 +1,16 @@
 //! A server: it follows a leader over a socket, and serves clients over sockets.
 #![tactic(auto)]
 
-mod accept;
+mod bounds;
 mod command;
 mod connections;
 mod hub;
 mod leading;
 mod log_keeping;
+mod logging;
 mod record;
 mod serving;
 mod silence;
-mod stopwatch;
 
 pub use command::serve;
 pub use connection_loop::{LeaderGone, leader_loop, session_loop};

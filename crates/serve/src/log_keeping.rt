@@ -7,7 +7,7 @@ use learner_sync::Phase;
 use log::Log;
 use std::io::Write;
 
-/// Between two looks at the log, in milliseconds.
+/// Between two looks at the log where no turn comes, in milliseconds.
 const BETWEEN_LOOKS: u64 = 1000;
 
 /// Asks the engine for a checkpoint when the leader has sent much since the last one.
@@ -16,11 +16,10 @@ pub struct LogKeeper {
     pub(crate) checkpoints: following::Checkpoints,
     // The port that checkpoints are asked for by. It is opened for the first one.
     port: Option<Port>,
-    next_look: u64,
-    // The transactions in the log when a checkpoint was asked for.
-    entries: usize,
-    // It was logged that no checkpoint can be made.
-    is_left_out: bool,
+    // A checkpoint was asked for and hasn't been made: the transactions that were in the log then.
+    asked: Option<usize>,
+    // It was logged that the next checkpoint is put off.
+    is_put_off: bool,
 }
 
 impl LogKeeper {
@@ -29,9 +28,8 @@ impl LogKeeper {
         LogKeeper {
             checkpoints: following::Checkpoints::new(least),
             port: None,
-            next_look: 0,
-            entries: 0,
-            is_left_out: false,
+            asked: None,
+            is_put_off: false,
         }
     }
 
@@ -40,11 +38,14 @@ impl LogKeeper {
         if self.port.is_none() {
             self.port = desk.add_port(1).ok();
         }
-        self.entries = desk.engine().learner().since_base().len();
-        match &mut self.port {
-            None => false,
-            Some(port) => port.send(Message::Checkpoint).is_ok(),
+        let Some(port) = &mut self.port else {
+            return false;
+        };
+        let is_sent = port.send(Message::Checkpoint).is_ok();
+        if is_sent {
+            self.asked = Some(desk.engine().learner().since_base().len());
         }
+        is_sent
     }
 }
 
@@ -59,34 +60,36 @@ impl<L: Log, W: Write + Drop> Hub<L, W> {
         if !messages.any(|(_, message)| matches!(message, Message::Checkpoint)) {
             return;
         }
+        let entries = self.log_keeper.asked.take().unwrap_or(0);
+        let learner = self.desk.engine().learner();
+        if learner.phase() != Phase::Serving {
+            // The turn took a leader's end first, and passed the checkpoint over.
+            return;
+        }
+        let zxid = learner.last_zxid();
         let pause = now.saturating_sub(began);
         let nodes = self.nodes();
         self.log_keeper.checkpoints.taken(now, pause, nodes);
-        self.log_keeper.is_left_out = false;
-        let zxid = self.desk.engine().learner().last_zxid();
-        self.journal
-            .checkpoint(zxid, pause, nodes, self.log_keeper.entries);
+        self.log_keeper.is_put_off = false;
+        self.journal.checkpoint(zxid, pause, nodes, entries);
     }
 
-    /// Looks at the log once a second, while clients are served. Returns for how many milliseconds there is nothing to
+    /// Looks at the log after a turn, while clients are served. Returns for how many milliseconds there is nothing to
     /// do.
     pub(crate) fn look_at_log(&mut self) -> u64 {
-        let now = self.clock.last();
-        if now < self.log_keeper.next_look {
-            return self.log_keeper.next_look - now;
-        }
-        self.log_keeper.next_look = now.saturating_add(BETWEEN_LOOKS);
-        if self.desk.engine().learner().phase() != Phase::Serving {
+        let phase = self.desk.engine().learner().phase();
+        if self.log_keeper.asked.is_some() || phase != Phase::Serving {
             return BETWEEN_LOOKS;
         }
+        let now = self.clock.last();
         let nodes = self.nodes();
         match self.log_keeper.checkpoints.judge(now, nodes) {
             Due::NotYet => BETWEEN_LOOKS,
             Due::TooLong { expected } => {
-                if !self.log_keeper.is_left_out {
-                    self.journal.checkpoint_left_out(expected, nodes);
+                if !self.log_keeper.is_put_off {
+                    self.journal.checkpoint_put_off(expected, nodes);
                 }
-                self.log_keeper.is_left_out = true;
+                self.log_keeper.is_put_off = true;
                 BETWEEN_LOOKS
             }
             Due::Now => {

@@ -1,12 +1,12 @@
 //! The server, once its sockets are open.
 
-use crate::accept::{Accepting, Acceptor, accept_all, open_door};
+use crate::bounds::Bounds;
 use crate::hub::{Hub, Parts};
 use crate::leading::{Leading, Source};
 use crate::log_keeping::LogKeeper;
+use crate::logging::{Logging, start_logging};
 use crate::record::Record;
 use crate::silence::SilenceLimits;
-use crate::stopwatch::Stopwatch;
 use batcher::SpreadThreshold;
 use following::Finding;
 use intake::Desk;
@@ -14,9 +14,9 @@ use leader_search::{Finder, find_all, search_among};
 use log::Log;
 use mio::net::TcpListener;
 use observer_core::{Config, Settings};
+use serve_bounds::{Accepting, Acceptor, Stopwatch, accept_all, open_door};
 use serve_failures::{Failure, Step, servers_of};
 use serve_journal::Journal;
-use serve_log::{has_journal, logger};
 use serve_options::{Address, Options, Servers};
 use settings::{Epochs, FirstCounter, Secret, TimeoutBounds};
 use std::alloc::Global;
@@ -196,12 +196,13 @@ fn prepare<R: Net + Clock>(
     listener: TcpListener,
 ) -> Result<Prepared, Failure> {
     let mut clock = Stopwatch::start(rt);
+    let bounds = Bounds::new(options, TimeoutBounds::default());
     let (source, beginning) = begin_at(alloc, options, origin, clock.now(rt))?;
     let Accepting {
         acceptor,
         from_acceptor,
         door,
-    } = open_door(rt, alloc, listener, options.max_clients)?;
+    } = open_door(rt, alloc, listener, bounds.places)?;
     let limits = SilenceLimits {
         tick: options.tick,
         init_limit: options.init_limit,
@@ -211,6 +212,7 @@ fn prepare<R: Net + Clock>(
         clock,
         leading: Leading::new(source, limits, options.give_up),
         log_keeper: LogKeeper::new(options.checkpoint),
+        bounds,
         from_acceptor,
         door,
     };
@@ -276,17 +278,24 @@ pub fn try_serve_on<
     let file = record_file(rt, alloc, options.record)?;
     let mut record = Record::new(alloc, file);
     record.begin(options.server_id, first_counter.number());
-    let log = logger(rt, options.log, options.log_format, !has_journal(rt));
-    let journal = Journal::new(alloc, log);
-    journal.started(options, listener.local_addr()?.port());
+    let port = listener.local_addr()?.port();
     let config = config_of(alloc, options, first_counter);
     let prepared = prepare(rt, alloc, options, origin, listener)?;
-    serve_with(rt, alloc, config, prepared, journal, record)
+    let Logging {
+        journal,
+        thread,
+        end,
+    } = start_logging(rt, alloc, options)?;
+    journal.started(options, port);
+    let served = serve_with(rt, alloc, config, prepared, journal, record);
+    end.finish(rt, thread);
+    served
 }
 
 /// Follows the leader and serves clients until the leader's connection ends. Returns the exit status: 0 then, 3 if
 /// something couldn't be opened or recorded, 4 if an allocation was refused, 7 if what the leader sent was refused. By
-/// then each thread that it started has ended, and each connection is closed.
+/// then each connection is closed, and each thread that it started has ended, but for the one that writes the log where
+/// standard error hasn't been read for 500 milliseconds.
 pub fn serve_on<
     R: Threads
         + Wait

@@ -22,7 +22,7 @@ pub fn fault_hint(fault: Fault) -> &'static str
         Fault::OutOfOrder => "start again, and if it comes back keep a record of it",
         Fault::CommitMismatch => "start again, and if it comes back keep a record of it",
         Fault::CannotTruncate =>
-            "start again: the ensemble has lost transactions that were seen here",
+            "start again: transactions that were seen here are lost, or that server lags",
         Fault::BadImage => "start again: the leader's next image may be right",
         Fault::EpochTooSmall => "look which server leads: this one has an epoch that is over",
         Fault::UnexpectedPacket => "look whether this is the quorum port of a server from 3.4 on",

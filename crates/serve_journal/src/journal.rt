@@ -22,6 +22,7 @@ pub struct Journal<L> {
     served_epoch: Option<i32>,
     searching: Pace,
     refusals: Refusals,
+    slow: Refusals,
 }
 
 impl<L: Log> Journal<L> {
@@ -33,6 +34,7 @@ impl<L: Log> Journal<L> {
             served_epoch: None,
             searching: Pace::new(),
             refusals: Refusals::new(),
+            slow: Refusals::new(),
         }
     }
 
@@ -121,7 +123,15 @@ impl<L: Log> Journal<L> {
     /// there were.
     pub fn connections_refused(&mut self, all: u64, now: u64) {
         if let Some(fresh) = self.refusals.report(all, now) {
-            warn!(self.log; target: "client", "{fresh} connections were closed at once: --max-clients");
+            warn!(self.log; target: "client", "{fresh} connections were closed at once: --max-clients or --max-per-address");
+        }
+    }
+
+    /// So many connections were closed since the start, since too much waited for clients: a line in ten seconds says how
+    /// many more there were.
+    pub fn slow_closed(&mut self, all: u64, now: u64) {
+        if let Some(fresh) = self.slow.report(all, now) {
+            warn!(self.log; target: "client", "{fresh} connections that don't read were closed: --max-under-way");
         }
     }
 
@@ -132,10 +142,10 @@ impl<L: Log> Journal<L> {
             "checkpoint at {zxid:#x} in {pause} ms, {nodes} nodes, log of {entries} transactions dropped");
     }
 
-    /// A checkpoint is left out, since it would take so many milliseconds.
-    pub fn checkpoint_left_out(&self, expected: u64, nodes: u64) {
+    /// A checkpoint is put off, since it would take so many milliseconds.
+    pub fn checkpoint_put_off(&self, expected: u64, nodes: u64) {
         warn!(self.log; target: "log",
-            "no checkpoint: of {nodes} nodes it would take some {expected} ms, and the log grows on");
+            "checkpoint put off: some {expected} ms for {nodes} nodes; it comes when the log is twice as long");
     }
 
     /// A turn took long.

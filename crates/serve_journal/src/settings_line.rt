@@ -29,6 +29,9 @@ impl<'a> SettingsLine<'a> {
         if let Some(most) = self.options.max_clients {
             write!(f, " --max-clients {most}")?;
         }
+        if let Some(most) = self.options.max_per_address {
+            write!(f, " --max-per-address {most}")?;
+        }
         let Options {
             tick,
             init_limit,
@@ -39,6 +42,21 @@ impl<'a> SettingsLine<'a> {
         write!(
             f,
             " --tick {tick} --init-limit {init_limit} --sync-limit {sync_limit} --checkpoint {checkpoint}"
+        )?;
+        self.put_sessions(f)
+    }
+
+    // What clients are allowed.
+    fn put_sessions<W: fmt::Write>(&self, f: &mut fmt::Formatter<W>) -> fmt::Result {
+        let Options {
+            max_under_way,
+            unconnected,
+            words,
+            ..
+        } = self.options;
+        write!(
+            f,
+            " --max-under-way {max_under_way} --unconnected {unconnected} --words {words}"
         )
     }
 

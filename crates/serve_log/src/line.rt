@@ -3,17 +3,8 @@
 use crate::escape::Quoted;
 use crate::time::Stamp;
 use log::Level;
+use serve_options::LogFormat;
 use std::fmt;
-
-/// A record of the log. Spans and key-values aren't shown: nothing here logs with them.
-#[derive(Clone, Copy)]
-pub struct Entry<'a, D> {
-    /// When it was written, unless that isn't shown.
-    pub time: Option<Stamp>,
-    pub level: Level,
-    pub target: &'a str,
-    pub message: &'a D,
-}
 
 // A level in five columns.
 fn column_of(level: Level) -> &'static str {
@@ -26,49 +17,50 @@ fn column_of(level: Level) -> &'static str {
     }
 }
 
-/// Shows a record as a line of words: its time, level, target and message.
+/// Shows a record of the log as a line: of words, or as an object of JSON. Spans and key-values aren't shown, since nothing
+/// here logs with them.
 #[derive(Clone, Copy)]
-pub struct TextLine<'a, D>(pub Entry<'a, D>);
-
-impl<'a, D: fmt::Display> fmt::Display for TextLine<'a, D> {
-    fn fmt<W: fmt::Write>(&self, f: &mut fmt::Formatter<W>) -> fmt::Result {
-        let Entry {
-            time,
-            level,
-            target,
-            message,
-        } = self.0;
-        if let Some(time) = time {
-            write!(f, "{time} ")?;
-        }
-        let level = column_of(level);
-        write!(f, "{level} {target} ")?;
-        f.write(message)
-    }
+pub struct Line<'a, D> {
+    pub format: LogFormat,
+    /// When it was logged, unless that isn't shown.
+    pub time: &'a Option<Stamp>,
+    pub level: Level,
+    pub target: &'a str,
+    pub message: &'a D,
 }
 
-/// Shows a record as an object of JSON.
-#[derive(Clone, Copy)]
-pub struct JsonLine<'a, D>(pub Entry<'a, D>);
+impl<'a, D: fmt::Display> Line<'a, D> {
+    fn put_words<W: fmt::Write>(&self, f: &mut fmt::Formatter<W>) -> fmt::Result {
+        if let Some(time) = self.time {
+            write!(f, "{time} ")?;
+        }
+        let level = column_of(self.level);
+        let target = self.target;
+        write!(f, "{level} {target} ")?;
+        f.write(self.message)
+    }
 
-impl<'a, D: fmt::Display> fmt::Display for JsonLine<'a, D> {
-    fn fmt<W: fmt::Write>(&self, f: &mut fmt::Formatter<W>) -> fmt::Result {
-        let Entry {
-            time,
-            level,
-            target,
-            message,
-        } = self.0;
+    fn put_json<W: fmt::Write>(&self, f: &mut fmt::Formatter<W>) -> fmt::Result {
         f.write_str("{")?;
-        if let Some(time) = time {
+        if let Some(time) = self.time {
             write!(f, "\"ts\":\"{time}\",")?;
         }
-        let target = Quoted(&target);
-        let message = Quoted(message);
+        let level = self.level;
+        let target = Quoted(&self.target);
+        let message = Quoted(self.message);
         write!(
             f,
             "\"level\":\"{level}\",\"target\":{target},\"msg\":{message}"
         )?;
         f.write_str("}")
+    }
+}
+
+impl<'a, D: fmt::Display> fmt::Display for Line<'a, D> {
+    fn fmt<W: fmt::Write>(&self, f: &mut fmt::Formatter<W>) -> fmt::Result {
+        match self.format {
+            LogFormat::Text => self.put_words(f),
+            LogFormat::Json => self.put_json(f),
+        }
     }
 }

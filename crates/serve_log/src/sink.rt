@@ -2,35 +2,60 @@
 
 ghost use Rattle.std.specs.Prelude.{Some, true, []};
 
-use crate::line::{Entry, JsonLine, TextLine};
+use crate::line::Line;
+use crate::queue::LineQueue;
 use crate::time::{Stamp, stamp_now};
+use crate::writer::{LogEnd, LogWriter};
 use log::kv::Source;
 use log::span::Spans;
 use log::{LevelFilter, Log, Logged, Metadata, Record};
 use serve_options::LogFormat;
+use std::alloc::{AllocError, Global};
+use std::cell::RefCell;
 use std::env::FillError;
 use std::fmt::Display;
 use std::rt::{Clock, Env};
+use std::sync::Arc;
 
-/// Writes each record as a line on standard error.
-#[derive(Clone, Copy, Debug, Drop)]
+/// Makes a line of each record, and puts it into a queue. It never waits.
+#[derive(Drop)]
 pub struct Sink<R> {
     rt: R,
+    alloc: Global,
     format: LogFormat,
     has_time: bool,
+    queue: RefCell<LineQueue>,
 }
 
-impl<R: Eprint + Clock> Sink<R> {
-    // The time of a line that is written now, if it is shown, and if the clock can be read.
+impl<R: Clock> Sink<R> {
+    // The time of a line that is logged now, if it is shown, and if the clock can be read.
     fn time(&self) -> Option<Stamp> {
         if !self.has_time {
             return None;
         }
         stamp_now(&self.rt)
     }
+
+    // Puts a line, if it could be made.
+    fn take(&self, made: Result<String, AllocError>, time: Option<Stamp>) {
+        // Nobody else has borrowed it: no call from here logs.
+        let Ok(mut queue) = self.queue.try_borrow_mut() else {
+            return;
+        };
+        match made {
+            Ok(line) => {
+                queue.put(line, time);
+            }
+            Err(_) => queue.miss(time),
+        }
+    }
 }
 
-impl<R: Eprint + Clock> Log for Sink<R> {
+fn text_of<D: Display>(alloc: Global, value: &D) -> Result<String, AllocError> {
+    format!(in alloc; "{value}")
+}
+
+impl<R: Clock> Log for Sink<R> {
     ghost enables = { λ _ _ _. Some true };
 
     ghost target_of = { λ _. Some [] };
@@ -40,17 +65,16 @@ impl<R: Eprint + Clock> Log for Sink<R> {
     }
 
     fn log<D: Display, K: Source, S: Spans>(&self, record: &Record<'_, D, K, S>) {
-        let entry = Entry {
-            time: self.time(),
+        let time = self.time();
+        let line = Line {
+            format: self.format,
+            time: &time,
             level: record.level(),
             target: record.target(),
             message: record.args(),
         };
-        // A line that can't be written is dropped.
-        let _ = match self.format {
-            LogFormat::Text => self.rt.eprintln(TextLine(entry)),
-            LogFormat::Json => self.rt.eprintln(JsonLine(entry)),
-        };
+        let made = text_of(self.alloc, &line);
+        self.take(made, time);
     }
 
     fn flush(&self) {}
@@ -60,19 +84,37 @@ impl<R: Eprint + Clock> Log for Sink<R> {
     }
 }
 
-/// A logger of the records up to a level. Each line has the time in front, where it is asked for.
-pub fn logger<R: Eprint + Clock + Copy>(
+/// A log that is open: a logger, the state of the thread that is to write what is logged, and its end.
+#[derive(Drop)]
+pub struct OpenLog<R> {
+    pub logger: Logged<R, Sink<R>>,
+    pub writer: LogWriter,
+    pub end: LogEnd,
+}
+
+/// Opens a log of the records up to a level. Each line has the time in front, where it is asked for. Fails only if an
+/// allocation is refused.
+pub fn open_log<R: Clock + Copy>(
     rt: &R,
+    alloc: Global,
     most: LevelFilter,
     format: LogFormat,
     has_time: bool,
-) -> Logged<R, Sink<R>> {
+) -> Result<OpenLog<R>, AllocError> {
+    let (queue, lines) = LineQueue::new(alloc)?;
+    let end = LogEnd(Arc::try_clone(&lines.backlog)?);
     let sink = Sink {
         rt: *rt,
+        alloc,
         format,
         has_time,
+        queue: RefCell::new(queue),
     };
-    Logged::new(*rt, most, sink)
+    Ok(OpenLog {
+        logger: Logged::new(*rt, most, sink),
+        writer: LogWriter { lines, format },
+        end,
+    })
 }
 
 /// Whether standard error goes to systemd's journal, which notes the time itself: it sets the variable JOURNAL_STREAM.

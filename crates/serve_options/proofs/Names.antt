@@ -2,7 +2,7 @@
 use Rattle.std.proofs.Common.{◌≡◌, ◌<◌, refl, lit<}
 use Rattle.std.specs.Prelude.{slice_index_or}
 use Rattle.serve_options.specs.declared.row.Name.{Name}
-use Rattle.serve_options.specs.declared.row.Name.TheVariants.{Leader, Servers, Client, Id, Counter, Workers, Batch, MaxClients, Tick, InitLimit, SyncLimit, Checkpoint, GiveUp, Record, Log, LogFormat, Help, Version}
+use Rattle.serve_options.specs.declared.row.Name.TheVariants.{Leader, Servers, Client, Id, Counter, Workers, Batch, MaxClients, MaxPerAddress, MaxUnderWay, Unconnected, Words, Tick, InitLimit, SyncLimit, Checkpoint, GiveUp, Record, Log, LogFormat, Help, Version}
 use Rattle.serve_options.specs.declared.row.TheConstants.{NAMES}
 use Rattle.serve_options.specs.Given.{name_place}
 
@@ -15,6 +15,10 @@ name_at Counter = refl
 name_at Workers = refl
 name_at Batch = refl
 name_at MaxClients = refl
+name_at MaxPerAddress = refl
+name_at MaxUnderWay = refl
+name_at Unconnected = refl
+name_at Words = refl
 name_at Tick = refl
 name_at InitLimit = refl
 name_at SyncLimit = refl
@@ -26,7 +30,7 @@ name_at LogFormat = refl
 name_at Help = refl
 name_at Version = refl
 
-pub place_below : (name : Name) → name_place name < 18
+pub place_below : (name : Name) → name_place name < 22
 place_below Leader = lit< tt
 place_below Servers = lit< tt
 place_below Client = lit< tt
@@ -35,6 +39,10 @@ place_below Counter = lit< tt
 place_below Workers = lit< tt
 place_below Batch = lit< tt
 place_below MaxClients = lit< tt
+place_below MaxPerAddress = lit< tt
+place_below MaxUnderWay = lit< tt
+place_below Unconnected = lit< tt
+place_below Words = lit< tt
 place_below Tick = lit< tt
 place_below InitLimit = lit< tt
 place_below SyncLimit = lit< tt

@@ -1,6 +1,7 @@
 -- What a command line asks for.
 use Rattle.std.specs.Prelude.{◌≡◌, ◌↔◌, ◌≤◌, ℕ, pos, List, Option, Some, None, IfSome, IsTrue, vec_len}
 use Rattle.std.specs.Option.{unwrap_or, option_map}
+use Rattle.values.specs.Maybe.{◌>>=◌}
 use Rattle.log.specs.declared.level.LevelFilter.{LevelFilter}
 use Rattle.log.specs.declared.level.LevelFilter.TheVariants.{Info}
 use Rattle.serve_options.specs.declared.row.Name.TheVariants as names
@@ -10,16 +11,21 @@ use Rattle.serve_options.specs.declared.command.Servers.{Servers}
 use Rattle.serve_options.specs.declared.command.Servers.TheVariants as followed
 use Rattle.serve_options.specs.declared.value.LogFormat.{LogFormat}
 use Rattle.serve_options.specs.declared.value.LogFormat.TheVariants.{Text}
+use Rattle.serve_options.specs.declared.words.Words.{Words}
 use Rattle.serve_options.specs.declared.command.Command.{Command}
 use Rattle.serve_options.specs.declared.command.Command.TheVariants as commands
 use Rattle.serve_options.specs.Given.{given_of, value_of, number_given, IsGivenBy}
 use Rattle.serve_options.specs.Rows.{option_bounds, IsWithin}
 use Rattle.serve_options.specs.Values.{SpellsAddress, level_of, format_of}
+use Rattle.serve_options.specs.Words.{named_words}
 
 -- Each number is within the bounds of its option. Those of the server's id and of the limits are kept by their types.
 pub record IsWithinBounds (options : Options) : Type 0 where
   pub counter : IfSome options.first_counter (IsWithin (option_bounds names.Counter))
   pub clients : IfSome options.max_clients (IsWithin (option_bounds names.MaxClients))
+  pub per_address : IfSome options.max_per_address (IsWithin (option_bounds names.MaxPerAddress))
+  pub under_way : IsWithin (option_bounds names.MaxUnderWay) options.max_under_way
+  pub unconnected : IsWithin (option_bounds names.Unconnected) options.unconnected
   pub tick : IsWithin (option_bounds names.Tick) options.tick
   pub init_limit : IsWithin (option_bounds names.InitLimit) options.init_limit
   pub sync_limit : IsWithin (option_bounds names.SyncLimit) options.sync_limit
@@ -38,6 +44,10 @@ AreServersOf given (followed.Any addresses) =
 -- The id that is given, or 1.
 abbrev pub id_given : List Given → ℕ
 id_given given = unwrap_or (number_given names.Id given) 1
+
+-- The words of a text that names some of them.
+abbrev pub words_given : List Given → Option Words
+words_given given = value_of names.Words given >>= named_words
 
 -- Without a level in words, as `--log` alone has none, it is `info`.
 abbrev pub level_given : List Given → Option LevelFilter
@@ -59,6 +69,10 @@ pub record IsSetBy (given : List Given) (options : Options) : Type 0 where
   pub workers : number_given names.Workers given ≡ Some options.limits.workers
   pub batch : number_given names.Batch given ≡ Some options.limits.batch
   pub clients : options.max_clients ≡ number_given names.MaxClients given
+  pub per_address : options.max_per_address ≡ number_given names.MaxPerAddress given
+  pub under_way : number_given names.MaxUnderWay given ≡ Some options.max_under_way
+  pub unconnected : number_given names.Unconnected given ≡ Some options.unconnected
+  pub words : words_given given ≡ Some options.words
   pub tick : number_given names.Tick given ≡ Some options.tick
   pub init_limit : number_given names.InitLimit given ≡ Some options.init_limit
   pub sync_limit : number_given names.SyncLimit given ≡ Some options.sync_limit

@@ -3,3 +3,4 @@ pub mod Defaults
 pub mod Given
 pub mod Rows
 pub mod Values
+pub mod Words

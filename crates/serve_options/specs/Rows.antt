@@ -1,7 +1,7 @@
 -- The options: the word of each, and what its value may be.
 use Rattle.std.specs.Prelude.{ℕ, ◌-◌, ◌^◌, ◌≤◌, List, codes}
 use Rattle.serve_options.specs.declared.row.Name.{Name}
-use Rattle.serve_options.specs.declared.row.Name.TheVariants.{Leader, Servers, Client, Id, Counter, Workers, Batch, MaxClients, Tick, InitLimit, SyncLimit, Checkpoint, GiveUp, Record, Log, LogFormat, Help, Version}
+use Rattle.serve_options.specs.declared.row.Name.TheVariants.{Leader, Servers, Client, Id, Counter, Workers, Batch, MaxClients, MaxPerAddress, MaxUnderWay, Unconnected, Words, Tick, InitLimit, SyncLimit, Checkpoint, GiveUp, Record, Log, LogFormat, Help, Version}
 use Rattle.serve_options.specs.declared.row.Bounds.{Bounds}
 use Rattle.serve_options.specs.declared.row.Kind.{Kind}
 use Rattle.serve_options.specs.declared.row.Kind.TheVariants as kinds
@@ -15,6 +15,10 @@ option_word Counter = codes "--counter"
 option_word Workers = codes "--workers"
 option_word Batch = codes "--batch"
 option_word MaxClients = codes "--max-clients"
+option_word MaxPerAddress = codes "--max-per-address"
+option_word MaxUnderWay = codes "--max-under-way"
+option_word Unconnected = codes "--unconnected"
+option_word Words = codes "--words"
 option_word Tick = codes "--tick"
 option_word InitLimit = codes "--init-limit"
 option_word SyncLimit = codes "--sync-limit"
@@ -39,6 +43,10 @@ option_kind Counter = from_to 0 (2 ^ 56 - 2)
 option_kind Workers = from_to 1 64
 option_kind Batch = from_to 1 4096
 option_kind MaxClients = from_to 1 (2 ^ 64 - 1)
+option_kind MaxPerAddress = from_to 1 (2 ^ 64 - 1)
+option_kind MaxUnderWay = from_to 1 1048576
+option_kind Unconnected = from_to 0 3600
+option_kind Words = kinds.Words
 option_kind Tick = from_to 1 3600000
 option_kind InitLimit = from_to 0 1000000
 option_kind SyncLimit = from_to 0 1000000

@@ -4,7 +4,7 @@ ghost use Rattle.std.specs.Prelude.{◌≡◌, ℕ, pos, List, map, string_bytes
 ghost use Rattle.serve_options.specs.Rows.{option_bounds, IsWithin};
 ghost use Rattle.serve_options.specs.Values.{number_within, SpellsAddress};
 ghost use Rattle.serve_options.specs.Given.{value_of, number_given, number_answer};
-ghost use Rattle.serve_options.specs.Commands.{IsWithinBounds, IsSetBy, AreWordsOf, AreServersOf, id_given, level_given, format_given};
+ghost use Rattle.serve_options.specs.Commands.{IsWithinBounds, IsSetBy, AreWordsOf, AreServersOf, id_given, words_given, level_given, format_given};
 
 use crate::error::OptionError;
 use crate::given::{Given, find_given, given_in, spelled};
@@ -12,6 +12,7 @@ use crate::row::{Bounds, Kind, Name};
 use crate::value::{
     Address, LogFormat, address_of, addresses_of, format_of, has_host, level_of, number_within,
 };
+use crate::words::{Words, words_of};
 use batcher::Limits;
 use log::LevelFilter;
 use settings::{FirstCounter, ServerId};
@@ -40,6 +41,13 @@ pub struct Options<'a> {
     pub limits: Limits,
     /// How many clients may be connected at a time, at least 1.
     pub max_clients: Option<u64>,
+    /// How many clients of one address may be connected at a time, at least 1.
+    pub max_per_address: Option<u64>,
+    /// The MiB of answers that may wait for all clients together, from 1 to 1,048,576.
+    pub max_under_way: u64,
+    /// For how many seconds a connection may be without a session, at most 3600; 0: any number.
+    pub unconnected: u64,
+    pub words: Words,
     /// The file for the record of what comes.
     pub record: Option<&'a str>,
     pub log: LevelFilter,
@@ -85,8 +93,13 @@ fn bounds_of(name: Name) -> Bounds
 {
     match name.row().kind {
         Kind::Number(bounds) => bounds,
-        Kind::Nothing | Kind::Address | Kind::Addresses | Kind::File | Kind::Level | Kind::Format =>
-            ANY,
+        Kind::Nothing
+        | Kind::Address
+        | Kind::Addresses
+        | Kind::Words
+        | Kind::File
+        | Kind::Level
+        | Kind::Format => ANY,
     }
 }
 
@@ -197,6 +210,18 @@ fn limits_in<'a>(given: &[Given<'a>]) -> Result<Limits, OptionError<'a>>
     }
 }
 
+fn words_in<'a>(given: &[Given<'a>]) -> Result<Words, OptionError<'a>>
+    ensures { IfOk result (λ words. words_given given.now ≡ Some words) }
+{
+    let Some(value) = spelled(given, Name::Words) else {
+        return Err(OptionError::NoValue(Name::Words));
+    };
+    match words_of(value) {
+        Some(words) => Ok(words),
+        None => Err(invalid(Name::Words, value)),
+    }
+}
+
 fn level_in<'a>(given: &[Given<'a>]) -> Result<LevelFilter, OptionError<'a>>
     ensures { IfOk result (λ level. level_given given.now ≡ Some level) }
 {
@@ -233,6 +258,10 @@ fn options_in<'a>(alloc: Global, given: &[Given<'a>]) -> Result<Options<'a>, Opt
         first_counter: counter_in(given)?,
         limits: limits_in(given)?,
         max_clients: number_in(given, Name::MaxClients)?,
+        max_per_address: number_in(given, Name::MaxPerAddress)?,
+        max_under_way: number(given, Name::MaxUnderWay)?,
+        unconnected: number(given, Name::Unconnected)?,
+        words: words_in(given)?,
         record: spelled(given, Name::Record),
         log: level_in(given)?,
         log_format: format_in(given)?,

@@ -21,12 +21,14 @@ mod listing;
 mod near;
 mod row;
 mod value;
+mod words;
 
 pub use command::{Command, Options, Servers, command_of};
 pub use error::OptionError;
 pub use listing::help;
 pub use row::{Bounds, Kind, Name, Row, Without};
 pub use value::{Address, LogFormat};
+pub use words::Words;
 
 /// The version of the program.
 pub const VERSION: &str = "0.4.0";

@@ -17,6 +17,10 @@ pub enum Name {
     Workers,
     Batch,
     MaxClients,
+    MaxPerAddress,
+    MaxUnderWay,
+    Unconnected,
+    Words,
     Tick,
     InitLimit,
     SyncLimit,
@@ -30,7 +34,7 @@ pub enum Name {
 }
 
 /// The options, in the order in which help lists them.
-pub const NAMES: [Name; 18] = [
+pub const NAMES: [Name; 22] = [
     Name::Leader,
     Name::Servers,
     Name::Client,
@@ -39,6 +43,10 @@ pub const NAMES: [Name; 18] = [
     Name::Workers,
     Name::Batch,
     Name::MaxClients,
+    Name::MaxPerAddress,
+    Name::MaxUnderWay,
+    Name::Unconnected,
+    Name::Words,
     Name::Tick,
     Name::InitLimit,
     Name::SyncLimit,
@@ -67,6 +75,8 @@ pub enum Kind {
     Address,
     /// From 1 to 64 hosts with their ports, and commas between.
     Addresses,
+    /// Four-letter words with commas between, or all or none of them.
+    Words,
     /// A number in decimal digits.
     Number(Bounds),
     /// The name of a file.
@@ -89,6 +99,7 @@ impl fmt::Display for Kind {
                 }
                 write!(f, "{least} to {most}")
             }
+            Kind::Words => f.write_str("all, none, or some of ruok,isro,srvr,mntr,wchs,wchp"),
             Kind::File => f.write_str("the name of a file"),
             Kind::Level => f.write_str("off, error, warn, info or debug"),
             Kind::Format => f.write_str("text or json"),
@@ -194,6 +205,47 @@ const MAX_CLIENTS: Row = Row {
     }),
     without: Without::Meaning("any number"),
     help: "how many clients may be connected at a time; one more is closed at once",
+};
+
+const MAX_PER_ADDRESS: Row = Row {
+    word: "--max-per-address",
+    value: "N",
+    kind: Kind::Number(Bounds {
+        least: 1,
+        most: u64::MAX,
+    }),
+    without: Without::Meaning("any number"),
+    help: "how many clients of one address may be connected at a time; one more is closed at once",
+};
+
+const MAX_UNDER_WAY: Row = Row {
+    word: "--max-under-way",
+    value: "MIB",
+    kind: Kind::Number(Bounds {
+        least: 1,
+        most: 1_048_576,
+    }),
+    without: Without::Value("64"),
+    help: "the MiB of answers that may wait until clients read them, of all clients together; beyond it the slowest is closed",
+};
+
+const UNCONNECTED: Row = Row {
+    word: "--unconnected",
+    value: "SECONDS",
+    kind: Kind::Number(Bounds {
+        least: 0,
+        most: 3600,
+    }),
+    without: Without::Value("10"),
+    help: "how long a connection may be without a session before it is closed; 0: as long as it likes",
+};
+
+const WORDS: Row = Row {
+    word: "--words",
+    value: "WORD,..",
+    kind: Kind::Words,
+    without: Without::Value("ruok,isro,srvr,mntr,wchs"),
+    help: "the four-letter words that are answered",
 };
 
 const TICK: Row = Row {
@@ -307,6 +359,10 @@ impl Name {
             Name::Workers => WORKERS,
             Name::Batch => BATCH,
             Name::MaxClients => MAX_CLIENTS,
+            Name::MaxPerAddress => MAX_PER_ADDRESS,
+            Name::MaxUnderWay => MAX_UNDER_WAY,
+            Name::Unconnected => UNCONNECTED,
+            Name::Words => WORDS,
             Name::Tick => TICK,
             Name::InitLimit => INIT_LIMIT,
             Name::SyncLimit => SYNC_LIMIT,

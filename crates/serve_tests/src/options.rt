@@ -35,6 +35,11 @@ fn some_lines_are_refused(rt: HostRuntime) -> Result<(), Fail> {
         "--leader 1 --client 2 --batch 0",
         "--leader 1 --client 2 --id 256",
         "--leader 1 --client 2 --max-clients 0",
+        "--leader 1 --client 2 --max-per-address 0",
+        "--leader 1 --client 2 --max-under-way 0",
+        "--leader 1 --client 2 --unconnected 3601",
+        "--leader 1 --client 2 --words ruok,stat",
+        "--leader 1 --client 2 --words none,ruok",
         "--leader 1 --client 2 --record --log",
         "--leader 1 --client 2 --log --log",
         "--leader 1 --client 2 --quiet",
@@ -63,5 +68,46 @@ fn each_option_is_read(rt: HostRuntime) -> Result<(), Fail> {
     assert!(rt; options.limits.workers() == 2 && options.limits.batch() == 8);
     assert!(rt; options.server_id.number() == 7 && options.max_clients == Some(9));
     assert!(rt; options.record == Some("f") && options.tick == 2000);
+    Ok(())
+}
+
+// The words that a line has answered, as the log shows them.
+fn words_shown(alloc: Global, line: &str) -> Result<String, Fail> {
+    let words = words(alloc, line)?;
+    let Ok(Command::Serve(options)) = command_of(alloc, words.as_slice()) else {
+        return Err(Fail::from("refused"));
+    };
+    let shown = options.words;
+    Ok(format!(in alloc; "{shown}")?)
+}
+
+#[test]
+fn bounds_for_clients_are_read(rt: HostRuntime) -> Result<(), Fail> {
+    let alloc = rt.alloc();
+    let words = words(
+        alloc,
+        "--leader 1 --client 2 --max-per-address 60 --max-under-way 1 --unconnected 0 --words wchp,ruok",
+    )?;
+    let Ok(Command::Serve(options)) = command_of(alloc, words.as_slice()) else {
+        return Err(Fail::from("refused"));
+    };
+    assert!(rt; options.max_per_address == Some(60) && options.max_under_way == 1);
+    assert!(rt; options.unconnected == 0 && options.words.wchp && options.words.ruok);
+    assert!(rt; !options.words.isro && !options.words.srvr && !options.words.mntr && !options.words.wchs);
+    Ok(())
+}
+
+#[test]
+fn words_are_shown_as_they_are_given(rt: HostRuntime) -> Result<(), Fail> {
+    let alloc = rt.alloc();
+    for (line, wanted) in [
+        ("--leader 1 --client 2", "ruok,isro,srvr,mntr,wchs"),
+        ("--leader 1 --client 2 --words all", "ruok,isro,srvr,mntr,wchs,wchp"),
+        ("--leader 1 --client 2 --words none", "none"),
+        ("--leader 1 --client 2 --words wchp,ruok,ruok", "ruok,wchp"),
+    ] {
+        let shown = words_shown(alloc, line)?;
+        assert!(rt; shown.as_str() == wanted, "{line}");
+    }
     Ok(())
 }

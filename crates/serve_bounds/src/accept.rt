@@ -5,10 +5,11 @@ use mio::net::TcpListener;
 use mio::{Events, Interest, Poll, Token, Waker};
 use rtrb::{Consumer, Producer, PushError, RingBuffer};
 use std::alloc::Global;
+use std::collections::BTreeMap;
 use std::io::ErrorKind;
-use std::net::{Net, TcpStream};
+use std::net::{IpAddr, Net, SocketAddr, TcpStream};
 use std::sync::atomic::{AtomicBool, AtomicU64, Ordering};
-use std::sync::{Arc, Wait};
+use std::sync::{Arc, Mutex, Wait};
 use std::time::{Clock, Duration};
 use std::{io, thread};
 
@@ -25,31 +26,74 @@ const LONGEST_WAIT: u64 = 1000;
 // The pause when the system has no descriptor left, or the hub no room, in milliseconds.
 const PAUSE: u64 = 10;
 
+/// How many clients may be connected at a time: in all, and of one address. Without a number, any.
+#[derive(Clone, Copy, Debug)]
+pub struct Places {
+    pub in_all: Option<u64>,
+    pub per_address: Option<u64>,
+}
+
+/// A client's connection, and its address.
+#[derive(Drop)]
+pub struct Accepted {
+    pub stream: TcpStream,
+    pub address: SocketAddr,
+}
+
 /// The state that the acceptor and the hub share.
 #[derive(Drop)]
 pub struct Door {
-    // The number of open client connections.
+    // The number of open client connections, and of those of each address. The second are counted where they are bounded.
     open: AtomicU64,
+    addresses: Mutex<BTreeMap<IpAddr, u64>>,
     // The number of those that were closed at once, since there were too many.
     refused: AtomicU64,
-    most: Option<u64>,
+    places: Places,
     stopped: AtomicBool,
     waker: Waker,
 }
 
 impl Door {
     // Counts a connection, unless there are too many.
-    fn enter(&self) -> bool {
+    fn enter<R: Wait>(&self, rt: &R, address: IpAddr) -> bool {
         let before = self.open.fetch_add(1, Ordering::SeqCst);
-        let fits = match self.most {
+        let fits = match self.places.in_all {
             Some(most) => before < most,
             None => true,
         };
-        if !fits {
-            self.leave();
-            self.refused.fetch_add(1, Ordering::SeqCst);
+        if fits && self.enter_from(rt, address) {
+            return true;
         }
-        fits
+        self.open.fetch_sub(1, Ordering::SeqCst);
+        self.refused.fetch_add(1, Ordering::SeqCst);
+        false
+    }
+
+    // Counts a connection of its address, unless there are too many of it, or no memory is left to count it.
+    fn enter_from<R: Wait>(&self, rt: &R, address: IpAddr) -> bool {
+        let Some(most) = self.places.per_address else {
+            return true;
+        };
+        let mut addresses = self.addresses.lock(rt);
+        let open = addresses.get(&address).copied().unwrap_or(0);
+        open < most && addresses.insert(address, open.saturating_add(1)).is_ok()
+    }
+
+    fn leave_from<R: Wait>(&self, rt: &R, address: IpAddr) {
+        if self.places.per_address.is_none() {
+            return;
+        }
+        let mut addresses = self.addresses.lock(rt);
+        let is_last = match addresses.get_mut(&address) {
+            None => return,
+            Some(open) => {
+                *open = open.saturating_sub(1);
+                *open == 0
+            }
+        };
+        if is_last {
+            addresses.remove(&address);
+        }
     }
 
     /// How many connections were closed at once, since there were too many.
@@ -57,9 +101,10 @@ impl Door {
         self.refused.load(Ordering::SeqCst)
     }
 
-    /// Counts a connection that has ended.
-    pub fn leave(&self) {
+    /// Counts a connection of this address that has ended.
+    pub fn leave<R: Wait>(&self, rt: &R, address: IpAddr) {
         self.open.fetch_sub(1, Ordering::SeqCst);
+        self.leave_from(rt, address);
     }
 
     /// Ends accepting connections.
@@ -79,7 +124,7 @@ pub struct Acceptor {
     listener: TcpListener,
     poll: Poll,
     events: Events,
-    to_hub: Producer<TcpStream>,
+    to_hub: Producer<Accepted>,
     door: Arc<Door, Global>,
 }
 
@@ -103,16 +148,16 @@ impl Drop for Acceptor {
 /// An acceptor, and what its thread shares with the hub's.
 pub struct Accepting {
     pub acceptor: Acceptor,
-    pub from_acceptor: Consumer<TcpStream>,
+    pub from_acceptor: Consumer<Accepted>,
     pub door: Arc<Door, Global>,
 }
 
-/// Prepares to accept connections, at most `most` at a time.
+/// Prepares to accept connections, as many at a time as there are places.
 pub fn open_door(
     net: &impl Net,
     alloc: Global,
     listener: TcpListener,
-    most: Option<u64>,
+    places: Places,
 ) -> io::Result<Accepting> {
     let mut listener = listener;
     let poll = Poll::new(net)?;
@@ -124,8 +169,9 @@ pub fn open_door(
         alloc,
         Door {
             open: AtomicU64::new(0),
+            addresses: Mutex::new(BTreeMap::new(alloc)),
             refused: AtomicU64::new(0),
-            most,
+            places,
             stopped: AtomicBool::new(false),
             waker,
         },
@@ -147,12 +193,12 @@ pub fn open_door(
 
 impl Acceptor {
     // Hands a connection to the hub. While the hub has no room it waits, unless it is to stop.
-    fn hand_over<R: Wait + Clock>(&mut self, rt: &R, hub: &HubWaker, stream: TcpStream) {
-        let mut stream = stream;
+    fn hand_over<R: Wait + Clock>(&mut self, rt: &R, hub: &HubWaker, accepted: Accepted) {
+        let mut accepted = accepted;
         for _ in rt.forever() {
-            match self.to_hub.push(stream) {
+            match self.to_hub.push(accepted) {
                 Ok(()) => break,
-                Err(PushError::Full(back)) => stream = back,
+                Err(PushError::Full(back)) => accepted = back,
             }
             if self.door.is_stopped() {
                 return;
@@ -166,11 +212,12 @@ impl Acceptor {
     // Accepts the next connection, or waits for one.
     fn accept_next<R: Wait + Clock>(&mut self, rt: &R, hub: &HubWaker) {
         match self.listener.accept() {
-            Ok((stream, _)) => {
-                if self.door.enter() {
+            Ok((stream, address)) => {
+                if self.door.enter(rt, address.ip()) {
                     // If this fails, an answer may wait for an acknowledgement, and nothing worse.
                     let _ = stream.set_nodelay(true);
-                    self.hand_over(rt, hub, TcpStream::from(stream));
+                    let stream = TcpStream::from(stream);
+                    self.hand_over(rt, hub, Accepted { stream, address });
                 }
             }
             Err(error) => match error.kind() {

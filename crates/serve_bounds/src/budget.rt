@@ -1,0 +1,114 @@
+//! What a turn of the hub may spend on clients before the leader is heard again.
+
+ghost use Rattle.std.specs.Prelude.{◌≡◌, ◌≤◌, ◌-◌};
+
+use crate::stopwatch::Stopwatch;
+use intake::Budget;
+use std::time::Clock;
+
+// After so long, in microseconds, no more messages of clients are taken in a turn. So what the leader sends waits no
+// longer than this, and for the messages of one port. What the leader's own messages take doesn't count.
+const MOST_TIME: u64 = 20_000;
+
+// The same for the bytes that clients are answered.
+const MOST_ANSWERED: usize = 4 * 1024 * 1024;
+
+// The messages of a port are costly if they take longer, in microseconds, or are answered by more bytes.
+const COSTLY_TIME: u64 = 1000;
+
+const COSTLY_ANSWERED: usize = 64 * 1024;
+
+// Costly messages that take longer in a turn, in microseconds, are followed by a pause, which is so many times as long:
+// meanwhile no port is served whose last messages were costly. So the other clients seldom wait for one.
+const LONG_TIME: u64 = 25_000;
+
+const PAUSE: u64 = 6;
+
+/// The budget of a turn. Times are microseconds of the server's stopwatch.
+#[derive(Clone, Copy)]
+pub struct TurnBudget<'a, R> {
+    rt: &'a R,
+    clock: Stopwatch,
+    began: u64,
+    last: u64,
+    // How long costly messages took.
+    costly: u64,
+    answered: usize,
+    takes_costly: bool,
+}
+
+impl<'a, R: Clock> TurnBudget<'a, R> {
+    /// The budget of a turn.
+    pub fn new(rt: &'a R, clock: Stopwatch, pause: Pause) -> TurnBudget<'a, R> {
+        let mut clock = clock;
+        let now = clock.microseconds(rt);
+        TurnBudget {
+            rt,
+            clock,
+            began: now,
+            last: now,
+            costly: 0,
+            answered: 0,
+            takes_costly: pause.rest(now) == 0,
+        }
+    }
+}
+
+impl<'a, R: Clock> Budget for TurnBudget<'a, R> {
+    fn begin(&mut self) {
+        self.began = self.clock.microseconds(self.rt);
+        self.last = self.began;
+    }
+
+    fn spend(&mut self, taken: usize, answered: usize) -> bool {
+        let now = self.clock.microseconds(self.rt);
+        let took = now.saturating_sub(self.last);
+        self.last = now;
+        self.answered = self.answered.saturating_add(answered);
+        // A checkpoint takes long, and brings no bytes of a client.
+        let is_costly = taken > 0 && (took > COSTLY_TIME || answered > COSTLY_ANSWERED);
+        if is_costly {
+            self.costly = self.costly.saturating_add(took);
+        }
+        is_costly
+    }
+
+    fn is_spent(&self) -> bool {
+        self.answered > MOST_ANSWERED || self.last.saturating_sub(self.began) > MOST_TIME
+    }
+
+    fn takes_costly(&self) -> bool {
+        self.takes_costly
+    }
+}
+
+/// A pause in which no port is served whose last messages were costly. Times are microseconds of the server's stopwatch.
+#[derive(Clone, Copy, Debug, Default)]
+pub struct Pause {
+    until: u64,
+}
+
+impl Pause {
+    /// The pause after a turn with this budget: a new one where costly messages took long.
+    pub fn after<R>(self, budget: &TurnBudget<'_, R>) -> Pause
+        ensures short { budget.now.costly ≤ 25000 → result ≡ self }
+        ensures no_shorter { self.until ≤ result.until }
+    {
+        if budget.costly <= LONG_TIME {
+            return self;
+        }
+        let until = budget
+            .last
+            .saturating_add(budget.costly.saturating_mul(PAUSE));
+        Pause {
+            until: self.until.max(until),
+        }
+    }
+
+    /// For how long it lasts.
+    pub fn rest(self, now: u64) -> u64
+        ensures { result ≡ self.until - now }
+    {
+        self.until.saturating_sub(now)
+    }
+}

@@ -1,0 +1,45 @@
+-- The four-letter words that a text names.
+use Rattle.std.specs.Prelude.{◌==◌, ℕ, List, Bool, true, false, Option, Some, None, if◌then◌else◌, codes, ◌||◌}
+use Rattle.std.specs.List.{list_any, list_all, slice_split}
+use Rattle.std.specs.Str.{bytes_eq}
+use Rattle.serve_options.specs.declared.words.Words.{Words}
+
+-- What stands between the commas of a text.
+abbrev pub parts_of : List ℕ → List (List ℕ)
+parts_of text = slice_split (λ letter. letter == 44) text
+
+abbrev pub is_four_letter_word : List ℕ → Bool
+is_four_letter_word text =
+    bytes_eq text (codes "ruok") || bytes_eq text (codes "isro") || bytes_eq text (codes "srvr")
+    || bytes_eq text (codes "mntr") || bytes_eq text (codes "wchs") || bytes_eq text (codes "wchp")
+
+abbrev pub is_among : List ℕ → List (List ℕ) → Bool
+is_among word parts = list_any (λ part. bytes_eq part word) parts
+
+abbrev pub words_among : List (List ℕ) → Words
+words_among parts = record {
+  ruok = is_among (codes "ruok") parts;
+  isro = is_among (codes "isro") parts;
+  srvr = is_among (codes "srvr") parts;
+  mntr = is_among (codes "mntr") parts;
+  wchs = is_among (codes "wchs") parts;
+  wchp = is_among (codes "wchp") parts;
+}
+
+abbrev pub all_or_none : Bool → Words
+all_or_none is_there = record {
+  ruok = is_there;
+  isro = is_there;
+  srvr = is_there;
+  mntr = is_there;
+  wchs = is_there;
+  wchp = is_there;
+}
+
+-- All of them, none of them, or those between commas, each of which has to be one.
+abbrev pub named_words : List ℕ → Option Words
+named_words text =
+    if bytes_eq text (codes "all") then Some (all_or_none true)
+    else (if bytes_eq text (codes "none") then Some (all_or_none false)
+    else (if list_all is_four_letter_word (parts_of text) then Some (words_among (parts_of text))
+    else None))

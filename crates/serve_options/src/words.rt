@@ -1,0 +1,115 @@
+//! The four-letter words that are answered.
+
+ghost use Rattle.std.specs.Prelude.{◌≡◌};
+ghost use Rattle.std.specs.List.{list_all};
+ghost use Rattle.serve_options.specs.Words.{parts_of, is_four_letter_word, is_among, all_or_none, named_words};
+
+use std::fmt;
+
+/// Which of the four-letter words are answered.
+#[derive(Clone, Copy, Debug, PartialEq, Eq)]
+pub struct Words {
+    pub ruok: bool,
+    pub isro: bool,
+    pub srvr: bool,
+    pub mntr: bool,
+    pub wchs: bool,
+    pub wchp: bool,
+}
+
+fn is_word(text: &str) -> bool
+    ensures { result ≡ is_four_letter_word text.now }
+{
+    text == "ruok"
+        || text == "isro"
+        || text == "srvr"
+        || text == "mntr"
+        || text == "wchs"
+        || text == "wchp"
+}
+
+// Whether each part of a text is a word.
+fn are_words(text: &str) -> bool
+    ensures { result ≡ list_all is_four_letter_word (parts_of text.now) }
+{
+    text.split(',').all(|part| is_word(part))
+}
+
+// Whether a word is among the parts of a text.
+fn has(text: &str, word: &str) -> bool
+    ensures { result ≡ is_among word.now (parts_of text.now) }
+{
+    text.split(',').any(|part| part == word)
+}
+
+// All words, or none.
+fn all_or_none(is_there: bool) -> Words
+    ensures { result ≡ all_or_none is_there }
+{
+    Words {
+        ruok: is_there,
+        isro: is_there,
+        srvr: is_there,
+        mntr: is_there,
+        wchs: is_there,
+        wchp: is_there,
+    }
+}
+
+/// The words that a text names: `all`, `none`, or some of them with commas between. Returns None where it names another
+/// one.
+pub fn words_of(text: &str) -> Option<Words>
+    ensures { result ≡ named_words text.now }
+{
+    if text == "all" {
+        return Some(all_or_none(true));
+    }
+    if text == "none" {
+        return Some(all_or_none(false));
+    }
+    if !are_words(text) {
+        return None;
+    }
+    Some(Words {
+        ruok: has(text, "ruok"),
+        isro: has(text, "isro"),
+        srvr: has(text, "srvr"),
+        mntr: has(text, "mntr"),
+        wchs: has(text, "wchs"),
+        wchp: has(text, "wchp"),
+    })
+}
+
+impl Words {
+    /// Each word, and whether it is answered.
+    pub fn each(self) -> [(&'static str, bool); 6] {
+        [
+            ("ruok", self.ruok),
+            ("isro", self.isro),
+            ("srvr", self.srvr),
+            ("mntr", self.mntr),
+            ("wchs", self.wchs),
+            ("wchp", self.wchp),
+        ]
+    }
+}
+
+/// Shows the words as `--words` names them.
+impl fmt::Display for Words {
+    fn fmt<W: fmt::Write>(&self, f: &mut fmt::Formatter<W>) -> fmt::Result {
+        if *self == all_or_none(false) {
+            return f.write_str("none");
+        }
+        let mut is_first = true;
+        for (word, is_answered) in self.each() {
+            if is_answered {
+                if !is_first {
+                    f.write_str(",")?;
+                }
+                is_first = false;
+                f.write_str(word)?;
+            }
+        }
+        Ok(())
+    }
+}

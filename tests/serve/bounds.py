@@ -1,0 +1,167 @@
+"""What bounds the connections of clients: how many there may be of an address, how long one may say nothing, which words
+it may ask, and how much may wait for those that don't read. And the last words of a leader."""
+import fcntl
+import random
+import socket
+import struct
+import termios
+import time
+
+import forwarded
+import load
+import several
+from leader import CREATE, received
+from server import (
+    CONNECT, CONNECTED_LEN, GET, OBSERVERINFO, UPTODATE, Server, got, hexa, is_closed, reset, wait_until,
+)
+
+WORDS = (b"ruok", b"isro", b"srvr", b"mntr", b"wchs", b"wchp")
+
+
+def connection_from(server, host):
+    """A connection from this address, which asks for a session."""
+    connection = socket.create_connection(("127.0.0.1", server.port), 10, source_address=(host, 0))
+    try:
+        connection.sendall(CONNECT)
+    except ConnectionError:
+        pass
+    return connection
+
+
+def is_let_in(connection):
+    try:
+        return len(received(connection, CONNECTED_LEN)) == CONNECTED_LEN
+    except ConnectionError:
+        return False
+
+
+def test_most_clients_of_an_address():
+    with Server("--max-per-address", "2") as server:
+        assert server.is_at_base()
+        first, second = server.client(), server.client()
+        for _ in range(5):
+            assert is_closed(server.connection())
+        others = [connection_from(server, "127.0.0.2") for _ in range(3)]
+        assert [is_let_in(it) for it in others] == [True, True, False]
+        assert server.answers(first) and server.answers(second) and server.answers(others[0])
+        # Whoever goes makes room for one of the same address.
+        first.close()
+        assert wait_until(lambda: is_let_in(connection_from(server, "127.0.0.1")), 5)
+        third = connection_from(server, "127.0.0.2")
+        assert not is_let_in(third)
+        for it in (second, *others):
+            it.close()
+        assert "--max-per-address" in server.ends()
+
+
+def answered(server, word):
+    """Returns whether a word is answered, where it is told why if it isn't."""
+    found = server.word(word)
+    assert found, word
+    return found != word + b" is not executed because it is not in the whitelist.\n"
+
+
+def test_words_that_are_answered():
+    for words, wanted in (
+        ([], WORDS[:5]),
+        (["--words", "all"], WORDS),
+        (["--words", "none"], ()),
+        (["--words", "wchp,ruok"], (b"ruok", b"wchp")),
+    ):
+        with Server(*words) as server, server.client() as watching:
+            # A watch, so that each word has something to tell.
+            watching.sendall(GET[:-1] + b"\1")
+            assert got(watching)
+            assert [it for it in WORDS if answered(server, it)] == list(wanted), words
+            assert server.is_serving()
+            server.ends()
+
+
+def test_connections_without_a_session():
+    with Server("--unconnected", "1") as server:
+        assert server.is_at_base()
+        base, client = server.descriptors(), server.client()
+        silent = [server.connection() for _ in range(20)]
+        slow = server.connection()
+        began = time.monotonic()
+        for byte in CONNECT[:10]:
+            slow.sendall(bytes([byte]))
+            time.sleep(0.02)
+        for it in (*silent, slow):
+            assert is_closed(it)
+            it.close()
+        assert 0.9 < time.monotonic() - began < 3, time.monotonic() - began
+        assert server.answers(client)
+        client.close()
+        assert server.is_at_base() and wait_until(lambda: server.descriptors() <= base, 5), server.descriptors()
+        server.ends()
+    with Server("--unconnected", "0") as server:
+        silent = server.connection()
+        time.sleep(1.5)
+        silent.sendall(CONNECT)
+        assert is_let_in(silent)
+        silent.close()
+        server.ends()
+
+
+def test_clients_that_do_not_read_beyond_all_bounds():
+    """The slowest are closed until what waits is within its bound; who reads is served meanwhile."""
+    count = 12
+    with Server("--max-under-way", "4") as server:
+        assert server.is_at_base()
+        node = load.made(server.leader, 900_000)
+        good, stuck = server.client(), [server.client() for _ in range(count)]
+        before = server.memory()
+        for it in stuck:
+            it.setsockopt(socket.SOL_SOCKET, socket.SO_RCVBUF, 4096)
+            it.sendall(forwarded.get_data(1, node.path) * 40)
+        for _ in range(300):
+            began = time.monotonic()
+            assert server.answers(good)
+            assert time.monotonic() - began < 1
+            time.sleep(0.005)
+        # Of the others each has a part of an answer that isn't written, and in 4 MiB there isn't room for all.
+        left = server.threads() - 4
+        assert 1 <= left <= 9, left
+        # What was freed isn't all given back.
+        assert server.memory() - before < 40, (before, server.memory())
+        for it in (good, *stuck):
+            it.close()
+        assert server.is_at_base()
+        assert "--max-under-way" in server.ends()
+
+
+def are_taken(connection):
+    """Returns whether all bytes that were sent are with the peer; its end may still be on the way."""
+    return struct.unpack("i", fcntl.ioctl(connection, termios.TIOCOUTQ, bytes(4)))[0] <= 1
+
+
+def test_a_leader_that_ends_right_after_what_is_refused():
+    """Its fault is told, whenever its connection ends: the verdict comes after some work."""
+    chance, refused = random.Random(3), hexa("00000008 0000000100000002 ffffff00")
+    for turn in range(200 if several.LONG else 60):
+        with Server("--log") as server:
+            leader = server.leader
+            leader.leave()
+            bodies = (
+                forwarded.buffer(b"/n%d" % number) + forwarded.buffer(b"hi") + forwarded.OPEN_ACL
+                + struct.pack(">?i", False, number + 2)
+                for number in range(600)
+            )
+            server.stream.sendall(b"".join(leader.made(CREATE, it) for it in bodies) + refused)
+            server.stream.shutdown(socket.SHUT_WR)
+            assert wait_until(lambda: are_taken(server.stream), 5)
+            time.sleep(0.004 * chance.random())
+            reset(server.stream)
+            told = server.ends(status=7, seconds=5).splitlines()
+            assert told[-1].startswith("observer: F2 BadLength from 127.0.0.1:"), (turn, told)
+            assert any(it.split()[1] == "WARN" and "F2 BadLength" in it for it in told[:-1]), (turn, told)
+
+
+def test_a_server_that_ends_right_after_what_no_leader_sends():
+    for turn in range(40):
+        with Server("--log", serves=False) as server:
+            received(server.stream, len(OBSERVERINFO))
+            server.stream.sendall(UPTODATE)
+            told = server.ends(status=7).splitlines()
+            assert told[-1].startswith("observer: F12 UnexpectedPacket from 127.0.0.1:"), (turn, told)
