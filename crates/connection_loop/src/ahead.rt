@@ -1,5 +1,7 @@
 //! Places for reads that are sent on before the leader has answered.
 
+ghost use Rattle.std.specs.Prelude.{◌≤◌};
+
 use std::alloc::Global;
 use std::sync::Arc;
 use std::sync::atomic::{AtomicUsize, Ordering};
@@ -44,17 +46,17 @@ impl ReadsAhead {
 
 /// The places of one connection.
 #[derive(Drop)]
-pub struct Places {
+pub struct OwnReadsAhead {
     // None for a connection that has no places.
     pool: Option<Arc<ReadsAhead, Global>>,
     held: usize,
     used: usize,
 }
 
-impl Places {
+impl OwnReadsAhead {
     /// No place yet.
-    pub fn new(pool: Option<Arc<ReadsAhead, Global>>) -> Places {
-        Places {
+    pub fn new(pool: Option<Arc<ReadsAhead, Global>>) -> OwnReadsAhead {
+        OwnReadsAhead {
             pool,
             held: 0,
             used: 0,

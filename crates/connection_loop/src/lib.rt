@@ -17,6 +17,7 @@ mod bell;
 mod frames;
 mod incoming;
 mod kind;
+pub mod law;
 mod limits;
 mod outgoing;
 mod patience;

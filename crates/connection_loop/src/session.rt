@@ -3,7 +3,7 @@
 ghost use Rattle.std.specs.Prelude.{◌≡◌, ◌≤◌, IfSome, length};
 ghost use Rattle.connection_loop.specs.Windows.{room_in};
 
-use crate::ahead::{Places, ReadsAhead};
+use crate::ahead::{OwnReadsAhead, ReadsAhead};
 use crate::incoming::{Cutting, Incoming, Piece};
 use crate::kind::Gate;
 use crate::limits::SessionLimits;
@@ -64,7 +64,7 @@ struct Session {
     // The client's frames that wait for their answers.
     window: Window,
     // The places of those that were sent on ahead.
-    places: Places,
+    places: OwnReadsAhead,
     // A message for which there was no room.
     held: Option<Message>,
     // Frames were sent on, and no others are sent before these are taken.
@@ -94,7 +94,7 @@ impl Session {
         alloc: Global,
         cutting: Cutting,
         limits: SessionLimits,
-        places: Places,
+        places: OwnReadsAhead,
         port: Port,
     ) -> Session {
         Session {
@@ -439,7 +439,7 @@ pub fn session_loop<T: Wait + Clock, R: Read + Rest + Drop, W: Write + Drop>(
     limits: SessionLimits,
     ahead: Arc<ReadsAhead, Global>,
 ) -> PortEnd {
-    let places = Places::new(Some(ahead));
+    let places = OwnReadsAhead::new(Some(ahead));
     let session = Session::new(rt, alloc, Cutting::Frames, limits, places, port);
     let LeaderGone {
         port,
@@ -458,7 +458,7 @@ pub fn leader_loop<T: Wait + Clock, R: Read + Rest + Drop, W: Write + Drop>(
     writer: W,
     port: Port,
 ) -> LeaderGone {
-    let places = Places::new(None);
+    let places = OwnReadsAhead::new(None);
     let limits = SessionLimits::none();
     let session = Session::new(rt, alloc, Cutting::Reads, limits, places, port);
     converse(rt, session, reader, writer)
