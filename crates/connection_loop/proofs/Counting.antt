@@ -8,16 +8,16 @@ after_small_owes : (w : Window) → (after_small w).owed ≡ w.owed
 after_small_owes w = elim (nat_le w.at_once (w.small + 1)) as
     (λ (b : Bool). (if b then record w { at_once = min (w.at_once * 2) 16; small = 0 }
     else record w { small = w.small + 1 }).owed ≡ w.owed) [
-  | true ↦ refl
-  | false ↦ refl
-]
+      | true ↦ refl
+      | false ↦ refl
+    ]
 
 sized_owes : (w : Window) (len : ℕ) → (sized_by_answer w len).owed ≡ w.owed
 sized_owes w len = elim (nat_le len 65536) as
     (λ (b : Bool). (if b then after_small w else record w { at_once = 1; small = 0 }).owed ≡ w.owed) [
-  | true ↦ after_small_owes w
-  | false ↦ refl
-]
+      | true ↦ after_small_owes w
+      | false ↦ refl
+    ]
 
 answer_owes : (w : Window) (len : ℕ) → (with_answer w len).owed ≡ w.owed - 1
 answer_owes w len = sized_owes (record w { owed = w.owed - 1; connected = true }) len
@@ -33,9 +33,9 @@ balance w (Answered len ∷ xs) is =
 room_fits : (w : Window) → room_in w ≤ 1024 - w.owed
 room_fits w = elim (not w.connected && nat_lt 0 w.owed) as
     (λ (b : Bool). (if b then 0 else min w.at_once (1024 - w.owed)) ≤ 1024 - w.owed) [
-  | true ↦ omega arith
-  | false ↦ omega arith
-]
+      | true ↦ omega arith
+      | false ↦ omega arith
+    ]
 
 few_owed : (w : Window) (run : List Exchange) → w.owed ≤ 1024 → IsRun w run → (window_after w run).owed ≤ 1024
 few_owed w [] few is = few

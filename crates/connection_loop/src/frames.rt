@@ -3,7 +3,8 @@
 ghost use Rattle.std.specs.Prelude.{◌≡◌, ◌≤◌};
 ghost use Rattle.connection_loop.specs.Frames.{whole_frames_length, goes_with, is_open, goes_last, gate_after, frames_going};
 
-use crate::kind::{FrameKind, Gate, kind_of_frame};
+use crate::kind::{FrameKind, Gate, after_int, kind_of_frame};
+use crate::window::MOST_AT_ONCE;
 use jute::{Reader, read_frame};
 use observer_core::CLIENT_FRAME_LIMIT;
 use values::Fault;
@@ -96,4 +97,21 @@ pub fn frames_going(bytes: &[u8], most: usize, gate: Gate) -> usize
         }
     }
     most
+}
+
+/// Whether the last frame that begins in these bytes is of unbounded cost. It is a hint for the hub.
+pub fn ends_heavy(bytes: &[u8]) -> bool {
+    let mut ahead = Reader::new(bytes);
+    let mut is_heavy = false;
+    for _ in 0..MOST_AT_ONCE {
+        let rest = ahead.rest();
+        if rest.is_empty() {
+            break;
+        }
+        is_heavy = goes_last(kind_of_frame(after_int(rest)));
+        if read_frame(&mut ahead, CLIENT_FRAME_LIMIT).is_err() {
+            break;
+        }
+    }
+    is_heavy
 }

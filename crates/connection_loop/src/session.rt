@@ -4,6 +4,7 @@ ghost use Rattle.std.specs.Prelude.{◌≡◌, ◌≤◌, IfSome, length};
 ghost use Rattle.connection_loop.specs.Windows.{room_in};
 
 use crate::ahead::{OwnReadsAhead, ReadsAhead};
+use crate::frames::ends_heavy;
 use crate::incoming::{Cutting, Incoming, Piece};
 use crate::kind::Gate;
 use crate::limits::SessionLimits;
@@ -222,6 +223,20 @@ impl Session {
         Some(ahead)
     }
 
+    // Tells the hub where a piece may be costly: a word, or one that ends with a frame of unbounded cost. The further
+    // parts of a frame are as its first part.
+    fn tell_cost(&self, piece: Piece)
+        requires { piece.len ≤ length self.now.incoming.bytes }
+    {
+        let bytes = &self.incoming.waiting()[..piece.len];
+        if self.window.is_new() {
+            // A connect begins with a zero.
+            self.port.set_heavy(bytes.first() != Some(&0));
+        } else if piece.frames > 0 {
+            self.port.set_heavy(ends_heavy(bytes));
+        }
+    }
+
     // Sends on the next piece of the waiting bytes.
     fn send_next(&mut self) -> Step {
         if self.untaken && !self.port.is_drained() {
@@ -238,6 +253,7 @@ impl Session {
         if let Some(word) = self.refused_word() {
             return self.refuse(word);
         }
+        self.tell_cost(piece);
         let Ok(bytes) = self.incoming.take(self.alloc, piece) else {
             return self.want_memory();
         };

@@ -13,7 +13,7 @@ use Rattle.observer_core.specs.declared.engine.Stop.TheVariants as stops
 use Rattle.intake.specs.Messages.{PortMessage, events_of, part_of_port, share_of_port, LeaderComesFirst}
 use Rattle.port_hints.specs.Lists.{KeepsEach}
 use Rattle.intake.specs.Links.{Links, LooksAt, taken_at, waiting_at, seen_at, owed_at, TakesSeen, PutsShares}
-use Rattle.intake.specs.Desk.{Desk, IsRemembered, ForgetsNone, TakesTurn, TakesNothing, AnswersTurn}
+use Rattle.intake.specs.Desk.{Desk, IsRemembered, ForgetsNone, TakesTurn, AnswersTurn}
 use Rattle.intake.specs.Steps.{BeginsTurn, FeedsPort, ServesPorts}
 use Rattle.intake.specs.Agreement.{outputs_of}
 use Rattle.intake.proofs.Parts.{part_joined, share_joined, leader_alone, leader_before}
