@@ -1,8 +1,8 @@
 -- Frames and answers are counted right.
 use Rattle.std.proofs.Common.{◌≡◌, ℕ, ◌+◌, ◌-◌, ◌*◌, ◌<◌, ◌≤◌, List, [], ◌∷◌, Bool, true, false, refl, arith, ◌==◌, min, not, ◌&&◌, nat_lt, nat_le, if◌then◌else◌}
 use Rattle.std.proofs.lemmas.Bool.{eqb-true}
-use Rattle.connection_loop.specs.Windows.{Window, new_window, room_in, is_settled, with_sent, with_answer, after_small, sized_by_answer}
-use Rattle.connection_loop.specs.Exchanges.{Exchange, Sent, Answered, IsRun, window_after, frames_sent, answers_come, SettledIsAnswered, FewAreUnanswered}
+use Rattle.connection_loop.specs.Windows.{Window, new_window, room_in, all_answered, with_sent, with_answer, after_small, sized_by_answer}
+use Rattle.connection_loop.specs.Exchanges.{Exchange, Sent, Answered, IsRun, window_after, frames_sent, answers_come, AnsweredIsCounted, FewAreUnanswered}
 
 after_small_owes : (w : Window) → (after_small w).owed ≡ w.owed
 after_small_owes w = elim (nat_le w.at_once (w.small + 1)) as
@@ -44,10 +44,10 @@ few_owed w (Sent frames ∷ xs) few is =
 few_owed w (Answered len ∷ xs) few is =
     few_owed (with_answer w len) xs (omega (arith, few, answer_owes w len)) is.1
 
-pub settled_is_answered : SettledIsAnswered
-settled_is_answered run is settled =
+pub answered_is_counted : AnsweredIsCounted
+answered_is_counted run is none_left =
     let sum = balance new_window run is in
-    let none = eqb-true _ _ settled in
+    let none = eqb-true _ _ none_left in
     omega (arith, sum, none)
 
 pub few_are_unanswered : FewAreUnanswered

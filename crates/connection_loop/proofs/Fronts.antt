@@ -6,8 +6,9 @@ use Rattle.jute.specs.Frame.{frame_format}
 use Rattle.jute.specs.Stream.{Unread, items_within, items_after_read, place_after_fault}
 use Rattle.jute.proofs.Public.{refused_other}
 use Rattle.client_service.specs.Serve.{frames_of_client, client_frame_limit}
-use Rattle.connection_loop.specs.Frames.{bytes_read, whole_frames_length, goes_with, is_open, goes_last, gate_after, ending_going, going_after, going, frames_going}
+use Rattle.connection_loop.specs.Frames.{bytes_read, whole_frames_length, goes_with, goes_last, gate_after, ending_going, going_after, going, frames_going}
 use Rattle.connection_loop.specs.declared.kind.FrameKind.{FrameKind}
+use Rattle.connection_loop.specs.declared.kind.FrameKind.TheVariants.{Heavy}
 use Rattle.connection_loop.specs.declared.kind.Gate.{Gate}
 use Rattle.connection_loop.specs.Kinds.{kind_of_frame}
 
@@ -118,7 +119,7 @@ going_short most k gate bytes h e =
 
 pub going_refused : (most k : ℕ) (gate : Gate) (bytes : List ℕ) (e : Fault) → (e ≡ Short → ⊥) → k < most
     → (frame_format client_frame_limit).read bytes ≡ Err e
-    → frames_going (most - k) gate bytes ≡ (if is_open gate then 1 else 0)
+    → frames_going (most - k) gate bytes ≡ (if goes_with Heavy gate then 1 else 0)
 going_refused most k gate bytes e other h he =
     ap (λ n. frames_going n gate bytes) (one_more most k h)
     ∙ going_first (most - (k + 1)) gate bytes

@@ -1,6 +1,6 @@
 -- What goes through a client's connection: frames that are sent on, and their answers.
 use Rattle.std.specs.Prelude.{◌≡◌, ℕ, ◌+◌, ◌<◌, ◌≤◌, List, [], ◌∷◌, true}
-use Rattle.connection_loop.specs.Windows.{Window, new_window, room_in, is_settled, with_sent, with_answer}
+use Rattle.connection_loop.specs.Windows.{Window, new_window, room_in, all_answered, with_sent, with_answer}
 
 pub data Exchange : Type 0 where
   -- So many frames.
@@ -35,10 +35,10 @@ answers_come [] = 0
 answers_come (Sent frames ∷ xs) = answers_come xs
 answers_come (Answered len ∷ xs) = 1 + answers_come xs
 
--- After every run from the start: where it is settled, all frames are answered.
-abbrev pub SettledIsAnswered : Type 0
-SettledIsAnswered = (run : List Exchange) → IsRun new_window run
-    → is_settled (window_after new_window run) ≡ true → answers_come run ≡ frames_sent run
+-- After every run from the start: where none is left, as many answers have come as frames were sent on.
+abbrev pub AnsweredIsCounted : Type 0
+AnsweredIsCounted = (run : List Exchange) → IsRun new_window run
+    → all_answered (window_after new_window run) ≡ true → answers_come run ≡ frames_sent run
 
 -- And at most 1,024 frames aren't answered.
 abbrev pub FewAreUnanswered : Type 0

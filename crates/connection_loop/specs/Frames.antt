@@ -38,15 +38,10 @@ gate_after Forwarded gate = Narrow
 gate_after Local gate = gate
 gate_after Heavy gate = Narrow
 
-abbrev pub is_open : Gate → Bool
-is_open Narrow = false
-is_open Ahead = false
-is_open Open = true
-
 -- Where a length is out of bounds, the connection ends at the bytes after the frames. They go as one more frame.
 abbrev pub ending_going : Gate → Unread → ℕ
 ending_going gate (Ok rest) = 0
-ending_going gate (Err e) = if is_open gate then 1 else 0
+ending_going gate (Err e) = if goes_with Heavy gate then 1 else 0
 
 -- A frame of unbounded cost goes last.
 abbrev pub goes_last : FrameKind → Bool

@@ -1,7 +1,5 @@
 //! Places for reads that are sent on before the leader has answered.
 
-ghost use Rattle.std.specs.Prelude.{◌≤◌};
-
 use std::alloc::Global;
 use std::sync::Arc;
 use std::sync::atomic::{AtomicUsize, Ordering};
@@ -21,26 +19,6 @@ impl ReadsAhead {
         ReadsAhead {
             free: AtomicUsize::new(places),
         }
-    }
-
-    // Takes up to so many places. While another thread takes some, it may be none.
-    fn take(&self, most: usize) -> usize
-        ensures { result ≤ most }
-    {
-        let free = self.free.load(Ordering::SeqCst);
-        let wanted = free.min(most);
-        let left = free.saturating_sub(wanted);
-        match self
-            .free
-            .compare_exchange(free, left, Ordering::SeqCst, Ordering::SeqCst)
-        {
-            Ok(_) => wanted,
-            Err(_) => 0,
-        }
-    }
-
-    fn give_back(&self, places: usize) {
-        self.free.fetch_add(places, Ordering::SeqCst);
     }
 }
 
@@ -63,11 +41,20 @@ impl OwnReadsAhead {
         }
     }
 
-    /// How many frames may be sent on ahead. It takes places if the connection has none.
+    /// How many frames may be sent on ahead. It takes places if the connection has none; while another thread takes some,
+    /// there may be none.
     pub fn left(&mut self) -> usize {
         if let Some(pool) = &self.pool {
-            if self.held == 0 {
-                self.held = pool.take(MOST_PLACES);
+            let free = pool.free.load(Ordering::SeqCst);
+            let wanted = free.min(MOST_PLACES);
+            let left = free.saturating_sub(wanted);
+            let taken = self.held == 0
+                && pool
+                    .free
+                    .compare_exchange(free, left, Ordering::SeqCst, Ordering::SeqCst)
+                    .is_ok();
+            if taken {
+                self.held = wanted;
             }
         }
         self.held.saturating_sub(self.used)
@@ -82,7 +69,7 @@ impl OwnReadsAhead {
     pub fn give_back(&mut self) {
         if self.held > 0 {
             if let Some(pool) = &self.pool {
-                pool.give_back(self.held);
+                pool.free.fetch_add(self.held, Ordering::SeqCst);
             }
         }
         self.held = 0;

@@ -1,7 +1,7 @@
 //! The ends of a client's frames, and which of them are sent on together.
 
 ghost use Rattle.std.specs.Prelude.{◌≡◌, ◌≤◌};
-ghost use Rattle.connection_loop.specs.Frames.{whole_frames_length, goes_with, is_open, goes_last, gate_after, frames_going};
+ghost use Rattle.connection_loop.specs.Frames.{whole_frames_length, goes_with, goes_last, gate_after, frames_going};
 
 use crate::kind::{FrameKind, Gate, after_int, kind_of_frame};
 use crate::window::MOST_AT_ONCE;
@@ -37,16 +37,10 @@ pub fn goes_with(kind: FrameKind, gate: Gate) -> bool
             Gate::Narrow => false,
             Gate::Ahead | Gate::Open => true,
         },
-        FrameKind::Heavy => is_open(gate),
-    }
-}
-
-fn is_open(gate: Gate) -> bool
-    ensures { result ≡ is_open gate }
-{
-    match gate {
-        Gate::Narrow | Gate::Ahead => false,
-        Gate::Open => true,
+        FrameKind::Heavy => match gate {
+            Gate::Narrow | Gate::Ahead => false,
+            Gate::Open => true,
+        },
     }
 }
 
@@ -92,7 +86,10 @@ pub fn frames_going(bytes: &[u8], most: usize, gate: Gate) -> usize
             }
             Err(fault) => match fault {
                 Fault::Short => return count,
-                _ => return if is_open(here) { count + 1 } else { count },
+                _ => {
+                    let ends = goes_with(FrameKind::Heavy, here);
+                    return if ends { count + 1 } else { count };
+                }
             },
         }
     }

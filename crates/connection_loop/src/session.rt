@@ -12,6 +12,7 @@ use crate::outgoing::Outgoing;
 use crate::patience::Waits;
 use crate::rest::Rest;
 use crate::window::Window;
+use four_letter::Word;
 use intake::{Full, Message, Port, PortEnd};
 use observer_core::Output;
 use std::alloc::Global;
@@ -183,7 +184,9 @@ impl Session {
             return None;
         }
         match self.incoming.waiting().first_chunk::<4>() {
-            Some(word) if self.limits.words.refuses(*word) => Some(*word),
+            Some(word) if Word::from_bytes(*word).is_some() && !self.limits.words.allows(*word) => {
+                Some(*word)
+            }
             _ => None,
         }
     }
@@ -208,7 +211,7 @@ impl Session {
         ensures kept { (self.new.incoming ≡ self.old.incoming) × (self.new.window ≡ self.old.window) }
     {
         let room = self.window.room();
-        if self.window.is_settled() {
+        if self.window.all_answered() {
             self.places.give_back();
             return self.incoming.next(room, Gate::Open);
         }
@@ -289,7 +292,7 @@ impl Session {
 
     // Reads, or rests if there is no room or the stream has ended.
     fn read<T: Clock, R: Read + Rest>(&mut self, rt: &T, reader: &mut R) -> Step {
-        if self.ended && !self.untaken && self.window.is_settled() {
+        if self.ended && !self.untaken && self.window.all_answered() {
             return Step::Over;
         }
         if self.ended || self.incoming.is_full() {

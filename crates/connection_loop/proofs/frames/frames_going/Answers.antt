@@ -32,18 +32,18 @@ returns-in-Short-clause-going c =
     (omega (arith, c.loop-count-test.true)) (c.in-Err.ensures.0 ∙ ap Err c.in-Short.is) in
     omega (arith, none, c.loop-count.invariant)
 
-pub returns-then-is_open-clause-going : goal.returns-then-is_open-clause-going
-returns-then-is_open-clause-going c =
+pub returns-then-ends-clause-going : goal.returns-then-ends-clause-going
+returns-then-ends-clause-going c =
     let one = going_refused c.args.most c.loop-count.count c.loop-count.here c.loop-count.ahead c.in-Err.fault
     c.in_default.not-Short (omega (arith, c.loop-count-test.true)) c.in-Err.ensures.0
-    ∙ ap (λ (b : Bool). if b then 1 else 0) (sym c.is_open.ensures ∙ c.if-is_open.true) in
+    ∙ ap (λ (b : Bool). if b then 1 else 0) (sym c.goes_with-ends.ensures ∙ c.if-ends.true) in
     omega (arith, one, c.loop-count.invariant)
 
-pub returns-else-is_open-clause-going : goal.returns-else-is_open-clause-going
-returns-else-is_open-clause-going c =
+pub returns-else-ends-clause-going : goal.returns-else-ends-clause-going
+returns-else-ends-clause-going c =
     let none = going_refused c.args.most c.loop-count.count c.loop-count.here c.loop-count.ahead c.in-Err.fault
     c.in_default.not-Short (omega (arith, c.loop-count-test.true)) c.in-Err.ensures.0
-    ∙ ap (λ (b : Bool). if b then 1 else 0) (sym c.is_open.ensures ∙ c.if-is_open.false) in
+    ∙ ap (λ (b : Bool). if b then 1 else 0) (sym c.goes_with-ends.ensures ∙ c.if-ends.false) in
     omega (arith, none, c.loop-count.invariant)
 
 pub returns-clause-going : goal.returns-clause-going
