@@ -21,11 +21,11 @@ new_window = record { owed = 0; connected = false; at_once = 1; small = 0 }
 abbrev pub room_in : Window → ℕ
 room_in w = if not w.connected && nat_lt 0 w.owed then 0 else min w.at_once (1024 - w.owed)
 
-abbrev pub is_settled : Window → Bool
-is_settled w = w.owed == 0
+abbrev pub all_answered : Window → Bool
+all_answered w = w.owed == 0
 
 abbrev pub is_new : Window → Bool
-is_new w = not w.connected && is_settled w
+is_new w = not w.connected && all_answered w
 
 abbrev pub with_sent : Window → ℕ → Window
 with_sent w frames = record w { owed = w.owed + frames }
