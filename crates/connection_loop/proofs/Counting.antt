@@ -1,7 +1,7 @@
 -- Frames and answers are counted right.
-use Rattle.std.proofs.Common.{◌≡◌, ℕ, ◌+◌, ◌-◌, ◌*◌, ◌<◌, ◌≤◌, List, [], ◌∷◌, Bool, true, false, refl, arith, ◌==◌, min, not, ◌&&◌, nat_lt, nat_le, if◌then◌else◌}
+use Rattle.std.proofs.Common.{◌≡◌, ℕ, ◌+◌, ◌-◌, ◌*◌, ◌≤◌, List, [], ◌∷◌, Bool, true, false, refl, arith, min, not, ◌&&◌, nat_lt, nat_le, if◌then◌else◌}
 use Rattle.std.proofs.lemmas.Bool.{eqb-true}
-use Rattle.connection_loop.specs.Windows.{Window, new_window, room_in, all_answered, with_sent, with_answer, after_small, sized_by_answer}
+use Rattle.connection_loop.specs.Windows.{Window, new_window, room_in, with_sent, with_answer, after_small, sized_by_answer}
 use Rattle.connection_loop.specs.Exchanges.{Exchange, Sent, Answered, IsRun, window_after, frames_sent, answers_come, AnsweredIsCounted, FewAreUnanswered}
 
 after_small_owes : (w : Window) → (after_small w).owed ≡ w.owed

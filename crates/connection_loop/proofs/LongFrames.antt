@@ -1,5 +1,5 @@
 -- If no frame is whole, the first one is longer than what waits.
-use Rattle.std.proofs.Common.{◌≡◌, ℕ, zero, suc, ◌+◌, ◌-◌, ◌*◌, ◌^◌, ◌<◌, ◌≤◌, Bool, ◌&&◌, true, false, List, length, take, drop, get_or, Result, Ok, Err, ap, sym, ◌∙◌, refl, arith, leb, ltb, inl, inr}
+use Rattle.std.proofs.Common.{◌≡◌, ℕ, zero, suc, ◌+◌, ◌-◌, ◌*◌, ◌^◌, ◌<◌, ◌≤◌, ◌&&◌, true, false, List, length, take, drop, get_or, Result, Ok, Err, ap, sym, ◌∙◌, refl, arith, leb, ltb, inl, inr}
 use Rattle.std.specs.Prelude.{ℤ, pos, negsuc, if◌then◌else◌}
 use Rattle.std.specs.Int.{w32, from_be_bytes, cast_signed, cast_unsigned}
 use Rattle.std.proofs.lemmas.Bool.{le-ltb, lt-ltb}

@@ -1,5 +1,5 @@
 -- The ends of a client's frames, and which of them are sent on together.
-use Rattle.std.specs.Prelude.{ℕ, suc, ◌+◌, List, [], ◌∷◌, map, length, ◌-◌, Ok, Err, Bool, true, false, if◌then◌else◌}
+use Rattle.std.specs.Prelude.{ℕ, suc, List, [], ◌∷◌, length, ◌-◌, Ok, Err, Bool, true, false, if◌then◌else◌}
 use Rattle.jute.specs.Stream.{Unread, items_within}
 use Rattle.client_service.specs.Serve.{frames_of_client}
 use Rattle.connection_loop.specs.declared.kind.FrameKind.{FrameKind}

@@ -1,7 +1,5 @@
-use Rattle.std.proofs.Common.{◌≡◌, ◌+◌, ◌-◌, if◌then◌else◌, Bool, true, false, refl, ap, sym, ◌∙◌, Ok, Err, arith}
-use Rattle.connection_loop.specs.Frames.{goes_with, goes_last, gate_after, going_after, frames_going}
-use Rattle.connection_loop.specs.Kinds.{kind_of_frame}
-use Rattle.connection_loop.proofs.Fronts.{going_all, going_whole, going_short, going_refused, held_back, goes_alone, goes_on}
+use Rattle.std.proofs.Common.{if◌then◌else◌, Bool, ap, sym, ◌∙◌, Err, arith}
+use Rattle.connection_loop.proofs.Fronts.{going_all, going_short, going_refused, held_back, goes_alone, goes_on}
 use Rattle.connection_loop.proofs.frames.frames_going.Goals as goal
 
 pub loop-count-preserved : goal.loop-count-preserved
