@@ -12,7 +12,7 @@ use Rattle.intake.specs.Links.{Links, taken_from, waiting_from, owed_to, IsEndBy
 use Rattle.intake.specs.Desk.{Desk, AddsPort}
 
 -- The model of a desk.
-abbrev seen_desk : Bool → Option Machine → Links → ℕ → List PortMessage → List ℕ → Desk
+abbrev pub seen_desk : Bool → Option Machine → Links → ℕ → List PortMessage → List ℕ → Desk
 seen_desk closed engine links next fresh later =
     record { machine = if closed then None else engine; links = links; next = next; fresh = fresh; later = later }
 

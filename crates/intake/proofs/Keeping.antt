@@ -296,6 +296,10 @@ pub none_there : (m : BTreeMap ℕ Link) (links : Links) (k : ℕ) → seen m.en
     → None ≡ finmap.get links k
 none_there m links k view none = none ∙ sym (get-seen m k) ∙ ap (λ (l : Links). finmap.get l k) view
 
+pub seen_none : (m : BTreeMap ℕ Link) (links : Links) (k : ℕ) → seen m.entries ≡ links → None ≡ tree.get nat_cmp m k
+    → waiting_at links k ≡ []
+seen_none m links k view none = none_waits_there (finmap.get links k) (none_there m links k view none)
+
 -- ---- a finished port's end
 
 pub no_end : (end : PortEnd) (o : Option Link) → None ≡ o → IsEndBy end o → ⊥

@@ -1,9 +1,9 @@
 -- A port's part of the messages, and its share of the outputs.
-use Rattle.std.proofs.Common.{◌≡◌, ◌≢◌, ℕ, zero, suc, List, [], ◌∷◌, ◌++◌, ◌==◌, map, refl, ap, sym, ◌∙◌, append_assoc, cond, eq-eqb, arith}
+use Rattle.std.proofs.Common.{◌≡◌, ◌≢◌, ℕ, false, inl, inr, List, [], ◌∷◌, ◌++◌, ◌==◌, map, refl, ap, sym, ◌∙◌, append_assoc, cond, eq-eqb, arith}
 use Rattle.std.specs.Prelude.{filter, not}
 use Rattle.std.proofs.lemmas.List.{append-nil, map-append}
 use Rattle.std.proofs.lemmas.List.Elements.{filter-append}
-use Rattle.std.proofs.lemmas.Bool.Decides.{nat_tests}
+use Rattle.std.proofs.lemmas.Bool.Decides.{eqb_tells, nat_tests}
 use Rattle.client_service.specs.declared.output.Output.{Output}
 use Rattle.intake.specs.declared.message.Message.{Message}
 use Rattle.intake.specs.Messages.{PortMessage, event_of_message, events_of, part_of_port, messages_of_port, LeaderComesFirst, port_of, share_of_port}
@@ -41,10 +41,10 @@ part_others k n (m ∷ ms) apart =
 
 -- ---- the leader's messages come first
 
-leaders : List PortMessage → List PortMessage
+abbrev leaders : List PortMessage → List PortMessage
 leaders came = filter (λ (c : PortMessage). c.0 == 0) came
 
-clients : List PortMessage → List PortMessage
+abbrev clients : List PortMessage → List PortMessage
 clients came = filter (λ (c : PortMessage). not (c.0 == 0)) came
 
 leaders_own : (ms : List Message) → leaders (messages_of_port 0 ms) ≡ messages_of_port 0 ms
@@ -55,15 +55,21 @@ clients_none : (ms : List Message) → clients (messages_of_port 0 ms) ≡ []
 clients_none [] = refl
 clients_none (m ∷ ms) = clients_none ms
 
+is_client : (n : ℕ) → n ≢ 0 → (n == 0) ≡ false
+is_client n apart = elim (eqb_tells n 0) [ inl h ↦ absurd (apart h.1) | inr h ↦ h.0 ]
+
 leaders_none : (n : ℕ) (ms : List Message) → n ≢ 0 → leaders (messages_of_port n ms) ≡ []
 leaders_none n [] apart = refl
-leaders_none zero (m ∷ ms) apart = absurd (apart refl)
-leaders_none (suc n) (m ∷ ms) apart = leaders_none (suc n) ms apart
+leaders_none n (m ∷ ms) apart =
+    ap (λ b. cond b ((n, m) ∷ leaders (messages_of_port n ms)) (leaders (messages_of_port n ms))) (is_client n apart)
+    ∙ leaders_none n ms apart
 
 clients_own : (n : ℕ) (ms : List Message) → n ≢ 0 → clients (messages_of_port n ms) ≡ messages_of_port n ms
 clients_own n [] apart = refl
-clients_own zero (m ∷ ms) apart = absurd (apart refl)
-clients_own (suc n) (m ∷ ms) apart = ap (λ (l : List PortMessage). (suc n, m) ∷ l) (clients_own (suc n) ms apart)
+clients_own n (m ∷ ms) apart =
+    ap (λ b. cond (not b) ((n, m) ∷ clients (messages_of_port n ms)) (clients (messages_of_port n ms)))
+    (is_client n apart)
+    ∙ ap (λ (l : List PortMessage). (n, m) ∷ l) (clients_own n ms apart)
 
 pub leader_alone : (ms : List Message) → LeaderComesFirst (messages_of_port 0 ms)
 leader_alone ms =

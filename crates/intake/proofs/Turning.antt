@@ -1,6 +1,6 @@
 -- The steps of a turn, one after the other.
-use Rattle.std.proofs.Common.{◌≡◌, ◌≢◌, ◌≤◌, ◌<◌, ◌+◌, ℕ, zero, suc, true, false, Bool, List, [], ◌∷◌, ◌++◌, length, take, get_or, Option, Some, None, Ok, Err, refl, ap, sym, ◌∙◌, subst, inl, inr, append_assoc, arith}
-use Rattle.std.specs.Prelude.{Contains, IsSome, ◌⊎◌, if◌then◌else◌}
+use Rattle.std.proofs.Common.{◌≡◌, ◌≢◌, ◌≤◌, ◌<◌, ◌+◌, ℕ, zero, suc, true, false, Bool, List, [], ◌∷◌, ◌++◌, length, take, get_or, Option, Some, None, Result, Ok, Err, refl, ap, sym, ◌∙◌, subst, inl, inr, append_assoc, arith}
+use Rattle.std.specs.Prelude.{Contains, IsSome, OnOk, OnErr, ◌⊎◌, if◌then◌else◌}
 use Rattle.std.specs.FinMap as finmap
 use Rattle.std.proofs.lemmas.List.{append-nil, take_all, take_more}
 use Rattle.std.proofs.lemmas.List.Elements.{Contains-append_left, Contains-append_right, Contains-append_cases}
@@ -11,13 +11,43 @@ use Rattle.observer_core.specs.Machine.{Machine}
 use Rattle.observer_core.specs.Play.{play}
 use Rattle.observer_core.specs.declared.engine.Stop.TheVariants as stops
 use Rattle.intake.specs.Messages.{PortMessage, events_of, part_of_port, share_of_port, LeaderComesFirst}
-use Rattle.intake.specs.Links.{Links, taken_at, waiting_at, seen_at, owed_at, TakesSeen, PutsShares}
-use Rattle.intake.specs.Desk.{Desk, IsRemembered, ForgetsNone, TakesTurn, TakesNothing, AnswersTurn}
+use Rattle.port_hints.specs.Lists.{KeepsEach}
+use Rattle.intake.specs.Links.{Links, LooksAt, taken_at, waiting_at, seen_at, owed_at, TakesSeen, PutsShares}
+use Rattle.intake.specs.Desk.{Desk, IsRemembered, ForgetsNone, TakesTurn, AnswersTurn}
 use Rattle.intake.specs.Steps.{BeginsTurn, FeedsPort, ServesPorts}
 use Rattle.intake.specs.Agreement.{outputs_of}
 use Rattle.intake.proofs.Parts.{part_joined, share_joined, leader_alone, leader_before}
 use Rattle.intake.proofs.Keeping.{rests_same, all_stay_on, still_open}
+use Rattle.intake.proofs.Adding.{seen_desk}
 use Rattle.intake.proofs.Agreeing.{joined}
+
+contains_one : (k n : ℕ) → Contains (k ∷ []) n → n ≡ k
+contains_one k n (zero, within, is) = sym is
+contains_one k n (suc i, within, is) = absurd (let e : suc i < 1 = within in omega (arith, e))
+
+-- ---- ports are looked at
+
+pub looked : (closed : Bool) (engine : Option Machine) (links : Links) (next : ℕ) (fresh : List PortMessage)
+    (before : List ℕ) (old : Desk) (one two : Links) (later : List ℕ)
+    → seen_desk closed engine links next fresh before ≡ old → KeepsEach before later → LooksAt (0 ∷ []) links one
+    → LooksAt later one two → (n : ℕ) → n ≢ 0 → IsRemembered n old
+    → (waiting_at two n ≡ []) ⊎ Contains later n
+looked closed engine links next fresh before old one two later view keeps leader others n apart remembered =
+    let P : Desk → Type 0 = λ d. IsRemembered n d in
+    elim (subst P (sym view) remembered) [
+      | inr there ↦ inr (keeps n there)
+      | inl none ↦ elim (others.others n) [
+        | inr there ↦ inr there
+        | inl same ↦ elim (leader.others n) [
+          | inr leaders ↦ absurd (apart (contains_one 0 n leaders))
+          | inl first ↦ inl (same ∙ first ∙ none)
+        ]
+      ]
+    ]
+
+pub on_err : {A E : Type 0} (P : Type 0) (r : Result A E) → P → OnErr r P
+on_err P (Ok a) p = tt
+on_err P (Err e) p = p
 
 -- ---- a port is fed
 
@@ -47,7 +77,7 @@ fed n old new links outputs takes puts plays next later = record {
 }
 
 forgets_none_fed : (n : ℕ) (old new : Desk) → FeedsPort n old new → ForgetsNone old new
-forgets_none_fed n old new f k r = elim (eqb_tells k n) [
+forgets_none_fed n old new f k _ r = elim (eqb_tells k n) [
   | inl h ↦ inl (ap (λ j. waiting_at new.links j) h.1 ∙ f.none_waits)
   | inr h ↦ elim r [
     | inl none ↦ inl (f.others_wait k h.1 ∙ none)
@@ -68,7 +98,7 @@ turn_of_none m d machine fresh whole = record {
   next = refl;
   leader_first = (let P : List PortMessage → Type 0 = λ l. LeaderComesFirst l in subst P (sym fresh) refl);
   leader_whole = whole;
-  forgets_none = λ n r. r;
+  forgets_none = λ n apart r. r;
 }
 
 pub turn_of_leader : (m : Machine) (old new : Desk) → old.machine ≡ Some m → old.fresh ≡ [] → FeedsPort 0 old new
@@ -92,15 +122,11 @@ turn_of_leader m old new machine fresh f =
 
 -- ---- a client's port
 
-contains_one : (k n : ℕ) → Contains (k ∷ []) n → n ≡ k
-contains_one k n (zero, within, is) = sym is
-contains_one k n (suc i, within, is) = absurd (let e : suc i < 1 = within in omega (arith, e))
-
 pub serves_none : (d : Desk) → ServesPorts [] d d
 serves_none d = record {
   goes_on = λ m first t. t;
   served = λ n apart h. absurd (let e : h.0 < 0 = h.1 in omega (arith, e));
-  forgets_none = λ n r. r;
+  forgets_none = λ n apart r. r;
 }
 
 pub serves_idle : (k : ℕ) (d : Desk) → (k ≢ 0 → waiting_at d.links k ≡ []) → ServesPorts (k ∷ []) d d
@@ -109,11 +135,11 @@ serves_idle k d none = record {
   served = λ n apart h.
       let is = contains_one k n h in
       inl (ap (λ j. waiting_at d.links j) is ∙ none (λ zero. apart (is ∙ zero)));
-  forgets_none = λ n r. r;
+  forgets_none = λ n apart r. r;
 }
 
 left_too : (k : ℕ) (d : Desk) → ForgetsNone d (record d { later = d.later ++ k ∷ [] })
-left_too k d n r = elim r [
+left_too k d n apart r = elim r [
   | inl none ↦ inl none
   | inr there ↦ inr (Contains-append_left d.later (k ∷ []) n there)
 ]
@@ -130,11 +156,17 @@ serves_left k d new is =
         next = t.next;
         leader_first = t.leader_first;
         leader_whole = t.leader_whole;
-        forgets_none = λ n r. left_too k d n (t.forgets_none n r);
+        forgets_none = λ n apart r. left_too k d n apart (t.forgets_none n apart r);
       };
       served = λ n apart h. inr (Contains-append_right d.later (k ∷ []) n h);
       forgets_none = left_too k d;
     })
+
+pub left_ok : {E : Type 0} (r : Result (Unit {0}) E) (k : ℕ) (d old new : Desk) → d ≡ old
+    → OnOk r (new ≡ record d { later = d.later ++ k ∷ [] }) → OnOk r (ServesPorts (k ∷ []) old new)
+left_ok (Ok u) k d old new same is =
+    let P : Desk → Type 0 = λ x. ServesPorts (k ∷ []) x new in subst P same (serves_left k d new is)
+left_ok (Err e) k d old new same is = tt
 
 turn_goes_on : (k : ℕ) (m : Machine) (first old new : Desk) → k ≢ 0 → FeedsPort k old new → TakesTurn m first old
     → TakesTurn m first new
@@ -165,7 +197,7 @@ turn_goes_on k m first old new apart f t =
       leader_first = (let P : List PortMessage → Type 0 = λ l. LeaderComesFirst l in
           subst P (sym f.fresh) (leader_before old.fresh k (waiting_at old.links k) apart t.leader_first));
       leader_whole = f.others_wait 0 (λ e. apart (sym e)) ∙ t.leader_whole;
-      forgets_none = λ n r. forgets_none_fed k old new f n (t.forgets_none n r);
+      forgets_none = λ n client r. forgets_none_fed k old new f n client (t.forgets_none n client r);
     }
 
 pub serves_fed : (k : ℕ) (old new : Desk) → k ≢ 0 → FeedsPort k old new → ServesPorts (k ∷ []) old new
@@ -181,10 +213,10 @@ serves_on : (xs ys : List ℕ) (a b c : Desk) → ServesPorts xs a b → ServesP
 serves_on xs ys a b c x y = record {
   goes_on = λ m first t. y.goes_on m first (x.goes_on m first t);
   served = λ n apart h. elim (Contains-append_cases xs ys n h) [
-    | inl p ↦ y.forgets_none n (x.served n apart p)
+    | inl p ↦ y.forgets_none n apart (x.served n apart p)
     | inr q ↦ y.served n apart q
   ];
-  forgets_none = λ n r. y.forgets_none n (x.forgets_none n r);
+  forgets_none = λ n apart r. y.forgets_none n apart (x.forgets_none n apart r);
 }
 
 pub serves_next : (numbers : List ℕ) (k d : ℕ) (a b c : Desk) → k < length numbers → ServesPorts (take k numbers) a b
@@ -201,7 +233,7 @@ serves_all numbers k a b all x =
 -- ---- the whole turn
 
 some_of : (o : Option Machine) → IsSome o → (m : Machine) × (o ≡ Some m)
-some_of None is = absurd is
+some_of None is = cc
 some_of (Some m) is = (m, refl)
 
 turn_from : (queue : List ℕ) (m : Machine) (a b c : Desk) → BeginsTurn queue a b → TakesTurn m b c
@@ -216,12 +248,9 @@ turn_from queue m a b c begins t served = record {
   next = t.next ∙ begins.rests.next;
   leader_first = t.leader_first;
   leader_whole = t.leader_whole;
-  forgets_none = λ n r. elim (eqb_tells n 0) [
-    | inl h ↦ inl (ap (λ j. waiting_at c.links j) h.1 ∙ t.leader_whole)
-    | inr h ↦ elim (begins.queued n h.1 r) [
-      | inl none ↦ t.forgets_none n (inl none)
-      | inr there ↦ served n h.1 there
-    ]
+  forgets_none = λ n apart r. elim (begins.queued n apart r) [
+    | inl none ↦ t.forgets_none n apart (inl none)
+    | inr there ↦ served n apart there
   ];
 }
 

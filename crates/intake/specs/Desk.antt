@@ -50,9 +50,9 @@ pub record AddsPort (old : Desk) (port : PortEnd) (new : Desk) : Type 0 where
 abbrev pub IsRemembered : ℕ → Desk → Type 0
 IsRemembered n d = (waiting_at d.links n ≡ []) ⊎ Contains d.later n
 
--- No port is forgotten.
+-- No client's port is forgotten. The leader's is looked at in each turn.
 abbrev pub ForgetsNone : Desk → Desk → Type 0
-ForgetsNone old new = (n : ℕ) → IsRemembered n old → IsRemembered n new
+ForgetsNone old new = (n : ℕ) → n ≢ 0 → IsRemembered n old → IsRemembered n new
 
 -- A turn plays the messages that it takes, and puts the outputs.
 pub record TakesTurn (m : Machine) (old new : Desk) : Type 0 where

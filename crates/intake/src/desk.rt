@@ -459,7 +459,6 @@ impl Desk {
         Ok(())
     }
 
-    #[tactic(auto, using(crate::proofs::Turning::serves_none, crate::proofs::Turning::serves_on))]
     fn serve_clients<R: Threads + Sync, G: Gate + Sync, B: Budget>(
         &mut self,
         rt: &R,

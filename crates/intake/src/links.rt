@@ -190,7 +190,6 @@ impl Links {
     }
 
     /// Looks up the number of messages to take of these ports.
-    #[tactic(auto, using(crate::proofs::Looking::looks_at_none, crate::proofs::Looking::looks_on))]
     pub fn look_all(&mut self, numbers: &[usize]) -> usize
         ensures { LooksAt numbers.now self.old self.new }
     {

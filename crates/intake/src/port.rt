@@ -88,6 +88,12 @@ impl Port {
         }
     }
 
+    /// Tells the hub whether what is sent next may be costly. The hub finds out by itself what was; this is for what
+    /// comes before it can, as the first message of a connection.
+    pub fn set_heavy(&self, is_heavy: bool) {
+        self.mark.set_heavy(is_heavy);
+    }
+
     /// Receives the next output, if there is one. If there is none, after so many outputs that the outbox may have been
     /// full, it wakes the hub, which may keep more outputs.
     pub fn receive(&mut self) -> Option<Output>

@@ -3,7 +3,7 @@
 //! A test makes the desk and has a function of its own do the rest, so that the desk is dropped at one place.
 use crate::helpers::{asks, port, primed, receives, sends, turn, xid_of};
 use apply_workers::OpenGate;
-use intake::{Budget, Desk, Limits, Message, Port};
+use intake::{Budget, Desk, Message, Port};
 use std::alloc::Global;
 use std::process::Abort;
 use std::test::Fail;
@@ -72,25 +72,43 @@ fn take_the_leaders<R: Abort + Threads + Sync>(
     desk: &mut Desk,
 ) -> Result<(), Fail> {
     let mut leader = port(desk, 4)?;
-    let mut first = port(desk, 4)?;
-    let mut second = port(desk, 4)?;
-    assert!(rt; sends(alloc, &mut second, &asks(2)));
-    assert!(rt; sends(alloc, &mut first, &asks(1)));
+    let mut client = port(desk, 4)?;
+    assert!(rt; sends(alloc, &mut client, &asks(1)));
     assert!(rt; leader.send(Message::Checkpoint).is_ok());
     assert!(rt; leader.send(Message::Checkpoint).is_ok());
-    assert_eq!(rt; turn_within(rt, desk, 0), Some(3));
+    assert_eq!(rt; turn_within(rt, desk, 0), Some(2));
     let mut ports = desk.fresh().iter().map(|message| message.0);
-    assert_eq!(rt;
-        (ports.next(), ports.next(), ports.next()),
-        (Some(0), Some(0), Some(1))
-    );
+    assert_eq!(rt; (ports.next(), ports.next()), (Some(0), Some(0)));
     Ok(())
 }
 
 #[test]
-fn a_spent_budget_takes_the_leaders_messages_and_a_new_port(rt: HostRuntime) -> Result<(), Fail> {
+fn a_spent_budget_takes_the_leaders_messages(rt: HostRuntime) -> Result<(), Fail> {
     let mut desk = primed(rt.alloc())?;
     take_the_leaders(&rt, rt.alloc(), &mut desk)
+}
+
+fn take_a_costly_port<R: Abort + Threads + Sync>(
+    rt: &R,
+    alloc: Global,
+    desk: &mut Desk,
+) -> Result<(), Fail> {
+    let _leader = port(desk, 4)?;
+    let mut cheap = port(desk, 4)?;
+    let mut costly = port(desk, 4)?;
+    costly.set_heavy(true);
+    assert!(rt; sends(alloc, &mut cheap, &asks(1)));
+    assert!(rt; costly.send(Message::Up).is_ok());
+    assert_eq!(rt; turn_within(rt, desk, 0), Some(1));
+    assert_eq!(rt; desk.told(), [2].as_slice());
+    assert!(rt; desk.is_behind());
+    Ok(())
+}
+
+#[test]
+fn a_spent_budget_takes_the_messages_of_one_costly_port(rt: HostRuntime) -> Result<(), Fail> {
+    let mut desk = primed(rt.alloc())?;
+    take_a_costly_port(&rt, rt.alloc(), &mut desk)
 }
 
 // Many frames of exists.

@@ -23,6 +23,8 @@ const GROUP: usize = 64;
 #[derive(Drop)]
 struct Slot {
     mark: AtomicBool,
+    // What the port's thread sends next may be costly.
+    is_heavy: AtomicBool,
     // How many bytes the port's thread has written.
     written: AtomicU64,
 }
@@ -40,6 +42,7 @@ impl Group {
         for _ in 0..GROUP {
             slots.push(Slot {
                 mark: AtomicBool::new(false),
+                is_heavy: AtomicBool::new(false),
                 written: AtomicU64::new(0),
             })?;
         }
@@ -70,6 +73,12 @@ impl Group {
                 slot.mark.load(Ordering::SeqCst) && slot.mark.swap(false, Ordering::SeqCst)
             }
         }
+    }
+
+    // Whether what the slot's thread sends next may be costly.
+    fn heavy(&self, place: usize) -> Option<&AtomicBool> {
+        let slot = self.slots.get(place)?;
+        Some(&slot.is_heavy)
     }
 
     // The count of the bytes that the slot's thread has written.
@@ -110,6 +119,13 @@ impl Mark {
         self.shared.waker.wake();
     }
 
+    /// Tells whether what the port sends from now on may be costly.
+    pub fn set_heavy(&self, is_heavy: bool) {
+        if let Some(heavy) = self.group.heavy(self.place) {
+            heavy.store(is_heavy, Ordering::SeqCst);
+        }
+    }
+
     /// How many bytes the port's thread has written.
     pub fn written(&self) -> u64 {
         match self.group.written(self.place) {
@@ -138,7 +154,7 @@ impl Mark {
 #[derive(Drop)]
 struct Seat {
     number: usize,
-    // Its last messages were costly, or it hasn't sent any.
+    // Its last messages were costly.
     is_costly: bool,
 }
 
@@ -186,9 +202,10 @@ impl Marks {
             is_client: number != 0,
             shared: Arc::try_clone(&self.shared)?,
         };
+        mark.set_heavy(false);
         self.seats.insert(Seat {
             number,
-            is_costly: true,
+            is_costly: false,
         })?;
         Ok((slot, mark))
     }
@@ -267,11 +284,21 @@ impl Marks {
         taken
     }
 
-    /// Whether the port's last messages were costly. A new port is.
+    /// Whether the port's last messages were costly, or its thread has told that the next ones may be.
     pub fn is_costly(&self, slot: usize) -> bool {
         match self.seats.get(slot) {
             None => true,
-            Some(seat) => seat.is_costly,
+            Some(seat) => seat.is_costly || self.is_heavy(slot),
+        }
+    }
+
+    fn is_heavy(&self, slot: usize) -> bool {
+        let Some(group) = self.groups.get(slot / GROUP) else {
+            return false;
+        };
+        match group.heavy(slot % GROUP) {
+            None => false,
+            Some(heavy) => heavy.load(Ordering::SeqCst),
         }
     }
 

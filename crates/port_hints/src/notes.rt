@@ -1,5 +1,7 @@
 //! What a turn notes about the ports.
 
+ghost use Rattle.std.specs.Prelude.{◌≡◌};
+
 use std::alloc::Global;
 use std::mem;
 use values::NoMemory;
@@ -53,6 +55,8 @@ impl Notes {
 }
 
 /// Makes room for this many numbers in all.
-pub fn reserve(numbers: &mut Vec<usize>, count: usize) -> Result<(), NoMemory> {
+pub fn reserve(numbers: &mut Vec<usize>, count: usize) -> Result<(), NoMemory>
+    ensures { numbers.new.items ≡ numbers.old.items }
+{
     Ok(numbers.reserve(count.saturating_sub(numbers.len()))?)
 }

@@ -1,10 +1,12 @@
 //! Streams in memory whose k-th read or write fails.
 
+use connection_loop::Rest;
 use std::alloc::Global;
-use std::io;
 use std::io::{ErrorKind, Read, Write};
 use std::sync::atomic::{AtomicU64, Ordering};
 use std::sync::{Arc, Mutex, Wait};
+use std::time::{Clock, Duration};
+use std::{io, thread};
 
 /// The bytes written so far, and how they were written.
 #[derive(Drop)]
@@ -38,7 +40,8 @@ impl Shared {
 
 /// Gives bytes, a limited number for each read, and the end of the stream once enough bytes were written. Before that,
 /// it would block. One read may fail.
-pub struct Source {
+pub struct Source<R> {
+    pub rt: R,
     pub bytes: Vec<u8>,
     pub at: usize,
     pub most: usize,
@@ -47,26 +50,31 @@ pub struct Source {
     /// The number of the read that fails, from 1 on; 0 for none.
     pub fails_at: u64,
     pub reads: u64,
+    /// Whether the hub hurries the session.
+    pub is_hurried: bool,
     pub shared: Arc<Shared, Global>,
 }
 
-impl Drop for Source {
+impl<R: Drop> Drop for Source<R> {
     fn drop(self) {
         let Source {
+            rt,
             bytes,
             at: _,
             most: _,
             answers: _,
             fails_at: _,
             reads: _,
+            is_hurried: _,
             shared,
         } = self;
+        drop(rt);
         drop(bytes);
         drop(shared);
     }
 }
 
-impl Source {
+impl<R> Source<R> {
     // Whether this read fails.
     fn fails(&mut self) -> bool {
         self.reads = self.reads.saturating_add(1);
@@ -81,11 +89,11 @@ impl<R: Clock> Rest for Source<R> {
     }
 
     fn is_hurried(&self) -> bool {
-        false
+        self.is_hurried
     }
 }
 
-impl<R: Clock> Read for Source<R> {
+impl<R> Read for Source<R> {
     fn read(&mut self, buf: &mut [u8]) -> io::Result<usize> {
         if buf.is_empty() {
             return Ok(0);
@@ -105,7 +113,7 @@ impl<R: Clock> Read for Source<R> {
     }
 }
 
-/// Takes a limited number of bytes for each write. One write may fail.
+/// Takes a limited number of bytes for each write; if that is none, the write would block. One write may fail.
 pub struct Target<R> {
     pub rt: R,
     pub most: usize,
@@ -137,6 +145,9 @@ impl<R: Wait + Drop> Write for Target<R> {
                 sink.late = sink.late.saturating_add(1);
             }
             return Err(io::Error::from(ErrorKind::BrokenPipe));
+        }
+        if self.most == 0 {
+            return Err(io::Error::from(ErrorKind::WouldBlock));
         }
         let count = buf.len().min(self.most);
         sink.bytes.extend_from_slice(&buf[..count])?;

@@ -1,7 +1,8 @@
-use Rattle.std.proofs.Common.{ap, ◌∙◌, refl, rules}
+use Rattle.std.proofs.Common.{ℕ, List, ap, sym, ◌∙◌, subst, refl, rules}
 use Rattle.rtrb.specs.Ring.{sent, received, known_items}
 use Rattle.intake.specs.declared.port.PortEnd.{PortEnd}
-use Rattle.intake.proofs.Adding.{AreNew, added}
+use Rattle.intake.specs.Desk.{AddsPort}
+use Rattle.intake.proofs.Adding.{AreNew, seen_desk, added}
 use Rattle.intake.proofs.desk.Desk.open_port.Goals as goal
 
 pub returns-clause-ok : goal.returns-clause-ok
@@ -19,12 +20,16 @@ returns-clause-ok c =
       outbox = rw outbox c.in_ok-outbox.ensures.pair;
       no_sent = c.in_ok-to_hub.ensures.producer.0;
       no_taken = ap (λ i. received i) inbox ∙ c.in_ok-to_hub.ensures.consumer.0;
-      no_seen = ap (λ i. known_items i) inbox ∙ c.in_ok-to_hub.ensures.consumer.1.0;
+      no_seen = ap (λ i. known_items i) inbox ∙ c.in_ok-to_hub.ensures.consumer.1;
       no_put = ap (λ o. sent o) outbox ∙ c.in_ok-outbox.ensures.producer.0;
       no_received = c.in_ok-outbox.ensures.consumer.0;
       no_kept = c.new-link.ensures.2;
     } in
-    added c.self.inside.closed c.self.inside.engine c.self.inside.links c.add-2.new.self c.self.inside.next
+    let P : List ℕ → Type 0 = λ later. AddsPort c.args.self.now c.new-3.result
+    (seen_desk c.self.inside.closed c.self.inside.engine c.add-2.new.self c.in-Some.next c.self.inside.fresh.items
+    later) in
+    subst P (sym c.reserve-3.ensures)
+    (added c.self.inside.closed c.self.inside.engine c.self.inside.links c.add-2.new.self c.self.inside.next
     c.in-Some.next
     c.self.inside.fresh.items c.self.inside.later.items end c.new-3.result link c.args.self.now c.self.view_is c.new-3.ensures new refl
-    c.in-Ok.ensures.ok (search rules)
+    c.in-Ok.ensures.ok (search rules))

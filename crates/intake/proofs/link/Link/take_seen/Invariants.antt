@@ -3,8 +3,8 @@ use Rattle.rtrb.specs.Ring.{received, known_items, SameConsumer}
 use Rattle.intake.specs.Messages.{messages_of_port}
 use Rattle.intake.proofs.link.Link.take_seen.Given as goal
 
-abbrev pub invariant-loop : goal.invariant-loop
-invariant-loop l = record {
+abbrev pub invariant-loop-self : goal.invariant-loop-self
+invariant-loop-self l = record {
   list : l.fresh.items ++ messages_of_port l.number (known_items l.self.inbox)
       ≡ l.initial.fresh.items ++ messages_of_port l.number (known_items l.initial.self.inbox);
   took : received l.self.inbox ++ known_items l.self.inbox
@@ -14,5 +14,5 @@ invariant-loop l = record {
   kept : l.self.kept ≡ l.initial.self.kept;
 }
 
-abbrev pub decreases-loop : goal.decreases-loop
-decreases-loop l = length (known_items l.self.inbox)
+abbrev pub decreases-loop-self : goal.decreases-loop-self
+decreases-loop-self l = length (known_items l.self.inbox)

@@ -1,7 +1,7 @@
-use Rattle.std.proofs.Common.{subst, refl}
+use Rattle.std.proofs.Common.{ap, ◌∙◌, subst, refl}
 use Rattle.std.specs.Prelude.{IsSome}
 use Rattle.client_service.proofs.NatMaps.{seen}
-use Rattle.intake.proofs.Keeping.{written_over, takes_ok, stays_took, same_owed_ends}
+use Rattle.intake.proofs.Keeping.{written_over, none_there, takes_is, takes_ok, stays_took, same_owed_ends}
 use Rattle.intake.proofs.links.Links.take.Goals as goal
 
 pub returns : goal.returns
@@ -15,3 +15,9 @@ returns c =
     (seen (c.get_mut.follows.lender now).entries) c.args.fresh.now.items
     c.take.new.fresh.items w (stays_took c.in-Some.link.now now c.take.ensures.inbox c.take.ensures.outbox.0)
     c.take.ensures.list c.take.ensures.took c.take.ensures.waits (same_owed_ends c.in-Some.link.now now c.take.ensures.outbox)
+
+pub returns-in-None : goal.returns-in-None
+returns-in-None c =
+    takes_is c.args.self.now (seen c.get_mut.follows.lender-at-none.entries) c.args.number c.args.fresh.now.items
+    (ap (λ m. seen m.entries) c.get_mut.follows.holds-at-none ∙ c.self.view_is)
+    (none_there c.self.inside.map c.args.self.now c.args.number c.self.view_is c.in-None.ensures.value)

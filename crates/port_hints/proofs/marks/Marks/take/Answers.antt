@@ -1,5 +1,3 @@
-use Rattle.std.proofs.Common.{ℕ, List, sym, subst}
-use Rattle.std.specs.Prelude.{Contains}
 use Rattle.port_hints.proofs.marks.Marks.take.Goals.{then-take_any+else-is_err, else-take_any}
 use Rattle.port_hints.proofs.marks.Marks.take.Goals as goal
 

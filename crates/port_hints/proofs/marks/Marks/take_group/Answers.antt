@@ -1,5 +1,3 @@
-use Rattle.std.proofs.Common.{ℕ, List, sym, subst}
-use Rattle.std.specs.Prelude.{Contains}
 use Rattle.port_hints.proofs.Kept.{kept_in_push}
 use Rattle.port_hints.proofs.marks.Marks.take_group.Goals.{then-take+in-Some+else-is_err, then-take+in_default, else-take}
 use Rattle.port_hints.proofs.marks.Marks.take_group.Goals as goal
