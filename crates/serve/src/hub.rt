@@ -327,11 +327,14 @@ impl<L: Log, W: Write + Drop> Hub<L, W> {
             }
             let took = self.turn_within(rt, &mut Unlimited)?;
             self.join_ended(rt);
+            self.judge_gone(rt)?;
+            // What is left for a leader that is gone would hold up the clients' ends.
+            let _ = self.leading.drop_rest();
             if took == 0 && !self.desk.is_behind() {
                 self.wait(rt, LONGEST_WAIT);
             }
         }
-        self.judge_gone(rt)
+        Ok(())
     }
 
     // Ends all connections of a desk that takes nothing any more.

@@ -34,10 +34,10 @@ struct Gone {
     fault: Option<Fault>,
 }
 
-// What was still put to the port of a leader that is gone: whether there was anything, and the last fault. An end inside
-// a packet is none, since it says only that the rest is missing.
+/// What was still put to the port of a leader that is gone: whether there was anything, and the last fault. An end inside
+/// a packet is none, since it says only that the rest is missing.
 #[derive(Clone, Copy)]
-struct Rest {
+pub(crate) struct Rest {
     is_empty: bool,
     fault: Option<Fault>,
 }
@@ -171,8 +171,8 @@ impl Leading {
         }
     }
 
-    // Takes the outputs that were meant for a leader that is gone.
-    fn drop_rest(&mut self) -> Rest {
+    /// Takes the outputs that were meant for a leader that is gone.
+    pub(crate) fn drop_rest(&mut self) -> Rest {
         let mut rest = Rest {
             is_empty: true,
             fault: None,

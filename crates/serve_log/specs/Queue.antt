@@ -19,12 +19,12 @@ abbrev pub most_count : ℕ
 most_count = 2 ^ 64 - 1
 
 -- What is told of dropped lines: nothing, where there are none.
-abbrev pub told : Dropped → List Item
-told dropped = if dropped.count == 0 then [] else item.Dropped dropped ∷ []
+abbrev pub told_items : Dropped → List Item
+told_items dropped = if dropped.count == 0 then [] else item.Dropped dropped ∷ []
 
 -- A line is kept: what was dropped before it is told first, once.
 pub record IsKept (old : LineQueue) (line : String Global) (new : LineQueue) : Type 0 where
-  pub sent : sent new.ring ≡ sent old.ring ++ told old.dropped ++ item.Line line ∷ []
+  pub sent : sent new.ring ≡ sent old.ring ++ told_items old.dropped ++ item.Line line ∷ []
   pub none_untold : new.dropped.count ≡ 0
 
 -- A line that was to be written at this time is dropped, and counted.
@@ -38,10 +38,10 @@ abbrev pub item_lines : Item → ℕ
 item_lines (item.Line line) = 1
 item_lines (item.Dropped dropped) = dropped.count
 
-abbrev pub lines_of : List Item → ℕ
-lines_of [] = 0
-lines_of (one ∷ rest) = item_lines one + lines_of rest
+abbrev pub logged_lines : List Item → ℕ
+logged_lines [] = 0
+logged_lines (one ∷ rest) = item_lines one + logged_lines rest
 
 -- How many lines were logged, by what a queue has put and what it has still to tell.
 abbrev pub accounted_lines : LineQueue → ℕ
-accounted_lines queue = lines_of (sent queue.ring) + queue.dropped.count
+accounted_lines queue = logged_lines (sent queue.ring) + queue.dropped.count

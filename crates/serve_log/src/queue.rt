@@ -2,7 +2,7 @@
 
 ghost use Rattle.std.specs.Prelude.{◌≡◌, ◌+◌, ◌<◌, ◌≤◌, [], ◌∷◌, ◌++◌, length, IsTrue, IsFalse, IfOk, IfSome, IfNone};
 ghost use Rattle.rtrb.specs.Ring.{IsPair, known_free, received, sent};
-ghost use Rattle.serve_log.specs.Queue.{IsDropped, IsKept, accounted_lines, has_room_for, most_count, told};
+ghost use Rattle.serve_log.specs.Queue.{IsDropped, IsKept, accounted_lines, has_room_for, most_count, told_items};
 
 use crate::backlog::Backlog;
 use crate::time::Stamp;
@@ -117,7 +117,7 @@ impl LineQueue {
     // Puts what is to be told of dropped lines.
     fn tell_dropped(&mut self)
         requires place { 0 < known_free self.old.ring }
-        ensures sent { sent self.new.ring ≡ sent self.old.ring ++ told self.old.dropped }
+        ensures sent { sent self.new.ring ≡ sent self.old.ring ++ told_items self.old.dropped }
         ensures told { self.new.dropped.count ≡ 0 }
         ensures free { known_free self.old.ring ≤ known_free self.new.ring + 1 }
     {
