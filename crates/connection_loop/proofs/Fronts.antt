@@ -6,7 +6,7 @@ use Rattle.jute.specs.Frame.{frame_format}
 use Rattle.jute.specs.Stream.{Unread, items_within, items_after_read, place_after_fault}
 use Rattle.jute.proofs.Public.{refused_other}
 use Rattle.client_service.specs.Serve.{frames_of_client, client_frame_limit}
-use Rattle.connection_loop.specs.Frames.{bytes_read, whole_frames_length, goes_with, goes_last, gate_after, ending_going, going_after, going, frames_going}
+use Rattle.connection_loop.specs.Frames.{bytes_read, whole_frames_length, goes_with, goes_last, gate_after, ending_going, going_after, count_going, frames_going}
 use Rattle.connection_loop.specs.declared.kind.FrameKind.{FrameKind}
 use Rattle.connection_loop.specs.declared.kind.FrameKind.TheVariants.{Heavy}
 use Rattle.connection_loop.specs.declared.kind.Gate.{Gate}
@@ -92,7 +92,7 @@ abbrev pub going_read : ℕ → Gate → List ℕ → Result (List ℕ × List �
 going_read n gate bytes r =
     let items = items_after_read r (λ v. items_within frames_of_client n tt)
     (place_after_fault (frames_of_client.reading tt) tt bytes) in
-    going items.found items.left.unread gate
+    count_going items.found items.left.unread gate
 
 pub going_first : (n : ℕ) (gate : Gate) (bytes : List ℕ) → frames_going (suc n) gate bytes
     ≡ going_read n gate bytes ((frame_format client_frame_limit).read bytes)

@@ -55,12 +55,12 @@ going_after kind gate others =
     if goes_with kind gate then if goes_last kind then 1 else suc others else 0
 
 -- How many of these frames go together, with what is left after them.
-abbrev pub going : List (List ℕ) → Unread → Gate → ℕ
-going [] left gate = ending_going gate left
-going (f ∷ fs) left gate =
-    going_after (kind_of_frame f) gate (going fs left (gate_after (kind_of_frame f) gate))
+abbrev pub count_going : List (List ℕ) → Unread → Gate → ℕ
+count_going [] left gate = ending_going gate left
+count_going (f ∷ fs) left gate =
+    going_after (kind_of_frame f) gate (count_going fs left (gate_after (kind_of_frame f) gate))
 
 abbrev pub frames_going : ℕ → Gate → List ℕ → ℕ
 frames_going most gate bytes =
     let items = items_within frames_of_client most tt bytes in
-    going items.found items.left.unread gate
+    count_going items.found items.left.unread gate

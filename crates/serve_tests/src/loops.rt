@@ -428,10 +428,10 @@ fn asked_session(leader: &mut Port) -> Result<[u8; 8], Fail> {
 // each of them once the leader has answered what the one before asks of it.
 fn run_led_on<R: Threads + Wait + Clock + Copy + Send + Sync + 'static>(
     rt: &R,
+    alloc: Global,
     desk: &mut Desk,
     shared: &Arc<Shared, Global>,
 ) -> Result<Vec<Vec<u8>>, Fail> {
-    let alloc = rt.alloc();
     let mut leader = desk.add_port(64)?;
     inform(alloc, &mut leader, create(), *b"\0\0\0\0\0\0\0\x07")?;
     // Connection 1 has a session from the start.
@@ -479,7 +479,7 @@ fn a_frame_waits_for_the_answers_of_the_leader(rt: HostRuntime) -> Result<(), Fa
     let secret = Blob::new(alloc, &[])?;
     let config = Config::new(1, 0, 0, 4000, 40_000, secret, default_limits())?;
     let mut desk = Desk::primed(alloc, config)?;
-    let pieces = run_led_on(&rt, &mut desk, &shared)?;
+    let pieces = run_led_on(&rt, alloc, &mut desk, &shared)?;
     assert!(rt; pieces.len() == 3);
     assert!(rt; pieces[0].as_slice() == connect());
     // The create goes with the read before it, and not with the one after it.
@@ -496,10 +496,10 @@ fn a_frame_waits_for_the_answers_of_the_leader(rt: HostRuntime) -> Result<(), Fa
 // Runs a session whose stream brings these bytes and doesn't end.
 fn run_open<R: Threads + Wait + Clock + Copy + Send + Sync + 'static>(
     rt: &R,
+    alloc: Global,
     way: Way,
     bytes: &[u8],
 ) -> Result<Seen, Fail> {
-    let alloc = rt.alloc();
     let mut brought = Vec::new(alloc);
     brought.extend_from_slice(bytes)?;
     run_with(
@@ -515,7 +515,7 @@ fn run_open<R: Threads + Wait + Clock + Copy + Send + Sync + 'static>(
 
 #[test]
 fn a_word_that_is_not_allowed_is_refused(rt: HostRuntime) -> Result<(), Fail> {
-    let seen = run_open(&rt, well(), b"wchp")?;
+    let seen = run_open(&rt, rt.alloc(), well(), b"wchp")?;
     assert!(rt; is_framed(&seen) && seen.pieces == 0);
     assert!(rt;
         seen.written.as_slice() == b"wchp is not executed because it is not in the whitelist.\n"
@@ -530,7 +530,7 @@ fn who_says_nothing_is_closed(rt: HostRuntime) -> Result<(), Fail> {
         ..SessionLimits::none()
     };
     for bytes in [&b""[..], &get()[..7]] {
-        let seen = run_open(&rt, Way { limits, ..well() }, bytes)?;
+        let seen = run_open(&rt, rt.alloc(), Way { limits, ..well() }, bytes)?;
         assert!(rt; is_framed(&seen) && seen.pieces == 0);
     }
     Ok(())
@@ -553,7 +553,7 @@ fn who_does_not_read_is_closed(rt: HostRuntime) -> Result<(), Fail> {
             limits,
             ..well()
         };
-        let seen = run_open(&rt, way, get())?;
+        let seen = run_open(&rt, rt.alloc(), way, get())?;
         assert!(rt; is_framed(&seen) && seen.pieces == 1);
         assert!(rt; seen.written.is_empty());
     }
