@@ -409,14 +409,14 @@ fn next_piece<R: Threads + Wait + Sync>(
     Ok(None)
 }
 
-// The session that the leader is asked for, in bytes 20 to 28 of the request.
+// The session that the leader is asked for, in bytes 16 to 24 of the request.
 fn asked_session(leader: &mut Port) -> Result<[u8; 8], Fail> {
     for _ in 0..100 {
         let Some(output) = leader.receive() else {
             break;
         };
         if let Output::ToLeader(request) = output {
-            if let Some(session) = request.as_slice()[20..].first_chunk::<8>() {
+            if let Some(session) = request.as_slice()[16..].first_chunk::<8>() {
                 return Ok(*session);
             }
         }
@@ -517,9 +517,8 @@ fn run_open<R: Threads + Wait + Clock + Copy + Send + Sync + 'static>(
 fn a_word_that_is_not_allowed_is_refused(rt: HostRuntime) -> Result<(), Fail> {
     let seen = run_open(&rt, rt.alloc(), well(), b"wchp")?;
     assert!(rt; is_framed(&seen) && seen.pieces == 0);
-    assert!(rt;
-        seen.written.as_slice() == b"wchp is not executed because it is not in the whitelist.\n"
-    );
+    let said = b"wchp is not executed because it is not in the whitelist.\n";
+    assert!(rt; seen.written.as_slice() == said.as_slice());
     Ok(())
 }
 
