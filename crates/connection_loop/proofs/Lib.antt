@@ -1,4 +1,5 @@
 pub mod Buffers
+pub mod Counting
 pub mod Fronts
 pub mod Gathering
 pub mod Ints

@@ -1,5 +1,5 @@
 -- If no frame is whole, the first one is longer than what waits.
-use Rattle.std.proofs.Common.{◌≡◌, ℕ, zero, suc, ◌+◌, ◌-◌, ◌*◌, ◌^◌, ◌<◌, ◌≤◌, Bool, ◌&&◌, true, false, List, length, take, drop, get_or, Result, Ok, Err, ap, sym, ◌∙◌, refl, arith, leb, ltb, inl, inr}
+use Rattle.std.proofs.Common.{◌≡◌, ℕ, zero, suc, ◌+◌, ◌-◌, ◌*◌, ◌^◌, ◌<◌, ◌≤◌, ◌&&◌, true, false, List, length, take, drop, get_or, Result, Ok, Err, ap, sym, ◌∙◌, refl, arith, leb, ltb, inl, inr}
 use Rattle.std.specs.Prelude.{ℤ, pos, negsuc, if◌then◌else◌}
 use Rattle.std.specs.Int.{w32, from_be_bytes, cast_signed, cast_unsigned}
 use Rattle.std.proofs.lemmas.Bool.{le-ltb, lt-ltb}
@@ -16,6 +16,8 @@ use Rattle.jute.proofs.Public.{frame_sound, int_sound, guard_ok}
 use Rattle.client_service.specs.Serve.{frames_of_client, client_frame_limit}
 use Rattle.connection_loop.specs.Frames.{bytes_read, whole_frames_length, goes_with, going_after, frames_going}
 use Rattle.connection_loop.specs.declared.kind.FrameKind.{FrameKind}
+use Rattle.connection_loop.specs.declared.kind.Gate.{Gate}
+use Rattle.connection_loop.specs.declared.kind.Gate.TheVariants.{Open}
 use Rattle.connection_loop.specs.declared.kind.FrameKind.TheVariants.{Light, Forwarded, Local, Heavy}
 use Rattle.connection_loop.specs.Kinds.{kind_of_frame}
 use Rattle.connection_loop.specs.Incoming.{first_frame_length, may_begin}
@@ -140,13 +142,13 @@ short_is_longer bytes fits long short = elim (sound.named.names bytes Short fits
 
 -- ---- no frame goes, though all before are answered
 
-pub goes_settled : (kind : FrameKind) → goes_with kind true ≡ true
-goes_settled Light = refl
-goes_settled Forwarded = refl
-goes_settled Local = refl
-goes_settled Heavy = refl
+pub goes_open : (kind : FrameKind) → goes_with kind Open ≡ true
+goes_open Light = refl
+goes_open Forwarded = refl
+goes_open Local = refl
+goes_open Heavy = refl
 
-some_go : (kind : FrameKind) (others : ℕ) → going_after kind true others ≡ 0 → ⊥
+some_go : (kind : FrameKind) (others : ℕ) → going_after kind Open others ≡ 0 → ⊥
 some_go Light others none = absurd (omega (arith, none))
 some_go Forwarded others none = absurd (omega (arith, none))
 some_go Local others none = absurd (omega (arith, none))
@@ -159,31 +161,31 @@ not_whole (suc n) bytes more some none = none_whole n bytes some none
 
 going_short_after : (n : ℕ) (bytes : List ℕ) (r : Result (List ℕ × List ℕ) Fault)
     → (frame_format client_frame_limit).read bytes ≡ r → 0 < length bytes
-    → whole_frames_length (going_read n true bytes r) bytes ≡ 0
+    → whole_frames_length (going_read n Open bytes r) bytes ≡ 0
     → (frame_format client_frame_limit).read bytes ≡ Err Short
 going_short_after n bytes (Ok x) is some none =
-    not_whole (going_read n true bytes (Ok x)) bytes (some_go (kind_of_frame x.0) _) some none
+    not_whole (going_read n Open bytes (Ok x)) bytes (some_go (kind_of_frame x.0) _) some none
 going_short_after n bytes (Err Short) is some none = is
 going_short_after n bytes (Err e) is some none = not_whole 1 bytes (λ h. absurd (omega (arith, h))) some none
 
 none_goes : (n : ℕ) (bytes : List ℕ) → 0 < length bytes
-    → whole_frames_length (frames_going (suc n) true bytes) bytes ≡ 0
+    → whole_frames_length (frames_going (suc n) Open bytes) bytes ≡ 0
     → (frame_format client_frame_limit).read bytes ≡ Err Short
 none_goes n bytes some none =
     going_short_after n bytes _ refl some
-    (ap (λ m. whole_frames_length m bytes) (sym (going_first n true bytes)) ∙ none)
+    (ap (λ m. whole_frames_length m bytes) (sym (going_first n Open bytes)) ∙ none)
 
-pub first_is_longer : (most : ℕ) (settled : Bool) (bytes : List ℕ) → IsBytes bytes → 4 ≤ length bytes → 0 < most
-    → settled ≡ true → whole_frames_length (frames_going most settled bytes) bytes ≡ 0
+pub first_is_longer : (most : ℕ) (gate : Gate) (bytes : List ℕ) → IsBytes bytes → 4 ≤ length bytes → 0 < most
+    → gate ≡ Open → whole_frames_length (frames_going most gate bytes) bytes ≡ 0
     → length bytes < first_frame_length bytes
-first_is_longer zero settled bytes fits long some all none = absurd (omega (arith, some))
-first_is_longer (suc n) settled bytes fits long some all none =
+first_is_longer zero gate bytes fits long some all none = absurd (omega (arith, some))
+first_is_longer (suc n) gate bytes fits long some all none =
     short_is_longer bytes fits long
     (none_goes n bytes (omega (arith, long))
     (ap (λ b. whole_frames_length (frames_going (suc n) b bytes) bytes) (sym all) ∙ none))
 
-pub may_begin_settled : (most : ℕ) (settled : Bool) (bytes : List ℕ) → 0 < most → settled ≡ true
-    → may_begin most settled bytes ≡ true
-may_begin_settled most settled bytes some all =
-    ap (λ b. b && goes_with (kind_of_frame (drop 4 bytes)) settled) (lt-ltb 0 most some)
-    ∙ ap (goes_with (kind_of_frame (drop 4 bytes))) all ∙ goes_settled (kind_of_frame (drop 4 bytes))
+pub may_begin_open : (most : ℕ) (gate : Gate) (bytes : List ℕ) → 0 < most → gate ≡ Open
+    → may_begin most gate bytes ≡ true
+may_begin_open most gate bytes some all =
+    ap (λ b. b && goes_with (kind_of_frame (drop 4 bytes)) gate) (lt-ltb 0 most some)
+    ∙ ap (goes_with (kind_of_frame (drop 4 bytes))) all ∙ goes_open (kind_of_frame (drop 4 bytes))

@@ -1,9 +1,11 @@
 -- The ends of a client's frames, and which of them are sent on together.
-use Rattle.std.specs.Prelude.{ℕ, suc, ◌+◌, List, [], ◌∷◌, map, length, ◌-◌, Ok, Err, Bool, true, false, if◌then◌else◌}
+use Rattle.std.specs.Prelude.{ℕ, suc, List, [], ◌∷◌, length, ◌-◌, Ok, Err, Bool, true, false, if◌then◌else◌}
 use Rattle.jute.specs.Stream.{Unread, items_within}
 use Rattle.client_service.specs.Serve.{frames_of_client}
 use Rattle.connection_loop.specs.declared.kind.FrameKind.{FrameKind}
 use Rattle.connection_loop.specs.declared.kind.FrameKind.TheVariants.{Light, Forwarded, Local, Heavy}
+use Rattle.connection_loop.specs.declared.kind.Gate.{Gate}
+use Rattle.connection_loop.specs.declared.kind.Gate.TheVariants.{Narrow, Ahead, Open}
 use Rattle.connection_loop.specs.Kinds.{kind_of_frame}
 
 -- The number of bytes read; all of them if a length is out of bounds.
@@ -18,24 +20,28 @@ whole_frames_length most bytes = bytes_read bytes (items_within frames_of_client
 -- ---- the frames that go together
 
 -- The engine would hold a frame that this server answers while the leader owes an answer to one before. So such a frame
--- is sent on only where it is settled that none is owed.
-abbrev pub goes_with : FrameKind → Bool → Bool
-goes_with Light settled = true
-goes_with Forwarded settled = true
-goes_with Local settled = settled
-goes_with Heavy settled = settled
+-- is sent on only where none is owed, or where it has a place. One of unbounded cost has none.
+abbrev pub goes_with : FrameKind → Gate → Bool
+goes_with Light gate = true
+goes_with Forwarded gate = true
+goes_with Local Narrow = false
+goes_with Local Ahead = true
+goes_with Local Open = true
+goes_with Heavy Narrow = false
+goes_with Heavy Ahead = false
+goes_with Heavy Open = true
 
--- Whether it is still settled after a frame, before its answer.
-abbrev pub settled_after : FrameKind → Bool → Bool
-settled_after Light settled = settled
-settled_after Forwarded settled = false
-settled_after Local settled = settled
-settled_after Heavy settled = false
+-- The gate after a frame, before its answer.
+abbrev pub gate_after : FrameKind → Gate → Gate
+gate_after Light gate = gate
+gate_after Forwarded gate = Narrow
+gate_after Local gate = gate
+gate_after Heavy gate = Narrow
 
 -- Where a length is out of bounds, the connection ends at the bytes after the frames. They go as one more frame.
-abbrev pub ending_going : Bool → Unread → ℕ
-ending_going settled (Ok rest) = 0
-ending_going settled (Err e) = if settled then 1 else 0
+abbrev pub ending_going : Gate → Unread → ℕ
+ending_going gate (Ok rest) = 0
+ending_going gate (Err e) = if goes_with Heavy gate then 1 else 0
 
 -- A frame of unbounded cost goes last.
 abbrev pub goes_last : FrameKind → Bool
@@ -44,17 +50,17 @@ goes_last Forwarded = false
 goes_last Local = false
 goes_last Heavy = true
 
-abbrev pub going_after : FrameKind → Bool → ℕ → ℕ
-going_after kind settled others =
-    if goes_with kind settled then if goes_last kind then 1 else suc others else 0
+abbrev pub going_after : FrameKind → Gate → ℕ → ℕ
+going_after kind gate others =
+    if goes_with kind gate then if goes_last kind then 1 else suc others else 0
 
 -- How many of these frames go together, with what is left after them.
-abbrev pub going : List (List ℕ) → Unread → Bool → ℕ
-going [] left settled = ending_going settled left
-going (f ∷ fs) left settled =
-    going_after (kind_of_frame f) settled (going fs left (settled_after (kind_of_frame f) settled))
+abbrev pub going : List (List ℕ) → Unread → Gate → ℕ
+going [] left gate = ending_going gate left
+going (f ∷ fs) left gate =
+    going_after (kind_of_frame f) gate (going fs left (gate_after (kind_of_frame f) gate))
 
-abbrev pub frames_going : ℕ → Bool → List ℕ → ℕ
-frames_going most settled bytes =
+abbrev pub frames_going : ℕ → Gate → List ℕ → ℕ
+frames_going most gate bytes =
     let items = items_within frames_of_client most tt bytes in
-    going items.found items.left.unread settled
+    going items.found items.left.unread gate

@@ -4,6 +4,7 @@ use Rattle.std.specs.Int.{w32, from_be_bytes}
 use Rattle.connection_loop.specs.declared.incoming.Cutting.{Cutting}
 use Rattle.connection_loop.specs.declared.incoming.Cutting.TheVariants.{Frames, Reads}
 use Rattle.connection_loop.specs.declared.incoming.Piece.{Piece}
+use Rattle.connection_loop.specs.declared.kind.Gate.{Gate}
 use Rattle.connection_loop.specs.Frames.{whole_frames_length, goes_with, frames_going}
 use Rattle.connection_loop.specs.Kinds.{kind_of_frame}
 
@@ -38,41 +39,41 @@ abbrev pub piece_of_rest : ℕ → ℕ → Piece
 piece_of_rest waiting missing =
     record { len = min waiting missing; frames = 0; ends_frame = nat_le missing waiting; missing = missing - waiting }
 
--- ---- the next piece, of at most so many frames, where it is settled or not that all before are answered
+-- ---- the next piece, of at most so many frames, through this gate
 
 -- The length of the frame that the bytes begin with, its length prefix included.
 abbrev pub first_frame_length : List ℕ → ℕ
 first_frame_length bytes = if nat_lt (length bytes) 4 then 0 else from_be_bytes w32 (take 4 bytes) + 4
 
 -- Whether a frame may be sent on in parts.
-abbrev pub may_begin : ℕ → Bool → List ℕ → Bool
-may_begin most settled bytes = nat_lt 0 most && goes_with (kind_of_frame (drop 4 bytes)) settled
+abbrev pub may_begin : ℕ → Gate → List ℕ → Bool
+may_begin most gate bytes = nat_lt 0 most && goes_with (kind_of_frame (drop 4 bytes)) gate
 
 -- A part of a frame is only sent on if it fills the buffer, and isn't all of it.
-abbrev pub piece_of_long_frame : ℕ → Bool → List ℕ → Option Piece
-piece_of_long_frame most settled bytes =
-    if nat_le buffer_length (length bytes) && nat_lt (length bytes) (first_frame_length bytes) && may_begin most settled bytes
+abbrev pub piece_of_long_frame : ℕ → Gate → List ℕ → Option Piece
+piece_of_long_frame most gate bytes =
+    if nat_le buffer_length (length bytes) && nat_lt (length bytes) (first_frame_length bytes) && may_begin most gate bytes
     then Some (piece_of_front (length bytes) (first_frame_length bytes)) else None
 
 -- The next piece where these whole frames go together, which are so many bytes.
-abbrev pub piece_of_frames : ℕ → Bool → List ℕ → ℕ → ℕ → Option Piece
-piece_of_frames most settled bytes frames len =
-    if len == 0 then piece_of_long_frame most settled bytes else Some (piece_of_whole_frames len frames)
+abbrev pub piece_of_frames : ℕ → Gate → List ℕ → ℕ → ℕ → Option Piece
+piece_of_frames most gate bytes frames len =
+    if len == 0 then piece_of_long_frame most gate bytes else Some (piece_of_whole_frames len frames)
 
 -- The next piece of a client's bytes: the missing bytes of a frame come first.
-abbrev pub piece_for_client : ℕ → Bool → List ℕ → ℕ → Option Piece
-piece_for_client most settled bytes missing =
-    let frames = frames_going most settled bytes in
-    if missing == 0 then piece_of_frames most settled bytes frames (whole_frames_length frames bytes)
+abbrev pub piece_for_client : ℕ → Gate → List ℕ → ℕ → Option Piece
+piece_for_client most gate bytes missing =
+    let frames = frames_going most gate bytes in
+    if missing == 0 then piece_of_frames most gate bytes frames (whole_frames_length frames bytes)
     else Some (piece_of_rest (length bytes) missing)
 
 abbrev pub last_piece : List ℕ → Option Piece
 last_piece bytes = if length bytes == 0 then None else Some (piece_of_reads (length bytes))
 
-abbrev pub piece_by : Cutting → ℕ → Bool → List ℕ → ℕ → Option Piece
-piece_by Frames most settled bytes missing =
-    if length bytes == 0 then None else piece_for_client most settled bytes missing
-piece_by Reads most settled bytes missing = last_piece bytes
+abbrev pub piece_by : Cutting → ℕ → Gate → List ℕ → ℕ → Option Piece
+piece_by Frames most gate bytes missing =
+    if length bytes == 0 then None else piece_for_client most gate bytes missing
+piece_by Reads most gate bytes missing = last_piece bytes
 
-abbrev pub next_piece : Unsent → ℕ → Bool → Option Piece
-next_piece u most settled = piece_by u.cutting most settled u.bytes u.missing
+abbrev pub next_piece : Unsent → ℕ → Gate → Option Piece
+next_piece u most gate = piece_by u.cutting most gate u.bytes u.missing

@@ -1,3 +1,4 @@
+pub mod Exchanges
 pub mod Frames
 pub mod Incoming
 pub mod Kinds

@@ -13,14 +13,14 @@ abbrev pub no_end : ℕ
 no_end = 18446744073709551615
 
 -- A limit that began then, if it counts. One of 0 never ends.
-abbrev pub end_of : Bool → ℕ → ℕ → Option ℕ
-end_of counts since limit = if counts && nat_lt 0 limit then Some (min (since + limit) no_end) else None
+abbrev pub limit_end : Bool → ℕ → ℕ → Option ℕ
+limit_end counts since limit = if counts && nat_lt 0 limit then Some (min (since + limit) no_end) else None
 
 -- A connect has to be answered in time, counted from the start; the socket has to take bytes, in a shorter time where
 -- the connection is to close; and answers are waited for, after the end of the stream, for two seconds.
 abbrev pub deadline_of : Waits → SessionLimits → Option ℕ
 deadline_of w limits =
-    earlier_of (end_of w.connecting 0 limits.unconnected)
+    earlier_of (limit_end w.connecting 0 limits.unconnected)
     (earlier_of
-    (end_of w.unread w.since (if w.closing then limits.closing else limits.unread))
-    (end_of w.ended w.since 2000))
+    (limit_end w.unread w.since (if w.closing then limits.closing else limits.unread))
+    (limit_end w.ended w.since 2000))

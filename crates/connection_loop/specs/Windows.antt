@@ -1,5 +1,5 @@
 -- How many frames of a client may be sent on.
-use Rattle.std.specs.Prelude.{◌≡◌, ℕ, suc, ◌+◌, ◌-◌, ◌*◌, ◌==◌, min, nat_lt, nat_le, List, [], ◌∷◌, take, drop, length, replicate, Bool, true, false, not, ◌&&◌, if◌then◌else◌}
+use Rattle.std.specs.Prelude.{ℕ, ◌+◌, ◌-◌, ◌*◌, ◌==◌, min, nat_lt, nat_le, List, [], ◌∷◌, take, drop, length, replicate, Bool, true, false, not, ◌&&◌, if◌then◌else◌}
 use Rattle.std.specs.Str.{bytes_eq}
 use Rattle.client_service.specs.declared.output.Output.{Output}
 use Rattle.client_service.specs.declared.output.Output.TheVariants.{ToLeader, ToClient, CloseLeader, CloseClient}
@@ -21,11 +21,11 @@ new_window = record { owed = 0; connected = false; at_once = 1; small = 0 }
 abbrev pub room_in : Window → ℕ
 room_in w = if not w.connected && nat_lt 0 w.owed then 0 else min w.at_once (1024 - w.owed)
 
-abbrev pub is_settled : Window → Bool
-is_settled w = w.owed == 0
+abbrev pub all_answered : Window → Bool
+all_answered w = w.owed == 0
 
 abbrev pub is_new : Window → Bool
-is_new w = not w.connected && is_settled w
+is_new w = not w.connected && all_answered w
 
 abbrev pub with_sent : Window → ℕ → Window
 with_sent w frames = record w { owed = w.owed + frames }

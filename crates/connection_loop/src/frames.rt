@@ -1,9 +1,10 @@
 //! The ends of a client's frames, and which of them are sent on together.
 
 ghost use Rattle.std.specs.Prelude.{◌≡◌, ◌≤◌};
-ghost use Rattle.connection_loop.specs.Frames.{whole_frames_length, goes_with, goes_last, settled_after, frames_going};
+ghost use Rattle.connection_loop.specs.Frames.{whole_frames_length, goes_with, goes_last, gate_after, frames_going};
 
-use crate::kind::{FrameKind, kind_of_frame};
+use crate::kind::{FrameKind, Gate, after_int, kind_of_frame};
+use crate::window::MOST_AT_ONCE;
 use jute::{Reader, read_frame};
 use observer_core::CLIENT_FRAME_LIMIT;
 use values::Fault;
@@ -26,23 +27,30 @@ pub fn whole_frames(bytes: &[u8], most: usize) -> usize
     bytes.len().saturating_sub(ahead.rest().len())
 }
 
-/// Whether a frame of this kind may be sent on: `settled` says that no frame before it waits for the leader's answer.
-pub fn goes_with(kind: FrameKind, settled: bool) -> bool
-    ensures { result ≡ goes_with kind settled }
+/// Whether a frame of this kind may be sent on.
+pub fn goes_with(kind: FrameKind, gate: Gate) -> bool
+    ensures { result ≡ goes_with kind gate }
 {
     match kind {
         FrameKind::Light | FrameKind::Forwarded => true,
-        FrameKind::Local | FrameKind::Heavy => settled,
+        FrameKind::Local => match gate {
+            Gate::Narrow => false,
+            Gate::Ahead | Gate::Open => true,
+        },
+        FrameKind::Heavy => match gate {
+            Gate::Narrow | Gate::Ahead => false,
+            Gate::Open => true,
+        },
     }
 }
 
-// Whether it is still settled after a frame, before its answer.
-fn settled_after(kind: FrameKind, settled: bool) -> bool
-    ensures { result ≡ settled_after kind settled }
+// The gate after a frame, before its answer.
+fn gate_after(kind: FrameKind, gate: Gate) -> Gate
+    ensures { result ≡ gate_after kind gate }
 {
     match kind {
-        FrameKind::Light | FrameKind::Local => settled,
-        FrameKind::Forwarded | FrameKind::Heavy => false,
+        FrameKind::Light | FrameKind::Local => gate,
+        FrameKind::Forwarded | FrameKind::Heavy => Gate::Narrow,
     }
 }
 
@@ -55,33 +63,52 @@ fn goes_last(kind: FrameKind) -> bool
     }
 }
 
-/// How many of the whole frames at the front, at most `most`, are sent on as one piece. `settled` says whether all frames
-/// before them are answered. A frame that the engine would hold isn't among them unless it is settled up to there: no
-/// answer of the leader is owed. A frame of unbounded cost is the last one. A length out of bounds counts as a frame
-/// that would be held.
-pub fn frames_going(bytes: &[u8], most: usize, settled: bool) -> usize
-    ensures going { result ≡ frames_going most settled bytes.now }
+/// How many of the whole frames at the front, at most `most`, are sent on as one piece. A frame that the engine would
+/// hold isn't among them after one for the leader, nor where the gate is narrow. A frame of unbounded cost goes only
+/// through an open gate, and is the last one; so is a length out of bounds.
+pub fn frames_going(bytes: &[u8], most: usize, gate: Gate) -> usize
+    ensures going { result ≡ frames_going most gate bytes.now }
     ensures bound { result ≤ most }
 {
     let mut ahead = Reader::new(bytes);
-    let mut calm = settled;
+    let mut here = gate;
     for count in 0..most {
         match read_frame(&mut ahead, CLIENT_FRAME_LIMIT) {
             Ok(frame) => {
                 let kind = kind_of_frame(frame);
-                if !goes_with(kind, calm) {
+                if !goes_with(kind, here) {
                     return count;
                 }
                 if goes_last(kind) {
                     return count + 1;
                 }
-                calm = settled_after(kind, calm);
+                here = gate_after(kind, here);
             }
             Err(fault) => match fault {
                 Fault::Short => return count,
-                _ => return if calm { count + 1 } else { count },
+                _ => {
+                    let ends = goes_with(FrameKind::Heavy, here);
+                    return if ends { count + 1 } else { count };
+                }
             },
         }
     }
     most
+}
+
+/// Whether the last frame that begins in these bytes is of unbounded cost. It is a hint for the hub.
+pub fn ends_heavy(bytes: &[u8]) -> bool {
+    let mut ahead = Reader::new(bytes);
+    let mut is_heavy = false;
+    for _ in 0..MOST_AT_ONCE {
+        let rest = ahead.rest();
+        if rest.is_empty() {
+            break;
+        }
+        is_heavy = goes_last(kind_of_frame(after_int(rest)));
+        if read_frame(&mut ahead, CLIENT_FRAME_LIMIT).is_err() {
+            break;
+        }
+    }
+    is_heavy
 }

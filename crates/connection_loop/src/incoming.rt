@@ -8,7 +8,7 @@ ghost use Rattle.connection_loop.specs.Frames.{whole_frames_length, frames_going
 ghost use Rattle.connection_loop.specs.Incoming.{buffer_length, nothing_unsent, first_frame_length, may_begin, piece_for_client, last_piece, next_piece};
 
 use crate::frames::{frames_going, goes_with, whole_frames};
-use crate::kind::{after_int, kind_of_frame};
+use crate::kind::{Gate, after_int, kind_of_frame};
 use std::alloc::Global;
 use std::io;
 use std::io::Read;
@@ -77,22 +77,22 @@ fn frame_len(bytes: &[u8]) -> usize
 }
 
 // Whether a frame that fills the buffer may be sent on. All of its bytes come as pieces of their own.
-fn may_begin(waiting: &[u8], most: usize, settled: bool) -> bool
-    ensures { result ≡ may_begin most settled waiting.now }
+fn may_begin(waiting: &[u8], most: usize, gate: Gate) -> bool
+    ensures { result ≡ may_begin most gate waiting.now }
 {
-    most > 0 && goes_with(kind_of_frame(after_int(waiting)), settled)
+    most > 0 && goes_with(kind_of_frame(after_int(waiting)), gate)
 }
 
 // The next piece of a client's bytes. The first `missing` bytes belong to a frame that was sent on in part.
-fn next_frames(waiting: &[u8], missing: usize, most: usize, settled: bool) -> Option<Piece>
+fn next_frames(waiting: &[u8], missing: usize, most: usize, gate: Gate) -> Option<Piece>
     requires { 0 < length waiting.now }
-    ensures piece { result ≡ piece_for_client most settled waiting.now missing }
+    ensures piece { result ≡ piece_for_client most gate waiting.now missing }
     ensures frames { missing ≡ 0 → IfSome result
-        (λ p. IsTrue p.ends_frame → p.len ≡ whole_frames_length (frames_going most settled waiting.now) waiting.now) }
+        (λ p. IsTrue p.ends_frame → p.len ≡ whole_frames_length (frames_going most gate waiting.now) waiting.now) }
     ensures most { IfSome result (λ p. p.frames ≤ most) }
     ensures rest { missing ≢ 0 → IfSome result (λ p. p.len + p.missing ≡ missing) }
     ensures within { IfSome result (λ p. (0 < p.len) × (p.len ≤ length waiting.now)) }
-    ensures full { buffer_length ≤ length waiting.now → 0 < most → settled ≡ true → IsSome result }
+    ensures full { buffer_length ≤ length waiting.now → 0 < most → gate ≡ Gate.Open → IsSome result }
     ensures ends { IfSome result (λ p. IsTrue p.ends_frame ↔ (p.missing ≡ 0)) }
 {
     if missing > 0 {
@@ -104,7 +104,7 @@ fn next_frames(waiting: &[u8], missing: usize, most: usize, settled: bool) -> Op
             missing: missing - len,
         });
     }
-    let frames = frames_going(waiting, most, settled);
+    let frames = frames_going(waiting, most, gate);
     let len = whole_frames(waiting, frames);
     if len > 0 {
         return Some(Piece {
@@ -115,7 +115,7 @@ fn next_frames(waiting: &[u8], missing: usize, most: usize, settled: bool) -> Op
         });
     }
     let missing = frame_len(waiting).saturating_sub(waiting.len());
-    if waiting.len() < READ_LEN || missing == 0 || !may_begin(waiting, most, settled) {
+    if waiting.len() < READ_LEN || missing == 0 || !may_begin(waiting, most, gate) {
         return None;
     }
     Some(Piece {
@@ -186,17 +186,17 @@ impl Incoming {
 
     /// Whether something can be sent on, once all frames before it are answered.
     pub fn is_ready(&self) -> bool
-        ensures ready { IsTrue result ↔ IsSome (next_piece self.now 1 true) }
+        ensures ready { IsTrue result ↔ IsSome (next_piece self.now 1 Gate.Open) }
         ensures full { buffer_length ≤ length self.now.bytes → result ≡ true }
     {
-        self.next(1, true).is_some()
+        self.next(1, Gate::Open).is_some()
     }
 
     /// Whether nothing more has to be read before something is sent on: a piece is ready, and more than half of the
     /// buffer waits.
     pub fn is_full(&self) -> bool
         ensures full { IsTrue result
-            ↔ ((buffer_length / 2 < length self.now.bytes) × IsSome (next_piece self.now 1 true)) }
+            ↔ ((buffer_length / 2 < length self.now.bytes) × IsSome (next_piece self.now 1 Gate.Open)) }
         ensures room { OnFalse result (length self.now.bytes < buffer_length) }
     {
         self.waiting().len() > READ_LEN / 2 && self.is_ready()
@@ -225,14 +225,13 @@ impl Incoming {
         Ok(count)
     }
 
-    /// The next piece to send on: of a client's bytes at most `most` frames, and those that wait for the answers before
-    /// them only if it is `settled` that all are answered. A frame waits until it is complete, or fills the buffer; the
-    /// rest of one that was sent on in part doesn't wait.
-    pub fn next(&self, most: usize, settled: bool) -> Option<Piece>
-        ensures piece { result ≡ next_piece self.now most settled }
+    /// The next piece to send on: of a client's bytes at most `most` frames, which pass the gate. A frame waits until it
+    /// is complete, or fills the buffer; the rest of one that was sent on in part doesn't wait.
+    pub fn next(&self, most: usize, gate: Gate) -> Option<Piece>
+        ensures piece { result ≡ next_piece self.now most gate }
         ensures most { IfSome result (λ p. p.frames ≤ most) }
         ensures within { IfSome result (λ p. (0 < p.len) × (p.len ≤ length self.now.bytes)) }
-        ensures full { buffer_length ≤ length self.now.bytes → 0 < most → settled ≡ true → IsSome result }
+        ensures full { buffer_length ≤ length self.now.bytes → 0 < most → gate ≡ Gate.Open → IsSome result }
         ensures ends { self.now.cutting ≡ Cutting.Frames
             → IfSome result (λ p. IsTrue p.ends_frame ↔ (p.missing ≡ 0)) }
     {
@@ -241,7 +240,7 @@ impl Incoming {
             return None;
         }
         match self.cutting {
-            Cutting::Frames => next_frames(waiting, self.missing, most, settled),
+            Cutting::Frames => next_frames(waiting, self.missing, most, gate),
             Cutting::Reads => self.last(),
         }
     }

@@ -21,6 +21,17 @@ pub enum FrameKind {
     Heavy,
 }
 
+/// Which frames may be sent on, by what is owed for those before.
+#[derive(Clone, Copy, Debug, PartialEq, Eq)]
+pub enum Gate {
+    /// The leader may owe an answer: what the engine doesn't hold.
+    Narrow,
+    /// The same, and frames of bounded cost that have places.
+    Ahead,
+    /// All are answered: all frames.
+    Open,
+}
+
 fn kind_of_request(kind: Option<RequestKind>, len: usize) -> FrameKind
     ensures { result ≡ kind_of_request kind len }
 {

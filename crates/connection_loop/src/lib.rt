@@ -6,16 +6,23 @@
 //! system calls only if there is something to do, and once in ten seconds otherwise.
 //!
 //! A session sends on at most 16 whole frames at once, and the next ones when the hub has taken these and the answers
-//! are written: a client that sends much, or doesn't read, blocks only itself. It is proved which bytes are whole
-//! frames ([`whole_frames`]), that the bytes of a connection wait in the order in which they were read, and which of
-//! them are taken next (`incoming.rt`), and that the bytes of the outputs are written in their order, each once
-//! (`outgoing.rt`); the rest of the code is proved safe. Tests show what happens if a read or a write fails.
+//! are written: a client that sends much, or doesn't read, blocks only itself. A frame that the engine would hold while
+//! the leader owes an answer waits here until all frames before it are answered (`window.rt`, [`frames_going`]), unless
+//! it has one of a few places ([`ReadsAhead`]). So what one client is answered in a turn is bounded, however it
+//! pipelines. Who says nothing or doesn't read is closed ([`SessionLimits`]).
+//!
+//! It is proved which bytes are whole frames ([`whole_frames`]), that the bytes of a connection wait in the order in
+//! which they were read, and which of them are taken next (`incoming.rt`), how answers are counted ([`law::exchanges`]),
+//! and that the bytes of the outputs are written in their order, each once (`outgoing.rt`); the rest of the code is
+//! proved safe. Tests show what happens if a read or a write fails.
 #![tactic(auto)]
 
+mod ahead;
 mod bell;
 mod frames;
 mod incoming;
 mod kind;
+pub mod law;
 mod limits;
 mod outgoing;
 mod patience;
@@ -24,8 +31,10 @@ mod session;
 mod waiting;
 mod window;
 
+pub use ahead::ReadsAhead;
 pub use bell::Bell;
-pub use frames::whole_frames;
+pub use frames::{frames_going, whole_frames};
+pub use kind::Gate;
 pub use limits::{AllowedWords, SessionLimits};
 pub use rest::Rest;
 pub use session::{LeaderGone, leader_loop, session_loop};

@@ -3,7 +3,7 @@
 ghost use Rattle.std.specs.Prelude.{◌≡◌, ◌≢◌, Some, true, false};
 ghost use Rattle.four_letter.specs.declared.word.Word.{Word as TheWord};
 ghost use Rattle.four_letter.specs.Words.{word_of};
-ghost use Rattle.connection_loop.specs.Limits.{is_allowed, allows_word, refuses_word};
+ghost use Rattle.connection_loop.specs.Limits.{has_word, allows_word};
 
 use four_letter::Word;
 
@@ -21,7 +21,7 @@ pub struct AllowedWords {
 impl AllowedWords {
     /// All words that an observer answers.
     pub fn all() -> AllowedWords
-        ensures { (word : TheWord) → is_allowed result word ≡ true }
+        ensures { (word : TheWord) → has_word result word ≡ true }
     {
         AllowedWords {
             ruok: true,
@@ -34,7 +34,7 @@ impl AllowedWords {
     }
 
     pub fn none() -> AllowedWords
-        ensures { (word : TheWord) → is_allowed result word ≡ false }
+        ensures { (word : TheWord) → has_word result word ≡ false }
     {
         AllowedWords {
             ruok: false,
@@ -48,9 +48,9 @@ impl AllowedWords {
 
     /// These words, and the one that the bytes spell. Bytes that spell none add nothing.
     pub fn with(self, bytes: [u8; 4]) -> AllowedWords
-        ensures added { (word : TheWord) → word_of bytes ≡ Some word → is_allowed result word ≡ true }
+        ensures added { (word : TheWord) → word_of bytes ≡ Some word → has_word result word ≡ true }
         ensures others { (word : TheWord) → word_of bytes ≢ Some word
-            → is_allowed result word ≡ is_allowed self word }
+            → has_word result word ≡ has_word self word }
     {
         let Some(word) = Word::from_bytes(bytes) else {
             return self;
@@ -79,13 +79,6 @@ impl AllowedWords {
             Some(Word::Wchp) => self.wchp,
         }
     }
-
-    /// Whether the bytes spell a word that isn't among these.
-    pub fn refuses(self, bytes: [u8; 4]) -> bool
-        ensures { result ≡ refuses_word self (word_of bytes) }
-    {
-        Word::from_bytes(bytes).is_some() && !self.allows(bytes)
-    }
 }
 
 /// The limits of a client's connection. Times are in milliseconds, and 0 is no limit.
@@ -105,7 +98,7 @@ impl SessionLimits {
     /// No limits.
     pub fn none() -> SessionLimits
         ensures times { (result.unconnected ≡ 0) × (result.unread ≡ 0) × (result.closing ≡ 0) }
-        ensures words { (word : TheWord) → is_allowed result.words word ≡ true }
+        ensures words { (word : TheWord) → has_word result.words word ≡ true }
     {
         SessionLimits {
             unconnected: 0,

@@ -1,7 +1,7 @@
 //! How long a session waits.
 
 ghost use Rattle.std.specs.Prelude.{◌≡◌};
-ghost use Rattle.connection_loop.specs.Patience.{earlier_of, end_of, deadline_of};
+ghost use Rattle.connection_loop.specs.Patience.{earlier_of, limit_end, deadline_of};
 
 use crate::limits::SessionLimits;
 
@@ -34,8 +34,8 @@ fn earlier_of(one: Option<u64>, other: Option<u64>) -> Option<u64>
 }
 
 // The end of a limit that began then, if it counts. A limit of 0 never ends.
-fn end_of(counts: bool, since: u64, limit: u64) -> Option<u64>
-    ensures { result ≡ end_of counts since limit }
+fn limit_end(counts: bool, since: u64, limit: u64) -> Option<u64>
+    ensures { result ≡ limit_end counts since limit }
 {
     if counts && limit > 0 {
         return Some(since.saturating_add(limit));
@@ -53,9 +53,9 @@ impl Waits {
         } else {
             limits.unread
         };
-        let connect = end_of(self.connecting, 0, limits.unconnected);
-        let written = end_of(self.unread, self.since, unread);
-        let last = end_of(self.ended, self.since, LAST_WAIT);
+        let connect = limit_end(self.connecting, 0, limits.unconnected);
+        let written = limit_end(self.unread, self.since, unread);
+        let last = limit_end(self.ended, self.since, LAST_WAIT);
         earlier_of(connect, earlier_of(written, last))
     }
 }

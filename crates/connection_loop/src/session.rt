@@ -1,16 +1,23 @@
 //! The loop of a connection's thread.
 
-use crate::incoming::{Cutting, Incoming};
+ghost use Rattle.std.specs.Prelude.{◌≡◌, ◌≤◌, IfSome, length};
+ghost use Rattle.connection_loop.specs.Windows.{room_in};
+
+use crate::ahead::{OwnReadsAhead, ReadsAhead};
+use crate::frames::ends_heavy;
+use crate::incoming::{Cutting, Incoming, Piece};
+use crate::kind::Gate;
 use crate::limits::SessionLimits;
 use crate::outgoing::Outgoing;
 use crate::patience::Waits;
 use crate::rest::Rest;
 use crate::window::Window;
+use four_letter::Word;
 use intake::{Full, Message, Port, PortEnd};
 use observer_core::Output;
 use std::alloc::Global;
 use std::io::{ErrorKind, Read, Write};
-use std::sync::Wait;
+use std::sync::{Arc, Wait};
 use std::time::{Clock, Duration, Instant};
 use std::{io, thread};
 use values::{Fault, NoMemory};
@@ -58,6 +65,8 @@ struct Session {
     outgoing: Outgoing,
     // The client's frames that wait for their answers.
     window: Window,
+    // The places of those that were sent on ahead.
+    places: OwnReadsAhead,
     // A message for which there was no room.
     held: Option<Message>,
     // Frames were sent on, and no others are sent before these are taken.
@@ -87,6 +96,7 @@ impl Session {
         alloc: Global,
         cutting: Cutting,
         limits: SessionLimits,
+        places: OwnReadsAhead,
         port: Port,
     ) -> Session {
         Session {
@@ -97,6 +107,7 @@ impl Session {
             incoming: Incoming::new(alloc, cutting),
             outgoing: Outgoing::new(alloc),
             window: Window::new(),
+            places,
             held: None,
             untaken: false,
             refuses: false,
@@ -173,7 +184,9 @@ impl Session {
             return None;
         }
         match self.incoming.waiting().first_chunk::<4>() {
-            Some(word) if self.limits.words.refuses(*word) => Some(*word),
+            Some(word) if Word::from_bytes(*word).is_some() && !self.limits.words.allows(*word) => {
+                Some(*word)
+            }
             _ => None,
         }
     }
@@ -191,14 +204,49 @@ impl Session {
         }
     }
 
+    // The next piece that may be sent on. A read behind a write needs a place.
+    fn next_piece(&mut self) -> Option<Piece>
+        ensures within { IfSome result (λ p. p.len ≤ length self.old.incoming.bytes) }
+        ensures room { IfSome result (λ p. p.frames ≤ room_in self.old.window) }
+        ensures kept { (self.new.incoming ≡ self.old.incoming) × (self.new.window ≡ self.old.window) }
+    {
+        let room = self.window.room();
+        if self.window.all_answered() {
+            self.places.give_back();
+            return self.incoming.next(room, Gate::Open);
+        }
+        let next = self.incoming.next(room, Gate::Narrow);
+        if next.is_some() || room == 0 || !self.incoming.is_ready() {
+            return next;
+        }
+        let ahead = self
+            .incoming
+            .next(room.min(self.places.left()), Gate::Ahead)?;
+        self.places.fill(ahead.frames);
+        Some(ahead)
+    }
+
+    // Tells the hub where a piece may be costly: a word, or one that ends with a frame of unbounded cost. The further
+    // parts of a frame are as its first part.
+    fn tell_cost(&self, piece: Piece)
+        requires { piece.len ≤ length self.now.incoming.bytes }
+    {
+        let bytes = &self.incoming.waiting()[..piece.len];
+        if self.window.is_new() {
+            // A connect begins with a zero.
+            self.port.set_heavy(bytes.first() != Some(&0));
+        } else if piece.frames > 0 {
+            self.port.set_heavy(ends_heavy(bytes));
+        }
+    }
+
     // Sends on the next piece of the waiting bytes.
     fn send_next(&mut self) -> Step {
         if self.untaken && !self.port.is_drained() {
             return Step::Idle;
         }
         self.untaken = false;
-        let settled = self.window.is_settled();
-        let mut next = self.incoming.next(self.window.room(), settled);
+        let mut next = self.next_piece();
         if next.is_none() && self.ended && !self.incoming.is_ready() {
             next = self.incoming.last();
         }
@@ -208,6 +256,7 @@ impl Session {
         if let Some(word) = self.refused_word() {
             return self.refuse(word);
         }
+        self.tell_cost(piece);
         let Ok(bytes) = self.incoming.take(self.alloc, piece) else {
             return self.want_memory();
         };
@@ -243,7 +292,7 @@ impl Session {
 
     // Reads, or rests if there is no room or the stream has ended.
     fn read<T: Clock, R: Read + Rest>(&mut self, rt: &T, reader: &mut R) -> Step {
-        if self.ended && !self.untaken && self.window.is_settled() {
+        if self.ended && !self.untaken && self.window.all_answered() {
             return Step::Over;
         }
         if self.ended || self.incoming.is_full() {
@@ -321,6 +370,7 @@ impl Session {
     // Sends the `End`, and waits until it is taken. Meanwhile it takes outputs, too: while much is under way for a port,
     // none of its messages is taken.
     fn end<T: Wait + Clock, R: Rest>(&mut self, rt: &T, reader: &mut R) {
+        self.places.give_back();
         let mut end = Some(Message::End);
         for _ in rt.forever() {
             self.drop_outputs();
@@ -351,6 +401,7 @@ impl Session {
             incoming,
             outgoing,
             window: _,
+            places,
             held,
             untaken: _,
             refuses: _,
@@ -360,6 +411,7 @@ impl Session {
             wants_memory,
         } = self;
         drop(incoming);
+        drop(places);
         drop(held);
         let fault = outgoing.fault().or(late_fault);
         drop(outgoing);
@@ -375,14 +427,10 @@ impl Session {
 // `End` is sent.
 fn converse<T: Wait + Clock, R: Read + Rest + Drop, W: Write + Drop>(
     rt: &T,
-    alloc: Global,
-    cutting: Cutting,
-    limits: SessionLimits,
+    mut session: Session,
     mut reader: R,
     mut writer: W,
-    port: Port,
 ) -> LeaderGone {
-    let mut session = Session::new(rt, alloc, cutting, limits, port);
     session.run(rt, &mut reader, &mut writer);
     drop(writer);
     session.end(rt, &mut reader);
@@ -393,12 +441,14 @@ fn converse<T: Wait + Clock, R: Read + Rest + Drop, W: Write + Drop>(
 /// Serves a client, from its connection's first byte to its end.
 ///
 /// It sends `Up`, and then what the reader brings: at most 16 whole frames at once, and the next ones when these are
-/// taken and the answers are written. It ends if a read or a write fails, if the reader is at its end, or if the engine
-/// closes the connection; then it writes nothing more, sends `End`, and finishes its port when that is taken. No
+/// taken and the answers are written. What the engine would hold until the leader answers is sent on when all frames
+/// before it are answered, or where it has a place among those that all sessions share. A four-letter word that isn't
+/// allowed is refused. It ends if a read or a write fails, if the reader is at its end, if a limit has passed, or if the
+/// engine closes the connection; then it writes nothing more, sends `End`, and finishes its port when that is taken. No
 /// message is dropped: one that finds the port full is sent again.
 ///
-/// A reader that would block returns `WouldBlock`, after a wait for whatever may change that: bytes, room to write, or
-/// the hub's bell. A `read` into an empty buffer asks it only to wait.
+/// A reader that has nothing returns `WouldBlock`, and is then asked to rest until that may have changed, or there is
+/// room to write, or the hub has something.
 pub fn session_loop<T: Wait + Clock, R: Read + Rest + Drop, W: Write + Drop>(
     rt: &T,
     alloc: Global,
@@ -406,16 +456,20 @@ pub fn session_loop<T: Wait + Clock, R: Read + Rest + Drop, W: Write + Drop>(
     writer: W,
     port: Port,
     limits: SessionLimits,
+    ahead: Arc<ReadsAhead, Global>,
 ) -> PortEnd {
+    let places = OwnReadsAhead::new(Some(ahead));
+    let session = Session::new(rt, alloc, Cutting::Frames, limits, places, port);
     let LeaderGone {
         port,
         fault: _,
         wants_memory: _,
-    } = converse(rt, alloc, Cutting::Frames, limits, reader, writer, port);
+    } = converse(rt, session, reader, writer);
     port.finish()
 }
 
-/// Follows the leader: like `session_loop`, but sends on whatever a read brings, and gives the port back.
+/// Follows the leader: like `session_loop`, but without limits. It sends on whatever a read brings, and gives the port
+/// back.
 pub fn leader_loop<T: Wait + Clock, R: Read + Rest + Drop, W: Write + Drop>(
     rt: &T,
     alloc: Global,
@@ -423,13 +477,8 @@ pub fn leader_loop<T: Wait + Clock, R: Read + Rest + Drop, W: Write + Drop>(
     writer: W,
     port: Port,
 ) -> LeaderGone {
-    converse(
-        rt,
-        alloc,
-        Cutting::Reads,
-        SessionLimits::none(),
-        reader,
-        writer,
-        port,
-    )
+    let places = OwnReadsAhead::new(None);
+    let limits = SessionLimits::none();
+    let session = Session::new(rt, alloc, Cutting::Reads, limits, places, port);
+    converse(rt, session, reader, writer)
 }

@@ -1,7 +1,7 @@
 //! How many frames of a client may be sent on.
 
 ghost use Rattle.std.specs.Prelude.{◌≡◌, ◌≤◌, not};
-ghost use Rattle.connection_loop.specs.Windows.{is_notice, new_window, room_in, is_settled, is_new, with_sent, with_answer, with_output_noted};
+ghost use Rattle.connection_loop.specs.Windows.{is_notice, new_window, room_in, all_answered, is_new, with_sent, with_answer, with_output_noted};
 
 use crate::kind::after_int;
 use observer_core::Output;
@@ -76,8 +76,8 @@ impl Window {
     }
 
     /// Whether all frames are answered.
-    pub fn is_settled(&self) -> bool
-        ensures { result ≡ is_settled self.now }
+    pub fn all_answered(&self) -> bool
+        ensures { result ≡ all_answered self.now }
     {
         self.owed == 0
     }
@@ -86,7 +86,7 @@ impl Window {
     pub fn is_new(&self) -> bool
         ensures { result ≡ is_new self.now }
     {
-        self.is_connecting() && self.is_settled()
+        self.is_connecting() && self.all_answered()
     }
 
     /// Whether no answer has come yet.

@@ -1,6 +1,8 @@
 //! The threads of connections.
 
-use connection_loop::{Bell, LeaderGone, SessionLimits, Sides, leader_loop, session_loop, split};
+use connection_loop::{
+    Bell, LeaderGone, ReadsAhead, SessionLimits, Sides, leader_loop, session_loop, split,
+};
 use intake::{Port, PortEnd};
 use mio::net::TcpStream;
 use std::alloc::Global;
@@ -64,6 +66,7 @@ pub fn start_client<R: Threads + Wait + Net + Clock + Copy + Send + 'static>(
     handed: Handed,
     address: IpAddr,
     limits: SessionLimits,
+    ahead: Arc<ReadsAhead, Global>,
 ) -> io::Result<Client> {
     let Sides {
         reader,
@@ -74,7 +77,7 @@ pub fn start_client<R: Threads + Wait + Net + Clock + Copy + Send + 'static>(
     let handle = Builder::new().stack_size(STACK).spawn(rt, move || {
         let port = handed.lock(&mine).take();
         match port {
-            Some(port) => Some(session_loop(&mine, alloc, reader, writer, port, limits)),
+            Some(port) => Some(session_loop(&mine, alloc, reader, writer, port, limits, ahead)),
             None => None,
         }
     })?;

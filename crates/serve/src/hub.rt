@@ -6,7 +6,7 @@ use crate::leading::Leading;
 use crate::log_keeping::LogKeeper;
 use crate::record::Record;
 use apply_workers::OpenGate;
-use connection_loop::{Sides, split};
+use connection_loop::{ReadsAhead, Sides, split};
 use intake::{Budget, Desk, Port, Unlimited, Waker as HubWaker};
 use log::Log;
 use mio::net::TcpStream;
@@ -45,6 +45,7 @@ pub struct Hub<L, W> {
     pub(crate) leading: Leading,
     pub(crate) log_keeper: LogKeeper,
     pub(crate) bounds: Bounds,
+    ahead: Arc<ReadsAhead, Global>,
     // No port is served meanwhile whose last messages were costly.
     pause: Pause,
     pub(crate) clients: BTreeMap<usize, Client>,
@@ -65,6 +66,7 @@ pub struct Parts {
     pub leading: Leading,
     pub log_keeper: LogKeeper,
     pub bounds: Bounds,
+    pub ahead: Arc<ReadsAhead, Global>,
     pub from_acceptor: Consumer<Accepted>,
     pub door: Arc<Door, Global>,
 }
@@ -82,6 +84,7 @@ impl<L: Log, W: Write + Drop> Hub<L, W> {
             leading,
             log_keeper,
             bounds,
+            ahead,
             from_acceptor,
             door,
         } = parts;
@@ -94,6 +97,7 @@ impl<L: Log, W: Write + Drop> Hub<L, W> {
             leading,
             log_keeper,
             bounds,
+            ahead,
             pause: Pause::default(),
             clients: BTreeMap::new(alloc),
             slow_ended: 0,
@@ -150,9 +154,10 @@ impl<L: Log, W: Write + Drop> Hub<L, W> {
         address: IpAddr,
     ) -> Result<(), Failure> {
         let limits = self.bounds.session;
+        let ahead = Arc::try_clone(&self.ahead)?;
         match self.clients.entry(number)? {
             Entry::Vacant(entry) => {
-                entry.insert(start_client(rt, self.alloc, sides, handed, address, limits)?);
+                entry.insert(start_client(rt, self.alloc, sides, handed, address, limits, ahead)?);
                 Ok(())
             }
             Entry::Occupied(_) => Err(Failure::NoThread),

@@ -8,6 +8,7 @@ use crate::logging::{Logging, start_logging};
 use crate::record::Record;
 use crate::silence::SilenceLimits;
 use batcher::SpreadThreshold;
+use connection_loop::ReadsAhead;
 use following::Finding;
 use intake::Desk;
 use leader_search::{Finder, find_all, search_among};
@@ -23,7 +24,7 @@ use std::alloc::Global;
 use std::io::Write;
 use std::net::{Net, TcpStream};
 use std::rt::{Env, Files};
-use std::sync::Wait;
+use std::sync::{Arc, Wait};
 use std::thread::{JoinHandle, Threads};
 use std::time::{Clock, Duration, SystemTime};
 use std::{fs, io, net, slice, thread};
@@ -35,6 +36,10 @@ const WORTH_THREADS: SpreadThreshold = SpreadThreshold {
     bytes: 8_388_608,
     reads: 16_384,
 };
+
+// How many reads of all clients are sent on before the leader has answered what came before them. One packet of the
+// leader releases their answers at once.
+const READS_AHEAD: usize = 64;
 
 // The counter that session ids begin after: the one that is given, or that of the clock, so that the ids of two runs
 // differ.
@@ -213,6 +218,7 @@ fn prepare<R: Net + Clock>(
         leading: Leading::new(source, limits, options.give_up),
         log_keeper: LogKeeper::new(options.checkpoint),
         bounds,
+        ahead: Arc::new(alloc, ReadsAhead::new(READS_AHEAD))?,
         from_acceptor,
         door,
     };

@@ -13,10 +13,11 @@ const MOST_TIME: u64 = 20_000;
 // The same for the bytes that clients are answered.
 const MOST_ANSWERED: usize = 4 * 1024 * 1024;
 
-// The messages of a port are costly if they take longer, in microseconds, or are answered by more bytes.
-const COSTLY_TIME: u64 = 1000;
+// The messages of a port are costly if they take longer, in microseconds, or are answered by more bytes. The time is more
+// than this thread is mostly held up where the machine is busy, and the bytes are more than 16 small answers have.
+const COSTLY_TIME: u64 = 4000;
 
-const COSTLY_ANSWERED: usize = 64 * 1024;
+const COSTLY_ANSWERED: usize = 1024 * 1024;
 
 // Costly messages that take longer in a turn, in microseconds, are followed by a pause, which is so many times as long:
 // meanwhile no port is served whose last messages were costly. So the other clients seldom wait for one.

@@ -3,7 +3,7 @@
 use crate::rows::{connect, create, create_session, get, got};
 use crate::streams::{Shared, Source, Target};
 use apply_workers::OpenGate;
-use connection_loop::{SessionLimits, whole_frames};
+use connection_loop::{ReadsAhead, SessionLimits, whole_frames};
 use intake::{Desk, Message, Port};
 use observer_core::{Config, Output, default_limits};
 use serve::session_loop;
@@ -193,11 +193,11 @@ fn run_at<R: Threads + Wait + Clock + Copy + Send + Sync + 'static>(
     let target = target_of(rt, way, shared)?;
     let port = desk.add_port(way.capacity)?;
     let limits = way.limits;
+    let ahead = Arc::new(alloc, ReadsAhead::new(0))?;
     let mine = *rt;
-    let session = Builder::new().stack_size(256 * 1024).spawn(
-        rt,
-        move || session_loop(&mine, alloc, source, target, port, limits),
-    )?;
+    let session = Builder::new().stack_size(256 * 1024).spawn(rt, move || {
+        session_loop(&mine, alloc, source, target, port, limits, ahead)
+    })?;
     let taken = take_all(rt, desk, seen);
     let end = session.join(rt);
     seen.left = desk.turn(rt, &OpenGate).unwrap_or(1);
@@ -447,9 +447,11 @@ fn run_led_on<R: Threads + Wait + Clock + Copy + Send + Sync + 'static>(
     };
     let source = source_of(rt, way, bytes, shared)?;
     let target = target_of(rt, way, shared)?;
+    let ahead = Arc::new(alloc, ReadsAhead::new(0))?;
     let mine = *rt;
     let session = Builder::new().stack_size(256 * 1024).spawn(rt, move || {
-        session_loop(&mine, alloc, source, target, port, SessionLimits::none())
+        let limits = SessionLimits::none();
+        session_loop(&mine, alloc, source, target, port, limits, ahead)
     })?;
     let mut pieces = Vec::new(alloc);
     pieces.push(next_piece(rt, alloc, desk, 2, 1000)?.unwrap_or(Vec::new(alloc)))?;

@@ -93,7 +93,9 @@ fn bounds_for_clients_are_read(rt: HostRuntime) -> Result<(), Fail> {
     };
     assert!(rt; options.max_per_address == Some(60) && options.max_under_way == 1);
     assert!(rt; options.unconnected == 0 && options.words.wchp && options.words.ruok);
-    assert!(rt; !options.words.isro && !options.words.srvr && !options.words.mntr && !options.words.wchs);
+    assert!(rt;
+        !options.words.isro && !options.words.srvr && !options.words.mntr && !options.words.wchs
+    );
     Ok(())
 }
 
@@ -102,7 +104,10 @@ fn words_are_shown_as_they_are_given(rt: HostRuntime) -> Result<(), Fail> {
     let alloc = rt.alloc();
     for (line, wanted) in [
         ("--leader 1 --client 2", "ruok,isro,srvr,mntr,wchs"),
-        ("--leader 1 --client 2 --words all", "ruok,isro,srvr,mntr,wchs,wchp"),
+        (
+            "--leader 1 --client 2 --words all",
+            "ruok,isro,srvr,mntr,wchs,wchp",
+        ),
         ("--leader 1 --client 2 --words none", "none"),
         ("--leader 1 --client 2 --words wchp,ruok,ruok", "ruok,wchp"),
     ] {
