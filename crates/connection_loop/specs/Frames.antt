@@ -31,10 +31,12 @@ goes_with Heavy Narrow = false
 goes_with Heavy Ahead = false
 goes_with Heavy Open = true
 
--- The gate after a frame, before its answer.
+-- The gate after a frame, before its answer. Those that go ahead all have places, also after one for the leader.
 abbrev pub gate_after : FrameKind → Gate → Gate
 gate_after Light gate = gate
-gate_after Forwarded gate = Narrow
+gate_after Forwarded Narrow = Narrow
+gate_after Forwarded Ahead = Ahead
+gate_after Forwarded Open = Narrow
 gate_after Local gate = gate
 gate_after Heavy gate = Narrow
 

@@ -44,13 +44,17 @@ pub fn goes_with(kind: FrameKind, gate: Gate) -> bool
     }
 }
 
-// The gate after a frame, before its answer.
+// The gate after a frame, before its answer. Those that go ahead all have places, also after one for the leader.
 fn gate_after(kind: FrameKind, gate: Gate) -> Gate
     ensures { result ≡ gate_after kind gate }
 {
     match kind {
         FrameKind::Light | FrameKind::Local => gate,
-        FrameKind::Forwarded | FrameKind::Heavy => Gate::Narrow,
+        FrameKind::Forwarded => match gate {
+            Gate::Ahead => Gate::Ahead,
+            Gate::Narrow | Gate::Open => Gate::Narrow,
+        },
+        FrameKind::Heavy => Gate::Narrow,
     }
 }
 
@@ -64,8 +68,8 @@ fn goes_last(kind: FrameKind) -> bool
 }
 
 /// How many of the whole frames at the front, at most `most`, are sent on as one piece. A frame that the engine would
-/// hold isn't among them after one for the leader, nor where the gate is narrow. A frame of unbounded cost goes only
-/// through an open gate, and is the last one; so is a length out of bounds.
+/// hold isn't among them after one for the leader, unless they go ahead, nor where the gate is narrow. A frame of
+/// unbounded cost goes only through an open gate, and is the last one; so is a length out of bounds.
 pub fn frames_going(bytes: &[u8], most: usize, gate: Gate) -> usize
     ensures going { result ≡ frames_going most gate bytes.now }
     ensures bound { result ≤ most }
