@@ -76,7 +76,8 @@ class Server:
 
     def __init__(self, program):
         with socket.create_server(("127.0.0.1", 0)) as listener:
-            words = [program, "serve", "--leader", str(listener.getsockname()[1]), "--client", "0"]
+            # This leader sends no PINGs, so its silence means nothing.
+            words = [program, "serve", "--leader", str(listener.getsockname()[1]), "--client", "0", "--sync-limit", "0"]
             self.ran = subprocess.Popen(words, stdin=subprocess.DEVNULL, stdout=subprocess.PIPE, encoding="ascii")
             listener.settimeout(60)
             self.leader, _ = listener.accept()

@@ -115,7 +115,8 @@ class Tools:
         """The program behind a leader. It ends when the leader has gone."""
         with running(self.writes) as peers:
             leader = line_of(peers, BEGINNING)[1]
-            with running(program, "serve", "--leader", leader, "--client", "0") as ran:
+            # This leader sends no PINGs, so its silence means nothing.
+            with running(program, "serve", "--leader", leader, "--client", "0", "--sync-limit", "0") as ran:
                 yield Observer(peers, ran, line_of(ran, BEGINNING)[1])
                 peers.stdin.close()
 
