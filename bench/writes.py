@@ -3,7 +3,7 @@
 
     bench/writes.py PROGRAM                 as bench/writes.py crates/replay_runner/out/replay_runner
     bench/writes.py PROGRAM --before OTHER  beside another program too, as one of an earlier version
-    bench/writes.py PROGRAM --only waiting  one of pipelined, waiting, before
+    bench/writes.py PROGRAM --only waiting  one of pipelined, waiting, before; `waiting` in no other way
     bench/writes.py PROGRAM --install       gets Debian's C compiler first, where there is none (as root)
 
 The leader and the clients are bench/writes.c, one thread of one process; the leader does what comes at once. `cc`
@@ -12,7 +12,8 @@ compiles it into a folder that is removed again. Measured are
 - pipelined: one client that sets a node and reads it, again and again, with 1,000 requests under way;
 - waiting: 1,000 connections with 1,000 requests each that wait for the leader: a setData or a sync, and getDatas that
   are held after it. Then the leader answers, connection by connection. The same is done with half the connections, and
-  with half the requests on each, and the times that a request takes are compared;
+  with half the requests on each, and the times that a request takes are compared. It is for programs whose engine
+  holds such reads; a later one leaves all but a few of them in their sockets, and then this comes to no end;
 - before: what doesn't wait, beside the other program: a backlog of INFORMs that answer nobody, and 8 clients with 100
   getDatas under way each.
 
@@ -232,7 +233,7 @@ def read_options():
 
 
 def measure(tools, options, figures):
-    wanted = [it for it in MEASURED if options.only in (None, it)]
+    wanted = [options.only] if options.only else [it for it in MEASURED if it != "waiting"]
     if "pipelined" in wanted:
         pipelined(tools, options, figures)
     if "waiting" in wanted:
