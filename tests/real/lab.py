@@ -196,7 +196,8 @@ class Observer:
 
     def start(self, quorum, client=0, *options):
         """Starts it behind one leader, and waits until it says on which port it serves."""
-        self.run("--leader", quorum, "--client", client, "--id", self.number, "--log", *options)
+        given = ("--client", client, "--id", self.number, "--words", "all", "--log")
+        self.run("--leader", quorum, *given, *options)
 
     def run(self, *options):
         """Starts it with these options, and waits until it says on which port it serves."""
