@@ -93,6 +93,14 @@ impl<R: Clock> Rest for Source<R> {
     }
 }
 
+// Copies at most so many bytes from this place on, as many as there is room for, and returns their number.
+fn copy_front(bytes: &[u8], at: usize, most: usize, room: &mut [u8]) -> usize {
+    let rest = bytes.get(at..).unwrap_or(&[]);
+    let count = rest.len().min(most).min(room.len());
+    room[..count].copy_from_slice(&rest[..count]);
+    count
+}
+
 impl<R> Read for Source<R> {
     fn read(&mut self, buf: &mut [u8]) -> io::Result<usize> {
         if buf.is_empty() {
@@ -105,9 +113,7 @@ impl<R> Read for Source<R> {
         if self.fails() {
             return Err(io::Error::from(ErrorKind::ConnectionReset));
         }
-        let rest = self.bytes.get(self.at..).unwrap_or(&[]);
-        let count = rest.len().min(self.most).min(buf.len());
-        buf[..count].copy_from_slice(&rest[..count]);
+        let count = copy_front(self.bytes.as_slice(), self.at, self.most, buf);
         self.at = self.at.saturating_add(count);
         Ok(count)
     }
