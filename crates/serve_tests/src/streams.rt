@@ -1,5 +1,7 @@
 //! Streams in memory whose k-th read or write fails.
 
+ghost use Rattle.std.specs.Prelude.{◌≤◌, length};
+
 use connection_loop::Rest;
 use std::alloc::Global;
 use std::io::{ErrorKind, Read, Write};
@@ -94,7 +96,9 @@ impl<R: Clock> Rest for Source<R> {
 }
 
 // Copies at most so many bytes from this place on, as many as there is room for, and returns their number.
-fn copy_front(bytes: &[u8], at: usize, most: usize, room: &mut [u8]) -> usize {
+fn copy_front(bytes: &[u8], at: usize, most: usize, room: &mut [u8]) -> usize
+    ensures { result ≤ length room.new }
+{
     let rest = bytes.get(at..).unwrap_or(&[]);
     let count = rest.len().min(most).min(room.len());
     room[..count].copy_from_slice(&rest[..count]);
