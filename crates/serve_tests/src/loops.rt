@@ -377,8 +377,9 @@ fn inform(
     session: [u8; 8],
 ) -> Result<(), Fail> {
     let mut bytes = Vec::new(alloc);
-    bytes.extend_from_slice(transaction)?;
-    bytes[16..24].copy_from_slice(&session);
+    bytes.extend_from_slice(transaction.get(..16).unwrap_or(&[]))?;
+    bytes.extend_from_slice(&session)?;
+    bytes.extend_from_slice(transaction.get(24..).unwrap_or(&[]))?;
     match leader.send(Message::Bytes(Blob::from_vec(bytes))) {
         Ok(()) => Ok(()),
         Err(_) => Err(Fail::from("full")),
@@ -416,7 +417,8 @@ fn asked_session(leader: &mut Port) -> Result<[u8; 8], Fail> {
             break;
         };
         if let Output::ToLeader(request) = output {
-            if let Some(session) = request.as_slice()[16..].first_chunk::<8>() {
+            let rest = request.as_slice().get(16..).unwrap_or(&[]);
+            if let Some(session) = rest.first_chunk::<8>() {
                 return Ok(*session);
             }
         }
@@ -528,7 +530,7 @@ fn who_says_nothing_is_closed(rt: HostRuntime) -> Result<(), Fail> {
         unconnected: 50,
         ..SessionLimits::none()
     };
-    for bytes in [&b""[..], &get()[..7]] {
+    for bytes in [&b""[..], get().get(..7).unwrap_or(&[])] {
         let seen = run_open(&rt, rt.alloc(), Way { limits, ..well() }, bytes)?;
         assert!(rt; is_framed(&seen) && seen.pieces == 0);
     }
