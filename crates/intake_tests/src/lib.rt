@@ -5,8 +5,6 @@
 #![tactic(auto)]
 
 #[cfg(test)]
-mod budgets;
-#[cfg(test)]
 mod helpers;
 #[cfg(test)]
 mod ports;
