@@ -66,6 +66,17 @@ def watching(client, count, at_once):
     return client
 
 
+def leave_watches(client, at_once, most):
+    """A client leaves watches, so many with each request, until it is closed. Returns how many were left."""
+    for first in range(0, most, at_once):
+        try:
+            client.sendall(watches(paths(first, at_once)))
+            assert forwarded.replied(client)[::2] == (-8, 0)
+        except (ConnectionError, struct.error):
+            return first
+    return most
+
+
 # ---- how it is asked for
 
 
@@ -194,14 +205,17 @@ def test_long_requests_over_and_over():
 
 
 def test_many_watches():
-    """One connection leaves watch after watch."""
-    with Attacked() as server:
-        count = scaled(30_000, 200_000)
+    """One connection leaves watch after watch, until it is closed, which gives back their memory."""
+    # By --long with the bound that there is without the option.
+    words = scaled(("--max-watches", "100000"), ())
+    with Attacked(*words) as server:
         # Memory that the C library keeps after the first is used for the second.
         for left in (1000, LEFT):
-            # How many there may be isn't bounded.
             with Beside("many watches of one connection", server, most_held=1000, most_left=left) as beside:
-                watching(beside.client(), count, 10_000)
+                count = leave_watches(beside.client(), 10_000, scaled(200_000, 1_500_000))
+                beside.are_closed(30)
+            print(f"  {count} watches")
+            assert scaled(100_000, 1_000_000) < count <= scaled(120_000, 1_020_000), count
 
 
 def test_small_requests_and_then_long_ones():

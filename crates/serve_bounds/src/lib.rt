@@ -1,5 +1,5 @@
-//! What keeps the connections of clients within bounds: how many there may be, and what a turn of the hub may spend on
-//! them.
+//! What keeps the connections of clients within bounds: how many there may be, what a turn of the hub may spend on them,
+//! and how many watches each may leave.
 //!
 //! An [`Acceptor`] takes connections on a thread of its own, and closes those for which there is no place: in all, or of
 //! one address ([`Places`]). A [`TurnBudget`] tells the desk when a turn has done enough for clients, and which of their
@@ -18,7 +18,9 @@
 mod accept;
 mod budget;
 mod stopwatch;
+mod watching;
 
 pub use accept::{Accepted, Accepting, Acceptor, Door, Places, accept_all, open_door};
 pub use budget::{Pause, TurnBudget};
 pub use stopwatch::Stopwatch;
+pub use watching::are_too_many;
