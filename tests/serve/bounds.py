@@ -166,8 +166,8 @@ def test_watches_of_a_connection():
         assert watched(server) == [0, 0, 0]
         assert "connections with too many watches were closed: --max-watches" in server.ends()
     with Server("--max-watches", "0") as server:
-        client = watching(server.client(), 150_000, 50_000)
-        assert watched(server) == [1, 150_000, 150_000] and server.answers(client)
+        client = watching(server.client(), 20_000, 10_000)
+        assert watched(server) == [1, 20_000, 20_000] and server.answers(client)
         client.close()
         server.ends()
 
