@@ -218,6 +218,22 @@ def test_many_watches():
             assert scaled(100_000, 1_000_000) < count <= scaled(120_000, 1_020_000), count
 
 
+def test_many_watches_at_once():
+    """Of many setWatches that one connection sends together, one is taken: that oversteps, and the connection is closed."""
+    with Attacked("--max-watches", "1000") as server:
+        with Beside("36 setWatches of 20,000 paths each beyond --max-watches", server) as beside:
+            client, asked = beside.client(), 36 * watches(paths(0, 20_000))
+            # What it has sent besides is taken when the pause after so long a request is over.
+            client.settimeout(60)
+            try:
+                client.sendall(asked)
+                told(client)
+            except ConnectionError:
+                pass
+            beside.are_closed(30)
+            assert b"watches:0" in server.word(b"wchs")
+
+
 def test_small_requests_and_then_long_ones():
     with Attacked() as server:
         path = listed(server.leader, 100_000)

@@ -149,18 +149,9 @@ def test_watches_of_a_connection():
         one_more.sendall(watches(paths(0, 1000)) + GET[:-1] + b"\1")
         assert forwarded.replied(one_more)[::2] == (-8, 0) and got(one_more)
         assert is_closed(one_more)
-        # All that one can send within a short time: 10 requests of 950 kB.
-        greedy, request = server.client(), watches(paths(0, 73_000))
-        try:
-            greedy.sendall(10 * request)
-            assert forwarded.replied(greedy)[::2] == (-8, 0)
-            while greedy.recv(1 << 18):
-                pass
-        except (ConnectionError, struct.error):
-            pass
-        assert wait_until(lambda: watched(server) == [1, 1000, 1000], 10), watched(server)
+        assert wait_until(lambda: watched(server) == [1, 1000, 1000], 5), watched(server)
         assert server.answers(good)
-        for it in (good, one_more, greedy):
+        for it in (good, one_more):
             it.close()
         assert server.is_at_base() and wait_until(lambda: server.descriptors() <= base, 5), server.descriptors()
         assert watched(server) == [0, 0, 0]
