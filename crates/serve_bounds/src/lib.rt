@@ -3,8 +3,9 @@
 //!
 //! An [`Acceptor`] takes connections on a thread of its own, and closes those for which there is no place: in all, or of
 //! one address ([`Places`]). A [`TurnBudget`] tells the desk when a turn has done enough for clients, and which of their
-//! messages are costly; after a turn in which these took long there is a [`Pause`] for them. All of it is proved safe;
-//! that it does what it says is tested over sockets.
+//! messages are costly; after a turn in which these took long there is a [`Pause`] for them. It is proved how places are
+//! counted (`places.rt`), how a pause lasts, and which watches are too many; the rest is proved safe, and tested over
+//! sockets.
 //!
 //! ```text
 //! let Accepting { acceptor, from_acceptor, door } = open_door(net, alloc, listener, places)?;
@@ -17,6 +18,7 @@
 
 mod accept;
 mod budget;
+mod places;
 mod stopwatch;
 mod watching;
 
