@@ -1,13 +1,16 @@
-"""Rows in which many requests of clients wait for the leader."""
+"""Rows in which many requests of clients wait for the leader, or few with much in them."""
+import base64
+import hashlib
 import struct
 
 from records import (
-    AUTH, CREATE, ERROR, EXISTS, INFORM, NODE_EXISTS, NO_NODE, OPEN_ACL, SYNC, SYNCED, buffer, client, create,
+    AUTH, AUTH_FAILED, CREATE, ERROR, EXISTS, INFORM, NODE_EXISTS, NO_NODE, OPEN_ACL, SYNC, SYNCED, buffer, client, create,
     forwarded, from_client, joined, leader, packet, reply, request, session_of, transaction,
 )
 
 FIRST = 1 << 32  # the zxid of epoch 1 before its first transaction
 LIMIT = 1024  # of the requests of one connection that wait
+BYTES_OF_IDS = 65_536  # that the ids of one connection may have, schemes included
 PING = request(-2, 11, b"")
 CREATED, CONNECTED = 1, 3  # an event's type, and the state in it
 
@@ -50,6 +53,32 @@ def forwarded_limit():
     wanted += [reply(-2, FIRST + 1, 0)] * (LIMIT - 1)
     wanted += [forwarded(session_of(1), frame) for frame in creates]
     wanted += [reply(2, FIRST + 2, NODE_EXISTS), b"C 1 close", b"end zxid=0x100000003 paths=4", b""]
+    return b"\n".join(script), b"\n".join(wanted)
+
+
+def shown(user):
+    """A client's frame that shows an id, and that id."""
+    text = user + b":"
+    id_of_user = b"digest", text + base64.b64encode(hashlib.sha1(text).digest())
+    return request(-4, AUTH, struct.pack(">i", 0) + buffer(b"digest") + buffer(text)), id_of_user
+
+
+def forwarded_ids():
+    """The ids of a connection may have 65,536 bytes together, and each request has them all. One that was shown before
+    is taken once more; one more is refused and closes the connection, however short it is, and so is one that is a
+    byte too long."""
+    short, _ = shown(b"")
+    least = sum(map(len, shown(b"")[1]))
+    half, other = (shown(letter * (BYTES_OF_IDS // 2 - least)) for letter in (b"a", b"b"))
+    longer, _ = shown(b"c" * (BYTES_OF_IDS // 2 - least + 1))
+    first, last = asked_create(1, b"/a"), asked_create(2, b"/b")
+    lines, answers = joined(2, FIRST + 1)
+    script = [b"server 3", b"primed", from_client(half[0] + other[0] + first), from_client(half[0] + short + last)]
+    script += [*lines, from_client(half[0] + last, 2), from_client(longer + last, 2), b""]
+    wanted = [reply(-4, 0, 0)] * 2 + [forwarded(session_of(1), first, [half[1], other[1]])]
+    wanted += [reply(-4, 0, 0), reply(-4, 0, AUTH_FAILED), b"C 1 close", *answers]
+    wanted += [reply(-4, 0, 0, connection=2), forwarded(session_of(2), last, [half[1]])]
+    wanted += [reply(-4, 0, AUTH_FAILED, connection=2), b"C 2 close", b"end zxid=0x100000001 paths=3", b""]
     return b"\n".join(script), b"\n".join(wanted)
 
 

@@ -6,7 +6,7 @@ CREATE, EXISTS, GET_DATA, SET_DATA, GET_CHILDREN, SYNC, AUTH, SET_WATCHES, ERROR
 CREATE_SESSION, CLOSE_SESSION = -10, -11
 REQUEST, PROPOSAL, ACK, COMMIT, PING, SYNCED, INFORM, NEW_LEADER, UP_TO_DATE = 1, 2, 3, 4, 5, 7, 8, 10, 12
 DIFF, TRUNC, SNAP, OBSERVER_INFO, LEADER_INFO, ACK_EPOCH = 13, 14, 15, 16, 17, 18
-NO_NODE, NODE_EXISTS, PROTOCOL = -101, -110, 0x10000
+NO_NODE, NODE_EXISTS, AUTH_FAILED, PROTOCOL = -101, -110, -115, 0x10000
 TIMEOUT = 10000
 ENTRY = struct.pack(">i", 31) + b"\0\0\0\5world" + b"\0\0\0\6anyone"
 OPEN_ACL = struct.pack(">i", 1) + ENTRY
@@ -96,10 +96,12 @@ def to_leader(content):
     return b"L " + content.hex().encode()
 
 
-def forwarded(session, frame):
-    """The line that tells of a client's frame that goes to the leader, of a connection that has shown no ids."""
+def forwarded(session, frame, ids=()):
+    """The line that tells of a client's frame that goes to the leader, with the ids that its connection has shown, each
+    a scheme and a text."""
     content = struct.pack(">q", session) + frame[4:]
-    return to_leader(struct.pack(">iq", REQUEST, -1) + buffer(content) + struct.pack(">i", 0))
+    shown = struct.pack(">i", len(ids)) + b"".join(buffer(scheme) + buffer(text) for scheme, text in ids)
+    return to_leader(struct.pack(">iq", REQUEST, -1) + buffer(content) + shown)
 
 
 def reply(xid, zxid, err, body=b"", connection=1):

@@ -11,9 +11,11 @@ import forwarded
 import several
 from beside import LEFT, Attacked, Beside
 from leader import CREATE, buffer, received
-from server import PING, PINGED_LEN
+from server import PING, PINGED_LEN, is_closed
 
-GET_CHILDREN, AUTH, SET_WATCHES = 8, 100, 101
+DELETE, GET_CHILDREN, AUTH, SET_WATCHES = 2, 8, 100, 101
+AUTH_FAILED = -115
+MEGABYTE = 1_000_000
 REFUSED = b"wchp is not executed because it is not in the whitelist.\n"
 
 
@@ -40,9 +42,23 @@ def watches(those):
     return forwarded.frame(-8, SET_WATCHES, struct.pack(">q", 1 << 32) + bytes(4) + many + bytes(4))
 
 
+def shows(text):
+    return forwarded.frame(-4, AUTH, bytes(4) + buffer(b"digest") + buffer(text))
+
+
 def auth(size):
     """An auth with so many bytes, of which a digest is made."""
-    return forwarded.frame(-4, AUTH, bytes(4) + buffer(b"digest") + buffer(b"me:" + bytes(size)))
+    return shows(b"me:" + bytes(size))
+
+
+def user(number, size):
+    """An auth that shows an id of so many bytes, with a few more for its digest."""
+    return shows(b"%0*d:" % (size, number))
+
+
+def deletes(count):
+    """Deletes of 22 bytes."""
+    return count * forwarded.frame(1, DELETE, buffer(b"/a") + struct.pack(">i", -1))
 
 
 # ---- what there is
@@ -202,6 +218,50 @@ def test_long_requests_over_and_over():
             with Beside(name, server) as beside:
                 turns = repeat(beside.client(), request, count, beside.began + scaled(2, 20))
             print(f"  {turns} times")
+
+
+def is_refused(client):
+    """Returns whether the next reply refuses an id, and the connection is closed then."""
+    return forwarded.replied(client)[::2] == (-4, AUTH_FAILED) and is_closed(client)
+
+
+def insist(client, count):
+    """Sends auths with ids of a megabyte, and then deletes, as far as the server takes them."""
+    try:
+        for number in range(count):
+            client.sendall(user(number, MEGABYTE))
+        client.sendall(deletes(100))
+    except ConnectionError:
+        pass
+
+
+def test_ids_of_a_megabyte():
+    """No id is taken that would make every later request of its connection long."""
+    with Attacked() as server:
+        with Beside("256 auths with ids of 1 MB, and then deletes", server) as beside:
+            client = beside.client()
+            client.sendall(user(0, MEGABYTE))
+            assert is_refused(client)
+            for _ in range(scaled(4, 20)):
+                insist(beside.client(), 256)
+            beside.are_closed(10)
+            assert server.leader.requests.empty()
+
+
+def test_requests_with_many_ids():
+    """The leader is sent 64 KiB of ids for a small request at most."""
+    with Attacked() as server:
+        count = scaled(200, 1000)
+        with Beside("63 auths with ids of 1 kB, and then deletes", server) as beside:
+            client = beside.client()
+            client.sendall(b"".join(user(number, 1000) for number in range(63)) + deletes(count))
+            for _ in range(63):
+                assert forwarded.replied(client)[::2] == (-4, 0)
+            for _ in range(count):
+                ids = server.leader.asked().ids
+                assert len(ids) == 63 and sum(len(part) for one in ids for part in one) <= 1 << 16
+            client.sendall(user(63, 1000))
+            assert is_refused(client)
 
 
 def test_many_watches():

@@ -5,7 +5,7 @@ use std::sync::Arc;
 use std::sync::atomic::{AtomicUsize, Ordering};
 
 // How many places a connection has at most.
-const MOST_PLACES: usize = 16;
+const MOST_PLACES: usize = 32;
 
 /// Places for the reads of all clients that the engine may hold: one packet of the leader releases no more answers to
 /// reads than these.

@@ -1,6 +1,6 @@
 -- No event lets the counter of ids fall, and each id that is asked for is a new one.
-use Rattle.std.proofs.Common.{◌≡◌, ◌⊎◌, inl, inr, ℕ, ◌+◌, ◌^◌, ◌<◌, ◌≤◌, ◌==◌, ℤ, pos, Bool, true, false, cond, List, [], ◌∷◌, length, Option, Some, None, refl, sym, ap, subst, ◌∙◌, arith}
-use Rattle.std.specs.Prelude.{is_some, nat_lt, IsTrue}
+use Rattle.std.proofs.Common.{◌≡◌, ◌⊎◌, inl, inr, ℕ, ◌+◌, ◌^◌, ◌<◌, ◌≤◌, ◌==◌, ℤ, pos, Bool, true, false, cond, List, [], ◌∷◌, Option, Some, None, refl, sym, ap, subst, ◌∙◌, arith}
+use Rattle.std.specs.Prelude.{is_some, IsTrue}
 use Rattle.std.specs.List.{list_any}
 use Rattle.std.specs.Ordering.{eq_by_cmp, nat_cmp, int_cmp}
 use Rattle.std.specs.Cmp.{int_cmp_total}
@@ -13,7 +13,7 @@ use Rattle.settings.specs.Settings.{is_server_id}
 use Rattle.jute.specs.declared.owned.Id.{Id}
 use Rattle.sessions.specs.Credentials.{session_id_of, digest_id}
 use Rattle.sessions.specs.State.{SessionTable as Sessions, ConnectedClient, session_table_of}
-use Rattle.sessions.specs.Sessions.{greatest_counter, close_as, close_connection, close_if_some, connection_of, ConnectResult, refused_connect, session_response, give_session, name_session, AuthResult, ids_limit, is_same_id, with_id, show_in, digest_text, auth_by, add_auth}
+use Rattle.sessions.specs.Sessions.{greatest_counter, close_as, close_connection, close_if_some, connection_of, ConnectResult, refused_connect, session_response, give_session, name_session, AuthResult, are_within_limits, is_same_id, with_id, show_in, digest_text, auth_by, add_auth}
 use Rattle.sessions.specs.Agreement.{IsGivenOut, SessionsAgree, IsNewId, NewIdsAreNew}
 use Rattle.forwarding.specs.declared.request.PendingConnect.{PendingConnect}
 use Rattle.forwarding.specs.Queue.{waiting_connect}
@@ -66,7 +66,7 @@ auth_ids s n scheme bytes = by (digest_text scheme bytes)
     shown id (Some c) =
         cond_both (list_any (λ shown. is_same_id shown id) c.ids) _ _ (λ (x : AuthResult). SameIds s x.after)
         (λ _. record { terms = refl; counter = refl })
-        (λ _. cond_both (nat_lt (length c.ids) ids_limit) _ _ (λ (x : AuthResult). SameIds s x.after)
+        (λ _. cond_both (are_within_limits (with_id c id).ids) _ _ (λ (x : AuthResult). SameIds s x.after)
         (λ _. record { terms = refl; counter = refl }) (λ _. record { terms = refl; counter = refl }))
 
     by : (o : Option (List ℕ)) → SameIds s (auth_by s n o).after

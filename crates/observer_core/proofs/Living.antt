@@ -1,6 +1,6 @@
 -- The session of each connection lives, after every event.
-use Rattle.std.proofs.Common.{◌≡◌, ◌≢◌, ◌⊎◌, inl, inr, ℕ, ◌+◌, ℤ, Bool, true, false, cond, List, [], ◌∷◌, ◌++◌, length, Option, Some, None, Result, Ok, Err, refl, sym, ap, subst, ◌∙◌}
-use Rattle.std.specs.Prelude.{is_some, int_lt, nat_lt}
+use Rattle.std.proofs.Common.{◌≡◌, ◌≢◌, ◌⊎◌, inl, inr, ℕ, ◌+◌, ℤ, Bool, true, false, cond, List, [], ◌∷◌, ◌++◌, Option, Some, None, Result, Ok, Err, refl, sym, ap, subst, ◌∙◌}
+use Rattle.std.specs.Prelude.{is_some, int_lt}
 use Rattle.std.specs.Option.{unwrap_or}
 use Rattle.std.specs.Ordering.{eq_by_cmp, nat_cmp, int_cmp, is_eq}
 use Rattle.std.specs.Cmp.{nat_cmp_total, int_cmp_total}
@@ -53,7 +53,7 @@ use Rattle.forwarding.specs.Queue.{waiting_connect, answered_write}
 use Rattle.forwarding.specs.Pending.{queue_of, connecting_to, pending_close, settle_sync}
 use Rattle.sessions.specs.Credentials.{digest_id}
 use Rattle.sessions.specs.State.{SessionTable as Sessions, ConnectedClient as SessionConnection}
-use Rattle.sessions.specs.Sessions.{session_in, session_of_connection, connection_of, close_connection, close_if_some, new_connection, give_session, AuthResult, ids_limit, is_same_id, with_id, show_in, digest_text, auth_by, add_auth}
+use Rattle.sessions.specs.Sessions.{session_in, session_of_connection, connection_of, close_connection, close_if_some, new_connection, give_session, AuthResult, are_within_limits, is_same_id, with_id, show_in, digest_text, auth_by, add_auth}
 use Rattle.client_service.specs.declared.world.Settings.{Settings}
 use Rattle.client_service.specs.World.{Clients, World}
 use Rattle.client_service.specs.Clients.{heard_connection, no_clients}
@@ -241,7 +241,7 @@ auth_fewer s n scheme bytes m session = by (digest_text scheme bytes)
     shown id None there = λ e. e
     shown id (Some c) there =
         cond_both (list_any (λ shown. is_same_id shown id) c.ids) _ _ Fewer (λ _ e. e)
-        (λ _. cond_both (nat_lt (length c.ids) ids_limit) _ _ Fewer (λ _. added c id there) (λ _ e. e))
+        (λ _. cond_both (are_within_limits (with_id c id).ids) _ _ Fewer (λ _. added c id there) (λ _ e. e))
 
     by : (o : Option (List ℕ)) → Fewer (auth_by s n o)
     by None = λ e. e

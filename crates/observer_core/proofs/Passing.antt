@@ -1,7 +1,7 @@
 -- A predicate of connection numbers that holds for all keys of a map, and for all connections with a session, a watch
 -- or a request that waits.
-use Rattle.std.proofs.Common.{◌≡◌, ◌≢◌, ℕ, ℤ, Bool, true, false, ◌||◌, List, [], ◌∷◌, length, Option, Some, None, refl, sym, ap, subst, ◌∙◌}
-use Rattle.std.specs.Prelude.{is_some, nat_lt}
+use Rattle.std.proofs.Common.{◌≡◌, ◌≢◌, ℕ, ℤ, Bool, true, false, ◌||◌, List, [], ◌∷◌, Option, Some, None, refl, sym, ap, subst, ◌∙◌}
+use Rattle.std.specs.Prelude.{is_some}
 use Rattle.std.specs.List.{list_any}
 use Rattle.std.specs.Ordering.{eq_by_cmp, nat_cmp}
 use Rattle.std.specs.Cmp.{nat_cmp_total, eq_by_cmp_equiv}
@@ -15,7 +15,7 @@ use mathlib.Core.Bool.{true≢false}
 use Rattle.jute.specs.declared.owned.Id.{Id}
 use Rattle.sessions.specs.Credentials.{digest_id}
 use Rattle.sessions.specs.State.{ConnectedClient, SessionTable}
-use Rattle.sessions.specs.Sessions.{AuthResult, new_connection, ids_limit, is_same_id, with_id, connection_of, close_connection, close_as, close_if_some, give_session, show_in, digest_text, auth_by, add_auth}
+use Rattle.sessions.specs.Sessions.{AuthResult, new_connection, are_within_limits, is_same_id, with_id, connection_of, close_connection, close_as, close_if_some, give_session, show_in, digest_text, auth_by, add_auth}
 use Rattle.watch_manager.specs.Pairs.{WatchPairs, watch_cmp, same_connection}
 use Rattle.watch_manager.specs.Watching.{WatchTables}
 use Rattle.watch_manager.specs.Lasting.{LastingWatches}
@@ -87,7 +87,7 @@ module _ (test : ℕ → Bool) where
     shown_passes id None = all
     shown_passes id (Some c) =
         cond_both (list_any (λ shown. is_same_id shown id) c.ids) _ _ (λ (x : AuthResult). Pass x.after) (λ _. all)
-        (λ _. cond_both (nat_lt (length c.ids) ids_limit) _ _ (λ (x : AuthResult). Pass x.after)
+        (λ _. cond_both (are_within_limits (with_id c id).ids) _ _ (λ (x : AuthResult). Pass x.after)
         (λ _. inserted_passes test s.connections n (with_id c id) here all) (λ _. all))
 
     pub auth_passes : (scheme bytes : Option (List ℕ)) → Pass (add_auth s n scheme bytes).after
@@ -127,7 +127,7 @@ auth_none s n scheme bytes k none = by (digest_text scheme bytes)
     shown id None there = none
     shown id (Some c) there =
         cond_both (list_any (λ shown. is_same_id shown id) c.ids) _ _ Still (λ _. none)
-        (λ _. cond_both (nat_lt (length c.ids) ids_limit) _ _ Still (λ _. added c id there) (λ _. none))
+        (λ _. cond_both (are_within_limits (with_id c id).ids) _ _ Still (λ _. added c id there) (λ _. none))
 
     by : (o : Option (List ℕ)) → Still (auth_by s n o)
     by None = none

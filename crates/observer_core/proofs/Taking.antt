@@ -1,6 +1,6 @@
 -- A connection has its session for as long as it is open.
-use Rattle.std.proofs.Common.{◌≡◌, ◌≢◌, ℕ, ℤ, pos, Bool, true, false, cond, List, length, Option, Some, None, Result, Ok, Err, sym, ap, ◌∙◌}
-use Rattle.std.specs.Prelude.{is_some, nat_lt}
+use Rattle.std.proofs.Common.{◌≡◌, ◌≢◌, ℕ, ℤ, pos, Bool, true, false, cond, List, Option, Some, None, Result, Ok, Err, sym, ap, ◌∙◌}
+use Rattle.std.specs.Prelude.{is_some}
 use Rattle.std.specs.List.{list_any}
 use Rattle.std.specs.Ordering.{eq_by_cmp, nat_cmp, int_eq}
 use Rattle.std.specs.Cmp.{nat_cmp_total}
@@ -12,7 +12,7 @@ use Rattle.jute.specs.Stream.{Unread}
 use Rattle.jute.specs.declared.owned.Id.{Id}
 use Rattle.sessions.specs.Credentials.{digest_id}
 use Rattle.sessions.specs.State.{SessionTable as Sessions, ConnectedClient as Joined}
-use Rattle.sessions.specs.Sessions.{session_in, session_of_connection, close_as, close_if_some, close_connection, ids_limit, is_same_id, with_id, AuthResult, show_in, digest_text, auth_by, add_auth}
+use Rattle.sessions.specs.Sessions.{session_in, session_of_connection, close_as, close_if_some, close_connection, are_within_limits, is_same_id, with_id, AuthResult, show_in, digest_text, auth_by, add_auth}
 use Rattle.sessions.specs.declared.request.SessionResponse.{SessionResponse}
 use Rattle.forwarding.specs.Pending.{is_full}
 use Rattle.client_frames.specs.declared.call.Call.{Call}
@@ -40,7 +40,7 @@ module _ (s : Sessions) (n : ℕ) where
   show_keeps id session (Some c) is has =
       cond_both (list_any (λ shown. is_same_id shown id) c.ids) _ _
       (λ (x : AuthResult). session_of_connection x.after n ≡ Some session) (λ _. has)
-      (λ _. cond_both (nat_lt (length c.ids) ids_limit) _ _
+      (λ _. cond_both (are_within_limits (with_id c id).ids) _ _
       (λ (x : AuthResult). session_of_connection x.after n ≡ Some session)
       (λ _. ap session_in (get-inserted s.connections n (with_id c id)) ∙ is) (λ _. has))
 

@@ -1,9 +1,10 @@
 -- The steps that keep sessions and connections in agreement.
-use Rattle.std.proofs.Common.{◌≡◌, ◌⊎◌, inl, inr, ℕ, ◌+◌, ◌^◌, ◌<◌, ◌≤◌, ℤ, false, List, [], ◌∷◌, ◌++◌, length, Option, Some, None, refl, sym, ap, subst, ◌∙◌, arith, length-append}
-use Rattle.std.specs.Prelude.{IsTrue}
+use Rattle.std.proofs.Common.{◌≡◌, ◌⊎◌, inl, inr, ℕ, ◌+◌, ◌^◌, ◌<◌, ◌≤◌, ℤ, true, false, List, [], ◌∷◌, ◌++◌, length, Option, Some, None, refl, sym, ap, subst, ◌∙◌, arith}
+use Rattle.std.specs.Prelude.{IsTrue, nat_le}
 use Rattle.std.specs.Ordering.{eq_by_cmp, nat_cmp, int_cmp}
 use Rattle.std.specs.List.{All}
 use Rattle.std.specs.Cmp.{nat_cmp_total, int_cmp_total}
+use Rattle.std.proofs.lemmas.Bool.{leb-true}
 use Rattle.std.proofs.lemmas.List.Elements.{All-nil, All-push}
 use Rattle.std.proofs.lemmas.Map.Lookups.{exact_unsigned, exact_signed}
 use Rattle.std.specs.FinMap as finmap
@@ -11,8 +12,9 @@ use Rattle.settings.specs.Settings.{is_server_id, is_first_counter}
 use Rattle.jute.specs.Owned.{id_format}
 use Rattle.jute.specs.declared.owned.Id.{Id}
 use Rattle.sessions.specs.State.{SessionSettings, ConnectedClient, SessionOwners, ConnectedClients, SessionTable, session_table_of}
-use Rattle.sessions.specs.Sessions.{no_sessions, close_connection, close_as, close_if_some, expire_owner, session_response, give_session, new_connection, with_session_connected, with_id, ids_in, ids_of, ids_limit}
+use Rattle.sessions.specs.Sessions.{no_sessions, close_connection, close_as, close_if_some, expire_owner, session_response, give_session, new_connection, with_session_connected, with_id, ids_in, ids_of, ids_limit, ids_bytes_limit, bytes_of_ids, are_within_limits}
 use Rattle.sessions.specs.Agreement.{SessionsAgree, SessionsAreApart}
+use Rattle.sessions.proofs.Cases.{first_of, second_of}
 use Rattle.sessions.proofs.Numbers.{first_below}
 use Rattle.session_map.proofs.Maps.{none-some, some-some, apart, other, same_or_other, inserted, inserted_elsewhere, removed, removed_elsewhere, at_inserted, at_removed, remove_absent, insert_removed, remove_past_insert}
 
@@ -39,6 +41,7 @@ none_agree terms counter h below = record {
   owners = λ n c e. absurd (none-some c (sym (finmap.get-empty nat_cmp n) ∙ e));
   connections = λ session n e. absurd (none-some n (sym (finmap.get-empty int_cmp session) ∙ e));
   ids = λ n c e. absurd (none-some c (sym (finmap.get-empty nat_cmp n) ∙ e));
+  bytes = λ n c e. absurd (none-some c (sym (finmap.get-empty nat_cmp n) ∙ e));
   writable = λ n c e. absurd (none-some c (sym (finmap.get-empty nat_cmp n) ∙ e));
 }
 
@@ -67,6 +70,7 @@ closed s n c a here = record {
       ∙ a.owners m d was.1;
   connections = λ session m e. still session m (at_removed int_cmp_total exact_signed s.owners c.session session m e);
   ids = λ m d e. a.ids m d (at_removed nat_cmp_total exact_unsigned s.connections n m d e).1;
+  bytes = λ m d e. a.bytes m d (at_removed nat_cmp_total exact_unsigned s.connections n m d e).1;
   writable = λ m d e. a.writable m d (at_removed nat_cmp_total exact_unsigned s.connections n m d e).1;
 }
   where
@@ -145,6 +149,7 @@ joins s n session a none free = record {
   owners = λ m d e. has m d (at_inserted nat_cmp_total exact_unsigned s.connections n new m d e);
   connections = λ t m e. of t m (at_inserted int_cmp_total exact_signed s.owners session n t m e);
   ids = λ m d e. few m d (at_inserted nat_cmp_total exact_unsigned s.connections n new m d e);
+  bytes = λ m d e. small m d (at_inserted nat_cmp_total exact_unsigned s.connections n new m d e);
   writable = λ m d e. able m d (at_inserted nat_cmp_total exact_unsigned s.connections n new m d e);
 }
   where
@@ -183,6 +188,11 @@ joins s n session a none free = record {
     few : (m : ℕ) (d : ConnectedClient) → AtConnection s.connections n new m d → length d.ids ≤ ids_limit
     few m d (inl b) = subst (λ (x : ConnectedClient). length x.ids ≤ ids_limit) b.1 (omega arith)
     few m d (inr b) = a.ids m d b.1
+
+    small : (m : ℕ) (d : ConnectedClient) → AtConnection s.connections n new m d
+        → bytes_of_ids d.ids ≤ ids_bytes_limit
+    small m d (inl b) = subst (λ (x : ConnectedClient). bytes_of_ids x.ids ≤ ids_bytes_limit) b.1 (omega arith)
+    small m d (inr b) = a.bytes m d b.1
 
     able : (m : ℕ) (d : ConnectedClient) → AtConnection s.connections n new m d → All id_format.Writable d.ids
     able m d (inl b) = subst (λ (x : ConnectedClient). All id_format.Writable x.ids) b.1 (All-nil id_format.Writable)
@@ -271,6 +281,13 @@ few_ids s n a = by (finmap.get s.connections n) refl
     by None e = omega arith
     by (Some c) e = a.ids n c e
 
+pub small_ids : (s : SessionTable) (n : ℕ) → SessionsAgree s → bytes_of_ids (ids_of s n) ≤ ids_bytes_limit
+small_ids s n a = by (finmap.get s.connections n) refl
+  where
+    by : (o : Option ConnectedClient) → finmap.get s.connections n ≡ o → bytes_of_ids (ids_in o) ≤ ids_bytes_limit
+    by None e = omega arith
+    by (Some c) e = a.bytes n c e
+
 pub writable_ids : (s : SessionTable) (n : ℕ) → SessionsAgree s → All id_format.Writable (ids_of s n)
 writable_ids s n a = by (finmap.get s.connections n) refl
   where
@@ -280,16 +297,24 @@ writable_ids s n a = by (finmap.get s.connections n) refl
 
 -- ---- an id is added
 
+-- Ids within the limits are few, and so are their bytes.
+are_few : (ids : List Id) → are_within_limits ids ≡ true → length ids ≤ ids_limit
+are_few ids fit = leb-true (length ids) ids_limit (first_of (nat_le (length ids) ids_limit) _ fit)
+
+are_small : (ids : List Id) → are_within_limits ids ≡ true → bytes_of_ids ids ≤ ids_bytes_limit
+are_small ids fit = leb-true (bytes_of_ids ids) ids_bytes_limit (second_of (nat_le (length ids) ids_limit) _ fit)
+
 pub shows : (s : SessionTable) (n : ℕ) (c : ConnectedClient) (id : Id) → SessionsAgree s
     → finmap.get s.connections n ≡ Some c
-    → length c.ids < ids_limit → id_format.Writable id
+    → are_within_limits (with_id c id).ids ≡ true → id_format.Writable id
     → SessionsAgree (record s { connections = finmap.insert s.connections n (with_id c id) })
-shows s n c id a here below writable = record {
+shows s n c id a here fit writable = record {
   server_id = a.server_id;
   counter = a.counter;
   owners = λ m d e. has m d (at_inserted nat_cmp_total exact_unsigned s.connections n (with_id c id) m d e);
   connections = λ t m e. of t m e (same_or t m e);
   ids = λ m d e. few m d (at_inserted nat_cmp_total exact_unsigned s.connections n (with_id c id) m d e);
+  bytes = λ m d e. small m d (at_inserted nat_cmp_total exact_unsigned s.connections n (with_id c id) m d e);
   writable = λ m d e. able m d (at_inserted nat_cmp_total exact_unsigned s.connections n (with_id c id) m d e);
 }
   where
@@ -319,10 +344,14 @@ shows s n c id a here below writable = record {
         (old.0, inserted_elsewhere nat_cmp_total exact_unsigned s.connections n (with_id c id) m f ∙ old.1)
 
     few : (m : ℕ) (d : ConnectedClient) → AtConnection s.connections n (with_id c id) m d → length d.ids ≤ ids_limit
-    few m d (inl b) =
-        subst (λ (x : ConnectedClient). length x.ids ≤ ids_limit) b.1
-        (let e : length (c.ids ++ id ∷ []) ≡ length c.ids + 1 = length-append c.ids (id ∷ []) in omega arith)
+    few m d (inl b) = subst (λ (x : ConnectedClient). length x.ids ≤ ids_limit) b.1 (are_few (with_id c id).ids fit)
     few m d (inr b) = a.ids m d b.1
+
+    small : (m : ℕ) (d : ConnectedClient) → AtConnection s.connections n (with_id c id) m d
+        → bytes_of_ids d.ids ≤ ids_bytes_limit
+    small m d (inl b) =
+        subst (λ (x : ConnectedClient). bytes_of_ids x.ids ≤ ids_bytes_limit) b.1 (are_small (with_id c id).ids fit)
+    small m d (inr b) = a.bytes m d b.1
 
     able : (m : ℕ) (d : ConnectedClient) → AtConnection s.connections n (with_id c id) m d
         → All id_format.Writable d.ids
@@ -341,5 +370,6 @@ counts s a below = record {
   owners = a.owners;
   connections = a.connections;
   ids = a.ids;
+  bytes = a.bytes;
   writable = a.writable;
 }

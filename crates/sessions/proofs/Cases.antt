@@ -1,6 +1,7 @@
 -- A claim that holds in each case of a conditional holds for the conditional.
-use Rattle.std.proofs.Common.{◌≡◌, Bool, true, false, ◌&&◌, ◌+◌, ◌==◌, ℤ, None, refl, ap}
+use Rattle.std.proofs.Common.{◌≡◌, Bool, true, false, ◌&&◌, ◌+◌, ◌==◌, ℤ, None, refl, sym, ap}
 use Rattle.std.specs.Prelude.{if◌then◌else◌}
+use mathlib.Core.Bool.{true≢false}
 use Rattle.sessions.specs.Credentials.{session_id_of}
 use Rattle.sessions.specs.State.{SessionTable}
 use Rattle.sessions.specs.Sessions.{ConnectResult, greatest_counter, session_response, refused_connect, name_session}
@@ -13,6 +14,10 @@ at_if P false x y f g = g refl
 pub first_of : (a b : Bool) → (a && b) ≡ true → a ≡ true
 first_of true b e = refl
 first_of false b e = e
+
+pub second_of : (a b : Bool) → (a && b) ≡ true → b ≡ true
+second_of true b e = e
+second_of false b e = absurd (true≢false (sym e))
 
 -- The id with the next counter is given out.
 abbrev pub next_named : SessionTable → ℤ → ConnectResult

@@ -1,10 +1,10 @@
 -- Sessions and connections agree after each step.
-use Rattle.std.proofs.Common.{◌≡◌, ℕ, ◌+◌, ◌^◌, ◌<◌, ◌==◌, ℤ, pos, Bool, true, false, List, length, Option, Some, None, refl, sym, ap, subst, ◌∙◌, arith}
-use Rattle.std.specs.Prelude.{nat_lt, if◌then◌else◌}
+use Rattle.std.proofs.Common.{◌≡◌, ℕ, ◌+◌, ◌^◌, ◌<◌, ◌==◌, ℤ, pos, Bool, true, false, List, Option, Some, None, refl, sym, ap, subst, ◌∙◌, arith}
+use Rattle.std.specs.Prelude.{if◌then◌else◌}
 use Rattle.std.specs.List.{list_any}
 use Rattle.std.specs.Ordering.{int_eq}
 use Rattle.std.specs.Cmp.{nat_cmp_total}
-use Rattle.std.proofs.lemmas.Bool.{eqb-false, ltb-true}
+use Rattle.std.proofs.lemmas.Bool.{eqb-false}
 use Rattle.std.proofs.lemmas.Map.Lookups.{exact_unsigned}
 use Rattle.std.specs.FinMap as finmap
 use mathlib.Core.Bool.{true≢false}
@@ -13,7 +13,7 @@ use Rattle.jute.specs.declared.owned.Id.{Id}
 use Rattle.sessions.specs.declared.request.SessionRequest.{SessionRequest}
 use Rattle.sessions.specs.Credentials.{digest_id}
 use Rattle.sessions.specs.State.{ConnectedClient, SessionTable}
-use Rattle.sessions.specs.Sessions.{ConnectResult, AuthResult, ExpireResult, greatest_counter, ids_limit, is_same_id, is_valid, session_of_connection, session_in, connection_of, close_as, close_if_some, expire_owner, new_connection, give_session, name_session, connect_session, show_in, digest_text, auth_by}
+use Rattle.sessions.specs.Sessions.{ConnectResult, AuthResult, ExpireResult, greatest_counter, are_within_limits, is_same_id, with_id, is_valid, session_of_connection, session_in, connection_of, close_as, close_if_some, expire_owner, new_connection, give_session, name_session, connect_session, show_in, digest_text, auth_by}
 use Rattle.sessions.specs.Agreement.{SessionsAgree, AgreementIsKept, ResponsesNameSessions, nonzero_session}
 use Rattle.sessions.proofs.Ids.{digest_is_writable}
 use Rattle.sessions.proofs.Texts.{is_short}
@@ -44,8 +44,8 @@ shows_in : (s : SessionTable) (n : ℕ) (id : Id) (o : Option ConnectedClient) �
 shows_in s n id None w e a = a
 shows_in s n id (Some c) w e a =
     at_if (λ (x : AuthResult). SessionsAgree x.after) (list_any (λ shown. is_same_id shown id) c.ids) _ _ (λ _. a)
-    (λ _. at_if (λ (x : AuthResult). SessionsAgree x.after) (nat_lt (length c.ids) ids_limit) _ _
-    (λ few. shows s n c id a e (ltb-true (length c.ids) ids_limit few) w) (λ _. a))
+    (λ _. at_if (λ (x : AuthResult). SessionsAgree x.after) (are_within_limits (with_id c id).ids) _ _
+    (λ fit. shows s n c id a e fit w) (λ _. a))
 
 shows_by : (s : SessionTable) (n : ℕ) (scheme bytes o : Option (List ℕ)) → digest_text scheme bytes ≡ o
     → SessionsAgree s → SessionsAgree (auth_by s n o).after

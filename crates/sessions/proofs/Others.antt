@@ -1,6 +1,5 @@
 -- A step leaves other connections.
-use Rattle.std.proofs.Common.{◌≡◌, ◌≢◌, ℕ, ◌==◌, ℤ, pos, Bool, false, List, length, Option, Some, None, refl, sym, ap, ◌∙◌}
-use Rattle.std.specs.Prelude.{nat_lt}
+use Rattle.std.proofs.Common.{◌≡◌, ◌≢◌, ℕ, ◌==◌, ℤ, pos, Bool, false, List, Option, Some, None, refl, sym, ap, ◌∙◌}
 use Rattle.std.specs.List.{list_any}
 use Rattle.std.specs.Ordering.{int_eq, eq_by_cmp, nat_cmp}
 use Rattle.std.specs.Cmp.{nat_cmp_total}
@@ -10,7 +9,7 @@ use Rattle.jute.specs.declared.owned.Id.{Id}
 use Rattle.sessions.specs.declared.request.SessionRequest.{SessionRequest}
 use Rattle.sessions.specs.Credentials.{digest_id}
 use Rattle.sessions.specs.State.{ConnectedClient, SessionTable}
-use Rattle.sessions.specs.Sessions.{ConnectResult, AuthResult, greatest_counter, ids_limit, is_same_id, with_id, is_valid, connection_of, close_as, close_if_some, new_connection, give_session, connect_session, show_in, digest_text, auth_by}
+use Rattle.sessions.specs.Sessions.{ConnectResult, AuthResult, greatest_counter, are_within_limits, is_same_id, with_id, is_valid, connection_of, close_as, close_if_some, new_connection, give_session, connect_session, show_in, digest_text, auth_by}
 use Rattle.sessions.specs.Agreement.{OtherConnectionsStay}
 use Rattle.sessions.proofs.Cases.{at_if}
 use Rattle.session_map.proofs.Maps.{other, inserted_elsewhere, removed_elsewhere}
@@ -39,7 +38,7 @@ shows_in : (s : SessionTable) (n : ℕ) (id : Id) (o : Option ConnectedClient) (
 shows_in s n id None m apart = refl
 shows_in s n id (Some c) m apart =
     at_if (λ (x : AuthResult). Stays s m x.after) (list_any (λ shown. is_same_id shown id) c.ids) _ _ (λ _. refl)
-    (λ _. at_if (λ (x : AuthResult). Stays s m x.after) (nat_lt (length c.ids) ids_limit) _ _
+    (λ _. at_if (λ (x : AuthResult). Stays s m x.after) (are_within_limits (with_id c id).ids) _ _
     (λ _. put_elsewhere s m n (with_id c id) apart) (λ _. refl))
 
 shows_by : (s : SessionTable) (n : ℕ) (o : Option (List ℕ)) (m : ℕ) → m ≢ n → Stays s m (auth_by s n o).after

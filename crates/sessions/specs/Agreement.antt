@@ -9,7 +9,7 @@ use Rattle.jute.specs.declared.owned.Id.{Id}
 use Rattle.sessions.specs.Credentials.{session_id_of}
 use Rattle.sessions.specs.declared.request.SessionRequest.{SessionRequest}
 use Rattle.sessions.specs.State.{SessionSettings, ConnectedClient, SessionTable}
-use Rattle.sessions.specs.Sessions.{ids_limit, no_sessions, session_of_connection, is_valid, give_session, name_session, connect_session, add_auth, close_connection, expire_owner}
+use Rattle.sessions.specs.Sessions.{ids_limit, ids_bytes_limit, bytes_of_ids, no_sessions, session_of_connection, is_valid, give_session, name_session, connect_session, add_auth, close_connection, expire_owner}
 
 -- The server has given the id out with one of its counters so far. Those up to its first counter count as given.
 pub record IsGivenOut (server_id : ℤ) (counter : ℕ) (session : ℤ) : Type 0 where
@@ -28,8 +28,10 @@ pub record SessionsAgree (s : SessionTable) : Type 0 where
   -- The connection of a session has that session.
   pub connections : (session : ℤ) (n : ℕ) → finmap.get s.owners session ≡ Some n
       → (ids : List Id) × (finmap.get s.connections n ≡ Some (record { session = session; ids = ids }))
-  -- No connection has more ids than the limit.
+  -- No connection has more ids than the limit, or more bytes of them.
   pub ids : (n : ℕ) (c : ConnectedClient) → finmap.get s.connections n ≡ Some c → length c.ids ≤ ids_limit
+  pub bytes : (n : ℕ) (c : ConnectedClient) → finmap.get s.connections n ≡ Some c
+      → bytes_of_ids c.ids ≤ ids_bytes_limit
   -- Each id can be written in a packet to the leader.
   pub writable : (n : ℕ) (c : ConnectedClient) → finmap.get s.connections n ≡ Some c → All id_format.Writable c.ids
 

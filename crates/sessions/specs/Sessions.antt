@@ -1,7 +1,7 @@
 -- What connecting, adding an id, closing and ending do to the sessions of an observer's connections.
-use Rattle.std.specs.Prelude.{ℕ, ◌+◌, ◌-◌, ◌^◌, ◌==◌, ◌&&◌, nat_lt, nat_le, ℤ, pos, int_lt, List, [], ◌∷◌, ◌++◌, length, replicate, codes, Option, None, Some, Bool, true, false, if◌then◌else◌}
+use Rattle.std.specs.Prelude.{ℕ, ◌+◌, ◌-◌, ◌^◌, ◌==◌, ◌&&◌, nat_le, ℤ, pos, int_lt, List, [], ◌∷◌, ◌++◌, length, replicate, codes, Option, None, Some, Bool, true, false, if◌then◌else◌}
 use Rattle.std.specs.Ordering.{int_eq}
-use Rattle.std.specs.List.{list_any}
+use Rattle.std.specs.List.{list_any, sum_by}
 use Rattle.std.specs.Str.{bytes_eq, is_utf8}
 use Rattle.std.specs.FinMap as finmap
 use Rattle.settings.specs.Settings.{TimeoutPair}
@@ -154,9 +154,23 @@ pub record AuthResult : Type 0 where
 abbrev pub is_same_id : Id → Id → Bool
 is_same_id a b = bytes_eq a.scheme b.scheme && bytes_eq a.id b.id
 
--- The most ids that a connection may add.
+-- The most ids that a connection may have.
 abbrev pub ids_limit : ℕ
 ids_limit = 1024
+
+-- The most bytes that they may have all together, since each request to the leader carries them.
+abbrev pub ids_bytes_limit : ℕ
+ids_bytes_limit = 2 ^ 16
+
+abbrev pub id_len : Id → ℕ
+id_len id = length id.scheme + length id.id
+
+abbrev pub bytes_of_ids : List Id → ℕ
+bytes_of_ids ids = sum_by id_len ids
+
+-- A connection may have these ids.
+abbrev pub are_within_limits : List Id → Bool
+are_within_limits ids = nat_le (length ids) ids_limit && nat_le (bytes_of_ids ids) ids_bytes_limit
 
 abbrev pub with_id : ConnectedClient → Id → ConnectedClient
 with_id c id = record c { ids = c.ids ++ id ∷ [] }
@@ -166,7 +180,7 @@ abbrev pub show_in : SessionTable → ℕ → Id → Option ConnectedClient → 
 show_in s n id None = record { is_accepted = false; after = s }
 show_in s n id (Some c) =
     if list_any (λ shown. is_same_id shown id) c.ids then record { is_accepted = true; after = s }
-    else if nat_lt (length c.ids) ids_limit then record
+    else if are_within_limits (with_id c id).ids then record
     { is_accepted = true; after = record s { connections = finmap.insert s.connections n (with_id c id) } }
     else record { is_accepted = false; after = s }
 

@@ -30,4 +30,4 @@ mod table;
 
 pub use law::{ended_sessions_are_refused, others_stay, sessions_and_connections_agree};
 pub use request::{Connected, PASSWORD_LEN, SessionRequest, SessionResponse};
-pub use table::{AUTH_LIMIT, IDS_LIMIT, Sessions};
+pub use table::{AUTH_LIMIT, IDS_BYTES_LIMIT, IDS_LIMIT, Sessions};

@@ -2,7 +2,7 @@
 //!
 //! Laws that go over this: `Agreeing`, `Kept`, `NewIds`, `Others`.
 
-ghost use Rattle.std.specs.Prelude.{◌≡◌, ◌≤◌, ℤ, OnErr, IfOk, IfNone, None, nat_lt, length};
+ghost use Rattle.std.specs.Prelude.{◌≡◌, ◌≤◌, ℤ, OnErr, IfOk, IfNone, None, [], ◌∷◌, ◌++◌, length};
 ghost use Rattle.std.specs.Option.{option_copied};
 ghost use Rattle.std.specs.List.{All, list_any};
 ghost use Rattle.std.specs.Ordering.{eq_by_cmp, int_cmp};
@@ -10,7 +10,7 @@ ghost use Rattle.std.specs.Map.Iter.{ShowsInOrder, deref};
 ghost use Rattle.std.specs.FinMap as finmap;
 ghost use Rattle.jute.specs.Owned.{id_format};
 ghost use Rattle.sessions.specs.State.{session_settings_of};
-ghost use Rattle.sessions.specs.Sessions.{no_sessions, session_of_connection, connection_of, ids_of, close_connection, expire_owner, clamped_timeout, session_response, is_valid, give_session, name_session, connect_session, refusal_response, add_id, digest_text, add_auth, ids_limit};
+ghost use Rattle.sessions.specs.Sessions.{no_sessions, session_of_connection, connection_of, ids_of, close_connection, expire_owner, clamped_timeout, session_response, is_valid, give_session, name_session, connect_session, refusal_response, add_id, digest_text, add_auth, ids_limit, ids_bytes_limit, id_len, bytes_of_ids, are_within_limits};
 ghost use Rattle.sessions.specs.Agreement.{SessionsAgree};
 
 use crate::connections::Connections;
@@ -24,8 +24,11 @@ use std::collections::btree_map::Keys;
 use std::marker::Model;
 use values::NoMemory;
 
-/// The most ids that a connection may add.
+/// The most ids that a connection may have.
 pub const IDS_LIMIT: usize = 1024;
+
+/// The most bytes that the ids of a connection may have all together, schemes included.
+pub const IDS_BYTES_LIMIT: usize = 65_536;
 
 /// The most bytes of a text that an id is made of. A client's frame is shorter.
 pub const AUTH_LIMIT: usize = 1_048_576;
@@ -109,11 +112,30 @@ fn digest_text<'a>(scheme: Option<&str>, bytes: Option<&'a [u8]>) -> Option<&'a 
     }
 }
 
-// Whether one more id may be added to these.
-fn has_room(ids: &[Id]) -> bool
-    ensures { result ≡ nat_lt (length ids.now) ids_limit }
+fn id_len(id: &Id) -> usize
+    ensures { result ≡ id_len id.now }
 {
-    ids.len() < IDS_LIMIT
+    id.scheme.as_str().len() + id.id.as_str().len()
+}
+
+// The bytes of all these ids.
+fn bytes_of_ids(ids: &[Id]) -> usize
+    requires { bytes_of_ids ids.now ≤ ids_bytes_limit }
+    ensures { result ≡ bytes_of_ids ids.now }
+{
+    let mut bytes: usize = 0;
+    for id in ids {
+        bytes += id_len(id);
+    }
+    bytes
+}
+
+// Whether the id may be added to these.
+fn has_room(ids: &[Id], id: &Id) -> bool
+    requires { bytes_of_ids ids.now ≤ ids_bytes_limit }
+    ensures { result ≡ are_within_limits (ids.now ++ id.now ∷ []) }
+{
+    ids.len() < IDS_LIMIT && id_len(id) <= IDS_BYTES_LIMIT - bytes_of_ids(ids)
 }
 
 impl Sessions {
@@ -178,11 +200,12 @@ impl Sessions {
         self.connections.count()
     }
 
-    /// The ids of the connection, in the order in which they were added: at most `IDS_LIMIT`, and each can be written
-    /// in a packet.
+    /// The ids of the connection, in the order in which they were added: at most `IDS_LIMIT`, with at most
+    /// `IDS_BYTES_LIMIT` bytes together, and each can be written in a packet.
     pub fn ids(&self, connection: u64) -> &[Id]
         ensures ids { result.now ≡ ids_of self.now connection }
         ensures few { length result.now ≤ ids_limit }
+        ensures bytes { bytes_of_ids result.now ≤ ids_bytes_limit }
         ensures writable { All id_format.Writable result.now }
     {
         match self.connections.get(connection) {
@@ -303,7 +326,7 @@ impl Sessions {
         if shown.ids().contains(&id) {
             return Ok(true);
         }
-        if !has_room(shown.ids()) {
+        if !has_room(shown.ids(), &id) {
             return Ok(false);
         }
         self.connections.show(connection, id)?;
@@ -311,8 +334,9 @@ impl Sessions {
     }
 
     /// Adds the digest id of the bytes "user:password" to a connection. Returns false if that is refused: the scheme
-    /// isn't "digest", the bytes are null, not UTF-8 or more than `AUTH_LIMIT`, the connection has `IDS_LIMIT` ids
-    /// already, or it has no session.
+    /// isn't "digest", the bytes are null, not UTF-8 or more than `AUTH_LIMIT`, the connection has no session, or with
+    /// one more id it would have more than `IDS_LIMIT`, or more bytes of them than `IDS_BYTES_LIMIT`. An id that it has
+    /// already is added no second time, and isn't refused.
     pub fn auth(
         &mut self,
         alloc: Global,

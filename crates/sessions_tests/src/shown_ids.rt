@@ -114,19 +114,60 @@ fn a_connection_shows_1024_ids(rt: HostRuntime) -> Result<(), Fail> {
     Ok(())
 }
 
-// How connection 1 is answered that adds the user of a text of this many bytes, and how many ids it has then.
-fn user_of_len(alloc: Global, len: usize) -> Result<(bool, usize), Fail> {
+// Adds the digest id of a text of one byte, repeated, to connection 1.
+fn show_repeated(
+    alloc: Global,
+    sessions: &mut Sessions,
+    byte: u8,
+    len: usize,
+) -> Result<bool, Fail> {
+    let text = vec![in alloc; byte; len]?;
+    auth(alloc, sessions, Some("digest"), Some(text.as_slice()))
+}
+
+// Whether connection 1 is accepted that shows users of these many letters one after the other, and then the first user
+// again; and how many ids it has then.
+fn two_users(
+    alloc: Global,
+    first: usize,
+    second: usize,
+) -> Result<(bool, bool, bool, usize), Fail> {
     let mut sessions = opened(alloc)?;
-    let text = vec![in alloc; b'u'; len]?;
-    let is_accepted = auth(alloc, &mut sessions, Some("digest"), Some(text.as_slice()))?;
+    let has_first = show_repeated(alloc, &mut sessions, b'a', first)?;
+    let has_second = show_repeated(alloc, &mut sessions, b'b', second)?;
+    let is_first_again = show_repeated(alloc, &mut sessions, b'a', first)?;
+    Ok((has_first, has_second, is_first_again, sessions.ids(1).len()))
+}
+
+// An id has 35 bytes besides its user: "digest", a colon and the 28 letters of a digest.
+#[test]
+fn ids_of_a_connection_have_65536_bytes(rt: HostRuntime) -> Result<(), Fail> {
+    let alloc = rt.alloc();
+    for (first, second, expected) in [
+        (32_733, 32_733, (true, true, true, 2)),
+        (32_733, 32_734, (true, false, true, 1)),
+        (65_501, 0, (true, false, true, 1)),
+        (65_502, 65_501, (false, true, false, 1)),
+        (1_000_000, 1_000_000, (false, false, false, 0)),
+    ] {
+        assert_eq!(rt; two_users(alloc, first, second)?, expected);
+    }
+    Ok(())
+}
+
+// Whether connection 1 is accepted that shows the nameless user of a text of this many bytes, and how many ids it has
+// then.
+fn nameless_user(alloc: Global, len: usize) -> Result<(bool, usize), Fail> {
+    let mut sessions = opened(alloc)?;
+    let is_accepted = show_repeated(alloc, &mut sessions, b':', len)?;
     Ok((is_accepted, sessions.ids(1).len()))
 }
 
 #[test]
 fn a_long_text_is_refused(rt: HostRuntime) -> Result<(), Fail> {
     let alloc = rt.alloc();
-    assert_eq!(rt; user_of_len(alloc, AUTH_LIMIT)?, (true, 1));
-    assert_eq!(rt; user_of_len(alloc, AUTH_LIMIT + 1)?, (false, 0));
+    assert_eq!(rt; nameless_user(alloc, AUTH_LIMIT)?, (true, 1));
+    assert_eq!(rt; nameless_user(alloc, AUTH_LIMIT + 1)?, (false, 0));
     Ok(())
 }
 

@@ -16,7 +16,8 @@ AUTH, SET_WATCHES, ADD_WATCH = 100, 101, 106
 WRITES = (CREATE, DELETE, SET_DATA, SET_ACL, CLOSE_SESSION)
 READS = (EXISTS, GET_DATA, GET_ACL, GET_CHILDREN, GET_CHILDREN2)
 UNIMPLEMENTED, BAD_ARGUMENTS, NO_AUTH, AUTH_FAILED, NOT_READ_ONLY = -6, -8, -102, -115, -119
-REQUEST, FRAME_LIMIT, PENDING_LIMIT, IDS_LIMIT, TOUCHED_LIMIT = 1, 1_048_575, 1024, 1024, 87_381
+REQUEST, FRAME_LIMIT, PENDING_LIMIT, TOUCHED_LIMIT = 1, 1_048_575, 1024, 87_381
+IDS_LIMIT, BYTES_OF_IDS_LIMIT = 1024, 65_536
 LONGEST_REPLY = 2**31 - 1
 GREATEST_COUNTER = 2**56 - 1
 WORDS = (b"ruok", b"isro", b"srvr", b"mntr", b"wchs", b"wchp")
@@ -260,9 +261,10 @@ class Clients:
             return False
         shown = digest_id(text)
         if shown not in it.ids:
-            if len(it.ids) >= IDS_LIMIT:
+            ids = [*it.ids, shown]
+            if len(ids) > IDS_LIMIT or sum(len(part) for one in ids for part in one) > BYTES_OF_IDS_LIMIT:
                 return False
-            it.ids.append(shown)
+            it.ids = ids
         return True
 
     def answer(self, number, it, frame):

@@ -1,7 +1,6 @@
-use Rattle.std.proofs.Common.{◌≡◌, sym, ap, subst, ◌∙◌, Some}
+use Rattle.std.proofs.Common.{sym, subst}
 use Rattle.std.specs.Option.{option_copied}
 use Rattle.jute.specs.Owned.{id_format}
-use Rattle.sessions.specs.Sessions.{digest_text}
 use Rattle.sessions.proofs.Ids.{digest_is_writable}
 use Rattle.sessions.proofs.Texts.{is_short}
 use Rattle.sessions.proofs.table.Sessions.auth.Goals as goal
