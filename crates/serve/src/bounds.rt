@@ -82,7 +82,8 @@ impl<L: Log, W: Write + Drop> Hub<L, W> {
     }
 
     fn watches_too_much(&self, number: usize) -> bool {
-        are_too_many(self.desk.engine().watches_of(number as u64), self.bounds.watches)
+        let watches = self.desk.engine().watches_of(number as u64);
+        are_too_many(watches, self.bounds.watches)
     }
 
     // Ends the connections that have left more watches than one may, among those of which the last turn took messages: the
