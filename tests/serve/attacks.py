@@ -82,6 +82,17 @@ def watching(client, count, at_once):
     return client
 
 
+def leave_watches(client, at_once, most):
+    """A client leaves watches, so many with each request, until it is closed. Returns how many were left."""
+    for first in range(0, most, at_once):
+        try:
+            client.sendall(watches(paths(first, at_once)))
+            assert forwarded.replied(client)[::2] == (-8, 0)
+        except (ConnectionError, struct.error):
+            return first
+    return most
+
+
 # ---- how it is asked for
 
 
@@ -254,14 +265,33 @@ def test_requests_with_many_ids():
 
 
 def test_many_watches():
-    """One connection leaves watch after watch."""
-    with Attacked() as server:
-        count = scaled(30_000, 200_000)
+    """One connection leaves watch after watch, until it is closed, which gives back their memory."""
+    # By --long with the bound that there is without the option.
+    words = scaled(("--max-watches", "100000"), ())
+    with Attacked(*words) as server:
         # Memory that the C library keeps after the first is used for the second.
         for left in (1000, LEFT):
-            # How many there may be isn't bounded.
             with Beside("many watches of one connection", server, most_held=1000, most_left=left) as beside:
-                watching(beside.client(), count, 10_000)
+                count = leave_watches(beside.client(), 10_000, scaled(200_000, 1_500_000))
+                beside.are_closed(30)
+            print(f"  {count} watches")
+            assert scaled(100_000, 1_000_000) < count <= scaled(120_000, 1_020_000), count
+
+
+def test_many_watches_at_once():
+    """Of many setWatches that one connection sends together, one is taken: that oversteps, and the connection is closed."""
+    with Attacked("--max-watches", "1000") as server:
+        with Beside("36 setWatches of 20,000 paths each beyond --max-watches", server) as beside:
+            client, asked = beside.client(), 36 * watches(paths(0, 20_000))
+            # What it has sent besides is taken when the pause after so long a request is over.
+            client.settimeout(60)
+            try:
+                client.sendall(asked)
+                told(client)
+            except ConnectionError:
+                pass
+            beside.are_closed(30)
+            assert b"watches:0" in server.word(b"wchs")
 
 
 def test_small_requests_and_then_long_ones():

@@ -1,7 +1,9 @@
 """What bounds the connections of clients: how many there may be of an address, how long one may say nothing, which words
-it may ask, and how much may wait for those that don't read. And the last words of a leader."""
+it may ask, how much may wait for those that don't read, and how many watches one may leave. And the last words of a
+leader."""
 import fcntl
 import random
+import re
 import socket
 import struct
 import termios
@@ -10,6 +12,7 @@ import time
 import forwarded
 import load
 import several
+from attacks import paths, watches, watching
 from leader import CREATE, received
 from server import (
     CONNECT, CONNECTED_LEN, GET, OBSERVERINFO, UPTODATE, Server, got, hexa, is_closed, reset, wait_until,
@@ -129,6 +132,35 @@ def test_clients_that_do_not_read_beyond_all_bounds():
             it.close()
         assert server.is_at_base()
         assert "--max-under-way" in server.ends()
+
+
+def watched(server):
+    """Returns how many connections watch how many paths, and the number of watches."""
+    return [int(it) for it in re.findall(rb"[0-9]+", server.word(b"wchs"))]
+
+
+def test_watches_of_a_connection():
+    """Who leaves more watches than one may is closed, and they are gone with it; others keep theirs."""
+    with Server("--log", "debug", "--max-watches", "1000") as server:
+        assert server.is_at_base()
+        base, good = server.descriptors(), watching(server.client(), 1000, 500)
+        assert watched(server) == [1, 1000, 1000]
+        one_more = server.client()
+        one_more.sendall(watches(paths(0, 1000)) + GET[:-1] + b"\1")
+        assert forwarded.replied(one_more)[::2] == (-8, 0) and got(one_more)
+        assert is_closed(one_more)
+        assert wait_until(lambda: watched(server) == [1, 1000, 1000], 5), watched(server)
+        assert server.answers(good)
+        for it in (good, one_more):
+            it.close()
+        assert server.is_at_base() and wait_until(lambda: server.descriptors() <= base, 5), server.descriptors()
+        assert watched(server) == [0, 0, 0]
+        assert "connections with too many watches were closed: --max-watches" in server.ends()
+    with Server("--max-watches", "0") as server:
+        client = watching(server.client(), 20_000, 10_000)
+        assert watched(server) == [1, 20_000, 20_000] and server.answers(client)
+        client.close()
+        server.ends()
 
 
 def are_taken(connection):

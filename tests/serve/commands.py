@@ -48,6 +48,8 @@ BAD = [
     (GOOD + ["--max-per-address", "0"], "--max-per-address 0: at least 1"),
     (GOOD + ["--max-under-way", "0"], "--max-under-way 0: 1 to 1048576"),
     (GOOD + ["--max-under-way", "1048577"], "--max-under-way 1048577: 1 to 1048576"),
+    (GOOD + ["--max-watches", "-1"], "--max-watches -1: 0 to 1000000000"),
+    (GOOD + ["--max-watches", "1000000001"], "--max-watches 1000000001: 0 to 1000000000"),
     (GOOD + ["--unconnected", "3601"], "--unconnected 3601: 0 to 3600"),
     (GOOD + ["--unconnected", "-1"], "--unconnected -1: 0 to 3600"),
     (GOOD + ["--words"], "--words has no value"),

@@ -41,20 +41,19 @@ impl OwnReadsAhead {
         }
     }
 
-    /// How many frames may be sent on ahead. It takes places if the connection has none; while another thread takes some,
-    /// there may be none.
+    /// How many frames may be sent on ahead. It takes the places that the connection may have besides; while another thread
+    /// takes some, there may be none.
     pub fn left(&mut self) -> usize {
         if let Some(pool) = &self.pool {
             let free = pool.free.load(Ordering::SeqCst);
-            let wanted = free.min(MOST_PLACES);
+            let wanted = free.min(MOST_PLACES.saturating_sub(self.held));
             let left = free.saturating_sub(wanted);
-            let taken = self.held == 0
-                && pool
-                    .free
-                    .compare_exchange(free, left, Ordering::SeqCst, Ordering::SeqCst)
-                    .is_ok();
+            let taken = pool
+                .free
+                .compare_exchange(free, left, Ordering::SeqCst, Ordering::SeqCst)
+                .is_ok();
             if taken {
-                self.held = wanted;
+                self.held = self.held.saturating_add(wanted);
             }
         }
         self.held.saturating_sub(self.used)
@@ -65,14 +64,16 @@ impl OwnReadsAhead {
         self.used = self.used.saturating_add(frames);
     }
 
-    /// Gives all places back, once nothing is owed.
-    pub fn give_back(&mut self) {
-        if self.held > 0 {
+    /// While so many frames of the connection aren't answered, no more of those that went ahead are: gives the other places
+    /// back.
+    pub fn give_back(&mut self, owed: usize) {
+        self.used = self.used.min(owed);
+        let free = self.held.saturating_sub(self.used);
+        if free > 0 {
             if let Some(pool) = &self.pool {
-                pool.free.fetch_add(self.held, Ordering::SeqCst);
+                pool.free.fetch_add(free, Ordering::SeqCst);
             }
         }
-        self.held = 0;
-        self.used = 0;
+        self.held = self.used;
     }
 }

@@ -211,8 +211,9 @@ impl Session {
         ensures kept { (self.new.incoming ≡ self.old.incoming) × (self.new.window ≡ self.old.window) }
     {
         let room = self.window.room();
-        if self.window.all_answered() {
-            self.places.give_back();
+        let owed = self.window.owed();
+        self.places.give_back(owed);
+        if owed == 0 {
             return self.incoming.next(room, Gate::Open);
         }
         let next = self.incoming.next(room, Gate::Narrow);
@@ -292,7 +293,7 @@ impl Session {
 
     // Reads, or rests if there is no room or the stream has ended.
     fn read<T: Clock, R: Read + Rest>(&mut self, rt: &T, reader: &mut R) -> Step {
-        if self.ended && !self.untaken && self.window.all_answered() {
+        if self.ended && !self.untaken && self.window.owed() == 0 {
             return Step::Over;
         }
         if self.ended || self.incoming.is_full() {
@@ -370,7 +371,7 @@ impl Session {
     // Sends the `End`, and waits until it is taken. Meanwhile it takes outputs, too: while much is under way for a port,
     // none of its messages is taken.
     fn end<T: Wait + Clock, R: Rest>(&mut self, rt: &T, reader: &mut R) {
-        self.places.give_back();
+        self.places.give_back(0);
         let mut end = Some(Message::End);
         for _ in rt.forever() {
             self.drop_outputs();

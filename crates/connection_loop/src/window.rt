@@ -1,7 +1,7 @@
 //! How many frames of a client may be sent on.
 
 ghost use Rattle.std.specs.Prelude.{◌≡◌, ◌≤◌, not};
-ghost use Rattle.connection_loop.specs.Windows.{is_notice, new_window, room_in, all_answered, is_new, with_sent, with_answer, with_output_noted};
+ghost use Rattle.connection_loop.specs.Windows.{is_notice, new_window, room_in, is_new, with_sent, with_answer, with_output_noted};
 
 use crate::kind::after_int;
 use observer_core::Output;
@@ -75,18 +75,18 @@ impl Window {
         self.at_once.min(MOST_OWED.saturating_sub(self.owed))
     }
 
-    /// Whether all frames are answered.
-    pub fn all_answered(&self) -> bool
-        ensures { result ≡ all_answered self.now }
+    /// How many frames aren't answered.
+    pub fn owed(&self) -> usize
+        ensures { result ≡ self.now.owed }
     {
-        self.owed == 0
+        self.owed
     }
 
     /// Whether nothing was sent on yet.
     pub fn is_new(&self) -> bool
         ensures { result ≡ is_new self.now }
     {
-        self.is_connecting() && self.all_answered()
+        self.is_connecting() && self.owed == 0
     }
 
     /// Whether no answer has come yet.

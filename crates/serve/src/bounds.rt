@@ -1,10 +1,11 @@
-//! What bounds the connections of clients: how long they may say nothing or not read, and how much may wait for them.
+//! What bounds the connections of clients: how long they may say nothing or not read, how much may wait for them, and how
+//! many watches they may leave.
 
 use crate::hub::Hub;
 use connection_loop::{AllowedWords, SessionLimits};
 use intake::Limits;
 use log::Log;
-use serve_bounds::Places;
+use serve_bounds::{Places, are_too_many};
 use serve_options::{Options, Words};
 use settings::TimeoutBounds;
 use std::io::Write;
@@ -17,6 +18,8 @@ pub struct Bounds {
     pub places: Places,
     pub session: SessionLimits,
     pub desk: Limits,
+    /// How many watches a connection may leave; 0: any number.
+    pub watches: u64,
 }
 
 // The words as the thread of a connection takes them.
@@ -48,23 +51,50 @@ impl Bounds {
             desk: Limits {
                 under_way: options.max_under_way.saturating_mul(MIB),
             },
+            watches: options.max_watches,
         }
     }
 }
 
 impl<L: Log, W: Write + Drop> Hub<L, W> {
+    // Ends a client's connection. Returns whether it wasn't ended before.
+    fn end_client(&self, number: usize) -> bool {
+        match self.clients.get(&number) {
+            Some(client) if !client.bell.is_stopped() => {
+                client.bell.stop();
+                true
+            }
+            _ => false,
+        }
+    }
+
     // Ends the slowest connection where more waits for clients than may. The next one is ended only when this one is gone,
     // with what waited for it.
     pub(crate) fn relieve(&mut self) {
         if self.desk.under_way() <= self.bounds.desk.under_way {
             return;
         }
-        let slowest = self.desk.slowest();
-        if let Some(client) = slowest.and_then(|number| self.clients.get(&number)) {
-            if !client.bell.is_stopped() {
-                client.bell.stop();
+        if let Some(number) = self.desk.slowest() {
+            if self.end_client(number) {
                 self.slow_ended = self.slow_ended.saturating_add(1);
             }
+        }
+    }
+
+    fn watches_too_much(&self, number: usize) -> bool {
+        are_too_many(self.desk.engine().watches_of(number as u64), self.bounds.watches)
+    }
+
+    // Ends the connections that have left more watches than one may, among those of which the last turn took messages: the
+    // messages of a port stand together. A read that is held leaves its watch later, and then the connection is looked at
+    // when its next frame comes, which is its ping at the latest.
+    pub(crate) fn relieve_of_watches(&mut self) {
+        let mut before = 0;
+        for (port, _) in self.desk.fresh() {
+            if *port != before && self.watches_too_much(*port) && self.end_client(*port) {
+                self.watching_ended = self.watching_ended.saturating_add(1);
+            }
+            before = *port;
         }
     }
 }

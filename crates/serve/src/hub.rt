@@ -51,6 +51,8 @@ pub struct Hub<L, W> {
     pub(crate) clients: BTreeMap<usize, Client>,
     // How many connections were ended because too much waited for clients.
     pub(crate) slow_ended: u64,
+    // How many were ended because of their watches.
+    pub(crate) watching_ended: u64,
     from_acceptor: Consumer<Accepted>,
     pub(crate) door: Arc<Door, Global>,
     pub(crate) journal: Journal<L>,
@@ -101,6 +103,7 @@ impl<L: Log, W: Write + Drop> Hub<L, W> {
             pause: Pause::default(),
             clients: BTreeMap::new(alloc),
             slow_ended: 0,
+            watching_ended: 0,
             from_acceptor,
             door,
             journal,
@@ -207,7 +210,7 @@ impl<L: Log, W: Write + Drop> Hub<L, W> {
         }
     }
 
-    // Makes a turn of the desk, tells the threads, and records it.
+    // Makes a turn of the desk, tells the threads, and records it. Ends connections with too many watches.
     fn turn_within<R: Threads + Sync + Clock, B: Budget>(
         &mut self,
         rt: &R,
@@ -220,6 +223,7 @@ impl<L: Log, W: Write + Drop> Hub<L, W> {
         let now = self.clock.now(rt);
         self.record.add(self.desk.fresh());
         self.journal.turned(&self.desk);
+        self.relieve_of_watches();
         let took = now.saturating_sub(began);
         if took > SLOW_TURN {
             self.journal.slow_turn(took, self.desk.fresh().len());
@@ -300,11 +304,12 @@ impl<L: Log, W: Write + Drop> Hub<L, W> {
         Ok(())
     }
 
-    // Tells how many connections were closed for want of room for them, or for what they don't read.
+    // Tells how many connections were closed for want of room for them, for what they don't read, or for their watches.
     fn tell_closed(&mut self) {
         let now = self.clock.last();
         self.journal.connections_refused(self.door.refused(), now);
         self.journal.slow_closed(self.slow_ended, now);
+        self.journal.watching_closed(self.watching_ended, now);
     }
 
     /// Ends the clients' connections. One that doesn't read what it is sent isn't waited for.

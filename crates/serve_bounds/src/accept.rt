@@ -1,5 +1,6 @@
 //! The thread that accepts connections.
 
+use crate::places::{give_back_place, has_place, take_place};
 use intake::Waker as HubWaker;
 use mio::net::TcpListener;
 use mio::{Events, Interest, Poll, Token, Waker};
@@ -57,11 +58,7 @@ impl Door {
     // Counts a connection, unless there are too many.
     fn enter<R: Wait>(&self, rt: &R, address: IpAddr) -> bool {
         let before = self.open.fetch_add(1, Ordering::SeqCst);
-        let fits = match self.places.in_all {
-            Some(most) => before < most,
-            None => true,
-        };
-        if fits && self.enter_from(rt, address) {
+        if has_place(before, self.places.in_all) && self.enter_from(rt, address) {
             return true;
         }
         self.open.fetch_sub(1, Ordering::SeqCst);
@@ -75,24 +72,13 @@ impl Door {
             return true;
         };
         let mut addresses = self.addresses.lock(rt);
-        let open = addresses.get(&address).copied().unwrap_or(0);
-        open < most && addresses.insert(address, open.saturating_add(1)).is_ok()
+        take_place(&mut *addresses, address, most)
     }
 
     fn leave_from<R: Wait>(&self, rt: &R, address: IpAddr) {
-        if self.places.per_address.is_none() {
-            return;
-        }
-        let mut addresses = self.addresses.lock(rt);
-        let is_last = match addresses.get_mut(&address) {
-            None => return,
-            Some(open) => {
-                *open = open.saturating_sub(1);
-                *open == 0
-            }
-        };
-        if is_last {
-            addresses.remove(&address);
+        if self.places.per_address.is_some() {
+            let mut addresses = self.addresses.lock(rt);
+            give_back_place(&mut *addresses, address);
         }
     }
 

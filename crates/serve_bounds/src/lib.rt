@@ -1,10 +1,11 @@
-//! What keeps the connections of clients within bounds: how many there may be, and what a turn of the hub may spend on
-//! them.
+//! What keeps the connections of clients within bounds: how many there may be, what a turn of the hub may spend on them,
+//! and how many watches each may leave.
 //!
 //! An [`Acceptor`] takes connections on a thread of its own, and closes those for which there is no place: in all, or of
 //! one address ([`Places`]). A [`TurnBudget`] tells the desk when a turn has done enough for clients, and which of their
-//! messages are costly; after a turn in which these took long there is a [`Pause`] for them. All of it is proved safe;
-//! that it does what it says is tested over sockets.
+//! messages are costly; after a turn in which these took long there is a [`Pause`] for them. It is proved how places are
+//! counted (`places.rt`), how a pause lasts, and which watches are too many; the rest is proved safe, and tested over
+//! sockets.
 //!
 //! ```text
 //! let Accepting { acceptor, from_acceptor, door } = open_door(net, alloc, listener, places)?;
@@ -17,8 +18,11 @@
 
 mod accept;
 mod budget;
+mod places;
 mod stopwatch;
+mod watching;
 
 pub use accept::{Accepted, Accepting, Acceptor, Door, Places, accept_all, open_door};
 pub use budget::{Pause, TurnBudget};
 pub use stopwatch::Stopwatch;
+pub use watching::are_too_many;

@@ -23,6 +23,7 @@ pub struct Journal<L> {
     searching: Pace,
     refusals: Refusals,
     slow: Refusals,
+    watching: Refusals,
 }
 
 impl<L: Log> Journal<L> {
@@ -35,6 +36,7 @@ impl<L: Log> Journal<L> {
             searching: Pace::new(),
             refusals: Refusals::new(),
             slow: Refusals::new(),
+            watching: Refusals::new(),
         }
     }
 
@@ -132,6 +134,14 @@ impl<L: Log> Journal<L> {
     pub fn slow_closed(&mut self, all: u64, now: u64) {
         if let Some(fresh) = self.slow.report(all, now) {
             warn!(self.log; target: "client", "{fresh} connections that don't read were closed: --max-under-way");
+        }
+    }
+
+    /// So many connections were closed since the start, since they left more watches than one may: a line in ten seconds
+    /// says how many more there were.
+    pub fn watching_closed(&mut self, all: u64, now: u64) {
+        if let Some(fresh) = self.watching.report(all, now) {
+            warn!(self.log; target: "client", "{fresh} connections with too many watches were closed: --max-watches");
         }
     }
 

@@ -50,13 +50,14 @@ impl<'a> SettingsLine<'a> {
     fn put_sessions<W: fmt::Write>(&self, f: &mut fmt::Formatter<W>) -> fmt::Result {
         let Options {
             max_under_way,
+            max_watches,
             unconnected,
             words,
             ..
         } = self.options;
         write!(
             f,
-            " --max-under-way {max_under_way} --unconnected {unconnected} --words {words}"
+            " --max-under-way {max_under_way} --max-watches {max_watches} --unconnected {unconnected} --words {words}"
         )
     }
 

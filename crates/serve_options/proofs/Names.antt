@@ -2,7 +2,7 @@
 use Rattle.std.proofs.Common.{◌≡◌, ◌<◌, refl, lit<}
 use Rattle.std.specs.Prelude.{slice_index_or}
 use Rattle.serve_options.specs.declared.row.Name.{Name}
-use Rattle.serve_options.specs.declared.row.Name.TheVariants.{Leader, Servers, Client, Id, Counter, Workers, Batch, MaxClients, MaxPerAddress, MaxUnderWay, Unconnected, Words, Tick, InitLimit, SyncLimit, Checkpoint, GiveUp, Record, Log, LogFormat, Help, Version}
+use Rattle.serve_options.specs.declared.row.Name.TheVariants.{Leader, Servers, Client, Id, Counter, Workers, Batch, MaxClients, MaxPerAddress, MaxUnderWay, MaxWatches, Unconnected, Words, Tick, InitLimit, SyncLimit, Checkpoint, GiveUp, Record, Log, LogFormat, Help, Version}
 use Rattle.serve_options.specs.declared.row.TheConstants.{NAMES}
 use Rattle.serve_options.specs.Given.{name_place}
 
@@ -17,6 +17,7 @@ name_at Batch = refl
 name_at MaxClients = refl
 name_at MaxPerAddress = refl
 name_at MaxUnderWay = refl
+name_at MaxWatches = refl
 name_at Unconnected = refl
 name_at Words = refl
 name_at Tick = refl
@@ -30,7 +31,7 @@ name_at LogFormat = refl
 name_at Help = refl
 name_at Version = refl
 
-pub place_below : (name : Name) → name_place name < 22
+pub place_below : (name : Name) → name_place name < 23
 place_below Leader = lit< tt
 place_below Servers = lit< tt
 place_below Client = lit< tt
@@ -41,6 +42,7 @@ place_below Batch = lit< tt
 place_below MaxClients = lit< tt
 place_below MaxPerAddress = lit< tt
 place_below MaxUnderWay = lit< tt
+place_below MaxWatches = lit< tt
 place_below Unconnected = lit< tt
 place_below Words = lit< tt
 place_below Tick = lit< tt

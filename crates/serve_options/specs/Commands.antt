@@ -25,6 +25,7 @@ pub record IsWithinBounds (options : Options) : Type 0 where
   pub clients : IfSome options.max_clients (IsWithin (option_bounds names.MaxClients))
   pub per_address : IfSome options.max_per_address (IsWithin (option_bounds names.MaxPerAddress))
   pub under_way : IsWithin (option_bounds names.MaxUnderWay) options.max_under_way
+  pub watches : IsWithin (option_bounds names.MaxWatches) options.max_watches
   pub unconnected : IsWithin (option_bounds names.Unconnected) options.unconnected
   pub tick : IsWithin (option_bounds names.Tick) options.tick
   pub init_limit : IsWithin (option_bounds names.InitLimit) options.init_limit
@@ -71,6 +72,7 @@ pub record IsSetBy (given : List Given) (options : Options) : Type 0 where
   pub clients : options.max_clients ≡ number_given names.MaxClients given
   pub per_address : options.max_per_address ≡ number_given names.MaxPerAddress given
   pub under_way : number_given names.MaxUnderWay given ≡ Some options.max_under_way
+  pub watches : number_given names.MaxWatches given ≡ Some options.max_watches
   pub unconnected : number_given names.Unconnected given ≡ Some options.unconnected
   pub words : words_given given ≡ Some options.words
   pub tick : number_given names.Tick given ≡ Some options.tick

@@ -1,7 +1,7 @@
 -- The options that have a value without being given.
 use Rattle.std.specs.Prelude.{ℕ, List, Option, Some, None, codes}
 use Rattle.serve_options.specs.declared.row.Name.{Name}
-use Rattle.serve_options.specs.declared.row.Name.TheVariants.{Workers, Batch, MaxUnderWay, Unconnected, Words, Tick, InitLimit, SyncLimit, Checkpoint, Log, LogFormat}
+use Rattle.serve_options.specs.declared.row.Name.TheVariants.{Workers, Batch, MaxUnderWay, MaxWatches, Unconnected, Words, Tick, InitLimit, SyncLimit, Checkpoint, Log, LogFormat}
 use Rattle.serve_options.specs.declared.row.Without.{Without}
 use Rattle.serve_options.specs.declared.row.Without.TheVariants.{Nothing, Value, Meaning}
 
@@ -10,6 +10,7 @@ abbrev pub option_default : Name → Option (List ℕ)
 option_default Workers = Some (codes "4")
 option_default Batch = Some (codes "256")
 option_default MaxUnderWay = Some (codes "64")
+option_default MaxWatches = Some (codes "1000000")
 option_default Unconnected = Some (codes "10")
 option_default Words = Some (codes "ruok,isro,srvr,mntr,wchs")
 option_default Tick = Some (codes "2000")

@@ -5,7 +5,7 @@ use Rattle.std.specs.List.{find, starts_with}
 use Rattle.std.specs.Option.{option_map}
 use Rattle.values.specs.Maybe.{◌>>=◌}
 use Rattle.serve_options.specs.declared.row.Name.{Name}
-use Rattle.serve_options.specs.declared.row.Name.TheVariants.{Leader, Servers, Client, Id, Counter, Workers, Batch, MaxClients, MaxPerAddress, MaxUnderWay, Unconnected, Words, Tick, InitLimit, SyncLimit, Checkpoint, GiveUp, Record, Log, LogFormat, Help, Version}
+use Rattle.serve_options.specs.declared.row.Name.TheVariants.{Leader, Servers, Client, Id, Counter, Workers, Batch, MaxClients, MaxPerAddress, MaxUnderWay, MaxWatches, Unconnected, Words, Tick, InitLimit, SyncLimit, Checkpoint, GiveUp, Record, Log, LogFormat, Help, Version}
 use Rattle.serve_options.specs.declared.row.Kind.{Kind}
 use Rattle.serve_options.specs.declared.row.Kind.TheVariants.{Nothing, Level}
 use Rattle.serve_options.specs.declared.error.OptionError.{OptionError}
@@ -25,18 +25,19 @@ name_place Batch = 6
 name_place MaxClients = 7
 name_place MaxPerAddress = 8
 name_place MaxUnderWay = 9
-name_place Unconnected = 10
-name_place Words = 11
-name_place Tick = 12
-name_place InitLimit = 13
-name_place SyncLimit = 14
-name_place Checkpoint = 15
-name_place GiveUp = 16
-name_place Record = 17
-name_place Log = 18
-name_place LogFormat = 19
-name_place Help = 20
-name_place Version = 21
+name_place MaxWatches = 10
+name_place Unconnected = 11
+name_place Words = 12
+name_place Tick = 13
+name_place InitLimit = 14
+name_place SyncLimit = 15
+name_place Checkpoint = 16
+name_place GiveUp = 17
+name_place Record = 18
+name_place Log = 19
+name_place LogFormat = 20
+name_place Help = 21
+name_place Version = 22
 
 abbrev pub is_named : Name → Given → Bool
 is_named name option = nat_eq (name_place option.name) (name_place name)

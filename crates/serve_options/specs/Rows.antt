@@ -1,7 +1,7 @@
 -- The options: the word of each, and what its value may be.
 use Rattle.std.specs.Prelude.{ℕ, ◌-◌, ◌^◌, ◌≤◌, List, codes}
 use Rattle.serve_options.specs.declared.row.Name.{Name}
-use Rattle.serve_options.specs.declared.row.Name.TheVariants.{Leader, Servers, Client, Id, Counter, Workers, Batch, MaxClients, MaxPerAddress, MaxUnderWay, Unconnected, Words, Tick, InitLimit, SyncLimit, Checkpoint, GiveUp, Record, Log, LogFormat, Help, Version}
+use Rattle.serve_options.specs.declared.row.Name.TheVariants.{Leader, Servers, Client, Id, Counter, Workers, Batch, MaxClients, MaxPerAddress, MaxUnderWay, MaxWatches, Unconnected, Words, Tick, InitLimit, SyncLimit, Checkpoint, GiveUp, Record, Log, LogFormat, Help, Version}
 use Rattle.serve_options.specs.declared.row.Bounds.{Bounds}
 use Rattle.serve_options.specs.declared.row.Kind.{Kind}
 use Rattle.serve_options.specs.declared.row.Kind.TheVariants as kinds
@@ -17,6 +17,7 @@ option_word Batch = codes "--batch"
 option_word MaxClients = codes "--max-clients"
 option_word MaxPerAddress = codes "--max-per-address"
 option_word MaxUnderWay = codes "--max-under-way"
+option_word MaxWatches = codes "--max-watches"
 option_word Unconnected = codes "--unconnected"
 option_word Words = codes "--words"
 option_word Tick = codes "--tick"
@@ -45,6 +46,7 @@ option_kind Batch = from_to 1 4096
 option_kind MaxClients = from_to 1 (2 ^ 64 - 1)
 option_kind MaxPerAddress = from_to 1 (2 ^ 64 - 1)
 option_kind MaxUnderWay = from_to 1 1048576
+option_kind MaxWatches = from_to 0 1000000000
 option_kind Unconnected = from_to 0 3600
 option_kind Words = kinds.Words
 option_kind Tick = from_to 1 3600000

@@ -45,6 +45,8 @@ pub struct Options<'a> {
     pub max_per_address: Option<u64>,
     /// The MiB of answers that may wait for all clients together, from 1 to 1,048,576.
     pub max_under_way: u64,
+    /// How many watches a connection may leave, at most 1,000,000,000; 0: any number.
+    pub max_watches: u64,
     /// For how many seconds a connection may be without a session, at most 3600; 0: any number.
     pub unconnected: u64,
     pub words: Words,
@@ -260,6 +262,7 @@ fn options_in<'a>(alloc: Global, given: &[Given<'a>]) -> Result<Options<'a>, Opt
         max_clients: number_in(given, Name::MaxClients)?,
         max_per_address: number_in(given, Name::MaxPerAddress)?,
         max_under_way: number(given, Name::MaxUnderWay)?,
+        max_watches: number(given, Name::MaxWatches)?,
         unconnected: number(given, Name::Unconnected)?,
         words: words_in(given)?,
         record: spelled(given, Name::Record),

@@ -19,6 +19,7 @@ pub enum Name {
     MaxClients,
     MaxPerAddress,
     MaxUnderWay,
+    MaxWatches,
     Unconnected,
     Words,
     Tick,
@@ -34,7 +35,7 @@ pub enum Name {
 }
 
 /// The options, in the order in which help lists them.
-pub const NAMES: [Name; 22] = [
+pub const NAMES: [Name; 23] = [
     Name::Leader,
     Name::Servers,
     Name::Client,
@@ -45,6 +46,7 @@ pub const NAMES: [Name; 22] = [
     Name::MaxClients,
     Name::MaxPerAddress,
     Name::MaxUnderWay,
+    Name::MaxWatches,
     Name::Unconnected,
     Name::Words,
     Name::Tick,
@@ -229,6 +231,17 @@ const MAX_UNDER_WAY: Row = Row {
     help: "the MiB of answers that may wait until clients read them, of all clients together; beyond it the slowest is closed",
 };
 
+const MAX_WATCHES: Row = Row {
+    word: "--max-watches",
+    value: "N",
+    kind: Kind::Number(Bounds {
+        least: 0,
+        most: 1_000_000_000,
+    }),
+    without: Without::Value("1000000"),
+    help: "the watches that a connection may leave; one with more is closed; 0: any number",
+};
+
 const UNCONNECTED: Row = Row {
     word: "--unconnected",
     value: "SECONDS",
@@ -361,6 +374,7 @@ impl Name {
             Name::MaxClients => MAX_CLIENTS,
             Name::MaxPerAddress => MAX_PER_ADDRESS,
             Name::MaxUnderWay => MAX_UNDER_WAY,
+            Name::MaxWatches => MAX_WATCHES,
             Name::Unconnected => UNCONNECTED,
             Name::Words => WORDS,
             Name::Tick => TICK,

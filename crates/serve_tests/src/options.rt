@@ -37,6 +37,7 @@ fn some_lines_are_refused(rt: HostRuntime) -> Result<(), Fail> {
         "--leader 1 --client 2 --max-clients 0",
         "--leader 1 --client 2 --max-per-address 0",
         "--leader 1 --client 2 --max-under-way 0",
+        "--leader 1 --client 2 --max-watches 1000000001",
         "--leader 1 --client 2 --unconnected 3601",
         "--leader 1 --client 2 --words ruok,stat",
         "--leader 1 --client 2 --words none,ruok",
@@ -67,7 +68,7 @@ fn each_option_is_read(rt: HostRuntime) -> Result<(), Fail> {
     assert!(rt; options.client.host == "127.0.0.1" && options.client.port == 21);
     assert!(rt; options.limits.workers() == 2 && options.limits.batch() == 8);
     assert!(rt; options.server_id.number() == 7 && options.max_clients == Some(9));
-    assert!(rt; options.record == Some("f") && options.tick == 2000);
+    assert!(rt; options.record == Some("f") && options.tick == 2000 && options.max_watches == 1_000_000);
     Ok(())
 }
 
@@ -86,13 +87,14 @@ fn bounds_for_clients_are_read(rt: HostRuntime) -> Result<(), Fail> {
     let alloc = rt.alloc();
     let words = words(
         alloc,
-        "--leader 1 --client 2 --max-per-address 60 --max-under-way 1 --unconnected 0 --words wchp,ruok",
+        "--leader 1 --client 2 --max-per-address 60 --max-under-way 1 --max-watches 0 --unconnected 0 --words wchp,ruok",
     )?;
     let Ok(Command::Serve(options)) = command_of(alloc, words.as_slice()) else {
         return Err(Fail::from("refused"));
     };
     assert!(rt; options.max_per_address == Some(60) && options.max_under_way == 1);
-    assert!(rt; options.unconnected == 0 && options.words.wchp && options.words.ruok);
+    assert!(rt; options.max_watches == 0 && options.unconnected == 0);
+    assert!(rt; options.words.wchp && options.words.ruok);
     assert!(rt;
         !options.words.isro && !options.words.srvr && !options.words.mntr && !options.words.wchs
     );
