@@ -2,6 +2,7 @@
 use Rattle.std.proofs.Common.{◌≡◌, ◌≢◌, ℕ, ◌+◌, suc, List, [], ◌∷◌, Bool, true, false, cond, not, ◌||◌, ◌&&◌, Option, Some, None, IfSome, is_some, refl, sym, ap, subst, ◌∙◌, map, length, arith}
 use mathlib.Core.Bool.{true≢false}
 use Rattle.std.specs.declared.cmp.Ordering.{Ordering}
+use Rattle.std.specs.declared.string.String.{String}
 use Rattle.std.specs.List.{list_any, filter}
 use Rattle.std.specs.List.Sorted.{IsStrictlySortedBy}
 use Rattle.std.specs.Map.{keys_of}
@@ -10,7 +11,7 @@ use Rattle.std.specs.Cmp.{IsTotalOrder, tied_itself}
 use Rattle.std.proofs.lemmas.Map.Lookups.{CmpEqualImpliesEq}
 use Rattle.std.specs.FinMap as finmap
 use Rattle.std.specs.FinSet as set
-use Rattle.ephemerals.specs.Grouped.{pair_cmp, pairs_of}
+use Rattle.ephemerals.specs.Grouped.{pair_cmp, pairs_of, by_bytes}
 use Rattle.ephemerals.proofs.Ties.{tied_then}
 use Rattle.ephemerals.proofs.Grouped.{contains-found, emptied, forget, remove_through}
 use Rattle.watch_manager.specs.Inner.Grouped.{keys_in, keys_in_one, keys_beyond, HaveValues}
@@ -127,6 +128,37 @@ module _ {K V : Type 0} {R : K → K → Ordering} {S : V → V → Ordering} (o
       set.contains-from_list ok (map first (set.items pairs)) q
       ∙ no-any q (set.items pairs) (λ v. sym (set.contains-items pairs (q, v)) ∙ none v)
 
+  -- Two lists with the same pairs have the same keys.
+  pub same-keys : (us vs : List (K × V))
+      → ((r : K × V) → list_any (eq_by_cmp (pair_cmp R S) r) us ≡ list_any (eq_by_cmp (pair_cmp R S) r) vs) → (q : K)
+      → list_any (eq_by_cmp R q) (map first us) ≡ list_any (eq_by_cmp R q) (map first vs)
+  same-keys us vs same q =
+      by (list_any (eq_by_cmp R q) (map first us)) refl (list_any (eq_by_cmp R q) (map first vs)) refl
+    where
+      none : (xs ys : List (K × V))
+          → ((r : K × V) → list_any (eq_by_cmp (pair_cmp R S) r) xs ≡ list_any (eq_by_cmp (pair_cmp R S) r) ys)
+          → list_any (eq_by_cmp R q) (map first xs) ≡ false → list_any (eq_by_cmp R q) (map first ys) ≡ false
+      none xs ys alike out = no-any q ys (λ v. sym (alike (q, v)) ∙ each v (list_any (eq_by_cmp (pair_cmp R S) (q, v)) xs) refl)
+        where
+          each : (v : V) (b : Bool) → list_any (eq_by_cmp (pair_cmp R S) (q, v)) xs ≡ b
+              → list_any (eq_by_cmp (pair_cmp R S) (q, v)) xs ≡ false
+          each v true e = absurd (true≢false (sym (any-key q v xs e) ∙ out))
+          each v false e = e
+
+      by : (a : Bool) → list_any (eq_by_cmp R q) (map first us) ≡ a → (b : Bool)
+          → list_any (eq_by_cmp R q) (map first vs) ≡ b
+          → list_any (eq_by_cmp R q) (map first us) ≡ list_any (eq_by_cmp R q) (map first vs)
+      by true ea true eb = ea ∙ sym eb
+      by true ea false eb = absurd (true≢false (sym ea ∙ none vs us (λ r. sym (same r)) eb))
+      by false ea b eb = ea ∙ sym (none us vs same ea)
+
+  -- A key of one of three.
+  pub contains-in_one : (a b c : set.FinSet (pair_cmp R S)) (q : K) → set.contains (keys_in_one R a b c) q
+      ≡ (set.contains (keys_in R a) q || (set.contains (keys_in R b) q || set.contains (keys_in R c) q))
+  contains-in_one a b c q =
+      set.contains-union ok (keys_in R a) (set.union (keys_in R b) (keys_in R c)) q
+      ∙ ap (λ t. set.contains (keys_in R a) q || t) (set.contains-union ok (keys_in R b) (keys_in R c) q)
+
   some-value : (s : set.FinSet S) → s ≢ set.empty → (P : Type 0) → ((v : V) → set.contains s v ≡ true → P) → P
   some-value s some P then = by (set.items s) refl
     where
@@ -174,14 +206,20 @@ module _ {K V : Type 0} {R : K → K → Ordering} {S : V → V → Ordering} (o
     pub len-stored : IsStrictlySortedBy R names → set.len (keys_in R stored) ≡ length es
     len-stored sorted = ap set.len stored-names ∙ len-listed ok ek names sorted ∙ length-names es
 
-    -- Nothing is stored exactly if there is no pair.
-    pub empty-stored : stored ≡ set.empty → set.len (keys_in R stored) ≡ 0
-    empty-stored e = ap set.len none ∙ set.len-empty R
+    -- Where there is no pair, nothing is stored.
+    pub empty-entries : stored ≡ set.empty → length es ≡ 0
+    empty-entries e = by es refl
       where
-        none : keys_in R stored ≡ set.empty
-        none = set.same_set ok ek _ _ (λ q.
-            no-key stored q (λ v. ap (λ s. set.contains s (q, v)) e ∙ set.contains-empty (pair_cmp R S) (q, v))
-            ∙ sym (set.contains-empty R q))
+        by : (xs : List (K × set.FinSet S)) → es ≡ xs → length es ≡ 0
+        by [] is = ap (λ xs. length xs) is
+        by (x ∷ xs) is =
+            absurd (true≢false
+            (sym (contains-names x.0
+            ∙ ap (λ ys. list_any (eq_by_cmp R x.0) (map (λ (y : K × set.FinSet S). y.0) ys)) is
+            ∙ ap (λ r. is_eq r || list_any (eq_by_cmp R x.0) (map (λ (y : K × set.FinSet S). y.0) xs))
+            (tied_itself ok x.0))
+            ∙ no-key stored x.0
+            (λ v. ap (λ s. set.contains s (x.0, v)) e ∙ set.contains-empty (pair_cmp R S) (x.0, v))))
 
     pub len-beyond : (first second third : set.FinSet (pair_cmp R S)) → IsStrictlySortedBy R names
         → set.len (keys_beyond R stored first second third)
@@ -197,16 +235,46 @@ module _ {K V : Type 0} {R : K → K → Ordering} {S : V → V → Ordering} (o
         known : set.FinSet R
         known = keys_in_one R first second third
 
--- ---- a list, taken one by one
+pub length-by_bytes : {X Z : Type 0} (es : List (String Z × X)) → length (by_bytes es) ≡ length es
+length-by_bytes [] = refl
+length-by_bytes (e ∷ es) = ap suc (length-by_bytes es)
 
-pub filter-split : {K : Type 0} (p : K → Bool) (ks : List K)
-    → length ks ≡ length (filter (λ k. not (p k)) ks) + length (filter p ks)
-filter-split p [] = refl
-filter-split p (k ∷ ks) = by (filter-split p ks) (p k)
-  where
-    by : length ks ≡ length (filter (λ k. not (p k)) ks) + length (filter p ks) → (b : Bool)
-        → suc (length ks)
-        ≡ length (cond (not b) (k ∷ filter (λ k. not (p k)) ks) (filter (λ k. not (p k)) ks))
-        + length (cond b (k ∷ filter p ks) (filter p ks))
-    by rest true = omega (arith, rest)
-    by rest false = omega (arith, rest)
+-- ---- entries, taken one by one
+
+module _ {K X : Type 0} {R : K → K → Ordering} (known : set.FinSet R) where
+  abbrev keys : List (K × X) → List K
+  keys es = map (λ (e : K × X). e.0) es
+
+  -- The entries whose key isn't known, and those that are left whose key is.
+  abbrev pub left_count : List (K × X) → List (K × X) → ℕ
+  left_count all left =
+      length (filter (λ k. not (set.contains known k)) (keys all)) + length (filter (set.contains known) (keys left))
+
+  pub left-first : (es : List (K × X)) → length es ≡ left_count es es
+  left-first [] = refl
+  left-first (e ∷ es) = by (left-first es) (set.contains known e.0)
+    where
+      by : length es ≡ left_count es es → (b : Bool)
+          → suc (length es)
+          ≡ length (cond (not b) (e.0 ∷ filter (λ k. not (set.contains known k)) (keys es))
+          (filter (λ k. not (set.contains known k)) (keys es)))
+          + length (cond b (e.0 ∷ filter (set.contains known) (keys es)) (filter (set.contains known) (keys es)))
+      by rest true = omega (arith, rest)
+      by rest false = omega (arith, rest)
+
+  pub left-known : (all : List (K × X)) (e : K × X) (es : List (K × X)) → set.contains known e.0 ≡ true
+      → left_count all (e ∷ es) ≡ left_count all es + 1
+  left-known all e es here =
+      ap (λ b. length (filter (λ k. not (set.contains known k)) (keys all))
+      + length (cond b (e.0 ∷ filter (set.contains known) (keys es)) (filter (set.contains known) (keys es)))) here
+      ∙ omega arith
+
+  pub left-new : (all : List (K × X)) (e : K × X) (es : List (K × X)) → set.contains known e.0 ≡ false
+      → left_count all (e ∷ es) ≡ left_count all es
+  left-new all e es none =
+      ap (λ b. length (filter (λ k. not (set.contains known k)) (keys all))
+      + length (cond b (e.0 ∷ filter (set.contains known) (keys es)) (filter (set.contains known) (keys es)))) none
+
+  pub left-none : (all : List (K × X))
+      → left_count all [] ≡ length (filter (λ k. not (set.contains known k)) (keys all))
+  left-none all = omega arith

@@ -14,6 +14,10 @@ pub mod Watchers
 mod Found
 -- A table by path and by connection.
 mod Tables
+-- The counts of a table.
+mod TableCounts
+-- The counts of all tables.
+mod AllCounts
 -- A table without the watches on some paths.
 mod Lefts
 -- Firing, evaluated on watches given as a list.

@@ -1,5 +1,6 @@
 -- The number of elements of a set: of its parts, of its image, and of a union.
-use Rattle.std.proofs.Common.{◌≡◌, ℕ, ◌+◌, suc, List, [], ◌∷◌, Bool, true, false, cond, not, ◌||◌, ◌&&◌, Option, Some, None, is_some, refl, sym, ap, subst, ◌∙◌, map, length, arith}
+use Rattle.std.proofs.Common.{◌≡◌, ℕ, ◌+◌, ◌-◌, ◌≤◌, zero, suc, List, [], ◌∷◌, Bool, true, false, cond, not, ◌||◌, ◌&&◌, Option, Some, None, is_some, refl, sym, ap, subst, ◌∙◌, map, length, arith}
+use mathlib.Core.Bool.{true≢false}
 use Rattle.std.proofs.Math.Bool.{and-false}
 use Rattle.std.specs.declared.cmp.Ordering.{Ordering}
 use Rattle.std.specs.declared.cmp.Ordering.TheVariants.{Less}
@@ -26,6 +27,27 @@ module _ {K : Type 0} {R : K → K → Ordering} (o : IsTotalOrder R) (exact : C
   pub len-insert-new : (s : set.FinSet R) (k : K) → set.contains s k ≡ false
       → set.len (set.insert s k) ≡ set.len s + 1
   len-insert-new s k new = set.len-insert o s k ∙ ap (λ b. cond b (set.len s) (set.len s + 1)) new
+
+  -- An element less, or none.
+  pub remove-absent : (s : set.FinSet R) (k : K) → set.contains s k ≡ false → s ≡ set.remove s k
+  remove-absent s k none = set.same_set o exact _ _ (λ q.
+      by q (eq_by_cmp R q k) refl ∙ sym (set.contains-remove o s k q))
+    where
+      by : (q : K) (t : Bool) → eq_by_cmp R q k ≡ t → set.contains s q ≡ (not t && set.contains s q)
+      by q true tie = ap (set.contains s) (tells_apart exact q k tie) ∙ none
+      by q false tie = refl
+
+  pub len-remove-present : (s : set.FinSet R) (k : K) (count : ℕ) → count ≡ set.len s → set.contains s k ≡ true
+      → count - 1 ≡ set.len (set.remove s k)
+  len-remove-present s k count is here =
+      ap (λ n. n - 1) is
+      ∙ sym (set.len-remove o s k ∙ ap (λ b. cond b (set.len s - 1) (set.len s)) here)
+
+  pub some-present : (s : set.FinSet R) (k : K) (count : ℕ) → count ≡ set.len s → set.contains s k ≡ true → 1 ≤ count
+  some-present s k zero is here =
+      absurd (true≢false
+      (sym here ∙ ap (λ t. set.contains t k) (set.empty_of_len s (sym is)) ∙ set.contains-empty R k))
+  some-present s k (suc count) is here = omega arith
 
   -- ---- a set in two parts
 

@@ -63,7 +63,13 @@ impl ByConn {
     fn is_in_one(conn: u64, first: &ByConn, second: &ByConn, third: &ByConn) -> bool
         ensures { result ≡ set.contains (keys_in_one nat_cmp first.now second.now third.now) conn }
     {
-        first.contains_conn(conn) || second.contains_conn(conn) || third.contains_conn(conn)
+        if first.contains_conn(conn) {
+            return true;
+        }
+        if second.contains_conn(conn) {
+            return true;
+        }
+        third.contains_conn(conn)
     }
 
     /// The number of connections that watch something here and nothing in the other tables.
@@ -86,7 +92,10 @@ impl ByConn {
         ensures none { IfNone result
             ((p : List ℕ) → set.contains self.now (conn, p) ≡ false) }
     {
-        self.map.get(&conn)
+        match self.map.get(&conn) {
+            None => return None,
+            Some(paths) => Some(paths),
+        }
     }
 
     /// Adds a pair. A refused allocation changes nothing.

@@ -74,7 +74,13 @@ impl ByPath {
     fn is_in_one(path: &str, first: &ByPath, second: &ByPath, third: &ByPath) -> bool
         ensures { result ≡ set.contains (keys_in_one path_cmp first.now second.now third.now) path.now }
     {
-        first.contains_path(path) || second.contains_path(path) || third.contains_path(path)
+        if first.contains_path(path) {
+            return true;
+        }
+        if second.contains_path(path) {
+            return true;
+        }
+        third.contains_path(path)
     }
 
     /// The number of paths that are watched here and not in the other tables.

@@ -96,12 +96,7 @@ impl WatchTable {
 
     /// The number of paths that are watched here and not in the other tables. Takes time linear in the number of paths
     /// that are watched here.
-    pub fn paths_beyond(
-        &self,
-        first: &WatchTable,
-        second: &WatchTable,
-        third: &WatchTable,
-    ) -> usize
+    pub fn paths_beyond(&self, first: &WatchTable, second: &WatchTable, third: &WatchTable) -> usize
         ensures { result ≡ set.len (keys_beyond path_cmp self.now first.now second.now third.now) }
     {
         self.by_path
