@@ -16,6 +16,7 @@ use Rattle.sessions.specs.Sessions.{session_of_connection, ids_of, ConnectResult
 use Rattle.sessions.specs.declared.request.Connected.{Connected}
 use Rattle.sessions.specs.declared.request.SessionResponse.{SessionResponse}
 use Rattle.watch_manager.specs.Watching.{WatchTables, with_lasting_watch}
+use Rattle.watch_manager.specs.Counts.{counts_of}
 use Rattle.watch_manager.specs.Summary.{summary}
 use Rattle.watch_manager.specs.declared.watched.Watched.{Watched}
 use Rattle.four_letter.specs.Words.{word_of}
@@ -293,7 +294,7 @@ watch_row_of sessions watched = record {
 abbrev pub watch_rows : Clients → List WatchRow
 watch_rows c = map (watch_row_of c.sessions) (summary c.watches)
 
--- The figures that the answers to words are made of, with these watches.
+-- The figures that the answers to words are made of, with these watches listed.
 abbrev pub figures_with : Bool → World → List WatchRow → Figures
 figures_with serving w watches = record {
   serving = serving;
@@ -301,6 +302,7 @@ figures_with serving w watches = record {
   connections = finmap.len w.clients.sessions.connections;
   paths = finmap.len w.replica.tree.nodes;
   pairs = set.len w.replica.tree.pairs;
+  watched = counts_of w.clients.watches;
   watches = watches;
 }
 

@@ -73,7 +73,8 @@ fn watch_rows(alloc: Global, clients: &Clients) -> Result<Vec<WatchRow<'_>>, NoM
     Ok(rows)
 }
 
-// The watches if the word's answer needs them, otherwise none.
+// The watches if the word's answer lists them, otherwise none: they are as many as clients care to set, and their counts
+// are kept.
 fn rows_for(alloc: Global, word: Word, clients: &Clients) -> Result<Vec<WatchRow<'_>>, NoMemory>
     ensures { IfOk result (λ rows. needs_watches word ≡ true → rows.items ≡ watch_rows clients.now) }
 {
@@ -83,7 +84,7 @@ fn rows_for(alloc: Global, word: Word, clients: &Clients) -> Result<Vec<WatchRow
     watch_rows(alloc, clients)
 }
 
-// The figures that the answers to words are made of, with these watches.
+// The figures that the answers to words are made of, with these watches listed.
 fn figures_with<'a>(serving: bool, world: &World, watches: Vec<WatchRow<'a>>) -> Figures<'a>
     ensures { result ≡ figures_with serving world.now watches.entry.items }
 {
@@ -94,6 +95,7 @@ fn figures_with<'a>(serving: bool, world: &World, watches: Vec<WatchRow<'a>>) ->
         connections: world.clients.sessions.count(),
         paths: tree.paths(),
         pairs: tree.ephemerals().count(),
+        watched: world.clients.watches.counts(),
         watches: Listed::from_vec(watches),
     }
 }

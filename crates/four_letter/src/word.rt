@@ -61,14 +61,15 @@ impl Word {
         }
     }
 
-    /// Whether its answer needs the watches. Otherwise it is the same whatever is watched.
+    /// Whether its answer needs the watches themselves, and not only their counts. Otherwise it is the same whatever
+    /// watches are listed.
     pub fn needs_watches(self) -> bool
         ensures needed { result ≡ needs_watches self }
         ensures unseen { result ≡ false → TellsOfNoWatch self }
     {
         match self {
-            Word::Ruok | Word::Isro | Word::Srvr => false,
-            Word::Mntr | Word::Wchs | Word::Wchp => true,
+            Word::Ruok | Word::Isro | Word::Srvr | Word::Mntr | Word::Wchs => false,
+            Word::Wchp => true,
         }
     }
 }
