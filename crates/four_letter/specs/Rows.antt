@@ -9,8 +9,8 @@ use Rattle.four_letter.specs.declared.figures.Figures.{Figures}
 use Rattle.four_letter.specs.declared.figures.WatchRow.{WatchRow}
 use Rattle.four_letter.specs.declared.word.Word.TheVariants.{Ruok, Isro, Srvr, Mntr, Wchs, Wchp}
 
-abbrev pub counts : ℕ → ℕ → ℕ → WatchCounts
-counts connections paths watches = record { connections = connections; paths = paths; watches = watches }
+abbrev pub watch_counts : ℕ → ℕ → ℕ → WatchCounts
+watch_counts connections paths watches = record { connections = connections; paths = paths; watches = watches }
 
 -- One connection has a session, and the tree has the three preset nodes.
 abbrev pub primed_figures : Figures
@@ -20,7 +20,7 @@ primed_figures = record {
   connections = 1;
   paths = 3;
   pairs = 0;
-  watched = counts 0 0 0;
+  watched = watch_counts 0 0 0;
   watches = [];
 }
 
@@ -38,7 +38,7 @@ first_session = pos 216172782113783809
 abbrev pub one_watcher_figures : Figures
 one_watcher_figures = record primed_figures {
   paths = 4;
-  watched = counts 1 2 2;
+  watched = watch_counts 1 2 2;
   watches = watch_row (codes "/") 1 first_session Child ∷ watch_row (codes "/a") 1 first_session Own ∷ [];
 }
 
@@ -46,7 +46,7 @@ one_watcher_figures = record primed_figures {
 -- 2 is one of server 255, whose ids are negative.
 abbrev pub three_watcher_figures : Figures
 three_watcher_figures = record primed_figures {
-  watched = counts 3 2 5;
+  watched = watch_counts 3 2 5;
   watches =
       watch_row (codes "/a") 1 first_session Own ∷ watch_row (codes "/a") 1 first_session Child
       ∷ watch_row (codes "/a") 1 first_session Lasting ∷ watch_row (codes "/a") 2 (negsuc 72057594037927934) Own

@@ -69,3 +69,8 @@ reply_text Wchp f = while_serving f (wchp_text f.watches)
 abbrev pub TellsOfNoWatch : Word → Type 0
 TellsOfNoWatch word = (f : Figures) (rows : List WatchRow)
     → reply_text word (record f { watches = rows }) ≡ reply_text word f
+
+-- The word's answer is the same whatever numbers of paths and of connections are told.
+abbrev pub TellsOfWatchesAlone : Word → Type 0
+TellsOfWatchesAlone word = (f : Figures) (counts : WatchCounts) → counts.watches ≡ f.watched.watches
+    → reply_text word (record f { watched = counts }) ≡ reply_text word f

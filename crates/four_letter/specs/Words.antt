@@ -27,3 +27,12 @@ needs_watches Srvr = false
 needs_watches Mntr = false
 needs_watches Wchs = false
 needs_watches Wchp = true
+
+-- Whether the answer needs the numbers of paths and of connections beside that of watches.
+abbrev pub needs_counts : Word → Bool
+needs_counts Ruok = false
+needs_counts Isro = false
+needs_counts Srvr = false
+needs_counts Mntr = false
+needs_counts Wchs = true
+needs_counts Wchp = false

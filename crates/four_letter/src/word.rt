@@ -1,8 +1,8 @@
 //! The four-letter words.
 
 ghost use Rattle.std.specs.Prelude.{◌≡◌, Some, false};
-ghost use Rattle.four_letter.specs.Words.{word_of, needs_watches};
-ghost use Rattle.four_letter.specs.Texts.{TellsOfNoWatch};
+ghost use Rattle.four_letter.specs.Words.{word_of, needs_watches, needs_counts};
+ghost use Rattle.four_letter.specs.Texts.{TellsOfNoWatch, TellsOfWatchesAlone};
 
 /// A four-letter word.
 #[derive(Clone, Copy)]
@@ -70,6 +70,17 @@ impl Word {
         match self {
             Word::Ruok | Word::Isro | Word::Srvr | Word::Mntr | Word::Wchs => false,
             Word::Wchp => true,
+        }
+    }
+    /// Whether its answer needs the numbers of paths and of connections beside that of watches. Otherwise it is the same
+    /// whatever they are.
+    pub fn needs_counts(self) -> bool
+        ensures needed { result ≡ needs_counts self }
+        ensures unseen { result ≡ false → TellsOfWatchesAlone self }
+    {
+        match self {
+            Word::Ruok | Word::Isro | Word::Srvr | Word::Mntr | Word::Wchp => false,
+            Word::Wchs => true,
         }
     }
 }

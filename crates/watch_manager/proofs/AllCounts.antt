@@ -1,5 +1,5 @@
 -- The counts of all tables.
-use Rattle.std.proofs.Common.{◌≡◌, ℕ, ◌+◌, List, [], ◌∷◌, ◌++◌, Bool, true, false, cond, not, ◌||◌, ◌&&◌, Option, Some, None, is_some, refl, sym, ap, ◌∙◌, map, arith}
+use Rattle.std.proofs.Common.{◌≡◌, ℕ, ◌+◌, List, [], ◌∷◌, ◌++◌, Bool, true, false, cond, not, ◌||◌, ◌&&◌, Option, Some, None, is_some, refl, sym, ap, ◌∙◌, map}
 use Rattle.std.specs.List.{list_any}
 use Rattle.std.specs.Ordering.{eq_by_cmp, nat_cmp}
 use Rattle.std.specs.Cmp.{nat_cmp_total}
@@ -9,7 +9,7 @@ use Rattle.std.specs.FinMap as finmap
 use Rattle.std.specs.FinSet as set
 use Rattle.ephemerals.specs.Orders.{Bytes, path_cmp}
 use Rattle.ephemerals.proofs.Totals.{path_total}
-use Rattle.watch_manager.specs.Pairs.{WatchPairs, watch_cmp, with_connection, same_connection}
+use Rattle.watch_manager.specs.Pairs.{WatchPairs, watch_cmp, pairs_of_connection, same_connection}
 use Rattle.watch_manager.specs.Lasting.{LastingWatches, is_in_mode, watches_in}
 use Rattle.watch_manager.specs.Watching.{WatchTables}
 use Rattle.watch_manager.specs.Counts.{pairs_watched, watched_paths, watching_connections, lasting_of_connection}
@@ -55,7 +55,7 @@ len-lasting lasting =
         ∙ sym (contains-kept watch_total watch_exact (all_lasting lasting) (λ p. not (in_mode Persistent lasting p)) q))
 
 lasting-of_connection : (mode : WatchMode) (conn : ℕ) (lasting : LastingWatches)
-    → watches_in mode (lasting_of_connection conn lasting) ≡ with_connection conn (watches_in mode lasting)
+    → watches_in mode (lasting_of_connection conn lasting) ≡ pairs_of_connection conn (watches_in mode lasting)
 lasting-of_connection mode conn lasting = set.same_set watch_total watch_exact _ _ (λ q.
     contains-watches_in mode (lasting_of_connection conn lasting) q
     ∙ ap (is_in_mode mode) (finmap.get-retain_keys lasting (λ (p : Bytes × ℕ). same_connection conn p.1) q
@@ -78,8 +78,8 @@ lasting-of_connection mode conn lasting = set.same_set watch_total watch_exact _
     by false found = and_false (is_in_mode mode found)
 
 pub len-lasting_of : (conn : ℕ) (lasting : LastingWatches)
-    → set.len (with_connection conn (watches_in Persistent lasting))
-    + set.len (with_connection conn (watches_in Recursive lasting)) ≡ finmap.len (lasting_of_connection conn lasting)
+    → set.len (pairs_of_connection conn (watches_in Persistent lasting))
+    + set.len (pairs_of_connection conn (watches_in Recursive lasting)) ≡ finmap.len (lasting_of_connection conn lasting)
 len-lasting_of conn lasting =
     (λ i. set.len (sym (lasting-of_connection Persistent conn lasting) i)
     + set.len (sym (lasting-of_connection Recursive conn lasting) i))

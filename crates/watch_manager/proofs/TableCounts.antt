@@ -1,6 +1,6 @@
 -- The counts of a table: the watches of a path and of a connection, and the connections that watch something.
-use Rattle.std.proofs.Common.{◌≡◌, ℕ, ◌+◌, ◌-◌, ◌≤◌, List, [], ◌∷◌, Bool, true, false, not, ◌||◌, ◌&&◌, refl, sym, ap, ◌∙◌, map, arith}
-use mathlib.Core.Bool.{true≢false, and-true, and-false}
+use Rattle.std.proofs.Common.{◌≡◌, ℕ, ◌-◌, ◌≤◌, List, [], ◌∷◌, Bool, true, false, ◌||◌, ◌&&◌, refl, sym, ap, ◌∙◌, map, arith}
+use mathlib.Core.Bool.{and-true, and-false}
 use Rattle.std.specs.List.{list_any}
 use Rattle.std.specs.Ordering.{eq_by_cmp, is_eq, nat_cmp}
 use Rattle.std.specs.Cmp.{nat_cmp_total, eq_by_cmp_equiv, tied_itself}
@@ -10,7 +10,7 @@ use Rattle.std.specs.FinSet as set
 use Rattle.ephemerals.specs.Orders.{Bytes, Names, path_cmp}
 use Rattle.ephemerals.proofs.Ties.{tied_then}
 use Rattle.ephemerals.proofs.Totals.{path_total}
-use Rattle.watch_manager.specs.Pairs.{ConnectionSet, WatchPairs, watch_cmp, watchers_of, without_watches_on, with_connection, without_connection, same_path, same_connection}
+use Rattle.watch_manager.specs.Pairs.{ConnectionSet, WatchPairs, watch_cmp, watchers_of, without_watches_on, pairs_of_connection, without_connection, same_path, same_connection}
 use Rattle.watch_manager.specs.Inner.Grouped.{pair_cmp, ConnPairs, AgreeOn, keys_in, keys_beyond, connections_in, connections_beyond}
 use Rattle.watch_manager.proofs.Totals.{watch_total, watch_exact}
 use Rattle.watch_manager.proofs.Watchers.{contains-watchers}
@@ -37,7 +37,7 @@ any-watched_by q d c (p ∷ ps) =
 
 -- As many watches as paths.
 pub len-paths : (pairs : WatchPairs) (turn : ConnPairs) (c : ℕ) (paths : Names) → AgreeOn pairs turn
-    → ((p : Bytes) → set.contains paths p ≡ set.contains turn (c, p)) → set.len paths ≡ set.len (with_connection c pairs)
+    → ((p : Bytes) → set.contains paths p ≡ set.contains turn (c, p)) → set.len paths ≡ set.len (pairs_of_connection c pairs)
 len-paths pairs turn c paths agree is =
     sym (len-image path_total exact_bytes watch_total (λ (p : Bytes). (p, c)) alike paths)
     ∙ ap set.len (set.same_set watch_total watch_exact _ _ (λ r. each r.0 r.1))
@@ -55,7 +55,7 @@ len-paths pairs turn c paths agree is =
 
     each : (q : Bytes) (d : ℕ)
         → set.contains (set.from_list {R = watch_cmp} (map (λ (p : Bytes). (p, c)) (set.items paths))) (q, d)
-        ≡ set.contains (with_connection c pairs) (q, d)
+        ≡ set.contains (pairs_of_connection c pairs) (q, d)
     each q d =
         set.contains-from_list watch_total (map (λ (p : Bytes). (p, c)) (set.items paths)) (q, d)
         ∙ any-watched_by q d c (set.items paths)
@@ -65,7 +65,7 @@ len-paths pairs turn c paths agree is =
         ∙ sym (contains-kept watch_total watch_exact pairs (λ (p : Bytes × ℕ). same_connection c p.1) (q, d))
 
 pub no-paths : (pairs : WatchPairs) (turn : ConnPairs) (c : ℕ) → AgreeOn pairs turn
-    → ((p : Bytes) → set.contains turn (c, p) ≡ false) → 0 ≡ set.len (with_connection c pairs)
+    → ((p : Bytes) → set.contains turn (c, p) ≡ false) → 0 ≡ set.len (pairs_of_connection c pairs)
 no-paths pairs turn c agree none =
     sym (set.len-empty path_cmp)
     ∙ len-paths pairs turn c set.empty agree (λ p. set.contains-empty path_cmp p ∙ sym (none p))

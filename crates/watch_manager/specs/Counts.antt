@@ -3,7 +3,7 @@ use Rattle.std.specs.Prelude.{ℕ, ◌+◌, List, ◌++◌, map}
 use Rattle.std.specs.FinMap as finmap
 use Rattle.std.specs.FinSet as set
 use Rattle.ephemerals.specs.Orders.{Bytes, Names}
-use Rattle.watch_manager.specs.Pairs.{ConnectionSet, with_connection, same_connection}
+use Rattle.watch_manager.specs.Pairs.{ConnectionSet, pairs_of_connection, same_connection}
 use Rattle.watch_manager.specs.Lasting.{LastingWatches}
 use Rattle.watch_manager.specs.Watching.{WatchTables}
 use Rattle.watch_manager.specs.declared.counts.WatchCounts.{WatchCounts}
@@ -37,8 +37,8 @@ lasting_of_connection conn lasting = finmap.retain_keys lasting (λ (p : Bytes �
 -- The watches of one connection.
 abbrev pub watches_of : ℕ → WatchTables → WatchTables
 watches_of conn w = record {
-  own = with_connection conn w.own;
-  child = with_connection conn w.child;
+  own = pairs_of_connection conn w.own;
+  child = pairs_of_connection conn w.child;
   lasting = lasting_of_connection conn w.lasting;
 }
 

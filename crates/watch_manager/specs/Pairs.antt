@@ -41,5 +41,5 @@ abbrev pub without_connection : ℕ → WatchPairs → WatchPairs
 without_connection conn pairs = set.retain pairs (λ (p : Bytes × ℕ). not (same_connection conn p.1))
 
 -- The pairs of one connection.
-abbrev pub with_connection : ℕ → WatchPairs → WatchPairs
-with_connection conn pairs = set.retain pairs (λ (p : Bytes × ℕ). same_connection conn p.1)
+abbrev pub pairs_of_connection : ℕ → WatchPairs → WatchPairs
+pairs_of_connection conn pairs = set.retain pairs (λ (p : Bytes × ℕ). same_connection conn p.1)

@@ -1,6 +1,6 @@
 //! The watches by path: for each path the connections that watch it.
 
-ghost use Rattle.std.specs.Prelude.{◌≡◌, ◌↔◌, ℕ, OnOk, OnErr, IfOk, IfSome, IfNone, IsTrue, not, String};
+ghost use Rattle.std.specs.Prelude.{◌≡◌, ℕ, OnOk, OnErr, IfOk, IfSome, IfNone, not, String};
 ghost use Rattle.std.specs.FinSet as set;
 ghost use Rattle.std.specs.Map.Iter.{ShowsInOrder, deref_pair};
 ghost use Rattle.ephemerals.specs.Grouped.{all_pairs, by_bytes};
@@ -54,13 +54,6 @@ impl ByPath {
         ensures { result ≡ set.len (keys_in path_cmp self.now) }
     {
         self.map.len()
-    }
-
-    /// Whether no path is watched.
-    pub fn is_empty(&self) -> bool
-        ensures { IsTrue result ↔ (self.now ≡ set.empty) }
-    {
-        self.map.is_empty()
     }
 
     /// Whether the path is watched.

@@ -7,7 +7,7 @@ ghost use Rattle.std.specs.FinSet as set;
 ghost use Rattle.std.specs.Map.Iter.{ShowsInOrder, deref_pair};
 ghost use Rattle.ephemerals.specs.Orders.{path_cmp};
 ghost use Rattle.ephemerals.specs.Grouped.{all_pairs, by_bytes};
-ghost use Rattle.watch_manager.specs.Pairs.{ConnectionSet, watchers_of, without_watches_on, with_connection, without_connection};
+ghost use Rattle.watch_manager.specs.Pairs.{ConnectionSet, watchers_of, without_watches_on, pairs_of_connection, without_connection};
 ghost use Rattle.watch_manager.specs.Inner.Grouped.{keys_in, keys_beyond, connections_in, connections_beyond};
 
 use crate::by_conn::ByConn;
@@ -60,7 +60,7 @@ impl WatchTable {
     pub fn is_empty(&self) -> bool
         ensures { IsTrue result ↔ (self.now ≡ set.empty) }
     {
-        self.by_path.is_empty()
+        self.count == 0
     }
 
     /// The number of watches.
@@ -72,7 +72,7 @@ impl WatchTable {
 
     /// The number of watches of a connection.
     pub fn count_of(&self, conn: u64) -> usize
-        ensures { result ≡ set.len (with_connection conn self.now) }
+        ensures { result ≡ set.len (pairs_of_connection conn self.now) }
     {
         match self.by_conn.of(conn) {
             None => 0,
@@ -165,22 +165,17 @@ impl WatchTable {
         }
     }
 
-    // Whether the connection watches the path.
-    fn is_set(&self, conn: u64, path: &str) -> bool
-        ensures { result ≡ set.contains self.now (path.now, conn) }
-    {
-        match self.watchers(path) {
-            None => false,
-            Some(conns) => conns.contains(conn),
-        }
-    }
-
     /// Removes a watch. Allocates nothing.
     pub fn remove(&mut self, conn: u64, path: &str)
         ensures { self.new ≡ set.remove self.old (path.now, conn) }
     {
-        if !self.is_set(conn, path) {
-            return;
+        match self.watchers(path) {
+            None => return,
+            Some(conns) => {
+                if !conns.contains(conn) {
+                    return;
+                }
+            }
         }
         self.count -= 1;
         self.by_conn.remove(conn, path);

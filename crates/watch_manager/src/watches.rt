@@ -7,7 +7,7 @@ ghost use Rattle.std.specs.FinSet as set;
 ghost use Rattle.watch_manager.specs.Lasting.{mode_of};
 ghost use Rattle.watch_manager.specs.Watching.{no_watch, with_lasting_watch, without_watches_of};
 ghost use Rattle.watch_manager.specs.Watches.{fire, watches_after};
-ghost use Rattle.watch_manager.specs.Counts.{watch_count, watch_count_of, watched_paths, watching_connections, counts_of};
+ghost use Rattle.watch_manager.specs.Counts.{watch_count, watch_count_of, counts_of};
 ghost use Rattle.watch_manager.specs.Summary.{summary};
 
 use crate::counts::WatchCounts;
@@ -132,39 +132,23 @@ impl Watches {
             + lasting.recursive().count_of(conn) as u128
     }
 
-    // The number of connections that watch something.
-    fn connections(&self) -> u128
-        ensures { result ≡ set.len (watching_connections self.now) }
-    {
-        let (own, child) = (&self.own, &self.child);
-        let (persistent, recursive) = (self.lasting.persistent(), self.lasting.recursive());
-        own.connections() as u128
-            + child.connections_beyond(own, own, own) as u128
-            + persistent.connections_beyond(own, child, child) as u128
-            + recursive.connections_beyond(own, child, persistent) as u128
-    }
-
-    // The number of watched paths.
-    fn paths(&self) -> u128
-        ensures { result ≡ set.len (watched_paths self.now) }
-    {
-        let (own, child) = (&self.own, &self.child);
-        let (persistent, recursive) = (self.lasting.persistent(), self.lasting.recursive());
-        own.paths() as u128
-            + child.paths_beyond(own, own, own) as u128
-            + persistent.paths_beyond(own, child, child) as u128
-            + recursive.paths_beyond(own, child, persistent) as u128
-    }
-
     /// The number of watches, of watched paths, and of connections that watch something. Takes time linear in the number
     /// of paths and connections of the child and lasting watches, whatever the number of data watches: each is looked
     /// up in the other tables. Allocates nothing.
     pub fn counts(&self) -> WatchCounts
         ensures { result ≡ counts_of self.now }
     {
+        let (own, child) = (&self.own, &self.child);
+        let (persistent, recursive) = (self.lasting.persistent(), self.lasting.recursive());
         WatchCounts {
-            connections: self.connections(),
-            paths: self.paths(),
+            connections: own.connections() as u128
+                + child.connections_beyond(own, own, own) as u128
+                + persistent.connections_beyond(own, child, child) as u128
+                + recursive.connections_beyond(own, child, persistent) as u128,
+            paths: own.paths() as u128
+                + child.paths_beyond(own, own, own) as u128
+                + persistent.paths_beyond(own, child, child) as u128
+                + recursive.paths_beyond(own, child, persistent) as u128,
             watches: self.count(),
         }
     }

@@ -1,4 +1,4 @@
-use Rattle.std.proofs.Common.{ℕ, not, ap, sym, ◌∙◌, length, map, arith, string_bytes}
+use Rattle.std.proofs.Common.{not, ap, sym, ◌∙◌, length, map, arith, string_bytes}
 use Rattle.std.specs.List.{filter}
 use Rattle.std.specs.Cmp.{nat_cmp_total}
 use Rattle.std.proofs.lemmas.Map.Lookups.{exact_unsigned, exact_bytes}
