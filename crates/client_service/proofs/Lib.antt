@@ -7,3 +7,4 @@ pub mod Touching
 pub mod Headers
 pub mod Connecting
 pub mod Running
+pub mod Answering

@@ -16,6 +16,8 @@ use Rattle.sessions.specs.Sessions.{session_of_connection, ids_of, ConnectResult
 use Rattle.sessions.specs.declared.request.Connected.{Connected}
 use Rattle.sessions.specs.declared.request.SessionResponse.{SessionResponse}
 use Rattle.watch_manager.specs.Watching.{WatchTables, with_lasting_watch}
+use Rattle.watch_manager.specs.Counts.{counts_of}
+use Rattle.watch_manager.specs.declared.counts.WatchCounts.{WatchCounts}
 use Rattle.watch_manager.specs.Summary.{summary}
 use Rattle.watch_manager.specs.declared.watched.Watched.{Watched}
 use Rattle.four_letter.specs.Words.{word_of}
@@ -293,19 +295,20 @@ watch_row_of sessions watched = record {
 abbrev pub watch_rows : Clients → List WatchRow
 watch_rows c = map (watch_row_of c.sessions) (summary c.watches)
 
--- The figures that the answers to words are made of, with these watches.
-abbrev pub figures_with : Bool → World → List WatchRow → Figures
-figures_with serving w watches = record {
+-- The figures that the answers to words are made of, with these counts, and these watches listed.
+abbrev pub figures_with : Bool → World → WatchCounts → List WatchRow → Figures
+figures_with serving w watched watches = record {
   serving = serving;
   last = w.replica.learner.last_zxid;
   connections = finmap.len w.clients.sessions.connections;
   paths = finmap.len w.replica.tree.nodes;
   pairs = set.len w.replica.tree.pairs;
+  watched = watched;
   watches = watches;
 }
 
 abbrev pub figures_of : Bool → World → Figures
-figures_of serving w = figures_with serving w (watch_rows w.clients)
+figures_of serving w = figures_with serving w (counts_of w.clients.watches) (watch_rows w.clients)
 
 -- A word is answered, and the connection is closed.
 abbrev pub tell_word : Bool → ℕ → World → Word → StepResult World

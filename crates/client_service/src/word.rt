@@ -4,7 +4,8 @@
 //! `Unmoved`, `Words`.
 
 ghost use Rattle.std.specs.Prelude.{◌≡◌, ◌<◌, IfOk, IfSome, IfNone, true, map, take, length};
-ghost use Rattle.four_letter.specs.Words.{needs_watches};
+ghost use Rattle.watch_manager.specs.Counts.{watch_count, counts_of};
+ghost use Rattle.four_letter.specs.Words.{needs_watches, needs_counts};
 ghost use Rattle.four_letter.specs.Texts.{reply_text};
 ghost use Rattle.client_service.specs.Serve.{watch_row_of, watch_rows, figures_with, figures_of, tell_word, word_at};
 ghost use Rattle.client_service.specs.Results.{MeetsStep};
@@ -17,7 +18,7 @@ use four_letter::{Figures, WatchRow, Word, answer};
 use sessions::Sessions;
 use std::alloc::Global;
 use values::{Blob, Listed, NoMemory};
-use watch_manager::Watched;
+use watch_manager::{WatchCounts, Watched, Watches};
 
 fn first_four(bytes: &[u8]) -> Option<[u8; 4]>
     ensures some { IfSome result (λ four. four ≡ take 4 bytes.now) }
@@ -73,7 +74,8 @@ fn watch_rows(alloc: Global, clients: &Clients) -> Result<Vec<WatchRow<'_>>, NoM
     Ok(rows)
 }
 
-// The watches if the word's answer needs them, otherwise none.
+// The watches if the word's answer lists them, otherwise none: they are as many as clients care to set, and their counts
+// are kept.
 fn rows_for(alloc: Global, word: Word, clients: &Clients) -> Result<Vec<WatchRow<'_>>, NoMemory>
     ensures { IfOk result (λ rows. needs_watches word ≡ true → rows.items ≡ watch_rows clients.now) }
 {
@@ -83,9 +85,29 @@ fn rows_for(alloc: Global, word: Word, clients: &Clients) -> Result<Vec<WatchRow
     watch_rows(alloc, clients)
 }
 
-// The figures that the answers to words are made of, with these watches.
-fn figures_with<'a>(serving: bool, world: &World, watches: Vec<WatchRow<'a>>) -> Figures<'a>
-    ensures { result ≡ figures_with serving world.now watches.entry.items }
+// The number of watches, and those of paths and of connections if the word's answer needs them: they aren't kept.
+fn counts_for(word: Word, watches: &Watches) -> WatchCounts
+    ensures watches { result.watches ≡ watch_count watches.now }
+    ensures all { needs_counts word ≡ true → result ≡ counts_of watches.now }
+{
+    if word.needs_counts() {
+        return watches.counts();
+    }
+    WatchCounts {
+        connections: 0,
+        paths: 0,
+        watches: watches.count(),
+    }
+}
+
+// The figures that the answers to words are made of, with these counts, and these watches listed.
+fn figures_with<'a>(
+    serving: bool,
+    world: &World,
+    watched: WatchCounts,
+    watches: Vec<WatchRow<'a>>,
+) -> Figures<'a>
+    ensures { result ≡ figures_with serving world.now watched.entry watches.entry.items }
 {
     let tree = world.replica.tree();
     Figures {
@@ -94,6 +116,7 @@ fn figures_with<'a>(serving: bool, world: &World, watches: Vec<WatchRow<'a>>) ->
         connections: world.clients.sessions.count(),
         paths: tree.paths(),
         pairs: tree.ephemerals().count(),
+        watched,
         watches: Listed::from_vec(watches),
     }
 }
@@ -102,7 +125,8 @@ fn answer_of(alloc: Global, serving: bool, world: &World, word: Word) -> Result<
     ensures { IfOk result (λ bytes. bytes ≡ reply_text word (figures_of serving world.now)) }
 {
     let rows = rows_for(alloc, word, &world.clients)?;
-    let figures = figures_with(serving, world, rows);
+    let watched = counts_for(word, &world.clients.watches);
+    let figures = figures_with(serving, world, watched, rows);
     let mut bytes = Vec::new(alloc);
     answer(word.letters(), &figures, &mut bytes)?;
     Ok(Blob::from_vec(bytes))

@@ -1,5 +1,5 @@
--- The distinct elements of a list.
-mod Counting
+-- A list up to a place.
+mod Fronts
 -- Sessions, gathered row by row.
 mod Gathering
 -- Lines, appended one after the other.

@@ -1,6 +1,7 @@
 -- Rows that were worked out by hand: the figures of an observer, and its answers.
 use Rattle.std.specs.Prelude.{◌≡◌, ℕ, ℤ, pos, negsuc, [], ◌∷◌, ◌++◌, true, false, codes}
 use Rattle.ephemerals.specs.Orders.{Bytes}
+use Rattle.watch_manager.specs.declared.counts.WatchCounts.{WatchCounts}
 use Rattle.watch_manager.specs.declared.watched.Table.{Table}
 use Rattle.watch_manager.specs.declared.watched.Table.TheVariants.{Own, Child, Lasting}
 use Rattle.four_letter.specs.Texts.{reply_text}
@@ -8,9 +9,20 @@ use Rattle.four_letter.specs.declared.figures.Figures.{Figures}
 use Rattle.four_letter.specs.declared.figures.WatchRow.{WatchRow}
 use Rattle.four_letter.specs.declared.word.Word.TheVariants.{Ruok, Isro, Srvr, Mntr, Wchs, Wchp}
 
+abbrev pub watch_counts : ℕ → ℕ → ℕ → WatchCounts
+watch_counts connections paths watches = record { connections = connections; paths = paths; watches = watches }
+
 -- One connection has a session, and the tree has the three preset nodes.
 abbrev pub primed_figures : Figures
-primed_figures = record { serving = true; last = pos 0; connections = 1; paths = 3; pairs = 0; watches = [] }
+primed_figures = record {
+  serving = true;
+  last = pos 0;
+  connections = 1;
+  paths = 3;
+  pairs = 0;
+  watched = watch_counts 0 0 0;
+  watches = [];
+}
 
 abbrev pub leaderless_figures : Figures
 leaderless_figures = record primed_figures { serving = false }
@@ -26,6 +38,7 @@ first_session = pos 216172782113783809
 abbrev pub one_watcher_figures : Figures
 one_watcher_figures = record primed_figures {
   paths = 4;
+  watched = watch_counts 1 2 2;
   watches = watch_row (codes "/") 1 first_session Child ∷ watch_row (codes "/a") 1 first_session Own ∷ [];
 }
 
@@ -33,6 +46,7 @@ one_watcher_figures = record primed_figures {
 -- 2 is one of server 255, whose ids are negative.
 abbrev pub three_watcher_figures : Figures
 three_watcher_figures = record primed_figures {
+  watched = watch_counts 3 2 5;
   watches =
       watch_row (codes "/a") 1 first_session Own ∷ watch_row (codes "/a") 1 first_session Child
       ∷ watch_row (codes "/a") 1 first_session Lasting ∷ watch_row (codes "/a") 2 (negsuc 72057594037927934) Own

@@ -1,10 +1,11 @@
 -- The answer to each word. The lines, their order and the counts are this observer's own.
-use Rattle.std.specs.Prelude.{◌≡◌, ℕ, ◌+◌, ℤ, List, ◌++◌, length, false, if◌then◌else◌, codes, decimal}
+use Rattle.std.specs.Prelude.{◌≡◌, ℕ, ◌+◌, ℤ, List, ◌++◌, false, if◌then◌else◌, codes, decimal}
 use Rattle.std.specs.List.{flat_map}
 use Rattle.std.specs.Int.{w64, cast_unsigned}
 use Rattle.std.specs.Fmt.{radix_digits}
 use Rattle.ephemerals.specs.Orders.{Bytes}
-use Rattle.four_letter.specs.Watched.{watched_paths, watching_connections, watching_sessions}
+use Rattle.watch_manager.specs.declared.counts.WatchCounts.{WatchCounts}
+use Rattle.four_letter.specs.Watched.{watched_paths, watching_sessions}
 use Rattle.four_letter.specs.declared.figures.Figures.{Figures}
 use Rattle.four_letter.specs.declared.figures.WatchRow.{WatchRow}
 use Rattle.four_letter.specs.declared.word.Word.{Word}
@@ -34,14 +35,13 @@ mntr_text f =
     name_value_line (codes "zk_server_state\t") (codes "observer")
     ++ name_value_line (codes "zk_num_alive_connections\t") (decimal f.connections)
     ++ name_value_line (codes "zk_znode_count\t") (decimal (node_count f))
-    ++ name_value_line (codes "zk_watch_count\t") (decimal (length f.watches))
+    ++ name_value_line (codes "zk_watch_count\t") (decimal f.watched.watches)
     ++ name_value_line (codes "zk_ephemerals_count\t") (decimal f.pairs)
 
-abbrev pub wchs_text : List WatchRow → List ℕ
-wchs_text rows =
-    decimal (length (watching_connections rows)) ++ codes " connections watching "
-    ++ decimal (length (watched_paths rows)) ++ codes " paths\n"
-    ++ name_value_line (codes "Total watches:") (decimal (length rows))
+abbrev pub wchs_text : WatchCounts → List ℕ
+wchs_text watched =
+    decimal watched.connections ++ codes " connections watching " ++ decimal watched.paths ++ codes " paths\n"
+    ++ name_value_line (codes "Total watches:") (decimal watched.watches)
 
 abbrev pub session_line : ℤ → List ℕ
 session_line session = name_value_line (codes "\t") (prefixed_hex session)
@@ -62,10 +62,15 @@ reply_text Ruok f = codes "imok"
 reply_text Isro f = if f.serving then codes "rw" else codes "null"
 reply_text Srvr f = while_serving f (srvr_text f)
 reply_text Mntr f = while_serving f (mntr_text f)
-reply_text Wchs f = while_serving f (wchs_text f.watches)
+reply_text Wchs f = while_serving f (wchs_text f.watched)
 reply_text Wchp f = while_serving f (wchp_text f.watches)
 
--- The word's answer is the same whatever is watched.
+-- The word's answer is the same whatever watches are listed.
 abbrev pub TellsOfNoWatch : Word → Type 0
 TellsOfNoWatch word = (f : Figures) (rows : List WatchRow)
     → reply_text word (record f { watches = rows }) ≡ reply_text word f
+
+-- The word's answer is the same whatever numbers of paths and of connections are told.
+abbrev pub TellsOfWatchesAlone : Word → Type 0
+TellsOfWatchesAlone word = (f : Figures) (counts : WatchCounts) → counts.watches ≡ f.watched.watches
+    → reply_text word (record f { watched = counts }) ≡ reply_text word f

@@ -1,7 +1,7 @@
--- Counts and lists of the watches: paths, connections and sessions, each once.
-use Rattle.std.specs.Prelude.{ℕ, ℤ, List, map}
+-- Lists of the watches: paths and sessions, each once.
+use Rattle.std.specs.Prelude.{ℤ, List, map}
 use Rattle.std.specs.List.{filter}
-use Rattle.std.specs.Ordering.{nat_cmp, int_cmp}
+use Rattle.std.specs.Ordering.{int_cmp}
 use Rattle.ephemerals.specs.Orders.{Bytes, path_cmp}
 use Rattle.watch_manager.specs.Pairs.{same_path}
 use Rattle.watch_manager.specs.Ascending.{sorted_distinct}
@@ -10,10 +10,6 @@ use Rattle.four_letter.specs.declared.figures.WatchRow.{WatchRow}
 -- The paths that are watched in any table, in ascending order of their bytes.
 abbrev pub watched_paths : List WatchRow → List Bytes
 watched_paths rows = sorted_distinct path_cmp (map (λ (r : WatchRow). r.path) rows)
-
--- The connections that watch something.
-abbrev pub watching_connections : List WatchRow → List ℕ
-watching_connections rows = sorted_distinct nat_cmp (map (λ (r : WatchRow). r.conn) rows)
 
 -- The sessions that watch the path in any table, in ascending order of their ids.
 abbrev pub watching_sessions : Bytes → List WatchRow → List ℤ

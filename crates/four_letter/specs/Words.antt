@@ -19,11 +19,20 @@ all_words = Ruok ∷ Isro ∷ Srvr ∷ Mntr ∷ Wchs ∷ Wchp ∷ []
 abbrev pub word_of : List ℕ → Option Word
 word_of bytes = find (λ word. bytes_eq bytes (letters_of word)) all_words
 
--- Whether the answer needs the watches.
+-- Whether the answer needs the watches themselves.
 abbrev pub needs_watches : Word → Bool
 needs_watches Ruok = false
 needs_watches Isro = false
 needs_watches Srvr = false
-needs_watches Mntr = true
-needs_watches Wchs = true
+needs_watches Mntr = false
+needs_watches Wchs = false
 needs_watches Wchp = true
+
+-- Whether the answer needs the numbers of paths and of connections beside that of watches.
+abbrev pub needs_counts : Word → Bool
+needs_counts Ruok = false
+needs_counts Isro = false
+needs_counts Srvr = false
+needs_counts Mntr = false
+needs_counts Wchs = true
+needs_counts Wchp = false

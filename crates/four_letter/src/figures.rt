@@ -1,7 +1,7 @@
 //! The figures of an observer.
 
 use values::{Listed, Str};
-use watch_manager::Table;
+use watch_manager::{Table, WatchCounts};
 
 /// A watch, and the session of its connection.
 #[derive(Drop)]
@@ -25,6 +25,9 @@ pub struct Figures<'a> {
     pub paths: usize,
     /// The number of pairs of a session and an ephemeral node.
     pub pairs: usize,
+    /// How much is watched. The answer of a word that doesn't need all counts is the same whatever paths and connections
+    /// are counted.
+    pub watched: WatchCounts,
     /// The watches of all tables. The answer of a word that doesn't need watches is the same without them.
     pub watches: Listed<WatchRow<'a>>,
 }

@@ -7,11 +7,12 @@ ghost use Rattle.four_letter.specs.Texts.{reply_text, srvr_text, mntr_text, wchs
 
 use crate::figures::{Figures, WatchRow};
 use crate::put::{put, put_count, put_hex, put_watching};
-use crate::watched::{by_path, count_connections, count_paths};
+use crate::watched::by_path;
 use crate::word::Word;
 use std::alloc::Global;
 use std::collections::BTreeSet;
 use values::NoMemory;
+use watch_manager::WatchCounts;
 
 // One more than the greatest number of paths doesn't fit their type.
 fn node_count(figures: &Figures<'_>) -> u128
@@ -39,17 +40,15 @@ fn put_mntr(out: &mut Vec<u8>, figures: &Figures<'_>) -> Result<(), NoMemory>
         figures.connections as u128,
     )?;
     put_count(out, "zk_znode_count\t", node_count(figures))?;
-    put_count(out, "zk_watch_count\t", figures.watches.len() as u128)?;
+    put_count(out, "zk_watch_count\t", figures.watched.watches)?;
     put_count(out, "zk_ephemerals_count\t", figures.pairs as u128)
 }
 
-fn put_wchs(out: &mut Vec<u8>, alloc: Global, rows: &[WatchRow<'_>]) -> Result<(), NoMemory>
-    ensures { OnOk result (out.new.items ≡ out.old.items ++ wchs_text rows.now) }
+fn put_wchs(out: &mut Vec<u8>, watched: &WatchCounts) -> Result<(), NoMemory>
+    ensures { OnOk result (out.new.items ≡ out.old.items ++ wchs_text watched.now) }
 {
-    let connections = count_connections(alloc, rows)?;
-    let paths = count_paths(alloc, rows)?;
-    put_watching(out, connections, paths)?;
-    put_count(out, "Total watches:", rows.len() as u128)
+    put_watching(out, watched.connections, watched.paths)?;
+    put_count(out, "Total watches:", watched.watches)
 }
 
 fn put_sessions(out: &mut Vec<u8>, sessions: &BTreeSet<i64>) -> Result<(), NoMemory>
@@ -82,7 +81,6 @@ fn put_text(
 ) -> Result<(), NoMemory>
     ensures { OnOk result (out.new.items ≡ out.old.items ++ reply_text word figures.now) }
 {
-    let rows = figures.watches.as_slice();
     match word {
         Word::Ruok => put(out, "imok"),
         Word::Isro if figures.serving => put(out, "rw"),
@@ -90,8 +88,8 @@ fn put_text(
         _ if !figures.serving => put(out, "not serving\n"),
         Word::Srvr => put_srvr(out, figures),
         Word::Mntr => put_mntr(out, figures),
-        Word::Wchs => put_wchs(out, alloc, rows),
-        Word::Wchp => put_wchp(out, alloc, rows),
+        Word::Wchs => put_wchs(out, &figures.watched),
+        Word::Wchp => put_wchp(out, alloc, figures.watches.as_slice()),
     }
 }
 

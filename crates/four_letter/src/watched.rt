@@ -1,35 +1,12 @@
-//! Counts of the watches.
+//! The watches by path.
 
-ghost use Rattle.std.specs.Prelude.{◌≡◌, IfOk, OnOk, length};
-ghost use Rattle.four_letter.specs.Watched.{watched_paths, watching_connections};
+ghost use Rattle.std.specs.Prelude.{IfOk, OnOk};
 ghost use Rattle.four_letter.specs.Inner.Gathered.{sessions_by_path, AddsSession, GathersSessions};
 
 use crate::figures::WatchRow;
 use std::alloc::Global;
 use std::collections::{BTreeMap, BTreeSet};
 use values::NoMemory;
-
-/// The number of watched paths. Fails only if an allocation is refused.
-pub fn count_paths(alloc: Global, rows: &[WatchRow<'_>]) -> Result<usize, NoMemory>
-    ensures { IfOk result (λ count. count ≡ length (watched_paths rows.now)) }
-{
-    let mut paths = BTreeSet::new(alloc);
-    for row in rows {
-        paths.insert(row.path.as_str())?;
-    }
-    Ok(paths.len())
-}
-
-/// The number of connections that watch something. Fails only if an allocation is refused.
-pub fn count_connections(alloc: Global, rows: &[WatchRow<'_>]) -> Result<usize, NoMemory>
-    ensures { IfOk result (λ count. count ≡ length (watching_connections rows.now)) }
-{
-    let mut connections = BTreeSet::new(alloc);
-    for row in rows {
-        connections.insert(row.conn)?;
-    }
-    Ok(connections.len())
-}
 
 // Adds the session of a watch to those that watch its path.
 fn add<'a>(

@@ -1,8 +1,8 @@
 //! The four-letter words.
 
 ghost use Rattle.std.specs.Prelude.{◌≡◌, Some, false};
-ghost use Rattle.four_letter.specs.Words.{word_of, needs_watches};
-ghost use Rattle.four_letter.specs.Texts.{TellsOfNoWatch};
+ghost use Rattle.four_letter.specs.Words.{word_of, needs_watches, needs_counts};
+ghost use Rattle.four_letter.specs.Texts.{TellsOfNoWatch, TellsOfWatchesAlone};
 
 /// A four-letter word.
 #[derive(Clone, Copy)]
@@ -61,14 +61,26 @@ impl Word {
         }
     }
 
-    /// Whether its answer needs the watches. Otherwise it is the same whatever is watched.
+    /// Whether its answer needs the watches themselves, and not only their counts. Otherwise it is the same whatever
+    /// watches are listed.
     pub fn needs_watches(self) -> bool
         ensures needed { result ≡ needs_watches self }
         ensures unseen { result ≡ false → TellsOfNoWatch self }
     {
         match self {
-            Word::Ruok | Word::Isro | Word::Srvr => false,
-            Word::Mntr | Word::Wchs | Word::Wchp => true,
+            Word::Ruok | Word::Isro | Word::Srvr | Word::Mntr | Word::Wchs => false,
+            Word::Wchp => true,
+        }
+    }
+    /// Whether its answer needs the numbers of paths and of connections beside that of watches. Otherwise it is the same
+    /// whatever they are.
+    pub fn needs_counts(self) -> bool
+        ensures needed { result ≡ needs_counts self }
+        ensures unseen { result ≡ false → TellsOfWatchesAlone self }
+    {
+        match self {
+            Word::Ruok | Word::Isro | Word::Srvr | Word::Mntr | Word::Wchp => false,
+            Word::Wchs => true,
         }
     }
 }

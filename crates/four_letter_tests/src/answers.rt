@@ -103,7 +103,7 @@ fn other_bytes_are_no_word(rt: HostRuntime) -> Result<(), Fail> {
     assert!(rt; tells_of_watches(*b"stat").is_none());
     assert!(rt; spelled_again(*b"stat").is_none());
     assert_eq!(rt; spelled_again(*b"mntr"), Some(*b"mntr"));
-    assert_eq!(rt; tells_of_watches(*b"srvr"), Some(false));
+    assert_eq!(rt; tells_of_watches(*b"mntr"), Some(false));
     assert_eq!(rt; tells_of_watches(*b"wchp"), Some(true));
     Ok(())
 }

@@ -44,6 +44,7 @@ pub fn answered(
         connections: 2,
         paths: 3,
         pairs: 5,
+        watched: watches.counts(),
         watches: Listed::from_vec(rows),
     };
     let mut out = Vec::new(alloc);
@@ -73,7 +74,7 @@ pub fn listed(alloc: Global, watches: &Watches) -> Result<Vec<u8>, NoMemory> {
     Ok(text)
 }
 
-/// Whether the bytes are a word whose answer needs the watches; none if they aren't a word.
+/// Whether the bytes are a word whose answer lists the watches; none if they aren't a word.
 pub fn tells_of_watches(bytes: [u8; 4]) -> Option<bool> {
     match Word::from_bytes(bytes) {
         None => None,

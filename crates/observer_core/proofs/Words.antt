@@ -12,10 +12,7 @@ use Rattle.values.specs.declared.fault.Fault.TheVariants.{Short}
 use Rattle.jute.specs.Format.{◌>>=◌, int, judged_at}
 use Rattle.jute.specs.Frame.{frame_format, frame_at, frame_length, front_of}
 use Rattle.jute.specs.Stream.{unread_after_fault}
-use Rattle.four_letter.specs.Words.{letters_of, word_of, needs_watches}
-use Rattle.four_letter.specs.Texts.{reply_text}
-use Rattle.four_letter.specs.declared.figures.Figures.{Figures}
-use Rattle.four_letter.specs.declared.figures.WatchRow.{WatchRow}
+use Rattle.four_letter.specs.Words.{letters_of, word_of}
 use Rattle.four_letter.specs.declared.word.Word.{Word}
 use Rattle.four_letter.specs.declared.word.Word.TheVariants.{Ruok, Isro, Srvr, Mntr, Wchs, Wchp}
 use Rattle.client_service.specs.Serve.{word_without_session, client_frame_limit}
@@ -94,15 +91,3 @@ short_frame bytes short =
 pub still_waits : (e : Fault) (bytes rest : List ℕ) → unread_after_fault e bytes ≡ Ok rest → bytes ≡ rest
 still_waits Short bytes rest is = cc
 still_waits e bytes rest is = cc
-
--- ---- the answers
-
--- A word whose answer lists no watches has the same answer whatever is watched.
-pub same_text : (word : Word) (f : Figures) (rows : List WatchRow) → (needs_watches word ≡ true → rows ≡ f.watches)
-    → reply_text word (record f { watches = rows }) ≡ reply_text word f
-same_text Ruok f rows same = refl
-same_text Isro f rows same = refl
-same_text Srvr f rows same = refl
-same_text Mntr f rows same = ap (λ (r : List WatchRow). reply_text Mntr (record f { watches = r })) (same refl)
-same_text Wchs f rows same = ap (λ (r : List WatchRow). reply_text Wchs (record f { watches = r })) (same refl)
-same_text Wchp f rows same = ap (λ (r : List WatchRow). reply_text Wchp (record f { watches = r })) (same refl)

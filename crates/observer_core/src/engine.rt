@@ -8,6 +8,7 @@ ghost use Rattle.std.specs.Thread.{IsSync};
 ghost use Rattle.data_tree.specs.Meaning.{state_after, outcomes_of_txns};
 ghost use Rattle.replica.specs.Gathering.{AppliesTxns};
 ghost use Rattle.read_processor.specs.Asking.{looks_at, LooksAtAsks};
+ghost use Rattle.watch_manager.specs.Counts.{watch_count_of};
 ghost use Rattle.sessions.specs.Sessions.{name_session, give_session};
 ghost use Rattle.client_service.specs.Clients.{idle_connection, with_connection};
 ghost use Rattle.observer_core.specs.Play.{initial_machine, new_machine, primed_machine};
@@ -171,6 +172,15 @@ impl Engine {
         ensures { (m : TheMachine) → self.now ≡ Some m → IsLeastTimeout m.world result }
     {
         least_timeout(&self.machine.world)
+    }
+
+    /// The number of watches of a connection, of all kinds. That of a closed engine is unspecified. Takes time logarithmic
+    /// in the number of watches.
+    pub fn watches_of(&self, connection: u64) -> u128
+        ensures { (m : TheMachine) → self.now ≡ Some m
+            → result ≡ watch_count_of connection m.world.clients.watches }
+    {
+        self.machine.world.clients.watches.count_of(connection)
     }
 
     // Plays the events. The closures apply the transactions of an event of the leader, and answer a run of reads.

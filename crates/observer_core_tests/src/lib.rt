@@ -109,3 +109,5 @@ mod played;
 mod rows;
 #[cfg(test)]
 mod settings_taken;
+#[cfg(test)]
+mod watched;

@@ -1,5 +1,9 @@
 -- The order of watches is total, and ties only equal watches. Public.
 pub mod Totals
+-- The number of elements of a set.
+mod SetCounts
+-- The keys of pairs that are stored as a set for each key.
+mod Keys
 -- A map from numbers as a finite map.
 mod ConnMaps
 -- A set of connections as a finite set of numbers.
@@ -10,6 +14,10 @@ pub mod Watchers
 mod Found
 -- A table by path and by connection.
 mod Tables
+-- The counts of a table.
+mod TableCounts
+-- The counts of all tables.
+mod AllCounts
 -- A table without the watches on some paths.
 mod Lefts
 -- Firing, evaluated on watches given as a list.

@@ -16,7 +16,7 @@ use Rattle.watch_manager.proofs.Totals.{watch_total, watch_exact, conn_total, co
 use Rattle.ephemerals.proofs.Ascending.{any-ascending}
 use Rattle.watch_manager.proofs.Watchers.{contains-watchers, contains-without_path, contains-without_connection}
 
-turned : (q p : Bytes) (d c : ℕ) → eq_by_cmp watch_cmp (q, d) (p, c)
+pub turned : (q p : Bytes) (d c : ℕ) → eq_by_cmp watch_cmp (q, d) (p, c)
     ≡ eq_by_cmp (pair_cmp nat_cmp path_cmp) (d, q) (c, p)
 turned q p d c =
     tied_then (path_cmp q p) (nat_cmp d c) ∙ and_comm (eq_by_cmp path_cmp q p) (eq_by_cmp nat_cmp d c)

@@ -5,6 +5,7 @@ pub mod Events
 pub mod Watches
 pub mod Ascending
 pub mod Summary
+pub mod Counts
 pub mod Totals
 pub mod Laws
 pub mod Rows

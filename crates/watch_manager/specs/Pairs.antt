@@ -39,3 +39,7 @@ without_watches_on path pairs = set.retain pairs (λ (p : Bytes × ℕ). not (sa
 
 abbrev pub without_connection : ℕ → WatchPairs → WatchPairs
 without_connection conn pairs = set.retain pairs (λ (p : Bytes × ℕ). not (same_connection conn p.1))
+
+-- The pairs of one connection.
+abbrev pub pairs_of_connection : ℕ → WatchPairs → WatchPairs
+pairs_of_connection conn pairs = set.retain pairs (λ (p : Bytes × ℕ). same_connection conn p.1)

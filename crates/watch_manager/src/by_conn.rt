@@ -1,9 +1,10 @@
 //! The watches by connection: for each connection the paths that it watches.
 
-ghost use Rattle.std.specs.Prelude.{◌≡◌, List, ℕ, OnOk, OnErr, IfSome, IfNone, IsTrue, false};
+ghost use Rattle.std.specs.Prelude.{◌≡◌, List, ℕ, OnOk, OnErr, IfSome, IfNone, false};
+ghost use Rattle.std.specs.Ordering.{nat_cmp};
 ghost use Rattle.std.specs.FinSet as set;
 ghost use Rattle.watch_manager.specs.Pairs.{sorted_connections};
-ghost use Rattle.watch_manager.specs.Inner.Grouped.{without_conns, without_key};
+ghost use Rattle.watch_manager.specs.Inner.Grouped.{keys_in, keys_in_one, keys_beyond, without_conns, without_key};
 
 use crate::conn_set::ConnSet;
 use ephemerals::TextSet;
@@ -12,14 +13,16 @@ use std::collections::BTreeMap;
 use std::marker::Model;
 use values::NoMemory;
 
-/// Pairs of a connection and a path, stored as a set of paths for each connection.
+/// Pairs of a connection and a path, stored as a set of paths for each connection. No set is empty.
 #[derive(Drop)]
 pub struct ByConn {
     map: BTreeMap<u64, TextSet>,
 }
 
 impl Model for ByConn {
-    ghost use Rattle.watch_manager.specs.Inner.Grouped.{ConnPairs, conn_pairs};
+    ghost use Rattle.watch_manager.specs.Inner.Grouped.{ConnPairs, conn_pairs, HaveValues};
+    ghost use Rattle.std.specs.Ordering.{nat_cmp};
+    ghost use Rattle.std.specs.FinMap as finmap;
     ghost use Rattle.std.specs.FinSet as set;
     ghost use Rattle.std.specs.Coded.{coded_ℕ, coded_list, coded×};
 
@@ -28,6 +31,8 @@ impl Model for ByConn {
     ghost coded = { set.code (coded× coded_ℕ (coded_list coded_ℕ)) };
 
     ghost view = { λ b. conn_pairs b.map.entries };
+
+    ghost invariant = { λ b. HaveValues (finmap.from_entries {R = nat_cmp} b.map.entries) };
 }
 
 impl ByConn {
@@ -37,6 +42,59 @@ impl ByConn {
     {
         ByConn {
             map: BTreeMap::new(alloc),
+        }
+    }
+
+    /// The number of connections that watch something.
+    pub fn count(&self) -> usize
+        ensures { result ≡ set.len (keys_in nat_cmp self.now) }
+    {
+        self.map.len()
+    }
+
+    /// Whether the connection watches something.
+    pub fn contains_conn(&self, conn: u64) -> bool
+        ensures { result ≡ set.contains (keys_in nat_cmp self.now) conn }
+    {
+        self.map.contains_key(&conn)
+    }
+
+    // Whether the connection watches something in one of the tables.
+    fn is_in_one(conn: u64, first: &ByConn, second: &ByConn, third: &ByConn) -> bool
+        ensures { result ≡ set.contains (keys_in_one nat_cmp first.now second.now third.now) conn }
+    {
+        if first.contains_conn(conn) {
+            return true;
+        }
+        if second.contains_conn(conn) {
+            return true;
+        }
+        third.contains_conn(conn)
+    }
+
+    /// The number of connections that watch something here and nothing in the other tables.
+    pub fn count_beyond(&self, first: &ByConn, second: &ByConn, third: &ByConn) -> usize
+        ensures { result ≡ set.len (keys_beyond nat_cmp self.now first.now second.now third.now) }
+    {
+        let mut count = self.map.len();
+        for (conn, _) in self.map.iter() {
+            if ByConn::is_in_one(*conn, first, second, third) {
+                count -= 1;
+            }
+        }
+        count
+    }
+
+    /// The paths that the connection watches; None if it watches nothing.
+    pub fn of(&self, conn: u64) -> Option<&TextSet>
+        ensures paths { IfSome result
+            (λ paths. (p : List ℕ) → set.contains paths.now p ≡ set.contains self.now (conn, p)) }
+        ensures none { IfNone result
+            ((p : List ℕ) → set.contains self.now (conn, p) ≡ false) }
+    {
+        match self.map.get(&conn) {
+            None => return None,
+            Some(paths) => Some(paths),
         }
     }
 
@@ -60,36 +118,20 @@ impl ByConn {
         }
     }
 
-    // Removes a pair and returns whether the connection's set is empty now.
-    fn remove_pair(&mut self, conn: u64, path: &str) -> bool
-        ensures removed { self.new ≡ set.remove self.old (conn, path.now) }
-        ensures emptied { IsTrue result →
-            (p : List ℕ) → set.contains self.new (conn, p) ≡ false }
-    {
-        match self.map.get_mut(&conn) {
-            None => return false,
-            Some(paths) => {
-                paths.remove(path);
-                paths.is_empty()
-            }
-        }
-    }
-
-    // Frees the set of a connection that watches nothing.
-    fn forget(&mut self, conn: u64)
-        requires { (p : List ℕ) → set.contains self.old (conn, p) ≡ false }
-        ensures { self.new ≡ self.old }
-    {
-        self.map.remove(&conn);
-    }
-
-    /// Removes a pair.
+    /// Removes a pair. A connection's set goes with its last path.
     pub fn remove(&mut self, conn: u64, path: &str)
         ensures { self.new ≡ set.remove self.old (conn, path.now) }
     {
-        if self.remove_pair(conn, path) {
-            self.forget(conn);
+        match self.map.get_mut(&conn) {
+            None => return,
+            Some(paths) => {
+                paths.remove(path);
+                if !paths.is_empty() {
+                    return;
+                }
+            }
         }
+        self.map.remove(&conn);
     }
 
     /// Removes the path from each of the connections.

@@ -1,12 +1,12 @@
 //! The watches by path: for each path the connections that watch it.
 
-ghost use Rattle.std.specs.Prelude.{◌≡◌, ◌↔◌, ℕ, OnOk, OnErr, IfOk, IfSome, IfNone, IsTrue, not, false, String};
+ghost use Rattle.std.specs.Prelude.{◌≡◌, ℕ, OnOk, OnErr, IfOk, IfSome, IfNone, not, String};
 ghost use Rattle.std.specs.FinSet as set;
 ghost use Rattle.std.specs.Map.Iter.{ShowsInOrder, deref_pair};
 ghost use Rattle.ephemerals.specs.Grouped.{all_pairs, by_bytes};
 ghost use Rattle.watch_manager.specs.Pairs.{ConnectionSet, watchers_of, without_watches_on};
-ghost use Rattle.watch_manager.specs.Inner.Grouped.{without_watched_paths};
-ghost use Rattle.ephemerals.specs.Orders.{sorted_names};
+ghost use Rattle.watch_manager.specs.Inner.Grouped.{keys_in, keys_in_one, keys_beyond, without_watched_paths};
+ghost use Rattle.ephemerals.specs.Orders.{path_cmp, sorted_names};
 
 use crate::conn_set::ConnSet;
 use ephemerals::TextSet;
@@ -16,7 +16,7 @@ use std::collections::btree_map::Iter;
 use std::marker::Model;
 use values::{NoMemory, TextQuery};
 
-/// Pairs of a path and a connection, stored as a set of connections for each path.
+/// Pairs of a path and a connection, stored as a set of connections for each path. No set is empty.
 #[derive(Drop)]
 pub struct ByPath {
     map: BTreeMap<String, ConnSet>,
@@ -24,7 +24,9 @@ pub struct ByPath {
 
 impl Model for ByPath {
     ghost use Rattle.watch_manager.specs.Pairs.{WatchPairs};
-    ghost use Rattle.watch_manager.specs.Inner.Grouped.{watch_pairs_of};
+    ghost use Rattle.watch_manager.specs.Inner.Grouped.{watch_pairs_of, by_bytes, HaveValues};
+    ghost use Rattle.ephemerals.specs.Orders.{path_cmp};
+    ghost use Rattle.std.specs.FinMap as finmap;
     ghost use Rattle.std.specs.FinSet as set;
     ghost use Rattle.std.specs.Coded.{coded_ℕ, coded_list, coded×};
 
@@ -33,6 +35,8 @@ impl Model for ByPath {
     ghost coded = { set.code (coded× (coded_list coded_ℕ) coded_ℕ) };
 
     ghost view = { λ b. watch_pairs_of b.map.entries };
+
+    ghost invariant = { λ b. HaveValues (finmap.from_entries {R = path_cmp} (by_bytes b.map.entries)) };
 }
 
 impl ByPath {
@@ -45,27 +49,44 @@ impl ByPath {
         }
     }
 
-    // Whether no path has a connection.
-    fn is_unwatched(&self) -> bool
-        ensures { IsTrue result ↔ (self.now ≡ set.empty) }
+    /// The number of watched paths.
+    pub fn count(&self) -> usize
+        ensures { result ≡ set.len (keys_in path_cmp self.now) }
     {
-        for (_, conns) in self.iter() {
-            if !conns.is_empty() {
-                return false;
-            }
-        }
-        true
+        self.map.len()
     }
 
-    /// Whether no path is watched.
-    pub fn is_empty(&self) -> bool
-        ensures { IsTrue result ↔ (self.now ≡ set.empty) }
+    /// Whether the path is watched.
+    pub fn contains_path(&self, path: &str) -> bool
+        ensures { result ≡ set.contains (keys_in path_cmp self.now) path.now }
     {
-        // A path's set goes with its last connection, so the first path decides.
-        match self.map.first_key_value() {
-            None => true,
-            Some((_, conns)) => conns.is_empty() && self.is_unwatched(),
+        self.map.contains_key(TextQuery(path))
+    }
+
+    // Whether the path is watched in one of the tables.
+    fn is_in_one(path: &str, first: &ByPath, second: &ByPath, third: &ByPath) -> bool
+        ensures { result ≡ set.contains (keys_in_one path_cmp first.now second.now third.now) path.now }
+    {
+        if first.contains_path(path) {
+            return true;
         }
+        if second.contains_path(path) {
+            return true;
+        }
+        third.contains_path(path)
+    }
+
+    /// The number of paths that are watched here and not in the other tables.
+    pub fn count_beyond(&self, first: &ByPath, second: &ByPath, third: &ByPath) -> usize
+        ensures { result ≡ set.len (keys_beyond path_cmp self.now first.now second.now third.now) }
+    {
+        let mut count = self.map.len();
+        for (path, _) in self.map.iter() {
+            if ByPath::is_in_one(path.as_str(), first, second, third) {
+                count -= 1;
+            }
+        }
+        count
     }
 
     /// The connections that watch the path; None if no connection does.
@@ -105,36 +126,20 @@ impl ByPath {
         }
     }
 
-    // Removes a pair and returns whether the path's set is empty now.
-    fn remove_pair(&mut self, path: &str, conn: u64) -> bool
-        ensures removed { self.new ≡ set.remove self.old (path.now, conn) }
-        ensures emptied { IsTrue result →
-            (c : ℕ) → set.contains self.new (path.now, c) ≡ false }
-    {
-        match self.map.get_mut(TextQuery(path)) {
-            None => return false,
-            Some(conns) => {
-                conns.remove(conn);
-                conns.is_empty()
-            }
-        }
-    }
-
-    // Frees the set of a path that no connection watches.
-    fn forget(&mut self, path: &str)
-        requires { (c : ℕ) → set.contains self.old (path.now, c) ≡ false }
-        ensures { self.new ≡ self.old }
-    {
-        self.map.remove(TextQuery(path));
-    }
-
-    /// Removes a pair.
+    /// Removes a pair. A path's set goes with its last connection.
     pub fn remove(&mut self, path: &str, conn: u64)
         ensures { self.new ≡ set.remove self.old (path.now, conn) }
     {
-        if self.remove_pair(path, conn) {
-            self.forget(path);
+        match self.map.get_mut(TextQuery(path)) {
+            None => return,
+            Some(conns) => {
+                conns.remove(conn);
+                if !conns.is_empty() {
+                    return;
+                }
+            }
         }
+        self.map.remove(TextQuery(path));
     }
 
     /// Removes the connection from each of the paths.

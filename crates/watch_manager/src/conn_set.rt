@@ -39,6 +39,13 @@ impl ConnSet {
         }
     }
 
+    /// The number of connections.
+    pub fn len(&self) -> usize
+        ensures { result ≡ set.len self.now }
+    {
+        self.conns.len()
+    }
+
     /// Whether the set is empty.
     pub fn is_empty(&self) -> bool
         ensures { IsTrue result ↔ (self.now ≡ set.empty) }

@@ -16,6 +16,7 @@
 mod by_conn;
 mod by_path;
 mod conn_set;
+mod counts;
 mod event;
 mod lasting;
 pub mod law;
@@ -28,6 +29,7 @@ mod telling;
 mod watched;
 mod watches;
 
+pub use counts::WatchCounts;
 pub use event::{Event, EventKind};
 pub use mode::WatchMode;
 pub use watched::{Table, Watched};

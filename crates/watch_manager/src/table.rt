@@ -5,8 +5,10 @@
 ghost use Rattle.std.specs.Prelude.{◌≡◌, ◌↔◌, OnOk, OnErr, IfSome, IfNone, IsTrue, String};
 ghost use Rattle.std.specs.FinSet as set;
 ghost use Rattle.std.specs.Map.Iter.{ShowsInOrder, deref_pair};
+ghost use Rattle.ephemerals.specs.Orders.{path_cmp};
 ghost use Rattle.ephemerals.specs.Grouped.{all_pairs, by_bytes};
-ghost use Rattle.watch_manager.specs.Pairs.{ConnectionSet, watchers_of, without_watches_on, without_connection};
+ghost use Rattle.watch_manager.specs.Pairs.{ConnectionSet, watchers_of, without_watches_on, pairs_of_connection, without_connection};
+ghost use Rattle.watch_manager.specs.Inner.Grouped.{keys_in, keys_beyond, connections_in, connections_beyond};
 
 use crate::by_conn::ByConn;
 use crate::by_path::ByPath;
@@ -22,9 +24,12 @@ use values::NoMemory;
 pub struct WatchTable {
     by_path: ByPath,
     by_conn: ByConn,
+    // The number of watches.
+    count: usize,
 }
 
 impl Model for WatchTable {
+    ghost use Rattle.std.specs.Prelude.{◌≡◌};
     ghost use Rattle.watch_manager.specs.Pairs.{WatchPairs};
     ghost use Rattle.watch_manager.specs.Inner.Grouped.{AgreeOn};
     ghost use Rattle.std.specs.FinSet as set;
@@ -36,7 +41,7 @@ impl Model for WatchTable {
 
     ghost view = { λ t. t.by_path };
 
-    ghost invariant = { λ t. AgreeOn t.by_path t.by_conn };
+    ghost invariant = { λ t. AgreeOn t.by_path t.by_conn × (t.count ≡ set.len t.by_path) };
 }
 
 impl WatchTable {
@@ -47,6 +52,7 @@ impl WatchTable {
         WatchTable {
             by_path: ByPath::new(alloc),
             by_conn: ByConn::new(alloc),
+            count: 0,
         }
     }
 
@@ -54,7 +60,61 @@ impl WatchTable {
     pub fn is_empty(&self) -> bool
         ensures { IsTrue result ↔ (self.now ≡ set.empty) }
     {
-        self.by_path.is_empty()
+        self.count == 0
+    }
+
+    /// The number of watches.
+    pub fn count(&self) -> usize
+        ensures { result ≡ set.len self.now }
+    {
+        self.count
+    }
+
+    /// The number of watches of a connection.
+    pub fn count_of(&self, conn: u64) -> usize
+        ensures { result ≡ set.len (pairs_of_connection conn self.now) }
+    {
+        match self.by_conn.of(conn) {
+            None => 0,
+            Some(paths) => paths.len(),
+        }
+    }
+
+    /// The number of watched paths.
+    pub fn paths(&self) -> usize
+        ensures { result ≡ set.len (keys_in path_cmp self.now) }
+    {
+        self.by_path.count()
+    }
+
+    /// The number of connections that watch something.
+    pub fn connections(&self) -> usize
+        ensures { result ≡ set.len (connections_in self.now) }
+    {
+        self.by_conn.count()
+    }
+
+    /// The number of paths that are watched here and not in the other tables. Takes time linear in the number of paths
+    /// that are watched here.
+    pub fn paths_beyond(&self, first: &WatchTable, second: &WatchTable, third: &WatchTable) -> usize
+        ensures { result ≡ set.len (keys_beyond path_cmp self.now first.now second.now third.now) }
+    {
+        self.by_path
+            .count_beyond(&first.by_path, &second.by_path, &third.by_path)
+    }
+
+    /// The number of connections that watch something here and nothing in the other tables. Takes time linear in the
+    /// number of connections that watch something here.
+    pub fn connections_beyond(
+        &self,
+        first: &WatchTable,
+        second: &WatchTable,
+        third: &WatchTable,
+    ) -> usize
+        ensures { result ≡ set.len (connections_beyond self.now first.now second.now third.now) }
+    {
+        self.by_conn
+            .count_beyond(&first.by_conn, &second.by_conn, &third.by_conn)
     }
 
     /// The connections that watch the path; None if no connection does.
@@ -88,11 +148,16 @@ impl WatchTable {
         ensures ok { OnOk result (self.new ≡ set.insert self.old (path.now, conn)) }
         ensures err { OnErr result (self.new ≡ self.old) }
     {
+        // Each watch takes more than a byte of memory, so memory runs out before the count overflows.
+        let count = self.count.checked_add(1).ok_or(NoMemory)?;
         if !self.by_path.insert(alloc, path, conn)? {
             return Ok(());
         }
         match self.by_conn.insert(alloc, conn, path) {
-            Ok(()) => return Ok(()),
+            Ok(()) => {
+                self.count = count;
+                return Ok(());
+            }
             Err(refused) => {
                 self.by_path.remove(path, conn);
                 Err(refused)
@@ -104,6 +169,15 @@ impl WatchTable {
     pub fn remove(&mut self, conn: u64, path: &str)
         ensures { self.new ≡ set.remove self.old (path.now, conn) }
     {
+        match self.watchers(path) {
+            None => return,
+            Some(conns) => {
+                if !conns.contains(conn) {
+                    return;
+                }
+            }
+        }
+        self.count -= 1;
         self.by_conn.remove(conn, path);
         self.by_path.remove(path, conn)
     }
@@ -114,7 +188,10 @@ impl WatchTable {
     {
         match self.by_path.take(path) {
             None => return,
-            Some(conns) => self.by_conn.remove_all(&conns, path),
+            Some(conns) => {
+                self.count -= conns.len();
+                self.by_conn.remove_all(&conns, path)
+            }
         }
     }
 
@@ -124,7 +201,10 @@ impl WatchTable {
     {
         match self.by_conn.take(conn) {
             None => return,
-            Some(paths) => self.by_path.remove_all(&paths, conn),
+            Some(paths) => {
+                self.count -= paths.len();
+                self.by_path.remove_all(&paths, conn)
+            }
         }
     }
 }

@@ -7,8 +7,10 @@ ghost use Rattle.std.specs.FinSet as set;
 ghost use Rattle.watch_manager.specs.Lasting.{mode_of};
 ghost use Rattle.watch_manager.specs.Watching.{no_watch, with_lasting_watch, without_watches_of};
 ghost use Rattle.watch_manager.specs.Watches.{fire, watches_after};
+ghost use Rattle.watch_manager.specs.Counts.{watch_count, watch_count_of, counts_of};
 ghost use Rattle.watch_manager.specs.Summary.{summary};
 
+use crate::counts::WatchCounts;
 use crate::event::Event;
 use crate::lasting::LastingTable;
 use crate::left::UnusedWatches;
@@ -106,6 +108,49 @@ impl Watches {
         self.own.drop_conn(conn);
         self.child.drop_conn(conn);
         self.lasting.drop_conn(conn);
+    }
+
+    /// The number of watches.
+    pub fn count(&self) -> u128
+        ensures { result ≡ watch_count self.now }
+    {
+        let lasting = &self.lasting;
+        self.own.count() as u128
+            + self.child.count() as u128
+            + lasting.persistent().count() as u128
+            + lasting.recursive().count() as u128
+    }
+
+    /// The number of watches of a connection.
+    pub fn count_of(&self, conn: u64) -> u128
+        ensures { result ≡ watch_count_of conn self.now }
+    {
+        let lasting = &self.lasting;
+        self.own.count_of(conn) as u128
+            + self.child.count_of(conn) as u128
+            + lasting.persistent().count_of(conn) as u128
+            + lasting.recursive().count_of(conn) as u128
+    }
+
+    /// The number of watches, of watched paths, and of connections that watch something. Takes time linear in the number
+    /// of paths and connections of the child and lasting watches, whatever the number of data watches: each is looked
+    /// up in the other tables. Allocates nothing.
+    pub fn counts(&self) -> WatchCounts
+        ensures { result ≡ counts_of self.now }
+    {
+        let (own, child) = (&self.own, &self.child);
+        let (persistent, recursive) = (self.lasting.persistent(), self.lasting.recursive());
+        WatchCounts {
+            connections: own.connections() as u128
+                + child.connections_beyond(own, own, own) as u128
+                + persistent.connections_beyond(own, child, child) as u128
+                + recursive.connections_beyond(own, child, persistent) as u128,
+            paths: own.paths() as u128
+                + child.paths_beyond(own, own, own) as u128
+                + persistent.paths_beyond(own, child, child) as u128
+                + recursive.paths_beyond(own, child, persistent) as u128,
+            watches: self.count(),
+        }
     }
 
     /// All watches in ascending order of path, then of connection, with a data watch before a child watch, and that

@@ -3,11 +3,14 @@
 #![tactic(auto)]
 
 #[cfg(test)]
+mod counted;
+#[cfg(test)]
 mod fired;
 
 use data_tree::Trigger;
 use std::alloc::Global;
 use values::{NoMemory, Text};
+use watch_manager::{WatchCounts, Watches};
 
 /// The trigger of a sign: "+" a create, "-" a delete, "=" new data, and any other a change of the children.
 pub fn trigger_of(alloc: Global, sign: char, path: &str) -> Result<Trigger, NoMemory> {
@@ -18,4 +21,14 @@ pub fn trigger_of(alloc: Global, sign: char, path: &str) -> Result<Trigger, NoMe
         '=' => Trigger::DataChanged(path),
         _ => Trigger::ChildrenChanged(path),
     })
+}
+
+/// The number of connections that watch something, of watched paths, and of watches.
+pub fn counted(watches: &Watches) -> (u128, u128, u128) {
+    let WatchCounts {
+        connections,
+        paths,
+        watches,
+    } = watches.counts();
+    (connections, paths, watches)
 }

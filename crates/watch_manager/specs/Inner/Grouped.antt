@@ -1,5 +1,6 @@
 -- Watches, stored as a set for each path and for each connection.
-use Rattle.std.specs.Prelude.{◌≡◌, ℕ, List, [], ◌∷◌, not}
+use Rattle.std.specs.Prelude.{◌≡◌, ◌≢◌, ℕ, List, [], ◌∷◌, not, map, IfSome}
+use Rattle.std.specs.declared.cmp.Ordering.{Ordering}
 use Rattle.std.specs.declared.string.String.{String}
 use Rattle.std.specs.Ordering.{nat_cmp}
 use Rattle.std.specs.FinMap as finmap
@@ -17,6 +18,26 @@ conn_pairs es = pairs_of (finmap.from_entries {R = nat_cmp} es)
 
 abbrev pub watch_pairs_of : {Z : Type 0} → List (String Z × ConnectionSet) → WatchPairs
 watch_pairs_of es = pairs_of (finmap.from_entries {R = path_cmp} (by_bytes es))
+
+-- The keys of the pairs.
+abbrev pub keys_in : {K V : Type 0} {P : K × V → K × V → Ordering} → (R : K → K → Ordering) → set.FinSet P
+    → set.FinSet R
+keys_in {K} {V} R pairs = set.from_list (map (λ (p : K × V). p.0) (set.items pairs))
+
+-- The keys that one of three has.
+abbrev pub keys_in_one : {K V : Type 0} {P : K × V → K × V → Ordering} → (R : K → K → Ordering)
+    → (first second third : set.FinSet P) → set.FinSet R
+keys_in_one R first second third = set.union (keys_in R first) (set.union (keys_in R second) (keys_in R third))
+
+-- The keys of these pairs that none of three others has.
+abbrev pub keys_beyond : {K V : Type 0} {P : K × V → K × V → Ordering} → (R : K → K → Ordering)
+    → (pairs first second third : set.FinSet P) → set.FinSet R
+keys_beyond R pairs first second third = set.difference (keys_in R pairs) (keys_in_one R first second third)
+
+-- Each key has a value.
+abbrev pub HaveValues : {K V : Type 0} {R : K → K → Ordering} {S : V → V → Ordering} → finmap.FinMap R (set.FinSet S)
+    → Type 0
+HaveValues {K} m = (key : K) → IfSome (finmap.get m key) (λ values. values ≢ set.empty)
 
 -- Both hold the same watches, one by path and one by connection.
 abbrev pub AgreeOn : WatchPairs → ConnPairs → Type 0
@@ -36,3 +57,12 @@ without_watched_paths conn (path ∷ paths) pairs = without_watched_paths conn p
 -- Without the pairs of the connection.
 abbrev pub without_key : ℕ → ConnPairs → ConnPairs
 without_key conn pairs = set.retain pairs (λ (p : ℕ × Bytes). not (same_connection conn p.0))
+
+abbrev pub connections_in : WatchPairs → ConnectionSet
+connections_in pairs = set.from_list (map (λ (p : Bytes × ℕ). p.1) (set.items pairs))
+
+-- The connections that watch something here and nothing in the other tables.
+abbrev pub connections_beyond : (pairs first second third : WatchPairs) → ConnectionSet
+connections_beyond pairs first second third =
+    set.difference (connections_in pairs)
+    (set.union (connections_in first) (set.union (connections_in second) (connections_in third)))

@@ -1,7 +1,7 @@
 use Rattle.std.proofs.Common.{refl, []}
 use Rattle.std.specs.Fmt.{digits}
 use Rattle.four_letter.specs.Rows.{one_watcher_figures, three_watcher_figures}
-use Rattle.four_letter.proofs.Evaluating.{wchs-placed, wchp-placed}
+use Rattle.four_letter.proofs.Evaluating.{wchp-placed}
 use Rattle.four_letter.proofs.law.worked_rows.Goals as goal
 
 pub returns : goal.returns
@@ -13,10 +13,10 @@ returns c = record {
   srvr = refl;
   srvr_without_leader = refl;
   mntr = refl;
-  wchs = wchs-placed [];
+  wchs = refl;
   wchp = wchp-placed [];
-  wchs_one = wchs-placed one_watcher_figures.watches;
+  wchs_one = refl;
   wchp_one = wchp-placed one_watcher_figures.watches;
-  wchs_three = wchs-placed three_watcher_figures.watches;
+  wchs_three = refl;
   wchp_three = wchp-placed three_watcher_figures.watches;
 }

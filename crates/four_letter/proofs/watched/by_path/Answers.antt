@@ -3,7 +3,7 @@ use Rattle.std.specs.FinMap.{find}
 use Rattle.ephemerals.specs.Orders.{path_cmp}
 use Rattle.four_letter.specs.Inner.Gathered.{sessions_by_path, GathersSessions}
 use Rattle.four_letter.specs.declared.figures.WatchRow.{WatchRow}
-use Rattle.four_letter.proofs.Counting.{front_at, whole_front}
+use Rattle.four_letter.proofs.Fronts.{front_at, whole_front}
 use Rattle.four_letter.proofs.Gathering.{gathers_row}
 use Rattle.four_letter.proofs.watched.by_path.Goals as goal
 

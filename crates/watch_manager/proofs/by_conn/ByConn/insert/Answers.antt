@@ -10,23 +10,55 @@ use Rattle.std.specs.Ordering.{nat_cmp}
 use Rattle.std.proofs.lemmas.Map.Steps.{set_value_same}
 use Rattle.ephemerals.specs.Orders.{Names}
 use Rattle.ephemerals.proofs.Errors.{on_err}
-use Rattle.watch_manager.specs.Inner.Grouped.{conn_pairs}
+use Rattle.watch_manager.specs.Inner.Grouped.{conn_pairs, HaveValues}
 use Rattle.watch_manager.proofs.ConnMaps.{seen, get-seen, seen-insert}
 use Rattle.ephemerals.proofs.Grouped.{insert_through, insert_first}
+use Rattle.watch_manager.proofs.Keys.{have-insert, with-value}
 use Rattle.watch_manager.proofs.by_conn.ByConn.insert.Goals as goal
 
 -- The set of a connection, written back unchanged.
-kept : (m n : BTreeMap ℕ Names) (k : ℕ) (old new : Names) → n.entries ≡ set_value (is_at (nat_cmp k)) m.entries new
-    → Some old ≡ tree.get nat_cmp m k → new ≡ old → conn_pairs n.entries ≡ conn_pairs m.entries
-kept m n k old new written found is =
-    ap (λ es. conn_pairs es) (written ∙ set_value_same _ m.entries new (sym found ∙ (λ i. Some (sym is i))))
+unchanged : (m n : BTreeMap ℕ Names) (k : ℕ) (old new : Names) → n.entries ≡ set_value (is_at (nat_cmp k)) m.entries new
+    → Some old ≡ tree.get nat_cmp m k → new ≡ old → n.entries ≡ m.entries
+unchanged m n k old new written found is =
+    written ∙ set_value_same _ m.entries new (sym found ∙ (λ i. Some (sym is i)))
+
+pub invariant_of-self : goal.invariant_of-self
+invariant_of-self c =
+    subst (λ es. HaveValues (seen es))
+    (sym (unchanged c.self.inside.map (c.get_mut.follows.lender c.insert.new.self) c.args.conn c.in-Some.paths.now
+    c.insert.new.self (c.get_mut.follows.holds c.insert.new.self).0 c.in-Some.ensures.value
+    c.in_err-insert-in-Some.ensures.err))
+    c.self.invariant
+
+pub invariant_of-self-in-Some : goal.invariant_of-self-in-Some
+invariant_of-self-in-Some c =
+    let n = c.get_mut.follows.lender c.insert.new.self in
+    let is = c.in_ok-insert-in-Some.ensures.ok ∙ ap (λ p. set.insert c.in-Some.paths.now p) c.in_ok-path.ensures.ok in
+    subst (λ m. HaveValues m)
+    (sym (seen-insert c.args.conn c.self.inside.map n c.insert.new.self
+    ((c.get_mut.follows.holds c.insert.new.self).3 (subst IsSome c.in-Some.ensures.value refl))))
+    (have-insert nat_cmp_total path_total exact_unsigned exact_bytes (seen c.self.inside.map.entries) c.args.conn
+    c.insert.new.self c.self.invariant
+    (λ e. with-value path_total c.in-Some.paths.now c.args.path.now (sym is ∙ e)))
+
+pub invariant_of-self-in-None : goal.invariant_of-self-in-None
+invariant_of-self-in-None c =
+    let m = c.get_mut.follows.lender-at-none in
+    let is = c.in_ok-insert-in-None.ensures.ok ∙ ap (λ p. set.insert c.new-paths.result p) c.in_ok-path.ensures.ok in
+    subst (λ m. HaveValues m)
+    (sym (seen-insert c.args.conn m c.insert-in-None-2.new.self c.insert-in-None.new.self
+    c.in_ok-insert-in-None-2.ensures.updates))
+    (have-insert nat_cmp_total path_total exact_unsigned exact_bytes (seen m.entries) c.args.conn
+    c.insert-in-None.new.self
+    (subst (λ x. HaveValues (seen x.entries)) (sym c.get_mut.follows.holds-at-none) c.self.invariant)
+    (λ e. with-value path_total c.new-paths.result c.args.path.now (sym is ∙ e)))
 
 pub returns-in_err-insert-in-Some-clause-err : goal.returns-in_err-insert-in-Some-clause-err
 returns-in_err-insert-in-Some-clause-err c =
     let holds = c.get_mut.follows.holds c.insert.new.self in
     on_err c.from_residual-in_err-insert-in-Some.result
-    (kept c.self.inside.map (c.get_mut.follows.lender c.insert.new.self) c.args.conn c.in-Some.paths.now
-    c.insert.new.self holds.0 c.in-Some.ensures.value c.in_err-insert-in-Some.ensures.err
+    (ap (λ es. conn_pairs es) (unchanged c.self.inside.map (c.get_mut.follows.lender c.insert.new.self) c.args.conn c.in-Some.paths.now
+    c.insert.new.self holds.0 c.in-Some.ensures.value c.in_err-insert-in-Some.ensures.err)
     ∙ c.self.view_is)
 
 pub returns-in_ok-insert-in-Some-clause-ok : goal.returns-in_ok-insert-in-Some-clause-ok

@@ -1,12 +1,13 @@
-use Rattle.std.proofs.Common.{◌≡◌, ℕ, false, ap, sym, ◌∙◌, Option, IfSome, IfNone, Some, None}
+use Rattle.std.proofs.Common.{◌≡◌, ℕ, false, ap, sym, ◌∙◌, Option, IfSome, IfNone, subst, Some, None}
 use Rattle.std.specs.Cmp.{nat_cmp_total}
 use Rattle.std.proofs.lemmas.Map.Lookups.{exact_unsigned, exact_bytes}
 use Rattle.ephemerals.proofs.Totals.{path_total}
 use Rattle.std.specs.FinSet as set
 use Rattle.ephemerals.specs.Orders.{Names, Bytes}
-use Rattle.watch_manager.specs.Inner.Grouped.{ConnPairs, without_key}
+use Rattle.watch_manager.specs.Inner.Grouped.{ConnPairs, without_key, HaveValues}
 use Rattle.watch_manager.proofs.ConnMaps.{seen, get-seen, seen-remove}
 use Rattle.ephemerals.proofs.Grouped.{listed, contains-found, taken}
+use Rattle.watch_manager.proofs.Keys.{have-remove}
 use Rattle.watch_manager.proofs.by_conn.ByConn.take.Goals as goal
 
 some : (r : Option Names) (pairs : ConnPairs) (k : ℕ)
@@ -39,3 +40,10 @@ returns-clause-rest c =
     (seen c.remove.new.self.entries) c.args.conn (seen-remove c.args.conn c.self.inside.map c.remove.new.self
     c.remove.ensures.updates)
     ∙ ap (λ s. without_key c.args.conn s) c.self.view_is
+
+pub invariant_of-self : goal.invariant_of-self
+invariant_of-self c =
+    subst (λ m. HaveValues m)
+    (sym (seen-remove c.args.conn c.self.inside.map c.remove.new.self c.remove.ensures.updates))
+    (have-remove nat_cmp_total path_total exact_unsigned exact_bytes (seen c.self.inside.map.entries) c.args.conn
+    c.self.invariant)

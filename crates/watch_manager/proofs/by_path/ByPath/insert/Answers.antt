@@ -12,24 +12,55 @@ use Rattle.ephemerals.specs.Orders.{Bytes}
 use Rattle.ephemerals.proofs.Errors.{on_err}
 use Rattle.ephemerals.proofs.TextKeys.{query}
 use Rattle.watch_manager.specs.Pairs.{ConnectionSet}
-use Rattle.watch_manager.specs.Inner.Grouped.{watch_pairs_of}
+use Rattle.watch_manager.specs.Inner.Grouped.{watch_pairs_of, HaveValues}
 use Rattle.ephemerals.proofs.PathMaps.{seen, get-seen, seen-insert}
 use Rattle.ephemerals.proofs.Grouped.{insert_through, insert_first, contains-found}
+use Rattle.watch_manager.proofs.Keys.{have-insert, with-value}
 use Rattle.watch_manager.proofs.by_path.ByPath.insert.Goals as goal
 
 -- The set of a path, written back unchanged.
-kept : {Z : Type 0} (m n : BTreeMap (String Z) ConnectionSet) (path : Bytes) (old new : ConnectionSet)
+unchanged : {Z : Type 0} (m n : BTreeMap (String Z) ConnectionSet) (path : Bytes) (old new : ConnectionSet)
     → n.entries ≡ set_value (query path) m.entries new → Some old ≡ lookup (query path) m.entries → new ≡ old
-    → watch_pairs_of n.entries ≡ watch_pairs_of m.entries
-kept m n path old new written found is =
-    ap (λ es. watch_pairs_of es) (written ∙ set_value_same _ m.entries new (sym found ∙ (λ i. Some (sym is i))))
+    → n.entries ≡ m.entries
+unchanged m n path old new written found is =
+    written ∙ set_value_same _ m.entries new (sym found ∙ (λ i. Some (sym is i)))
+
+pub invariant_of-self : goal.invariant_of-self
+invariant_of-self c =
+    subst (λ es. HaveValues (seen es))
+    (sym (unchanged c.self.inside.map (c.get_mut.follows.lender c.insert.new.self) c.args.path.now c.in-Some.conns.now
+    c.insert.new.self (c.get_mut.follows.holds c.insert.new.self).0 c.in-Some.ensures.value
+    c.in_err-insert-in-Some.ensures.err))
+    c.self.invariant
+
+pub invariant_of-self-in-Some : goal.invariant_of-self-in-Some
+invariant_of-self-in-Some c =
+    let n = c.get_mut.follows.lender c.insert.new.self in
+    subst (λ m. HaveValues m)
+    (sym (seen-insert c.args.path.now c.self.inside.map n c.insert.new.self
+    ((c.get_mut.follows.holds c.insert.new.self).3 (subst IsSome c.in-Some.ensures.value refl))))
+    (have-insert path_total nat_cmp_total exact_bytes exact_unsigned (seen c.self.inside.map.entries) c.args.path.now
+    c.insert.new.self c.self.invariant
+    (λ e. with-value nat_cmp_total c.in-Some.conns.now c.args.conn (sym c.in_ok-insert-in-Some.ensures.ok ∙ e)))
+
+pub invariant_of-self-in-None : goal.invariant_of-self-in-None
+invariant_of-self-in-None c =
+    let m = c.get_mut.follows.lender-at-none in
+    let new = c.insert-in-None.new.self in
+    subst (λ m. HaveValues m)
+    (sym (seen-insert (string_bytes c.in_ok-from_str-in-None.field-0) m c.insert-in-None-2.new.self new
+    c.in_ok-insert-in-None-2.ensures.updates
+    ∙ ap (λ p. finmap.insert (seen m.entries) p new) c.in_ok-from_str-in-None.ensures.ok))
+    (have-insert path_total nat_cmp_total exact_bytes exact_unsigned (seen m.entries) c.args.path.now new
+    (subst (λ x. HaveValues (seen x.entries)) (sym c.get_mut.follows.holds-at-none) c.self.invariant)
+    (λ e. with-value nat_cmp_total c.new-conns.result c.args.conn (sym c.in_ok-insert-in-None.ensures.ok ∙ e)))
 
 pub returns-in_err-insert-in-Some-clause-err : goal.returns-in_err-insert-in-Some-clause-err
 returns-in_err-insert-in-Some-clause-err c =
     let holds = c.get_mut.follows.holds c.insert.new.self in
     on_err c.from_residual.result
-    (kept c.self.inside.map (c.get_mut.follows.lender c.insert.new.self) c.args.path.now c.in-Some.conns.now
-    c.insert.new.self holds.0 c.in-Some.ensures.value c.in_err-insert-in-Some.ensures.err
+    (ap (λ es. watch_pairs_of es) (unchanged c.self.inside.map (c.get_mut.follows.lender c.insert.new.self) c.args.path.now c.in-Some.conns.now
+    c.insert.new.self holds.0 c.in-Some.ensures.value c.in_err-insert-in-Some.ensures.err)
     ∙ c.self.view_is)
 
 pub returns-in_ok-insert-in-Some-clause-ok : goal.returns-in_ok-insert-in-Some-clause-ok

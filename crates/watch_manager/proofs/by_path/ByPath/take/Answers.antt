@@ -1,8 +1,10 @@
-use Rattle.std.proofs.Common.{ap, sym, ◌∙◌}
+use Rattle.std.proofs.Common.{ap, sym, subst, ◌∙◌}
 use Rattle.std.specs.Cmp.{nat_cmp_total}
 use Rattle.std.proofs.lemmas.Map.Lookups.{exact_unsigned, exact_bytes}
 use Rattle.ephemerals.proofs.Totals.{path_total}
 use Rattle.watch_manager.specs.Pairs.{without_watches_on}
+use Rattle.watch_manager.specs.Inner.Grouped.{HaveValues}
+use Rattle.watch_manager.proofs.Keys.{have-remove}
 use Rattle.ephemerals.proofs.PathMaps.{seen, get-seen, seen-remove}
 use Rattle.ephemerals.proofs.Grouped.{taken}
 use Rattle.watch_manager.proofs.Found.{if_some, if_none}
@@ -24,3 +26,10 @@ returns-clause-rest c =
     (seen c.remove.new.self.entries) c.args.path.now (seen-remove c.args.path.now c.self.inside.map
     c.remove.new.self c.remove.ensures.updates)
     ∙ ap (λ s. without_watches_on c.args.path.now s) c.self.view_is
+
+pub invariant_of-self : goal.invariant_of-self
+invariant_of-self c =
+    subst (λ m. HaveValues m)
+    (sym (seen-remove c.args.path.now c.self.inside.map c.remove.new.self c.remove.ensures.updates))
+    (have-remove path_total nat_cmp_total exact_bytes exact_unsigned (seen c.self.inside.map.entries) c.args.path.now
+    c.self.invariant)

@@ -1,35 +1,48 @@
-use Rattle.std.proofs.Common.{ap, sym, ◌∙◌}
+use Rattle.std.proofs.Common.{◌+◌, ap, sym, ◌∙◌, arith}
 use Rattle.std.specs.FinSet as set
 use Rattle.std.proofs.lemmas.Bool.{not-false, not-true}
 use Rattle.values.proofs.SetSteps.{insert-present, remove-insert}
 use Rattle.watch_manager.proofs.Totals.{watch_total, watch_exact}
+use Rattle.watch_manager.proofs.SetCounts.{len-insert-new}
 use Rattle.watch_manager.proofs.Tables.{agree-insert}
 use Rattle.watch_manager.proofs.table.WatchTable.set.Goals as goal
 
 pub invariant_of-self-then-not-branch : goal.invariant_of-self-then-not-branch
-invariant_of-self-then-not-branch c path conn =
+invariant_of-self-then-not-branch c =
     let here = not-false (set.contains c.self.inside.by_path (c.args.path.now, c.args.conn))
     (sym c.in_ok-insert.ensures.added ∙ c.if-not-branch.true) in
-    ap (λ s. set.contains s (path, conn)) (c.in_ok-insert.ensures.ok
-    ∙ sym (insert-present watch_total watch_exact c.self.inside.by_path (c.args.path.now, c.args.conn) here))
-    ∙ c.self.invariant path conn
+    let same = c.in_ok-insert.ensures.ok
+    ∙ sym (insert-present watch_total watch_exact c.self.inside.by_path (c.args.path.now, c.args.conn) here) in (
+      λ path conn. ap (λ s. set.contains s (path, conn)) same ∙ c.self.invariant.0 path conn,
+      c.self.invariant.1 ∙ sym (ap set.len same),
+    )
 
 pub invariant_of-self-in-Ok : goal.invariant_of-self-in-Ok
-invariant_of-self-in-Ok c path conn =
-    ap (λ s. set.contains s (path, conn)) c.in_ok-insert.ensures.ok
-    ∙ agree-insert c.self.inside.by_path c.self.inside.by_conn c.args.path.now c.args.conn c.self.invariant path conn
-    ∙ ap (λ s. set.contains s (conn, path)) (sym c.in-Ok.ensures.ok)
+invariant_of-self-in-Ok c =
+    let none = not-true (set.contains c.self.inside.by_path (c.args.path.now, c.args.conn))
+    (sym c.in_ok-insert.ensures.added ∙ c.if-not-branch.false) in (
+      λ path conn. ap (λ s. set.contains s (path, conn)) c.in_ok-insert.ensures.ok
+          ∙ agree-insert c.self.inside.by_path c.self.inside.by_conn c.args.path.now c.args.conn c.self.invariant.0 path
+          conn
+          ∙ ap (λ s. set.contains s (conn, path)) (sym c.in-Ok.ensures.ok),
+      grind arith
+          ∙ ap (λ n. n + 1) c.self.invariant.1
+          ∙ sym (len-insert-new watch_total watch_exact c.self.inside.by_path (c.args.path.now, c.args.conn) none)
+          ∙ sym (ap set.len c.in_ok-insert.ensures.ok),
+    )
 
 pub invariant_of-self-in-Err : goal.invariant_of-self-in-Err
-invariant_of-self-in-Err c path conn =
+invariant_of-self-in-Err c =
     let none = not-true (set.contains c.self.inside.by_path (c.args.path.now, c.args.conn))
     (sym c.in_ok-insert.ensures.added ∙ c.if-not-branch.false) in
-    ap (λ s. set.contains s (path, conn))
-    (c.remove.ensures
+    let back = c.remove.ensures
     ∙ ap (λ s. set.remove s (c.args.path.now, c.args.conn)) c.in_ok-insert.ensures.ok
-    ∙ remove-insert watch_total watch_exact c.self.inside.by_path (c.args.path.now, c.args.conn) none)
-    ∙ c.self.invariant path conn
-    ∙ ap (λ s. set.contains s (conn, path)) (sym c.in-Err.ensures.err)
+    ∙ remove-insert watch_total watch_exact c.self.inside.by_path (c.args.path.now, c.args.conn) none in (
+      λ path conn. ap (λ s. set.contains s (path, conn)) back
+          ∙ c.self.invariant.0 path conn
+          ∙ ap (λ s. set.contains s (conn, path)) (sym c.in-Err.ensures.err),
+      c.self.invariant.1 ∙ sym (ap set.len back),
+    )
 
 pub returns-clause-err : goal.returns-clause-err
 returns-clause-err c =

@@ -1,0 +1,18 @@
+use Rattle.std.proofs.Common.{ap, sym, ◌∙◌, is_some}
+use Rattle.std.specs.Cmp.{nat_cmp_total}
+use Rattle.std.proofs.lemmas.Map.Lookups.{exact_unsigned, exact_bytes}
+use Rattle.ephemerals.proofs.Totals.{path_total}
+use Rattle.std.specs.Ordering.{nat_cmp}
+use Rattle.std.specs.FinSet as set
+use Rattle.watch_manager.specs.Inner.Grouped.{keys_in}
+use Rattle.watch_manager.proofs.ConnMaps.{seen, get-seen}
+use Rattle.watch_manager.proofs.Keys.{contains-stored}
+use Rattle.watch_manager.proofs.by_conn.ByConn.contains_conn.Goals as goal
+
+pub returns : goal.returns
+returns c =
+    c.contains_key.ensures
+    ∙ ap (λ found. is_some found) (sym (get-seen c.self.inside.map c.args.conn))
+    ∙ sym (contains-stored nat_cmp_total path_total exact_unsigned exact_bytes (seen c.self.inside.map.entries)
+    c.self.invariant c.args.conn)
+    ∙ ap (λ s. set.contains (keys_in nat_cmp s) c.args.conn) c.self.view_is
