@@ -74,8 +74,7 @@ fn watch_rows(alloc: Global, clients: &Clients) -> Result<Vec<WatchRow<'_>>, NoM
     Ok(rows)
 }
 
-// The watches if the word's answer lists them, otherwise none: they are as many as clients care to set, and their number
-// is kept.
+// The watches if the word's answer lists them, otherwise none: clients may have set very many.
 fn rows_for(alloc: Global, word: Word, clients: &Clients) -> Result<Vec<WatchRow<'_>>, NoMemory>
     ensures { IfOk result (λ rows. needs_watches word ≡ true → rows.items ≡ watch_rows clients.now) }
 {
