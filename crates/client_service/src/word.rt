@@ -106,7 +106,7 @@ fn figures_with<'a>(
     watched: WatchCounts,
     watches: Vec<WatchRow<'a>>,
 ) -> Figures<'a>
-    ensures { result ≡ figures_with serving world.now watched.entry watches.entry.items }
+    ensures { result ≡ figures_with serving world.now watched watches.entry.items }
 {
     let tree = world.replica.tree();
     Figures {
