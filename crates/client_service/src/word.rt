@@ -18,7 +18,7 @@ use four_letter::{Figures, WatchRow, Word, answer};
 use sessions::Sessions;
 use std::alloc::Global;
 use values::{Blob, Listed, NoMemory};
-use watch_manager::{WatchCounts, Watched, Watches};
+use watch_manager::{WatchCounts, Watched};
 
 fn first_four(bytes: &[u8]) -> Option<[u8; 4]>
     ensures some { IfSome result (λ four. four ≡ take 4 bytes.now) }
@@ -74,8 +74,7 @@ fn watch_rows(alloc: Global, clients: &Clients) -> Result<Vec<WatchRow<'_>>, NoM
     Ok(rows)
 }
 
-// The watches if the word's answer lists them, otherwise none: they are as many as clients care to set, and their counts
-// are kept.
+// The watches if the word's answer lists them, otherwise none: clients may have set very many.
 fn rows_for(alloc: Global, word: Word, clients: &Clients) -> Result<Vec<WatchRow<'_>>, NoMemory>
     ensures { IfOk result (λ rows. needs_watches word ≡ true → rows.items ≡ watch_rows clients.now) }
 {
@@ -86,17 +85,17 @@ fn rows_for(alloc: Global, word: Word, clients: &Clients) -> Result<Vec<WatchRow
 }
 
 // The number of watches, and those of paths and of connections if the word's answer needs them: they aren't kept.
-fn counts_for(word: Word, watches: &Watches) -> WatchCounts
-    ensures watches { result.watches ≡ watch_count watches.now }
-    ensures all { needs_counts word ≡ true → result ≡ counts_of watches.now }
+fn counts_for(word: Word, clients: &Clients) -> WatchCounts
+    ensures watches { result.watches ≡ watch_count clients.now.watches }
+    ensures all { needs_counts word ≡ true → result ≡ counts_of clients.now.watches }
 {
     if word.needs_counts() {
-        return watches.counts();
+        return clients.watches.counts();
     }
     WatchCounts {
         connections: 0,
         paths: 0,
-        watches: watches.count(),
+        watches: clients.watches.count(),
     }
 }
 
@@ -107,7 +106,7 @@ fn figures_with<'a>(
     watched: WatchCounts,
     watches: Vec<WatchRow<'a>>,
 ) -> Figures<'a>
-    ensures { result ≡ figures_with serving world.now watched.entry watches.entry.items }
+    ensures { result ≡ figures_with serving world.now watched watches.entry.items }
 {
     let tree = world.replica.tree();
     Figures {
@@ -125,7 +124,7 @@ fn answer_of(alloc: Global, serving: bool, world: &World, word: Word) -> Result<
     ensures { IfOk result (λ bytes. bytes ≡ reply_text word (figures_of serving world.now)) }
 {
     let rows = rows_for(alloc, word, &world.clients)?;
-    let watched = counts_for(word, &world.clients.watches);
+    let watched = counts_for(word, &world.clients);
     let figures = figures_with(serving, world, watched, rows);
     let mut bytes = Vec::new(alloc);
     answer(word.letters(), &figures, &mut bytes)?;
