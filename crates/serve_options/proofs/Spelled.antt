@@ -1,13 +1,14 @@
 -- One option more is spelled by the words that were read.
-use Rattle.std.proofs.Common.{◌≡◌, ◌<◌, ◌+◌, ℕ, zero, suc, List, [], ◌∷◌, ◌++◌, Option, Some, None, length, take, get_or, sym, ap, ◌∙◌, arith, append_assoc, below_more, refl}
+use Rattle.std.proofs.Common.{rules, ◌≡◌, ◌<◌, ◌+◌, ℕ, zero, suc, List, [], ◌∷◌, ◌++◌, Option, Some, None, length, take, drop, get_or, nat_eq, if◌then◌else◌, sym, ap, ◌∙◌, arith, append_assoc, below_more, refl}
 use Rattle.std.proofs.Math.Seq.{take-append_seam, get_or-append_seam}
 use Rattle.std.proofs.Math.ListN.{get_or-append}
 use Rattle.std.proofs.lemmas.List.{take-append-le, length-append, flat_map_more}
-use Rattle.std.specs.Prelude.{false, is_some}
+use Rattle.std.specs.Prelude.{true, false, is_some}
 use Rattle.std.specs.Prelude.{flat_map, All}
 use Rattle.serve_options.specs.Rows.{option_word}
-use Rattle.serve_options.specs.Given.{words_of_value, words_of_option, given_of, IsOnce}
+use Rattle.serve_options.specs.Given.{words_of_value, words_of_option, given_of, name_place, IsOnce}
 use Rattle.serve_options.specs.declared.given.Given.{Given}
+use Rattle.serve_options.specs.declared.row.Name.{Name}
 
 pub one_more : (given : List Given) (option : Given) (all others after : List (List ℕ)) (word : List ℕ)
     → all ≡ flat_map words_of_option given ++ word ∷ others → option_word option.name ≡ word
@@ -44,3 +45,12 @@ once_more given option old none k d below =
 pub none_at : (found : Option Given) → is_some found ≡ false → found ≡ None
 none_at None e = refl
 none_at (Some option) e = cc
+
+-- The option at a place is found where none before it has its name.
+pub found_at : (name : Name) (given : List Given) (k : ℕ) (d : Given) → k < length given
+    → (get_or given k d).name ≡ name → given_of name (drop k given) ≡ Some (get_or given k d)
+found_at name [] k d below e = absurd (omega arith)
+found_at name (option ∷ given) zero d below e =
+    let same : nat_eq (name_place option.name) (name_place name) ≡ true = search (rules, e) in
+    ap (λ found. if found then Some option else given_of name given) same
+found_at name (option ∷ given) (suc k) d below e = found_at name given k d (omega arith) e
