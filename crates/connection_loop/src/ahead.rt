@@ -45,8 +45,8 @@ impl OwnReadsAhead {
         }
     }
 
-    /// How many frames may be sent on ahead. It takes the places that the connection may have besides; while another thread
-    /// takes some, there may be none.
+    /// How many frames may be sent on ahead. It takes the places that the connection may have besides; while another
+    /// thread takes some, there may be none.
     pub fn left(&mut self) -> usize
         ensures left { result ≡ self.new.held - self.new.used }
         ensures most { self.old.held ≤ 32 → self.new.held ≤ 32 }
@@ -75,8 +75,8 @@ impl OwnReadsAhead {
         self.used = self.used.saturating_add(frames);
     }
 
-    /// While so many frames of the connection aren't answered, no more of those that went ahead are: gives the other places
-    /// back.
+    /// While so many frames of the connection aren't answered, no more of those that went ahead are: gives the other
+    /// places back.
     pub fn give_back(&mut self, owed: usize)
         ensures used { self.new.used ≡ min self.old.used owed }
         ensures held { self.new.held ≡ self.new.used }
