@@ -1,5 +1,7 @@
 //! Places for reads that are sent on before the leader has answered.
 
+ghost use Rattle.std.specs.Prelude.{◌≡◌, ◌≤◌, ◌+◌, ◌-◌, ◌^◌, min};
+
 use std::alloc::Global;
 use std::sync::Arc;
 use std::sync::atomic::{AtomicUsize, Ordering};
@@ -33,7 +35,9 @@ pub struct OwnReadsAhead {
 
 impl OwnReadsAhead {
     /// No place yet.
-    pub fn new(pool: Option<Arc<ReadsAhead, Global>>) -> OwnReadsAhead {
+    pub fn new(pool: Option<Arc<ReadsAhead, Global>>) -> OwnReadsAhead
+        ensures { (result.held ≡ 0) × (result.used ≡ 0) }
+    {
         OwnReadsAhead {
             pool,
             held: 0,
@@ -41,9 +45,13 @@ impl OwnReadsAhead {
         }
     }
 
-    /// How many frames may be sent on ahead. It takes the places that the connection may have besides; while another thread
-    /// takes some, there may be none.
-    pub fn left(&mut self) -> usize {
+    /// How many frames may be sent on ahead. It takes the places that the connection may have besides; while another
+    /// thread takes some, there may be none.
+    pub fn left(&mut self) -> usize
+        ensures left { result ≡ self.new.held - self.new.used }
+        ensures most { self.old.held ≤ 32 → self.new.held ≤ 32 }
+        ensures kept { (self.old.held ≤ self.new.held) × (self.new.used ≡ self.old.used) }
+    {
         if let Some(pool) = &self.pool {
             let free = pool.free.load(Ordering::SeqCst);
             let wanted = free.min(MOST_PLACES.saturating_sub(self.held));
@@ -60,13 +68,19 @@ impl OwnReadsAhead {
     }
 
     /// Counts frames that are sent on ahead.
-    pub fn fill(&mut self, frames: usize) {
+    pub fn fill(&mut self, frames: usize)
+        ensures used { self.new.used ≡ min (self.old.used + frames) (2 ^ 64 - 1) }
+        ensures held { self.new.held ≡ self.old.held }
+    {
         self.used = self.used.saturating_add(frames);
     }
 
-    /// While so many frames of the connection aren't answered, no more of those that went ahead are: gives the other places
-    /// back.
-    pub fn give_back(&mut self, owed: usize) {
+    /// While so many frames of the connection aren't answered, no more of those that went ahead are: gives the other
+    /// places back.
+    pub fn give_back(&mut self, owed: usize)
+        ensures used { self.new.used ≡ min self.old.used owed }
+        ensures held { self.new.held ≡ self.new.used }
+    {
         self.used = self.used.min(owed);
         let free = self.held.saturating_sub(self.used);
         if free > 0 {

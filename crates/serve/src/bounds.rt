@@ -1,5 +1,5 @@
-//! What bounds the connections of clients: how long they may say nothing or not read, how much may wait for them, and how
-//! many watches they may leave.
+//! What bounds the connections of clients: how long they may say nothing or not read, how much may wait for them, and
+//! how many watches they may leave.
 
 use crate::hub::Hub;
 use connection_loop::{AllowedWords, SessionLimits};
@@ -86,9 +86,9 @@ impl<L: Log, W: Write + Drop> Hub<L, W> {
         are_too_many(watches, self.bounds.watches)
     }
 
-    // Ends the connections that have left more watches than one may, among those of which the last turn took messages: the
-    // messages of a port stand together. A read that is held leaves its watch later, and then the connection is looked at
-    // when its next frame comes, which is its ping at the latest.
+    // Ends the connections that have left more watches than one may, among those of which the last turn took messages:
+    // the messages of a port stand together. A read that is held leaves its watch later, and then the connection is
+    // looked at when its next frame comes, which is its ping at the latest.
     pub(crate) fn relieve_of_watches(&mut self) {
         let mut before = 0;
         for (port, _) in self.desk.fresh() {
