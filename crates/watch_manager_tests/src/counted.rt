@@ -1,6 +1,6 @@
 //! The counts of watches.
 
-use crate::{counted, trigger_of};
+use crate::{counts_of, trigger_of};
 use std::alloc::Global;
 use std::test::Fail;
 use watch_manager::Watches;
@@ -30,7 +30,7 @@ fn use_up(alloc: Global, watches: &mut Watches, path: &str) -> Result<(), Fail> 
 fn all_watches_are_counted(rt: HostRuntime) -> Result<(), Fail> {
     let alloc = rt.alloc();
     let watches = watching(alloc)?;
-    assert_eq!(rt; counted(&watches), (3, 3, 6));
+    assert_eq!(rt; counts_of(&watches), (3, 3, 6));
     assert_eq!(rt; watches.count(), 6);
     assert_eq!(rt; watches.count_of(1), 3);
     assert_eq!(rt; watches.count_of(2), 1);
@@ -43,10 +43,10 @@ fn watches_that_go_are_counted_no_more(rt: HostRuntime) -> Result<(), Fail> {
     let alloc = rt.alloc();
     let mut watches = watching(alloc)?;
     watches.set_persistent(alloc, 1, "/a", false)?;
-    assert_eq!(rt; counted(&watches), (3, 3, 6));
+    assert_eq!(rt; counts_of(&watches), (3, 3, 6));
     use_up(alloc, &mut watches, "/a")?;
-    assert_eq!(rt; counted(&watches), (2, 3, 4));
+    assert_eq!(rt; counts_of(&watches), (2, 3, 4));
     watches.drop_conn(3);
-    assert_eq!(rt; counted(&watches), (1, 1, 2));
+    assert_eq!(rt; counts_of(&watches), (1, 1, 2));
     Ok(())
 }

@@ -24,7 +24,7 @@ pub fn trigger_of(alloc: Global, sign: char, path: &str) -> Result<Trigger, NoMe
 }
 
 /// The number of connections that watch something, of watched paths, and of watches.
-pub fn counted(watches: &Watches) -> (u128, u128, u128) {
+pub fn counts_of(watches: &Watches) -> (u128, u128, u128) {
     let WatchCounts {
         connections,
         paths,
