@@ -217,6 +217,7 @@ module _ (new : NewIdsAreNew) where
         owners = λ n c e. absurd (none c _ (finmap.get-empty nat_cmp n) e);
         connections = λ session n e. absurd (none n _ (finmap.get-empty int_cmp session) e);
         ids = λ n c e. absurd (none c _ (finmap.get-empty nat_cmp n) e);
+        bytes = λ n c e. absurd (none c _ (finmap.get-empty nat_cmp n) e);
         writable = λ n c e. absurd (none c _ (finmap.get-empty nat_cmp n) e);
       }
 
