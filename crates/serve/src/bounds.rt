@@ -86,16 +86,24 @@ impl<L: Log, W: Write + Drop> Hub<L, W> {
         are_too_many(watches, self.bounds.watches)
     }
 
-    // Ends the connections that have left more watches than one may, among those of which the last turn took messages:
-    // the messages of a port stand together. A read that is held leaves its watch later, and then the connection is
-    // looked at when its next frame comes, which is its ping at the latest.
-    pub(crate) fn relieve_of_watches(&mut self) {
+    // Ends the connections that have left more watches than one may, among those of which the last turn took messages: the
+    // messages of a port stand together. A read that is held leaves its watch later, and then the connection is looked at
+    // when its next frame comes, which is its ping at the latest. Returns how many it ended.
+    fn end_watching(&self) -> u64 {
         let mut before = 0;
+        let mut ended: u64 = 0;
         for (port, _) in self.desk.fresh() {
             if *port != before && self.watches_too_much(*port) && self.end_client(*port) {
-                self.watching_ended = self.watching_ended.saturating_add(1);
+                ended = ended.saturating_add(1);
             }
             before = *port;
         }
+        ended
+    }
+
+    // Ends the connections that have left more watches than one may, and counts them.
+    pub(crate) fn relieve_of_watches(&mut self) {
+        let ended = self.end_watching();
+        self.watching_ended = self.watching_ended.saturating_add(ended);
     }
 }
