@@ -81,11 +81,6 @@ impl<L: Log, W: Write + Drop> Hub<L, W> {
         }
     }
 
-    fn watches_too_much(&self, number: usize) -> bool {
-        let watches = self.desk.engine().watches_of(number as u64);
-        are_too_many(watches, self.bounds.watches)
-    }
-
     // Ends the connections that have left more watches than one may, among those of which the last turn took messages: the
     // messages of a port stand together. A read that is held leaves its watch later, and then the connection is looked at
     // when its next frame comes, which is its ping at the latest. Returns how many it ended.
@@ -93,10 +88,14 @@ impl<L: Log, W: Write + Drop> Hub<L, W> {
         let mut before = 0;
         let mut ended: u64 = 0;
         for (port, _) in self.desk.fresh() {
-            if *port != before && self.watches_too_much(*port) && self.end_client(*port) {
-                ended = ended.saturating_add(1);
+            let port = *port;
+            if port != before {
+                let watches = self.desk.engine().watches_of(port as u64);
+                if are_too_many(watches, self.bounds.watches) && self.end_client(port) {
+                    ended = ended.saturating_add(1);
+                }
             }
-            before = *port;
+            before = port;
         }
         ended
     }
