@@ -49,11 +49,14 @@ class Stalling(Leader):
 
 
 class Attacked(Server):
-    """The program that is attacked. The C library gives memory back to the system as soon as it is freed, and keeps
-    none for the next use, so that it is seen what the program holds."""
+    """The program that is attacked. The C library gives memory back to the system as soon as it is freed, and keeps next
+    to none for the next use, so that it is seen what the program holds."""
 
     LEADER = Stalling
-    ENVIRONMENT = {"MALLOC_MMAP_THRESHOLD_": "131072"}
+    ENVIRONMENT = {
+        "GLIBC_TUNABLES": "glibc.malloc.tcache_count=0:glibc.malloc.mxfast=0:glibc.malloc.mmap_threshold=131072"
+        ":glibc.malloc.trim_threshold=131072"
+    }
 
     def __init__(self, *words):
         super().__init__(*words, limit=limited)

@@ -103,16 +103,16 @@ pub fn frames_going(bytes: &[u8], most: usize, gate: Gate) -> usize
 /// Whether the last frame that begins in these bytes is of unbounded cost. It is a hint for the hub.
 pub fn ends_heavy(bytes: &[u8]) -> bool {
     let mut ahead = Reader::new(bytes);
-    let mut is_heavy = false;
+    let mut last = bytes;
     for _ in 0..MOST_AT_ONCE {
         let rest = ahead.rest();
         if rest.is_empty() {
             break;
         }
-        is_heavy = goes_last(kind_of_frame(after_int(rest)));
+        last = rest;
         if read_frame(&mut ahead, CLIENT_FRAME_LIMIT).is_err() {
             break;
         }
     }
-    is_heavy
+    goes_last(kind_of_frame(after_int(last)))
 }

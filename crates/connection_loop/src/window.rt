@@ -48,7 +48,7 @@ fn is_notice(frame: &[u8]) -> bool
     ensures { result ≡ is_notice frame.now }
 {
     match after_int(frame).first_chunk::<12>() {
-        Some(header) => *header == [0xff; 12],
+        Some(header) => header[0] == 0xff && *header == [0xff; 12],
         None => false,
     }
 }

@@ -37,6 +37,9 @@ const MAX_CAPACITY: usize = 1024;
 // thread stops reading.
 const CLIENT_LIMIT: u64 = 1 << 20;
 
+// How many outputs there mostly are for the messages of a port, at most: a client sends up to 16 frames at once.
+const USUAL_OUTPUTS: usize = 16;
+
 // While more bytes than this are under way to the leader, no message of a client is taken: what the leader is to be
 // told next, a PING's answer among it, waits for these bytes.
 const LEADER_LIMIT: u64 = 1 << 16;
@@ -538,7 +541,7 @@ impl Desk {
         self.links.take(number, &mut self.fresh, &mut self.notes)?;
         let messages = &self.fresh[before..];
         let taken = bytes_of(messages);
-        let mut outputs = Vec::new(self.alloc);
+        let mut outputs = Vec::with_capacity(self.alloc, USUAL_OUTPUTS)?;
         play(
             rt,
             self.alloc,

@@ -48,6 +48,8 @@ pub struct Hub<L, W> {
     ahead: Arc<ReadsAhead, Global>,
     // No port is served meanwhile whose last messages were costly.
     pause: Pause,
+    // The last turn began in a pause, so it may have left such ports.
+    is_paused: bool,
     pub(crate) clients: BTreeMap<usize, Client>,
     // How many connections were ended because too much waited for clients.
     pub(crate) slow_ended: u64,
@@ -101,6 +103,7 @@ impl<L: Log, W: Write + Drop> Hub<L, W> {
             bounds,
             ahead,
             pause: Pause::default(),
+            is_paused: false,
             clients: BTreeMap::new(alloc),
             slow_ended: 0,
             watching_ended: 0,
@@ -234,11 +237,13 @@ impl<L: Log, W: Write + Drop> Hub<L, W> {
     }
 
     // Makes a turn that takes of clients what the budget of a turn allows.
-    pub(crate) fn turn<R: Threads + Sync + Clock>(&mut self, rt: &R) -> Result<usize, NoMemory> {
+    pub(crate) fn turn<R: Threads + Sync + Clock>(&mut self, rt: &R) -> Result<(), NoMemory> {
         let mut budget = TurnBudget::new(rt, self.clock, self.pause);
+        self.is_paused = !budget.takes_costly();
         let turned = self.turn_within(rt, &mut budget);
         self.pause = self.pause.after(&budget);
-        turned
+        turned?;
+        Ok(())
     }
 
     fn join_client<R: Threads + Wait>(&mut self, rt: &R, number: usize) {
@@ -271,13 +276,11 @@ impl<L: Log, W: Write + Drop> Hub<L, W> {
 
     // Waits for up to so many milliseconds, and no longer than ports are put off because they are costly.
     fn wait<R: Wait + Clock>(&mut self, rt: &R, rest: u64) {
-        let paused = self.pause.rest(self.clock.microseconds(rt));
-        let rest = rest.min(LONGEST_WAIT);
-        let rest = if paused > 0 {
-            rest.min((paused / 1000).saturating_add(1))
-        } else {
-            rest
-        };
+        let mut rest = rest.min(LONGEST_WAIT);
+        if self.is_paused {
+            let paused = self.pause.rest(self.clock.microseconds(rt));
+            rest = rest.min((paused / 1000).saturating_add(1));
+        }
         self.desk.wait(rt, Duration::from_millis(rest));
     }
 
@@ -288,7 +291,7 @@ impl<L: Log, W: Write + Drop> Hub<L, W> {
     ) -> Result<(), Failure> {
         for _ in rt.forever() {
             let found = self.take_new(rt);
-            let took = self.turn(rt)?;
+            self.turn(rt)?;
             self.join_ended(rt);
             let by_leader = self.attend_leader(rt)?;
             if self.over.is_some() {
@@ -297,7 +300,8 @@ impl<L: Log, W: Write + Drop> Hub<L, W> {
             let by_log = self.look_at_log();
             self.relieve();
             self.tell_closed();
-            if !found && took == 0 && !self.desk.is_behind() {
+            // What came during the turn ends the wait at once.
+            if !found && !self.desk.is_behind() {
                 self.wait(rt, by_leader.min(by_log));
             }
         }

@@ -39,18 +39,18 @@ pub struct TurnBudget<'a, R> {
 }
 
 impl<'a, R: Clock> TurnBudget<'a, R> {
-    /// The budget of a turn.
+    /// The budget of a turn. It reads the clock only if the pause wasn't over at the last reading.
     pub fn new(rt: &'a R, clock: Stopwatch, pause: Pause) -> TurnBudget<'a, R> {
         let mut clock = clock;
-        let now = clock.microseconds(rt);
+        let last = clock.last_microseconds();
         TurnBudget {
             rt,
+            takes_costly: pause.rest(last) == 0 || pause.rest(clock.microseconds(rt)) == 0,
             clock,
-            began: now,
-            last: now,
+            began: last,
+            last,
             costly: 0,
             answered: 0,
-            takes_costly: pause.rest(now) == 0,
         }
     }
 }

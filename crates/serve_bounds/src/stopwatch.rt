@@ -23,6 +23,10 @@ impl Stopwatch {
         self.last / 1000
     }
 
+    pub(crate) fn last_microseconds(&self) -> u64 {
+        self.last
+    }
+
     /// The milliseconds by now.
     pub fn now<R: Clock>(&mut self, rt: &R) -> u64 {
         self.microseconds(rt) / 1000

@@ -238,7 +238,7 @@ const MAX_WATCHES: Row = Row {
         least: 0,
         most: 1_000_000_000,
     }),
-    without: Without::Value("1000000"),
+    without: Without::Value("500000"),
     help: "the watches that a connection may leave; one with more is closed; 0: any number",
 };
 

@@ -69,7 +69,7 @@ fn each_option_is_read(rt: HostRuntime) -> Result<(), Fail> {
     assert!(rt; options.limits.workers() == 2 && options.limits.batch() == 8);
     assert!(rt; options.server_id.number() == 7 && options.max_clients == Some(9));
     assert!(rt;
-        options.record == Some("f") && options.tick == 2000 && options.max_watches == 1_000_000
+        options.record == Some("f") && options.tick == 2000 && options.max_watches == 500_000
     );
     Ok(())
 }
