@@ -14,7 +14,7 @@
 //! It is proved which bytes are whole frames ([`whole_frames`]), that the bytes of a connection wait in the order in
 //! which they were read, and which of them are taken next (`incoming.rt`), how answers are counted ([`law::exchanges`]),
 //! and that the bytes of the outputs are written in their order, each once (`outgoing.rt`); the rest of the code is
-//! proved safe. Tests show what happens if a read or a write fails.
+//! proved safe. What happens if a read or a write fails is tried over sockets.
 #![tactic(auto)]
 
 mod ahead;

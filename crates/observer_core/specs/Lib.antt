@@ -10,5 +10,6 @@ pub mod Agreement
 pub mod Leaderless
 pub mod GivenIds
 pub mod Apart
+pub mod Soundness
 pub mod WholeImages
 pub mod Rows

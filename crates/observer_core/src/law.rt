@@ -9,6 +9,7 @@ ghost use Rattle.observer_core.specs.Play.{play};
 ghost use Rattle.observer_core.specs.Logs.{MachinesFollowTheirLogs, RefusalsChangeNothing};
 ghost use Rattle.observer_core.specs.Agreement.{ConnectionsAgree, SessionsAreServed, ConnectedSessionsLive, NothingWaitsInVain};
 ghost use Rattle.observer_core.specs.Leaderless.{SilentWithoutLeader};
+ghost use Rattle.observer_core.specs.Soundness.{MachinesAreSound};
 ghost use Rattle.observer_core.specs.GivenIds.{IdsAreGivenOnce};
 ghost use Rattle.observer_core.specs.Apart.{ClientsAreApart, AnswersReachOneClient};
 ghost use Rattle.observer_core.specs.WholeImages.{PartsAreWholeImages};
@@ -112,6 +113,21 @@ pub fn silent_without_leader()
     sessions::sessions_and_connections_agree();
     watch_manager::law::firing();
     forwarding::requests_and_syncs_agree();
+}
+
+/// A machine is sound at the start, and after every list of events, faults and ends of leaders included: clients,
+/// watches and waiting requests agree, whoever isn't served has no session, the session of each connection lives,
+/// nothing waits in vain, the tree follows its log, and without a leader the machine rests. The laws above say more of
+/// each of these; this one needs none of the others as a premise.
+pub fn machines_are_sound()
+    ensures { MachinesAreSound }
+{
+    connections_agree();
+    sessions_are_served();
+    connected_sessions_live();
+    nothing_waits_in_vain();
+    logs_are_followed();
+    silent_without_leader();
 }
 
 /// The counter of session ids never falls, and the server id stays, so an id that was given out stays given out. The id
