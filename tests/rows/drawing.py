@@ -21,31 +21,32 @@ GREATEST_COUNTER = 72057594037927934
 # What may come, and how often in each phase of the observer, beside the others of that phase. What can't come as things
 # stand is drawn again.
 TABLE = (
-    (packets.leader_up, 30, 1, 0, 0, 0, 0),
-    (packets.leader_end, 1, 1, 1, 1, 1, 2),
-    (packets.step, 2, 50, 50, 50, 22, 0),
-    (packets.transactions, 0, 0, 0, 0, 12, 26),
-    (packets.proposals, 0, 0, 0, 0, 16, 1),
-    (packets.commits, 0, 0, 0, 0, 20, 1),
-    (packets.answers, 0, 0, 0, 0, 4, 30),
-    (packets.sessions_made, 0, 0, 0, 0, 4, 26),
-    (packets.session_closed, 0, 0, 0, 0, 3, 6),
-    (packets.sync_done, 0, 0, 0, 0, 1, 12),
+    (packets.leader_up, 40, 1, 0, 0, 0, 0),
+    (packets.leader_end, 1, 1, 1, 1, 1, 5),
+    (packets.step, 2, 50, 50, 50, 18, 0),
+    (packets.transactions, 0, 0, 0, 0, 16, 40),
+    (packets.proposals, 0, 0, 0, 0, 20, 1),
+    (packets.commits, 0, 0, 0, 0, 24, 1),
+    (packets.answers, 0, 0, 0, 0, 1, 50),
+    (packets.sessions_made, 0, 0, 0, 0, 2, 60),
+    (packets.session_closed, 0, 0, 0, 0, 2, 4),
+    (packets.sync_done, 0, 0, 0, 0, 1, 15),
     (packets.ping, 0, 0, 0, 0, 1, 6),
-    (packets.ignored, 0, 0, 0, 0, 2, 3),
+    (packets.ignored, 0, 0, 0, 0, 2, 2),
     (packets.second_image, 0, 0, 0, 0, 2, 2),
-    (packets.fault, 1, 2, 3, 3, 2, 3),
-    (requests.connect, 4, 3, 3, 3, 3, 20),
-    (requests.ask, 2, 2, 2, 2, 2, 70),
+    (packets.fault, 1, 6, 8, 8, 4, 5),
+    (requests.connect, 3, 2, 2, 2, 3, 90),
+    (requests.ask, 2, 2, 2, 2, 2, 110),
+    (requests.meet, 0, 0, 0, 0, 0, 25),
     (requests.fault, 1, 1, 1, 1, 1, 4),
-    (requests.word, 3, 2, 2, 2, 2, 5),
-    (requests.client_end, 1, 1, 1, 1, 1, 5),
-    (requests.expire, 1, 0, 0, 0, 0, 2),
-    (requests.checkpoint, 1, 0, 0, 0, 1, 3),
+    (requests.word, 2, 1, 1, 1, 1, 4),
+    (requests.client_end, 1, 1, 1, 1, 1, 3),
+    (requests.expire, 1, 0, 0, 0, 0, 1),
+    (requests.checkpoint, 1, 0, 0, 0, 1, 2),
     (requests.rest, 4, 4, 4, 4, 4, 10),
 )
 MAKERS = [row[0] for row in TABLE]
-WEIGHTS = {phase: [row[1 + at] for row in TABLE] for at, phase in enumerate(PHASES)}
+WEIGHTS = {phase: list(itertools.accumulate(row[1 + at] for row in TABLE)) for at, phase in enumerate(PHASES)}
 
 
 class Atom(NamedTuple):
@@ -77,8 +78,9 @@ class Drawing:
     def __init__(self, seed):
         self.dice = random.Random(seed)
         self.atoms, self.owed = [], {}  # `owed`: of who has sent a part of something, the rest
-        self.paths = self.dice.sample(bodies.PATHS, self.number(4, 9))
-        self.numbers = self.dice.sample((1, 2, 3, 4), self.number(1, 4)) if self.chance(0.9) else [1, 0, 10, 2**32 - 1]
+        self.paths = bodies.paths_of(self.dice.sample(bodies.PATHS, self.number(3, 7)))
+        self.hot = self.one(self.paths)  # where clients meet
+        self.numbers = self.dice.sample((1, 2, 3, 4), self.one((1, 2, 3, 3, 4))) if self.chance(0.9) else [1, 0, 10, 2**32 - 1]
         self.cutting, self.joining = self.one((0, 0.05, 0.3)), self.one((0, 0.5, 0.9))
         self.length, self.made = self.number(LEAST, MOST), 0
         self.xids, self.given, self.slips = {}, [], 0
@@ -164,7 +166,7 @@ class Drawing:
     def draw(self):
         """Draws what comes next. What can't come returns True, and something else is drawn."""
         while True:
-            maker = self.dice.choices(MAKERS, WEIGHTS[self.learner.phase])[0]
+            maker = self.dice.choices(MAKERS, cum_weights=WEIGHTS[self.learner.phase])[0]
             if not maker(self):
                 self.made += 1
                 return

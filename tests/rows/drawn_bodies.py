@@ -25,13 +25,37 @@ STRANGERS = (7, 9, (5 << 56) + 1, (200 << 56) + 1 - 2**64, -1)
 GREATEST = 2**31 - 1
 
 
-def path_of_change(it):
-    """A path that a transaction or a client may change; a create has to be of none of those that always stand."""
-    return it.one(it.paths)
+def paths_of(chosen):
+    """The paths of a script: those that are chosen and all above them, so that each can be made."""
+    found = set()
+    for path in chosen:
+        while path not in STANDING:
+            found.add(path)
+            path = parent_of(path)
+    return sorted(found)
 
 
-def path_of_read(it):
-    return it.one(STANDING[:2] if it.chance(0.2) else it.paths)
+def path(it):
+    """A path that is read or changed: often the one at which clients meet, or one that has a node."""
+    how = it.number(1, 10)
+    if how <= 4:
+        return it.hot
+    standing = [each for each in it.paths if each in it.tree.nodes] if how <= 7 else ()
+    return it.one(standing) if standing else it.one(STANDING[:2]) if how == 10 else it.one(it.paths)
+
+
+def path_of_create(it):
+    """Mostly a path without a node below one with a node, so that it can be made."""
+    nodes = it.tree.nodes
+    if it.hot not in nodes and parent_of(it.hot) in nodes and it.chance(0.5):
+        return it.hot
+    free = [each for each in it.paths if each not in nodes and parent_of(each) in nodes] if it.chance(0.7) else ()
+    return it.one(free) if free else it.one(it.paths)
+
+
+def path_of_delete(it):
+    standing = [each for each in it.paths if each in it.tree.nodes] if it.chance(0.7) else ()
+    return it.one(standing) if standing else it.one(it.paths)
 
 
 def acl(it):
@@ -58,9 +82,9 @@ def version(it):
     return it.one((-1, 0, 1, 2, 3, GREATEST, -GREATEST - 1)) if it.chance(0.2) else it.number(0, 9)
 
 
-def parent_cversion(it, path):
+def parent_cversion(it, at):
     """The cversion that a create gives its parent: mostly the next one, or -1, which means it."""
-    parent = it.tree.nodes.get(parent_of(path))
+    parent = it.tree.nodes.get(parent_of(at))
     if it.chance(0.5) or parent is None:
         return -1
     return it.one((parent.cversion + 1,) * 4 + (parent.cversion, 0, 5, GREATEST, -7)) if parent.cversion < GREATEST else -1
@@ -69,12 +93,12 @@ def parent_cversion(it, path):
 # ---- transactions
 
 
-def create_body(it, is_part, path=None):
-    path = path or path_of_change(it)
-    body = buffer(path) + buffer(it.one(CONTENTS)) + acl(it) + struct.pack(">?", it.chance(0.3))
+def create_body(it, is_part, at=None):
+    at = at or path_of_create(it)
+    body = buffer(at) + buffer(it.one(CONTENTS)) + acl(it) + struct.pack(">?", it.chance(0.3))
     if not is_part and it.chance(0.1):
         return body  # as a create is written that has no parentCVersion
-    return body + struct.pack(">i", parent_cversion(it, path))
+    return body + struct.pack(">i", parent_cversion(it, at))
 
 
 def multi_body(it):
@@ -92,13 +116,13 @@ def body_of(it, kind, is_part=False):
     if kind == CREATE:
         return create_body(it, is_part)
     if kind == DELETE:
-        return buffer(path_of_change(it))
+        return buffer(path_of_delete(it))
     if kind == SET_DATA:
-        return buffer(path_of_read(it)) + buffer(it.one(CONTENTS)) + struct.pack(">i", version(it))
+        return buffer(path(it)) + buffer(it.one(CONTENTS)) + struct.pack(">i", version(it))
     if kind == SET_ACL:
-        return buffer(path_of_read(it)) + acl(it) + struct.pack(">i", version(it))
+        return buffer(path(it)) + acl(it) + struct.pack(">i", version(it))
     if kind == CHECK:
-        return buffer(path_of_read(it)) + struct.pack(">i", version(it))
+        return buffer(path(it)) + struct.pack(">i", version(it))
     if kind == MULTI:
         return multi_body(it)
     if kind == CREATE_SESSION:
@@ -112,10 +136,9 @@ def body_of(it, kind, is_part=False):
 def drawn_tree(it):
     """The tree of which a leader sends an image: the observer's own or a fresh one, and what was done to it since."""
     tree = it.tree.copy() if it.chance(0.6) and b"/" in it.tree.nodes else Tree.fresh()
-    for path in it.paths:
-        parent = tree.nodes.get(parent_of(path))
-        if it.chance(0.4) and parent and path not in tree.nodes:
-            tree.put(path, drawn_node(it))
+    for each in it.paths:
+        if it.chance(0.4) and parent_of(each) in tree.nodes and each not in tree.nodes:
+            tree.put(each, drawn_node(it))
     for session in it.sessions():
         if it.chance(0.3):
             tree.sessions[session] = it.one((4000, 10000, 30000))
@@ -130,9 +153,9 @@ def drawn_node(it):
     return Node(it.one(CONTENTS), rights, *stat)
 
 
-def node_bytes(path, node, key):
+def node_bytes(at, node, key):
     stat = (node.czxid, node.mzxid, node.ctime, node.mtime, node.version, node.cversion, node.aversion, node.owner)
-    content = buffer(b"" if path == b"/" else path) + buffer(node.content) + struct.pack(">q", key)
+    content = buffer(b"" if at == b"/" else at) + buffer(node.content) + struct.pack(">q", key)
     return content + struct.pack(">qqqqiiiqq", *stat, node.pzxid)
 
 
@@ -144,22 +167,22 @@ def acl_list(rights):
 def image_of(it, tree):
     """The image of a tree. A node whose parent is gone isn't in it, as an image has each node below its parent."""
     paths = []
-    for path in sorted(tree.nodes):
-        if path == b"/" or parent_of(path) in paths:
-            paths.append(path)
+    for each in sorted(tree.nodes):
+        if each == b"/" or parent_of(each) in paths:
+            paths.append(each)
     sessions = sorted(tree.sessions.items())
     lists, keys = [], {}
-    for path in paths:
-        told = acl_list(tree.nodes[path].acl)
+    for each in paths:
+        told = acl_list(tree.nodes[each].acl)
         if told != OPEN_ACL or it.chance(0.3):
-            keys[path] = len(lists) + 1
-            lists.append(struct.pack(">q", keys[path]) + told)
+            keys[each] = len(lists) + 1
+            lists.append(struct.pack(">q", keys[each]) + told)
     if it.chance(0.2):
         lists.append(struct.pack(">qi", 0, -1))  # a null list, which no node has
     return b"".join([
         struct.pack(">i", len(sessions)), *[struct.pack(">qi", *entry) for entry in sessions],
         struct.pack(">i", len(lists)), *lists,
-        *[node_bytes(path, tree.nodes[path], keys.get(path, -1)) for path in paths],
+        *[node_bytes(each, tree.nodes[each], keys.get(each, -1)) for each in paths],
         buffer(b"/"), buffer(b"BenWasHere"),
     ])
 

@@ -14,6 +14,8 @@ READS = {3: "exists", 4: "getData", 6: "getACL", 8: "getChildren", 12: "getChild
 
 
 def of_sync(it, found):
+    if found.kind == learner.TRUNC and any(txn.zxid > found.zxid for txn in it.log):
+        return "TRUNC that takes something back"
     return {learner.DIFF: "DIFF", learner.TRUNC: "TRUNC", learner.SNAP: "SNAP"}.get(found.kind)
 
 
@@ -73,6 +75,8 @@ def of_frame(it, number, asked, frame):
 
 
 def of_fire(it, kind, path):
+    if any(clients.covers(at, mode, path, kind) for (at, _), mode in it.lasting.items()):
+        return "lasting watch told"
     watched = [number for at, number in it.own | it.child if at == path]
     return "change told to several" if len(set(watched)) > 1 else None
 
@@ -81,6 +85,22 @@ def of_admit(it, number, asked, session, timeout, has_byte):
     if it.owner(session) is not None:
         return "session taken from an older connection"
     return None if asked.waits else "connection admitted"
+
+
+def of_reply(it, number, xid, error, body=b"", zxid=None):
+    return f"reply with {error}" if error < -1 else None
+
+
+def of_connect(it, number, asked, frame):
+    return "connect while nobody is served" if it.learner.phase != learner.SERVING else None
+
+
+def of_pinged(it, found):
+    return "PING answered with sessions" if it.touched else None
+
+
+def of_synced(it):
+    return "sync answered" if it.syncs and it.syncs[0] is not None else "SYNC for nobody"
 
 
 def named(name):
@@ -102,6 +122,10 @@ WATCHED = (
     (clients.Clients, "read", of_read),
     (clients.Clients, "fire", of_fire),
     (clients.Clients, "admit", of_admit),
+    (clients.Clients, "connect", of_connect),
+    (clients.Clients, "reply", of_reply),
+    (clients.Clients, "pinged", of_pinged),
+    (clients.Clients, "synced", of_synced),
     (clients.Clients, "event", named("watch fired")),
     (clients.Clients, "admit_waiting", named("session created")),
     (clients.Clients, "refuse", named("connect refused")),

@@ -10,7 +10,7 @@ from records import (
 )
 
 import drawn_bodies as bodies
-from learner import DOWN, HELLO, IMAGE, REPLAY, SYNCING
+from learner import DOWN, HELLO, IMAGE, REPLAY, SERVING, SYNCING
 from tree import CHECK, DELETE, MULTI, SET_ACL
 
 LAST = 2**63 - 1
@@ -35,8 +35,6 @@ def leader_up(it):
 
 def leader_end(it):
     """The leader ends, in the middle of a packet where a part of one has come."""
-    if not it.is_late():
-        return True
     it.owed.pop("leader", None)
     it.happens("leader end")
     return False
@@ -62,8 +60,9 @@ def hello(it):
 
 def way(it):
     """How the observer is brought up to date. A leader takes back only what is above the last checkpoint."""
-    kind, last, base = it.one((DIFF, DIFF, SNAP, SNAP, TRUNC, TRUNC)), it.learner.last, it.learner.base_zxid
+    last, base = it.learner.last, it.learner.base_zxid
     zxids = [txn.zxid for txn in it.learner.log if txn.zxid >= base]
+    kind = it.one((DIFF, DIFF, SNAP, SNAP) + (TRUNC,) * (5 if zxids else 1))
     zxid = it.one((0, last, 5)) if kind == DIFF else last + it.number(0, 5)
     if kind == TRUNC:
         zxid = it.one((*zxids, *zxids, base, last, max(last - 1, base)))
@@ -90,15 +89,15 @@ def done(it):
 
 
 def next_zxid(it, after=None):
-    """The zxid of the next transaction: above the one before it, in the leader's epoch. Behind an image the first ones
-    may be those that are in it."""
+    """The zxid of the next transaction: above the one before it, in the leader's epoch. Between an image and UPTODATE
+    the first ones may be those that are in the image."""
     learner = it.learner
-    floor = after if after is not None else learner.last if learner.floor is None else learner.floor
-    if after is None and learner.floor == 0 and it.chance(0.6):
+    floor = learner.floor if learner.phase == REPLAY else None
+    if after is None and floor == 0 and it.chance(0.6):
         return max(1, learner.last - it.number(0, 3))
-    if learner.floor is None:
-        floor = max(floor, learner.accepted << 32)
-    return min(floor + it.one((1,) * 8 + (2, 3)), LAST)
+    if floor is None:
+        floor = max(learner.last, learner.accepted << 32)
+    return min(max(floor, after or 0) + it.one((1,) * 8 + (2, 3)), LAST)
 
 
 def session_of_txn(it):
@@ -245,17 +244,28 @@ def second_image(it):
 def fault(it):
     """Something that the observer has to refuse, or can't be sure of: a packet of another phase, one that is out of
     order, and what is damaged."""
-    if not it.is_late():
+    is_followed = it.learner.phase in (REPLAY, SERVING)
+    if not (it.is_late() or not is_followed and it.chance(0.3)):
         return True
     it.settle("leader")
-    content = it.dice.choices((wrong_phase, out_of_order, bad_path, damaged), (2, 3, 2, 8))[0](it)
-    send(it, content)
+    makers = (wrong_phase, out_of_order, bad_path, torn, damaged)
+    weights = (3, 2, 2, 4, 6) if is_followed else (8, 0, 0, 0, 6)
+    send(it, it.dice.choices(makers, weights)[0](it))
     return False
 
 
 def wrong_phase(it):
+    """A packet that this phase has no place for; in the sync phase one that takes back too much."""
+    learner = it.learner
+    if learner.phase == HELLO and learner.accepted and it.chance(0.4):
+        return packet(LEADER_INFO, (learner.accepted << 32) - 1, struct.pack(">i", PROTOCOL))
+    if learner.phase == SYNCING and it.chance(0.5):
+        return packet(TRUNC, learner.base_zxid - 1) if it.chance(0.7) else packet(SNAP, -1)
+    if learner.phase == REPLAY and it.chance(0.5):
+        waiting = learner.proposals
+        return packet(COMMIT, waiting[0].zxid + 1 if waiting and waiting[0].zxid < LAST else learner.last)
     kind = it.one((LEADER_INFO, DIFF, NEW_LEADER, UP_TO_DATE, COMMIT, PING, SYNCED, 99))
-    return packet(kind, it.learner.last, it.one((None, b"\0\1\0\0")))
+    return packet(kind, learner.last, it.one((None, b"\0\1\0\0")))
 
 
 def out_of_order(it):
@@ -273,14 +283,27 @@ def bad_path(it):
     return packet(INFORM, zxid, transaction(zxid, kind, body, 7, 1, 1000))
 
 
-def damaged(it):
+def torn(it):
+    """A packet that is whole, with a transaction that isn't: bytes are missing or left over, one is another, or its
+    type is none."""
     zxid = next_zxid(it)
-    whole = packet(it.one((INFORM, INFORM, PROPOSAL)), zxid, txn(it, zxid))
+    content, how = txn(it, zxid), it.number(0, 4)
+    if how == 0:
+        content += b"\0"
+    elif how == 1:
+        content = content[: -it.number(1, 12)]
+    elif how == 2:
+        content = transaction(zxid, it.one((0, 3, 4, 15, 16, 19, -2)), buffer(it.hot), 7, 1, 1000)
+    else:
+        content = bodies.damaged(it, content)
+    return packet(INFORM, zxid, content)
+
+
+def damaged(it):
+    """A packet or an image with a byte that is wrong, missing or left over."""
+    zxid = next_zxid(it)
     if it.learner.phase == IMAGE:
-        whole = bodies.image_of(it, bodies.drawn_tree(it))
-    elif it.learner.phase in (HELLO, SYNCING):
-        whole = packet(it.one((LEADER_INFO, DIFF, SNAP, TRUNC)), zxid, it.one((None, b"\0\1\0\0", b"\0\1")))
-    if it.chance(0.5) or len(whole) < 32:
-        return bodies.damaged(it, whole)
-    # The length is that of what is damaged, so that the packet is whole and its transaction isn't.
-    return packet(INFORM, zxid, bodies.damaged(it, txn(it, zxid)))
+        return bodies.damaged(it, bodies.image_of(it, bodies.drawn_tree(it)))
+    if it.learner.phase in (HELLO, SYNCING):
+        return bodies.damaged(it, packet(it.one((LEADER_INFO, DIFF, SNAP, TRUNC)), zxid, b"\0\1\0\0"))
+    return bodies.damaged(it, packet(it.one((INFORM, INFORM, PROPOSAL)), zxid, txn(it, zxid)))

@@ -10,6 +10,7 @@ from records import (
 )
 
 import drawn_bodies as bodies
+import drawn_packets as packets
 from clients import ADD_WATCH, CHECK, GET_ACL, GET_CHILDREN2, MULTI, PINGED, WORDS
 from learner import SERVING
 from tree import DELETE, SET_ACL
@@ -50,21 +51,25 @@ def open_one(it):
 
 
 def connect(it):
-    """A connection opens, and asks for a new session or for one that it had."""
-    if it.learner.phase == SERVING and len(opened(it)) >= it.number(1, len(it.numbers)):
+    """A connection opens, and asks for a new session or for one that it had. Often the leader makes it at once."""
+    is_served = it.learner.phase == SERVING
+    if is_served and len(opened(it)) >= len(it.numbers) and it.chance(0.9):
         return True
     number = open_one(it)
     it.comes(source(number), connect_of(it))
-    if it.learner.phase == SERVING and it.chance(0.3):
+    if is_served and it.chance(0.3):
         it.comes(source(number), asked(it, number))
+    if is_served and it.chance(0.6):
+        packets.sessions_made(it)
     return False
 
 
 def connect_of(it):
     session, timeout = 0, it.one((TIMEOUT, TIMEOUT, 5000, 0, -1, 10**6, 2**31 - 1))
     password = it.one((PASSWORD, PASSWORD, b"", None, b"any"))
-    if it.chance(0.35):
-        session = it.one(sorted(it.tree.sessions) if it.tree.sessions and it.chance(0.8) else it.sessions())
+    gone = sorted(each for each in it.tree.sessions if it.clients.owner(each) is None)
+    if it.chance(0.6 if gone else 0.2):
+        session = it.one(gone) if gone and it.chance(0.7) else it.one(it.sessions())
         password = it.clients.password(session) if it.chance(0.9) else password
     last = it.learner.last
     seen = it.one((0, 0, last, last, 1, -1)) if it.chance(0.95) else last + 1
@@ -92,7 +97,8 @@ def word(it):
 
 
 def expire(it):
-    session = it.one(it.sessions())
+    here = sorted(each.session for each in it.clients.open.values() if each.session is not None)
+    session = it.one(here) if here and it.chance(0.7) else it.one(it.sessions())
     it.happens("expire " + struct.pack(">q", session).hex())
     return False
 
@@ -125,6 +131,19 @@ def ask(it):
     return False
 
 
+def meet(it):
+    """Each connection leaves a watch where clients meet: on a node, on its children, or a lasting one."""
+    numbers = opened(it)
+    if len(numbers) < 2:
+        return True
+    for number in numbers:
+        kind = it.one((EXISTS, EXISTS, GET_DATA, GET_CHILDREN, ADD_WATCH))
+        watch = struct.pack(">i", it.number(0, 1)) if kind == ADD_WATCH else b"\1"
+        at = it.hot if it.chance(0.8) else bodies.parent_of(it.hot)
+        it.comes(source(number), request(xid_of(it, number), kind, buffer(at) + watch))
+    return False
+
+
 def xid_of(it, number):
     """The next xid of a connection; a few are sent again."""
     if it.chance(0.05):
@@ -140,24 +159,20 @@ def asked(it, number):
     return it.dice.choices(makers, weights)[0](it, xid_of(it, number))
 
 
-def path(it):
-    return bodies.path_of_read(it)
-
-
 def client_path(it):
     """A path that a client asks for, as its bytes; a few can't be asked for or name no node."""
-    if it.chance(0.96):
-        return path(it)
+    if it.chance(0.97):
+        return bodies.path(it)
     return it.one(bodies.NO_PATHS + bodies.ODD_PATHS)
 
 
 def read(it, xid):
-    return request(xid, it.one(READS), buffer(client_path(it)) + bytes([it.one((0, 0, 1, 1, 2))]))
+    return request(xid, it.one(READS), buffer(client_path(it)) + bytes([it.one((0, 0, 1, 1, 1, 2))]))
 
 
 def write(it, xid):
     """A write. Its body isn't read here, so that it may be any."""
-    body = buffer(path(it)) + buffer(it.one(bodies.CONTENTS)) if it.chance(0.9) else b""
+    body = buffer(bodies.path(it)) + buffer(it.one(bodies.CONTENTS)) if it.chance(0.9) else b""
     return request(xid, it.one(WRITES), body)
 
 
