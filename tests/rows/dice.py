@@ -32,7 +32,7 @@ from drawn_marks import marks_of  # noqa: E402
 from observer import replayed  # noqa: E402
 
 COUNT = 2000
-SHOWN = 3  # of the scripts that differ so many are shrunk
+SHOWN = 2  # of the scripts that differ so many are shrunk
 PROCESSES = 2
 
 

@@ -11,6 +11,7 @@ from typing import List, NamedTuple
 import drawn_bodies as bodies
 import drawn_packets as packets
 import drawn_requests as requests
+from clients import signed
 from learner import DOWN, HELLO, IMAGE, REPLAY, SERVING, SYNCING
 from observer import Observer, play
 
@@ -21,7 +22,7 @@ GREATEST_COUNTER = 72057594037927934
 # What may come, and how often in each phase of the observer, beside the others of that phase. What can't come as things
 # stand is drawn again.
 TABLE = (
-    (packets.leader_up, 40, 1, 0, 0, 0, 0),
+    (packets.leader_up, 40, 1, 1, 1, 1, 1),
     (packets.leader_end, 1, 1, 1, 1, 1, 5),
     (packets.step, 2, 50, 50, 50, 18, 0),
     (packets.transactions, 0, 0, 0, 0, 16, 40),
@@ -34,7 +35,7 @@ TABLE = (
     (packets.ping, 0, 0, 0, 0, 1, 6),
     (packets.ignored, 0, 0, 0, 0, 2, 2),
     (packets.second_image, 0, 0, 0, 0, 2, 2),
-    (packets.fault, 1, 6, 8, 8, 4, 5),
+    (packets.fault, 1, 6, 8, 8, 8, 5),
     (requests.connect, 3, 2, 2, 2, 3, 90),
     (requests.ask, 2, 2, 2, 2, 2, 110),
     (requests.meet, 0, 0, 0, 0, 0, 25),
@@ -42,7 +43,7 @@ TABLE = (
     (requests.word, 2, 1, 1, 1, 1, 4),
     (requests.client_end, 1, 1, 1, 1, 1, 3),
     (requests.expire, 1, 0, 0, 0, 0, 1),
-    (requests.checkpoint, 1, 0, 0, 0, 1, 2),
+    (requests.checkpoint, 1, 1, 1, 1, 1, 2),
     (requests.rest, 4, 4, 4, 4, 4, 10),
 )
 MAKERS = [row[0] for row in TABLE]
@@ -105,8 +106,10 @@ class Drawing:
         return self.learner.tree
 
     def sessions(self):
-        """Sessions that may be named: those that live, those that were given out, and some of other servers."""
-        return sorted({*self.tree.sessions, *self.given, *bodies.STRANGERS})
+        """Sessions that may be named: those that live, those that were given out, the one that is given out next, and
+        some of other servers."""
+        after = signed((self.learner.server << 56) + self.clients.counter + 1)
+        return sorted({*self.tree.sessions, *self.given, after, *bodies.STRANGERS})
 
     def is_late(self):
         """Whether a fault may come, which ends much: the later the likelier."""

@@ -20,8 +20,8 @@ NO_PATHS = (None, b"", b"a", b"/a\0b", b"/\xc0\xaf", b"/\xff")
 ODD_PATHS = (b"/a/", b"//a")
 CONTENTS = (None, b"", b"hi", b"hi", b"other", bytes(range(40)))
 ERRORS = (-101, -103, -110, -111, -118, -112, -5, -2, 0, 1)
-# Sessions of other servers. The last two are where a session's number changes its sign.
-STRANGERS = (7, 9, (5 << 56) + 1, (200 << 56) + 1 - 2**64, -1)
+# Sessions of other servers, those with the high bit among them, and 0, which owns nothing.
+STRANGERS = (0, 7, 9, (5 << 56) + 1, (200 << 56) + 1 - 2**64, -1)
 GREATEST = 2**31 - 1
 
 
@@ -126,7 +126,7 @@ def body_of(it, kind, is_part=False):
     if kind == MULTI:
         return multi_body(it)
     if kind == CREATE_SESSION:
-        return struct.pack(">i", it.one((4000, 10000, 40000, 1)))
+        return struct.pack(">i", it.one((4000, 10000, 40000, 1, 0, -5)))
     return b"" if kind == CLOSE_SESSION else struct.pack(">i", it.one(ERRORS))
 
 

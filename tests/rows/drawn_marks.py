@@ -166,5 +166,6 @@ def marks_of(script):
         replayed(script)
     lines = script.split(b"\n")
     marks |= {"second leader"} if lines.count(b"leader up") > 1 else set()
+    marks |= {"fault"} if any(str(mark).startswith("fault") for mark in marks) else set()
     marks |= {"checkpoint"} if b"checkpoint" in lines else set()
     return marks - {None}

@@ -14,6 +14,7 @@ from learner import DOWN, HELLO, IMAGE, REPLAY, SERVING, SYNCING
 from tree import CHECK, DELETE, MULTI, SET_ACL
 
 LAST = 2**63 - 1
+NULL = struct.pack(">i", -1)
 # The transactions of a leader, and how often they come.
 KINDS = (CREATE, DELETE, SET_DATA, SET_ACL, MULTI, CREATE_SESSION, CLOSE_SESSION, ERROR, CHECK)
 KIND_WEIGHTS = (40, 14, 20, 8, 12, 3, 2, 4, 1)
@@ -21,6 +22,9 @@ REVALIDATE, ACTIVATED, INFORM_ACTIVATED = 6, 9, 19
 
 
 def send(it, content):
+    """A packet of the leader comes; what goes with it, its authinfo, is mostly null."""
+    if it.learner.phase != IMAGE and content[-4:] == NULL and it.chance(0.03):
+        content = content[:-4] + ids(it)
     it.comes("leader", content)
 
 
@@ -63,7 +67,7 @@ def way(it):
     last, base = it.learner.last, it.learner.base_zxid
     zxids = [txn.zxid for txn in it.learner.log if txn.zxid >= base]
     kind = it.one((DIFF, DIFF, SNAP, SNAP) + (TRUNC,) * (5 if zxids else 1))
-    zxid = it.one((0, last, 5)) if kind == DIFF else last + it.number(0, 5)
+    zxid = it.one((0, last, 5)) if kind == DIFF else last + it.number(0, 5) if it.chance(0.9) else it.number(0, last)
     if kind == TRUNC:
         zxid = it.one((*zxids, *zxids, base, last, max(last - 1, base)))
     send(it, packet(kind, min(max(zxid, 0), LAST), it.one((None, None, b"", b"any"))))
@@ -144,7 +148,7 @@ def answers(it):
         session, write = it.one(owed)
         xid, kind = write.values
         kind = it.dice.choices((kind, ERROR, it.one(KINDS)), (80, 17, 3))[0]
-        inform(it, txn(it, next_zxid(it), kind, session, xid if it.chance(0.95) else xid + 1))
+        inform(it, txn(it, next_zxid(it), kind, session, xid if it.chance(0.95) else xid ^ 1))
         it.settle("leader")
     return False
 
@@ -200,7 +204,7 @@ def commits(it):
 
 def ids(it):
     """A packet's authinfo; null texts in it come back empty."""
-    if it.chance(0.7):
+    if it.chance(0.5):
         return struct.pack(">i", it.one((-1, 0)))
     return struct.pack(">i", 2) + buffer(b"digest") + buffer(it.one((b"ann", None))) + buffer(None) + buffer(b"")
 
@@ -250,7 +254,11 @@ def fault(it):
     it.settle("leader")
     makers = (wrong_phase, out_of_order, bad_path, torn, damaged)
     weights = (3, 2, 2, 4, 6) if is_followed else (8, 0, 0, 0, 6)
-    send(it, it.dice.choices(makers, weights)[0](it))
+    content = it.dice.choices(makers, weights)[0](it)
+    if is_followed and it.chance(0.3):  # what comes behind a fault is dropped
+        zxid = next_zxid(it)
+        content += packet(INFORM, zxid, txn(it, zxid))
+    send(it, content)
     return False
 
 

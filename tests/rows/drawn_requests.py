@@ -92,7 +92,8 @@ def client_end(it):
 def word(it):
     """A connection opens with a four-letter word."""
     number = open_one(it)
-    it.comes(source(number), it.one(WORDS) if it.chance(0.9) else it.one((b"stat", b"RUOK", b"ruo\0")))
+    content = it.one(WORDS) if it.chance(0.9) else it.one((b"stat", b"RUOK", b"ruo\0"))
+    it.comes(source(number), content + it.one((b"", b"", b"", b"\n", bytes(12))))
     return False
 
 
@@ -156,7 +157,8 @@ def asked(it, number):
     """A frame with a request."""
     makers = (read, write, sync, set_watches, add_watch, auth, ping, refused, leave)
     weights = (42, 24, 6, 6, 6, 4, 5, 2, 2)
-    return it.dice.choices(makers, weights)[0](it, xid_of(it, number))
+    frame = it.dice.choices(makers, weights)[0](it, xid_of(it, number))
+    return buffer(frame[4:] + b"more") if it.chance(0.02) else frame  # what comes behind a body is ignored
 
 
 def client_path(it):
@@ -232,5 +234,5 @@ def fault(it):
     else:
         has_session = it.clients.open[number].session is not None
         content = bodies.damaged(it, asked(it, number) if has_session else connect_of(it))
-    it.comes(source(number), content)
+    it.comes(source(number), content + asked(it, number) if it.chance(0.4) else content)
     return False

@@ -24,7 +24,7 @@ def reduced(items, shows):
     return items
 
 
-def shrunk(script, differs, most=4000):
+def shrunk(script, differs, most=2000):
     """Returns a small script that differs as well: fewer atoms, then atoms of fewer bytes, then fewer workers and
     transactions of a batch. `most` scripts are tried."""
     best, tried = script, 0
