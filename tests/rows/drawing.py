@@ -47,7 +47,7 @@ TABLE = (
     (requests.rest, 4, 4, 4, 4, 4, 10),
 )
 MAKERS = [row[0] for row in TABLE]
-WEIGHTS = {phase: list(itertools.accumulate(row[1 + at] for row in TABLE)) for at, phase in enumerate(PHASES)}
+WEIGHTS = {phase: list(itertools.accumulate(row[at] for row in TABLE)) for at, phase in enumerate(PHASES, 1)}
 
 
 class Atom(NamedTuple):
@@ -81,10 +81,12 @@ class Drawing:
         self.atoms, self.owed = [], {}  # `owed`: of who has sent a part of something, the rest
         self.paths = bodies.paths_of(self.dice.sample(bodies.PATHS, self.number(3, 7)))
         self.hot = self.one(self.paths)  # where clients meet
-        self.numbers = self.dice.sample((1, 2, 3, 4), self.one((1, 2, 3, 3, 4))) if self.chance(0.9) else [1, 0, 10, 2**32 - 1]
+        self.numbers = self.dice.sample((1, 2, 3, 4), self.one((1, 2, 3, 3, 4)))
+        if self.chance(0.1):
+            self.numbers = [1, 0, 10, 2**32 - 1]
         self.cutting, self.joining = self.one((0, 0.05, 0.3)), self.one((0, 0.5, 0.9))
         self.length, self.made = self.number(LEAST, MOST), 0
-        self.xids, self.given, self.slips = {}, [], 0
+        self.xids, self.given = {}, []
         self.observer = Observer(**self.settings())
         self.clients, self.learner = self.observer.clients, self.observer.learner
 

@@ -15,6 +15,7 @@ PATHS = (b"/a", b"/b", b"/a/b", b"/a/c", b"/ab", b"/a/b/c", b"/b/a", b"/a/b/d", 
          b"/zookeeper/quota/a")
 STANDING = (b"/", b"/zookeeper", b"/zookeeper/quota")
 USERS = (b"ann:pw", b"bob:", b"eve")
+ODD_IDS = ((b"ip", b"127.0.0.1"), (b"world", b"anyone"), (b"auth", b""), (b"world", b"ann"), (None, None))
 # Neither a node's path nor one that a client may ask for; and two that name no node, but may be asked for.
 NO_PATHS = (None, b"", b"a", b"/a\0b", b"/\xc0\xaf", b"/\xff")
 ODD_PATHS = (b"/a/", b"//a")
@@ -74,7 +75,7 @@ def user_entry(it):
 
 
 def odd_entry(it):
-    scheme, text = it.one(((b"ip", b"127.0.0.1"), (b"world", b"anyone"), (b"auth", b""), (b"world", b"ann"), (None, None)))
+    scheme, text = it.one(ODD_IDS)
     return struct.pack(">i", it.one((31, 30, 0, -1))) + buffer(scheme) + buffer(text)
 
 
@@ -87,7 +88,8 @@ def parent_cversion(it, at):
     parent = it.tree.nodes.get(parent_of(at))
     if it.chance(0.5) or parent is None:
         return -1
-    return it.one((parent.cversion + 1,) * 4 + (parent.cversion, 0, 5, GREATEST, -7)) if parent.cversion < GREATEST else -1
+    after = min(parent.cversion + 1, GREATEST)
+    return it.one((after, after, after, after, parent.cversion, 0, 5, GREATEST, -7))
 
 
 # ---- transactions

@@ -124,7 +124,7 @@ MISTAKES = (
     Mistake("a read isn't held behind a sync", Clients, "request", does_not_wait_for_syncs),
     Mistake("a frame behind a closeSession is served", Clients, "request", goes_on_after_close),
     Mistake("an id that is shown while a request waits is forgotten", Clients, "auth", forgets_ids_in_between),
-    Mistake("the last of several ephemerals stays when their session ends", Tree, "close_session", leaves_last_ephemeral),
+    Mistake("the last of several ephemerals stays as its session ends", Tree, "close_session", leaves_last_ephemeral),
     Mistake("a delete leaves its parent's pzxid as it was", Tree, "delete", delete_leaves_pzxid),
     Mistake("a multi with an error part does what stands before it", Tree, "multi", applies_front_of_failed),
     Mistake("a TRUNC keeps the sessions that it takes back", Learner, "truncate", keeps_sessions_taken_back),
