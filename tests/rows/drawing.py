@@ -108,10 +108,11 @@ class Drawing:
         return self.learner.tree
 
     def sessions(self):
-        """Sessions that may be named: those that live, those that were given out, the one that is given out next, and
-        some of other servers."""
+        """Sessions that may be named: those that live, those that lived or that a connect waits for, the one that is
+        given out next, and some of other servers."""
         after = signed((self.learner.server << 56) + self.clients.counter + 1)
-        return sorted({*self.tree.sessions, *self.given, after, *bodies.STRANGERS})
+        waiting = [each.waits[0].values[0] for each in self.clients.open.values() if each.connects()]
+        return sorted({*self.tree.sessions, *self.given, *waiting, after, *bodies.STRANGERS})
 
     def is_late(self):
         """Whether a fault may come, which ends much: the later the likelier."""

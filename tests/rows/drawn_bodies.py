@@ -24,6 +24,7 @@ ERRORS = (-101, -103, -110, -111, -118, -112, -5, -2, 0, 1)
 # Sessions of other servers, those with the high bit among them, and 0, which owns nothing.
 STRANGERS = (0, 7, 9, (5 << 56) + 1, (200 << 56) + 1 - 2**64, -1)
 GREATEST = 2**31 - 1
+NULL_LIST = struct.pack(">i", -1)
 
 
 def paths_of(chosen):
@@ -178,9 +179,10 @@ def image_of(it, tree):
         told = acl_list(tree.nodes[each].acl)
         if told != OPEN_ACL or it.chance(0.3):
             keys[each] = len(lists) + 1
+            told = NULL_LIST if told == OPEN_ACL and it.chance(0.3) else told  # which mean the same
             lists.append(struct.pack(">q", keys[each]) + told)
     if it.chance(0.2):
-        lists.append(struct.pack(">qi", 0, -1))  # a null list, which no node has
+        lists.append(struct.pack(">q", 0) + NULL_LIST)  # which no node has
     return b"".join([
         struct.pack(">i", len(sessions)), *[struct.pack(">qi", *entry) for entry in sessions],
         struct.pack(">i", len(lists)), *lists,

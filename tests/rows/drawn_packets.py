@@ -32,7 +32,9 @@ def send(it, content):
 
 
 def leader_up(it):
-    it.owed.pop("leader", None)
+    """A leader comes; while there is one, another one is passed over."""
+    if it.learner.phase == DOWN:
+        it.owed.pop("leader", None)
     it.happens("leader up")
     return False
 
@@ -80,9 +82,9 @@ def image(it):
 
 
 def done(it):
-    """NEWLEADER and then UPTODATE; the first may be missing, and comes again before some of the second."""
+    """NEWLEADER, which a few leaders leave out or send twice, and then UPTODATE."""
     zxid = it.learner.accepted << 32
-    if it.learner.current != it.learner.accepted and it.chance(0.9):
+    if it.chance(0.2 if it.learner.current == it.learner.accepted else 0.9):
         send(it, packet(NEW_LEADER, zxid))
     else:
         send(it, packet(UP_TO_DATE, zxid))

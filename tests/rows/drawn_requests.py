@@ -44,9 +44,10 @@ def open_one(it):
             number = it.one(free)
         else:
             end(it, number)
-    it.owed.pop(source(number), None)
+    if number not in it.clients.open:
+        it.owed.pop(source(number), None)
+        it.xids.pop(number, None)
     it.happens(f"{source(number)} up")
-    it.xids.pop(number, None)
     return number
 
 
