@@ -89,9 +89,8 @@ def find_planted(program, seeds):
             break
         script = drawn(seed)
         got, wrong = printed(program, script)
-        if wrong:
-            print(f"seed {seed}: {wrong}")
-            break
+        if wrong or got != replayed(script.text()):
+            continue  # what differs without a mistake tells none
         for mistake in list(left):
             with planted.in_place(mistake):
                 shown = replayed(script.text())
