@@ -60,7 +60,7 @@ def of_seed(program, seed):
 
 def show_failure(program, seed, found, is_shrunk):
     """Prints a script that differs, made small where that is wanted."""
-    print(f"FAIL seed {seed}: {found}")
+    print(f"FAIL seed {seed}: {found}", flush=True)
     if not is_shrunk:
         return
     script = shrink.shrunk(drawn(seed), lambda it: difference(program, it) is not None)
