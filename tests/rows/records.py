@@ -21,9 +21,9 @@ def packet(kind, zxid, content=None):
     return struct.pack(">iq", kind, zxid) + buffer(content) + struct.pack(">i", -1)
 
 
-def transaction(zxid, kind, body, session=7, cxid=1):
+def transaction(zxid, kind, body, session=7, cxid=1, time=1000):
     """The data of a packet that carries a transaction, of a request of this session with the xid `cxid`."""
-    return struct.pack(">qiqqi", session, cxid, zxid, 1000, kind) + body
+    return struct.pack(">qiqqi", session, cxid, zxid, time, kind) + body
 
 
 def create(path, content=b"hi"):
@@ -56,9 +56,10 @@ def session_of(connection):
     return (3 << 56) + connection
 
 
-def connect(session=0, timeout=TIMEOUT, password=bytes(16), end=b""):
-    """A client's frame that asks for a session: for a new one, or with its password for one that lives."""
-    return buffer(struct.pack(">iqiq", 0, 0, timeout, session) + buffer(password) + end)
+def connect(session=0, timeout=TIMEOUT, password=bytes(16), end=b"", seen=0):
+    """A client's frame that asks for a session: for a new one, or with its password for one that lives. `seen` is the
+    last zxid that the client was told of."""
+    return buffer(struct.pack(">iqiq", 0, seen, timeout, session) + buffer(password) + end)
 
 
 def password_of(session):
