@@ -8,7 +8,7 @@ import subprocess
 import tarfile
 
 import pages
-from packed import ARCHIVE, FOLDER, PACKAGE, TOP, VERSION, dist, needs_root, run, serves_a_client
+from packed import ARCHIVE, FOLDER, PACKAGE, TOP, VERSION, Skipped, dist, needs_root, run, serves_a_client
 
 EXECUTABLES = {
     "bin/observer", "bin/observer.sh", "lib/ld-linux-x86-64.so.2", "lib/libc.so.6", "lib/libm.so.6",
@@ -106,6 +106,14 @@ def test_its_own_library_is_used(pack):
     assert files == {pack.place(it) for it in EXECUTABLES - {"bin/observer.sh"}}, files
 
 
+def may_change_root(command):
+    """Sees that the system lets root change its root, as some containers don't. Where CI runs this it has to."""
+    ran = subprocess.run([command, "serve", "--version"], capture_output=True, encoding="utf-8")
+    if "Operation not permitted" in ran.stderr and os.environ.get("CI") != "true":
+        raise Skipped(ran.stderr.strip())
+    assert ran.returncode == 0, ran.stderr
+
+
 def test_it_serves_in_an_empty_root(pack):
     """The root has the archive's files and a name of a host, and neither a shell nor another C library."""
     needs_root()
@@ -115,7 +123,8 @@ def test_it_serves_in_an_empty_root(pack):
     with open(os.path.join(root, "etc", "hosts"), "w", encoding="ascii") as it:
         it.write("127.0.0.1 zk1\n")
     loader = ["/lib/ld-linux-x86-64.so.2", "--library-path", "/lib", "/bin/observer"]
-    command = pack.command("rooted", shutil.which("chroot") or "/usr/sbin/chroot", root, *loader)
+    command = pack.command("rooted", "chroot", root, *loader)
+    may_change_root(command)
     assert serves_a_client(command)
     # Names of hosts are resolved by what the C library has of its own.
     _, error = run(command, "serve", "--leader", "zk1:1", "--client", "0", "--id", "9", status=3)
