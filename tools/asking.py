@@ -48,7 +48,10 @@ def ask(command, host, port, path):
     else:
         sys.stdout.buffer.write(shown(command, reply.body))
         status = 0
-    client.leave()
+    try:
+        client.leave()
+    except Gone:
+        pass  # The session ends by itself, after its timeout.
     return status
 
 

@@ -50,7 +50,8 @@ def status_texts(file, head):
     for line in pages.table(pages.text_of(file), head):
         status, when, error = cells(line)[:3]
         if status.isdigit() and status != WRAPPER_STATUS:
-            found.append(f".TP\n.B {status}\n{roff(sentence(when))}\n.br\n{roff(f'Standard error ends with: {error}.')}")
+            ends = f"Standard error ends with: {error}."
+            found.append("\n".join([".TP", f".B {status}", roff(sentence(when)), ".br", roff(ends)]))
     if not found:
         raise ValueError(f"{file}: no exit status is in the table")
     return "\n".join(found)

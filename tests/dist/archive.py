@@ -36,7 +36,8 @@ def test_the_files_of_the_archive(pack):
 
 
 def test_sums(pack):
-    for folder, names in ((pack.made().unpacked, EXECUTABLES | OTHERS), (pack.out, {ARCHIVE, PACKAGE, "NOTES.md", "SHA256SUMS"})):
+    of_release = {ARCHIVE, PACKAGE, "NOTES.md", "SHA256SUMS"}
+    for folder, names in ((pack.made().unpacked, EXECUTABLES | OTHERS), (pack.out, of_release)):
         lines = content_of(folder, "SHA256SUMS").decode().splitlines()
         sums = {name: digest for digest, name in (it.split("  ") for it in lines)}
         assert set(sums) == names - {"SHA256SUMS"}, sums

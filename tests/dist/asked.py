@@ -12,8 +12,8 @@ OBSERVER = os.path.join(TOP, "observer")
 # What is in no text: a node's bytes are written as they are.
 BYTES = bytes(range(256)) + b"\r\n\0"
 FIELDS = [
-    "czxid", "mzxid", "ctime", "mtime", "version", "cversion", "aversion", "ephemeralOwner", "dataLength", "numChildren",
-    "pzxid",
+    "czxid", "mzxid", "ctime", "mtime", "version", "cversion", "aversion",
+    "ephemeralOwner", "dataLength", "numChildren", "pzxid",
 ]
 
 
@@ -72,9 +72,9 @@ def test_no_server_answers(pack):
         threading.Thread(target=close_all, args=(rude,), daemon=True).start()
         for it in (closed, rude):
             address = f"127.0.0.1:{it.getsockname()[1]}"
-            for words in (["get", address, "/"], ["ls", address, "/"], ["stat", address, "/"], ["words", address, "ruok"]):
-                out, error = asked(*words, status=3)
-                assert out == "" and error.startswith("observer: ") and error.count("\n") == 1, (words, out, error)
+            for command, what in (("get", "/"), ("ls", "/"), ("stat", "/"), ("words", "ruok")):
+                out, error = asked(command, address, what, status=3)
+                assert out == "" and error.startswith("observer: ") and error.count("\n") == 1, (command, out, error)
 
 
 def close_all(listener):

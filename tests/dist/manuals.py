@@ -66,7 +66,8 @@ def test_the_man_page_is_one(pack):
 
 def completed(pack, *words):
     """Returns what bash would offer for the last word."""
-    script = 'source "$1"; shift; COMP_WORDS=("$@"); COMP_CWORD=$(($# - 1)); _observer; printf "%s\\n" "${COMPREPLY[@]}"'
+    given = 'source "$1"; shift; COMP_WORDS=("$@"); COMP_CWORD=$(($# - 1))'
+    script = given + '; _observer; printf "%s\\n" "${COMPREPLY[@]}"'
     place = pack.made().place("observer.bash")
     out, error = run("bash", "--norc", "-c", script, "bash", place, *words, cwd=os.path.join(TOP, "examples"))
     assert error == "", error
@@ -79,7 +80,7 @@ def test_the_completion(pack):
     assert completed(pack, "observer", "serve", "") == options
     assert completed(pack, "observer", "serve", "--max-w") == ["--max-watches"]
     assert completed(pack, "observer", "serve", "--log-format", "") == ["text", "json"]
-    assert completed(pack, "observer", "serve", "--log", "")[:6] == ["off", "error", "warn", "info", "debug", options[0]]
+    assert completed(pack, "observer", "serve", "--log", "") == ["off", "error", "warn", "info", "debug", *options]
     assert completed(pack, "observer", "serve", "--words", "w") == ["wchs", "wchp"]
     assert completed(pack, "observer", "serve", "--id", "") == []
     assert completed(pack, "observer", "re") == ["replay"]

@@ -10,7 +10,8 @@ DOCUMENTS = "./usr/share/doc/observer/"
 INSTALLED = {
     "./etc/default/observer", "./usr/bin/observer", "./usr/lib/systemd/system/observer.service",
     "./usr/share/bash-completion/completions/observer", "./usr/share/man/man8/observer.8.gz",
-    *(DOCUMENTS + it for it in ("COMPATIBILITY.md", "OPERATING.md", "PROVED", "SCRIPT.md", "changelog.gz", "copyright")),
+    *(DOCUMENTS + it for it in ("COMPATIBILITY.md", "OPERATING.md", "SCRIPT.md")),
+    *(DOCUMENTS + it for it in ("PROVED", "changelog.gz", "copyright")),
 }
 UNIT = os.path.join(TOP, "packaging", "observer.service")
 OPTIONS = os.path.join(TOP, "packaging", "observer.default")
@@ -50,7 +51,8 @@ def test_it_is_installed_and_removed(pack):
     for it in ("info", "updates", "triggers"):
         os.makedirs(os.path.join(root, "var", "lib", "dpkg", it))
     open(os.path.join(root, "var", "lib", "dpkg", "status"), "wb").close()
-    dpkg = ("dpkg", f"--root={root}", "--force-depends", "--force-script-chrootless", "--force-confdef", "--force-unsafe-io")
+    force = ("--force-depends", "--force-script-chrootless", "--force-confdef", "--force-unsafe-io")
+    dpkg = ("dpkg", f"--root={root}", *force)
     run(*dpkg, "-i", package_of(pack))
     out, _ = run(os.path.join(root, "usr", "bin", "observer"), "serve", "--version")
     assert out.startswith(f"kezhundam {VERSION}, "), out
@@ -67,13 +69,32 @@ def test_it_is_installed_and_removed(pack):
     assert not os.path.exists(options)
 
 
+def asked_of_systemd(pack, script, *words):
+    """Runs a script of the package beside a systemctl that notes what it is asked. Returns its notes."""
+    room = os.path.join(pack.room, "systemd")
+    os.makedirs(room, exist_ok=True)
+    notes = os.path.join(room, "notes")
+    open(notes, "wb").close()
+    with open(os.path.join(room, "systemctl"), "w", encoding="utf-8") as it:
+        it.write(f"#!/bin/sh\necho \"$@\" >> '{notes}'\n")
+    os.chmod(it.name, 0o755)
+    with open(os.path.join(TOP, "packaging", "debian", script), encoding="utf-8") as it:
+        text = it.read()
+    assert "/run/systemd/system" in text
+    path = room + os.pathsep + os.environ["PATH"]
+    run("sh", "-c", text.replace("/run/systemd/system", room), script, *words, env={"PATH": path})
+    with open(notes, encoding="utf-8") as it:
+        return it.read().splitlines()
+
+
 def test_the_scripts_of_the_package(pack):
-    """They are texts that sh can read, and pass on no failure where there is no systemd."""
-    for it in ("postinst", "prerm", "postrm"):
-        script = os.path.join(TOP, "packaging", "debian", it)
-        run("sh", "-n", script)
-        for word in ("configure", "remove", "upgrade", "purge"):
-            run("sh", script, word, "0.0.1", env={**os.environ, "DPKG_ROOT": "/nowhere"})
+    """A server is neither enabled nor started by them, unless it runs already."""
+    assert asked_of_systemd(pack, "postinst", "configure", "") == ["daemon-reload"]
+    assert asked_of_systemd(pack, "postinst", "configure", "0.3.0") == ["daemon-reload", "try-restart observer.service"]
+    assert asked_of_systemd(pack, "prerm", "upgrade", "0.5.0") == []
+    assert asked_of_systemd(pack, "prerm", "remove") == ["disable --now observer.service"]
+    assert asked_of_systemd(pack, "postrm", "remove") == ["daemon-reload"]
+    assert asked_of_systemd(pack, "postrm", "purge") == []
 
 
 def words_of_unit(path):

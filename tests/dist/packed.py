@@ -23,7 +23,7 @@ class Skipped(Exception):
 
 def run(*words, status=0, **how):
     """Runs a program to its end. Returns what standard output and standard error were told."""
-    how = {"stdin": subprocess.DEVNULL, "capture_output": True, "timeout": 60, "encoding": "utf-8", **how}
+    how = {"stdin": subprocess.DEVNULL, "capture_output": True, "timeout": 300, "encoding": "utf-8", **how}
     ran = subprocess.run(words, **how)
     assert ran.returncode == status, f"{words}: status {ran.returncode}: {ran.stdout} {ran.stderr}"
     return ran.stdout, ran.stderr

@@ -14,13 +14,14 @@ sys.dont_write_bytecode = True
 from packed import Pack, Skipped  # noqa: E402
 import archive  # noqa: E402
 import asked  # noqa: E402
+import boxed  # noqa: E402
 import manuals  # noqa: E402
 import package  # noqa: E402
 import stamps  # noqa: E402
 from common import PROGRAM  # noqa: E402
 from server import Program  # noqa: E402
 
-MODULES = (archive, package, manuals, stamps, asked)
+MODULES = (archive, package, boxed, manuals, stamps, asked)
 
 
 def tests():
