@@ -12,13 +12,15 @@ SERVE_HEAD = "| Status | When | Last line of standard error | Start it again? |"
 REPLAY_HEAD = "| Status | Meaning | Standard error |"
 # The wrapper's own status, which the program never has.
 WRAPPER_STATUS = "70"
+# What a table says of standard error where nothing is told there.
+NO_WORD = ("–", "nothing")
 # Which values the completion offers, by the kind of an option.
 OFFERED = ("Level", "Format", "Words")
 
 
 def roff(text):
     """Returns a text of the docs for a man page: links are their texts, and code is bold."""
-    text = re.sub(r"\[([^\]]*)\]\([^)]*\)", r"\1", text).replace("\\", "\\e").replace("-", "\\-").replace("–", "none")
+    text = re.sub(r"\[([^\]]*)\]\([^)]*\)", r"\1", text).replace("\\", "\\e").replace("-", "\\-")
     text = re.sub(r"`([^`]*)`", r"\\fB\1\\fR", text)
     # A line that begins so would be a request.
     return re.sub(r"^([.'])", r"\\&\1", text)
@@ -50,8 +52,8 @@ def status_texts(file, head):
     for line in pages.table(pages.text_of(file), head):
         status, when, error = cells(line)[:3]
         if status.isdigit() and status != WRAPPER_STATUS:
-            ends = f"Standard error ends with: {error}."
-            found.append("\n".join([".TP", f".B {status}", roff(sentence(when)), ".br", roff(ends)]))
+            ends = [] if error in NO_WORD else [".br", roff(f"Standard error ends with: {error}.")]
+            found.append("\n".join([".TP", f".B {status}", roff(sentence(when)), *ends]))
     if not found:
         raise ValueError(f"{file}: no exit status is in the table")
     return "\n".join(found)

@@ -27,7 +27,10 @@ def test_what_the_package_says_of_itself(pack):
     assert (fields["Package"], fields["Version"], fields["Architecture"]) == ("observer", VERSION, "amd64"), out
     needed, _ = run("readelf", "-V", pack.place("bin", "observer"))
     versions = {tuple(map(int, it.split("."))) for it in re.findall(r"GLIBC_([\d.]+)", needed)}
-    assert fields["Depends"] == "libc6 (>= %s)" % ".".join(map(str, max(versions))), (fields, versions)
+    least = ".".join(map(str, max(versions)))
+    assert fields["Depends"] == f"libc6 (>= {least})", (fields, versions)
+    with open(pages.PAGE, encoding="utf-8") as page:
+        assert f"where the system has glibc {least} or later" in page.read(), least
     assert {"conffiles", "control", "postinst", "prerm", "postrm"} <= set(re.findall(r"lines  [ *]+(\S+)", out)), out
     conffiles, _ = run("dpkg-deb", "--info", package_of(pack), "conffiles")
     assert conffiles == "/etc/default/observer\n", conffiles
