@@ -1,5 +1,5 @@
 #!/usr/bin/env python3
-"""A small client of ZooKeeper 3.4 on 127.0.0.1: it reads and watches, and prints decoded what it is told.
+"""A small client of ZooKeeper 3.4, here on 127.0.0.1: it reads and watches, and prints decoded what it is told.
 
     examples/client.py                        a tour: watches what leader.py changes, and ends after some events
     examples/client.py get /demo [--watch]    a node's data and its Stat; with --watch it waits for one event
@@ -64,11 +64,11 @@ class Gone(Exception):
 class Connection:
     """A connection to a server: frames, each with its length in front."""
 
-    def __init__(self, port: int):
+    def __init__(self, port: int, host: str = "127.0.0.1"):
         try:
-            self.socket = socket.create_connection(("127.0.0.1", port), 5)
+            self.socket = socket.create_connection((host, port), 5)
         except OSError as why:
-            raise Gone(f"can't connect to port {port}: {why.strerror or why}") from why
+            raise Gone(f"can't connect to {host}:{port}: {why.strerror or why}") from why
         self.socket.setsockopt(socket.IPPROTO_TCP, socket.TCP_NODELAY, 1)
         self.pending = b""
 
@@ -110,8 +110,8 @@ class Connection:
 class Client(Connection):
     """A connection with a session: one request after the other is answered, and events are told when they come."""
 
-    def __init__(self, port: int, seen: int = 0, timeout: int = TIMEOUT):
-        super().__init__(port)
+    def __init__(self, port: int, seen: int = 0, timeout: int = TIMEOUT, host: str = "127.0.0.1"):
+        super().__init__(port, host)
         self.xid, self.events = 0, []
         request = int32(0) + int64(seen) + int32(timeout) + int64(0) + buffer(bytes(16)) + boolean(False)
         self.send(buffer(request))
@@ -232,18 +232,23 @@ def one_read(client: Client, options: argparse.Namespace) -> int:
     return 1 if reply.error else 0
 
 
-def word(port: int, asked: str) -> int:
-    """Says a four-letter word as the first of a connection, and prints its answer."""
-    connection = Connection(port)
+def answer_to_word(port: int, asked: str, host: str = "127.0.0.1") -> str:
+    """Says a four-letter word as the first of a connection, and returns its answer."""
+    connection = Connection(port, host)
     connection.send(asked.encode())
     try:
         while connection.received(5):
             pass
     except Gone:
         pass  # The answer's end.
-    sys.stdout.write(connection.pending.decode(errors="replace"))
-    if not connection.pending.endswith(b"\n"):
-        print()
+    connection.close()
+    return connection.pending.decode(errors="replace")
+
+
+def word(port: int, asked: str) -> int:
+    """Prints what a four-letter word is answered."""
+    answer = answer_to_word(port, asked)
+    sys.stdout.write(answer if answer.endswith("\n") else answer + "\n")
     return 0
 
 

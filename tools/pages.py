@@ -1,5 +1,5 @@
 #!/usr/bin/env python3
-"""Compares docs/OPERATING.md with the program's own tables, so that page and program can't part.
+"""Reads the program's own tables, and compares docs/OPERATING.md with them, so that page and program can't part.
 
     tools/pages.py             compares
     tools/pages.py --print     prints the two tables as the page is to have them
@@ -7,17 +7,19 @@
 The page's table of options has for each row of crates/serve_options/src/row.rt what `serve --help` prints of it. Its
 table of faults has for each fault of crates/values/src/fault.rt, in order, the hint of crates/serve_failures/src/hint.rt,
 word for word. Each option and each fault counts as one. The last line is `N passed, M failed`; the exit status is 0
-where nothing failed.
+where nothing failed. tools/manual.py makes the man page and the completion of the same rows.
 """
 import os
 import re
 import sys
+from typing import NamedTuple
 
 TOP = os.path.dirname(os.path.dirname(os.path.realpath(__file__)))
 PAGE = os.path.join(TOP, "docs", "OPERATING.md")
 ROWS = os.path.join(TOP, "crates", "serve_options", "src", "row.rt")
 HINTS = os.path.join(TOP, "crates", "serve_failures", "src", "hint.rt")
 FAULTS = os.path.join(TOP, "crates", "values", "src", "fault.rt")
+VERSIONS = os.path.join(TOP, "crates", "serve_options", "src", "lib.rt")
 
 TEXT = r'"((?:[^"\\]|\\.)*)"'
 ROW = re.compile(rf"const \w+: Row = Row \{{\s*word: {TEXT},\s*value: {TEXT},\s*kind: (.*?),\s*without: (.*?),\s*help:\s*{TEXT},\s*\}};", re.S)
@@ -43,18 +45,46 @@ def value_text(kind, words):
     return f"at least {least}" if most == "u64::MAX" else f"{least} to {most}"
 
 
-def options():
-    """Returns the page's line for each option, in the program's order."""
+class Option(NamedTuple):
+    """An option of `serve`: its kind by name (Number where it has bounds), and its texts as `serve --help` has them."""
+
+    word: str
+    value: str
+    purpose: str
+    kind: str
+    may: str
+    without: str
+    is_default: bool
+
+    def head(self):
+        return f"{self.word} {self.value}".strip()
+
+
+def rows():
+    """Returns the program's options, in its order."""
     text = text_of(ROWS)
     words, found = kinds(text), []
     for word, value, kind, without, purpose in ROW.findall(text):
-        head = f"{word} {value}".strip()
-        told = re.search(TEXT, without)
-        given = f"`{told[1]}`" if "::Value" in without else told[1] if told else ""
         may = "" if kind == "Kind::Nothing" else value_text(kind, words)
-        found.append(f"| `{head}` | {purpose} | {may} | {given} |")
+        told = re.search(TEXT, without)
+        name = re.match(r"Kind::(\w+)", kind)[1]
+        found.append(Option(word, value, purpose, name, may, told[1] if told else "", "::Value" in without))
     if len(found) != text.count(": Row = Row {"):
         raise ValueError(f"{ROWS}: a row that isn't understood")
+    return found
+
+
+def version():
+    """Returns the program's version, as `serve --version` prints it."""
+    return re.search(rf"pub const VERSION: &str = {TEXT};", text_of(VERSIONS))[1]
+
+
+def options():
+    """Returns the page's line for each option, in the program's order."""
+    found = []
+    for it in rows():
+        given = f"`{it.without}`" if it.is_default else it.without
+        found.append(f"| `{it.head()}` | {it.purpose} | {it.may} | {given} |")
     return found
 
 

@@ -2,8 +2,8 @@
 
 tools/building.py proves and builds it; a passing `rt ci` leaves the same executable behind. Neither says
 later of which sources an executable that lies there was made. So a file of our own, out/observer/built.json, keeps
-three things of the last build: a hash of the sources, a hash of the executable, and how long the build took. The
-executable is started only where both hashes are still right.
+what is known of the last build: a hash of the sources, a hash of the executable, how long the build took, and the last
+line of the gate. The executable is started only where both hashes are still right.
 """
 import fcntl
 import hashlib
@@ -61,17 +61,24 @@ def kept():
     return found if isinstance(found, dict) else {}
 
 
-def keep(of_sources, seconds=None):
-    """Notes that the executable that lies there now was proved and built from these sources."""
-    found = kept()
-    found.update(sources=of_sources, program=hash_of_file(PROGRAM))
-    if seconds is not None:
-        found.update(seconds=round(seconds, 1))
+def note(found):
+    """Writes what is known of the last build."""
     os.makedirs(KEPT, exist_ok=True)
     with open(BUILT + ".new", "w", encoding="utf-8") as it:
         json.dump(found, it, indent=1)
         it.write("\n")
     os.replace(BUILT + ".new", BUILT)
+
+
+def keep(of_sources, seconds=None):
+    """Notes that the executable that lies there now was proved and built from these sources."""
+    found = kept()
+    found.update(sources=of_sources, program=hash_of_file(PROGRAM))
+    # A gate that came to its end was one of another build.
+    found.pop("gate", None)
+    if seconds is not None:
+        found.update(seconds=round(seconds, 1))
+    note(found)
 
 
 def is_built(of_sources):
@@ -133,7 +140,11 @@ def start(arguments):
 
 
 def main(words):
-    """`hash` prints the hash of the sources; `keep HASH` notes that what lies there was proved and built from these."""
+    """Does what the gate asks.
+
+    `hash` prints the hash of the sources, `keep HASH` notes that what lies there was proved and built from these, and
+    `gate HASH LINE` how the gate of these ended.
+    """
     if words == ["hash"]:
         print(hash_of_sources())
         return 0
@@ -142,7 +153,12 @@ def main(words):
             return 1
         keep(words[1])
         return 0
-    print("usage: tools/proved.py hash | keep HASH", file=sys.stderr)
+    if len(words) == 3 and words[0] == "gate":
+        if not is_built(words[1]):
+            return 1
+        note({**kept(), "gate": words[2]})
+        return 0
+    print("usage: tools/proved.py hash | keep HASH | gate HASH LINE", file=sys.stderr)
     return 2
 
 
