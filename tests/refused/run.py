@@ -28,7 +28,6 @@ import pathlib
 import subprocess
 import sys
 import tempfile
-import zlib
 from typing import List, NamedTuple
 
 sys.dont_write_bytecode = True
@@ -37,6 +36,7 @@ from refusing import Refuser, built, compiler, install  # noqa: E402
 TOP = pathlib.Path(__file__).resolve().parent.parent.parent
 sys.path.insert(0, str(TOP / "tests" / "rows"))
 import run as rows  # noqa: E402
+from sampling import first_of  # noqa: E402
 
 PROGRAM = TOP / "crates" / "replay_runner" / "out" / "replay_runner"
 WORKERS = (1, 2)
@@ -105,10 +105,8 @@ def once(row, refuser, number):
 
 
 def numbers(row, step, growths):
-    """Yields the numbers of the growths that are refused. The first depends on the row, so that rows, which begin alike,
-    are tried at different places."""
-    first = zlib.crc32(row.name.encode()) % min(step, growths)
-    return itertools.count(1 + first, step)
+    """Yields the numbers of the growths that are refused."""
+    return itertools.count(1 + first_of(row.name, growths, step), step)
 
 
 def tries(row, refuser, step):
