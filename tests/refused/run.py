@@ -2,7 +2,7 @@
 """Has each growth of memory refused in turn, in each worked row and in a run of the server.
 
     tests/refused/run.py [PROGRAM]
-    tests/refused/run.py --step 1 [PROGRAM]     each growth; without it each 41st
+    tests/refused/run.py --step 1 [PROGRAM]     each growth; without it each 41st of a row, and each 5th of the server
     tests/refused/run.py --only multi [PROGRAM] runs with that in their name: the row and its workers, or `serve`
     tests/refused/run.py --install [PROGRAM]    gets Debian's C compiler first, where there is none (as root)
 
@@ -21,6 +21,7 @@ A row with a number of workers counts as one, and so does each run of the server
 the exit status is 0 where none failed and there was one at least.
 """
 import argparse
+import collections
 import concurrent.futures
 import itertools
 import os
@@ -31,6 +32,7 @@ import tempfile
 from typing import List, NamedTuple
 
 sys.dont_write_bytecode = True
+import serving  # noqa: E402
 from refusing import Refuser, built, compiler, install  # noqa: E402
 
 TOP = pathlib.Path(__file__).resolve().parent.parent.parent
@@ -40,7 +42,7 @@ from sampling import first_of  # noqa: E402
 
 PROGRAM = TOP / "crates" / "replay_runner" / "out" / "replay_runner"
 WORKERS = (1, 2)
-STEP = 41
+STEP, SERVER_STEP = 41, 5
 SECONDS = 60
 REFUSED = 4
 MOST_TOLD = 3  # faults of a row
@@ -130,6 +132,10 @@ def tries(row, refuser, step):
             return Tried(refused, without_thread, found)
 
 
+def is_chosen(args, name):
+    return args.only in name and not (args.without and args.without in name)
+
+
 def refuse_in_rows(args, library, room):
     """Tries the rows with that in their name. Returns how many held, and how many failed."""
     scripts = room / "rows"
@@ -138,10 +144,10 @@ def refuse_in_rows(args, library, room):
     paths = [*rows.HERE.glob("*/*.script"), *scripts.glob("*.script")]
     # The longest first, so that none is left alone at the end.
     paths.sort(key=lambda it: (-it.stat().st_size, it.stem))
-    every = [it for path in paths for it in runs_of_row(args.program, path) if args.only in it.name]
+    every = [it for path in paths for it in runs_of_row(args.program, path) if is_chosen(args, it.name)]
 
     def tried(row):
-        return tries(row, Refuser(library, room / f"seen-{every.index(row)}"), args.step)
+        return tries(row, Refuser(library, room / f"seen-{every.index(row)}"), args.step or STEP)
 
     passed = refused = without_thread = 0
     with concurrent.futures.ThreadPoolExecutor(args.jobs) as pool:
@@ -156,10 +162,49 @@ def refuse_in_rows(args, library, room):
     return passed, len(every) - passed
 
 
+def serve_once(program, refuser, number):
+    """Runs the server with the growth of that number refused. Returns what was seen, what became of the run, and what
+    is wrong, if something is."""
+    try:
+        ending = serving.play(program, refuser.environment(number))
+        became, is_right = serving.outcome(ending, refuser.seen().refused)
+        wrong = None if is_right else f"{became}: {ending}"
+    except Exception as why:  # each failure is told, and the others go on
+        became, wrong = "failed", f"{type(why).__name__} {why}"
+    return refuser.seen(), became, wrong
+
+
+def refuse_in_server(args, library, room):
+    """Tries the server, until a run meets no refusal. Returns how many runs held, and how many failed."""
+    if not is_chosen(args, "serve"):
+        return 0, 0
+
+    def tried(number):
+        found = serve_once(args.program, Refuser(library, room / f"serve-{number}"), number)
+        if found[-1]:
+            print(f"FAIL serve, growth {number}: {found[-1]}", flush=True)
+        return found
+
+    clean = tried(0)
+    growths, step = clean[0].growths, args.step or SERVER_STEP
+    with concurrent.futures.ThreadPoolExecutor(args.jobs) as pool:
+        found = [clean, *pool.map(tried, range(1 + first_of("serve", growths, step), growths + 1, step))]
+    for number in itertools.count(growths + 1):
+        found.append(tried(number))
+        if not found[-1][0].refused:
+            break
+    kinds = collections.Counter(became for seen, became, _ in found if seen.refused)
+    print(f"serve: {sum(kinds.values())} runs met a refusal: {', '.join(f'{kinds[it]} {it}' for it in sorted(kinds))}")
+    failed = sum(bool(wrong) for _, _, wrong in found)
+    # Where no run met a refusal nothing was tried.
+    return (len(found) - failed, failed) if kinds else (0, 1)
+
+
 def read_arguments():
     parser = argparse.ArgumentParser(description=__doc__, formatter_class=argparse.RawDescriptionHelpFormatter)
-    parser.add_argument("--step", type=int, default=STEP, help="from one growth that is refused to the next of a row")
+    parser.add_argument("--step", type=int, help="from one growth that is refused to the next")
     parser.add_argument("--only", default="", help="a part of a run's name")
+    parser.add_argument("--without", help="a part of the names of runs that are left out")
     parser.add_argument("--jobs", type=int, default=os.cpu_count(), help="how many runs there are at a time")
     parser.add_argument("--install", action="store_true", help="get a C compiler first, where there is none")
     parser.add_argument("program", nargs="?", default=str(PROGRAM))
@@ -178,7 +223,9 @@ def main():
         return 1
     with tempfile.TemporaryDirectory(prefix="refused-") as name:
         room = pathlib.Path(name)
-        passed, failed = refuse_in_rows(args, built(room), room)
+        library = built(room)
+        counts = [refuse(args, library, room) for refuse in (refuse_in_rows, refuse_in_server)]
+    passed, failed = map(sum, zip(*counts))
     print(f"{passed} passed, {failed} failed")
     return 1 if failed or not passed else 0
 
