@@ -6,16 +6,16 @@
     tests/refused/run.py --only multi [PROGRAM] runs with that in their name: the row and its workers, or `serve`
     tests/refused/run.py --install [PROGRAM]    gets Debian's C compiler first, where there is none (as root)
 
-A library that is preloaded counts the growths of a run and refuses one of them (refuse.c). Each row of tests/rows is run
-by one worker and by two, and is tried until a run meets no refusal. A run that met one
+A library that is preloaded counts the growths of a run and refuses one of them (refuse.c). Each row of tests/rows is
+run by one worker and by two, and is tried until a run meets no refusal. A run that met one
 
 - prints the first lines of the row's output, whole ones and never the last, which is the end line or an audit's answer,
 - tells `no memory` on standard error, and nothing else,
 - ends with status 4.
 
-With two workers it may also do without a thread that couldn't be started for want of memory: then one thread fewer was
-started than where nothing was refused, and the run prints and ends as the row says. What the server has to do is in
-serving.py.
+With two workers it may also do without a thread that couldn't be started for want of memory, since the answers don't
+depend on which threads may start: then one thread fewer was started than where nothing was refused, and the run prints
+and ends as the row says. What the server has to do is in serving.py.
 
 A row with a number of workers counts as one, and so does each run of the server. The last line is `N passed, M failed`;
 the exit status is 0 where none failed and there was one at least.
@@ -85,17 +85,17 @@ def is_front(wanted, printed):
 
 def fault(row, clean, seen, done):
     """Returns what is wrong with a run; none where it ended as it has to. `clean` is what was seen where nothing was
-    refused, or none where that is still to be found out."""
+    refused."""
     is_whole = (done.returncode, done.stdout, done.stderr) == (row.status, row.wanted, row.complaint)
-    if not seen.refused:
-        return None if is_whole else f"status {done.returncode}, {rows.first_difference(row.wanted, done.stdout)}"
-    if is_whole and row.workers > 1 and seen.threads == clean.threads - 1:
+    lacks_thread = row.workers > 1 and seen.threads == clean.threads - 1
+    if is_whole and (not seen.refused or lacks_thread):
         return None
-    if done.returncode != REFUSED or done.stderr != b"no memory\n":
-        return f"status {done.returncode}, and on standard error {done.stderr[-300:]!r}"
-    if not is_front(row.wanted, done.stdout):
-        return f"not the first lines: {rows.first_difference(row.wanted, done.stdout)}"
-    return None
+    is_told = (done.returncode, done.stderr) == (REFUSED, b"no memory\n")
+    if seen.refused and is_told and is_front(row.wanted, done.stdout):
+        return None
+    met = f"refused, with {seen.threads} threads of {clean.threads}" if seen.refused else "not refused"
+    differs = rows.first_difference(row.wanted, done.stdout)
+    return f"{met}: status {done.returncode}; {differs}; standard error {done.stderr[-300:]!r}"
 
 
 def once(row, refuser, number):
@@ -158,7 +158,8 @@ def refuse_in_rows(args, library, room):
                 print(f"FAIL {row.name}: {len(found.faults)} faults", flush=True)
             for line in found.faults[:MOST_TOLD]:
                 print(f"  {line}", flush=True)
-    print(f"{len(every)} rows with their workers: {refused} runs met a refusal, {without_thread} of them did without a thread")
+    less = f"{without_thread} of them did without a thread"
+    print(f"{len(every)} rows with their workers: {refused} runs met a refusal, {less}")
     return passed, len(every) - passed
 
 

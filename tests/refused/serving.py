@@ -88,8 +88,8 @@ def is_closed_now(connection):
 
 
 class Ending(NamedTuple):
-    """How a run has ended: the status, the lines of standard error, how many clients were closed before all had come that
-    is right, whether the program had connected to its leader, and whether it ended before that went."""
+    """How a run has ended: the status, the lines of standard error, how many clients were closed before all had come
+    that is right, whether the program had connected to its leader, and whether it ended before that went."""
 
     status: int
     told: List[str]
@@ -119,6 +119,7 @@ class Observed:
             raise Closed
         self.stream, _ = self.listener.accept()
         self.stream.settimeout(SECONDS)
+        assert select.select([self.program.stdout], [], [], SECONDS)[0], "it doesn't say on which port it serves"
         line = self.program.stdout.readline()
         if not line:
             raise Closed
@@ -141,7 +142,7 @@ class Observed:
             raise Closed from None
 
     def asked(self, client, session):
-        """Takes the write of this session that the program has forwarded. That of a client that has gone is left out."""
+        """Takes the write of this session that the program has forwarded, and drops those of clients that have gone."""
         until = time.monotonic() + SECONDS
         while True:
             try:
