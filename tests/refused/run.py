@@ -3,6 +3,7 @@
 
     tests/refused/run.py [PROGRAM]
     tests/refused/run.py --step 1 [PROGRAM]     each growth; without it each 41st of a row, and each 5th of the server
+    tests/refused/run.py --step 1 --most 1000   each growth of a row that has up to 1,000, and 1,000 of a longer one
     tests/refused/run.py --only multi [PROGRAM] runs with that in their name: the row and its workers, or `serve`
     tests/refused/run.py --install [PROGRAM]    gets Debian's C compiler first, where there is none (as root)
 
@@ -60,8 +61,10 @@ class Row(NamedTuple):
 
 
 class Tried(NamedTuple):
-    """What became of a row: how many runs met a refusal, how many of them did without a thread, and what was wrong."""
+    """What became of a row: how many growths it has, how many runs met a refusal, how many of these did without a
+    thread, and what was wrong."""
 
+    growths: int
     refused: int
     without_thread: int
     faults: List[str]
@@ -106,34 +109,33 @@ def once(row, refuser, number):
     return refuser.seen(), done
 
 
-def numbers(row, step, growths):
+def numbers(row, growths, args):
     """Yields the numbers of the growths that are refused."""
+    step = max(args.step or STEP, -(-growths // (args.most or growths)))
     return itertools.count(1 + first_of(row.name, growths, step), step)
 
 
-def tries(row, refuser, step):
+def tries(row, refuser, args):
     """Has one growth after the other refused, until a run meets no refusal."""
     clean, done = once(row, refuser, 0)
+    growths, refused, without_thread = clean.growths, 0, 0
     found = [it for it in [fault(row, clean, clean, done)] if it]
-    if found or not clean.growths:
-        return Tried(0, 0, found or ["no growth was counted"])
-    refused = without_thread = 0
-    for number in numbers(row, step, clean.growths):
+    if found or not growths:
+        return Tried(0, 0, 0, found or ["no growth was counted"])
+    for number in numbers(row, growths, args):
         try:
             seen, done = once(row, refuser, number)
         except subprocess.TimeoutExpired:
-            return Tried(refused, without_thread, [*found, f"growth {number}: no end after {SECONDS} seconds"])
+            found.append(f"growth {number}: no end after {SECONDS} seconds")
+            break
         why = fault(row, clean, seen, done)
         if why:
             found.append(f"growth {number}: {why}")
         refused += seen.refused
         without_thread += seen.refused and not why and done.returncode != REFUSED
-        if not seen.refused and number > clean.growths:
-            return Tried(refused, without_thread, found)
-
-
-def is_chosen(args, name):
-    return args.only in name and not (args.without and args.without in name)
+        if not seen.refused and number > growths:
+            break
+    return Tried(growths, refused, without_thread, found)
 
 
 def refuse_in_rows(args, library, room):
@@ -144,23 +146,24 @@ def refuse_in_rows(args, library, room):
     paths = [*rows.HERE.glob("*/*.script"), *scripts.glob("*.script")]
     # The longest first, so that none is left alone at the end.
     paths.sort(key=lambda it: (-it.stat().st_size, it.stem))
-    every = [it for path in paths for it in runs_of_row(args.program, path) if is_chosen(args, it.name)]
+    every = [it for path in paths for it in runs_of_row(args.program, path) if args.only in it.name]
 
     def tried(row):
-        return tries(row, Refuser(library, room / f"seen-{every.index(row)}"), args.step or STEP)
+        return tries(row, Refuser(library, room / f"seen-{every.index(row)}"), args)
 
-    passed = refused = without_thread = 0
     with concurrent.futures.ThreadPoolExecutor(args.jobs) as pool:
+        results = []
         for row, found in zip(every, pool.map(tried, every)):
-            passed += not found.faults
-            refused, without_thread = refused + found.refused, without_thread + found.without_thread
+            results.append(found)
             if found.faults:
                 print(f"FAIL {row.name}: {len(found.faults)} faults", flush=True)
             for line in found.faults[:MOST_TOLD]:
                 print(f"  {line}", flush=True)
-    less = f"{without_thread} of them did without a thread"
-    print(f"{len(every)} rows with their workers: {refused} runs met a refusal, {less}")
-    return passed, len(every) - passed
+    growths, refused, without_thread = (sum(it[at] for it in results) for at in range(3))
+    print(f"{len(every)} rows with their workers have {growths} growths", end=": ")
+    print(f"{refused} runs met a refusal, {without_thread} of them did without a thread", flush=True)
+    failed = sum(bool(it.faults) for it in results)
+    return len(every) - failed, failed
 
 
 def serve_once(program, refuser, number):
@@ -177,7 +180,7 @@ def serve_once(program, refuser, number):
 
 def refuse_in_server(args, library, room):
     """Tries the server, until a run meets no refusal. Returns how many runs held, and how many failed."""
-    if not is_chosen(args, "serve"):
+    if args.only not in "serve":
         return 0, 0
 
     def tried(number):
@@ -205,7 +208,7 @@ def read_arguments():
     parser = argparse.ArgumentParser(description=__doc__, formatter_class=argparse.RawDescriptionHelpFormatter)
     parser.add_argument("--step", type=int, help="from one growth that is refused to the next")
     parser.add_argument("--only", default="", help="a part of a run's name")
-    parser.add_argument("--without", help="a part of the names of runs that are left out")
+    parser.add_argument("--most", type=int, help="the most growths of a row that are tried, at even steps")
     parser.add_argument("--jobs", type=int, default=os.cpu_count(), help="how many runs there are at a time")
     parser.add_argument("--install", action="store_true", help="get a C compiler first, where there is none")
     parser.add_argument("program", nargs="?", default=str(PROGRAM))

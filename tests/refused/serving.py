@@ -108,6 +108,8 @@ class Observed:
         port = str(self.listener.getsockname()[1])
         words = [program, "serve", "--leader", port, "--client", "0", "--id", "1", "--workers", "2"]
         how = {"stdin": subprocess.DEVNULL, "stdout": subprocess.PIPE, "stderr": subprocess.PIPE}
+        # With this the lines of the log have no time.
+        environment.pop("JOURNAL_STREAM", None)
         self.program = subprocess.Popen(words, env=environment, **how)
 
     # ---- the leader
