@@ -273,7 +273,7 @@ NO_THREAD_TOLD = ["observer: cannot start a thread", "observer: the system refus
 
 def is_told(told, before, last):
     """Returns whether standard error ends with one of these lines and the last one, and has lines of the log before."""
-    return told[-1:] == [last] and told[-2:-1][:1] in [[it] for it in before] and are_of_log(told[:-2])
+    return len(told) > 1 and told[-1] == last and told[-2] in before and are_of_log(told[:-2])
 
 
 def are_of_log(lines):

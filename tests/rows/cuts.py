@@ -2,7 +2,7 @@
 """Cuts the bytes of the worked rows at every place, and ends their leaders at every place.
 
     tests/rows/cuts.py [PROGRAM]
-    tests/rows/cuts.py --step 1 [PROGRAM]       at each place; without it at each 13th
+    tests/rows/cuts.py --step 1 [PROGRAM]       at each place; without it at each 17th
     tests/rows/cuts.py --only multi [PROGRAM]   the rows with that in their name
 
 Each replay that ends with status 0 is tried in two ways.
@@ -39,7 +39,7 @@ from learner import DOWN  # noqa: E402
 from observer import play, prepared  # noqa: E402
 
 PROGRAM = rows.HERE.parent.parent / "crates" / "replay_runner" / "out" / "replay_runner"
-STEP = 13
+STEP = 17
 LONG, MOST = 6000, 300
 SECONDS = 60
 
