@@ -7,6 +7,7 @@ import struct
 
 from connecting import connecting
 from fronts import fronts, one_byte_a_line
+from limits import longest_inform
 from pending import forwarded_ids, forwarded_limit, forwarded_many
 from records import (
     CREATE, EXISTS, GET_CHILDREN, GET_DATA, INFORM, NO_NODE, SET_DATA, SET_WATCHES, buffer, client, create, joined,
@@ -123,4 +124,4 @@ def rows():
     made = [("deep-path", *deep_path()), ("many-reads", *many_reads())]
     made += [("forwarded-limit", *forwarded_limit()), ("forwarded-many", *forwarded_many())]
     made.append(("forwarded-ids", *forwarded_ids()))
-    return [*made, *connecting(), *fronts(), one_byte_a_line()]
+    return [*made, *connecting(), *fronts(), one_byte_a_line(), *longest_inform()]

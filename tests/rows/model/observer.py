@@ -71,8 +71,9 @@ class Observer:
         return f"end zxid=0x{self.learner.last % 2**64:x} paths={len(self.learner.tree.nodes)}"
 
 
-def replayed(script):
-    """Returns what a replay of a script prints, as bytes. The script has no bad line."""
+def prepared(script):
+    """Returns the observer that a script's settings set up, and its events, each a word and what follows it. The script
+    has no bad line."""
     settings, events = {}, []
     for line in script.split(b"\n"):
         line = line.decode()
@@ -89,7 +90,12 @@ def replayed(script):
             settings["primed"] = True
         else:
             events.append((word, rest))
-    observer = Observer(**settings)
+    return Observer(**settings), events
+
+
+def replayed(script):
+    """Returns what a replay of a script prints, as bytes. The script has no bad line."""
+    observer, events = prepared(script)
     for word, rest in events:
         play(observer, word, rest)
     return "\n".join([*observer.out, observer.ended(), ""]).encode()
