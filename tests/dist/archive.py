@@ -10,13 +10,19 @@ import tarfile
 import pages
 from packed import ARCHIVE, FOLDER, PACKAGE, TOP, VERSION, Skipped, dist, needs_root, run, serves_a_client
 
-EXECUTABLES = {
-    "bin/observer", "bin/observer.sh", "lib/ld-linux-x86-64.so.2", "lib/libc.so.6", "lib/libm.so.6",
-}
+# Which libraries a program needs rests on how it was linked; these are of the C library.
+LIBRARIES = {"libc.so.6", "libm.so.6"}
 OTHERS = {
     "INSTALL", "LICENSE", "PROVED", "SHA256SUMS", "doc/COMPATIBILITY.md", "doc/OPERATING.md", "doc/SCRIPT.md",
     "lib/copyright", "observer.8", "observer.bash", "observer.default", "observer.service",
 }
+
+
+def executables(pack):
+    """Returns the archive's files that may be executed: of the libraries those whose names the program has."""
+    program = content_of(pack.program)
+    needed = {f"lib/{it}" for it in LIBRARIES if b"\0" + it.encode() + b"\0" in program}
+    return {"bin/observer", "bin/observer.sh", "lib/ld-linux-x86-64.so.2", *needed}
 
 
 def content_of(*path):
@@ -30,14 +36,14 @@ def test_the_files_of_the_archive(pack):
     names = [it.name for it in entries]
     assert names == sorted(names) and all(it.split("/")[0] == FOLDER for it in names), names
     modes = {it.name[len(FOLDER) + 1 :]: it.mode for it in entries if it.isfile()}
-    assert modes == {**dict.fromkeys(EXECUTABLES, 0o755), **dict.fromkeys(OTHERS, 0o644)}, modes
+    assert modes == {**dict.fromkeys(executables(pack), 0o755), **dict.fromkeys(OTHERS, 0o644)}, modes
     assert {(it.uid, it.gid, it.uname, it.gname) for it in entries} == {(0, 0, "", "")}
     assert len({it.mtime for it in entries}) == 1
 
 
 def test_sums(pack):
     of_release = {ARCHIVE, PACKAGE, "NOTES.md", "SHA256SUMS"}
-    for folder, names in ((pack.made().unpacked, EXECUTABLES | OTHERS), (pack.out, of_release)):
+    for folder, names in ((pack.made().unpacked, executables(pack) | OTHERS), (pack.out, of_release)):
         lines = content_of(folder, "SHA256SUMS").decode().splitlines()
         sums = {name: digest for digest, name in (it.split("  ") for it in lines)}
         assert set(sums) == names - {"SHA256SUMS"}, sums
@@ -104,7 +110,7 @@ def test_its_own_library_is_used(pack):
         # Nothing handles the signal by which a service manager ends it.
         assert ran.wait(20) == -signal.SIGTERM
     files = {line.split(None, 5)[5] for line in mapped.splitlines() if line.count("/")}
-    assert files == {pack.place(it) for it in EXECUTABLES - {"bin/observer.sh"}}, files
+    assert files == {pack.place(it) for it in executables(pack) - {"bin/observer.sh"}}, files
 
 
 def may_change_root(command):
